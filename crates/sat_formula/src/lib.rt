@@ -1,0 +1,16 @@
+//! Variables, literals, formulas and DIMACS text.
+#![tactic(auto)]
+
+mod dimacs;
+mod fault;
+pub mod lit;
+mod source;
+#[cfg(test)]
+mod tests;
+mod text;
+mod word;
+
+pub use dimacs::DimacsReader;
+pub use fault::{DimacsFault, DimacsKind, Stop};
+pub use lit::{Lit, Var};
+pub use word::{Header, Number, Token};
