@@ -1,0 +1,25 @@
+-- The stored clauses by their hashes.
+use Rattle.std.specs.Prelude.{ℕ, nat_eq, List, [], Option, None, Some, All}
+use Rattle.std.specs.HashMap.{HashMap, get}
+use Rattle.std.specs.declared.hash.FoldHasher.{FoldHasher}
+use Rattle.std.specs.declared.hash.BuildHasherDefault.{BuildHasherDefault}
+use Rattle.smallvec.specs.SmallVec.{SmallVec}
+use Rattle.varisat_checker.specs.declared.clauses.Clause.{Clause}
+use Rattle.varisat_checker.specs.Lits.{IsWithin}
+
+-- a map from hashes to buckets
+abbrev pub Buckets : Type 0
+Buckets = HashMap ℕ (SmallVec Clause) (BuildHasherDefault FoldHasher)
+
+-- the clauses of a bucket that may be missing
+abbrev pub bucket_items : Option (SmallVec Clause) → List Clause
+bucket_items None = []
+bucket_items (Some b) = b.items
+
+-- the clauses with a hash, in order
+abbrev pub clauses_at : Buckets → ℕ → List Clause
+clauses_at m h = bucket_items (get nat_eq m h)
+
+-- the literals of every clause lie in the buffer
+abbrev pub AreWithin : List ℕ → Buckets → Type 0
+AreWithin buffer m = (k : ℕ) → All (λ c. IsWithin c.lits buffer) (clauses_at m k)

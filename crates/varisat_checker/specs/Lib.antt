@@ -1,0 +1,5 @@
+pub mod Buckets
+pub mod Lits
+pub mod StateOf
+pub mod Units
+pub mod View

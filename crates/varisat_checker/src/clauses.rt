@@ -1,0 +1,52 @@
+//! The stored clauses and units.
+pub mod buckets;
+pub mod lits;
+pub mod units;
+
+use crate::clauses::buckets::Buckets;
+use crate::clauses::lits::ClauseLits;
+use crate::clauses::units::Units;
+use sat_formula::lit::Lit;
+
+/// A clause of two or more literals, with the number of its copies of either kind.
+#[derive(Clone, Copy)]
+pub struct Clause {
+    pub id: u64,
+    pub irredundant: u32,
+    pub redundant: u32,
+    pub lits: ClauseLits,
+}
+
+// What fills an unused place of a bucket.
+impl Default for Clause {
+    fn default() -> Clause {
+        Clause {
+            id: 0,
+            irredundant: 0,
+            redundant: 0,
+            lits: ClauseLits::Long { start: 0, len: 0 },
+        }
+    }
+}
+
+/// What storing a clause did.
+#[derive(Clone, Copy, PartialEq, Eq)]
+pub enum StoreClauseResult {
+    /// It was not stored before.
+    New,
+    /// It was stored already in the same kind, or as an irredundant clause.
+    Duplicate,
+    /// It was stored as a redundant clause only, and is irredundant now.
+    NewlyIrredundant,
+}
+
+/// The stored clauses and units.
+#[derive(Drop)]
+pub struct Clauses {
+    pub next_clause_id: u64,
+    pub literal_buffer: Vec<Lit>,
+    pub garbage_size: usize,
+    pub buckets: Buckets,
+    pub unit_clauses: Units,
+    pub unit_conflict: Option<(u64, u64)>,
+}

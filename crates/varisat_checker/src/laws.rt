@@ -1,0 +1,7 @@
+//! Laws over the definitions alone. Each function does nothing: its clause is the law.
+ghost use Rattle.varisat_checker.specs.View.{ListIs};
+
+/// The buckets determine the list of the stored clauses.
+pub fn list_is()
+    ensures { ListIs }
+{}

@@ -1,0 +1,7 @@
+//! The checker: it stores clauses, checks proof steps, and records what follows from them.
+#![tactic(auto)]
+
+pub mod clauses;
+pub mod hash;
+pub mod laws;
+pub mod state;
