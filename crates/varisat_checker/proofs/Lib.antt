@@ -1,1 +1,4 @@
+pub mod AddClauseLemmas
+pub mod AtClauseLemmas
+pub mod OutcomeLemmas
 pub mod ViewLemmas
