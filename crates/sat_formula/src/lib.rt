@@ -4,7 +4,7 @@
 mod dimacs;
 mod fault;
 pub mod lit;
-mod source;
+pub mod source;
 #[cfg(test)]
 mod tests;
 mod text;

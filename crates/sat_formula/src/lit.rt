@@ -61,7 +61,9 @@ impl Var {
         ensures { result ≡ 2 * index_of self + (if positive then 0 else 1) }
     {
         if positive {
-            Lit { code: self.index * 2 }
+            Lit {
+                code: self.index * 2,
+            }
         } else {
             Lit {
                 code: self.index * 2 + 1,
