@@ -1,1 +1,4 @@
+pub mod BucketLemmas
+pub mod FoundLemmas
+pub mod SameListLemmas
 pub mod ViewLemmas
