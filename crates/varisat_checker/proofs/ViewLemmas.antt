@@ -1,6 +1,6 @@
 -- The list by rising ids is the one list that the buckets hold.
-use Rattle.std.proofs.Common.{◌≡◌, ℕ, zero, suc, ◌<◌, ◌≤◌, ◌⊎◌, Bool, true, false, cond, ◌&&◌, eqb, ltb, leb, List, [], ◌∷◌, ◌++◌, length, map, Option, Some, None, nat_eq, slice_index_or, rules, refl, sym, ap, ◌∙◌, subst, arith, inl, inr, ⊎_elim}
-use Rattle.std.specs.List.{filter, flat_map, Contains}
+use Rattle.std.proofs.Common.{◌≡◌, ℕ, zero, suc, ◌<◌, ◌≤◌, ◌⊎◌, Bool, true, false, cond, eqb, ltb, leb, List, [], ◌∷◌, ◌++◌, length, map, Some, None, nat_eq, slice_index_or, refl, sym, ap, ◌∙◌, subst, arith, inl, inr, ⊎_elim}
+use Rattle.std.specs.List.{filter, flat_map}
 use Rattle.std.specs.Option.{IsSome}
 use Rattle.std.specs.HashMap.{get, keys}
 use Rattle.std.proofs.lemmas.Bool.{and_parts}
@@ -9,8 +9,7 @@ use Rattle.std.proofs.lemmas.Map.Views.{hash_map_contains_key_iff, exact_unsigne
 use Rattle.checker_rules.specs.State.{Stored}
 use Rattle.checker_rules.specs.Buckets.{of_hash}
 use Rattle.checker_rules.specs.WellFormed.{ids_rise}
-use Rattle.varisat_checker.specs.declared.clauses.Clause.{Clause}
-use Rattle.varisat_checker.specs.Buckets.{Buckets, clauses_at, bucket_items}
+use Rattle.varisat_checker.specs.Buckets.{Buckets, bucket_items}
 use Rattle.varisat_checker.specs.View.{stored_of, stored_in, put_by_id, by_id, list_of}
 
 abbrev pub In : Stored → List Stored → Type 0
@@ -163,10 +162,10 @@ unfolding list_of
 list_is buffer m h es a tied =
     let all = flat_map (stored_in buffer m) (keys m) in
     let from : (x : Stored) → In x all → In x es = λ x i. let s = in_some (stored_in buffer m) x (keys m) i in
-        filter_in (λ e. eqb (h e.lits) s.0) x es (subst (In x) (tied s.0) s.1) in
+    filter_in (λ e. eqb (h e.lits) s.0) x es (subst (In x) (tied s.0) s.1) in
     let to : (x : Stored) → In x es → In x all = λ x i.
-        let here : In x (stored_in buffer m (h x.lits)) = subst (In x) (sym (tied (h x.lits))) (in_filter (λ e. eqb (h e.lits) (h x.lits)) x es (grind arith) i) in
-        let at = (hash_map_contains_key_iff nat_eq_equiv exact_unsigned_eq m (h x.lits)).0 (some_here buffer m (h x.lits) x here) in
-        in_all (stored_in buffer m) x (h x.lits) (keys m) at.0 at.1 at.2 here in
+    let here : In x (stored_in buffer m (h x.lits)) = subst (In x) (sym (tied (h x.lits))) (in_filter (λ e. eqb (h e.lits) (h x.lits)) x es (grind arith) i) in
+    let at = (hash_map_contains_key_iff nat_eq_equiv exact_unsigned_eq m (h x.lits)).0 (some_here buffer m (h x.lits) x here) in
+    in_all (stored_in buffer m) x (h x.lits) (keys m) at.0 at.1 at.2 here in
     same_members 0 0 (by_id all) es (above_by_id all) a (λ x i. from x (in_by_id x all i))
     (λ x i. by_id_has x all (λ y z p q. same_id 0 es y z a (from y p) (from z q)) (to x i))

@@ -1,11 +1,12 @@
 -- The stored clauses by their hashes.
-use Rattle.std.specs.Prelude.{ℕ, nat_eq, List, [], Option, None, Some, All}
+use Rattle.std.specs.Prelude.{ℕ, ◌+◌, nat_eq, Bool, cond, List, [], Option, None, Some, All}
 use Rattle.std.specs.HashMap.{HashMap, get}
 use Rattle.std.specs.declared.hash.FoldHasher.{FoldHasher}
 use Rattle.std.specs.declared.hash.BuildHasherDefault.{BuildHasherDefault}
 use Rattle.smallvec.specs.SmallVec.{SmallVec}
 use Rattle.varisat_checker.specs.declared.clauses.Clause.{Clause}
-use Rattle.varisat_checker.specs.Lits.{IsWithin}
+use Rattle.checker_rules.specs.Canonical.{same_list}
+use Rattle.varisat_checker.specs.Lits.{IsWithin, lits_of}
 
 -- a map from hashes to buckets
 abbrev pub Buckets : Type 0
@@ -23,3 +24,15 @@ clauses_at m h = bucket_items (get nat_eq m h)
 -- the literals of every clause lie in the buffer
 abbrev pub AreWithin : List ℕ → Buckets → Type 0
 AreWithin buffer m = (k : ℕ) → All (λ c. IsWithin c.lits buffer) (clauses_at m k)
+
+-- whether the clause has these literals
+abbrev pub is_of : List ℕ → List ℕ → Clause → Bool
+is_of buffer lits c = same_list (lits_of c.lits buffer) lits
+
+-- how many copies of a kind
+abbrev pub copies_of : Bool → Clause → ℕ
+copies_of redundant c = cond redundant c.redundant c.irredundant
+
+-- the clause with one copy more
+abbrev pub raised : Bool → Clause → Clause
+raised redundant c = cond redundant (record c { redundant = c.redundant + 1 }) (record c { irredundant = c.irredundant + 1 })

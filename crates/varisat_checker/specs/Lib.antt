@@ -1,4 +1,5 @@
 pub mod Buckets
+pub mod Found
 pub mod InputCause
 pub mod Lits
 pub mod StateOf

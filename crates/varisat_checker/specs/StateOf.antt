@@ -1,8 +1,8 @@
 -- The parts of a checker as the state of the rules.
-use Rattle.std.specs.Prelude.{ℕ, nat_eq, ◌≡◌, List, map, Option, None, Some}
+use Rattle.std.specs.Prelude.{ℕ, nat_eq, ◌≡◌, List, map, Option}
 use Rattle.std.specs.Option.{option_map}
 use Rattle.std.specs.HashMap.{get}
-use Rattle.checker_rules.specs.State.{State, Stored, StoredUnit, Known, clause_hash}
+use Rattle.checker_rules.specs.State.{State, StoredUnit, Known, clause_hash}
 use Rattle.checker_rules.specs.Buckets.{of_hash}
 use Rattle.sat_formula.specs.Vars.{index_of, indexes_of}
 use Rattle.varisat_checker.specs.declared.clauses.Clauses.{Clauses}
