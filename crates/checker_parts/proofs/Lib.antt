@@ -1,0 +1,2 @@
+pub mod CanonicalLists
+pub mod SubsetWalks

@@ -1,0 +1,34 @@
+use Rattle.std.proofs.Common.{◌≡◌, ℕ, List, [], ◌++◌, eqb, ap, ◌∙◌, subst}
+use Rattle.std.specs.List.Retain.{DiffersFromLast, IsFiltered}
+use Rattle.std.specs.List.Sorted.{IsPermutation, IsSorted}
+use Rattle.std.specs.Ordering.{nat_cmp}
+use Rattle.std.proofs.lemmas.List.Filters.{dedup_is}
+use Rattle.checker_rules.specs.Canonical.{canonical}
+use Rattle.checker_rules.specs.Clauses.{is_canonical, is_tautology}
+use Rattle.checker_rules.proofs.Forms.{canonical-is}
+use Rattle.checker_parts.proofs.CanonicalLists.{sorted-canonical}
+use Rattle.checker_parts.proofs.sorted_lits.copy_canonical.Goals as goal
+
+-- what the clearing, the copy, the sort and the removal of repeats leave
+left : (src cleared copied sorted kept : List ℕ) → cleared ≡ [] → copied ≡ cleared ++ src → IsPermutation copied sorted → IsSorted nat_cmp sorted → IsFiltered (DiffersFromLast eqb) [] sorted kept → kept ≡ canonical src
+left src cleared copied sorted kept none more moved rise filtered =
+    dedup_is eqb sorted kept filtered
+    ∙ sorted-canonical src sorted (subst (λ (items : List ℕ). IsPermutation items sorted) (more ∙ ap (λ (items : List ℕ). items ++ src) none) moved) rise
+
+pub returns-clause-items : goal.returns-clause-items
+returns-clause-items c = left _ _ _ _ _ c.clear.ensures.items c.in_ok-extend_from_slice.ensures.items c.sort_unstable.ensures.permutation c.sort_unstable.ensures.sorted c.dedup.ensures.filtered
+
+pub returns-clause-canonical : goal.returns-clause-canonical
+returns-clause-canonical c =
+    ap is_canonical (left _ _ _ _ _ c.clear.ensures.items c.in_ok-extend_from_slice.ensures.items c.sort_unstable.ensures.permutation c.sort_unstable.ensures.sorted c.dedup.ensures.filtered)
+    ∙ canonical-is c.args.src.now
+
+pub has_opposites-requires : goal.has_opposites-requires
+has_opposites-requires c =
+    let kept = left _ _ _ _ _ c.clear.ensures.items c.in_ok-extend_from_slice.ensures.items c.sort_unstable.ensures.permutation c.sort_unstable.ensures.sorted c.dedup.ensures.filtered in
+    ap is_canonical (c.as_slice.ensures.value ∙ kept) ∙ canonical-is c.args.src.now
+
+pub returns-clause-tautology : goal.returns-clause-tautology
+returns-clause-tautology c =
+    let kept = left _ _ _ _ _ c.clear.ensures.items c.in_ok-extend_from_slice.ensures.items c.sort_unstable.ensures.permutation c.sort_unstable.ensures.sorted c.dedup.ensures.filtered in
+    c.has_opposites.ensures ∙ ap is_tautology (c.as_slice.ensures.value ∙ kept)

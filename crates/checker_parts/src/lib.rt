@@ -1,0 +1,6 @@
+//! Lists of literals, names, errors, checked steps and the traits of processors.
+#![tactic(auto)]
+
+pub mod sorted_lits;
+#[cfg(test)]
+mod tests;
