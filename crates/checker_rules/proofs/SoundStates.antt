@@ -9,7 +9,7 @@ use Rattle.checker_rules.specs.Sound.{RunsStaySound, Sound, StatesStaySound}
 use Rattle.checker_rules.specs.State.{State}
 use Rattle.checker_rules.specs.Step.{Step, add_clause}
 use Rattle.checker_rules.specs.Steps.{new_state, step}
-use Rattle.checker_rules.proofs.Forms.{form-close, new_form, steps_keep_form}
+use Rattle.checker_rules.proofs.StepForms.{form-close, new_form, steps_keep_form}
 use Rattle.checker_rules.proofs.Keeping.{step_keeps}
 use Rattle.checker_rules.proofs.Runs.{new_good}
 use Rattle.checker_rules.proofs.WholeRuns.{close_keeps}
