@@ -4,3 +4,4 @@
 pub mod sorted_lits;
 #[cfg(test)]
 mod tests;
+pub mod variables;
