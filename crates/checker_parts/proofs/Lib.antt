@@ -1,2 +1,3 @@
 pub mod CanonicalLists
 pub mod SubsetWalks
+pub mod Marks

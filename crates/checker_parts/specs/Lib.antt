@@ -1,3 +1,5 @@
-pub mod Subsets
 pub mod Answers
 pub mod Causes
+pub mod Names
+pub mod Subsets
+pub mod Variables

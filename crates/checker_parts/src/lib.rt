@@ -5,3 +5,4 @@ pub mod error;
 pub mod sorted_lits;
 #[cfg(test)]
 mod tests;
+pub mod variables;
