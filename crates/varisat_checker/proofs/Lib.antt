@@ -1,1 +1,5 @@
+pub mod AssumeLemmas
+pub mod StatusLemmas
+pub mod TrailLemmas
+pub mod UnitsLemmas
 pub mod ViewLemmas

@@ -1,5 +1,7 @@
 pub mod Buckets
 pub mod Lits
+pub mod Rup
 pub mod StateOf
+pub mod Trail
 pub mod Units
 pub mod View
