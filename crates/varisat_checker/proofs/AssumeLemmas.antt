@@ -40,9 +40,9 @@ has-take (m ∷ ms) (suc i) l h = elim (or_cases (eqb l m) (has l (take i ms)) h
 pub start_set-free : (us : List (Option StoredUnit)) (c : List ℕ) (i m : ℕ) → i < length c → m ≡ get_or c i m → some_true_unit us c ≡ false → is_tautology c ≡ false → start_set us (take i c) m ≡ false
 start_set-free us c i m less is free apart =
     or_from (lit_by_unit us m) (negated_set (take i c) m) (none-at (lit_by_unit us) c i m less is free) (false_from_ne_true (negated_set (take i c) m) (λ e.
-      let k = any_at (λ l. eqb m (negate l)) (take i c) e in
-      let here : has m c ≡ true = list_any_at (eqb m) c i m less (ap (eqb m) (sym is) ∙ eq-eqb m m refl) in
-      both_ways (is_tautology c) apart (any_from (λ l. has (negate l) c) c k.0 (has-take c i k.0 k.1) (ap (λ x. has x c) (sym (eqb-true m (negate k.0) k.2)) ∙ here))))
+    let k = any_at (λ l. eqb m (negate l)) (take i c) e in
+    let here : has m c ≡ true = list_any_at (eqb m) c i m less (ap (eqb m) (sym is) ∙ eq-eqb m m refl) in
+    both_ways (is_tautology c) apart (any_from (λ l. has (negate l) c) c k.0 (has-take c i k.0 k.1) (ap (λ x. has x c) (sym (eqb-true m (negate k.0) k.2)) ∙ here))))
 
 -- one literal more is taken as false
 pub assume-step : (us vs : List (Option UnitClause)) (ss : List (Option StoredUnit)) (c : List ℕ) (i m : ℕ) (u : UnitClause) → i < length c → m ≡ get_or c i m → var_of m < length us → u.value ≡ is_negative m

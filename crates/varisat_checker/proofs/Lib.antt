@@ -3,3 +3,4 @@ pub mod StatusLemmas
 pub mod TrailLemmas
 pub mod UnitsLemmas
 pub mod ViewLemmas
+pub mod WalkLemmas

@@ -1,5 +1,6 @@
 //! What the values of its literals make of a clause.
 ghost use Rattle.std.specs.Prelude.{◌≡◌};
+ghost use Rattle.std.specs.List.{list_any};
 ghost use Rattle.varisat_checker.specs.Rup.{status_of, true_lits};
 ghost use Rattle.varisat_checker.specs.Units as spec;
 
@@ -26,6 +27,18 @@ pub fn lit_value(units: &Units, lit: Lit) -> Option<bool>
         Some(unit) => Some(unit.value == lit.is_positive()),
         None => None,
     }
+}
+
+/// Whether a literal is true.
+pub fn has_true_lit(units: &Units, lits: &[Lit]) -> bool
+    ensures { result ≡ list_any (true_lits units.now) lits.now }
+{
+    for lit in lits {
+        if let Some(true) = lit_value(units, *lit) {
+            return true;
+        }
+    }
+    false
 }
 
 /// Looks at each literal once, and no further than a true or a second free one.
