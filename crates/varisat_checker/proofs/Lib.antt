@@ -1,7 +1,12 @@
 pub mod AddClauseLemmas
+pub mod AssumeLemmas
 pub mod AtClauseLemmas
 pub mod BucketLemmas
 pub mod FoundLemmas
 pub mod OutcomeLemmas
 pub mod SameListLemmas
+pub mod StatusLemmas
+pub mod TrailLemmas
+pub mod UnitsLemmas
 pub mod ViewLemmas
+pub mod WalkLemmas

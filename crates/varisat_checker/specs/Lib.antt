@@ -2,6 +2,8 @@ pub mod Buckets
 pub mod Found
 pub mod InputCause
 pub mod Lits
+pub mod Rup
 pub mod StateOf
+pub mod Trail
 pub mod Units
 pub mod View

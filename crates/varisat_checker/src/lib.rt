@@ -4,4 +4,5 @@
 pub mod clauses;
 pub mod hash;
 pub mod laws;
+pub mod rup;
 pub mod state;
