@@ -1,5 +1,6 @@
 //! What is recorded beside the clauses, and how a proof is checked.
-use sat_formula::lit::Lit;
+use sat_formula::Lit;
+use std::alloc::Global;
 
 /// What was recorded, and what the last steps said.
 #[derive(Drop)]
@@ -12,4 +13,20 @@ pub struct CheckerState {
     pub assumptions: Vec<Lit>,
     pub previous_id: Option<u64>,
     pub previous_lits: Vec<Lit>,
+}
+
+impl CheckerState {
+    /// Nothing is recorded.
+    pub fn new(alloc: Global) -> CheckerState {
+        CheckerState {
+            step: 0,
+            unsat: false,
+            ended: false,
+            failed: false,
+            input_clauses: 0,
+            assumptions: Vec::new(alloc),
+            previous_id: None,
+            previous_lits: Vec::new(alloc),
+        }
+    }
 }

@@ -1,5 +1,5 @@
 //! The value of each known variable, where it has one.
-ghost use Rattle.std.specs.Prelude.{◌≡◌, ◌<◌, ◌++◌, ◌∷◌, [], length, None, OnOk, OnErr, slice_set};
+ghost use Rattle.std.specs.Prelude.{◌≡◌, ◌-◌, ◌<◌, ◌++◌, ◌∷◌, [], length, replicate, None, OnOk, OnErr, slice_set};
 ghost use Rattle.varisat_checker.specs.Units.{unit_at};
 
 use std::alloc::{AllocError, Global};
@@ -71,6 +71,17 @@ impl Units {
         ensures { self.new ≡ slice_set self.old index unit }
     {
         self.values[index] = unit;
+    }
+
+    /// Makes the first `count` variables known, new ones without a value.
+    pub fn know(&mut self, count: usize) -> Result<(), AllocError>
+        ensures ok { OnOk result (self.new ≡ self.old ++ replicate (count - length self.old) None) }
+        ensures err { OnErr result (self.new ≡ self.old) }
+    {
+        if self.values.len() < count {
+            self.values.resize(count, None)?;
+        }
+        Ok(())
     }
 
     /// One more variable is known, without a value.
