@@ -1,4 +1,5 @@
 pub mod BucketLemmas
+pub mod HashLemmas
 pub mod FoundLemmas
 pub mod SameListLemmas
 pub mod ViewLemmas
