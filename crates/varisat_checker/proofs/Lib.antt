@@ -2,6 +2,7 @@ pub mod AddClauseLemmas
 pub mod AssumeLemmas
 pub mod AtClauseLemmas
 pub mod BucketLemmas
+pub mod HashLemmas
 pub mod FoundLemmas
 pub mod OutcomeLemmas
 pub mod SameListLemmas
