@@ -1,9 +1,14 @@
 pub mod Buckets
+pub mod Context
 pub mod Found
+pub mod Growth
 pub mod InputCause
+pub mod Kept
 pub mod Lits
 pub mod Rup
 pub mod StateOf
+pub mod Store
 pub mod Trail
 pub mod Units
 pub mod View
+pub mod Whole

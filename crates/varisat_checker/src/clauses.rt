@@ -6,7 +6,9 @@ pub mod units;
 use crate::clauses::buckets::Buckets;
 use crate::clauses::lits::ClauseLits;
 use crate::clauses::units::Units;
-use sat_formula::lit::Lit;
+use sat_formula::Lit;
+use std::alloc::Global;
+use std::collections::HashMap;
 
 /// A clause of two or more literals, with the number of its copies of either kind.
 #[derive(Clone, Copy)]
@@ -49,4 +51,18 @@ pub struct Clauses {
     pub buckets: Buckets,
     pub unit_clauses: Units,
     pub unit_conflict: Option<(u64, u64)>,
+}
+
+impl Clauses {
+    /// Nothing is stored.
+    pub fn new(alloc: Global) -> Clauses {
+        Clauses {
+            next_clause_id: 0,
+            literal_buffer: Vec::new(alloc),
+            garbage_size: 0,
+            buckets: HashMap::new(alloc),
+            unit_clauses: Units::new(alloc),
+            unit_conflict: None,
+        }
+    }
 }

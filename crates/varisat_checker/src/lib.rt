@@ -6,3 +6,6 @@ pub mod hash;
 pub mod laws;
 pub mod rup;
 pub mod state;
+pub mod context;
+pub mod processing;
+pub mod variables;
