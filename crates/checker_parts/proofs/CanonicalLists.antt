@@ -12,7 +12,7 @@ use Rattle.std.proofs.lemmas.Map.Views.{Contains-from_any, list_any-from_Contain
 use Rattle.std.proofs.lemmas.Bool.{and_parts, and_from, or_cases, or_left, or_right, eqb-true, ne_eqb, eqb-false, false≢true}
 use Rattle.checker_rules.specs.Canonical.{canonical, insert_lit}
 use Rattle.checker_rules.specs.Clauses.{has, is_canonical, is_negative, is_tautology, negate, var_of}
-use Rattle.checker_rules.proofs.Forms.{canonical-is}
+use Rattle.checker_rules.proofs.Entries.{canonical-is}
 use Rattle.checker_rules.proofs.Sets.{bool_ext}
 use Rattle.checker_rules.proofs.Walks.{all_at, any_at, any_from}
 

@@ -1,6 +1,7 @@
 //! Lists of literals, names, errors, checked steps and the traits of processors.
 #![tactic(auto)]
 
+pub mod error;
 pub mod sorted_lits;
 #[cfg(test)]
 mod tests;

@@ -5,7 +5,7 @@ use Rattle.std.specs.Ordering.{nat_cmp}
 use Rattle.std.proofs.lemmas.List.Filters.{dedup_is}
 use Rattle.checker_rules.specs.Canonical.{canonical}
 use Rattle.checker_rules.specs.Clauses.{is_canonical, is_tautology}
-use Rattle.checker_rules.proofs.Forms.{canonical-is}
+use Rattle.checker_rules.proofs.Entries.{canonical-is}
 use Rattle.checker_parts.proofs.CanonicalLists.{sorted-canonical}
 use Rattle.checker_parts.proofs.sorted_lits.copy_canonical.Goals as goal
 

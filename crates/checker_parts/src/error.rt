@@ -1,0 +1,146 @@
+//! Why the checker refuses or fails.
+use sat_formula::DimacsKind;
+use std::io;
+use thiserror::Error;
+
+/// Why a step or an input clause is refused.
+#[derive(Clone, Copy, Debug, PartialEq, Eq, Error)]
+pub enum CheckCause {
+    #[error("variable is not a sampling variable")]
+    NotSampling,
+    #[error("clause is a tautology")]
+    Tautology,
+    #[error("no clause found for hash")]
+    NoClauseForHash,
+    #[error("AT check failed")]
+    AtCheckFailed,
+    #[error("delete of unit or empty clause")]
+    DeleteUnitOrEmpty,
+    #[error("delete of unknown clause")]
+    DeleteUnknown,
+    #[error("delete of redundant clause which is irredundant")]
+    DeleteRedundantIsIrredundant,
+    #[error("delete of irredundant clause which is redundant")]
+    DeleteIrredundantIsRedundant,
+    #[error("deleted clause is not satisfied")]
+    NotSatisfied,
+    #[error("deleted clause is not subsumed by previous clause")]
+    NotSubsumed,
+    #[error("deleted variable corresponds to a user variable")]
+    DeletedVarNamed,
+    #[error("deleted variable still has clauses")]
+    DeletedVarHasClauses,
+    #[error("cannot sample hidden variable")]
+    SampleHidden,
+    #[error("user name out of range or used for two different variables")]
+    UserNameTaken,
+    #[error("user name added to variable which is still hidden")]
+    StillHidden,
+    #[error("change of user name for in use variable")]
+    NameInUse,
+    #[error("no user name to remove")]
+    NoNameToRemove,
+    #[error("model assignment conflicts with unit clause")]
+    ModelAgainstUnit,
+    #[error("model contains conflicting assignment")]
+    ModelAgainstItself,
+    #[error("model does not contain assumption")]
+    ModelMissesAssumption,
+    #[error("model does not satisfy clause")]
+    ModelMissesClause,
+    #[error("failed core contains non-assumed variables")]
+    NotAssumed,
+    #[error("unknown variable")]
+    UnknownVar,
+    #[error("hash width out of range")]
+    HashBits,
+    #[error("failed core contains hidden variable")]
+    CoreVarHidden,
+    #[error("model after unsatisfiability")]
+    ModelAfterUnsat,
+    #[error("no clause id left")]
+    IdsExhausted,
+    #[error("clause count exhausted")]
+    CountExhausted,
+    #[error("no step number left")]
+    StepsExhausted,
+    #[error("step kind not checked yet")]
+    NotYet,
+}
+
+/// What a call of the checker answers in place of Ok.
+#[derive(Debug, Drop, Error)]
+pub enum CheckerError {
+    /// The proof's text ended before the step `End`.
+    #[error("step {step}: Unexpected end of proof file")]
+    ProofIncomplete {
+        step: u64,
+    },
+    /// A read of the proof failed.
+    #[error("step {step}: Error reading proof file: {cause}")]
+    IoError {
+        step: u64,
+        cause: io::Error,
+    },
+    /// The text's first malformed field.
+    #[error("step {step}: Could not parse proof step: {cause}")]
+    ParseError {
+        step: u64,
+        cause: MalformedStep,
+    },
+    /// A step was refused. `debug_step` shows a refused proof step; it is empty for refusals of
+    /// input clauses, of the steps `UserVarName` and `Assumptions`, of a closing conflict and
+    /// of a step without a number, and where its memory was refused.
+    #[error("step {step}: Checking proof failed: {msg}")]
+    CheckFailed {
+        step: u64,
+        msg: CheckCause,
+        debug_step: String,
+    },
+    /// A processor answered a fault: the checker has failed.
+    #[error("Error in proof processor: {cause}")]
+    ProofProcessorError {
+        cause: anyhow::Error,
+    },
+    /// A growth was refused: the checker has failed, but for a refused registration.
+    #[error("out of memory")]
+    OutOfMemory,
+    /// The checker had failed before the call, which did nothing.
+    #[error("checker has failed")]
+    Failed,
+}
+
+/// Why a DIMACS text was not added whole. The clauses that ended before stay.
+#[derive(Debug, Drop, Error)]
+pub enum DimacsError {
+    /// A read failed.
+    #[error("error reading formula: {0}")]
+    Read(io::Error),
+    /// The text's first fault, and its line.
+    #[error("line {line}: {}", text_of(.kind))]
+    Malformed { line: u64, kind: DimacsKind },
+    /// The checker's own answer, or the reader's want of memory.
+    #[error("{0}")]
+    Checker(CheckerError),
+}
+
+/// What is wrong with the bytes of a proof.
+#[derive(Clone, Copy, Debug, PartialEq, Eq, Error)]
+pub enum MalformedStep {
+    #[error("unknown step tag")]
+    UnknownTag,
+    #[error("malformed number")]
+    BadNumber,
+    #[error("value out of range")]
+    OutOfRange,
+}
+
+fn text_of(kind: &DimacsKind) -> &'static str {
+    match kind {
+        DimacsKind::BadNumber => "bad number",
+        DimacsKind::VarTooLarge => "variable too large",
+        DimacsKind::BadHeader => "bad header",
+        DimacsKind::LateHeader => "late header",
+        DimacsKind::UnterminatedClause => "unterminated clause",
+    }
+}
