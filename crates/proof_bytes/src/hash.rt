@@ -9,7 +9,8 @@ pub type ClauseHash = u64;
 
 const MULTIPLIER: u64 = 0x9E37_79B9_7F4A_7C15;
 
-/// The hash of a literal's code, or of a code beyond those of literals that stands for one without a solver name.
+/// The hash of a literal's code, or of a code beyond those of literals, which stands for a literal
+/// without a solver name.
 pub fn lit_code_hash(code: usize) -> ClauseHash
     ensures { result ≡ lit_code_hash code }
 {
