@@ -1,7 +1,9 @@
 pub mod Words
 pub mod Text
+pub mod Source
 pub mod Taking
 pub mod Reading
 pub mod NextClause
 pub mod Whole
 pub mod Vars
+pub mod Stop

@@ -3,8 +3,9 @@
 
 mod dimacs;
 mod fault;
+pub mod laws;
 pub mod lit;
-mod source;
+pub mod source;
 #[cfg(test)]
 mod tests;
 mod text;
