@@ -1,12 +1,11 @@
--- The refusals of the code as the causes of the definitions.
---     cause_of c      the cause; none of a kind of step that is not checked yet
+-- The refusals of the code as those of the definitions.
 use Rattle.std.specs.Prelude.{Option, Some, None}
 use Rattle.checker_rules.specs.Outcome as rules
 use Rattle.checker_rules.specs.Outcome.{Cause}
 use Rattle.checker_parts.specs.declared.error.CheckCause.{CheckCause}
 use Rattle.checker_parts.specs.declared.error.CheckCause.TheVariants.{NotSampling, Tautology, NoClauseForHash, AtCheckFailed, DeleteUnitOrEmpty, DeleteUnknown, DeleteRedundantIsIrredundant, DeleteIrredundantIsRedundant, NotSatisfied, NotSubsumed, DeletedVarNamed, DeletedVarHasClauses, SampleHidden, UserNameTaken, StillHidden, NameInUse, NoNameToRemove, ModelAgainstUnit, ModelAgainstItself, ModelMissesAssumption, ModelMissesClause, NotAssumed, UnknownVar, HashBits, CoreVarHidden, ModelAfterUnsat, IdsExhausted, CountExhausted, StepsExhausted, NotYet}
 
--- the cause of a refusal, if it is one of the rules
+-- the cause of the definitions, where there is one
 abbrev pub cause_of : CheckCause → Option Cause
 cause_of NotSampling = Some rules.not_sampling
 cause_of Tautology = Some rules.tautology

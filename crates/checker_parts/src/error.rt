@@ -1,11 +1,9 @@
-//! What the checker answers where it does not accept.
-use anyhow;
-use proof_bytes::MalformedStep;
+//! Why the checker refuses or fails.
 use sat_formula::DimacsKind;
 use std::io;
 use thiserror::Error;
 
-/// Why a step is refused.
+/// Why a step or an input clause is refused.
 #[derive(Clone, Copy, Debug, PartialEq, Eq, Error)]
 pub enum CheckCause {
     #[error("variable is not a sampling variable")]
@@ -66,48 +64,83 @@ pub enum CheckCause {
     CountExhausted,
     #[error("no step number left")]
     StepsExhausted,
-    /// Of a kind of step that is read and not checked yet. Nothing but the step counter changes.
     #[error("step kind not checked yet")]
     NotYet,
 }
 
-/// What a call of the checker answers where it does not accept.
+/// What a call of the checker answers in place of Ok.
 #[derive(Debug, Drop, Error)]
 pub enum CheckerError {
-    /// The proof ended before `End`. What came before stays.
+    /// The proof's text ended before the step `End`.
     #[error("step {step}: Unexpected end of proof file")]
-    ProofIncomplete { step: u64 },
-    /// A read failed. What came before stays.
+    ProofIncomplete {
+        step: u64,
+    },
+    /// A read of the proof failed.
     #[error("step {step}: Error reading proof file: {cause}")]
-    IoError { step: u64, cause: io::Error },
-    /// The bytes spell no step. What came before stays.
+    IoError {
+        step: u64,
+        cause: io::Error,
+    },
+    /// The text's first malformed field.
     #[error("step {step}: Could not parse proof step: {cause}")]
-    ParseError { step: u64, cause: MalformedStep },
-    /// A step, an input clause or the closing conflict is refused. `debug_step` shows a refused proof step.
+    ParseError {
+        step: u64,
+        cause: MalformedStep,
+    },
+    /// A step was refused. `debug_step` shows a refused proof step; it is empty for refusals of
+    /// input clauses, of the steps `UserVarName` and `Assumptions`, of a closing conflict and
+    /// of a step without a number, and where its memory was refused.
     #[error("step {step}: Checking proof failed: {msg}")]
     CheckFailed {
         step: u64,
         msg: CheckCause,
         debug_step: String,
     },
-    /// A processor or a transcript answered a fault. The checker has failed.
+    /// A processor answered a fault: the checker has failed.
     #[error("Error in proof processor: {cause}")]
-    ProofProcessorError { cause: anyhow::Error },
-    /// Memory was refused. The checker has failed.
+    ProofProcessorError {
+        cause: anyhow::Error,
+    },
+    /// A growth was refused: the checker has failed, but for a refused registration.
     #[error("out of memory")]
     OutOfMemory,
-    /// An earlier call failed by memory or by a processor. Nothing is read or changed.
+    /// The checker had failed before the call, which did nothing.
     #[error("checker has failed")]
     Failed,
 }
 
-/// What adding a formula text answers where the text is not added whole. The clauses before stay.
+/// Why a DIMACS text was not added whole. The clauses that ended before stay.
 #[derive(Debug, Drop, Error)]
 pub enum DimacsError {
+    /// A read failed.
     #[error("error reading formula: {0}")]
     Read(io::Error),
-    #[error("line {line}: {kind}")]
+    /// The text's first fault, and its line.
+    #[error("line {line}: {}", text_of(.kind))]
     Malformed { line: u64, kind: DimacsKind },
-    #[error(transparent)]
+    /// The checker's own answer, or the reader's want of memory.
+    #[error("{0}")]
     Checker(CheckerError),
+}
+
+/// What is wrong with the bytes of a proof.
+#[derive(Clone, Copy, Debug, PartialEq, Eq, Error)]
+pub enum MalformedStep {
+    #[error("unknown step tag")]
+    UnknownTag,
+    #[error("malformed number")]
+    BadNumber,
+    #[error("value out of range")]
+    OutOfRange,
+}
+
+fn text_of(kind: &DimacsKind) -> &'static str {
+    match kind {
+        DimacsKind::BadNumber => "bad number",
+        DimacsKind::VarTooLarge => "variable too large",
+        DimacsKind::BadHeader => "bad header",
+        DimacsKind::LateHeader => "late header",
+        DimacsKind::UnterminatedClause => "unterminated clause",
+    }
 }

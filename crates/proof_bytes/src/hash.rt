@@ -1,20 +1,23 @@
-//! The hash of a literal.
-ghost use Rattle.std.specs.Prelude.{◌≡◌, ◌<◌, ◌^◌};
+//! Hashes of literals, of which the hash of a clause is combined.
+ghost use Rattle.std.specs.Prelude.{◌≡◌};
 ghost use Rattle.checker_rules.specs.State.{lit_code_hash};
 
-use sat_formula::lit::Lit;
+use sat_formula::Lit;
 
-/// The hash of a clause.
+/// The hash of a clause, a bucket's name.
 pub type ClauseHash = u64;
 
-/// The hash of a code: of a literal's, or of one shifted by 2^29, which stands for a variable without a solver name.
+const MULTIPLIER: u64 = 0x9E37_79B9_7F4A_7C15;
+
+/// The hash of a literal's code, or of a code beyond those of literals, which stands for a literal
+/// without a solver name.
 pub fn lit_code_hash(code: usize) -> ClauseHash
     ensures { result ≡ lit_code_hash code }
 {
-    (code as u64).wrapping_add(1).wrapping_mul(0x9E37_79B9_7F4A_7C15)
+    (code as u64).wrapping_add(1).wrapping_mul(MULTIPLIER)
 }
 
-/// The hash of a literal by its code.
+/// The hash of a literal by its own code.
 pub fn lit_hash(lit: Lit) -> ClauseHash
     ensures { result ≡ lit_code_hash lit }
 {

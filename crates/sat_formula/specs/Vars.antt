@@ -1,5 +1,6 @@
--- Variables by their indexes.
-use Rattle.std.specs.Prelude.{ℕ, Option, Some, None}
+-- Variables by their indexes and literals by their codes.
+use Rattle.std.specs.Prelude.{◌≡◌, ℕ, ℤ, pos, negsuc, ◌+◌, ◌*◌, ◌%◌, Option, Some, None, if◌then◌else◌}
+use Rattle.checker_rules.specs.Clauses.{is_negative, var_of}
 use Rattle.sat_formula.specs.declared.lit.Var.{Var}
 
 -- the index of a variable
@@ -10,3 +11,19 @@ index_of v = v.index
 abbrev pub indexes_of : Option Var → Option ℕ
 indexes_of None = None
 indexes_of (Some v) = Some v.index
+
+-- the DIMACS number of the variable of an index
+abbrev pub dimacs_var : ℕ → ℤ
+dimacs_var index = pos (index + 1)
+
+-- the DIMACS number of the literal of a code; `negsuc n` is the number -(n + 1)
+abbrev pub dimacs_lit : ℕ → ℤ
+dimacs_lit code = if is_negative code then negsuc (var_of code) else pos (var_of code + 1)
+
+-- a literal's variable is replaced by one that `post` allows, and its sign stays
+pub record IsMapped (post : Var → Var → Type 0) (lit result : ℕ) : Type 0 where
+  pub from : Var
+  pub to : Var
+  pub of_lit : index_of from ≡ var_of lit
+  pub mapped : post from to
+  pub is : result ≡ 2 * index_of to + lit % 2

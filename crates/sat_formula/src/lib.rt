@@ -3,6 +3,7 @@
 
 mod dimacs;
 mod fault;
+pub mod laws;
 pub mod lit;
 pub mod source;
 #[cfg(test)]

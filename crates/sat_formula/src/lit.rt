@@ -1,9 +1,10 @@
 //! Variables and literals.
-ghost use Rattle.std.specs.Prelude.{◌≡◌, ◌+◌, ◌-◌, ◌*◌, ◌/◌, ◌<◌, ◌≤◌, ◌^◌, ℕ, SomeIff, not, if◌then◌else◌};
+ghost use Rattle.std.specs.Prelude.{◌≡◌, ◌↔◌, ◌+◌, ◌-◌, ◌*◌, ◌<◌, ◌≤◌, ◌^◌, ◌<ℤ◌, ◌≤ℤ◌, ℕ, pos, unsigned_abs, SomeIff, IfSome, IsSome, not, if◌then◌else◌};
 ghost use Rattle.std.specs.Coded.{coded_ℕ};
-ghost use Rattle.checker_rules.specs.Clauses.{negate, is_negative};
+ghost use Rattle.checker_rules.specs.Clauses.{negate, is_negative, var_of};
 
 use std::marker::Model;
+use std::ops::Not;
 
 /// A variable, named by its index.
 #[derive(Clone, Copy, Debug, PartialEq, Eq, PartialOrd, Ord, Hash)]
@@ -31,18 +32,39 @@ impl Model for Lit {
 }
 
 impl Var {
-    ghost use Rattle.sat_formula.specs.Vars.{index_of, indexes_of};
+    ghost use Rattle.sat_formula.specs.Vars.{index_of, indexes_of, dimacs_var};
 
     /// So many variables there can be at most.
     pub const MAX_COUNT: usize = 0x1000_0000;
 
-    /// The variable of this index, below `MAX_COUNT`.
+    /// The same as `MAX_COUNT`.
+    pub const fn max_count() -> usize
+        ensures { result ≡ 2 ^ 28 }
+    {
+        Var::MAX_COUNT
+    }
+
+    /// The variable of an index below `MAX_COUNT`.
     pub fn from_index(index: usize) -> Option<Var>
         ensures { SomeIff (indexes_of result) (index < 2 ^ 28) index }
     {
         if index < Var::MAX_COUNT {
             Some(Var {
                 index: index as u32,
+            })
+        } else {
+            None
+        }
+    }
+
+    /// The variable of a number from 1 to `MAX_COUNT`.
+    pub fn from_dimacs(number: i64) -> Option<Var>
+        ensures value { IfSome result (λ var. dimacs_var (index_of var) ≡ number) }
+        ensures range { IsSome result ↔ ((pos 0 <ℤ number) × (number ≤ℤ pos (2 ^ 28))) }
+    {
+        if number > 0 && number <= Var::MAX_COUNT as i64 {
+            Some(Var {
+                index: (number - 1) as u32,
             })
         } else {
             None
@@ -56,31 +78,46 @@ impl Var {
         self.index as usize
     }
 
+    /// The index and 1.
+    pub fn to_dimacs(self) -> i64
+        ensures { result ≡ dimacs_var (index_of self) }
+    {
+        self.index as i64 + 1
+    }
+
     /// The literal of this variable, positive or negative.
     pub fn lit(self, positive: bool) -> Lit
         ensures { result ≡ 2 * index_of self + (if positive then 0 else 1) }
     {
-        if positive {
-            Lit {
-                code: self.index * 2,
-            }
-        } else {
-            Lit {
-                code: self.index * 2 + 1,
-            }
+        Lit {
+            code: self.index * 2 + !positive as u32,
         }
     }
 }
 
 impl Lit {
-    ghost use Rattle.sat_formula.specs.Vars.{index_of};
+    ghost use Rattle.sat_formula.specs.Vars.{index_of, dimacs_lit, IsMapped};
+    ghost use Rattle.sat_formula.specs.declared.lit.Var.{Var};
 
-    /// The literal of this code, below twice `Var::MAX_COUNT`.
+    /// The literal of a code below twice `Var::MAX_COUNT`.
     pub fn from_code(code: usize) -> Option<Lit>
         ensures { SomeIff result (code < 2 ^ 29) code }
     {
         if code < 2 * Var::MAX_COUNT {
             Some(Lit { code: code as u32 })
+        } else {
+            None
+        }
+    }
+
+    /// The literal of a number with an absolute value from 1 to `Var::MAX_COUNT`, negative where the number is.
+    pub fn from_dimacs(number: i64) -> Option<Lit>
+        ensures value { IfSome result (λ lit. dimacs_lit lit ≡ number) }
+        ensures range { IsSome result ↔ ((0 < unsigned_abs number) × (unsigned_abs number ≤ 2 ^ 28)) }
+    {
+        let value = number.unsigned_abs();
+        if 0 < value && value <= Var::MAX_COUNT as u64 {
+            Some(Lit::of_number(value, number < 0))
         } else {
             None
         }
@@ -95,14 +132,14 @@ impl Lit {
 
     /// The index of the literal's variable.
     pub fn index(self) -> usize
-        ensures value { result ≡ self / 2 }
+        ensures value { result ≡ var_of self }
         ensures bound { result < 2 ^ 28 }
     {
         (self.code >> 1) as usize
     }
 
     pub fn var(self) -> Var
-        ensures { index_of result ≡ self / 2 }
+        ensures { index_of result ≡ var_of self }
     {
         Var {
             index: self.code >> 1,
@@ -121,6 +158,22 @@ impl Lit {
         self.code & 1 == 1
     }
 
+    /// The literal of the variable that `map` gives for this one's, with the same sign.
+    pub fn map_var<F: FnOnce(Var) -> Var>(self, map: F) -> Lit
+        requires { (var : Var) → index_of var ≡ var_of self → F.pre map var }
+        ensures { IsMapped (F.post map) self result }
+    {
+        map(self.var()).lit(self.is_positive())
+    }
+
+    /// The number of the variable, negated where the literal is negative.
+    pub fn to_dimacs(self) -> i64
+        ensures { result ≡ dimacs_lit self }
+    {
+        let number = self.var().to_dimacs();
+        if self.is_negative() { -number } else { number }
+    }
+
     /// The literal of a DIMACS number that is not 0, by its absolute value.
     pub(crate) fn of_number(value: u64, negative: bool) -> Lit
         requires some { 0 < value }
@@ -129,6 +182,18 @@ impl Lit {
     {
         Lit {
             code: (value * 2 - 2) as u32 + negative as u32,
+        }
+    }
+}
+
+impl Not for Lit {
+    type Output = Lit;
+
+    ghost not_gives = { λ lit r. r ≡ negate lit };
+
+    fn not(self) -> Lit {
+        Lit {
+            code: self.code ^ 1,
         }
     }
 }

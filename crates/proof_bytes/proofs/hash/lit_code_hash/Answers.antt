@@ -5,4 +5,4 @@ use Rattle.proof_bytes.proofs.hash.lit_code_hash.Goals as goal
 
 pub returns : goal.returns
 unfolding lit_code_hash
-returns c = mul-mod_first (c.args.code + 1) 0x9E3779B97F4A7C15 (2 ^ 64)
+returns c = cc (mul-mod_first (c.args.code + 1) 0x9E3779B97F4A7C15 (2 ^ 64))

@@ -1,0 +1,191 @@
+-- What a loop over `next_step` keeps, and how it ends.
+--     SoFar      what was taken and accepted so far; `nothing_yet` begins it, `one_more` is a turn of the loop
+--     run_refused, run_faulted, run_exhausted, run_closed      how it ends; `run_before` where a call in it gave up
+--     run_of_known      over a reader that tells its bytes
+use Rattle.std.proofs.Common.{◌≡◌, ◌⊎◌, ℕ, Bool, true, false, cond, ltb, List, [], ◌∷◌, ◌++◌, Option, Some, None, Result, Ok, Err, refl, sym, ap, subst, ◌∙◌, inl, inr, append-nil, append_assoc, arith}
+use Rattle.std.proofs.lemmas.Bool.{false≢true}
+use Rattle.std.specs.Io.KnownBytes.{Consumes, IsAtEnd}
+use Rattle.std.proofs.KnownBytes.{Consumes-trans, Consumes-nil}
+use Rattle.checker_rules.specs.Calls.{attempt, closing_conflict, count_step, step_limit}
+use Rattle.checker_rules.specs.Outcome.{Cause, Outcome, steps_exhausted}
+use Rattle.checker_rules.specs.Run.{Runs, Stop, after_attempt, after_read, as_answer, move}
+use Rattle.checker_rules.specs.State.{State}
+use Rattle.checker_rules.specs.Step.{Step, solver_var_name, user_var_name, delete_var, change_sampling_mode, add_clause, at_clause, delete_clause, unit_clauses, change_hash_bits, model, assumptions, failed_assumptions, end_proof}
+use Rattle.proof_bytes.specs.declared.fault.ProofFault.{ProofFault}
+use Rattle.proof_bytes.specs.declared.fault.ProofFault.TheVariants as proof_faults
+use Rattle.proof_bytes.specs.declared.format.Format.{Format}
+use Rattle.proof_bytes.specs.declared.format.Format.TheVariants as formats
+use Rattle.proof_bytes.specs.NextStep.{is_end}
+use Rattle.proof_bytes.specs.Reading.{Fault, Short, Wrong, Found}
+use Rattle.proof_bytes.specs.Steps.{next_at}
+use Rattle.proof_bytes.specs.Taking.{IsBytes, Leads, Faults, stop_of}
+use Rattle.proof_bytes.specs.TextRuns.{Answer, BeginsTextOf, IsTextOf, Place, RunsBefore, RunsOver, RunsTo, RunsToFault, RunsUntilRead, next_of, start_of, step_or_fault}
+use Rattle.proof_bytes.proofs.Leading.{Known, bytes_on}
+
+-- ---- one move
+
+-- nothing forbids to read on
+pub record MayRead (t : State) : Type 0 where
+  pub going : t.ended ≡ false
+  pub counted : ltb t.steps step_limit ≡ true
+
+abbrev ends : Answer → State → (Step × Place) ⊎ Stop Fault
+ends answer r = inr (answer, r)
+
+move_reads : (t : State) (place : Place) → MayRead t → move next_of t place ≡ after_read t (next_of place)
+move_reads t place h = rw (h.going, h.counted) refl
+
+found_step : (place next : Place) (step : Step) → next_at place.0 place.1 ≡ Ok ((next.0, step), next.1) → next_of place ≡ inl (step, next)
+unfolding next_of
+found_step place next step e = ap step_or_fault e
+
+found_fault : (place : Place) (fault : Fault) → next_at place.0 place.1 ≡ Err fault → next_of place ≡ inr fault
+unfolding next_of
+found_fault place fault e = ap step_or_fault e
+
+attempted : (o : Outcome) (refused : Option Cause) (step : Step) (next : Place) → o.refused ≡ refused → after_attempt {X = Place} {F = Fault} o.refused o.after step next ≡ after_attempt refused o.after step next
+attempted o refused step next e = ap (λ (r : Option Cause). after_attempt {X = Place} {F = Fault} r o.after step next) e
+
+move_step : (t : State) (place next : Place) (step : Step) (refused : Option Cause) → MayRead t → next_at place.0 place.1 ≡ Ok ((next.0, step), next.1) → (attempt t step).refused ≡ refused →
+    move next_of t place ≡ after_attempt refused (attempt t step).after step next
+move_step t place next step refused h e r =
+    move_reads t place h ∙ ap (λ (found : (Step × Place) ⊎ Fault). after_read t found) (found_step place next step e) ∙ attempted (attempt t step) refused step next r
+
+move_fault : (t : State) (place : Place) (fault : Fault) → MayRead t → next_at place.0 place.1 ≡ Err fault → move next_of t place ≡ inr (Some (inr fault), count_step t)
+move_fault t place fault h e = move_reads t place h ∙ ap (λ (found : (Step × Place) ⊎ Fault). after_read t found) (found_fault place fault e)
+
+move_exhausted : (t : State) (place : Place) → t.ended ≡ false → ltb t.steps step_limit ≡ false → move next_of t place ≡ inr (Some (inl steps_exhausted), t)
+move_exhausted t place going none = rw (going, none) refl
+
+move_closed : (t : State) (place : Place) → t.ended ≡ true → move next_of t place ≡ inr (as_answer (closing_conflict t).refused, (closing_conflict t).after)
+move_closed t place ended = rw ended refl
+
+-- after `End` nothing more is read
+pub ended_after_end : (t : State) (step : Step) → is_end step ≡ true → ltb t.steps step_limit ≡ true → (attempt t step).after.ended ≡ true
+ended_after_end t (solver_var_name global solver) e counted = absurd cc
+ended_after_end t (user_var_name global user) e counted = absurd cc
+ended_after_end t (delete_var var) e counted = absurd cc
+ended_after_end t (change_sampling_mode var sample) e counted = absurd cc
+ended_after_end t (add_clause clause) e counted = absurd cc
+ended_after_end t (at_clause redundant clause hashes) e counted = absurd cc
+ended_after_end t (delete_clause proof clause) e counted = absurd cc
+ended_after_end t (unit_clauses units) e counted = absurd cc
+ended_after_end t (change_hash_bits bits) e counted = absurd cc
+ended_after_end t (model assignment) e counted = absurd cc
+ended_after_end t (assumptions lits) e counted = absurd cc
+ended_after_end t (failed_assumptions core hashes) e counted = absurd cc
+ended_after_end t end_proof e counted = rw counted refl
+
+-- so while the checker has not ended, nor has the reader
+pub reader_open : (ended : Bool) (step : Step) {t u : State} → ended ≡ is_end step → MayRead t → u ≡ (attempt t step).after → u.ended ≡ false → ended ≡ false
+reader_open true step {t} {u} e h after going = absurd (false≢true (sym going ∙ ap (λ (v : State). v.ended) after ∙ ended_after_end t step (sym e) h.counted))
+reader_open false step {t} {u} e h after going = refl
+
+-- ---- what a loop keeps
+
+-- from old to new some bytes were taken, and whatever comes after them, the run from s accepts these steps first and is then in t
+pub record SoFar (old new : Known) (s : State) (steps : List Step) (t : State) (format : Format) : Type 0 where
+  pub taken : List ℕ
+  pub bytes : IsBytes taken
+  pub consumed : Consumes old new taken
+  pub goes : (more : List ℕ) → RunsTo s (start_of (taken ++ more)) steps t (format, more)
+
+pub nothing_yet : (known bytes : Known) (s : State) (format : Format) → bytes ≡ known → format ≡ formats.Start → SoFar known bytes s [] s format
+nothing_yet known bytes s format e starts = rw (e, starts) (record { taken = []; bytes = λ i. omega arith; consumed = Consumes-nil known; goes = λ more. (refl, refl) })
+
+run_on : (s : State) (here : Place) (steps : List Step) (t u : State) (there next : Place) (step : Step) → RunsTo s here steps t there → move next_of t there ≡ inl (step, next) → u ≡ (attempt t step).after → RunsTo s here (steps ++ step ∷ []) u next
+run_on s here [] t u there next step p e is = (next, ap (λ (v : State). move next_of v here) p.0 ∙ ap (λ (q : Place). move next_of t q) p.1 ∙ e, (ap (λ (v : State). (attempt v step).after) p.0 ∙ sym is, refl))
+run_on s here (first ∷ steps) t u there next step p e is = (p.0, p.1, run_on (attempt s first).after p.0 steps t u there next step p.2 e is)
+
+-- a turn of the loop: the step that was read is accepted
+pub one_more : {old now new : Known} {s t : State} {steps : List Step} {format next : Format} {step : Step} (u : State) →
+    SoFar old now s steps t format → Leads now new (next_at format) (λ more. Ok ((next, step), more)) → MayRead t → (attempt t step).refused ≡ None → u ≡ (attempt t step).after →
+    SoFar old new s (steps ++ step ∷ []) u next
+one_more {old} {now} {new} {s} {t} {steps} {format} {next} {step} u p q h r is = record {
+  taken = p.taken ++ q.taken;
+  bytes = bytes_on p.taken q.taken p.bytes q.bytes;
+  consumed = Consumes-trans old now new p.taken q.taken p.consumed q.consumed;
+  goes = λ more.
+      let moved = move_step t (format, q.taken ++ more) (next, more) step None h (q.same more) r in
+      let run = run_on s (start_of (p.taken ++ (q.taken ++ more))) steps t u (format, q.taken ++ more) (next, more) step (p.goes (q.taken ++ more)) moved is in
+      subst (λ (text : List ℕ). RunsTo s (start_of text) (steps ++ step ∷ []) u (next, more)) (sym (append_assoc p.taken q.taken more)) run;
+}
+
+-- ---- how a loop ends
+
+run_ends : (s : State) (here : Place) (steps : List Step) (t : State) (there : Place) (answer : Answer) (r : State) → RunsTo s here steps t there → move next_of t there ≡ inr (answer, r) → Runs next_of s here steps answer r
+run_ends s here [] t there answer r p e = ap (λ (v : State). move next_of v here) p.0 ∙ ap (λ (q : Place). move next_of t q) p.1 ∙ e
+run_ends s here (first ∷ steps) t there answer r p e = (p.0, p.1, run_ends (attempt s first).after p.0 steps t there answer r p.2 e)
+
+-- whatever comes after the bytes taken
+over : (known new : Known) (taken : List ℕ) (s : State) (steps : List Step) (answer : Answer) (r : State) → IsBytes taken → Consumes known new taken → ((more : List ℕ) → Runs next_of s (start_of (taken ++ more)) steps answer r) → RunsOver known s steps answer r
+over None new taken s steps answer r bytes consumed runs = record { text = taken; is_text = bytes; runs = subst (λ (text : List ℕ). Runs next_of s (start_of text) steps answer r) (append-nil taken) (runs []) }
+over (Some known) None taken s steps answer r bytes consumed runs = absurd consumed
+over (Some known) (Some rest) taken s steps answer r bytes consumed runs = record { text = taken ++ rest; is_text = consumed; runs = runs rest }
+
+all_taken : (known new : Known) (taken : List ℕ) → IsBytes taken → Consumes known new taken → IsAtEnd new → IsTextOf known taken
+all_taken None new taken bytes consumed end = bytes
+all_taken (Some known) None taken bytes consumed end = absurd consumed
+all_taken (Some known) (Some rest) taken bytes consumed end = consumed ∙ ap (λ (l : List ℕ). taken ++ l) end ∙ append-nil taken
+
+some_taken : (known new : Known) (taken : List ℕ) → IsBytes taken → Consumes known new taken → BeginsTextOf known taken
+some_taken None new taken bytes consumed = bytes
+some_taken (Some known) None taken bytes consumed = absurd consumed
+some_taken (Some known) (Some rest) taken bytes consumed = (rest, consumed)
+
+module _ {old now : Known} {s t : State} {steps : List Step} {format : Format} (p : SoFar old now s steps t format) where
+  ended_by : (answer : Answer) (r : State) → ((place : Place) → move next_of t place ≡ inr (answer, r)) → RunsOver old s steps answer r
+  ended_by answer r e = over old now p.taken s steps answer r p.bytes p.consumed (λ more. run_ends s (start_of (p.taken ++ more)) steps t (format, more) answer r (p.goes more) (e (format, more)))
+
+  -- no step number was left
+  pub run_exhausted : t.ended ≡ false → ltb t.steps step_limit ≡ false → RunsOver old s steps (Some (inl steps_exhausted)) t
+  run_exhausted going none = ended_by (Some (inl steps_exhausted)) t (λ place. move_exhausted t place going none)
+
+  -- `End` was accepted, now or before
+  pub run_closed : (refused : Option Cause) (r : State) → t.ended ≡ true → (closing_conflict t).refused ≡ refused → r ≡ (closing_conflict t).after → RunsOver old s steps (as_answer refused) r
+  run_closed refused r ended answers leaves = ended_by (as_answer refused) r (λ place. move_closed t place ended ∙ ap (λ (a : Option Cause). ends (as_answer a) (closing_conflict t).after) answers ∙ ap (λ (v : State). ends (as_answer refused) v) (sym leaves))
+
+  run_more : (new : Known) (answer : Answer) (r : State) (taken : List ℕ) → IsBytes taken → Consumes now new taken → ((more : List ℕ) → move next_of t (format, taken ++ more) ≡ inr (answer, r)) → RunsOver old s steps answer r
+  run_more new answer r taken bytes consumed e =
+      over old new (p.taken ++ taken) s steps answer r (bytes_on p.taken taken p.bytes bytes) (Consumes-trans old now new p.taken taken p.consumed consumed)
+      (λ more. subst (λ (text : List ℕ). Runs next_of s (start_of text) steps answer r) (sym (append_assoc p.taken taken more)) (run_ends s (start_of (p.taken ++ (taken ++ more))) steps t (format, taken ++ more) answer r (p.goes (taken ++ more)) (e more)))
+
+  -- the step that was read is refused
+  pub run_refused : {new : Known} {next : Format} {step : Step} (cause : Cause) (r : State) → Leads now new (next_at format) (λ more. Ok ((next, step), more)) → MayRead t → (attempt t step).refused ≡ Some cause → r ≡ (attempt t step).after → RunsOver old s steps (Some (inl cause)) r
+  run_refused {new} {next} {step} cause r q h refused leaves =
+      run_more new (Some (inl cause)) r q.taken q.bytes q.consumed (λ more. move_step t (format, q.taken ++ more) (next, more) step (Some cause) h (q.same more) refused ∙ ap (λ (v : State). ends (Some (inl cause)) v) (sym leaves))
+
+  faulted : (fault : Fault) (r : State) (place : Place) → MayRead t → r ≡ count_step t → next_at place.0 place.1 ≡ Err fault → move next_of t place ≡ ends (Some (inr fault)) r
+  faulted fault r place h leaves e = move_fault t place fault h e ∙ ap (λ (v : State). ends (Some (inr fault)) v) (sym leaves)
+
+  -- what was read ends within a step, or before one
+  short : (r : State) (taken : List ℕ) → MayRead t → r ≡ count_step t → next_at format taken ≡ Err Short → Runs next_of s (start_of (p.taken ++ taken)) steps (Some (inr Short)) r
+  short r taken h leaves e = run_ends s (start_of (p.taken ++ taken)) steps t (format, taken) (Some (inr Short)) r (p.goes taken) (faulted Short r (format, taken) h leaves e)
+
+  -- nothing is said of what comes next
+  pub run_before : RunsBefore old s steps t
+  run_before = record {
+    text = p.taken;
+    begins = some_taken old now p.taken p.bytes p.consumed;
+    there = (format, []);
+    runs = subst (λ (text : List ℕ). RunsTo s (start_of text) steps t (format, [])) (append-nil p.taken) (p.goes []);
+  }
+
+  -- no step was read
+  pub run_faulted : {new : Known} (fault : ProofFault) (r : State) → Faults now new (stop_of fault) (next_at format) → MayRead t → r ≡ count_step t → RunsToFault old s steps fault t r
+  run_faulted {new} proof_faults.End r q h leaves = record {
+    text = p.taken ++ q.taken;
+    is_text = all_taken old new (p.taken ++ q.taken) (bytes_on p.taken q.taken p.bytes q.bytes) (Consumes-trans old now new p.taken q.taken p.consumed q.consumed) q.is_fault.1;
+    runs = short r q.taken h leaves q.is_fault.0;
+  }
+  run_faulted {new} (proof_faults.Read e) r q h leaves = record {
+    text = p.taken ++ q.taken;
+    begins = some_taken old new (p.taken ++ q.taken) (bytes_on p.taken q.taken p.bytes q.bytes) (Consumes-trans old now new p.taken q.taken p.consumed q.consumed);
+    runs = short r q.taken h leaves q.is_fault;
+  }
+  run_faulted {new} (proof_faults.Malformed kind) r q h leaves = run_more new (Some (inr (Wrong kind))) r q.taken q.bytes q.consumed (λ more. faulted (Wrong kind) r (format, q.taken ++ more) h leaves (q.is_fault more))
+  run_faulted {new} proof_faults.OutOfMemory r q h leaves = run_before
+
+-- over a reader that tells its bytes
+pub run_of_known : {text : List ℕ} {s : State} {steps : List Step} {answer : Answer} {r : State} → RunsOver (Some text) s steps answer r → Runs next_of s (start_of text) steps answer r
+run_of_known {text} {s} {steps} {answer} {r} p = rw p.is_text p.runs

@@ -1,0 +1,82 @@
+-- Runs over the text that a reader gives.
+--     Place, start_of, next_of      a place in a text, and the next step there, for `Runs`
+--     RunsTo      how a run begins
+--     RunsOver      a run over the whole text
+--     RunsUntilRead, RunsBefore      runs over what was read, where a read failed or memory was wanted
+--     RunsToFault      the run that a fault of the reader ended
+use Rattle.std.specs.Prelude.{◌≡◌, ◌⊎◌, ℕ, List, [], ◌∷◌, ◌++◌, Option, Some, None, Result, Ok, Err}
+use Rattle.std.proofs.Common.{inl, inr}
+use Rattle.checker_rules.specs.Calls.{attempt}
+use Rattle.checker_rules.specs.Outcome.{Cause}
+use Rattle.checker_rules.specs.Run.{Runs, move}
+use Rattle.checker_rules.specs.State.{State}
+use Rattle.checker_rules.specs.Step.{Step}
+use Rattle.proof_bytes.specs.declared.fault.ProofFault.{ProofFault}
+use Rattle.proof_bytes.specs.declared.fault.ProofFault.TheVariants as proof_faults
+use Rattle.proof_bytes.specs.declared.format.Format.{Format}
+use Rattle.proof_bytes.specs.declared.format.Format.TheVariants as formats
+use Rattle.proof_bytes.specs.Reading.{Fault, Short, Wrong, Found}
+use Rattle.proof_bytes.specs.Steps.{next_at}
+use Rattle.proof_bytes.specs.Taking.{IsBytes}
+
+-- a place in a text: how it spells its hashes from there on, and its bytes from there on
+abbrev pub Place : Type 0
+Place = Format × List ℕ
+
+-- where a text begins
+abbrev pub start_of : List ℕ → Place
+start_of text = (formats.Start, text)
+
+-- what was found, as a run takes it
+abbrev pub step_or_fault : Found (Format × Step) → (Step × Place) ⊎ Fault
+step_or_fault (Ok found) = inl (found.0.1, (found.0.0, found.1))
+step_or_fault (Err fault) = inr fault
+
+-- the next step of a text and the place after it, or the fault there
+unfoldable pub next_of : Place → (Step × Place) ⊎ Fault
+next_of place = step_or_fault (next_at place.0 place.1)
+
+-- how a run over a text ends: as asked, with a refused step, or with the text's fault
+abbrev pub Answer : Type 0
+Answer = Option (Cause ⊎ Fault)
+
+-- the run from s over a text accepts these steps first, and is then in t at that place
+abbrev pub RunsTo : State → Place → List Step → State → Place → Type 0
+RunsTo s here [] t there = (s ≡ t) × (here ≡ there)
+RunsTo s here (step ∷ steps) t there = (next : Place) × (move next_of s here ≡ inl (step, next)) × RunsTo (attempt s step).after next steps t there
+
+-- this is the text of a reader: all its bytes where it tells them, else some bytes
+abbrev pub IsTextOf : Option (List ℕ) → List ℕ → Type 0
+IsTextOf None text = IsBytes text
+IsTextOf (Some known) text = known ≡ text
+
+-- the text of a reader begins so
+abbrev pub BeginsTextOf : Option (List ℕ) → List ℕ → Type 0
+BeginsTextOf None text = IsBytes text
+BeginsTextOf (Some known) text = (rest : List ℕ) × (known ≡ text ++ rest)
+
+-- the run from s over the text of a reader accepts these steps, answers so and ends in r
+pub record RunsOver (known : Option (List ℕ)) (s : State) (steps : List Step) (answer : Answer) (r : State) : Type 0 where
+  pub text : List ℕ
+  pub is_text : IsTextOf known text
+  pub runs : Runs next_of s (start_of text) steps answer r
+
+-- the same over what was read before a read failed: that stands in place of the text's end
+pub record RunsUntilRead (known : Option (List ℕ)) (s : State) (steps : List Step) (r : State) : Type 0 where
+  pub text : List ℕ
+  pub begins : BeginsTextOf known text
+  pub runs : Runs next_of s (start_of text) steps (Some (inr Short)) r
+
+-- over what was read before memory was wanted the run accepts these steps and is then in t
+pub record RunsBefore (known : Option (List ℕ)) (s : State) (steps : List Step) (t : State) : Type 0 where
+  pub text : List ℕ
+  pub begins : BeginsTextOf known text
+  pub there : Place
+  pub runs : RunsTo s (start_of text) steps t there
+
+-- the run that a fault of the reader ended: t is the state that it was met in, r the state left
+abbrev pub RunsToFault : Option (List ℕ) → State → List Step → ProofFault → State → State → Type 0
+RunsToFault known s steps proof_faults.End t r = RunsOver known s steps (Some (inr Short)) r
+RunsToFault known s steps (proof_faults.Read e) t r = RunsUntilRead known s steps r
+RunsToFault known s steps (proof_faults.Malformed kind) t r = RunsOver known s steps (Some (inr (Wrong kind))) r
+RunsToFault known s steps proof_faults.OutOfMemory t r = RunsBefore known s steps t
