@@ -2,6 +2,7 @@
 #![tactic(auto)]
 
 pub mod error;
+pub mod processor;
 pub mod sorted_lits;
 #[cfg(test)]
 mod tests;
