@@ -2,8 +2,10 @@ pub mod AddClauseLemmas
 pub mod AssumeLemmas
 pub mod AtClauseLemmas
 pub mod BucketLemmas
-pub mod HashLemmas
 pub mod FoundLemmas
+pub mod GrowthLemmas
+pub mod HashLemmas
+pub mod NewLemmas
 pub mod OutcomeLemmas
 pub mod SameListLemmas
 pub mod StatusLemmas

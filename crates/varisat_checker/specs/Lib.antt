@@ -5,6 +5,7 @@ pub mod Growth
 pub mod InputCause
 pub mod Kept
 pub mod Lits
+pub mod NewParts
 pub mod Rup
 pub mod StateOf
 pub mod Store

@@ -54,8 +54,12 @@ pub struct Clauses {
 }
 
 impl Clauses {
+    ghost use Rattle.varisat_checker.specs.NewParts.{IsEmptyStore};
+
     /// Nothing is stored.
-    pub fn new(alloc: Global) -> Clauses {
+    pub fn new(alloc: Global) -> Clauses
+        ensures { IsEmptyStore result }
+    {
         Clauses {
             next_clause_id: 0,
             literal_buffer: Vec::new(alloc),

@@ -16,8 +16,12 @@ pub struct CheckerState {
 }
 
 impl CheckerState {
+    ghost use Rattle.varisat_checker.specs.NewParts.{IsNewState};
+
     /// Nothing is recorded.
-    pub fn new(alloc: Global) -> CheckerState {
+    pub fn new(alloc: Global) -> CheckerState
+        ensures { IsNewState result }
+    {
         CheckerState {
             step: 0,
             unsat: false,

@@ -1,8 +1,7 @@
 //! Making variables known to every part.
-ghost use Rattle.std.specs.Prelude.{◌≡◌, ◌≤◌, List, length, OnOk};
-ghost use Rattle.checker_rules.specs.Canonical as rules;
-ghost use Rattle.checker_rules.specs.KnownVars as rules;
-ghost use Rattle.checker_rules.specs.State.{Known};
+ghost use Rattle.std.specs.Prelude.{◌≡◌, length, OnOk};
+ghost use Rattle.checker_rules.specs.Canonical.{var_bound};
+ghost use Rattle.checker_rules.specs.KnownVars.{some_not_sampling};
 ghost use Rattle.varisat_checker.specs.StateOf.{state_of};
 ghost use Rattle.varisat_checker.specs.declared.clauses.Clauses.{Clauses};
 ghost use Rattle.varisat_checker.specs.declared.hash.ClauseHasher.{ClauseHasher};
@@ -25,7 +24,7 @@ pub fn ensure_vars(clauses: &mut Clauses, variables: &mut Variables, count: usiz
 
 /// How many variables have to be known for the literals.
 pub(crate) fn var_bound(lits: &[Lit]) -> usize
-    ensures { result ≡ rules.var_bound lits.now }
+    ensures { result ≡ var_bound lits.now }
 {
     let mut bound = 0;
     for lit in lits {
@@ -36,7 +35,7 @@ pub(crate) fn var_bound(lits: &[Lit]) -> usize
 
 /// Whether some known variable of the literals is not in mode `Sample`.
 pub(crate) fn some_not_sampling(variables: &Variables, lits: &[Lit]) -> bool
-    ensures { (st : CheckerState) (h : ClauseHasher) (cs : Clauses) → result ≡ rules.some_not_sampling (state_of st h cs variables.now) lits.now }
+    ensures { (st : CheckerState) (h : ClauseHasher) (cs : Clauses) → result ≡ some_not_sampling (state_of st h cs variables.now) lits.now }
 {
     for lit in lits {
         if variables.get(lit.var()).sampling_mode != SamplingMode::Sample {
