@@ -134,7 +134,7 @@ form-assumptions s c h = cond_both (some_not_sampling s (canonical c)) _ _ W (λ
     record { fine = w.fine; rise = w.rise; apart = w.apart; same_known = w.same_known; unit_ids = w.unit_ids; conflict_on_unit = w.conflict_on_unit; inputs_counted = w.inputs_counted; some_width = w.some_width; width_fits = w.width_fits; names = w.names; assumed_canonical = canonical-is c; previous_canonical = w.previous_canonical })
 
 -- an input clause takes an id
-abbrev Takes : ℕ → ℕ → State → Type 0
+abbrev pub Takes : ℕ → ℕ → State → Type 0
 Takes inputs next r = (r.inputs ≡ inputs) × (next ≤ r.next)
 
 takes_unit : (l : ℕ) (s : State) → lit_by_unit s.units l ≡ false → Takes s.inputs (s.next + 1) (store_unit l (unit_of s.units (var_of l)) s)
@@ -144,12 +144,12 @@ takes_unit l s = go (unit_of s.units (var_of l))
     go None h = (refl, omega arith)
     go (Some u) h = subst (λ b. Takes s.inputs (s.next + 1) (cond b s (record s { unsat = true; conflict = Some (u.id, s.next); next = s.next + 1 }))) (sym h) (refl, omega arith)
 
-takes_new : (c : List ℕ) (r : Bool) (s : State) → stands c s ≡ false → Takes s.inputs (s.next + 1) (store c r s)
+pub takes_new : (c : List ℕ) (r : Bool) (s : State) → stands c s ≡ false → Takes s.inputs (s.next + 1) (store c r s)
 takes_new [] r s h = (refl, omega arith)
 takes_new (l ∷ []) r s h = takes_unit l s h
 takes_new (l ∷ k ∷ ls) r s h = subst (λ b. Takes s.inputs (s.next + 1) (cond b (record s { clauses = map (raise r (l ∷ k ∷ ls)) s.clauses }) (record s { clauses = s.clauses ++ new_stored r (l ∷ k ∷ ls) s.next ∷ []; next = s.next + 1 }))) (sym h) (refl, omega arith)
 
-takes_none : (c : List ℕ) (r : Bool) (s : State) → stands c s ≡ true → Takes s.inputs s.next (store c r s)
+pub takes_none : (c : List ℕ) (r : Bool) (s : State) → stands c s ≡ true → Takes s.inputs s.next (store c r s)
 takes_none [] r s h = (refl, omega arith)
 takes_none (l ∷ []) r s h = go (unit_of s.units (var_of l)) h
   where
@@ -158,7 +158,7 @@ takes_none (l ∷ []) r s h = go (unit_of s.units (var_of l)) h
     go (Some u) k = subst (λ b. Takes s.inputs s.next (cond b s (record s { unsat = true; conflict = Some (u.id, s.next); next = s.next + 1 }))) (sym k) (refl, omega arith)
 takes_none (l ∷ k ∷ ls) r s h = subst (λ b. Takes s.inputs s.next (cond b (record s { clauses = map (raise r (l ∷ k ∷ ls)) s.clauses }) (record s { clauses = s.clauses ++ new_stored r (l ∷ k ∷ ls) s.next ∷ []; next = s.next + 1 }))) (sym h) (refl, omega arith)
 
-takes_input : (c : List ℕ) (s : State) → Takes s.inputs (s.next + 1) (store_input c s)
+pub takes_input : (c : List ℕ) (s : State) → Takes s.inputs (s.next + 1) (store_input c s)
 takes_input c s = cond_both (is_tautology c) _ _ (Takes s.inputs (s.next + 1)) (λ e. (refl, omega arith))
     (λ e. cond_both (stands c s) _ _ (Takes s.inputs (s.next + 1)) (λ d. takes_none c false (take_id s) (stands_again c s d)) (λ d. takes_new c false s d))
   where
