@@ -1,8 +1,8 @@
 -- How steps change the number of input clauses.
-use Rattle.std.proofs.Common.{◌≡◌, ◌⊎◌, ◌≤◌, ℕ, suc, ◌+◌, Bool, true, false, cond, not, ◌&&◌, ◌||◌, eqb, ltb, leb, List, [], ◌∷◌, map, Option, Some, None, refl, sym, ap, ◌∙◌, subst, arith, inl, inr, is_some, is_none}
+use Rattle.std.proofs.Common.{◌≡◌, ◌⊎◌, ◌≤◌, ℕ, suc, ◌+◌, Bool, true, false, cond, not, ◌&&◌, ◌||◌, eqb, ltb, leb, List, [], ◌∷◌, ◌++◌, map, Option, Some, None, refl, sym, ap, ◌∙◌, subst, arith, inl, inr, is_some, is_none}
 use Rattle.std.specs.List.{list_any, list_all}
-use Rattle.std.proofs.lemmas.Bool.{cond_both, or_parts, both_ways}
-use Rattle.checker_rules.specs.AddClause.{step_add_clause}
+use Rattle.std.proofs.lemmas.Bool.{cond_both, or_parts, both_ways, false≢true}
+use Rattle.checker_rules.specs.AddClause.{step_add_clause, store_input}
 use Rattle.checker_rules.specs.Assumptions.{step_assumptions}
 use Rattle.checker_rules.specs.AtClause.{step_at_clause, store_derived}
 use Rattle.checker_rules.specs.Canonical.{canonical, is_subset}
@@ -17,14 +17,47 @@ use Rattle.checker_rules.specs.KnownVars.{is_hide, is_known, know, know_clause, 
 use Rattle.checker_rules.specs.Model.{has_some, model_cause, model_whole, step_model}
 use Rattle.checker_rules.specs.Outcome.{Cause, Outcome, accept, and_then_by, refuse}
 use Rattle.checker_rules.specs.Passes.{none_empty}
-use Rattle.checker_rules.specs.State.{State, buckets, clause_passes, some_true_unit, unit_of}
+use Rattle.checker_rules.specs.State.{State, StoredUnit, buckets, clause_passes, lit_by_unit, makes_true, some_true_unit, unit_of}
 use Rattle.checker_rules.specs.Step.{Justification, Step, add_clause, assumptions, at_clause, by_redundant, by_satisfied, by_simplified, change_hash_bits, change_sampling_mode, delete_clause, delete_var, end_proof, failed_assumptions, model, solver_var_name, unit_clauses, user_var_name}
 use Rattle.checker_rules.specs.Steps.{step}
-use Rattle.checker_rules.specs.Store.{count_limit, count_of, counters, id_limit, is_stored, stands, store}
+use Rattle.checker_rules.specs.Store.{count_limit, count_of, counters, id_limit, is_stored, new_stored, raise, stands, store, store_unit, take_id}
 use Rattle.checker_rules.specs.UnitClauses.{step_unit, step_unit_clauses}
 use Rattle.checker_rules.specs.UserVarName.{step_user_var_name}
-use Rattle.checker_rules.proofs.StepForms.{takes_input, takes_new, takes_none}
 use Rattle.checker_rules.specs.Outcome as causes
+
+-- the number of input clauses and the next id
+abbrev pub Takes : ℕ → ℕ → State → Type 0
+Takes inputs next r = (r.inputs ≡ inputs) × (r.next ≡ next)
+
+takes_unit : (l : ℕ) (s : State) → lit_by_unit s.units l ≡ false → Takes s.inputs (s.next + 1) (store_unit l (unit_of s.units (var_of l)) s)
+takes_unit l s = go (unit_of s.units (var_of l))
+  where
+    go : (u : Option StoredUnit) → makes_true u l ≡ false → Takes s.inputs (s.next + 1) (store_unit l u s)
+    go None h = (refl, refl)
+    go (Some u) h = subst (λ b. Takes s.inputs (s.next + 1) (cond b s (record s { unsat = true; conflict = Some (u.id, s.next); next = s.next + 1 }))) (sym h) (refl, refl)
+
+pub takes_new : (c : List ℕ) (r : Bool) (s : State) → stands c s ≡ false → Takes s.inputs (s.next + 1) (store c r s)
+takes_new [] r s h = (refl, refl)
+takes_new (l ∷ []) r s h = takes_unit l s h
+takes_new (l ∷ k ∷ ls) r s h = subst (λ b. Takes s.inputs (s.next + 1) (cond b (record s { clauses = map (raise r (l ∷ k ∷ ls)) s.clauses }) (record s { clauses = s.clauses ++ new_stored r (l ∷ k ∷ ls) s.next ∷ []; next = s.next + 1 }))) (sym h) (refl, refl)
+
+pub takes_none : (c : List ℕ) (r : Bool) (s : State) → stands c s ≡ true → Takes s.inputs s.next (store c r s)
+takes_none [] r s h = absurd (false≢true h)
+takes_none (l ∷ []) r s h = go (unit_of s.units (var_of l)) h
+  where
+    go : (u : Option StoredUnit) → makes_true u l ≡ true → Takes s.inputs s.next (store_unit l u s)
+    go None k = absurd (false≢true k)
+    go (Some u) k = subst (λ b. Takes s.inputs s.next (cond b s (record s { unsat = true; conflict = Some (u.id, s.next); next = s.next + 1 }))) (sym k) (refl, refl)
+takes_none (l ∷ k ∷ ls) r s h = subst (λ b. Takes s.inputs s.next (cond b (record s { clauses = map (raise r (l ∷ k ∷ ls)) s.clauses }) (record s { clauses = s.clauses ++ new_stored r (l ∷ k ∷ ls) s.next ∷ []; next = s.next + 1 }))) (sym h) (refl, refl)
+
+pub takes_input : (c : List ℕ) (s : State) → Takes s.inputs (s.next + 1) (store_input c s)
+takes_input c s = cond_both (is_tautology c) _ _ (Takes s.inputs (s.next + 1)) (λ e. (refl, refl))
+    (λ e. cond_both (stands c s) _ _ (Takes s.inputs (s.next + 1)) (λ d. takes_none c false (take_id s) (stands_again c s d)) (λ d. takes_new c false s d))
+  where
+    stands_again : (c : List ℕ) (r : State) → stands c r ≡ true → stands c (take_id r) ≡ true
+    stands_again [] r d = d
+    stands_again (l ∷ []) r d = d
+    stands_again (l ∷ k ∷ ls) r d = d
 
 -- the number of input clauses is that of before
 abbrev Same : State → Outcome → Type 0
