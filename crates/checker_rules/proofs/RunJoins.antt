@@ -3,7 +3,7 @@ use Rattle.std.proofs.Common.{◌≡◌, ◌⊎◌, Bool, true, false, cond, ltb
 use Rattle.std.proofs.lemmas.Bool.{cond_both}
 use Rattle.checker_rules.specs.CallEmissions.{EmitsCalls}
 use Rattle.checker_rules.specs.Calls.{Call, answer_of, attempt, calls_after, checks, closes, closing_conflict, step_limit}
-use Rattle.checker_rules.specs.CheckedSteps.{Told, hint_steps}
+use Rattle.checker_rules.specs.CheckedSteps.{ShownStep, hint_steps}
 use Rattle.checker_rules.specs.Headline.{accepted, run}
 use Rattle.checker_rules.specs.HintRun.{IsRun, machine_after}
 use Rattle.checker_rules.specs.Machine.{IsTied, Machine}
@@ -19,7 +19,7 @@ use Rattle.checker_rules.proofs.DeletedVars.{hints-append}
 use Rattle.checker_rules.proofs.Emissions.{after-append, run-append}
 use Rattle.checker_rules.proofs.Entries.{one_more}
 
-assoc : (xs ys zs : List Told) → (xs ++ ys) ++ zs ≡ xs ++ (ys ++ zs)
+assoc : (xs ys zs : List ShownStep) → (xs ++ ys) ++ zs ≡ xs ++ (ys ++ zs)
 assoc [] ys zs = refl
 assoc (x ∷ xs) ys zs = ap (λ r. x ∷ r) (assoc xs ys zs)
 
@@ -73,7 +73,7 @@ module _ (X F : Type 0) where
   }
 
   -- what parts emit
-  calls : (s : State) (first second : List Call) (xs ys : List Told) → EmitsCalls s first xs → EmitsCalls (calls_after s first) second ys → EmitsCalls s (first ++ second) (xs ++ ys)
+  calls : (s : State) (first second : List Call) (xs ys : List ShownStep) → EmitsCalls s first xs → EmitsCalls (calls_after s first) second ys → EmitsCalls s (first ++ second) (xs ++ ys)
   calls s [] second xs ys h k = subst (λ l. EmitsCalls s second (l ++ ys)) (sym h) k
   calls s (call ∷ first) second xs ys h k = (
     h.0,
@@ -83,7 +83,7 @@ module _ (X F : Type 0) where
     ap (λ l. l ++ ys) h.4 ∙ assoc h.0 h.1 ys,
   )
 
-  emits_ends : (next : X → (Step × X) ⊎ F) (s : State) (x : X) (ts : List Step) (r : State) (y : X) (us : List Step) (xs ys : List Told) →
+  emits_ends : (next : X → (Step × X) ⊎ F) (s : State) (x : X) (ts : List Step) (r : State) (y : X) (us : List Step) (xs ys : List ShownStep) →
       Reaches next s x ts r y → EmitsCalls s (map checks ts) xs → EmitsRun next r y us ys → EmitsRun next s x (ts ++ us) (xs ++ ys)
   emits_ends next s x [] r y us xs ys h e k = subst (λ l. EmitsRun next s x us (l ++ ys)) (sym e) (subst (λ v. EmitsRun next v x us ys) (sym h.0) (subst (λ v. EmitsRun next r v us ys) (sym h.1) k))
   emits_ends next s x (t ∷ ts) r y us xs ys h e k = (
@@ -100,15 +100,15 @@ module _ (X F : Type 0) where
   emissions_join = record { calls = calls; ends = emits_ends }
 
   -- a run of the hint machine
-  abbrev Kept : Machine → List Told → State → Type 0
+  abbrev Kept : Machine → List ShownStep → State → Type 0
   Kept m es s = IsRun m (hint_steps es) × IsTied (machine_after m (hint_steps es)) s × WellFormed s
 
-  abbrev MoveKept : Machine → List Told → (Step × X) ⊎ Stop F → Type 0
+  abbrev MoveKept : Machine → List ShownStep → (Step × X) ⊎ Stop F → Type 0
   MoveKept m es (inl p) = Unit {0}
   MoveKept m es (inr p) = Kept m es p.1
 
   -- the last move, over its cases
-  last_kept : (next : X → (Step × X) ⊎ F) (m : Machine) (s : State) (x : X) (es : List Told) → IsTied m s → WellFormed s → EmitsCalls s (last_calls next s x) es → MoveKept m es (move next s x)
+  last_kept : (next : X → (Step × X) ⊎ F) (m : Machine) (s : State) (x : X) (es : List ShownStep) → IsTied m s → WellFormed s → EmitsCalls s (last_calls next s x) es → MoveKept m es (move next s x)
   last_kept next m s x es t w = by_end s.ended
     where
       silent : es ≡ [] → Kept m es s
@@ -143,7 +143,7 @@ module _ (X F : Type 0) where
         q.2,
       ))
     where
-      none_more : (xs : List Told) → xs ++ [] ≡ xs
+      none_more : (xs : List ShownStep) → xs ++ [] ≡ xs
       none_more [] = refl
       none_more (x ∷ xs) = ap (λ l. x ∷ l) (none_more xs)
 

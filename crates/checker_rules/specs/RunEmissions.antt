@@ -6,7 +6,7 @@ use Rattle.std.specs.Prelude.{◌≡◌, ◌⊎◌, cond, ltb, List, [], ◌∷�
 use Rattle.std.proofs.Common.{inl, inr}
 use Rattle.checker_rules.specs.CallEmissions.{EmitsCall, EmitsCalls}
 use Rattle.checker_rules.specs.Calls.{Call, attempt, calls_after, checks, closes, step_limit}
-use Rattle.checker_rules.specs.CheckedSteps.{Told, hint_steps}
+use Rattle.checker_rules.specs.CheckedSteps.{ShownStep, hint_steps}
 use Rattle.checker_rules.specs.HintRun.{IsRun, machine_after}
 use Rattle.checker_rules.specs.Machine.{IsTied, Machine}
 use Rattle.checker_rules.specs.Outcome.{Cause}
@@ -26,19 +26,19 @@ abbrev pub last_calls : {X F : Type 0} → (X → (Step × X) ⊎ F) → State �
 last_calls next s x = cond s.ended (closes ∷ []) (cond (ltb s.steps step_limit) (read_calls (next x)) [])
 
 -- what the accepted steps emit, one after the other, and then the last move
-abbrev pub EmitsRun : {X F : Type 0} → (X → (Step × X) ⊎ F) → State → X → List Step → List Told → Type 0
+abbrev pub EmitsRun : {X F : Type 0} → (X → (Step × X) ⊎ F) → State → X → List Step → List ShownStep → Type 0
 EmitsRun next s x [] es = EmitsCalls s (last_calls next s x) es
 EmitsRun {X = X} next s x (t ∷ ts) es =
-    (rest : X) × (move next s x ≡ inl (t, rest)) × (xs : List Told) × (ys : List Told) × EmitsCall s (checks t) xs × EmitsRun next (attempt s t).after rest ts ys × (es ≡ xs ++ ys)
+    (rest : X) × (move next s x ≡ inl (t, rest)) × (xs : List ShownStep) × (ys : List ShownStep) × EmitsCall s (checks t) xs × EmitsRun next (attempt s t).after rest ts ys × (es ≡ xs ++ ys)
 
 -- for every map that is linked to the state
 abbrev pub RunsRunMachine : (X F : Type 0) → Type 0
-RunsRunMachine X F = (next : X → (Step × X) ⊎ F) (m : Machine) (s : State) (x : X) (ts : List Step) (answer : Option (Cause ⊎ F)) (r : State) (es : List Told) →
+RunsRunMachine X F = (next : X → (Step × X) ⊎ F) (m : Machine) (s : State) (x : X) (ts : List Step) (answer : Option (Cause ⊎ F)) (r : State) (es : List ShownStep) →
     IsTied m s → WellFormed s → Runs next s x ts answer r → EmitsRun next s x ts es →
     IsRun m (hint_steps es) × IsTied (machine_after m (hint_steps es)) r × WellFormed r
 
 -- what was emitted so far, and what is emitted from there
 pub record EmissionsJoin (X F : Type 0) : Type 0 where
-  pub calls : (s : State) (first second : List Call) (xs ys : List Told) → EmitsCalls s first xs → EmitsCalls (calls_after s first) second ys → EmitsCalls s (first ++ second) (xs ++ ys)
-  pub ends : (next : X → (Step × X) ⊎ F) (s : State) (x : X) (ts : List Step) (r : State) (y : X) (us : List Step) (xs ys : List Told) →
+  pub calls : (s : State) (first second : List Call) (xs ys : List ShownStep) → EmitsCalls s first xs → EmitsCalls (calls_after s first) second ys → EmitsCalls s (first ++ second) (xs ++ ys)
+  pub ends : (next : X → (Step × X) ⊎ F) (s : State) (x : X) (ts : List Step) (r : State) (y : X) (us : List Step) (xs ys : List ShownStep) →
       Reaches next s x ts r y → EmitsCalls s (map checks ts) xs → EmitsRun next r y us ys → EmitsRun next s x (ts ++ us) (xs ++ ys)
