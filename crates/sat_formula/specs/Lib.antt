@@ -6,4 +6,5 @@ pub mod Reading
 pub mod NextClause
 pub mod Whole
 pub mod Vars
+pub mod Formula
 pub mod Stop
