@@ -2,4 +2,5 @@ pub mod BucketLemmas
 pub mod HashLemmas
 pub mod FoundLemmas
 pub mod SameListLemmas
+pub mod StoreLemmas
 pub mod ViewLemmas

@@ -2,5 +2,6 @@ pub mod Buckets
 pub mod Found
 pub mod Lits
 pub mod StateOf
+pub mod Store
 pub mod Units
 pub mod View

@@ -1,6 +1,11 @@
 //! The stored clauses and units.
+ghost use Rattle.std.specs.Prelude.{◌≡◌, ◌+◌, ◌<◌, OnSome, IfNone};
+ghost use Rattle.std.specs.Option.{SomeIff};
+ghost use Rattle.checker_rules.specs.Store.{id_limit};
+
 pub mod buckets;
 pub mod lits;
+pub mod store;
 pub mod units;
 
 use crate::clauses::buckets::Buckets;
@@ -49,4 +54,18 @@ pub struct Clauses {
     pub buckets: Buckets,
     pub unit_clauses: Units,
     pub unit_conflict: Option<(u64, u64)>,
+}
+
+impl Clauses {
+    /// Takes the next id. None where none is left.
+    #[tactic(auto, unfolding(checker_rules::specs::Store::id_limit))]
+    pub fn take_id(&mut self) -> Option<u64>
+        ensures id { SomeIff result (self.old.next_clause_id < id_limit) self.old.next_clause_id }
+        ensures taken { OnSome result (self.new ≡ record self.old { next_clause_id = self.old.next_clause_id + 1 }) }
+        ensures unchanged { IfNone result (self.new ≡ self.old) }
+    {
+        let id = self.next_clause_id;
+        self.next_clause_id = id.checked_add(1)?;
+        Some(id)
+    }
 }
