@@ -9,6 +9,7 @@ pub mod NewLemmas
 pub mod OutcomeLemmas
 pub mod SameListLemmas
 pub mod StatusLemmas
+pub mod StoreLemmas
 pub mod TrailLemmas
 pub mod UnitsLemmas
 pub mod ViewLemmas

@@ -1,6 +1,11 @@
 //! The stored clauses and units.
+ghost use Rattle.std.specs.Prelude.{◌≡◌, ◌+◌, ◌<◌, OnSome, IfNone};
+ghost use Rattle.std.specs.Option.{SomeIff};
+ghost use Rattle.checker_rules.specs.Store.{id_limit};
+
 pub mod buckets;
 pub mod lits;
+pub mod store;
 pub mod units;
 
 use crate::clauses::buckets::Buckets;
@@ -54,6 +59,7 @@ pub struct Clauses {
 }
 
 impl Clauses {
+<<<<<<< HEAD
     ghost use Rattle.varisat_checker.specs.NewParts.{IsEmptyStore};
 
     /// Nothing is stored.
@@ -68,5 +74,17 @@ impl Clauses {
             unit_clauses: Units::new(alloc),
             unit_conflict: None,
         }
+=======
+    /// Takes the next id. None where none is left.
+    #[tactic(auto, unfolding(checker_rules::specs::Store::id_limit))]
+    pub fn take_id(&mut self) -> Option<u64>
+        ensures id { SomeIff result (self.old.next_clause_id < id_limit) self.old.next_clause_id }
+        ensures taken { OnSome result (self.new ≡ record self.old { next_clause_id = self.old.next_clause_id + 1 }) }
+        ensures unchanged { IfNone result (self.new ≡ self.old) }
+    {
+        let id = self.next_clause_id;
+        self.next_clause_id = id.checked_add(1)?;
+        Some(id)
+>>>>>>> h-store
     }
 }

@@ -40,6 +40,45 @@ pub fn find_clause(bucket: &[Clause], buffer: &[Lit], lits: &[Lit]) -> Option<us
         .position(|clause| has_lits(clause, buffer, lits))
 }
 
+/// How many copies of the kind are counted.
+fn copies_of(clause: &Clause, redundant: bool) -> u32
+    ensures { result ≡ copies_of redundant clause.now }
+{
+    if redundant {
+        clause.redundant
+    } else {
+        clause.irredundant
+    }
+}
+
+/// How many copies of the kind a bucket has of the clause with these literals.
+fn copies_among(bucket: &[Clause], buffer: &[Lit], lits: &[Lit], redundant: bool) -> u32
+    requires { All (λ c. IsWithin c.lits buffer.now) bucket.now }
+    ensures { result ≡ count_in redundant lits.now (map (stored_of buffer.now) bucket.now) }
+{
+    match find_clause(bucket, buffer, lits) {
+        Some(at) => copies_of(&bucket[at], redundant),
+        None => 0,
+    }
+}
+
+/// How many copies of the kind there are of the clause with these literals.
+pub fn copies_in(
+    buckets: &Buckets,
+    buffer: &[Lit],
+    hash: ClauseHash,
+    lits: &[Lit],
+    redundant: bool,
+) -> u32
+    requires { All (λ c. IsWithin c.lits buffer.now) (clauses_at buckets.now hash) }
+    ensures { result ≡ count_in redundant lits.now (stored_in buffer.now buckets.now hash) }
+{
+    match buckets.get(&hash) {
+        Some(bucket) => copies_among(bucket.as_slice(), buffer, lits, redundant),
+        None => 0,
+    }
+}
+
 /// Puts a clause at the end of its bucket.
 pub fn push_clause(
     alloc: Global,
