@@ -1,4 +1,5 @@
 pub mod AssumeLemmas
+pub mod CheckLemmas
 pub mod StatusLemmas
 pub mod TrailLemmas
 pub mod UnitsLemmas

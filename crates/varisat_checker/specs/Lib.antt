@@ -1,4 +1,5 @@
 pub mod Buckets
+pub mod CheckLaw
 pub mod Lits
 pub mod Rup
 pub mod StateOf
