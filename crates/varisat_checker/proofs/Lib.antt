@@ -2,6 +2,7 @@ pub mod AddClauseLemmas
 pub mod AssumeLemmas
 pub mod AtClauseLemmas
 pub mod BucketLemmas
+pub mod CheckLemmas
 pub mod FoundLemmas
 pub mod GrowthLemmas
 pub mod HashLemmas

@@ -1,4 +1,5 @@
 pub mod Buckets
+pub mod CheckLaw
 pub mod Context
 pub mod Found
 pub mod Growth
