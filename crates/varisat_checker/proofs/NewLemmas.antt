@@ -44,6 +44,9 @@ is_store-new h cs bits empty =
       bucketed = λ k. rw (none, clauses_at-empty cs.buckets k empty.buckets) refl;
       rise = rw (none, empty.next) refl;
       apart = rw none refl;
+      none_short = rw none refl;
+      used = rw (none, empty.buffer, empty.garbage) refl;
+      garbage = rw (empty.buffer, empty.garbage) (omega arith);
     }
 
 -- both

@@ -17,6 +17,8 @@ pub record IsNewState (st : CheckerState) : Type 0 where
 -- nothing is stored
 pub record IsEmptyStore (cs : Clauses) : Type 0 where
   pub next : cs.next_clause_id ≡ 0
+  pub buffer : cs.literal_buffer.items ≡ []
+  pub garbage : cs.garbage_size ≡ 0
   pub buckets : IsEmpty cs.buckets
   pub units : cs.unit_clauses ≡ []
   pub conflict : cs.unit_conflict ≡ None

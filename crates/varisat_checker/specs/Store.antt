@@ -1,9 +1,3 @@
-<<<<<<< HEAD
--- What every function over the stored clauses relies on and keeps.
-use Rattle.std.specs.Prelude.{◌≡◌, ◌<◌, ◌≤◌, true}
-use Rattle.checker_rules.specs.WellFormed.{are_apart, ids_rise}
-use Rattle.varisat_checker.specs.declared.clauses.Clauses.{Clauses}
-=======
 -- What the stored clauses keep between calls, and what storing a clause answers.
 use Rattle.std.specs.Prelude.{◌≡◌, ◌<◌, ◌≤◌, ℕ, ◌+◌, ◌*◌, ◌&&◌, Bool, true, false, cond, not, eqb, length, Result, Ok, Err, List}
 use Rattle.std.specs.List.{list_any}
@@ -18,18 +12,13 @@ use Rattle.varisat_checker.specs.declared.clauses.StoreClauseResult.{StoreClause
 use Rattle.varisat_checker.specs.declared.clauses.StoreClauseResult.TheVariants.{New, Duplicate, NewlyIrredundant}
 use Rattle.varisat_checker.specs.declared.clauses.store.StoreFault.{StoreFault}
 use Rattle.varisat_checker.specs.declared.clauses.store.StoreFault.TheVariants.{OutOfMemory, IdsExhausted, CountExhausted}
->>>>>>> h-store
 use Rattle.varisat_checker.specs.declared.hash.ClauseHasher.{ClauseHasher}
 use Rattle.varisat_checker.specs.Buckets.{AreWithin}
 use Rattle.varisat_checker.specs.StateOf.{IsBucketed}
 use Rattle.varisat_checker.specs.View.{stored_list}
 
-<<<<<<< HEAD
--- the buckets hold each stored clause once, by its hash, with its literals in the buffer, and ids rise
-=======
 -- the stored clauses, each of two or more literals, are apart, by rising ids, in the buckets of their hashes;
 -- the buffer holds their literals and the garbage, which is at most half of it
->>>>>>> h-store
 pub record IsStore (h : ClauseHasher) (cs : Clauses) : Type 0 where
   pub some_bits : 0 < h.hash_bits
   pub bits : h.hash_bits ≤ 64
@@ -37,8 +26,6 @@ pub record IsStore (h : ClauseHasher) (cs : Clauses) : Type 0 where
   pub bucketed : IsBucketed h cs
   pub rise : ids_rise 0 (stored_list cs) cs.next_clause_id ≡ true
   pub apart : are_apart (stored_list cs) ≡ true
-<<<<<<< HEAD
-=======
   pub none_short : list_any (λ e. is_short e.lits) (stored_list cs) ≡ false
   pub used : length cs.literal_buffer.items ≡ live_literals (stored_list cs) + cs.garbage_size
   pub garbage : 2 * cs.garbage_size ≤ length cs.literal_buffer.items
@@ -75,4 +62,3 @@ UnlessOutOfMemory (Ok x) P = P
 UnlessOutOfMemory (Err OutOfMemory) P = Unit {0}
 UnlessOutOfMemory (Err IdsExhausted) P = P
 UnlessOutOfMemory (Err CountExhausted) P = P
->>>>>>> h-store

@@ -59,7 +59,6 @@ pub struct Clauses {
 }
 
 impl Clauses {
-<<<<<<< HEAD
     ghost use Rattle.varisat_checker.specs.NewParts.{IsEmptyStore};
 
     /// Nothing is stored.
@@ -74,7 +73,8 @@ impl Clauses {
             unit_clauses: Units::new(alloc),
             unit_conflict: None,
         }
-=======
+    }
+
     /// Takes the next id. None where none is left.
     #[tactic(auto, unfolding(checker_rules::specs::Store::id_limit))]
     pub fn take_id(&mut self) -> Option<u64>
@@ -85,6 +85,5 @@ impl Clauses {
         let id = self.next_clause_id;
         self.next_clause_id = id.checked_add(1)?;
         Some(id)
->>>>>>> h-store
     }
 }
