@@ -6,6 +6,7 @@ pub mod CheckLemmas
 pub mod FoundLemmas
 pub mod GrowthLemmas
 pub mod HashLemmas
+pub mod InputLemmas
 pub mod NewLemmas
 pub mod OutcomeLemmas
 pub mod SameListLemmas

@@ -7,6 +7,7 @@ pub mod InputCause
 pub mod Kept
 pub mod Lits
 pub mod NewParts
+pub mod Refusal
 pub mod Rup
 pub mod StateOf
 pub mod Store

@@ -9,3 +9,5 @@ pub mod state;
 pub mod context;
 pub mod processing;
 pub mod variables;
+mod refusal;
+pub mod steps;
