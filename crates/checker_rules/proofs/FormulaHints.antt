@@ -89,7 +89,7 @@ formulas_emit s (c ∷ cs) es em =
             let next : r.next ≡ s.next + 1 = adds_one s c h u in (
               suc q.0,
               ap hint_steps m.4 ∙ hints-append m.0 m.1 ∙ ap (λ l. l ++ hint_steps m.1) (one_input s c m.0 u (emits_of s c m.0 h m.2))
-              ∙ ap (λ l. puts_input s.next (canonical c) ∷ l) (q.1 ∙ ap (λ i. input_steps i (take q.0 cs)) next),
+                  ∙ ap (λ l. puts_input s.next (canonical c) ∷ l) (q.1 ∙ ap (λ i. input_steps i (take q.0 cs)) next),
             )
       ]) refl
       | Some cause ↦ λ h m. (0, ap hint_steps m)
