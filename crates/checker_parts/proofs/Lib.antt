@@ -1,3 +1,4 @@
 pub mod CanonicalLists
-pub mod SubsetWalks
+pub mod Headlines
 pub mod Marks
+pub mod SubsetWalks
