@@ -2,7 +2,9 @@
 #![tactic(auto)]
 
 pub mod error;
+pub mod processor;
 pub mod sorted_lits;
+pub mod step;
 #[cfg(test)]
 mod tests;
 pub mod variables;
