@@ -7,4 +7,5 @@ pub mod sorted_lits;
 pub mod step;
 #[cfg(test)]
 mod tests;
+pub mod transcript;
 pub mod variables;

@@ -14,7 +14,10 @@ pub enum CheckedProofStep<'a> {
         user_var: Option<CheckedUserVar>,
     },
     /// A new input clause.
-    AddClause { id: u64, clause: &'a [Lit] },
+    AddClause {
+        id: u64,
+        clause: &'a [Lit],
+    },
     /// An input clause that is stored already. The id stands in no other step.
     DuplicatedClause {
         id: u64,
@@ -22,7 +25,10 @@ pub enum CheckedProofStep<'a> {
         clause: &'a [Lit],
     },
     /// An input clause that says nothing. The id stands in no other step.
-    TautologicalClause { id: u64, clause: &'a [Lit] },
+    TautologicalClause {
+        id: u64,
+        clause: &'a [Lit],
+    },
     /// A clause that follows by unit propagation.
     AtClause {
         id: u64,
@@ -31,7 +37,10 @@ pub enum CheckedProofStep<'a> {
         propagations: &'a [u64],
     },
     /// A redundant clause goes.
-    DeleteClause { id: u64, clause: &'a [Lit] },
+    DeleteClause {
+        id: u64,
+        clause: &'a [Lit],
+    },
     /// An irredundant clause goes, or becomes redundant, that the clause of the one propagation
     /// implies.
     DeleteAtClause {
@@ -49,11 +58,18 @@ pub enum CheckedProofStep<'a> {
         propagations: &'a ResolutionPropagations,
     },
     /// A redundant clause becomes irredundant.
-    MakeIrredundant { id: u64, clause: &'a [Lit] },
+    MakeIrredundant {
+        id: u64,
+        clause: &'a [Lit],
+    },
     /// Literals whose extensions satisfy the formula and the assumptions.
-    Model { assignment: &'a [Lit] },
+    Model {
+        assignment: &'a [Lit],
+    },
     /// The assumptions from here on.
-    Assumptions { assumptions: &'a [Lit] },
+    Assumptions {
+        assumptions: &'a [Lit],
+    },
     /// Assumptions that fail together.
     FailedAssumptions {
         failed_core: &'a [Lit],
