@@ -1,3 +1,5 @@
 pub mod CanonicalLists
-pub mod SubsetWalks
+pub mod Headlines
+pub mod InBoxes
 pub mod Marks
+pub mod SubsetWalks

@@ -1,49 +1,104 @@
--- What a call answers for an outcome of the rules.
---     IsRefusal outcome msg      the outcome refuses with this cause
---     Answers memory result outcome state      the answer and the state that it left are those of the outcome
---     SetsFold result ts t state      the satisfying set of the state is the fold over ts, and over t where it was accepted
-use Rattle.std.specs.Prelude.{◌≡◌, ℕ, Bool, List, [], ◌∷◌, true, ◌++◌, Option, Some, None, Result, Ok, Err}
+-- What a call answers and leaves, by the definitions.
+--     AnswersStep r o s      the answer r and the state s after the call are those of the outcome o
+--     all_steps s ts, first_accepted s ts      the outcome of a list of steps up to the first refusal, and the steps accepted before it
+--     EndsRun r next s x ts u      the answer r and the state u are those of the run from s over the text x, which accepted ts
+--     UnlessFailed r P      P, unless the call failed the checker
+--     AnswersParts r o s      as AnswersStep, unless the call failed the checker
+--     IsFold ts s, IsCovered ts s      the satisfying set of s is the fold over ts; the members make all that is stored true
+--     SetsFold r ts t s, CoversFold r ts t s      the two after a call for one step t, where the steps ts came before
+use Rattle.std.specs.Prelude.{◌≡◌, ◌⊎◌, ℕ, Bool, true, List, [], ◌∷◌, ◌++◌, Option, Some, None, Result, Ok, Err}
+use Rattle.std.proofs.Common.{inl, inr}
+use Rattle.checker_rules.specs.Covers.{Covers}
 use Rattle.checker_rules.specs.Headline.{holds}
-use Rattle.checker_rules.specs.Outcome.{Cause, Outcome}
+use Rattle.checker_rules.specs.Outcome.{Cause, Outcome, accept, and_then}
+use Rattle.checker_rules.specs.Run.{Runs}
 use Rattle.checker_rules.specs.State.{State, sat}
 use Rattle.checker_rules.specs.Step.{Step}
+use Rattle.checker_rules.specs.Steps.{step}
+use Rattle.proof_bytes.specs.Reading.{Fault, Short, Wrong}
 use Rattle.checker_parts.specs.Causes.{cause_of}
-use Rattle.checker_parts.specs.declared.error.CheckCause.{CheckCause}
 use Rattle.checker_parts.specs.declared.error.CheckerError.{CheckerError}
 use Rattle.checker_parts.specs.declared.error.CheckerError.TheVariants.{ProofIncomplete, IoError, ParseError, CheckFailed, ProofProcessorError, OutOfMemory, Failed}
 
--- two refusals by the same cause of the rules
-abbrev pub IsCause : Option Cause → Option Cause → Type 0
-IsCause None refused = ⊥
-IsCause (Some cause) refused = refused ≡ Some cause
+-- refused with the cause of the definitions, if there is one, at the step number of the state after
+abbrev pub IsRefusal : Option Cause → ℕ → Outcome → State → Type 0
+IsRefusal None number o s = ⊥
+IsRefusal (Some cause) number o s = (o.refused ≡ Some cause) × (s ≡ o.after) × (number ≡ s.steps)
 
--- accepted, or refused with this cause at the present step; either way this state after. Of want of memory, and of a
--- processor's fault, `failed` holds. Nothing else is answered.
-abbrev pub Answers : {A : Type 0} → Type 0 → Result A CheckerError → Outcome → State → Type 0
-Answers failed (Ok x) o s = (o.refused ≡ None) × (s ≡ o.after)
-Answers failed (Err (CheckFailed step msg debug_step)) o s = IsCause (cause_of msg) o.refused × (s ≡ o.after) × (step ≡ s.steps)
-Answers failed (Err (ProofIncomplete step)) o s = ⊥
-Answers failed (Err (IoError step cause)) o s = ⊥
-Answers failed (Err (ParseError step cause)) o s = ⊥
-Answers failed (Err (ProofProcessorError cause)) o s = failed
-Answers failed (Err OutOfMemory) o s = failed
-Answers failed (Err Failed) o s = ⊥
-
--- of a call of a checker: after want of memory and a processor's fault the checker has failed
+-- accepted, or refused with this cause, and the state after; a call that finds no memory or meets a processor's fault fails the checker
 abbrev pub AnswersStep : {A : Type 0} → Result A CheckerError → Outcome → State → Type 0
-AnswersStep r o s = Answers (s.failed ≡ true) r o s
+AnswersStep (Ok x) o s = (o.refused ≡ None) × (s ≡ o.after)
+AnswersStep (Err (CheckFailed number cause debug_step)) o s = IsRefusal (cause_of cause) number o s
+AnswersStep (Err (ProofProcessorError cause)) o s = s.failed ≡ true
+AnswersStep (Err OutOfMemory) o s = s.failed ≡ true
+AnswersStep (Err (ProofIncomplete number)) o s = ⊥
+AnswersStep (Err (IoError number cause)) o s = ⊥
+AnswersStep (Err (ParseError number cause)) o s = ⊥
+AnswersStep (Err Failed) o s = ⊥
 
--- of a function over the parts of a checker, whose caller records the failure
-abbrev pub AnswersParts : {A : Type 0} → Result A CheckerError → Outcome → State → Type 0
-AnswersParts r o s = Answers (Unit {0}) r o s
+-- the steps one after the other, up to the first refusal
+abbrev pub all_steps : State → List Step → Outcome
+all_steps s [] = accept s
+all_steps s (t ∷ ts) = and_then (step s t) (λ r. all_steps r ts)
 
--- for every list of steps that led to the set before: after an accepted step it is the fold over that list and the step, after a refused one it is as before
+-- the step and those after it, unless it is refused
+abbrev pub unless_refused : Option Cause → Step → List Step → List Step
+unless_refused None t ts = t ∷ ts
+unless_refused (Some cause) t ts = []
+
+-- the steps that are accepted before the first refusal
+abbrev pub first_accepted : State → List Step → List Step
+first_accepted s [] = []
+first_accepted s (t ∷ ts) = unless_refused (step s t).refused t (first_accepted (step s t).after ts)
+
+-- the refusal of a run
+abbrev pub RunIsRefused : {X : Type 0} → Option Cause → (X → (Step × X) ⊎ Fault) → State → X → List Step → State → Type 0
+RunIsRefused None next s x ts r = ⊥
+RunIsRefused (Some cause) next s x ts r = Runs next s x ts (Some (inl cause)) r
+
+-- Ok after `End`; else the first refusal, the end of the text, its first fault, or a read's fault where the text then ends; a call may fail the checker here too
+abbrev pub EndsRun : {A X : Type 0} → Result A CheckerError → (X → (Step × X) ⊎ Fault) → State → X → List Step → State → Type 0
+EndsRun (Ok done) next s x ts r = Runs next s x ts None r
+EndsRun (Err (CheckFailed number cause debug_step)) next s x ts r = (number ≡ r.steps) × RunIsRefused (cause_of cause) next s x ts r
+EndsRun (Err (ProofIncomplete number)) next s x ts r = (number ≡ r.steps) × Runs next s x ts (Some (inr Short)) r
+EndsRun (Err (IoError number cause)) next s x ts r = (number ≡ r.steps) × Runs next s x ts (Some (inr Short)) r
+EndsRun (Err (ParseError number cause)) next s x ts r = (number ≡ r.steps) × Runs next s x ts (Some (inr (Wrong cause))) r
+EndsRun (Err (ProofProcessorError cause)) next s x ts r = r.failed ≡ true
+EndsRun (Err OutOfMemory) next s x ts r = r.failed ≡ true
+EndsRun (Err Failed) next s x ts r = ⊥
+
+-- the fact, unless the call failed the checker
+abbrev pub UnlessFailed : {A : Type 0} → Result A CheckerError → Type 0 → Type 0
+UnlessFailed (Ok done) P = P
+UnlessFailed (Err (CheckFailed number cause debug_step)) P = P
+UnlessFailed (Err (ProofIncomplete number)) P = P
+UnlessFailed (Err (IoError number cause)) P = P
+UnlessFailed (Err (ParseError number cause)) P = P
+UnlessFailed (Err (ProofProcessorError cause)) P = Unit {0}
+UnlessFailed (Err OutOfMemory) P = Unit {0}
+UnlessFailed (Err Failed) P = Unit {0}
+
+-- the satisfying set is the fold over the steps
+abbrev pub IsFold : List Step → State → Type 0
+IsFold ts s = (a : ℕ → Bool) → sat s a ≡ holds ts a
+
+-- the members after the steps make all that is stored true, and there is none where `unsat` is recorded
+abbrev pub IsCovered : List Step → State → Type 0
+IsCovered ts s = Covers (holds ts) s
+
+-- the steps before, and the step where the call accepted it
+abbrev pub with_accepted : {A : Type 0} → Result A CheckerError → List Step → Step → List Step
+with_accepted (Ok done) ts t = ts ++ t ∷ []
+with_accepted (Err e) ts t = ts
+
+-- after a call for one step the satisfying set is the fold over the steps before and the step where it was accepted
 abbrev pub SetsFold : {A : Type 0} → Result A CheckerError → List Step → Step → State → Type 0
-SetsFold (Ok x) ts t s = (a : ℕ → Bool) → sat s a ≡ holds (ts ++ t ∷ []) a
-SetsFold (Err (CheckFailed step msg debug_step)) ts t s = (a : ℕ → Bool) → sat s a ≡ holds ts a
-SetsFold (Err (ProofIncomplete step)) ts t s = Unit {0}
-SetsFold (Err (IoError step cause)) ts t s = Unit {0}
-SetsFold (Err (ParseError step cause)) ts t s = Unit {0}
-SetsFold (Err (ProofProcessorError cause)) ts t s = Unit {0}
-SetsFold (Err OutOfMemory) ts t s = Unit {0}
-SetsFold (Err Failed) ts t s = Unit {0}
+SetsFold r ts t s = UnlessFailed r (IsFold (with_accepted r ts t) s)
+
+-- the same of the unsatisfiable side
+abbrev pub CoversFold : {A : Type 0} → Result A CheckerError → List Step → Step → State → Type 0
+CoversFold r ts t s = UnlessFailed r (IsCovered (with_accepted r ts t) s)
+
+-- of a function over the parts of a checker, whose caller records a failure
+abbrev pub AnswersParts : {A : Type 0} → Result A CheckerError → Outcome → State → Type 0
+AnswersParts r o s = UnlessFailed r (AnswersStep r o s)

@@ -1,4 +1,5 @@
 //! Why the checker refuses or fails.
+use proof_bytes::MalformedStep;
 use sat_formula::DimacsKind;
 use std::io;
 use thiserror::Error;
@@ -122,17 +123,6 @@ pub enum DimacsError {
     /// The checker's own answer, or the reader's want of memory.
     #[error("{0}")]
     Checker(CheckerError),
-}
-
-/// What is wrong with the bytes of a proof.
-#[derive(Clone, Copy, Debug, PartialEq, Eq, Error)]
-pub enum MalformedStep {
-    #[error("unknown step tag")]
-    UnknownTag,
-    #[error("malformed number")]
-    BadNumber,
-    #[error("value out of range")]
-    OutOfRange,
 }
 
 fn text_of(kind: &DimacsKind) -> &'static str {

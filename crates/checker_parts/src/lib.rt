@@ -4,6 +4,8 @@
 pub mod error;
 pub mod processor;
 pub mod sorted_lits;
+pub mod step;
 #[cfg(test)]
 mod tests;
+pub mod transcript;
 pub mod variables;

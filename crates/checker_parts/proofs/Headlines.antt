@@ -1,0 +1,192 @@
+-- The headline of a call, and the unsatisfiable side, follow from its answer by the definitions.
+use Rattle.std.proofs.Common.{◌≡◌, ◌⊎◌, ℕ, Bool, List, [], ◌∷◌, ◌++◌, Option, Some, None, Result, Ok, Err, refl, sym, ap, ◌∙◌, subst, inl, inr}
+use Rattle.checker_rules.specs.Calls.{attempt, closing_conflict}
+use Rattle.checker_rules.specs.Covers.{Covers, CoversAfter}
+use Rattle.checker_rules.specs.Headline.{Good, Keeps, SetAfter, changed, holds}
+use Rattle.checker_rules.specs.Outcome.{Cause, Outcome, and_then_by, refuse}
+use Rattle.checker_rules.specs.Run.{Runs}
+use Rattle.checker_rules.specs.State.{State, sat}
+use Rattle.checker_rules.specs.Step.{Step}
+use Rattle.checker_rules.specs.Steps.{step}
+use Rattle.checker_rules.proofs.Covering.{steps_cover}
+use Rattle.checker_rules.proofs.Keeping.{step_keeps}
+use Rattle.checker_rules.proofs.Runs.{append_none, append_step, changed_same, holds_last}
+use Rattle.checker_rules.proofs.WholeRuns.{close_keeps, covers_attempt, covers_close, covers_same, keeps_attempt, runs_are_fold, runs_cover}
+use Rattle.proof_bytes.specs.Reading.{Fault, Short, Wrong}
+use Rattle.checker_parts.specs.Answers.{AnswersStep, CoversFold, EndsRun, IsCovered, IsFold, IsRefusal, RunIsRefused, SetsFold, UnlessFailed, all_steps, first_accepted, unless_refused}
+use Rattle.checker_parts.specs.Causes.{cause_of}
+use Rattle.checker_parts.specs.declared.error.CheckerError.{CheckerError}
+use Rattle.checker_parts.specs.declared.error.CheckerError.TheVariants.{ProofIncomplete, IoError, ParseError, CheckFailed, ProofProcessorError, OutOfMemory, Failed}
+
+-- the members after one more step
+covers-last : (ts : List Step) (t : Step) (s : State) → Covers (changed t (holds ts)) s → IsCovered (ts ++ t ∷ []) s
+covers-last ts t s h = covers_same (changed t (holds ts)) (holds (ts ++ t ∷ [])) s (λ a. sym (holds_last ts t a)) h
+
+fold-last : (ts : List Step) (t : Step) (p : (ℕ → Bool) → Bool) (s : State) → ((a : ℕ → Bool) → p a ≡ holds ts a) → ((a : ℕ → Bool) → sat s a ≡ changed t p a) → IsFold (ts ++ t ∷ []) s
+fold-last ts t p s f h a = h a ∙ changed_same t p (holds ts) f a ∙ sym (holds_last ts t a)
+
+-- one step, from what its outcome does to the set
+pub sets_fold : (s : State) (t : Step) (o : Outcome) → SetAfter (sat s) t o.refused o.after → (ts : List Step) → IsFold ts s → (r : Result (Unit {0}) CheckerError) (u : State) → AnswersStep r o u → SetsFold r ts t u
+sets_fold s t o k ts f (Ok x) u h = fold-last ts t (sat s) u f (λ a. ap (λ w. sat w a) h.1 ∙ accepted o.refused h.0 k a)
+  where
+    accepted : (x : Option Cause) → x ≡ None → SetAfter (sat s) t x o.after → (a : ℕ → Bool) → sat o.after a ≡ changed t (sat s) a
+    accepted None e k = k
+    accepted (Some cause) e k = cc
+sets_fold s t o k ts f (Err (CheckFailed number cause debug_step)) u h = refused (cause_of cause) h
+  where
+    kept : (x : Option Cause) (c : Cause) → x ≡ Some c → SetAfter (sat s) t x o.after → (a : ℕ → Bool) → sat o.after a ≡ sat s a
+    kept None c e k = cc
+    kept (Some d) c e k = k
+
+    refused : (x : Option Cause) → IsRefusal x number o u → IsFold ts u
+    refused None h = absurd h
+    refused (Some c) h = λ a. ap (λ w. sat w a) h.1 ∙ kept o.refused c h.0 k a ∙ f a
+sets_fold s t o k ts f (Err (ProofIncomplete number)) u h = absurd h
+sets_fold s t o k ts f (Err (IoError number cause)) u h = absurd h
+sets_fold s t o k ts f (Err (ParseError number cause)) u h = absurd h
+sets_fold s t o k ts f (Err (ProofProcessorError cause)) u h = tt
+sets_fold s t o k ts f (Err OutOfMemory) u h = tt
+sets_fold s t o k ts f (Err Failed) u h = tt
+
+pub covers_fold : (t : Step) (o : Outcome) (ts : List Step) → CoversAfter (holds ts) t o.refused o.after → (r : Result (Unit {0}) CheckerError) (u : State) → AnswersStep r o u → CoversFold r ts t u
+covers_fold t o ts k (Ok x) u h = covers-last ts t u (subst (Covers (changed t (holds ts))) (sym h.1) (accepted o.refused h.0 k))
+  where
+    accepted : (x : Option Cause) → x ≡ None → CoversAfter (holds ts) t x o.after → Covers (changed t (holds ts)) o.after
+    accepted None e k = k
+    accepted (Some cause) e k = cc
+covers_fold t o ts k (Err (CheckFailed number cause debug_step)) u h = refused (cause_of cause) h
+  where
+    kept : (x : Option Cause) (c : Cause) → x ≡ Some c → CoversAfter (holds ts) t x o.after → Covers (holds ts) o.after
+    kept None c e k = cc
+    kept (Some d) c e k = k
+
+    refused : (x : Option Cause) → IsRefusal x number o u → Covers (holds ts) u
+    refused None h = absurd h
+    refused (Some c) h = subst (Covers (holds ts)) (sym h.1) (kept o.refused c h.0 k)
+covers_fold t o ts k (Err (ProofIncomplete number)) u h = absurd h
+covers_fold t o ts k (Err (IoError number cause)) u h = absurd h
+covers_fold t o ts k (Err (ParseError number cause)) u h = absurd h
+covers_fold t o ts k (Err (ProofProcessorError cause)) u h = tt
+covers_fold t o ts k (Err OutOfMemory) u h = tt
+covers_fold t o ts k (Err Failed) u h = tt
+
+-- `check_step` and `add_clause`
+pub sets_fold-step : (s : State) (t : Step) (ts : List Step) (r : Result (Unit {0}) CheckerError) (u : State) → Good s → IsFold ts s → AnswersStep r (step s t) u → SetsFold r ts t u
+sets_fold-step s t ts r u g f h = sets_fold s t (step s t) (step_keeps s t g).1 ts f r u h
+
+pub covers_fold-step : (s : State) (t : Step) (ts : List Step) (r : Result (Unit {0}) CheckerError) (u : State) → IsCovered ts s → AnswersStep r (step s t) u → CoversFold r ts t u
+covers_fold-step s t ts r u k h = covers_fold t (step s t) ts (steps_cover (holds ts) s t k) r u h
+
+-- a proof step, counted
+pub sets_fold-attempt : (s : State) (t : Step) (ts : List Step) (r : Result (Unit {0}) CheckerError) (u : State) → Good s → IsFold ts s → AnswersStep r (attempt s t) u → SetsFold r ts t u
+sets_fold-attempt s t ts r u g f h = sets_fold s t (attempt s t) (keeps_attempt s t g).1 ts f r u h
+
+pub covers_fold-attempt : (s : State) (t : Step) (ts : List Step) (r : Result (Unit {0}) CheckerError) (u : State) → IsCovered ts s → AnswersStep r (attempt s t) u → CoversFold r ts t u
+covers_fold-attempt s t ts r u k h = covers_fold t (attempt s t) ts (covers_attempt (holds ts) s t k) r u h
+
+-- an outcome that changes no set, and one that keeps what the members make true
+pub unless_failed : (P : State → Type 0) (o : Outcome) → P o.after → (r : Result (Unit {0}) CheckerError) (u : State) → AnswersStep r o u → UnlessFailed r (P u)
+unless_failed P o k (Ok x) u h = subst P (sym h.1) k
+unless_failed P o k (Err (CheckFailed number cause debug_step)) u h = refused (cause_of cause) h
+  where
+    refused : (x : Option Cause) → IsRefusal x number o u → P u
+    refused None h = absurd h
+    refused (Some c) h = subst P (sym h.1) k
+unless_failed P o k (Err (ProofIncomplete number)) u h = absurd h
+unless_failed P o k (Err (IoError number cause)) u h = absurd h
+unless_failed P o k (Err (ParseError number cause)) u h = absurd h
+unless_failed P o k (Err (ProofProcessorError cause)) u h = tt
+unless_failed P o k (Err OutOfMemory) u h = tt
+unless_failed P o k (Err Failed) u h = tt
+
+-- a closing conflict
+pub sets_fold-closing : (s : State) (ts : List Step) (r : Result (Unit {0}) CheckerError) (u : State) → Good s → IsFold ts s → AnswersStep r (closing_conflict s) u → UnlessFailed r (IsFold ts u)
+sets_fold-closing s ts r u g f h = unless_failed (IsFold ts) (closing_conflict s) (λ a. (close_keeps s g).1 a ∙ f a) r u h
+
+pub covers_fold-closing : (s : State) (ts : List Step) (r : Result (Unit {0}) CheckerError) (u : State) → IsCovered ts s → AnswersStep r (closing_conflict s) u → UnlessFailed r (IsCovered ts u)
+covers_fold-closing s ts r u k h = unless_failed (IsCovered ts) (closing_conflict s) (covers_close (holds ts) s k) r u h
+
+-- a list of steps
+set-all : (s : State) (before ts : List Step) → Good s → IsFold before s → IsFold (before ++ first_accepted s ts) (all_steps s ts).after
+set-all s before [] g f = λ a. f a ∙ ap (λ l. holds l a) (sym (append_none before))
+set-all s before (t ∷ ts) g f = go (step s t).refused (step_keeps s t g).1 (λ h. set-all (step s t).after (before ++ t ∷ []) ts (step_keeps s t g).0 h)
+  where
+    rest : State
+    rest = (step s t).after
+
+    go : (x : Option Cause) → SetAfter (sat s) t x rest → (IsFold (before ++ t ∷ []) rest → IsFold ((before ++ t ∷ []) ++ first_accepted rest ts) (all_steps rest ts).after)
+        → IsFold (before ++ unless_refused x t (first_accepted rest ts)) (and_then_by x rest (λ r. all_steps r ts)).after
+    go None k on = λ a. on (fold-last before t (sat s) rest f k) a ∙ ap (λ l. holds l a) (append_step before t (first_accepted rest ts))
+    go (Some c) k on = λ a. k a ∙ f a ∙ ap (λ l. holds l a) (sym (append_none before))
+
+covers-all : (s : State) (before ts : List Step) → IsCovered before s → IsCovered (before ++ first_accepted s ts) (all_steps s ts).after
+covers-all s before [] k = covers_same (holds before) (holds (before ++ [])) s (λ a. ap (λ l. holds l a) (sym (append_none before))) k
+covers-all s before (t ∷ ts) k = go (step s t).refused (steps_cover (holds before) s t k) (λ h. covers-all (step s t).after (before ++ t ∷ []) ts h)
+  where
+    rest : State
+    rest = (step s t).after
+
+    go : (x : Option Cause) → CoversAfter (holds before) t x rest → (IsCovered (before ++ t ∷ []) rest → IsCovered ((before ++ t ∷ []) ++ first_accepted rest ts) (all_steps rest ts).after)
+        → IsCovered (before ++ unless_refused x t (first_accepted rest ts)) (and_then_by x rest (λ r. all_steps r ts)).after
+    go None k on = covers_same (holds ((before ++ t ∷ []) ++ first_accepted rest ts)) (holds (before ++ t ∷ first_accepted rest ts)) (all_steps rest ts).after
+        (λ a. ap (λ l. holds l a) (append_step before t (first_accepted rest ts))) (on (covers-last before t rest k))
+    go (Some c) k on = covers_same (holds before) (holds (before ++ [])) rest (λ a. ap (λ l. holds l a) (sym (append_none before))) k
+
+pub sets_fold-all : (s : State) (before ts : List Step) (r : Result (Unit {0}) CheckerError) (u : State) → Good s → IsFold before s → AnswersStep r (all_steps s ts) u → UnlessFailed r (IsFold (before ++ first_accepted s ts) u)
+sets_fold-all s before ts r u g f h = unless_failed (IsFold (before ++ first_accepted s ts)) (all_steps s ts) (set-all s before ts g f) r u h
+
+pub covers_fold-all : (s : State) (before ts : List Step) (r : Result (Unit {0}) CheckerError) (u : State) → IsCovered before s → AnswersStep r (all_steps s ts) u → UnlessFailed r (IsCovered (before ++ first_accepted s ts) u)
+covers_fold-all s before ts r u k h = unless_failed (IsCovered (before ++ first_accepted s ts)) (all_steps s ts) (covers-all s before ts k) r u h
+
+-- a run
+ends : {X : Type 0} (P : List Step → State → Type 0) (next : X → (Step × X) ⊎ Fault) (s : State) (x : X) → ((ts : List Step) (answer : Option (Cause ⊎ Fault)) (u : State) → Runs next s x ts answer u → P ts u)
+    → (r : Result (Unit {0}) CheckerError) (ts : List Step) (u : State) → EndsRun r next s x ts u → UnlessFailed r (P ts u)
+ends P next s x k (Ok done) ts u h = k ts None u h
+ends P next s x k (Err (CheckFailed number cause debug_step)) ts u h = refused (cause_of cause) h.1
+  where
+    refused : (c : Option Cause) → RunIsRefused c next s x ts u → P ts u
+    refused None h = absurd h
+    refused (Some c) h = k ts (Some (inl c)) u h
+ends P next s x k (Err (ProofIncomplete number)) ts u h = k ts (Some (inr Short)) u h.1
+ends P next s x k (Err (IoError number cause)) ts u h = k ts (Some (inr Short)) u h.1
+ends P next s x k (Err (ParseError number cause)) ts u h = k ts (Some (inr (Wrong cause))) u h.1
+ends P next s x k (Err (ProofProcessorError cause)) ts u h = tt
+ends P next s x k (Err OutOfMemory) ts u h = tt
+ends P next s x k (Err Failed) ts u h = tt
+
+pub sets_fold-run : {X : Type 0} (next : X → (Step × X) ⊎ Fault) (s : State) (x : X) (before : List Step) → Good s → IsFold before s
+    → (r : Result (Unit {0}) CheckerError) (ts : List Step) (u : State) → EndsRun r next s x ts u → UnlessFailed r (IsFold (before ++ ts) u)
+sets_fold-run {X} next s x before g f r ts u h = ends (λ ts u. IsFold (before ++ ts) u) next s x (λ ts answer u run. (runs_are_fold X Fault next s x before ts answer u g f run).1) r ts u h
+
+pub covers_fold-run : {X : Type 0} (next : X → (Step × X) ⊎ Fault) (s : State) (x : X) (before : List Step) → IsCovered before s
+    → (r : Result (Unit {0}) CheckerError) (ts : List Step) (u : State) → EndsRun r next s x ts u → UnlessFailed r (IsCovered (before ++ ts) u)
+covers_fold-run {X} next s x before k r ts u h = ends (λ ts u. IsCovered (before ++ ts) u) next s x (λ ts answer u run. (runs_cover X Fault next s x before ts answer u k run).0) r ts u h
+
+-- a loop over the steps of a list: what follows from the rest follows from all
+pub all_steps-accepted : (s : State) (t : Step) (ts : List Step) → (step s t).refused ≡ None → all_steps s (t ∷ ts) ≡ all_steps (step s t).after ts
+all_steps-accepted s t ts h = ap (λ x. and_then_by x (step s t).after (λ r. all_steps r ts)) h
+
+pub all_steps-refused : (s : State) (t : Step) (ts : List Step) (cause : Cause) → (step s t).refused ≡ Some cause → all_steps s (t ∷ ts) ≡ refuse cause (step s t).after
+all_steps-refused s t ts cause h = ap (λ x. and_then_by x (step s t).after (λ r. all_steps r ts)) h
+
+abbrev done : Result (Unit {0}) CheckerError
+done = Ok tt
+
+abbrev fault : CheckerError → Result (Unit {0}) CheckerError
+fault e = Err e
+
+pub answers_on : (s : State) (t : Step) (ts : List Step) (u : State) → AnswersStep done (step s t) u → (r : Result (Unit {0}) CheckerError) (w : State) → AnswersStep r (all_steps u ts) w → AnswersStep r (all_steps s (t ∷ ts)) w
+answers_on s t ts u k r w h = subst (λ o. AnswersStep r o w) (ap (λ v. all_steps v ts) k.1 ∙ sym (all_steps-accepted s t ts k.0)) h
+
+pub answers_stop : (s : State) (t : Step) (ts : List Step) (e : CheckerError) (u : State) → AnswersStep (fault e) (step s t) u → AnswersStep (fault e) (all_steps s (t ∷ ts)) u
+answers_stop s t ts (CheckFailed number cause debug_step) u h = refused (cause_of cause) h
+  where
+    refused : (x : Option Cause) → IsRefusal x number (step s t) u → IsRefusal x number (all_steps s (t ∷ ts)) u
+    refused None h = h
+    refused (Some c) h = let e = all_steps-refused s t ts c h.0 in (ap (λ (o : Outcome). o.refused) e, h.1 ∙ ap (λ (o : Outcome). o.after) (sym e), h.2)
+answers_stop s t ts (ProofIncomplete number) u h = h
+answers_stop s t ts (IoError number cause) u h = h
+answers_stop s t ts (ParseError number cause) u h = h
+answers_stop s t ts (ProofProcessorError cause) u h = h
+answers_stop s t ts OutOfMemory u h = h
+answers_stop s t ts Failed u h = h

@@ -1,0 +1,110 @@
+//! Transcript steps of checked steps.
+ghost use Rattle.std.specs.Prelude.{◌≡◌, IfOk, IfErr, OnOk, Ok};
+ghost use Rattle.checker_rules.specs.Transcript.{image_of, image_user_var, mapped};
+ghost use Rattle.checker_parts.specs.CheckedSteps.{step_of, transcripts_of, user_var_of};
+ghost use Rattle.checker_parts.specs.declared.error.CheckerError.TheVariants.{OutOfMemory};
+
+use crate::error::CheckerError;
+use crate::processor::CheckerData;
+use crate::step::{CheckedProofStep, CheckedSamplingMode, CheckedUserVar, ProofTranscriptStep};
+use sat_formula::lit::Lit;
+use std::alloc::Global;
+
+/// The list of the step that transcripts are told.
+#[derive(Drop)]
+pub struct Transcript {
+    lits: Vec<Lit>,
+}
+
+impl Transcript {
+    pub fn new(alloc: Global) -> Transcript {
+        Transcript {
+            lits: Vec::new(alloc),
+        }
+    }
+
+    /// What transcripts are told of a checked step: nothing of most kinds.
+    ///
+    /// Literals without a user variable are dropped, and an unnamed variable that loses its name is
+    /// passed over: of input clauses, assumptions and cores, and of removed names, the checker hands
+    /// in none such.
+    pub fn transcript_step(
+        &mut self,
+        step: &CheckedProofStep,
+        names: CheckerData,
+    ) -> Result<Option<ProofTranscriptStep<'_>>, CheckerError>
+        ensures ok { IfOk result (λ told. transcripts_of told ≡ image_of names.entry.0.now (step_of step.now)) }
+        ensures err { IfErr result (λ e. e ≡ OutOfMemory) }
+    {
+        match step {
+            CheckedProofStep::UserVar {
+                var,
+                user_var: None,
+            } => match names.0.get(*var).user_var {
+                Some(var) => Ok(Some(ProofTranscriptStep::HideVar { var })),
+                None => Ok(None),
+            },
+            CheckedProofStep::UserVar {
+                user_var: Some(user_var),
+                ..
+            } => Ok(user_var_step(user_var)),
+            CheckedProofStep::AddClause { clause, .. }
+            | CheckedProofStep::DuplicatedClause { clause, .. }
+            | CheckedProofStep::TautologicalClause { clause, .. } => {
+                self.map(clause, names)?;
+                Ok(Some(ProofTranscriptStep::AddClause { clause: &self.lits }))
+            }
+            CheckedProofStep::AtClause { clause: [], .. } => Ok(Some(ProofTranscriptStep::Unsat)),
+            CheckedProofStep::Model { assignment } => {
+                self.map(assignment, names)?;
+                Ok(Some(ProofTranscriptStep::Model {
+                    assignment: &self.lits,
+                }))
+            }
+            CheckedProofStep::Assumptions { assumptions } => {
+                self.map(assumptions, names)?;
+                Ok(Some(ProofTranscriptStep::Assume {
+                    assumptions: &self.lits,
+                }))
+            }
+            CheckedProofStep::FailedAssumptions { failed_core, .. } => {
+                self.map(failed_core, names)?;
+                Ok(Some(ProofTranscriptStep::FailedAssumptions {
+                    failed_core: &self.lits,
+                }))
+            }
+            _ => Ok(None),
+        }
+    }
+
+    // Leaves the literals of the user variables.
+    fn map(&mut self, lits: &[Lit], names: CheckerData) -> Result<(), CheckerError>
+        ensures ok { OnOk result (self.new.lits.items ≡ mapped names.entry.0.now lits.now) }
+        ensures err { IfErr result (λ e. e ≡ OutOfMemory) }
+    {
+        self.lits.clear();
+        for &lit in lits {
+            if let Some(var) = names.user_from_proof_var(lit.var()) {
+                if self.lits.push(var.lit(lit.is_positive())).is_err() {
+                    return Err(CheckerError::OutOfMemory);
+                }
+            }
+        }
+        Ok(())
+    }
+}
+
+// What transcripts are told of a variable that has a user name.
+fn user_var_step<'a>(user_var: &CheckedUserVar) -> Option<ProofTranscriptStep<'a>>
+    ensures { transcripts_of result ≡ image_user_var (user_var_of user_var.now) }
+{
+    let var = user_var.user_var;
+    match (&user_var.sampling_mode, user_var.new_var) {
+        (CheckedSamplingMode::Sample, true) => None,
+        (CheckedSamplingMode::Witness, true) => Some(ProofTranscriptStep::ObserveInternalVar {
+            var,
+        }),
+        (CheckedSamplingMode::Sample, false) => Some(ProofTranscriptStep::SampleVar { var }),
+        (CheckedSamplingMode::Witness, false) => Some(ProofTranscriptStep::WitnessVar { var }),
+    }
+}
