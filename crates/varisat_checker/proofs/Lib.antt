@@ -1,3 +1,4 @@
+pub mod AnswerLemmas
 pub mod BucketLemmas
 pub mod HashLemmas
 pub mod FoundLemmas
