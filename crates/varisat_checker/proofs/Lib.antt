@@ -1,4 +1,5 @@
 pub mod AddClauseLemmas
+pub mod AnswerLemmas
 pub mod AssumeLemmas
 pub mod AtClauseLemmas
 pub mod BucketLemmas

@@ -1,19 +1,28 @@
 -- The stored clauses through changes of their buckets.
-use Rattle.std.proofs.Common.{◌≡◌, ℕ, ◌+◌, ◌*◌, ◌<◌, ◌≤◌, Bool, true, false, cond, not, ◌&&◌, ◌||◌, eqb, List, [], ◌∷◌, ◌++◌, length, map, Option, Some, None, refl, sym, ap, ◌∙◌, subst, arith}
-use Rattle.std.specs.List.{filter, list_any}
+use Rattle.std.proofs.Common.{◌≡◌, ℕ, suc, ◌<◌, ◌≤◌, Bool, true, false, cond, not, ◌||◌, eqb, leb, List, [], ◌∷◌, set, Option, Some, None, refl, sym, ap, ◌∙◌, subst, arith}
+use Rattle.std.specs.List.{filter}
+use Rattle.std.specs.Option.{option_map}
+use Rattle.std.proofs.lemmas.List.{map-set}
+use Rattle.std.proofs.Math.ListN.{get_or-map}
 use Rattle.std.proofs.lemmas.Bool.{and_from, and_parts, not-true, not_from_false, or_parts}
 use Rattle.checker_rules.specs.Buckets.{of_hash}
 use Rattle.checker_rules.specs.Canonical.{same_list}
-use Rattle.checker_rules.specs.State.{Stored}
-use Rattle.checker_rules.specs.Store.{count_of, id_among, is_stored, raise}
+use Rattle.checker_rules.specs.DeleteClause.{is_short}
+use Rattle.checker_rules.specs.State.{Stored, unit_of}
+use Rattle.checker_rules.specs.Store.{count_limit, count_of, id_among, is_stored}
 use Rattle.checker_rules.specs.WellFormed.{are_apart, ids_rise}
 use Rattle.checker_rules.proofs.Buckets.{buckets_serve}
 use Rattle.varisat_checker.specs.declared.clauses.Clauses.{Clauses}
+use Rattle.varisat_checker.specs.declared.clauses.units.UnitClause.{UnitClause}
 use Rattle.varisat_checker.specs.declared.hash.ClauseHasher.{ClauseHasher}
 use Rattle.varisat_checker.specs.Found.{found_in}
-use Rattle.varisat_checker.specs.StateOf.{hash_of}
+use Rattle.varisat_checker.specs.StateOf.{hash_of, stored_unit, stored_units}
 use Rattle.varisat_checker.specs.Store.{IsStore}
+use Rattle.varisat_checker.specs.Units.{unit_at}
 use Rattle.varisat_checker.specs.View.{stored_at, stored_list}
+use Rattle.varisat_checker.proofs.AnswerLemmas.{is_stored-short}
+use Rattle.varisat_checker.proofs.BucketLemmas.{count_limit-some}
+use Rattle.varisat_checker.proofs.FoundLemmas.{count_of-absent}
 
 is_stored-filter : (p : Stored → Bool) (c : List ℕ) (es : List Stored) → is_stored c es ≡ false → is_stored c (filter p es) ≡ false
 is_stored-filter p c [] h = refl
@@ -47,3 +56,32 @@ module _ (h : ClauseHasher) (cs : Clauses) (s : IsStore h cs) where
 
   pub are_apart-bucket : (k : ℕ) → are_apart (stored_at cs k) ≡ true
   are_apart-bucket k = ap are_apart (s.bucketed k) ∙ are_apart-filter (λ e. eqb (hash_of h e.lits) k) (stored_list cs) s.apart
+
+ids_rise-more : (a n m : ℕ) (es : List Stored) → n ≤ m → ids_rise a es n ≡ true → ids_rise a es m ≡ true
+ids_rise-more a n m [] le h = grind (arith, le, h)
+ids_rise-more a n m (e ∷ es) le h = let k = and_parts (leb a e.id) (ids_rise (suc e.id) es n) h in and_from _ _ k.0 (ids_rise-more (suc e.id) n m es le k.1)
+
+-- other units and a later id
+pub is_store-units : (h : ClauseHasher) (cs : Clauses) (us : List (Option UnitClause)) (conflict : Option (ℕ × ℕ)) (n : ℕ) → cs.next_clause_id ≤ n → IsStore h cs → IsStore h (record cs { unit_clauses = us; unit_conflict = conflict; next_clause_id = n })
+is_store-units h cs us conflict n le s = record {
+  some_bits = s.some_bits;
+  bits = s.bits;
+  within = s.within;
+  bucketed = s.bucketed;
+  rise = ids_rise-more 0 cs.next_clause_id n (stored_list cs) le s.rise;
+  apart = s.apart;
+  none_short = s.none_short;
+  used = s.used;
+  garbage = s.garbage;
+}
+
+-- no copy of a short clause is counted
+pub few-short : (h : ClauseHasher) (cs : Clauses) → IsStore h cs → (r : Bool) (c : List ℕ) → is_short c ≡ true → count_of r c (stored_list cs) < count_limit
+few-short h cs s r c short = subst (λ n. n < count_limit) (sym (count_of-absent c r (stored_list cs) (is_stored-short c (stored_list cs) short s.none_short))) count_limit-some
+
+-- the unit of a variable
+pub unit_of-stored_units : (us : List (Option UnitClause)) (v : ℕ) → unit_of (stored_units us) v ≡ option_map stored_unit (unit_at us v)
+unit_of-stored_units us v = get_or-map (option_map stored_unit) us v None
+
+pub stored_units-set : (us : List (Option UnitClause)) (v : ℕ) (u : UnitClause) → stored_units (set us v (Some u)) ≡ set (stored_units us) v (Some (stored_unit u))
+stored_units-set us v u = map-set (option_map stored_unit) us v (Some u)

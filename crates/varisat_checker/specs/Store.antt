@@ -1,6 +1,7 @@
 -- What the stored clauses keep between calls, and what storing a clause answers.
 use Rattle.std.specs.Prelude.{◌≡◌, ◌<◌, ◌≤◌, ℕ, ◌+◌, ◌*◌, ◌&&◌, Bool, true, false, cond, not, eqb, length, Result, Ok, Err, List}
 use Rattle.std.specs.List.{list_any}
+use Rattle.checker_rules.specs.Clauses.{is_negative}
 use Rattle.checker_rules.specs.DeleteClause.{is_short}
 use Rattle.checker_rules.specs.LiveLiterals.{live_literals}
 use Rattle.checker_rules.specs.Outcome.{Outcome, accept, count_exhausted, ids_exhausted, refuse}
@@ -12,6 +13,8 @@ use Rattle.varisat_checker.specs.declared.clauses.StoreClauseResult.{StoreClause
 use Rattle.varisat_checker.specs.declared.clauses.StoreClauseResult.TheVariants.{New, Duplicate, NewlyIrredundant}
 use Rattle.varisat_checker.specs.declared.clauses.store.StoreFault.{StoreFault}
 use Rattle.varisat_checker.specs.declared.clauses.store.StoreFault.TheVariants.{OutOfMemory, IdsExhausted, CountExhausted}
+use Rattle.varisat_checker.specs.declared.clauses.units.UnitClause.{UnitClause}
+use Rattle.varisat_checker.specs.declared.clauses.units.UnitId.TheVariants.{Global}
 use Rattle.varisat_checker.specs.declared.hash.ClauseHasher.{ClauseHasher}
 use Rattle.varisat_checker.specs.Buckets.{AreWithin}
 use Rattle.varisat_checker.specs.StateOf.{IsBucketed}
@@ -29,6 +32,10 @@ pub record IsStore (h : ClauseHasher) (cs : Clauses) : Type 0 where
   pub none_short : list_any (λ e. is_short e.lits) (stored_list cs) ≡ false
   pub used : length cs.literal_buffer.items ≡ live_literals (stored_list cs) + cs.garbage_size
   pub garbage : 2 * cs.garbage_size ≤ length cs.literal_buffer.items
+
+-- the unit of this id that makes the literal true
+abbrev pub unit_for : ℕ → ℕ → UnitClause
+unit_for l id = record { id = Global id; value = not (is_negative l) }
 
 -- storing the clause makes it irredundant: it stands as a redundant one only
 abbrev pub turns_irredundant : List ℕ → Bool → State → Bool
