@@ -1,5 +1,6 @@
 pub mod AssumeLemmas
 pub mod CheckLemmas
+pub mod ColumnLemmas
 pub mod StatusLemmas
 pub mod TrailLemmas
 pub mod UnitsLemmas
