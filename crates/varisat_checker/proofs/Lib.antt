@@ -4,6 +4,7 @@ pub mod AssumeLemmas
 pub mod AtClauseLemmas
 pub mod BucketLemmas
 pub mod CheckLemmas
+pub mod ColumnLemmas
 pub mod FoundLemmas
 pub mod GrowthLemmas
 pub mod HashLemmas

@@ -1,5 +1,6 @@
 //! The value of each known variable, where it has one.
 ghost use Rattle.std.specs.Prelude.{◌≡◌, ◌-◌, ◌<◌, ◌++◌, ◌∷◌, [], length, replicate, None, OnOk, OnErr, slice_set};
+ghost use Rattle.std.specs.Option.{option_map};
 ghost use Rattle.varisat_checker.specs.Units.{unit_at};
 
 use std::alloc::{AllocError, Global};
@@ -23,19 +24,86 @@ pub struct UnitClause {
     pub value: bool,
 }
 
-/// The values of the known variables, by index.
+/// Whether a variable has a value, in one byte.
+#[derive(Clone, Copy)]
+enum Value {
+    Free,
+    False,
+    True,
+}
+
+impl Value {
+    ghost use Rattle.varisat_checker.specs.Units as spec;
+
+    fn of(value: bool) -> Value
+        ensures { spec.known result ≡ Some value }
+    {
+        if value { Value::True } else { Value::False }
+    }
+
+    fn known(self) -> Option<bool>
+        ensures { result ≡ spec.known self }
+    {
+        match self {
+            Value::Free => None,
+            Value::False => Some(false),
+            Value::True => Some(true),
+        }
+    }
+}
+
+/// The kind of a value's id, in one byte. Its number stands elsewhere.
+#[derive(Clone, Copy)]
+enum Source {
+    Stored,
+    Derived,
+    Negated,
+}
+
+impl Source {
+    ghost use Rattle.varisat_checker.specs.Units.{id_by};
+
+    fn id(self, number: u64) -> UnitId
+        ensures { result ≡ id_by self number }
+    {
+        match self {
+            Source::Stored => UnitId::Global(number),
+            Source::Derived => UnitId::TracePos(number as usize),
+            Source::Negated => UnitId::InClause,
+        }
+    }
+
+    fn with_number(id: UnitId) -> (Source, u64)
+        ensures { id_by result.0 result.1 ≡ id }
+    {
+        match id {
+            UnitId::Global(id) => (Source::Stored, id),
+            UnitId::TracePos(position) => (Source::Derived, position as u64),
+            UnitId::InClause => (Source::Negated, 0),
+        }
+    }
+}
+
+/// The values of the known variables, by index, in ten bytes a variable.
+///
+/// A check reads little but values, so these stand by themselves.
 #[derive(Drop)]
 pub struct Units {
-    values: Vec<Option<UnitClause>>,
+    values: Vec<Value>,
+    sources: Vec<Source>,
+    numbers: Vec<u64>,
 }
 
 impl Model for Units {
     ghost use Rattle.std.specs.Prelude.{List, Option};
+    ghost use Rattle.varisat_checker.specs.Units.{AreEven, units_by};
     ghost use Rattle.varisat_checker.specs.declared.clauses.units.UnitClause.{UnitClause};
 
     ghost Value = { List (Option UnitClause) };
 
-    ghost view = { λ u. u.values.items };
+    ghost view = { λ u. units_by u.values.items u.sources.items u.numbers.items };
+
+    ghost invariant = { λ u. AreEven u.values.items u.sources.items u.numbers.items };
 }
 
 impl Units {
@@ -44,6 +112,8 @@ impl Units {
     {
         Units {
             values: Vec::new(alloc),
+            sources: Vec::new(alloc),
+            numbers: Vec::new(alloc),
         }
     }
 
@@ -56,13 +126,20 @@ impl Units {
 
     /// The value of the variable of this index. None for an unknown variable too.
     #[inline]
+    pub fn value(&self, index: usize) -> Option<bool>
+        ensures { result ≡ option_map (λ u. u.value) (unit_at self.now index) }
+    {
+        self.values.get(index).copied().unwrap_or(Value::Free).known()
+    }
+
+    /// The same with its id.
+    #[inline]
     pub fn get(&self, index: usize) -> Option<UnitClause>
         ensures { result ≡ unit_at self.now index }
     {
-        match self.values.get(index) {
-            Some(unit) => *unit,
-            None => None,
-        }
+        let value = self.value(index)?;
+        let id = self.sources[index].id(self.numbers[index]);
+        Some(UnitClause { id, value })
     }
 
     #[inline]
@@ -70,16 +147,24 @@ impl Units {
         requires { index < length self.old }
         ensures { self.new ≡ slice_set self.old index unit }
     {
-        self.values[index] = unit;
+        match unit {
+            Some(unit) => {
+                let (source, number) = Source::with_number(unit.id);
+                self.values[index] = Value::of(unit.value);
+                self.sources[index] = source;
+                self.numbers[index] = number;
+            }
+            None => self.values[index] = Value::Free,
+        }
     }
 
     /// Makes the first `count` variables known, new ones without a value.
     pub fn know(&mut self, count: usize) -> Result<(), AllocError>
-        ensures ok { OnOk result (self.new ≡ self.old ++ replicate (count - length self.old) None) }
-        ensures err { OnErr result (self.new ≡ self.old) }
+        ensures { OnOk result (self.new ≡ self.old ++ replicate (count - length self.old) None) }
     {
-        if self.values.len() < count {
-            self.values.resize(count, None)?;
+        let known = self.len();
+        'vars: for _ in known..count {
+            self.push_free()?;
         }
         Ok(())
     }
@@ -89,7 +174,12 @@ impl Units {
         ensures ok { OnOk result (self.new ≡ self.old ++ None ∷ []) }
         ensures err { OnErr result (self.new ≡ self.old) }
     {
-        self.values.push(None)?;
+        self.values.reserve(1)?;
+        self.sources.reserve(1)?;
+        self.numbers.reserve(1)?;
+        self.values.push(Value::Free)?;
+        self.sources.push(Source::Stored)?;
+        self.numbers.push(0)?;
         Ok(())
     }
 }

@@ -23,8 +23,8 @@ pub enum ClauseStatus {
 pub fn lit_value(units: &Units, lit: Lit) -> Option<bool>
     ensures { result ≡ spec.lit_value units.now lit }
 {
-    match units.get(lit.index()) {
-        Some(unit) => Some(unit.value == lit.is_positive()),
+    match units.value(lit.index()) {
+        Some(value) => Some(value == lit.is_positive()),
         None => None,
     }
 }
