@@ -14,6 +14,5 @@ mod word;
 
 pub use cnf::{CnfClauses, CnfFormula};
 pub use dimacs::DimacsReader;
-pub use fault::{DimacsFault, DimacsKind, Stop};
+pub use fault::{DimacsFault, DimacsKind};
 pub use lit::{Lit, Var};
-pub use word::{Header, Number, Token};

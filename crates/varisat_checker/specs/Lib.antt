@@ -14,4 +14,3 @@ pub mod Store
 pub mod Trail
 pub mod Units
 pub mod View
-pub mod Whole

@@ -7,13 +7,12 @@ ghost use Rattle.checker_rules.specs.Clauses.{is_tautology};
 ghost use Rattle.checker_rules.specs.State.{Known};
 ghost use Rattle.checker_rules.specs.Step as rules;
 ghost use Rattle.checker_rules.specs.Steps.{step};
-ghost use Rattle.checker_parts.specs.Answers.{AnswersParts};
+ghost use Rattle.checker_parts.specs.Answers.{AnswersParts, UnlessFailed};
 ghost use Rattle.varisat_checker.specs.Context.{IsKept, context_state};
 ghost use Rattle.varisat_checker.specs.InputCause.{IsInputCause, HasRoom, taken};
 ghost use Rattle.varisat_checker.specs.Kept.{Kept};
 ghost use Rattle.varisat_checker.specs.StateOf.{state_of};
 ghost use Rattle.varisat_checker.specs.Store.{IsStore};
-ghost use Rattle.varisat_checker.specs.Whole.{IsWhole};
 ghost use Rattle.varisat_checker.specs.declared.state.CheckerState.{CheckerState};
 
 use crate::clauses::store::{StoreFault, copies, store_clause};
@@ -38,7 +37,7 @@ pub fn add_clause<P: ProofProcessor, T: ProofTranscriptProcessor>(
 ) -> Result<(), CheckerError>
     requires { IsKept ctx.old }
     ensures step { AnswersParts result (step (context_state ctx.old) (rules.add_clause lits.now)) (context_state ctx.new) }
-    ensures kept { IsWhole result (IsKept ctx.new) }
+    ensures kept { UnlessFailed result (IsKept ctx.new) }
 {
     if ctx.checker_state.unsat {
         return Ok(());
