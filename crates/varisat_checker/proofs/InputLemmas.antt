@@ -21,6 +21,10 @@ pub fits-next : (n : ℕ) → n < id_limit → Fits w64 (n + 1)
 unfolding id_limit
 fits-next n h = omega arith
 
+pub fits-input : (i n : ℕ) → i ≤ n → n < id_limit → Fits w64 (i + 1)
+unfolding id_limit
+fits-input i n le h = omega arith
+
 -- taking an id leaves the store in order
 pub is_store-next : (h : ClauseHasher) (cs : Clauses) → IsStore h cs → IsStore h (record cs { next_clause_id = cs.next_clause_id + 1 })
 is_store-next h cs k = record {

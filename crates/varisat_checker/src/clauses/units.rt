@@ -162,8 +162,8 @@ impl Units {
     pub fn know(&mut self, count: usize) -> Result<(), AllocError>
         ensures { OnOk result (self.new ≡ self.old ++ replicate (count - length self.old) None) }
     {
-        let known = self.len();
-        'vars: for _ in known..count {
+        let more = count.saturating_sub(self.len());
+        'vars: for _ in 0..more {
             self.push_free()?;
         }
         Ok(())

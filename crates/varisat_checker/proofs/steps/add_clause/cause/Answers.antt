@@ -11,7 +11,7 @@ returns-then-clauses c st = sym (cause-ids (state_of st c.args.hasher.now c.args
 
 pub returns-then-copies : goal.returns-then-copies
 returns-then-copies c st =
-    cause-copies (state_of st c.args.hasher.now c.args.clauses.now c.args.variables.now) c.args.clause.now (sym c.if-some_not_sampling.false ∙ c.some_not_sampling.ensures st c.args.hasher.now c.args.clauses.now)
+    sym (cause-copies (state_of st c.args.hasher.now c.args.clauses.now c.args.variables.now) c.args.clause.now (sym c.if-some_not_sampling.false ∙ c.some_not_sampling.ensures st c.args.hasher.now c.args.clauses.now)
     (id-left c.args.clauses.now.next_clause_id (omega arith) c.if-clauses.false) (sym c.copies.ensures ∙ c.if-copies.true))
 
 pub returns : goal.returns

@@ -1,4 +1,8 @@
+use Rattle.std.proofs.Common.{ℕ, ◌≤◌, sym, subst}
+use Rattle.varisat_checker.proofs.InputLemmas.{fits-input}
 use Rattle.varisat_checker.proofs.steps.add_clause.take_clause.Goals as goal
 
 pub overflow_add-state : goal.overflow_add-state
-overflow_add-state c = let h = c.in_ok-ensure_vars.ensures in let k = c.in_ok-store_input_clause.ensures in ?
+overflow_add-state c =
+    let le = subst (λ n. n ≤ c.args.clauses.now.next_clause_id) (sym c.in_ok-store_input_clause.ensures.inputs) c.requires.kept.sound.form.inputs_counted in
+    fits-input c.store_input_clause.new.state.input_clauses c.args.clauses.now.next_clause_id le c.requires.room.ids
