@@ -1,9 +1,14 @@
-//! Rows of canonical lists and subsets.
-ghost use Rattle.std.specs.Prelude.{IfOk, IsTrue};
-ghost use Rattle.checker_rules.specs.Clauses.{is_canonical};
+//! What no clause says: texts, and each call once on its way to Ok.
+ghost use Rattle.std.specs.Prelude.{◌≡◌, IfOk};
+ghost use Rattle.sat_formula.specs.Vars.{index_of};
 
-use crate::sorted_lits::{copy_canonical, is_subset};
-use sat_formula::lit::Lit;
+mod boxes;
+mod lists;
+mod texts;
+mod transcripts;
+mod variables;
+
+use sat_formula::lit::{Lit, Var};
 use std::alloc::Global;
 use std::test::Fail;
 
@@ -16,40 +21,9 @@ fn lits(alloc: Global, codes: &[usize]) -> Result<Vec<Lit>, Fail> {
     Ok(lits)
 }
 
-// The same in canonical form.
-fn canonical(alloc: Global, codes: &[usize]) -> Result<Vec<Lit>, Fail>
-    ensures { IfOk result (λ v. IsTrue (is_canonical v.items)) }
+// The variable of this index.
+fn var(index: usize) -> Result<Var, Fail>
+    ensures { IfOk result (λ v. index_of v ≡ index) }
 {
-    let mut target = Vec::new(alloc);
-    let src = lits(alloc, codes)?;
-    copy_canonical(&mut target, &src)?;
-    Ok(target)
-}
-
-#[test]
-fn canonical_lists(rt: HostRuntime) -> Result<(), Fail> {
-    let alloc = rt.alloc();
-    let mut target = lits(alloc, &[7])?;
-    assert!(rt; !copy_canonical(&mut target, &lits(alloc, &[4, 0, 4, 3])?)?);
-    assert_eq!(rt; target, lits(alloc, &[0, 3, 4])?);
-    assert!(rt; copy_canonical(&mut target, &lits(alloc, &[2, 1, 0])?)?);
-    assert_eq!(rt; target, lits(alloc, &[0, 1, 2])?);
-    assert!(rt; !copy_canonical(&mut target, &[])?);
-    assert!(rt; target.is_empty());
-    Ok(())
-}
-
-#[test]
-fn subsets(rt: HostRuntime) -> Result<(), Fail> {
-    let alloc = rt.alloc();
-    let none = canonical(alloc, &[])?;
-    let one = canonical(alloc, &[0])?;
-    let two = canonical(alloc, &[0, 2])?;
-    let three = canonical(alloc, &[4])?;
-    assert!(rt; is_subset(&one, &two, true));
-    assert!(rt; !is_subset(&two, &two, true));
-    assert!(rt; is_subset(&two, &two, false));
-    assert!(rt; !is_subset(&none, &none, true));
-    assert!(rt; !is_subset(&three, &two, false));
-    Ok(())
+    Ok(Var::from_index(index).ok_or("no variable")?)
 }
