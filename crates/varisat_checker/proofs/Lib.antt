@@ -11,6 +11,7 @@ pub mod HashLemmas
 pub mod InputLemmas
 pub mod NewLemmas
 pub mod OutcomeLemmas
+pub mod ReadyLemmas
 pub mod RefusalLemmas
 pub mod SameListLemmas
 pub mod StatusLemmas

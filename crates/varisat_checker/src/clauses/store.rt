@@ -137,20 +137,3 @@ fn global_id(unit: &UnitClause) -> u64
         _ => 0,
     }
 }
-
-/// Stores a canonical clause without opposite literals, of known variables.
-pub fn store_clause(
-    alloc: Global,
-    state: &mut CheckerState,
-    hasher: &ClauseHasher,
-    clauses: &mut Clauses,
-    lits: &[Lit],
-    redundant: bool,
-) -> Result<(u64, StoreClauseResult), StoreFault>
-    requires store { IsStore hasher.now clauses.old }
-    requires known { var_bound lits.now ≤ length clauses.old.unit_clauses }
-    ensures answer { (known : List Known) → AnswersStore result lits.now redundant (state_of state.old hasher.now clauses.old known) (state_of state.new hasher.now clauses.new known) }
-    ensures store { UnlessOutOfMemory result (IsStore hasher.now clauses.new) }
-{
-    Err(StoreFault::OutOfMemory)
-}
