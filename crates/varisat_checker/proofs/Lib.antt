@@ -1,7 +1,10 @@
 pub mod AnswerLemmas
 pub mod BucketLemmas
+pub mod BufferLemmas
 pub mod HashLemmas
+pub mod EditLemmas
 pub mod FoundLemmas
+pub mod LongLemmas
 pub mod SameListLemmas
 pub mod StoreLemmas
 pub mod ViewLemmas

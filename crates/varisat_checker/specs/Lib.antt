@@ -1,4 +1,5 @@
 pub mod Buckets
+pub mod Edits
 pub mod Found
 pub mod Lits
 pub mod StateOf
