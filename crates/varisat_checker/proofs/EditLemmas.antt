@@ -1,6 +1,6 @@
 -- The store after an edit of one bucket.
 use Rattle.std.proofs.Common.{◌≡◌, ℕ, ◌+◌, ◌*◌, ◌<◌, ◌≤◌, Bool, true, false, cond, ◌||◌, eqb, List, [], ◌∷◌, ◌++◌, append-nil, length, map, All, refl, sym, ap, ◌∙◌, subst, arith, ⊎_elim, eq-eqb}
-use Rattle.std.specs.List.{list_any}
+use Rattle.std.specs.List.{list_all, list_any}
 use Rattle.std.proofs.lemmas.Bool.{cases_eq}
 use Rattle.std.proofs.lemmas.List.Folds.{list_any-append}
 use Rattle.std.proofs.lemmas.Bool.Decides.{nat_tests}
@@ -20,7 +20,7 @@ use Rattle.varisat_checker.specs.Buckets.{AreWithin, Buckets, clauses_at}
 use Rattle.varisat_checker.specs.Edits.{IsPushed, IsRaised}
 use Rattle.varisat_checker.specs.Lits.{IsWithin}
 use Rattle.varisat_checker.specs.StateOf.{hash_of}
-use Rattle.varisat_checker.specs.Store.{IsStore}
+use Rattle.varisat_checker.specs.Store.{IsStore, is_stored_unit}
 use Rattle.varisat_checker.specs.View.{stored_at, stored_in, stored_list, stored_of}
 use Rattle.varisat_checker.proofs.ViewLemmas.{above_from, list_is}
 
@@ -30,8 +30,8 @@ module _ (h : ClauseHasher) (cs : Clauses) (es : List Stored) (tied : (k : ℕ) 
   stored_list-is = list_is cs.literal_buffer.items cs.buckets (hash_of h) es (above_from 0 cs.next_clause_id es rise) tied
 
   pub is_store-by : 0 < h.hash_bits → h.hash_bits ≤ 64 → AreWithin cs.literal_buffer.items cs.buckets → are_apart es ≡ true → list_any (λ e. is_short e.lits) es ≡ false
-      → length cs.literal_buffer.items ≡ live_literals es + cs.garbage_size → 2 * cs.garbage_size ≤ length cs.literal_buffer.items → IsStore h cs
-  is_store-by some_bits bits within apart none_short used garbage =
+      → length cs.literal_buffer.items ≡ live_literals es + cs.garbage_size → 2 * cs.garbage_size ≤ length cs.literal_buffer.items → list_all is_stored_unit cs.unit_clauses ≡ true → IsStore h cs
+  is_store-by some_bits bits within apart none_short used garbage units =
       let same = sym stored_list-is in
       record {
         some_bits = some_bits;
@@ -43,6 +43,7 @@ module _ (h : ClauseHasher) (cs : Clauses) (es : List Stored) (tied : (k : ℕ) 
         none_short = subst (λ xs. list_any (λ e. is_short e.lits) xs ≡ false) same none_short;
         used = subst (λ xs. length cs.literal_buffer.items ≡ live_literals xs + cs.garbage_size) same used;
         garbage = garbage;
+        units = units;
       }
 
 -- a change in one bucket
@@ -78,7 +79,7 @@ module _ (h : ClauseHasher) (cs : Clauses) (s : IsStore h cs) (m : Buckets) (r :
       is_store-by h (record cs { buckets = m }) (map (raise r c) (stored_list cs)) raised_in raised_rise s.some_bits s.bits
       (λ k. ⊎_elim {C = All (λ d. IsWithin d.lits cs.literal_buffer.items) (clauses_at m k)} (λ e. subst (λ n. All (λ d. IsWithin d.lits cs.literal_buffer.items) (clauses_at m n)) (sym e) p.within) (λ ne. subst (All (λ d. IsWithin d.lits cs.literal_buffer.items)) (sym (p.others k ne)) (s.within k)) (cases_eq k (hash_of h c)))
       (apart_map (raise r c) (raise-lits r c) (stored_list cs) ∙ s.apart) (none_short-raise r c (stored_list cs) ∙ s.none_short)
-      (s.used ∙ ap (λ n. n + cs.garbage_size) (sym (live_literals_add.raised r c (stored_list cs)))) s.garbage
+      (s.used ∙ ap (λ n. n + cs.garbage_size) (sym (live_literals_add.raised r c (stored_list cs)))) s.garbage s.units
 
 -- a clause more is stored
 none_short-push : (es : List Stored) (e : Stored) → list_any (λ e. is_short e.lits) es ≡ false → is_short e.lits ≡ false → list_any (λ e. is_short e.lits) (es ++ e ∷ []) ≡ false
@@ -105,6 +106,7 @@ module _ (h : ClauseHasher) (cs cs' : Clauses) (s : IsStore h cs) (r : Bool) (c 
       let es = stored_list cs in let e = new_stored r c cs.next_clause_id in
       is_store-by h cs' (es ++ e ∷ []) pushed_in pushed_rise s.some_bits s.bits p.within (apart_push es e s.apart new) (none_short-push es e s.none_short long)
       (let live = live_literals_add.pushed es e in let old = s.used in omega (arith, p.used, p.garbage, live, old)) (omega (arith, p.used, p.garbage, s.garbage))
+      (subst (λ us. list_all is_stored_unit us ≡ true) (sym p.units) s.units)
 
 -- nothing is changed
 module _ (h : ClauseHasher) (cs : Clauses) (s : IsStore h cs) (m : Buckets) (same : (k : ℕ) → clauses_at m k ≡ clauses_at cs.buckets k) where
@@ -116,4 +118,4 @@ module _ (h : ClauseHasher) (cs : Clauses) (s : IsStore h cs) (m : Buckets) (sam
 
   pub is_store-same : IsStore h (record cs { buckets = m })
   is_store-same =
-      is_store-by h (record cs { buckets = m }) (stored_list cs) same_in s.rise s.some_bits s.bits (λ k. subst (All (λ d. IsWithin d.lits cs.literal_buffer.items)) (sym (same k)) (s.within k)) s.apart s.none_short s.used s.garbage
+      is_store-by h (record cs { buckets = m }) (stored_list cs) same_in s.rise s.some_bits s.bits (λ k. subst (All (λ d. IsWithin d.lits cs.literal_buffer.items)) (sym (same k)) (s.within k)) s.apart s.none_short s.used s.garbage s.units

@@ -1,5 +1,6 @@
 -- The stored clauses through changes of their buckets.
-use Rattle.std.proofs.Common.{◌≡◌, ℕ, suc, ◌<◌, ◌≤◌, Bool, true, false, cond, eqb, leb, List, [], ◌∷◌, set, Option, Some, None, sym, ap, ◌∙◌, subst, arith}
+use Rattle.std.proofs.Common.{◌≡◌, ℕ, zero, suc, ◌<◌, ◌≤◌, Bool, true, false, cond, eqb, leb, List, [], ◌∷◌, set, Option, Some, None, sym, ap, ◌∙◌, subst, arith}
+use Rattle.std.specs.List.{list_all}
 use Rattle.std.specs.Option.{option_map}
 use Rattle.std.proofs.lemmas.List.{map-set}
 use Rattle.std.proofs.Math.ListN.{get_or-map}
@@ -16,7 +17,7 @@ use Rattle.varisat_checker.specs.declared.clauses.units.UnitClause.{UnitClause}
 use Rattle.varisat_checker.specs.declared.hash.ClauseHasher.{ClauseHasher}
 use Rattle.varisat_checker.specs.Found.{found_in}
 use Rattle.varisat_checker.specs.StateOf.{hash_of, stored_unit, stored_units}
-use Rattle.varisat_checker.specs.Store.{IsStore}
+use Rattle.varisat_checker.specs.Store.{IsStore, is_stored_unit}
 use Rattle.varisat_checker.specs.Units.{unit_at}
 use Rattle.varisat_checker.specs.View.{stored_at, stored_list}
 use Rattle.varisat_checker.proofs.AnswerLemmas.{is_stored-short}
@@ -44,8 +45,8 @@ ids_rise-more a n m [] le h = grind (arith, le, h)
 ids_rise-more a n m (e ∷ es) le h = let k = and_parts (leb a e.id) (ids_rise (suc e.id) es n) h in and_from _ _ k.0 (ids_rise-more (suc e.id) n m es le k.1)
 
 -- other units and a later id
-pub is_store-units : (h : ClauseHasher) (cs : Clauses) (us : List (Option UnitClause)) (conflict : Option (ℕ × ℕ)) (n : ℕ) → cs.next_clause_id ≤ n → IsStore h cs → IsStore h (record cs { unit_clauses = us; unit_conflict = conflict; next_clause_id = n })
-is_store-units h cs us conflict n le s = record {
+pub is_store-units : (h : ClauseHasher) (cs : Clauses) (us : List (Option UnitClause)) (conflict : Option (ℕ × ℕ)) (n : ℕ) → cs.next_clause_id ≤ n → list_all is_stored_unit us ≡ true → IsStore h cs → IsStore h (record cs { unit_clauses = us; unit_conflict = conflict; next_clause_id = n })
+is_store-units h cs us conflict n le units s = record {
   some_bits = s.some_bits;
   bits = s.bits;
   within = s.within;
@@ -55,7 +56,14 @@ is_store-units h cs us conflict n le s = record {
   none_short = s.none_short;
   used = s.used;
   garbage = s.garbage;
+  units = units;
 }
+
+-- one more value is a stored unit's
+pub list_all-set : {X : Type 0} (p : X → Bool) (xs : List X) (i : ℕ) (y : X) → p y ≡ true → list_all p xs ≡ true → list_all p (set xs i y) ≡ true
+list_all-set p [] i y h k = k
+list_all-set p (x ∷ xs) zero y h k = and_from _ _ h (and_parts (p x) (list_all p xs) k).1
+list_all-set p (x ∷ xs) (suc i) y h k = let q = and_parts (p x) (list_all p xs) k in and_from _ _ q.0 (list_all-set p xs i y h q.1)
 
 -- no copy of a short clause is counted
 pub few-short : (h : ClauseHasher) (cs : Clauses) → IsStore h cs → (r : Bool) (c : List ℕ) → is_short c ≡ true → count_of r c (stored_list cs) < count_limit

@@ -1,6 +1,6 @@
 -- What the stored clauses keep between calls, and what storing a clause answers.
-use Rattle.std.specs.Prelude.{◌≡◌, ◌<◌, ◌≤◌, ℕ, ◌+◌, ◌*◌, ◌&&◌, Bool, true, false, cond, not, eqb, length, Result, Ok, Err, List}
-use Rattle.std.specs.List.{list_any}
+use Rattle.std.specs.Prelude.{◌≡◌, ◌<◌, ◌≤◌, ℕ, ◌+◌, ◌*◌, ◌&&◌, Bool, true, false, cond, not, eqb, length, Option, Some, None, Result, Ok, Err, List}
+use Rattle.std.specs.List.{list_all, list_any}
 use Rattle.checker_rules.specs.Clauses.{is_negative}
 use Rattle.checker_rules.specs.DeleteClause.{is_short}
 use Rattle.checker_rules.specs.LiveLiterals.{live_literals}
@@ -14,15 +14,27 @@ use Rattle.varisat_checker.specs.declared.clauses.StoreClauseResult.TheVariants.
 use Rattle.varisat_checker.specs.declared.clauses.store.StoreFault.{StoreFault}
 use Rattle.varisat_checker.specs.declared.clauses.store.StoreFault.TheVariants.{OutOfMemory, IdsExhausted, CountExhausted}
 use Rattle.varisat_checker.specs.declared.clauses.units.UnitClause.{UnitClause}
-use Rattle.varisat_checker.specs.declared.clauses.units.UnitId.TheVariants.{Global}
+use Rattle.varisat_checker.specs.declared.clauses.units.UnitId.{UnitId}
+use Rattle.varisat_checker.specs.declared.clauses.units.UnitId.TheVariants.{Global, TracePos, InClause}
 use Rattle.varisat_checker.specs.declared.hash.ClauseHasher.{ClauseHasher}
 use Rattle.varisat_checker.specs.Buckets.{AreWithin}
 use Rattle.varisat_checker.specs.Edits.{IsPushed}
 use Rattle.varisat_checker.specs.StateOf.{IsBucketed}
 use Rattle.varisat_checker.specs.View.{stored_list}
 
+-- a value that comes from a stored unit
+abbrev pub is_global : UnitId → Bool
+is_global (Global n) = true
+is_global (TracePos n) = false
+is_global InClause = false
+
+-- the variable has no value, or a stored unit's
+abbrev pub is_stored_unit : Option UnitClause → Bool
+is_stored_unit None = true
+is_stored_unit (Some u) = is_global u.id
+
 -- the stored clauses, each of two or more literals, are apart, by rising ids, in the buckets of their hashes;
--- the buffer holds their literals and the garbage, which is at most half of it
+-- the buffer holds their literals and the garbage, which is at most half of it; all values are those of stored units
 pub record IsStore (h : ClauseHasher) (cs : Clauses) : Type 0 where
   pub some_bits : 0 < h.hash_bits
   pub bits : h.hash_bits ≤ 64
@@ -33,6 +45,7 @@ pub record IsStore (h : ClauseHasher) (cs : Clauses) : Type 0 where
   pub none_short : list_any (λ e. is_short e.lits) (stored_list cs) ≡ false
   pub used : length cs.literal_buffer.items ≡ live_literals (stored_list cs) + cs.garbage_size
   pub garbage : 2 * cs.garbage_size ≤ length cs.literal_buffer.items
+  pub units : list_all is_stored_unit cs.unit_clauses ≡ true
 
 -- what an attempt to push a new clause answers
 abbrev pub AnswersPush : Result (ℕ × StoreClauseResult) StoreFault → ℕ → List ℕ → Bool → Clauses → Clauses → Type 0
