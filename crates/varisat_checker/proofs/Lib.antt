@@ -3,12 +3,15 @@ pub mod AnswerLemmas
 pub mod AssumeLemmas
 pub mod AtClauseLemmas
 pub mod BucketLemmas
+pub mod BufferLemmas
 pub mod CheckLemmas
 pub mod ColumnLemmas
+pub mod EditLemmas
 pub mod FoundLemmas
 pub mod GrowthLemmas
 pub mod HashLemmas
 pub mod InputLemmas
+pub mod LongLemmas
 pub mod NewLemmas
 pub mod OutcomeLemmas
 pub mod ReadyLemmas

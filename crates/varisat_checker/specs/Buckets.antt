@@ -5,6 +5,7 @@ use Rattle.std.specs.declared.hash.FoldHasher.{FoldHasher}
 use Rattle.std.specs.declared.hash.BuildHasherDefault.{BuildHasherDefault}
 use Rattle.smallvec.specs.SmallVec.{SmallVec}
 use Rattle.varisat_checker.specs.declared.clauses.Clause.{Clause}
+use Rattle.varisat_checker.specs.declared.clauses.lits.ClauseLits.{ClauseLits}
 use Rattle.checker_rules.specs.Canonical.{same_list}
 use Rattle.varisat_checker.specs.Lits.{IsWithin, lits_of}
 
@@ -36,3 +37,7 @@ copies_of redundant c = cond redundant c.redundant c.irredundant
 -- the clause with one copy more
 abbrev pub raised : Bool → Clause → Clause
 raised redundant c = cond redundant (record c { redundant = c.redundant + 1 }) (record c { irredundant = c.irredundant + 1 })
+
+-- a clause with one copy
+abbrev pub first_copy_of : Bool → ℕ → ClauseLits → Clause
+first_copy_of redundant id ls = record { id = id; irredundant = cond redundant 0 1; redundant = cond redundant 1 0; lits = ls }

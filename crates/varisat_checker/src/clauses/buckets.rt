@@ -4,6 +4,7 @@ ghost use Rattle.std.specs.Option.{SomeIff};
 ghost use Rattle.checker_rules.specs.Store.{count_limit, count_of as count_in, raise as raise_in_list};
 ghost use Rattle.checker_rules.specs.WellFormed.{are_apart};
 ghost use Rattle.varisat_checker.specs.Lits.{IsWithin};
+ghost use Rattle.varisat_checker.specs.Edits.{IsRaised};
 ghost use Rattle.varisat_checker.specs.Buckets.{clauses_at, copies_of, is_of, raised};
 ghost use Rattle.varisat_checker.specs.Found.{found_in};
 ghost use Rattle.varisat_checker.specs.View.{stored_in, stored_of};
@@ -165,12 +166,10 @@ pub fn raise_clause(
     requires within { All (λ c. IsWithin c.lits buffer.now) (clauses_at buckets.old hash) }
     requires apart { are_apart (stored_in buffer.now buckets.old hash) ≡ true }
     ensures found { IfOk result (λ found. found ≡ found_in lits.now (stored_in buffer.now buckets.old hash)) }
-    ensures raised { OnOk result (stored_in buffer.now buckets.new hash ≡ map (raise_in_list redundant lits.now) (stored_in buffer.now buckets.old hash)) }
-    ensures within { All (λ c. IsWithin c.lits buffer.now) (clauses_at buckets.new hash) }
     ensures room { OnOk result (count_in redundant lits.now (stored_in buffer.now buckets.old hash) < count_limit) }
+    ensures raised { OnOk result (IsRaised buffer.now hash redundant lits.now buckets.old buckets.new) }
     ensures exhausted { OnErr result (count_limit ≤ count_in redundant lits.now (stored_in buffer.now buckets.old hash)) }
-    ensures unchanged { OnErr result (clauses_at buckets.new hash ≡ clauses_at buckets.old hash) }
-    ensures others { (k : ℕ) → (k ≡ hash → ⊥) → clauses_at buckets.new k ≡ clauses_at buckets.old k }
+    ensures unchanged { OnErr result ((k : ℕ) → clauses_at buckets.new k ≡ clauses_at buckets.old k) }
 {
     match buckets.get_mut(&hash) {
         Some(bucket) => raise_in(bucket.as_mut_slice(), buffer, lits, redundant),

@@ -1,5 +1,6 @@
 //! The literals of a stored clause.
 ghost use Rattle.std.specs.Prelude.{◌≡◌, ◌+◌, ◌<◌, ◌≤◌, ◌++◌, length, IfOk, OnErr, take, drop};
+ghost use Rattle.checker_rules.specs.LiveLiterals.{live_of};
 ghost use Rattle.varisat_checker.specs.Lits.{lits_of, IsWithin, buffer_used};
 
 use sat_formula::lit::Lit;
@@ -18,6 +19,7 @@ impl ClauseLits {
     pub fn new(lits: &[Lit], buffer: &mut Vec<Lit>) -> Result<ClauseLits, AllocError>
         ensures ok { IfOk result (λ c. lits_of c buffer.new.items ≡ lits.now) }
         ensures within { IfOk result (λ c. IsWithin c buffer.new.items) }
+        ensures used { 1 < length lits.now → IfOk result (λ c. buffer_used c ≡ live_of lits.now) }
         ensures buffer { IfOk result (λ c. length buffer.new.items ≡ length buffer.old.items + buffer_used c) }
         ensures kept { take (length buffer.old.items) buffer.new.items ≡ buffer.old.items }
         ensures err { OnErr result (buffer.new.items ≡ buffer.old.items) }

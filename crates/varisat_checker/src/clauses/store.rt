@@ -4,17 +4,20 @@ ghost use Rattle.std.specs.Result.{OkIff};
 ghost use Rattle.checker_rules.specs.Canonical.{var_bound};
 ghost use Rattle.checker_rules.specs.State.{Known};
 ghost use Rattle.checker_rules.specs.Store.{count_of, id_limit};
+ghost use Rattle.varisat_checker.specs.Buckets.{AreWithin, first_copy_of};
 ghost use Rattle.varisat_checker.specs.StateOf.{id_of_unit, state_of};
-ghost use Rattle.varisat_checker.specs.Store.{AnswersStore, IsStore, UnlessOutOfMemory, unit_for};
+ghost use Rattle.varisat_checker.specs.Store.{AnswersPush, AnswersStore, IsStore, UnlessOutOfMemory, raised_as, unit_for};
 ghost use Rattle.varisat_checker.specs.View.{stored_list};
 ghost use Rattle.varisat_checker.specs.declared.clauses.StoreClauseResult.TheVariants.{New};
 ghost use Rattle.varisat_checker.specs.declared.clauses.store.StoreFault.TheVariants.{OutOfMemory, IdsExhausted};
 
-use crate::clauses::buckets::copies_in;
+use crate::clauses::buckets::{copies_in, push_clause, raise_clause};
+use crate::clauses::lits::ClauseLits;
 use crate::clauses::units::{UnitClause, UnitId};
-use crate::clauses::{Clauses, StoreClauseResult};
+use crate::clauses::{Clause, Clauses, StoreClauseResult};
 use crate::hash::ClauseHasher;
 use crate::state::CheckerState;
+use proof_bytes::hash::ClauseHash;
 use sat_formula::lit::Lit;
 use std::alloc::{AllocError, Global};
 
@@ -49,6 +52,28 @@ pub fn copies(hasher: &ClauseHasher, clauses: &Clauses, lits: &[Lit], redundant:
         lits,
         redundant,
     )
+}
+
+/// Stores a canonical clause without opposite literals and of known variables, and answers its id.
+/// After `OutOfMemory` the parts are of no use.
+pub fn store_clause(
+    alloc: Global,
+    state: &mut CheckerState,
+    hasher: &ClauseHasher,
+    clauses: &mut Clauses,
+    lits: &[Lit],
+    redundant: bool,
+) -> Result<(u64, StoreClauseResult), StoreFault>
+    requires store { IsStore hasher.now clauses.old }
+    requires known { var_bound lits.now ≤ length clauses.old.unit_clauses }
+    ensures answer { (known : List Known) → AnswersStore result lits.now redundant (state_of state.old hasher.now clauses.old known) (state_of state.new hasher.now clauses.new known) }
+    ensures store { UnlessOutOfMemory result (IsStore hasher.now clauses.new) }
+{
+    match lits {
+        [] => store_empty(state, clauses),
+        [lit] => store_unit(state, clauses, *lit),
+        _ => store_long(alloc, hasher, clauses, lits, redundant),
+    }
 }
 
 /// Stores the empty clause.
@@ -135,5 +160,71 @@ fn global_id(unit: &UnitClause) -> u64
     match unit.id {
         UnitId::Global(id) => id,
         _ => 0,
+    }
+}
+
+/// Stores a clause of two or more literals.
+fn store_long(
+    alloc: Global,
+    hasher: &ClauseHasher,
+    clauses: &mut Clauses,
+    lits: &[Lit],
+    redundant: bool,
+) -> Result<(u64, StoreClauseResult), StoreFault>
+    requires store { IsStore hasher.now clauses.old }
+    requires long { 1 < length lits.now }
+    ensures answer { (st : CheckerState) (known : List Known) → AnswersStore result lits.now redundant (state_of st hasher.now clauses.old known) (state_of st hasher.now clauses.new known) }
+    ensures store { UnlessOutOfMemory result (IsStore hasher.now clauses.new) }
+{
+    let hash = hasher.clause_hash(lits);
+    let buffer = clauses.literal_buffer.as_slice();
+    match raise_clause(&mut clauses.buckets, buffer, hash, lits, redundant) {
+        Ok(Some((id, irredundant))) => Ok((id, raised_as(irredundant, redundant))),
+        Ok(None) => push_new(alloc, clauses, hash, lits, redundant),
+        Err(_) => Err(StoreFault::CountExhausted),
+    }
+}
+
+/// What one copy more does to a stored clause that had so many irredundant copies.
+fn raised_as(irredundant: u32, redundant: bool) -> StoreClauseResult
+    ensures { result ≡ raised_as redundant irredundant }
+{
+    if !redundant && irredundant == 0 {
+        StoreClauseResult::NewlyIrredundant
+    } else {
+        StoreClauseResult::Duplicate
+    }
+}
+
+/// Stores a clause that is not stored yet.
+fn push_new(
+    alloc: Global,
+    clauses: &mut Clauses,
+    hash: ClauseHash,
+    lits: &[Lit],
+    redundant: bool,
+) -> Result<(u64, StoreClauseResult), StoreFault>
+    requires within { AreWithin clauses.old.literal_buffer.items clauses.old.buckets }
+    requires long { 1 < length lits.now }
+    ensures { AnswersPush result hash lits.now redundant clauses.old clauses.new }
+{
+    let Some(id) = clauses.take_id() else {
+        return Err(StoreFault::IdsExhausted);
+    };
+    let kept = ClauseLits::new(lits, &mut clauses.literal_buffer)?;
+    let clause = first_copy(id, redundant, kept);
+    push_clause(alloc, &mut clauses.buckets, hash, clause)?;
+    Ok((id, StoreClauseResult::New))
+}
+
+/// A clause with one copy.
+fn first_copy(id: u64, redundant: bool, lits: ClauseLits) -> Clause
+    ensures { result ≡ first_copy_of redundant id lits }
+{
+    Clause {
+        id,
+        irredundant: if redundant { 0 } else { 1 },
+        redundant: if redundant { 1 } else { 0 },
+        lits,
     }
 }

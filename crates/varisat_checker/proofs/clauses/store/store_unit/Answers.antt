@@ -7,10 +7,10 @@ use Rattle.checker_rules.specs.State.{State, makes_true, same_bool, unit_of}
 use Rattle.varisat_checker.specs.declared.clauses.StoreClauseResult.TheVariants.{Duplicate}
 use Rattle.varisat_checker.specs.declared.clauses.units.UnitClause.{UnitClause}
 use Rattle.varisat_checker.specs.StateOf.{id_of_unit, state_of, stored_unit, stored_units}
-use Rattle.varisat_checker.specs.Store.{IsStore, IsStored, unit_for}
+use Rattle.varisat_checker.specs.Store.{IsStore, IsStored, is_stored_unit, unit_for}
 use Rattle.varisat_checker.specs.Units.{unit_at}
 use Rattle.varisat_checker.proofs.AnswerLemmas.{answers-new, either_way, unit-conflict, unit-new, unit-stands}
-use Rattle.varisat_checker.proofs.StoreLemmas.{few-short, is_store-units, stored_units-set, unit_of-stored_units}
+use Rattle.varisat_checker.proofs.StoreLemmas.{few-short, is_store-units, list_all-set, stored_units-set, unit_of-stored_units}
 use Rattle.varisat_checker.proofs.clauses.store.store_unit.Goals as goal
 
 -- the unit of the variable as the rules see it
@@ -41,7 +41,7 @@ returns-in-None-clause-answer c h known redundant kept =
 pub returns-in-None-clause-store : goal.returns-in-None-clause-store
 returns-in-None-clause-store c h kept =
     let cs = c.args.clauses.now in let l = c.args.lit in let res = c.put_unit.result in
-    let next = is_store-units h cs (slice_set cs.unit_clauses (l / 2) (Some (unit_for l cs.next_clause_id))) cs.unit_conflict (cs.next_clause_id + 1) (omega arith) kept in
+    let next = is_store-units h cs (slice_set cs.unit_clauses (l / 2) (Some (unit_for l cs.next_clause_id))) cs.unit_conflict (cs.next_clause_id + 1) (omega arith) (list_all-set is_stored_unit cs.unit_clauses (l / 2) (Some (unit_for l cs.next_clause_id)) refl kept.units) kept in
     either_way res (on_ok_weaker res (λ q. subst (IsStore h) (sym q) next) c.put_unit.ensures.stored) (on_err_weaker res (λ q. subst (IsStore h) (sym q) kept) c.put_unit.ensures.unchanged)
 
 pub returns-then-unit-is_positive-clause-answer : goal.returns-then-unit-is_positive-clause-answer
@@ -67,5 +67,5 @@ returns-else-unit-is_positive-clause-answer c h known redundant kept =
 pub returns-else-unit-is_positive-clause-store : goal.returns-else-unit-is_positive-clause-store
 returns-else-unit-is_positive-clause-store c h kept =
     let cs = c.args.clauses.now in let res = c.put_conflict.result in
-    let next = is_store-units h cs cs.unit_clauses (Some (c.global_id-stored.result, cs.next_clause_id)) (cs.next_clause_id + 1) (omega arith) kept in
+    let next = is_store-units h cs cs.unit_clauses (Some (c.global_id-stored.result, cs.next_clause_id)) (cs.next_clause_id + 1) (omega arith) kept.units kept in
     either_way res (on_ok_weaker res (λ q. subst (IsStore h) (sym q) next) c.put_conflict.ensures.stored) (on_err_weaker res (λ q. subst (IsStore h) (sym q.0) kept) c.put_conflict.ensures.unchanged)
