@@ -129,7 +129,11 @@ impl Units {
     pub fn value(&self, index: usize) -> Option<bool>
         ensures { result ≡ option_map (λ u. u.value) (unit_at self.now index) }
     {
-        self.values.get(index).copied().unwrap_or(Value::Free).known()
+        self.values
+            .get(index)
+            .copied()
+            .unwrap_or(Value::Free)
+            .known()
     }
 
     /// The same with its id.
