@@ -6,7 +6,7 @@ use Rattle.proof_bytes.specs.declared.fault.MalformedStep.TheVariants.{OutOfRang
 use Rattle.proof_bytes.specs.declared.fault.Stop.{Stop}
 use Rattle.proof_bytes.specs.declared.fault.Stop.TheVariants as faults
 use Rattle.proof_bytes.specs.Reading.{Fault, Short, Wrong, Found, ◌>>=◌, byte_at, number_at}
-use Rattle.proof_bytes.specs.Steps.{below_at, named, justified, made_at, pair_at, many_at, list_at}
+use Rattle.proof_bytes.specs.Fields.{below_at, named, justified, made_at, pair_at, many_at, list_at}
 use Rattle.checker_rules.specs.Step.{by_simplified}
 use Rattle.proof_bytes.specs.Taking.{Leads, Faults}
 use Rattle.proof_bytes.proofs.Leading.{Known, leads_nil, leads_bind, leads_same, then_leads, faults_bind, then_faults, wrong}

@@ -21,7 +21,8 @@ use Rattle.proof_bytes.specs.NextStep.{is_end}
 use Rattle.proof_bytes.specs.Reading.{Fault, Short, Wrong, Found}
 use Rattle.proof_bytes.specs.Steps.{next_at}
 use Rattle.proof_bytes.specs.Taking.{IsBytes, Leads, Faults, stop_of}
-use Rattle.proof_bytes.specs.TextRuns.{Answer, BeginsTextOf, IsTextOf, Place, RunsBefore, RunsOver, RunsTo, RunsToFault, RunsUntilRead, next_of, start_of, step_or_fault}
+use Rattle.proof_bytes.specs.TextRuns.{Answer, BeginsTextOf, IsTextOf, RunsBefore, RunsOver, RunsTo, RunsToFault, RunsUntilRead}
+use Rattle.proof_bytes.specs.Texts.{Place, next_of, start_of, step_or_fault}
 use Rattle.proof_bytes.proofs.Leading.{Known, bytes_on}
 
 -- ---- one move

@@ -41,8 +41,10 @@ impl<R: Read> BodyReader<R> {
     ghost use Rattle.checker_rules.specs.Step.{solver_var_name, user_var_name, delete_var, change_sampling_mode, add_clause, at_clause, delete_clause, unit_clauses, change_hash_bits, model, assumptions, failed_assumptions};
     ghost use Rattle.proof_bytes.specs.Bodies.{unread_body, step_of, Fills};
     ghost use Rattle.proof_bytes.specs.NextStep.{view};
-    ghost use Rattle.proof_bytes.specs.Steps.{tag_at, next_at, fields_at, one_field, two_fields, three_fields, var_at, name_at, flag_at, justification_at, lits_at, hashes_at, unit_at, list_at, below_at};
-    ghost use Rattle.proof_bytes.specs.Taking.{HasStopped, IsFormat, Reads, stop_of};
+    ghost use Rattle.proof_bytes.specs.Steps.{tag_at, next_at, fields_at, one_field, two_fields, three_fields};
+    ghost use Rattle.proof_bytes.specs.Fields.{var_at, name_at, flag_at, justification_at, lits_at, hashes_at, unit_at, list_at, below_at};
+    ghost use Rattle.proof_bytes.specs.Taking.{HasStopped, Reads, stop_of};
+    ghost use Rattle.proof_bytes.specs.Formats.{IsFormat};
 
     pub(crate) fn new(alloc: Global, inner: R) -> BodyReader<R>
         ensures { unread_body R.remaining result ≡ R.remaining inner }

@@ -19,8 +19,9 @@ impl<R: Read> Fields<R> {
     ghost use Rattle.sat_formula.specs.Vars.{index_of, indexes_of};
     ghost use Rattle.proof_bytes.specs.NextStep.{why};
     ghost use Rattle.proof_bytes.specs.Reading.{byte_at, number_at};
-    ghost use Rattle.proof_bytes.specs.Steps.{below_at, var_at, lit_at, name_at, justification_at, wide_at, hash_at, unit_at, flag_at, list_at, lits_at, hashes_at};
-    ghost use Rattle.proof_bytes.specs.Taking.{unread_fields, HasStopped, Reads, stop_of, IsFormat};
+    ghost use Rattle.proof_bytes.specs.Fields.{below_at, var_at, lit_at, name_at, justification_at, wide_at, hash_at, unit_at, flag_at, list_at, lits_at, hashes_at};
+    ghost use Rattle.proof_bytes.specs.Taking.{unread_fields, HasStopped, Reads, stop_of};
+    ghost use Rattle.proof_bytes.specs.Formats.{IsFormat};
 
     pub(crate) fn new(alloc: Global, inner: R) -> Fields<R>
         ensures { unread_fields R.remaining result ≡ R.remaining inner }

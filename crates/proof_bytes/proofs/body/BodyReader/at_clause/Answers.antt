@@ -1,5 +1,5 @@
 use Rattle.checker_rules.specs.Step.{at_clause}
-use Rattle.proof_bytes.specs.Steps.{flag_at, hashes_at, lits_at}
+use Rattle.proof_bytes.specs.Fields.{flag_at, hashes_at, lits_at}
 use Rattle.proof_bytes.proofs.Leading.{exits, leads_on, faults_on}
 use Rattle.proof_bytes.proofs.StepFields.{only_fails, only_read, first_of_two, first_of_two_fails, first_of_three, first_of_three_fails}
 use Rattle.proof_bytes.proofs.body.BodyReader.at_clause.Goals as goal

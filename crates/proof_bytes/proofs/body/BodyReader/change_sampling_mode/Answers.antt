@@ -1,5 +1,5 @@
 use Rattle.checker_rules.specs.Step.{change_sampling_mode}
-use Rattle.proof_bytes.specs.Steps.{flag_at, var_at}
+use Rattle.proof_bytes.specs.Fields.{flag_at, var_at}
 use Rattle.proof_bytes.proofs.Leading.{exits, leads_on, faults_on}
 use Rattle.proof_bytes.proofs.StepFields.{only_fails, only_read, first_of_two, first_of_two_fails}
 use Rattle.proof_bytes.proofs.body.BodyReader.change_sampling_mode.Goals as goal

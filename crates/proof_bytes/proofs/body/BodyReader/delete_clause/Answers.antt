@@ -1,5 +1,5 @@
 use Rattle.checker_rules.specs.Step.{delete_clause}
-use Rattle.proof_bytes.specs.Steps.{justification_at, lits_at}
+use Rattle.proof_bytes.specs.Fields.{justification_at, lits_at}
 use Rattle.proof_bytes.proofs.Leading.{exits, leads_on, faults_on}
 use Rattle.proof_bytes.proofs.StepFields.{only_fails, only_read, first_of_two, first_of_two_fails}
 use Rattle.proof_bytes.proofs.body.BodyReader.delete_clause.Goals as goal

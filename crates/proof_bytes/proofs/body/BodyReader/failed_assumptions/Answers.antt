@@ -1,5 +1,5 @@
 use Rattle.checker_rules.specs.Step.{failed_assumptions}
-use Rattle.proof_bytes.specs.Steps.{hashes_at, lits_at}
+use Rattle.proof_bytes.specs.Fields.{hashes_at, lits_at}
 use Rattle.proof_bytes.proofs.Leading.{exits, leads_on, faults_on}
 use Rattle.proof_bytes.proofs.StepFields.{only_fails, only_read, first_of_two, first_of_two_fails}
 use Rattle.proof_bytes.proofs.body.BodyReader.failed_assumptions.Goals as goal

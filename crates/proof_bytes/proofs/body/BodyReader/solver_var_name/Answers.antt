@@ -1,5 +1,5 @@
 use Rattle.checker_rules.specs.Step.{solver_var_name}
-use Rattle.proof_bytes.specs.Steps.{name_at, var_at}
+use Rattle.proof_bytes.specs.Fields.{name_at, var_at}
 use Rattle.proof_bytes.proofs.Leading.{exits, leads_on, faults_on}
 use Rattle.proof_bytes.proofs.StepFields.{only_fails, only_read, first_of_two, first_of_two_fails}
 use Rattle.proof_bytes.proofs.body.BodyReader.solver_var_name.Goals as goal

@@ -1,6 +1,6 @@
 use Rattle.std.proofs.Common.{◌-◌, ◌^◌}
 use Rattle.proof_bytes.specs.Taking.{unread_fields, Leads}
-use Rattle.proof_bytes.specs.Steps.{list_at, many_at, unit_at}
+use Rattle.proof_bytes.specs.Fields.{list_at, many_at, unit_at}
 use Rattle.proof_bytes.proofs.FieldLemmas.{with_front}
 use Rattle.proof_bytes.proofs.fields.Fields.units.Given as goal
 

@@ -1,6 +1,7 @@
 use Rattle.std.proofs.Common.{◌≡◌, ◌+◌, ◌-◌, ◌*◌, ◌^◌, ◌<◌}
 use Rattle.proof_bytes.specs.Taking.{unread_fields, Leads}
-use Rattle.proof_bytes.specs.Steps.{bytes_of, wide_at}
+use Rattle.proof_bytes.specs.Formats.{bytes_of}
+use Rattle.proof_bytes.specs.Fields.{wide_at}
 use Rattle.proof_bytes.proofs.Wide.{rest_at}
 use Rattle.proof_bytes.proofs.fields.Fields.wide.Given as goal
 
