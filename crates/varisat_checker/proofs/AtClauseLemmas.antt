@@ -1,6 +1,6 @@
 -- The step of a derived clause, part by part.
 use Rattle.std.proofs.Common.{◌≡◌, ℕ, Bool, true, false, cond, not, List, Option, Some, None, refl, sym, ap, ◌∙◌}
-use Rattle.checker_rules.specs.AtClause.{step_at_clause, store_derived}
+use Rattle.checker_rules.specs.AtClause.{set_previous, step_at_clause, store_derived}
 use Rattle.checker_rules.specs.Canonical.{canonical}
 use Rattle.checker_rules.specs.Check.{check}
 use Rattle.checker_rules.specs.Clauses.{is_tautology}
@@ -8,14 +8,14 @@ use Rattle.checker_rules.specs.Outcome.{Cause, Outcome, accept, and_then, refuse
 use Rattle.checker_rules.specs.State.{State}
 use Rattle.checker_rules.specs.Step.{at_clause}
 use Rattle.checker_rules.specs.Steps.{step}
-use Rattle.checker_rules.specs.Store.{counters, stands}
+use Rattle.checker_rules.specs.Store.{counters, id_of, stands, store}
+use Rattle.varisat_checker.specs.declared.clauses.StoreClauseResult.{StoreClauseResult}
+use Rattle.varisat_checker.specs.Store.{IsStored, store_counters}
 use Rattle.checker_rules.proofs.StepKinds.{step-at_clause}
+use Rattle.varisat_checker.specs.Derived.{stored_after}
 use Rattle.varisat_checker.proofs.OutcomeLemmas.{and_then-accepted, and_then-refused, check-and_then, counters-and_then, counters-after}
 
--- what comes after the check
-abbrev pub stored_after : Bool → List ℕ → State → Outcome
-stored_after redundant c r = counters redundant c (not (stands c r)) r (λ q. accept (store_derived c redundant q))
-
+-- a tautology is refused
 pub at-tautology : (s : State) (redundant : Bool) (ls hs : List ℕ) → is_tautology (canonical ls) ≡ true → step s (at_clause redundant ls hs) ≡ refuse tautology s
 at-tautology s redundant ls hs h = step-at_clause s redundant ls hs ∙ ap (λ b. cond b (refuse tautology s) (check s (canonical ls) hs (stored_after redundant (canonical ls)))) h
 
@@ -47,3 +47,20 @@ stored_after-accepted redundant c r e =
     counters-and_then redundant c (not (stands c r)) r (λ q. accept (store_derived c redundant q))
     ∙ and_then-accepted (counters redundant c (not (stands c r)) r accept) (λ q. accept (store_derived c redundant q)) e
     ∙ ap (λ q. accept (store_derived c redundant q)) (counters-after redundant c (not (stands c r)) r)
+
+-- the answers of the three parts
+pub derived-stored : (redundant : Bool) (c : List ℕ) (s t : State) (id : ℕ) (r : StoreClauseResult) → IsStored c redundant s t id r → redundant ≡ true → (stored_after redundant c s).refused ≡ None × (t ≡ (stored_after redundant c s).after)
+derived-stored redundant c s t id r k e =
+    let o = stored_after-accepted redundant c s (ap (λ (x : Outcome). x.refused) k.room) in
+    (ap (λ (x : Outcome). x.refused) o,
+      k.after ∙ sym (ap (λ (b : Bool). cond b (store c true s) (set_previous c (id_of c s) (store c false s))) e ∙ ap (λ (b : Bool). store c b s) (sym e)) ∙ sym (ap (λ (x : Outcome). x.after) o))
+
+pub derived-previous : (redundant : Bool) (c : List ℕ) (s t u : State) (id : ℕ) (r : StoreClauseResult) → IsStored c redundant s t id r → redundant ≡ false → u ≡ set_previous c id t → (stored_after redundant c s).refused ≡ None × (u ≡ (stored_after redundant c s).after)
+derived-previous redundant c s t u id r k e is =
+    let o = stored_after-accepted redundant c s (ap (λ (x : Outcome). x.refused) k.room) in
+    (ap (λ (x : Outcome). x.refused) o,
+      is ∙ ap (λ n. set_previous c n t) k.id_is ∙ ap (set_previous c (id_of c s)) (k.after ∙ ap (λ (b : Bool). store c b s) e)
+      ∙ sym (ap (λ (b : Bool). cond b (store c true s) (set_previous c (id_of c s) (store c false s))) e) ∙ sym (ap (λ (x : Outcome). x.after) o))
+
+pub derived-refused : (redundant : Bool) (c : List ℕ) (s : State) (cause : Cause) → store_counters c redundant s ≡ refuse cause s → stored_after redundant c s ≡ refuse cause s
+derived-refused redundant c s cause e = stored_after-refused redundant c s cause (ap (λ (x : Outcome). x.refused) e)

@@ -11,7 +11,7 @@ use Rattle.checker_rules.specs.State.{Stored}
 use Rattle.checker_rules.specs.Store.{is_stored, new_stored, raise}
 use Rattle.checker_rules.specs.WellFormed.{are_apart, ids_rise}
 use Rattle.checker_rules.proofs.Buckets.{buckets_serve}
-use Rattle.checker_rules.proofs.Forms.{apart_map, apart_push, raise_id, rise_map, rise_push}
+use Rattle.checker_rules.proofs.Entries.{apart_map, apart_push, raise_id, rise_map, rise_push}
 use Rattle.checker_rules.proofs.Orders.{live_literals_add}
 use Rattle.checker_rules.proofs.Sets.{raise-lits}
 use Rattle.varisat_checker.specs.declared.clauses.Clauses.{Clauses}

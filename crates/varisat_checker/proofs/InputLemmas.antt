@@ -1,7 +1,8 @@
 -- Storing an input clause.
-use Rattle.std.proofs.Common.{◌≡◌, ℕ, ◌+◌, ◌-◌, ◌^◌, ◌<◌, ◌≤◌, ◌&&◌, Bool, true, false, cond, not, ltb, leb, List, [], ◌∷◌, ◌++◌, Option, Some, None, refl, sym, ap, ◌∙◌, subst, arith, Fits, w64, map}
+use Rattle.std.proofs.Common.{◌≡◌, ℕ, ◌+◌, ◌-◌, ◌^◌, ◌<◌, ◌≤◌, ◌&&◌, Bool, true, false, cond, not, eqb, ltb, leb, List, [], ◌∷◌, ◌++◌, Option, Some, None, refl, sym, ap, ◌∙◌, subst, arith, Fits, w64, map}
 use Rattle.checker_rules.specs.AddClause.{store_input}
 use Rattle.checker_rules.specs.Clauses.{is_tautology, var_of}
+use Rattle.checker_rules.specs.DeleteClause.{is_short}
 use Rattle.checker_rules.specs.Outcome.{Cause, Outcome, accept, count_exhausted, ids_exhausted, refuse}
 use Rattle.checker_rules.specs.State.{Known, State, Stored, StoredUnit, lit_by_unit, makes_true, unit_of}
 use Rattle.checker_rules.specs.Store.{count_limit, count_of, counters, id_limit, is_stored, new_stored, raise, stands, store, store_long, store_unit, take_id}
@@ -14,7 +15,7 @@ use Rattle.varisat_checker.specs.declared.state.CheckerState.{CheckerState}
 use Rattle.varisat_checker.specs.InputCause.{HasRoom}
 use Rattle.varisat_checker.specs.StateOf.{state_of}
 use Rattle.varisat_checker.specs.View.{stored_list}
-use Rattle.varisat_checker.specs.Store.{IsStore, IsStored, result_of, store_counters, turns_irredundant}
+use Rattle.varisat_checker.specs.Store.{IsStore, IsStored, result_of, store_counters}
 
 -- an id below the limit has a next one
 pub fits-next : (n : ℕ) → n < id_limit → Fits w64 (n + 1)
@@ -37,6 +38,7 @@ is_store-next h cs k = record {
   none_short = k.none_short;
   used = k.used;
   garbage = k.garbage;
+  units = k.units;
 }
 
 -- a tautology takes an id
@@ -73,20 +75,21 @@ input-repeated c s e h =
     ∙ repeated c s h
 
 -- what storing answered tells whether the clause stood
-result-stands : (b d : Bool) → New ≡ cond b (cond d NewlyIrredundant Duplicate) New → b ≡ false
-result-stands true true e = absurd cc
-result-stands true false e = absurd cc
-result-stands false d e = refl
+result-stands : (b d e : Bool) → New ≡ cond b (cond d Duplicate (cond e NewlyIrredundant Duplicate)) New → b ≡ false
+result-stands true true e h = absurd cc
+result-stands true false true h = absurd cc
+result-stands true false false h = absurd cc
+result-stands false d e h = refl
 
-result-new : (b d : Bool) (r : StoreClauseResult) → (r ≡ New → ⊥) → r ≡ cond b (cond d NewlyIrredundant Duplicate) New → b ≡ true
-result-new true d r h e = refl
-result-new false d r h e = absurd (h e)
+result-new : (b d e : Bool) (r : StoreClauseResult) → (r ≡ New → ⊥) → r ≡ cond b (cond d Duplicate (cond e NewlyIrredundant Duplicate)) New → b ≡ true
+result-new true d e r other h = refl
+result-new false d e r other h = absurd (other h)
 
 pub stood-not : (c : List ℕ) (s t : State) (id : ℕ) (r : StoreClauseResult) → IsStored c false s t id r → r ≡ New → stands c s ≡ false
-stood-not c s t id r k e = result-stands (stands c s) (turns_irredundant c false s) (sym e ∙ k.result_is)
+stood-not c s t id r k e = result-stands (stands c s) (is_short c) (eqb (count_of false c s.clauses) 0) (sym e ∙ k.result_is)
 
 pub stood : (c : List ℕ) (s t : State) (id : ℕ) (r : StoreClauseResult) → IsStored c false s t id r → (r ≡ New → ⊥) → stands c s ≡ true
-stood c s t id r k h = result-new (stands c s) (turns_irredundant c false s) r h k.result_is
+stood c s t id r k h = result-new (stands c s) (is_short c) (eqb (count_of false c s.clauses) 0) r h k.result_is
 
 -- counters with room refuse nothing
 below-test : (b : Bool) (n m : ℕ) → n < m → (b && not (ltb n m)) ≡ false

@@ -47,6 +47,7 @@ is_store-new h cs bits empty =
       none_short = rw none refl;
       used = rw (none, empty.buffer, empty.garbage) refl;
       garbage = rw (empty.buffer, empty.garbage) (omega arith);
+      units = rw empty.units refl;
     }
 
 -- both

@@ -11,7 +11,7 @@ use Rattle.checker_rules.specs.State.{Stored, unit_of}
 use Rattle.checker_rules.specs.Store.{count_limit, count_of, id_among, is_stored}
 use Rattle.checker_rules.specs.WellFormed.{are_apart, ids_rise}
 use Rattle.checker_rules.proofs.Buckets.{buckets_serve}
-use Rattle.checker_rules.proofs.Forms.{apart_filter}
+use Rattle.checker_rules.proofs.Entries.{apart_filter}
 use Rattle.varisat_checker.specs.declared.clauses.Clauses.{Clauses}
 use Rattle.varisat_checker.specs.declared.clauses.units.UnitClause.{UnitClause}
 use Rattle.varisat_checker.specs.declared.hash.ClauseHasher.{ClauseHasher}

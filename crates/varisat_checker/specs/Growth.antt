@@ -1,5 +1,5 @@
 -- Variables made known.
-use Rattle.std.specs.Prelude.{ℕ, ◌≡◌, ◌≤◌, ◌&&◌, Bool, not, ltb, List, length}
+use Rattle.std.specs.Prelude.{ℕ, ◌≡◌, ◌-◌, ◌≤◌, ◌++◌, ◌&&◌, None, replicate, Bool, not, ltb, List, length}
 use Rattle.std.specs.List.{list_any}
 use Rattle.checker_rules.specs.Clauses.{var_of}
 use Rattle.checker_rules.specs.KnownVars.{is_sample, know}
@@ -14,6 +14,7 @@ use Rattle.varisat_checker.specs.StateOf.{state_of}
 pub record KnowsVars (count : ℕ) (cs : Clauses) (known : List Known) (cs' : Clauses) (known' : List Known) : Type 0 where
   pub state : (st : CheckerState) (h : ClauseHasher) → state_of st h cs' known' ≡ know count (state_of st h cs known)
   pub others : cs' ≡ record cs { unit_clauses = cs'.unit_clauses }
+  pub units : cs'.unit_clauses ≡ cs.unit_clauses ++ replicate (count - length cs.unit_clauses) None
   pub enough : count ≤ length cs'.unit_clauses
 
 -- whether some known variable of the list is in another mode than `Sample`

@@ -1,6 +1,7 @@
 pub mod Buckets
 pub mod CheckLaw
 pub mod Context
+pub mod Derived
 pub mod Edits
 pub mod Found
 pub mod Growth
