@@ -18,6 +18,7 @@ pub mod ReadyLemmas
 pub mod RefusalLemmas
 pub mod SameListLemmas
 pub mod StatusLemmas
+pub mod StepAnswers
 pub mod StoreLemmas
 pub mod TrailLemmas
 pub mod UnitsLemmas

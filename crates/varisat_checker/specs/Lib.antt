@@ -9,6 +9,7 @@ pub mod InputCause
 pub mod Kept
 pub mod Lits
 pub mod NewParts
+pub mod NotYet
 pub mod Refusal
 pub mod Rup
 pub mod StateOf

@@ -13,3 +13,13 @@ RefusesWith n cause (ParseError step kind) = ⊥
 RefusesWith n cause (ProofProcessorError fault) = ⊥
 RefusesWith n cause OutOfMemory = ⊥
 RefusesWith n cause Failed = ⊥
+
+-- the same but for the text of the step
+abbrev pub IsSameFault : CheckerError → CheckerError → Type 0
+IsSameFault (CheckFailed step msg debug_step) e = RefusesWith step msg e
+IsSameFault (ProofIncomplete step) e = e ≡ ProofIncomplete step
+IsSameFault (IoError step read) e = e ≡ IoError step read
+IsSameFault (ParseError step kind) e = e ≡ ParseError step kind
+IsSameFault (ProofProcessorError fault) e = e ≡ ProofProcessorError fault
+IsSameFault OutOfMemory e = e ≡ OutOfMemory
+IsSameFault Failed e = e ≡ Failed

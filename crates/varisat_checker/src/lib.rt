@@ -11,3 +11,4 @@ pub mod processing;
 pub mod variables;
 mod refusal;
 pub mod steps;
+pub mod check;
