@@ -3,6 +3,7 @@
 --     all_steps s ts, first_accepted s ts      the outcome of a list of steps up to the first refusal, and the steps accepted before it
 --     EndsRun r next s x ts u      the answer r and the state u are those of the run from s over the text x, which accepted ts
 --     UnlessFailed r P      P, unless the call failed the checker
+--     AnswersParts r o s      as AnswersStep, unless the call failed the checker
 --     IsFold ts s, IsCovered ts s      the satisfying set of s is the fold over ts; the members make all that is stored true
 --     SetsFold r ts t s, CoversFold r ts t s      the two after a call for one step t, where the steps ts came before
 use Rattle.std.specs.Prelude.{◌≡◌, ◌⊎◌, ℕ, Bool, true, List, [], ◌∷◌, ◌++◌, Option, Some, None, Result, Ok, Err}
@@ -97,3 +98,7 @@ SetsFold r ts t s = UnlessFailed r (IsFold (with_accepted r ts t) s)
 -- the same of the unsatisfiable side
 abbrev pub CoversFold : {A : Type 0} → Result A CheckerError → List Step → Step → State → Type 0
 CoversFold r ts t s = UnlessFailed r (IsCovered (with_accepted r ts t) s)
+
+-- of a function over the parts of a checker, whose caller records a failure
+abbrev pub AnswersParts : {A : Type 0} → Result A CheckerError → Outcome → State → Type 0
+AnswersParts r o s = UnlessFailed r (AnswersStep r o s)

@@ -5,7 +5,7 @@
 use Rattle.std.specs.Prelude.{Bool, true, false, List, Option, Some, None}
 use Rattle.sat_formula.specs.Vars.{index_of}
 use Rattle.checker_rules.specs.CheckedSteps as rules
-use Rattle.checker_rules.specs.CheckedSteps.{CheckedStep, Told}
+use Rattle.checker_rules.specs.CheckedSteps.{CheckedStep, ShownStep}
 use Rattle.checker_rules.specs.State.{Known}
 use Rattle.checker_rules.specs.Transcript as rules_transcript
 use Rattle.checker_rules.specs.Transcript.{TranscriptStep}
@@ -47,7 +47,7 @@ step_of (steps.Assumptions assumptions) = rules.checked_assumptions assumptions.
 step_of (steps.FailedAssumptions failed_core propagations) = rules.checked_failed_assumptions failed_core.now propagations.now
 
 -- the step with the names that are shown with it
-abbrev pub told : CheckedProofStep → List Known → Told
+abbrev pub told : CheckedProofStep → List Known → ShownStep
 told step names = record { step = step_of step; names = names }
 
 -- a transcript step

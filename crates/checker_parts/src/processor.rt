@@ -35,14 +35,14 @@ impl<'a> CheckerData<'a> {
 /// Takes each step of a checked proof.
 pub trait ProofProcessor: Drop {
     ghost use Rattle.std.specs.Prelude.{◌≡◌, ℕ, List, OnOk, OnErr};
-    ghost use Rattle.checker_rules.specs.CheckedSteps.{Told};
+    ghost use Rattle.checker_rules.specs.CheckedSteps.{ShownStep};
     ghost use Rattle.checker_parts.specs.CheckedSteps.{told};
 
     /// What holds of the old value, the step with its names, and the new value where the answer is Ok.
-    ghost took: { Self → Told → Self → Type 0 };
+    ghost took: { Self → ShownStep → Self → Type 0 };
 
     /// The same where the answer is a fault.
-    ghost faulted: { Self → Told → Self → Type 0 };
+    ghost faulted: { Self → ShownStep → Self → Type 0 };
 
     /// What `output` gives.
     ghost shown: { Self → List ℕ };

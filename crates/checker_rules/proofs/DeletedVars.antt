@@ -3,7 +3,7 @@ use Rattle.std.proofs.Common.{◌≡◌, ℕ, suc, Bool, true, false, cond, not,
 use Rattle.std.specs.List.{list_any}
 use Rattle.std.proofs.lemmas.Bool.{cond_both, true≢false}
 use Rattle.checker_rules.specs.Calls.{close_by, closing_conflict}
-use Rattle.checker_rules.specs.CheckedSteps.{Told, checked_at_clause, hint_step, hint_steps, tell}
+use Rattle.checker_rules.specs.CheckedSteps.{ShownStep, checked_at_clause, hint_step, hint_steps, shown_in}
 use Rattle.checker_rules.specs.DeleteVar.{close_conflict, drop_unit, free_var, holds_var, is_conflict_on, is_unit_with, step_delete_var}
 use Rattle.checker_rules.specs.Emits.{ClosingsRun, emits_closing, emits_delete_var, emits_unit}
 use Rattle.checker_rules.specs.HintRun.{HintStep, IsRun, machine_after}
@@ -21,7 +21,7 @@ use Rattle.checker_rules.proofs.Ties.{freed, freed_none, only_id}
 use Rattle.checker_rules.proofs.Units.{unit_at, unit_is}
 use Rattle.checker_rules.specs.Outcome as causes
 
-pub hints-append : (xs ys : List Told) → hint_steps (xs ++ ys) ≡ hint_steps xs ++ hint_steps ys
+pub hints-append : (xs ys : List ShownStep) → hint_steps (xs ++ ys) ≡ hint_steps xs ++ hint_steps ys
 hints-append [] ys = refl
 hints-append (x ∷ xs) ys = ap (λ r. hint_step x.step ++ r) (hints-append xs ys) ∙ assoc (hint_step x.step) (hint_steps xs) (hint_steps ys)
   where
@@ -29,7 +29,7 @@ hints-append (x ∷ xs) ys = ap (λ r. hint_step x.step ++ r) (hints-append xs y
     assoc [] b c = refl
     assoc (x ∷ a) b c = ap (λ r. x ∷ r) (assoc a b c)
 
-abbrev pub RunTo : Machine → List Told → State → Type 0
+abbrev pub RunTo : Machine → List ShownStep → State → Type 0
 RunTo m es s = IsRun m (hint_steps es) × IsTied (machine_after m (hint_steps es)) s
 
 -- the closing conflict
@@ -44,7 +44,7 @@ closings_run m s t w = go s.conflict t.conflict_named w.conflict_on_unit
         at : (v : ℕ) × (is_unit_with p.0 (unit_of s.units v) ≡ true)
         at = unit_at p.0 s.units k
 
-        cond_emits : (b : Bool) → (u : StoredUnit) × (unit_of s.units at.0 ≡ Some u) × (u.id ≡ p.0) → RunTo m (cond b (tell s (checked_at_clause s.next false [] (p.0 ∷ p.1 ∷ [])) ∷ []) []) (cond b (accept (take_id s)) (refuse causes.ids_exhausted s)).after
+        cond_emits : (b : Bool) → (u : StoredUnit) × (unit_of s.units at.0 ≡ Some u) × (u.id ≡ p.0) → RunTo m (cond b (shown_in s (checked_at_clause s.next false [] (p.0 ∷ p.1 ∷ [])) ∷ []) []) (cond b (accept (take_id s)) (refuse causes.ids_exhausted s)).after
         cond_emits true f =
             let first : m.named p.0 ≡ Some (unit_lit at.0 f.0.value ∷ []) = ap m.named (sym f.2) ∙ subst (IsUnitNamed m.named at.0) f.1 (t.units_named at.0) in
             (((t.above_next, (exact_lists m.named).closing (unit_lit at.0 f.0.value) p.0 p.1 first (n.1 at.0 f.0 f.1 f.2)), tt), only_id m s [] t)
@@ -58,7 +58,7 @@ run_unit_gone m s x t w = go (unit_of s.units x) refl
     go None e = (tt, freed_none m s x t e)
     go (Some u) e = ((tt, tt), freed m s x u t w e)
 
-two_runs : (m : Machine) (xs ys : List Told) (r : State) → IsRun m (hint_steps xs) → RunTo (machine_after m (hint_steps xs)) ys r → RunTo m (xs ++ ys) r
+two_runs : (m : Machine) (xs ys : List ShownStep) (r : State) → IsRun m (hint_steps xs) → RunTo (machine_after m (hint_steps xs)) ys r → RunTo m (xs ++ ys) r
 two_runs m xs ys r h k = subst (λ z. IsRun m z × IsTied (machine_after m z) r) (sym (hints-append xs ys))
     (run-append m (hint_steps xs) (hint_steps ys) h k.0, subst (λ z. IsTied z r) (sym (after-append m (hint_steps xs) (hint_steps ys))) k.1)
 

@@ -19,15 +19,16 @@ use Rattle.checker_rules.specs.KnownVars.{is_hide, is_known, know, know_clause, 
 use Rattle.checker_rules.specs.Model.{has_some, model_cause, model_whole, step_model}
 use Rattle.checker_rules.specs.Outcome.{Outcome, accept, and_then, and_then_by}
 use Rattle.checker_rules.specs.Passes.{none_empty}
-use Rattle.checker_rules.specs.State.{State, StoredUnit, buckets, clause_passes, hide, lit_by_unit, makes_true, sample, some_true_unit, unit_of, witness}
+use Rattle.checker_rules.specs.State.{State, buckets, clause_passes, hide, sample, some_true_unit, unit_of, witness}
 use Rattle.checker_rules.specs.Step.{Justification, add_clause, assumptions, at_clause, by_redundant, by_satisfied, by_simplified, change_hash_bits, change_sampling_mode, delete_clause, delete_var, end_proof, failed_assumptions, model, solver_var_name, unit_clauses, user_var_name}
 use Rattle.checker_rules.specs.Steps.{new_state, step}
-use Rattle.checker_rules.specs.Store.{count_limit, count_of, counters, id_limit, id_of, is_stored, new_stored, raise, stands, store, store_unit, take_id}
+use Rattle.checker_rules.specs.Store.{count_limit, count_of, counters, id_limit, id_of, is_stored, stands, store, take_id}
 use Rattle.checker_rules.specs.UnitClauses.{step_unit_clauses}
 use Rattle.checker_rules.specs.UserVarName.{step_user_var_name}
 use Rattle.checker_rules.specs.WellFormed.{StepsKeepForm, WellFormed}
 use Rattle.checker_rules.proofs.Entries.{canonical-is}
 use Rattle.checker_rules.proofs.Forms.{Storable, W, form-close_conflict, form-delete, form-forget, form-free_var, form-know, form-previous, form-set_known, form-store, form-store_unit, form-take_id, form-take_input}
+use Rattle.checker_rules.proofs.Inputs.{takes_input}
 use Rattle.checker_rules.proofs.KnownNames.{names-same, names-set}
 
 -- the check makes ready
@@ -132,40 +133,6 @@ form-assumptions : (s : State) (c : List ℕ) → WellFormed s → W (step_assum
 form-assumptions s c h = cond_both (some_not_sampling s (canonical c)) _ _ W (λ e. h)
     (λ e. let w = form-know (var_bound (canonical c)) s h in
     record { fine = w.fine; rise = w.rise; apart = w.apart; same_known = w.same_known; unit_ids = w.unit_ids; conflict_on_unit = w.conflict_on_unit; inputs_counted = w.inputs_counted; some_width = w.some_width; width_fits = w.width_fits; names = w.names; assumed_canonical = canonical-is c; previous_canonical = w.previous_canonical })
-
--- an input clause takes an id
-abbrev Takes : ℕ → ℕ → State → Type 0
-Takes inputs next r = (r.inputs ≡ inputs) × (next ≤ r.next)
-
-takes_unit : (l : ℕ) (s : State) → lit_by_unit s.units l ≡ false → Takes s.inputs (s.next + 1) (store_unit l (unit_of s.units (var_of l)) s)
-takes_unit l s = go (unit_of s.units (var_of l))
-  where
-    go : (u : Option StoredUnit) → makes_true u l ≡ false → Takes s.inputs (s.next + 1) (store_unit l u s)
-    go None h = (refl, omega arith)
-    go (Some u) h = subst (λ b. Takes s.inputs (s.next + 1) (cond b s (record s { unsat = true; conflict = Some (u.id, s.next); next = s.next + 1 }))) (sym h) (refl, omega arith)
-
-takes_new : (c : List ℕ) (r : Bool) (s : State) → stands c s ≡ false → Takes s.inputs (s.next + 1) (store c r s)
-takes_new [] r s h = (refl, omega arith)
-takes_new (l ∷ []) r s h = takes_unit l s h
-takes_new (l ∷ k ∷ ls) r s h = subst (λ b. Takes s.inputs (s.next + 1) (cond b (record s { clauses = map (raise r (l ∷ k ∷ ls)) s.clauses }) (record s { clauses = s.clauses ++ new_stored r (l ∷ k ∷ ls) s.next ∷ []; next = s.next + 1 }))) (sym h) (refl, omega arith)
-
-takes_none : (c : List ℕ) (r : Bool) (s : State) → stands c s ≡ true → Takes s.inputs s.next (store c r s)
-takes_none [] r s h = (refl, omega arith)
-takes_none (l ∷ []) r s h = go (unit_of s.units (var_of l)) h
-  where
-    go : (u : Option StoredUnit) → makes_true u l ≡ true → Takes s.inputs s.next (store_unit l u s)
-    go None k = (refl, omega arith)
-    go (Some u) k = subst (λ b. Takes s.inputs s.next (cond b s (record s { unsat = true; conflict = Some (u.id, s.next); next = s.next + 1 }))) (sym k) (refl, omega arith)
-takes_none (l ∷ k ∷ ls) r s h = subst (λ b. Takes s.inputs s.next (cond b (record s { clauses = map (raise r (l ∷ k ∷ ls)) s.clauses }) (record s { clauses = s.clauses ++ new_stored r (l ∷ k ∷ ls) s.next ∷ []; next = s.next + 1 }))) (sym h) (refl, omega arith)
-
-takes_input : (c : List ℕ) (s : State) → Takes s.inputs (s.next + 1) (store_input c s)
-takes_input c s = cond_both (is_tautology c) _ _ (Takes s.inputs (s.next + 1)) (λ e. (refl, omega arith))
-    (λ e. cond_both (stands c s) _ _ (Takes s.inputs (s.next + 1)) (λ d. takes_none c false (take_id s) (stands_again c s d)) (λ d. takes_new c false s d))
-  where
-    stands_again : (c : List ℕ) (r : State) → stands c r ≡ true → stands c (take_id r) ≡ true
-    stands_again [] r d = d
-    stands_again (l ∷ []) r d = d
-    stands_again (l ∷ k ∷ ls) r d = d
 
 form-add_clause : (s : State) (list : List ℕ) → WellFormed s → W (step_add_clause s list)
 form-add_clause s list w =

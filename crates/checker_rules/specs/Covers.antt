@@ -1,4 +1,6 @@
 -- The unsatisfiable side: whoever makes all that is stored true goes on doing so.
+--     Covers p s      the members p do
+--     StepsCover      and go on doing so
 use Rattle.std.specs.Prelude.{◌≡◌, ℕ, Bool, true, not, ◌&&◌, Option, Some, None}
 use Rattle.checker_rules.specs.Headline.{changed}
 use Rattle.checker_rules.specs.Outcome.{Cause}

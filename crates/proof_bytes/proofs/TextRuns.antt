@@ -11,6 +11,8 @@ use Rattle.checker_rules.specs.Outcome.{Cause, Outcome, steps_exhausted}
 use Rattle.checker_rules.specs.Run.{Runs, Stop, after_attempt, after_read, as_answer, move}
 use Rattle.checker_rules.specs.State.{State}
 use Rattle.checker_rules.specs.Step.{Step, solver_var_name, user_var_name, delete_var, change_sampling_mode, add_clause, at_clause, delete_clause, unit_clauses, change_hash_bits, model, assumptions, failed_assumptions, end_proof}
+use Rattle.checker_rules.proofs.Openings.{attempt-counted}
+use Rattle.checker_rules.proofs.StepKinds.{step-end_proof}
 use Rattle.proof_bytes.specs.declared.fault.ProofFault.{ProofFault}
 use Rattle.proof_bytes.specs.declared.fault.ProofFault.TheVariants as proof_faults
 use Rattle.proof_bytes.specs.declared.format.Format.{Format}
@@ -19,7 +21,8 @@ use Rattle.proof_bytes.specs.NextStep.{is_end}
 use Rattle.proof_bytes.specs.Reading.{Fault, Short, Wrong, Found}
 use Rattle.proof_bytes.specs.Steps.{next_at}
 use Rattle.proof_bytes.specs.Taking.{IsBytes, Leads, Faults, stop_of}
-use Rattle.proof_bytes.specs.TextRuns.{Answer, BeginsTextOf, IsTextOf, Place, RunsBefore, RunsOver, RunsTo, RunsToFault, RunsUntilRead, next_of, start_of, step_or_fault}
+use Rattle.proof_bytes.specs.TextRuns.{Answer, BeginsTextOf, IsTextOf, RunsBefore, RunsOver, RunsTo, RunsToFault, RunsUntilRead}
+use Rattle.proof_bytes.specs.Texts.{Place, next_of, start_of, step_or_fault}
 use Rattle.proof_bytes.proofs.Leading.{Known, bytes_on}
 
 -- ---- one move
@@ -74,7 +77,7 @@ ended_after_end t (change_hash_bits bits) e counted = absurd cc
 ended_after_end t (model assignment) e counted = absurd cc
 ended_after_end t (assumptions lits) e counted = absurd cc
 ended_after_end t (failed_assumptions core hashes) e counted = absurd cc
-ended_after_end t end_proof e counted = rw counted refl
+ended_after_end t end_proof e counted = ap (λ (o : Outcome). o.after.ended) (attempt-counted t end_proof counted ∙ step-end_proof (count_step t))
 
 -- so while the checker has not ended, nor has the reader
 pub reader_open : (ended : Bool) (step : Step) {t u : State} → ended ≡ is_end step → MayRead t → u ≡ (attempt t step).after → u.ended ≡ false → ended ≡ false

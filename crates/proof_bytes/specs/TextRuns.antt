@@ -1,5 +1,4 @@
 -- Runs over the text that a reader gives.
---     Place, start_of, next_of      a place in a text, and the next step there, for `Runs`
 --     RunsTo      how a run begins
 --     RunsOver      a run over the whole text
 --     RunsUntilRead, RunsBefore      runs over what was read, where a read failed or memory was wanted
@@ -18,23 +17,7 @@ use Rattle.proof_bytes.specs.declared.format.Format.TheVariants as formats
 use Rattle.proof_bytes.specs.Reading.{Fault, Short, Wrong, Found}
 use Rattle.proof_bytes.specs.Steps.{next_at}
 use Rattle.proof_bytes.specs.Taking.{IsBytes}
-
--- a place in a text: how it spells its hashes from there on, and its bytes from there on
-abbrev pub Place : Type 0
-Place = Format × List ℕ
-
--- where a text begins
-abbrev pub start_of : List ℕ → Place
-start_of text = (formats.Start, text)
-
--- what was found, as a run takes it
-abbrev pub step_or_fault : Found (Format × Step) → (Step × Place) ⊎ Fault
-step_or_fault (Ok found) = inl (found.0.1, (found.0.0, found.1))
-step_or_fault (Err fault) = inr fault
-
--- the next step of a text and the place after it, or the fault there
-unfoldable pub next_of : Place → (Step × Place) ⊎ Fault
-next_of place = step_or_fault (next_at place.0 place.1)
+use Rattle.proof_bytes.specs.Texts.{Place, start_of, next_of}
 
 -- how a run over a text ends: as asked, with a refused step, or with the text's fault
 abbrev pub Answer : Type 0

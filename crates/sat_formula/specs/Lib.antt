@@ -3,7 +3,8 @@ pub mod Text
 pub mod Source
 pub mod Taking
 pub mod Reading
-pub mod NextClause
+pub mod DimacsReader
 pub mod Whole
 pub mod Vars
+pub mod Formula
 pub mod Stop

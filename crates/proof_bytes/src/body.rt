@@ -1,0 +1,265 @@
+//! A step, read into lists.
+ghost use Rattle.std.specs.Prelude.{◌≡◌, ◌^◌, IfOk};
+
+use crate::fault::{MalformedStep, ProofFault, Stop};
+use crate::fields::Fields;
+use crate::format::Format;
+use crate::hash::ClauseHash;
+use crate::step::{DeleteClauseProof, ProofStep};
+use sat_formula::{Lit, Var};
+use std::alloc::Global;
+use std::io::Read;
+
+/// A step without its lists.
+#[derive(Clone, Copy)]
+pub(crate) enum Head {
+    SolverVarName { global: Var, solver: Option<Var> },
+    UserVarName { global: Var, user: Option<Var> },
+    DeleteVar { var: Var },
+    ChangeSamplingMode { var: Var, sample: bool },
+    AddClause,
+    AtClause { redundant: bool },
+    DeleteClause { proof: DeleteClauseProof },
+    UnitClauses,
+    ChangeHashBits { bits: u32 },
+    Model,
+    Assumptions,
+    FailedAssumptions,
+    End,
+}
+
+/// Reads steps, the lists of the last one into its own.
+#[derive(Drop)]
+pub(crate) struct BodyReader<R> {
+    fields: Fields<R>,
+    lits: Vec<Lit>,
+    hashes: Vec<ClauseHash>,
+    units: Vec<(Lit, ClauseHash)>,
+}
+
+impl<R: Read> BodyReader<R> {
+    ghost use Rattle.checker_rules.specs.Step.{solver_var_name, user_var_name, delete_var, change_sampling_mode, add_clause, at_clause, delete_clause, unit_clauses, change_hash_bits, model, assumptions, failed_assumptions};
+    ghost use Rattle.proof_bytes.specs.Bodies.{unread_body, step_of, Fills};
+    ghost use Rattle.proof_bytes.specs.NextStep.{view};
+    ghost use Rattle.proof_bytes.specs.Steps.{tag_at, next_at, fields_at, one_field, two_fields, three_fields};
+    ghost use Rattle.proof_bytes.specs.Fields.{var_at, name_at, flag_at, justification_at, lits_at, hashes_at, unit_at, list_at, below_at};
+    ghost use Rattle.proof_bytes.specs.Taking.{HasStopped, Reads, stop_of};
+    ghost use Rattle.proof_bytes.specs.Formats.{IsFormat};
+
+    pub(crate) fn new(alloc: Global, inner: R) -> BodyReader<R>
+        ensures { unread_body R.remaining result ≡ R.remaining inner }
+    {
+        BodyReader {
+            fields: Fields::new(alloc, inner),
+            lits: Vec::new(alloc),
+            hashes: Vec::new(alloc),
+            units: Vec::new(alloc),
+        }
+    }
+
+    pub(crate) fn fault(&self, stop: Stop) -> ProofFault
+        requires { stop ≡ Stop.Read → HasStopped self.now.fields }
+        ensures { stop_of result ≡ stop }
+    {
+        self.fields.fault(stop)
+    }
+
+    /// The step of a head and the lists that were read with it.
+    pub(crate) fn shown(&self, head: Head) -> ProofStep<'_>
+        ensures { view result ≡ step_of head self.now }
+    {
+        match head {
+            Head::SolverVarName { global, solver } => ProofStep::SolverVarName { global, solver },
+            Head::UserVarName { global, user } => ProofStep::UserVarName { global, user },
+            Head::DeleteVar { var } => ProofStep::DeleteVar { var },
+            Head::ChangeSamplingMode { var, sample } => {
+                ProofStep::ChangeSamplingMode { var, sample }
+            }
+            Head::AddClause => ProofStep::AddClause { clause: &self.lits },
+            Head::AtClause { redundant } => ProofStep::AtClause {
+                redundant,
+                clause: &self.lits,
+                propagation_hashes: &self.hashes,
+            },
+            Head::DeleteClause { proof } => ProofStep::DeleteClause {
+                clause: &self.lits,
+                proof,
+            },
+            Head::UnitClauses => ProofStep::UnitClauses { units: &self.units },
+            Head::ChangeHashBits { bits } => ProofStep::ChangeHashBits { bits },
+            Head::Model => ProofStep::Model {
+                assignment: &self.lits,
+            },
+            Head::Assumptions => ProofStep::Assumptions {
+                assumptions: &self.lits,
+            },
+            Head::FailedAssumptions => ProofStep::FailedAssumptions {
+                failed_core: &self.lits,
+                propagation_hashes: &self.hashes,
+            },
+            Head::End => ProofStep::End,
+        }
+    }
+
+    /// The next step of a text in this format, and the format after it.
+    pub(crate) fn step(&mut self, format: Format) -> Result<(Format, Head), Stop>
+        requires { IsFormat format }
+        ensures read { Fills R.remaining (λ s. (s.0, step_of s.1 self.new)) self.old self.new result (next_at format) }
+        ensures in_force { IfOk result (λ s. IsFormat s.0) }
+    {
+        let (in_force, tag) = self.tag(format)?;
+        let head = self.body(in_force, tag)?;
+        match head {
+            Head::ChangeHashBits { bits } => Ok((in_force.with_width(bits), head)),
+            _ => Ok((in_force, head)),
+        }
+    }
+
+    // The next tag, past the mark of a text that begins with it, and the format in force there.
+    fn tag(&mut self, format: Format) -> Result<(Format, u8), Stop>
+        requires { IsFormat format }
+        ensures read { Fills R.remaining (λ t. t) self.old self.new result (tag_at format) }
+        ensures in_force { IfOk result (λ t. IsFormat t.0) }
+    {
+        match format {
+            Format::Start => self.first_tag(),
+            _ => {
+                let tag = self.fields.byte()?;
+                Ok((format, tag))
+            }
+        }
+    }
+
+    fn first_tag(&mut self) -> Result<(Format, u8), Stop>
+        ensures read { Fills R.remaining (λ t. t) self.old self.new result (tag_at Format.Start) }
+        ensures in_force { IfOk result (λ t. IsFormat t.0) }
+    {
+        let first = self.fields.byte()?;
+        if first != 0 {
+            return Ok((Format::Numbers, first));
+        }
+        let second = self.fields.byte()?;
+        if second != 2 {
+            return Err(Stop::Malformed(MalformedStep::UnknownTag));
+        }
+        let tag = self.fields.byte()?;
+        Ok((Format::Bytes { width: 64 }, tag))
+    }
+
+    // What follows a tag.
+    fn body(&mut self, format: Format, tag: u8) -> Result<Head, Stop>
+        requires { IsFormat format }
+        ensures { Fills R.remaining (λ h. step_of h self.new) self.old self.new result (fields_at format tag) }
+    {
+        match tag {
+            1 => self.solver_var_name(),
+            2 => self.user_var_name(),
+            3 => self.delete_var(),
+            4 => self.change_sampling_mode(),
+            5 => self.add_clause(),
+            6 => self.at_clause(format),
+            7 => self.delete_clause(),
+            8 => self.unit_clauses(format),
+            9 => self.change_hash_bits(),
+            10 => self.model(),
+            11 => self.assumptions(),
+            12 => self.failed_assumptions(format),
+            13 => Ok(Head::End),
+            _ => Err(Stop::Malformed(MalformedStep::UnknownTag)),
+        }
+    }
+
+    fn solver_var_name(&mut self) -> Result<Head, Stop>
+        ensures { Fills R.remaining (λ h. step_of h self.new) self.old self.new result (two_fields var_at name_at solver_var_name) }
+    {
+        let global = self.fields.var()?;
+        let solver = self.fields.name()?;
+        Ok(Head::SolverVarName { global, solver })
+    }
+
+    fn user_var_name(&mut self) -> Result<Head, Stop>
+        ensures { Fills R.remaining (λ h. step_of h self.new) self.old self.new result (two_fields var_at name_at user_var_name) }
+    {
+        let global = self.fields.var()?;
+        let user = self.fields.name()?;
+        Ok(Head::UserVarName { global, user })
+    }
+
+    fn delete_var(&mut self) -> Result<Head, Stop>
+        ensures { Fills R.remaining (λ h. step_of h self.new) self.old self.new result (one_field var_at delete_var) }
+    {
+        let var = self.fields.var()?;
+        Ok(Head::DeleteVar { var })
+    }
+
+    fn change_sampling_mode(&mut self) -> Result<Head, Stop>
+        ensures { Fills R.remaining (λ h. step_of h self.new) self.old self.new result (two_fields var_at flag_at change_sampling_mode) }
+    {
+        let var = self.fields.var()?;
+        let sample = self.fields.flag()?;
+        Ok(Head::ChangeSamplingMode { var, sample })
+    }
+
+    fn add_clause(&mut self) -> Result<Head, Stop>
+        ensures { Fills R.remaining (λ h. step_of h self.new) self.old self.new result (one_field lits_at add_clause) }
+    {
+        self.fields.lits(&mut self.lits)?;
+        Ok(Head::AddClause)
+    }
+
+    fn at_clause(&mut self, format: Format) -> Result<Head, Stop>
+        requires { IsFormat format }
+        ensures { Fills R.remaining (λ h. step_of h self.new) self.old self.new result (three_fields flag_at lits_at (hashes_at format) at_clause) }
+    {
+        let redundant = self.fields.flag()?;
+        self.fields.lits(&mut self.lits)?;
+        self.fields.hashes(&mut self.hashes, format)?;
+        Ok(Head::AtClause { redundant })
+    }
+
+    fn delete_clause(&mut self) -> Result<Head, Stop>
+        ensures { Fills R.remaining (λ h. step_of h self.new) self.old self.new result (two_fields justification_at lits_at delete_clause) }
+    {
+        let proof = self.fields.justification()?;
+        self.fields.lits(&mut self.lits)?;
+        Ok(Head::DeleteClause { proof })
+    }
+
+    fn unit_clauses(&mut self, format: Format) -> Result<Head, Stop>
+        requires { IsFormat format }
+        ensures { Fills R.remaining (λ h. step_of h self.new) self.old self.new result (one_field (list_at (unit_at format)) unit_clauses) }
+    {
+        self.fields.units(&mut self.units, format)?;
+        Ok(Head::UnitClauses)
+    }
+
+    fn change_hash_bits(&mut self) -> Result<Head, Stop>
+        ensures { Fills R.remaining (λ h. step_of h self.new) self.old self.new result (one_field (below_at (2 ^ 32)) change_hash_bits) }
+    {
+        let bits = self.fields.below(1 << 32)?;
+        Ok(Head::ChangeHashBits { bits: bits as u32 })
+    }
+
+    fn model(&mut self) -> Result<Head, Stop>
+        ensures { Fills R.remaining (λ h. step_of h self.new) self.old self.new result (one_field lits_at model) }
+    {
+        self.fields.lits(&mut self.lits)?;
+        Ok(Head::Model)
+    }
+
+    fn assumptions(&mut self) -> Result<Head, Stop>
+        ensures { Fills R.remaining (λ h. step_of h self.new) self.old self.new result (one_field lits_at assumptions) }
+    {
+        self.fields.lits(&mut self.lits)?;
+        Ok(Head::Assumptions)
+    }
+
+    fn failed_assumptions(&mut self, format: Format) -> Result<Head, Stop>
+        requires { IsFormat format }
+        ensures { Fills R.remaining (λ h. step_of h self.new) self.old self.new result (two_fields lits_at (hashes_at format) failed_assumptions) }
+    {
+        self.fields.lits(&mut self.lits)?;
+        self.fields.hashes(&mut self.hashes, format)?;
+        Ok(Head::FailedAssumptions)
+    }
+}

@@ -1,0 +1,36 @@
+-- Hashes, literal by literal.
+use Rattle.std.proofs.Common.{◌≡◌, ℕ, ◌+◌, ◌-◌, ◌*◌, ◌/◌, ◌%◌, ◌^◌, ◌<◌, cond, not, eqb, List, Option, Some, None, length, get_or, drop, refl, sym, ap, ◌∙◌, arith}
+use Rattle.std.specs.Int.Bits.{bit_xor, xor_assoc, xor_zero_r}
+use Rattle.std.proofs.lemmas.Bool.Decides.{nat_tests}
+use Rattle.std.proofs.lemmas.List.{at_drop_more, at_drop_all}
+use Rattle.checker_rules.specs.Clauses.{is_negative, var_of}
+use Rattle.checker_rules.specs.State.{clause_hash, lit_code_hash, named_hash, xor_hash}
+
+pub named_hash-Some : (v m : ℕ) → named_hash (Some v) m ≡ lit_code_hash (2 * v + cond (not (is_negative m)) 0 1)
+unfolding named_hash
+named_hash-Some v m = ap (λ n. lit_code_hash (2 * v + n)) (sign m)
+  where
+    sign : (m : ℕ) → m % 2 ≡ cond (not (eqb (m % 2) 1)) 0 1
+    sign m = grind (arith, nat_tests)
+
+pub named_hash-None : (m : ℕ) → named_hash None m ≡ lit_code_hash (m + 2 ^ 29)
+unfolding named_hash
+named_hash-None m = refl
+
+module _ (names : ℕ → Option ℕ) where
+  -- what comes after the first literals is still to be combined
+  pub xor_hash-from : (c : List ℕ) (i m n : ℕ) → i < length c → m ≡ get_or c i m → bit_xor (bit_xor n (named_hash (names (var_of m)) m)) (xor_hash names (drop (i + 1) c)) ≡ bit_xor n (xor_hash names (drop i c))
+  unfolding xor_hash
+  xor_hash-from c i m n w here =
+      let rest = xor_hash names (drop (i + 1) c) in
+      xor_assoc n (named_hash (names (var_of m)) m) rest
+      ∙ ap (bit_xor n) (ap (λ l. bit_xor (named_hash (names (var_of l)) l) rest) here ∙ sym (at_drop_more (xor_hash names) c i m w))
+
+  -- at the end nothing is
+  pub xor_hash-all : (c : List ℕ) (i n : ℕ) → i ≡ length c → bit_xor n (xor_hash names (drop i c)) ≡ xor_hash names c → n ≡ xor_hash names c
+  unfolding xor_hash
+  xor_hash-all c i n e h = sym (xor_zero_r n) ∙ ap (bit_xor n) (sym (at_drop_all (xor_hash names) c i (omega (arith, e)))) ∙ h
+
+pub clause_hash-is : (names : ℕ → Option ℕ) (width : ℕ) (c : List ℕ) → clause_hash names width c ≡ xor_hash names c / 2 ^ (64 - width)
+unfolding clause_hash
+clause_hash-is names width c = refl

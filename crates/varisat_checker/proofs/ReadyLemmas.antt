@@ -1,0 +1,71 @@
+-- The state in which a clause is checked, and the outcome of the check.
+use Rattle.std.proofs.Common.{◌≡◌, ℕ, Bool, true, false, cond, List, length, Option, None, Some, refl, sym, ap, ◌∙◌, subst}
+use Rattle.std.specs.Option.{option_map}
+use Rattle.std.proofs.lemmas.List.{length-map}
+use Rattle.checker_rules.specs.Check.{apply_if_named, apply_pending, check, ready, some_pending_name}
+use Rattle.checker_rules.specs.Clauses.{is_tautology}
+use Rattle.checker_rules.specs.Outcome.{Outcome, accept, at_check_failed, no_clause_for_hash, refuse}
+use Rattle.checker_rules.specs.Passes.{none_empty}
+use Rattle.checker_rules.specs.Sound.{Sound}
+use Rattle.checker_rules.specs.State.{Known, State, StoredUnit, buckets, clause_passes}
+use Rattle.checker_rules.specs.WellFormed.{WellFormed}
+use Rattle.checker_rules.proofs.StepForms.{form-ready}
+use Rattle.varisat_checker.specs.declared.clauses.Clauses.{Clauses}
+use Rattle.varisat_checker.specs.declared.clauses.units.UnitClause.{UnitClause}
+use Rattle.varisat_checker.specs.declared.hash.ClauseHasher.{ClauseHasher}
+use Rattle.varisat_checker.specs.declared.state.CheckerState.{CheckerState}
+use Rattle.varisat_checker.specs.declared.rup.Answer.{Answer}
+use Rattle.varisat_checker.specs.CheckLaw.{Answers}
+use Rattle.varisat_checker.specs.Rup.{AreAllKnown, check_answer, clause_answer, named_buckets}
+use Rattle.varisat_checker.specs.StateOf.{state_of, stored_unit, stored_units}
+use Rattle.varisat_checker.specs.Store.{IsStore}
+use Rattle.varisat_checker.proofs.CheckLemmas.{check_is_by_rules}
+
+-- names change no unit
+pub pending-units : (s : State) → (apply_if_named s).units ≡ s.units
+pending-units s = elim (some_pending_name s) as (λ b. (cond b (apply_pending s) s).units ≡ s.units) [ true ↦ refl | false ↦ refl ]
+
+length-stored : (us : List (Option UnitClause)) → length (stored_units us) ≡ length us
+length-stored us = length-map us (option_map stored_unit)
+
+-- the units and the variables are as many after names were applied
+pub pending-length : (st : CheckerState) (h h' : ClauseHasher) (cs cs' : Clauses) (known : List Known) → WellFormed (state_of st h cs known) → state_of st h' cs' known ≡ apply_if_named (state_of st h cs known) → length cs'.unit_clauses ≡ length known
+pending-length st h h' cs cs' known form e =
+    let s = state_of st h cs known in
+    let same : stored_units cs'.unit_clauses ≡ stored_units cs.unit_clauses = ap (λ (x : State). x.units) e ∙ pending-units s in
+    sym (length-stored cs'.unit_clauses) ∙ ap (λ (us : List (Option StoredUnit)). length us) same ∙ form.same_known
+
+-- the form of the state in which the clause is checked
+pub ready-form : (s t : State) (c : List ℕ) → Sound s → t ≡ ready s c → WellFormed t
+ready-form s t c k e = subst WellFormed (sym e) (form-ready s c k.form)
+
+-- there the variables of the stored clauses are known
+pub ready-known : (st : CheckerState) (h : ClauseHasher) (cs : Clauses) (known : List Known) → IsStore h cs → WellFormed (state_of st h cs known) → AreAllKnown cs.unit_clauses cs.literal_buffer.items cs.buckets
+ready-known st h cs known store form = check_is_by_rules.all_known st h cs known store.bucketed form
+
+-- the outcome by what was found
+pub check-passed : (s : State) (c hs : List ℕ) → clause_passes (ready s c) c hs ≡ true → check s c hs accept ≡ accept (ready s c)
+check-passed s c hs e =
+    let r = ready s c in
+    ap (λ b. cond b (accept r) (cond (none_empty (buckets r hs)) (refuse at_check_failed r) (refuse no_clause_for_hash r))) e
+
+pub check-no_clause : (s : State) (c hs : List ℕ) → clause_passes (ready s c) c hs ≡ false → none_empty (buckets (ready s c) hs) ≡ false → check s c hs accept ≡ refuse no_clause_for_hash (ready s c)
+check-no_clause s c hs e n =
+    let r = ready s c in
+    ap (λ b. cond b (accept r) (cond (none_empty (buckets r hs)) (refuse at_check_failed r) (refuse no_clause_for_hash r))) e ∙ ap (λ b. cond b (refuse at_check_failed r) (refuse no_clause_for_hash r)) n
+
+pub check-failed : (s : State) (c hs : List ℕ) → clause_passes (ready s c) c hs ≡ false → none_empty (buckets (ready s c) hs) ≡ true → check s c hs accept ≡ refuse at_check_failed (ready s c)
+check-failed s c hs e n =
+    let r = ready s c in
+    ap (λ b. cond b (accept r) (cond (none_empty (buckets r hs)) (refuse at_check_failed r) (refuse no_clause_for_hash r))) e ∙ ap (λ b. cond b (refuse at_check_failed r) (refuse no_clause_for_hash r)) n
+
+-- what the check found, in the state in which the clause is checked
+pub ready-answers : (st : CheckerState) (h : ClauseHasher) (cs : Clauses) (known : List Known) (buffer c hs : List ℕ) (a : Answer) (s : State) → IsStore h cs → Sound s → state_of st h cs known ≡ ready s c → is_tautology c ≡ false
+    → buffer ≡ cs.literal_buffer.items → check_answer a ≡ clause_answer (stored_units cs.unit_clauses) c (named_buckets buffer cs.buckets hs) → Answers (ready s c) c hs a
+ready-answers st h cs known buffer c hs a s store sound here apart whole e =
+    let is = subst (λ (b : List ℕ). check_answer a ≡ clause_answer (stored_units cs.unit_clauses) c (named_buckets b cs.buckets hs)) whole e in
+    subst (λ (r : State). Answers r c hs a) here (check_is_by_rules.answers st h cs known c hs a store.bucketed (ready-form s (state_of st h cs known) c sound here) apart is)
+
+-- the state with the units of before
+pub same-units : (st : CheckerState) (h : ClauseHasher) (cs : Clauses) (known : List Known) (us : List (Option UnitClause)) (t : State) → us ≡ cs.unit_clauses → state_of st h cs known ≡ t → state_of st h (record cs { unit_clauses = us }) known ≡ t
+same-units st h cs known us t e here = ap (λ (us : List (Option UnitClause)). state_of st h (record cs { unit_clauses = us }) known) e ∙ here

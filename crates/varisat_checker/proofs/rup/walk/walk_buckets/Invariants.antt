@@ -1,0 +1,13 @@
+use Rattle.std.proofs.Common.{◌≡◌, drop, length}
+use Rattle.checker_rules.specs.Passes.{walk_buckets}
+use Rattle.varisat_checker.specs.Rup.{named_buckets, true_lits}
+use Rattle.varisat_checker.specs.Trail.{IsTrailFor, undone}
+use Rattle.varisat_checker.proofs.rup.walk.walk_buckets.Given as goal
+
+abbrev pub invariant-loop-hash : goal.invariant-loop-hash
+invariant-loop-hash l = record {
+  same : walk_buckets (true_lits l.units) (named_buckets l.buffer l.buckets (drop l.hash-index l.hashes)) ≡ walk_buckets (true_lits l.initial.units) (named_buckets l.buffer l.buckets l.hashes);
+  known : length l.units ≡ length l.initial.units;
+  undone : undone l.units l.trail.items ≡ undone l.initial.units l.initial.trail.items;
+  trail : IsTrailFor l.units l.trail.items;
+}

@@ -1,0 +1,13 @@
+//! The checker: it stores clauses, checks proof steps, and records what follows from them.
+#![tactic(auto)]
+
+pub mod clauses;
+pub mod hash;
+pub mod laws;
+pub mod rup;
+pub mod state;
+pub mod context;
+pub mod processing;
+pub mod variables;
+mod refusal;
+pub mod steps;

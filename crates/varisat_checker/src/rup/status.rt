@@ -1,0 +1,60 @@
+//! What the values of its literals make of a clause.
+ghost use Rattle.std.specs.Prelude.{◌≡◌};
+ghost use Rattle.std.specs.List.{list_any};
+ghost use Rattle.varisat_checker.specs.Rup.{status_of, true_lits};
+ghost use Rattle.varisat_checker.specs.Units as spec;
+
+use crate::clauses::units::Units;
+use sat_formula::lit::Lit;
+
+/// What follows from a clause.
+#[derive(Clone, Copy)]
+pub enum ClauseStatus {
+    /// All its literals are false.
+    Falsified,
+    /// This literal is free, and all others are false.
+    Unit(Lit),
+    /// Nothing follows: a literal is true, or two are free.
+    Idle,
+}
+
+/// The value of a literal.
+#[inline]
+pub fn lit_value(units: &Units, lit: Lit) -> Option<bool>
+    ensures { result ≡ spec.lit_value units.now lit }
+{
+    match units.value(lit.index()) {
+        Some(value) => Some(value == lit.is_positive()),
+        None => None,
+    }
+}
+
+/// Whether a literal is true.
+pub fn has_true_lit(units: &Units, lits: &[Lit]) -> bool
+    ensures { result ≡ list_any (true_lits units.now) lits.now }
+{
+    for lit in lits {
+        if let Some(true) = lit_value(units, *lit) {
+            return true;
+        }
+    }
+    false
+}
+
+/// Looks at each literal once, and no further than a true or a second free one.
+pub fn clause_status(units: &Units, lits: &[Lit]) -> ClauseStatus
+    ensures { result ≡ status_of (true_lits units.now) lits.now }
+{
+    let mut status = ClauseStatus::Falsified;
+    for lit in lits {
+        match lit_value(units, *lit) {
+            Some(true) => return ClauseStatus::Idle,
+            Some(false) => {}
+            None => match status {
+                ClauseStatus::Falsified => status = ClauseStatus::Unit(*lit),
+                _ => return ClauseStatus::Idle,
+            },
+        }
+    }
+    status
+}

@@ -1,0 +1,146 @@
+//! Input clauses.
+ghost use Rattle.std.specs.Prelude.{◌≡◌, ◌≤◌, List, None, OnOk, length};
+ghost use Rattle.std.specs.Option.{option_map};
+ghost use Rattle.checker_rules.specs.AddClause.{store_input};
+ghost use Rattle.checker_rules.specs.Canonical.{var_bound};
+ghost use Rattle.checker_rules.specs.Clauses.{is_tautology};
+ghost use Rattle.checker_rules.specs.State.{Known};
+ghost use Rattle.checker_rules.specs.Step as rules;
+ghost use Rattle.checker_rules.specs.Steps.{step};
+ghost use Rattle.checker_parts.specs.Answers.{AnswersParts, UnlessFailed};
+ghost use Rattle.varisat_checker.specs.Context.{IsKept, context_state};
+ghost use Rattle.varisat_checker.specs.InputCause.{IsInputCause, HasRoom, taken};
+ghost use Rattle.varisat_checker.specs.Kept.{Kept};
+ghost use Rattle.varisat_checker.specs.StateOf.{state_of};
+ghost use Rattle.varisat_checker.specs.Store.{IsStore};
+ghost use Rattle.varisat_checker.specs.declared.state.CheckerState.{CheckerState};
+
+use crate::clauses::store::{StoreFault, copies, store_clause};
+use crate::clauses::{Clauses, StoreClauseResult};
+use crate::context::ContextOf;
+use crate::hash::ClauseHasher;
+use crate::refusal::refusal;
+use crate::state::CheckerState;
+use crate::variables::{ensure_vars, some_not_sampling, var_bound};
+use checker_parts::error::{CheckCause, CheckerError};
+use checker_parts::processor::{ProofProcessor, ProofTranscriptProcessor};
+use checker_parts::sorted_lits::copy_canonical;
+use checker_parts::variables::Variables;
+use sat_formula::Lit;
+use std::alloc::{AllocError, Global};
+
+/// Adds an input clause.
+pub fn add_clause<P: ProofProcessor, T: ProofTranscriptProcessor>(
+    alloc: Global,
+    ctx: &mut ContextOf<P, T>,
+    lits: &[Lit],
+) -> Result<(), CheckerError>
+    requires { IsKept ctx.old }
+    ensures step { AnswersParts result (step (context_state ctx.old) (rules.add_clause lits.now)) (context_state ctx.new) }
+    ensures kept { UnlessFailed result (IsKept ctx.new) }
+{
+    if ctx.checker_state.unsat {
+        return Ok(());
+    }
+    let Ok(tautology) = copy_canonical(&mut ctx.tmp_data.tmp, lits) else {
+        return Err(CheckerError::OutOfMemory);
+    };
+    let clause = ctx.tmp_data.tmp.as_slice();
+    if let Some(msg) = cause(&ctx.clause_hasher, &ctx.clauses, &ctx.variables, clause) {
+        return Err(refusal(alloc, &ctx.checker_state, msg));
+    }
+    let added = take_clause(
+        alloc,
+        &mut ctx.checker_state,
+        &ctx.clause_hasher,
+        &mut ctx.clauses,
+        &mut ctx.variables,
+        clause,
+        tautology,
+    );
+    match added {
+        Ok(()) => Ok(()),
+        Err(_) => Err(CheckerError::OutOfMemory),
+    }
+}
+
+/// Why a canonical input clause can't be added.
+fn cause(
+    hasher: &ClauseHasher,
+    clauses: &Clauses,
+    variables: &Variables,
+    clause: &[Lit],
+) -> Option<CheckCause>
+    requires { IsStore hasher.now clauses.now }
+    ensures { (st : CheckerState) → IsInputCause result (state_of st hasher.now clauses.now variables.now) clause.now }
+{
+    if some_not_sampling(variables, clause) {
+        return Some(CheckCause::NotSampling);
+    }
+    if clauses.next_clause_id == u64::MAX {
+        return Some(CheckCause::IdsExhausted);
+    }
+    if copies(hasher, clauses, clause, false) == u32::MAX {
+        return Some(CheckCause::CountExhausted);
+    }
+    None
+}
+
+/// Makes the variables known and stores the clause.
+fn take_clause(
+    alloc: Global,
+    state: &mut CheckerState,
+    hasher: &ClauseHasher,
+    clauses: &mut Clauses,
+    variables: &mut Variables,
+    clause: &[Lit],
+    tautology: bool,
+) -> Result<(), AllocError>
+    requires kept { Kept state.old hasher.now clauses.old variables.old }
+    requires room { HasRoom (state_of state.old hasher.now clauses.old variables.old) clause.now }
+    requires tautology { tautology ≡ is_tautology clause.now }
+    ensures state { OnOk result (state_of state.new hasher.now clauses.new variables.new ≡ taken (state_of state.old hasher.now clauses.old variables.old) clause.now) }
+    ensures store { OnOk result (IsStore hasher.now clauses.new) }
+{
+    ensure_vars(clauses, variables, var_bound(clause))?;
+    store_input_clause(alloc, state, hasher, clauses, clause, tautology)?;
+    state.input_clauses += 1;
+    Ok(())
+}
+
+/// Stores an input clause of known variables. A tautology and a clause that stands already take an id of their own.
+fn store_input_clause(
+    alloc: Global,
+    state: &mut CheckerState,
+    hasher: &ClauseHasher,
+    clauses: &mut Clauses,
+    clause: &[Lit],
+    tautology: bool,
+) -> Result<(), AllocError>
+    requires store { IsStore hasher.now clauses.old }
+    requires room { (known : List Known) → HasRoom (state_of state.old hasher.now clauses.old known) clause.now }
+    requires known { var_bound clause.now ≤ length clauses.old.unit_clauses }
+    requires tautology { tautology ≡ is_tautology clause.now }
+    ensures state { OnOk result ((known : List Known) → state_of state.new hasher.now clauses.new known ≡ store_input clause.now (state_of state.old hasher.now clauses.old known)) }
+    ensures store { OnOk result (IsStore hasher.now clauses.new) }
+    ensures inputs { OnOk result (state.new.input_clauses ≡ state.old.input_clauses) }
+{
+    if tautology {
+        clauses.next_clause_id += 1;
+        return Ok(());
+    }
+    match store_clause(alloc, state, hasher, clauses, clause, false) {
+        Ok((_, result)) => {
+            match result {
+                StoreClauseResult::New => Ok(()),
+                _ => {
+                    clauses.next_clause_id += 1;
+                    Ok(())
+                }
+            }
+        }
+        Err(StoreFault::OutOfMemory) => Err(AllocError),
+        Err(StoreFault::IdsExhausted) => unreachable!("an id is left"),
+        Err(StoreFault::CountExhausted) => unreachable!("a copy can be counted"),
+    }
+}
