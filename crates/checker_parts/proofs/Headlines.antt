@@ -1,8 +1,8 @@
 -- The headline of a call, and the unsatisfiable side, follow from its answer by the definitions.
-use Rattle.std.proofs.Common.{◌≡◌, ◌⊎◌, ℕ, Bool, List, [], ◌∷◌, ◌++◌, Option, Some, None, Result, Ok, Err, refl, sym, ap, ◌∙◌, subst, inl, inr}
+use Rattle.std.proofs.Common.{◌≡◌, ◌⊎◌, ℕ, Bool, List, [], ◌∷◌, ◌++◌, Option, Some, None, Result, Ok, Err, sym, ap, ◌∙◌, subst, inl, inr}
 use Rattle.checker_rules.specs.Calls.{attempt, closing_conflict}
 use Rattle.checker_rules.specs.Covers.{Covers, CoversAfter}
-use Rattle.checker_rules.specs.Headline.{Good, Keeps, SetAfter, changed, holds}
+use Rattle.checker_rules.specs.Headline.{Good, SetAfter, changed, holds}
 use Rattle.checker_rules.specs.Outcome.{Cause, Outcome, and_then_by, refuse}
 use Rattle.checker_rules.specs.Run.{Runs}
 use Rattle.checker_rules.specs.State.{State, sat}

@@ -1,8 +1,7 @@
 -- The marks of user names, and what a write of one entry does to them and to the known variables.
-use Rattle.std.proofs.Common.{◌≡◌, ◌≢◌, ℕ, ◌+◌, ◌<◌, ◌≤◌, ◌⊎◌, Bool, true, false, cond, ◌||◌, eqb, List, [], ◌∷◌, ◌++◌, map, length, get_or, set, replicate, Option, Some, None, refl, sym, ap, ◌∙◌, subst, arith, inl, inr, zero, suc, ◌-◌, mul-zero}
-use Rattle.std.specs.List.{list_any, sum_by}
+use Rattle.std.proofs.Common.{◌≡◌, ◌≢◌, ℕ, ◌+◌, ◌<◌, ◌≤◌, Bool, true, false, cond, ◌||◌, List, [], ◌∷◌, ◌++◌, length, get_or, set, replicate, Option, Some, None, refl, sym, ap, ◌∙◌, arith, inl, inr, zero, suc, mul-zero}
 use Rattle.std.proofs.Math.Seq.{map-set_same}
-use Rattle.std.proofs.lemmas.Bool.{cases_eq, cases_lt, eqb-true, eq-eqb, ne_eqb, true≢false}
+use Rattle.std.proofs.lemmas.Bool.{cases_eq, cases_lt, eq-eqb, ne_eqb, true≢false}
 use Rattle.std.proofs.lemmas.List.{get_or-map, length-map, length-set, get_or-set_other, get_or-set_same, get_or_default, map-append, map-set}
 use Rattle.std.proofs.lemmas.List.Sums.{sum_by-append, sum_by-cons, sum_by-set}
 use Rattle.std.proofs.lemmas.List.Folds.{sum_by-replicate}
@@ -111,7 +110,7 @@ marked_name es j i f g e y v m hj hi atf samef isf ate unnamed name isv marks fr
     let long : length (set es j g) ≡ length es = length-set es j g in
     let written = times-set (known_list (set es j g)) i u (known_of_entry y) (omega (arith, length-known_list (set es j g))) in
     let times = ap (λ ks. times_taken ks u) list in
-    let old = ap (λ ks. names_it (known_at ks i).name u) list ∙ ap (λ o. names_it o u) unnamed in
+    let old : names_it (known_at (known_list (set es j g)) i).name u ≡ 0 = ap (λ ks. names_it (known_at ks i).name u) list ∙ ap (λ o. names_it o u) unnamed in
     let new = ap (λ o. names_it (indexes_of o) u) name in
     let after = ap (λ ks. times_taken ks u) (known_list-set (set es j g) i y) in
     let kept = mark-kept (set es j g) i u e y (omega arith) ate marks in
@@ -120,7 +119,7 @@ marked_name es j i f g e y v m hj hi atf samef isf ate unnamed name isv marks fr
       | inl eq ↦
           let one : names_it (Some (index_of v)) u ≡ 1 = ap (λ b. cond b 1 0) (eq-eqb (index_of v) u (isv ∙ sym eq)) in
           let none : times_taken (known_list es) u ≡ 0 = times-taken (known_list es) u (ap (λ n. is_taken (known_list es) n) eq ∙ free) in
-          let marked = mark-set_same es j u g eq hj ∙ ap (λ b. cond b 1 0) isf in omega arith
+          let marked : mark (set es j g) u ≡ 1 = mark-set_same es j u g eq hj ∙ ap (λ b. cond b 1 0) isf in omega arith
       | inr ne ↦
           let other : names_it (Some (index_of v)) u ≡ 0 = ap (λ b. cond b 1 0) (ne_eqb (index_of v) u (λ d. ne (sym d ∙ isv))) in
           let same = mark-set_other es j u g ne in omega arith

@@ -2,7 +2,7 @@
 --     step_of step      a checked step
 --     told step names      the step with the names that are shown with it
 --     transcript_of step      a transcript step
-use Rattle.std.specs.Prelude.{ℕ, Bool, true, false, List, Option, Some, None}
+use Rattle.std.specs.Prelude.{Bool, true, false, List, Option, Some, None}
 use Rattle.sat_formula.specs.Vars.{index_of}
 use Rattle.checker_rules.specs.CheckedSteps as rules
 use Rattle.checker_rules.specs.CheckedSteps.{CheckedStep, ShownStep}

@@ -2,7 +2,7 @@
 --     is_taken names u      whether some variable has the name
 --     times_taken names u      how many have it
 --     AreDistinct names      no two variables have the same name
-use Rattle.std.specs.Prelude.{◌≡◌, ◌≤◌, ℕ, Bool, List, cond, sum_by}
+use Rattle.std.specs.Prelude.{◌≤◌, ℕ, Bool, List, cond, sum_by}
 use Rattle.std.specs.List.{list_any}
 use Rattle.checker_rules.specs.KnownVars.{option_is}
 use Rattle.checker_rules.specs.State.{Known}

@@ -1,5 +1,5 @@
 -- The variables of the code as the known variables of the definitions.
-use Rattle.std.specs.Prelude.{◌≡◌, ℕ, Bool, false, cond, List, map, get_or, Option, None}
+use Rattle.std.specs.Prelude.{◌≡◌, ℕ, false, cond, List, map, get_or, None}
 use Rattle.sat_formula.specs.Vars.{indexes_of}
 use Rattle.checker_rules.specs.State.{Known, Mode, hide, sample, witness}
 use Rattle.checker_parts.specs.Names.{times_taken}

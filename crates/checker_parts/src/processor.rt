@@ -74,11 +74,13 @@ impl ProofProcessor for Box<dyn ProofProcessor> {
         step: &CheckedProofStep,
         names: CheckerData,
     ) -> Result<(), anyhow::Error> {
-        (**self).process_step(step, names)
+        let processor = &mut **self;
+        processor.process_step(step, names)
     }
 
     fn output(&self) -> &[u8] {
-        (**self).output()
+        let processor = &**self;
+        processor.output()
     }
 }
 
@@ -116,10 +118,12 @@ impl ProofTranscriptProcessor for Box<dyn ProofTranscriptProcessor> {
     ghost shown = { λ b. (ProofTranscriptProcessor-box b).shown b.value };
 
     fn process_step(&mut self, step: &ProofTranscriptStep) -> Result<(), anyhow::Error> {
-        (**self).process_step(step)
+        let transcript = &mut **self;
+        transcript.process_step(step)
     }
 
     fn output(&self) -> &[u8] {
-        (**self).output()
+        let transcript = &**self;
+        transcript.output()
     }
 }

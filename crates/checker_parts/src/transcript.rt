@@ -1,13 +1,14 @@
 //! Transcript steps of checked steps.
 ghost use Rattle.std.specs.Prelude.{◌≡◌, IfOk, IfErr, OnOk, Ok};
-ghost use Rattle.checker_rules.specs.Transcript.{image_of, image_user_var, mapped};
+ghost use Rattle.sat_formula.specs.Vars.{index_of};
+ghost use Rattle.checker_rules.specs.Transcript.{hides, image_of, image_user_var, known_at, mapped};
 ghost use Rattle.checker_parts.specs.CheckedSteps.{step_of, transcripts_of, user_var_of};
 ghost use Rattle.checker_parts.specs.declared.error.CheckerError.TheVariants.{OutOfMemory};
 
 use crate::error::CheckerError;
 use crate::processor::CheckerData;
 use crate::step::{CheckedProofStep, CheckedSamplingMode, CheckedUserVar, ProofTranscriptStep};
-use sat_formula::lit::Lit;
+use sat_formula::lit::{Lit, Var};
 use std::alloc::Global;
 
 /// The list of the step that transcripts are told.
@@ -36,50 +37,38 @@ impl Transcript {
         ensures ok { IfOk result (λ told. transcripts_of told ≡ image_of names.entry.0.now (step_of step.now)) }
         ensures err { IfErr result (λ e. e ≡ OutOfMemory) }
     {
-        match step {
-            CheckedProofStep::UserVar {
-                var,
-                user_var: None,
-            } => match names.0.get(*var).user_var {
-                Some(var) => Ok(Some(ProofTranscriptStep::HideVar { var })),
-                None => Ok(None),
+        let told = match step {
+            CheckedProofStep::UserVar { var, user_var } => match user_var {
+                None => hide_step(*var, names),
+                Some(user_var) => user_var_step(user_var),
             },
-            CheckedProofStep::UserVar {
-                user_var: Some(user_var),
-                ..
-            } => Ok(user_var_step(user_var)),
             CheckedProofStep::AddClause { clause, .. }
             | CheckedProofStep::DuplicatedClause { clause, .. }
             | CheckedProofStep::TautologicalClause { clause, .. } => {
-                self.map(clause, names)?;
-                Ok(Some(ProofTranscriptStep::AddClause { clause: &self.lits }))
+                let clause = self.map(clause, names)?;
+                Some(ProofTranscriptStep::AddClause { clause })
             }
-            CheckedProofStep::AtClause { clause: [], .. } => Ok(Some(ProofTranscriptStep::Unsat)),
+            CheckedProofStep::AtClause { clause: [], .. } => Some(ProofTranscriptStep::Unsat),
             CheckedProofStep::Model { assignment } => {
-                self.map(assignment, names)?;
-                Ok(Some(ProofTranscriptStep::Model {
-                    assignment: &self.lits,
-                }))
+                let assignment = self.map(assignment, names)?;
+                Some(ProofTranscriptStep::Model { assignment })
             }
             CheckedProofStep::Assumptions { assumptions } => {
-                self.map(assumptions, names)?;
-                Ok(Some(ProofTranscriptStep::Assume {
-                    assumptions: &self.lits,
-                }))
+                let assumptions = self.map(assumptions, names)?;
+                Some(ProofTranscriptStep::Assume { assumptions })
             }
             CheckedProofStep::FailedAssumptions { failed_core, .. } => {
-                self.map(failed_core, names)?;
-                Ok(Some(ProofTranscriptStep::FailedAssumptions {
-                    failed_core: &self.lits,
-                }))
+                let failed_core = self.map(failed_core, names)?;
+                Some(ProofTranscriptStep::FailedAssumptions { failed_core })
             }
-            _ => Ok(None),
-        }
+            _ => None,
+        };
+        Ok(told)
     }
 
-    // Leaves the literals of the user variables.
-    fn map(&mut self, lits: &[Lit], names: CheckerData) -> Result<(), CheckerError>
-        ensures ok { OnOk result (self.new.lits.items ≡ mapped names.entry.0.now lits.now) }
+    // The literals of the user variables.
+    fn map(&mut self, lits: &[Lit], names: CheckerData) -> Result<&[Lit], CheckerError>
+        ensures ok { IfOk result (λ told. told.now ≡ mapped names.entry.0.now lits.now) }
         ensures err { IfErr result (λ e. e ≡ OutOfMemory) }
     {
         self.lits.clear();
@@ -90,7 +79,17 @@ impl Transcript {
                 }
             }
         }
-        Ok(())
+        Ok(&self.lits)
+    }
+}
+
+// What transcripts are told where a variable loses its user name.
+fn hide_step<'a>(var: Var, names: CheckerData) -> Option<ProofTranscriptStep<'a>>
+    ensures { transcripts_of result ≡ hides (known_at names.entry.0.now (index_of var)).name }
+{
+    match names.0.get(var).user_var {
+        Some(var) => Some(ProofTranscriptStep::HideVar { var }),
+        None => None,
     }
 }
 

@@ -130,7 +130,7 @@ impl Variables {
         ensures ok { OnOk result (self.new ≡ self.old ++ replicate (count - length self.old) new_known) }
         ensures err { OnErr result (self.new ≡ self.old) }
     {
-        if self.entries.len() < count {
+        if self.len() < count {
             self.entries.resize(
                 count,
                 Entry {

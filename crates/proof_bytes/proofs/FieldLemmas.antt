@@ -1,15 +1,15 @@
 -- Fields, one after the other.
-use Rattle.std.proofs.Common.{◌≡◌, ℕ, zero, suc, ◌+◌, ◌-◌, ◌*◌, ◌^◌, ◌<◌, ◌≤◌, Bool, true, false, List, [], ◌∷◌, ◌++◌, Result, Ok, Err, cond, ltb, eqb, refl, sym, ap, ◌∙◌, arith, append_assoc, append-nil}
-use Rattle.std.proofs.lemmas.Bool.{lt-ltb, le-ltb, eq-eqb, ne_eqb}
-use Rattle.std.specs.Prelude.{SomeIff, Option, Some, None, if◌then◌else◌, nat_lt, ◌==◌}
+use Rattle.std.proofs.Common.{◌≡◌, ℕ, zero, suc, ◌-◌, ◌^◌, ◌<◌, ◌≤◌, List, [], ◌∷◌, ◌++◌, Ok, Err, cond, refl, sym, ap, ◌∙◌, arith, append_assoc, append-nil}
+use Rattle.std.proofs.lemmas.Bool.{lt-ltb, le-ltb}
+use Rattle.std.specs.Prelude.{SomeIff, Option, Some, None, if◌then◌else◌, nat_lt}
 use Rattle.proof_bytes.specs.declared.fault.MalformedStep.TheVariants.{OutOfRange}
 use Rattle.proof_bytes.specs.declared.fault.Stop.{Stop}
 use Rattle.proof_bytes.specs.declared.fault.Stop.TheVariants as faults
-use Rattle.proof_bytes.specs.Reading.{Fault, Short, Wrong, Found, ◌>>=◌, byte_at, number_at}
+use Rattle.proof_bytes.specs.Reading.{Wrong, Found, ◌>>=◌, number_at}
 use Rattle.proof_bytes.specs.Fields.{below_at, named, justified, made_at, pair_at, many_at, list_at}
 use Rattle.checker_rules.specs.Step.{by_simplified}
 use Rattle.proof_bytes.specs.Taking.{Leads, Faults}
-use Rattle.proof_bytes.proofs.Leading.{Known, leads_nil, leads_bind, leads_same, then_leads, faults_bind, then_faults, wrong}
+use Rattle.proof_bytes.proofs.Leading.{Known, leads_bind, leads_same, then_leads, faults_bind, then_faults, wrong}
 
 -- ---- a number below a limit
 

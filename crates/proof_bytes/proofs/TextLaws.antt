@@ -1,19 +1,18 @@
 -- How texts begin, and texts of many steps.
-use Rattle.std.proofs.Common.{◌≡◌, ◌≢◌, ◌⊎◌, ℕ, zero, suc, List, [], ◌∷◌, ◌++◌, Result, Ok, Err, refl, sym, ap, subst, ◌∙◌, inl, inr, append_assoc, arith}
+use Rattle.std.proofs.Common.{◌≡◌, ◌≢◌, ℕ, suc, List, [], ◌∷◌, ◌++◌, Err, refl, sym, ap, subst, ◌∙◌, inl, append_assoc, arith}
 use Rattle.std.proofs.lemmas.Bool.{ne_eqb}
-use Rattle.std.specs.Prelude.{if◌then◌else◌}
 use Rattle.checker_rules.specs.Step.{Step, solver_var_name, user_var_name, delete_var, change_sampling_mode, add_clause, at_clause, delete_clause, unit_clauses, change_hash_bits, model, assumptions, failed_assumptions, end_proof}
 use Rattle.proof_bytes.specs.declared.fault.MalformedStep.TheVariants.{UnknownTag}
 use Rattle.proof_bytes.specs.declared.format.Format.{Format}
 use Rattle.proof_bytes.specs.declared.format.Format.TheVariants as formats
 use Rattle.proof_bytes.specs.Fields.{made_at}
-use Rattle.proof_bytes.specs.Formats.{after, set_width}
+use Rattle.proof_bytes.specs.Formats.{after}
 use Rattle.proof_bytes.specs.Laws.{NoSpellingBeginsAnother, SpelledIsRead, ReadIsSpelled, StartIsRead, TextIsRead}
-use Rattle.proof_bytes.specs.Reading.{Fault, Short, Wrong, Found, ◌>>=◌, byte_at}
+use Rattle.proof_bytes.specs.Reading.{Wrong, Found, ◌>>=◌}
 use Rattle.proof_bytes.specs.Spelling.{spells, IsStep}
-use Rattle.proof_bytes.specs.Steps.{fields_at, step_at, next_at, tag_at, marked_at, after_tag, then_after}
+use Rattle.proof_bytes.specs.Steps.{step_at, next_at, tag_at, marked_at, then_after}
 use Rattle.proof_bytes.specs.Texts.{Place, start_of, next_of, step_or_fault, ReadsTo, text, AreSteps, after_all}
-use Rattle.proof_bytes.proofs.Codec.{gives, given}
+use Rattle.proof_bytes.proofs.Codec.{given}
 use Rattle.proof_bytes.proofs.StepLaws.{step_again, step_exact}
 
 pub spelled_is_read : SpelledIsRead

@@ -2,7 +2,7 @@
 --     SoFar      what was taken and accepted so far; `nothing_yet` begins it, `one_more` is a turn of the loop
 --     run_refused, run_faulted, run_exhausted, run_closed      how it ends; `run_before` where a call in it gave up
 --     run_of_known      over a reader that tells its bytes
-use Rattle.std.proofs.Common.{◌≡◌, ◌⊎◌, ℕ, Bool, true, false, cond, ltb, List, [], ◌∷◌, ◌++◌, Option, Some, None, Result, Ok, Err, refl, sym, ap, subst, ◌∙◌, inl, inr, append-nil, append_assoc, arith}
+use Rattle.std.proofs.Common.{◌≡◌, ◌⊎◌, ℕ, Bool, true, false, ltb, List, [], ◌∷◌, ◌++◌, Option, Some, None, Ok, Err, refl, sym, ap, subst, ◌∙◌, inl, inr, append-nil, append_assoc, arith}
 use Rattle.std.proofs.lemmas.Bool.{false≢true}
 use Rattle.std.specs.Io.KnownBytes.{Consumes, IsAtEnd}
 use Rattle.std.proofs.KnownBytes.{Consumes-trans, Consumes-nil}
@@ -18,10 +18,10 @@ use Rattle.proof_bytes.specs.declared.fault.ProofFault.TheVariants as proof_faul
 use Rattle.proof_bytes.specs.declared.format.Format.{Format}
 use Rattle.proof_bytes.specs.declared.format.Format.TheVariants as formats
 use Rattle.proof_bytes.specs.NextStep.{is_end}
-use Rattle.proof_bytes.specs.Reading.{Fault, Short, Wrong, Found}
+use Rattle.proof_bytes.specs.Reading.{Fault, Short, Wrong}
 use Rattle.proof_bytes.specs.Steps.{next_at}
 use Rattle.proof_bytes.specs.Taking.{IsBytes, Leads, Faults, stop_of}
-use Rattle.proof_bytes.specs.TextRuns.{Answer, BeginsTextOf, IsTextOf, RunsBefore, RunsOver, RunsTo, RunsToFault, RunsUntilRead}
+use Rattle.proof_bytes.specs.TextRuns.{Answer, BeginsTextOf, IsTextOf, RunsBefore, RunsOver, RunsTo, RunsToFault}
 use Rattle.proof_bytes.specs.Texts.{Place, next_of, start_of, step_or_fault}
 use Rattle.proof_bytes.proofs.Leading.{Known, bytes_on}
 

@@ -1,11 +1,11 @@
 -- How the fields of steps are read.
-use Rattle.std.specs.Prelude.{◌≡◌, ℕ, zero, suc, ◌+◌, ◌*◌, ◌^◌, Bool, List, [], ◌∷◌, Option, Some, None, Result, Ok, Err, nat_lt, ◌==◌, if◌then◌else◌}
+use Rattle.std.specs.Prelude.{ℕ, zero, suc, ◌+◌, ◌*◌, ◌^◌, Bool, List, [], ◌∷◌, Option, Some, None, Ok, Err, nat_lt, ◌==◌, if◌then◌else◌}
 use Rattle.checker_rules.specs.Step.{Justification, by_redundant, by_satisfied, by_simplified}
 use Rattle.proof_bytes.specs.declared.fault.MalformedStep.TheVariants.{OutOfRange}
 use Rattle.proof_bytes.specs.declared.format.Format.{Format}
 use Rattle.proof_bytes.specs.declared.format.Format.TheVariants as formats
 use Rattle.proof_bytes.specs.Formats.{bytes_of}
-use Rattle.proof_bytes.specs.Reading.{Fault, Short, Wrong, Found, ◌>>=◌, byte_at, number_at}
+use Rattle.proof_bytes.specs.Reading.{Wrong, Found, ◌>>=◌, byte_at, number_at}
 
 -- a number below a limit
 unfoldable pub below_at : ℕ → List ℕ → Found ℕ

@@ -3,7 +3,7 @@
 --     RunsOver      a run over the whole text
 --     RunsUntilRead, RunsBefore      runs over what was read, where a read failed or memory was wanted
 --     RunsToFault      the run that a fault of the reader ended
-use Rattle.std.specs.Prelude.{◌≡◌, ◌⊎◌, ℕ, List, [], ◌∷◌, ◌++◌, Option, Some, None, Result, Ok, Err}
+use Rattle.std.specs.Prelude.{◌≡◌, ◌⊎◌, ℕ, List, [], ◌∷◌, ◌++◌, Option, Some, None}
 use Rattle.std.proofs.Common.{inl, inr}
 use Rattle.checker_rules.specs.Calls.{attempt}
 use Rattle.checker_rules.specs.Outcome.{Cause}
@@ -12,10 +12,7 @@ use Rattle.checker_rules.specs.State.{State}
 use Rattle.checker_rules.specs.Step.{Step}
 use Rattle.proof_bytes.specs.declared.fault.ProofFault.{ProofFault}
 use Rattle.proof_bytes.specs.declared.fault.ProofFault.TheVariants as proof_faults
-use Rattle.proof_bytes.specs.declared.format.Format.{Format}
-use Rattle.proof_bytes.specs.declared.format.Format.TheVariants as formats
-use Rattle.proof_bytes.specs.Reading.{Fault, Short, Wrong, Found}
-use Rattle.proof_bytes.specs.Steps.{next_at}
+use Rattle.proof_bytes.specs.Reading.{Fault, Short, Wrong}
 use Rattle.proof_bytes.specs.Taking.{IsBytes}
 use Rattle.proof_bytes.specs.Texts.{Place, start_of, next_of}
 

@@ -2,7 +2,7 @@
 --     Place, start_of, next_of      a place in a text, and the next step there
 --     ReadsTo      the steps from a place to another
 --     text, AreSteps, after_all      the bytes of many steps
-use Rattle.std.specs.Prelude.{◌≡◌, ◌⊎◌, ℕ, List, [], ◌∷◌, ◌++◌, Result, Ok, Err}
+use Rattle.std.specs.Prelude.{◌≡◌, ◌⊎◌, ℕ, List, [], ◌∷◌, ◌++◌, Ok, Err}
 use Rattle.std.proofs.Common.{inl, inr}
 use Rattle.checker_rules.specs.Step.{Step}
 use Rattle.proof_bytes.specs.declared.format.Format.{Format}

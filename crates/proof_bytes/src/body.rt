@@ -6,6 +6,7 @@ use crate::fields::Fields;
 use crate::format::Format;
 use crate::hash::ClauseHash;
 use crate::step::{DeleteClauseProof, ProofStep};
+use crate::tag;
 use sat_formula::{Lit, Var};
 use std::alloc::Global;
 use std::io::Read;
@@ -152,19 +153,19 @@ impl<R: Read> BodyReader<R> {
         ensures { Fills R.remaining (λ h. step_of h self.new) self.old self.new result (fields_at format tag) }
     {
         match tag {
-            1 => self.solver_var_name(),
-            2 => self.user_var_name(),
-            3 => self.delete_var(),
-            4 => self.change_sampling_mode(),
-            5 => self.add_clause(),
-            6 => self.at_clause(format),
-            7 => self.delete_clause(),
-            8 => self.unit_clauses(format),
-            9 => self.change_hash_bits(),
-            10 => self.model(),
-            11 => self.assumptions(),
-            12 => self.failed_assumptions(format),
-            13 => Ok(Head::End),
+            tag::SOLVER_VAR_NAME => self.solver_var_name(),
+            tag::USER_VAR_NAME => self.user_var_name(),
+            tag::DELETE_VAR => self.delete_var(),
+            tag::CHANGE_SAMPLING_MODE => self.change_sampling_mode(),
+            tag::ADD_CLAUSE => self.add_clause(),
+            tag::AT_CLAUSE => self.at_clause(format),
+            tag::DELETE_CLAUSE => self.delete_clause(),
+            tag::UNIT_CLAUSES => self.unit_clauses(format),
+            tag::CHANGE_HASH_BITS => self.change_hash_bits(),
+            tag::MODEL => self.model(),
+            tag::ASSUMPTIONS => self.assumptions(),
+            tag::FAILED_ASSUMPTIONS => self.failed_assumptions(format),
+            tag::END => Ok(Head::End),
             _ => Err(Stop::Malformed(MalformedStep::UnknownTag)),
         }
     }

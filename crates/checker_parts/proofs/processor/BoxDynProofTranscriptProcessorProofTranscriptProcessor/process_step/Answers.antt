@@ -1,4 +1,3 @@
-use Rattle.std.proofs.Common.{◌≡◌}
 use Rattle.std.proofs.lemmas.Result.{on_ok_weaker, on_err_weaker}
 use Rattle.checker_parts.proofs.InBoxes.{in_box}
 use Rattle.checker_parts.proofs.processor.BoxDynProofTranscriptProcessorProofTranscriptProcessor.process_step.Goals as goal

@@ -1,6 +1,5 @@
-use Rattle.std.proofs.Common.{◌≡◌, ◌∙◌, ◌<◌, ℕ, Some, ap, sym, refl, subst}
+use Rattle.std.proofs.Common.{◌∙◌, ◌<◌, ℕ, Some, ap, sym, refl, subst}
 use Rattle.sat_formula.specs.Vars.{indexes_of}
-use Rattle.checker_parts.specs.declared.variables.Entry.{Entry}
 use Rattle.checker_parts.specs.declared.variables.Variables.TheInside.{Inside}
 use Rattle.checker_parts.proofs.Marks.{IsUnmarked, hidden_list, length_from_view, marked_hidden, name-in_range, unmarked_name, unmarked_nothing}
 use Rattle.checker_parts.proofs.variables.Variables.hide.Goals as goal

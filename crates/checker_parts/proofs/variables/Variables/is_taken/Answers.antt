@@ -1,10 +1,10 @@
-use Rattle.std.proofs.Common.{◌≡◌, ◌∙◌, ℕ, ◌≤◌, get_or, length, ap, sym, arith}
+use Rattle.std.proofs.Common.{◌≡◌, ◌∙◌, ◌≤◌, get_or, length, ap, sym, arith}
 use Rattle.std.proofs.lemmas.Grind.{common_steps}
 use Rattle.std.proofs.Math.ListN.{get_or-eq_default}
 use Rattle.checker_parts.specs.Names.{is_taken}
-use Rattle.checker_parts.specs.Variables.{known_list, new_entry}
+use Rattle.checker_parts.specs.Variables.{new_entry}
 use Rattle.checker_parts.specs.declared.variables.Entry.{Entry}
-use Rattle.checker_parts.proofs.Marks.{distinct-marks, taken-mark}
+use Rattle.checker_parts.proofs.Marks.{taken-mark}
 use Rattle.checker_parts.proofs.variables.Variables.is_taken.Goals as goal
 
 pub returns-in-Some-clause-value : goal.returns-in-Some-clause-value

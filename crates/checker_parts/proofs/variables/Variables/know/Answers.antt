@@ -12,17 +12,20 @@ grown : (es new : List Entry) (len n : ℕ) → len ≡ length es → new ≡ ta
 grown es new len n same e h =
     e ∙ ap (λ (xs : List Entry). xs ++ replicate (n - len) new_entry) (take_all n es (omega arith)) ∙ ap (λ k. es ++ replicate (n - k) new_entry) same
 
+room : (es : List Entry) (ks : List Known) (len n : ℕ) → known_list es ≡ ks → len ≡ length es → length ks < n → len < n
+room es ks len n view same h = let long = ap (λ (ks : List Known). length ks) view in omega (arith, length-known_list es)
+
 pub invariant_of-self : goal.invariant_of-self
 invariant_of-self c =
     let es = c.self.inside.entries.items in
-    let left = grown es c.resize.new.self.items _ c.args.count c.self.inside.entries.ok.0 c.in_ok-resize.ensures.items (subst (λ n. n < c.args.count) c.len.ensures c.if-len-count.true) in
-    subst IsMarked (sym left) (marked_more es _ c.self.invariant)
+    let less = room es c.args.self.now _ c.args.count c.self.view_is c.self.inside.entries.ok.0 (subst (λ n. n < c.args.count) c.len.ensures c.if-len-count.true) in
+    subst IsMarked (sym (grown es c.resize.new.self.items _ c.args.count c.self.inside.entries.ok.0 c.in_ok-resize.ensures.items less)) (marked_more es _ c.self.invariant)
 
 pub returns-in_ok-resize-clause-ok : goal.returns-in_ok-resize-clause-ok
 returns-in_ok-resize-clause-ok c =
     let es = c.self.inside.entries.items in
-    let left = grown es c.resize.new.self.items _ c.args.count c.self.inside.entries.ok.0 c.in_ok-resize.ensures.items (subst (λ n. n < c.args.count) c.len.ensures c.if-len-count.true) in
-    ap known_list left
+    let less = room es c.args.self.now _ c.args.count c.self.view_is c.self.inside.entries.ok.0 (subst (λ n. n < c.args.count) c.len.ensures c.if-len-count.true) in
+    ap known_list (grown es c.resize.new.self.items _ c.args.count c.self.inside.entries.ok.0 c.in_ok-resize.ensures.items less)
     ∙ known_list-more es (c.args.count - length es)
     ∙ ap (λ n. known_list es ++ replicate (c.args.count - n) new_known) (sym (length-known_list es))
     ∙ ap (λ (ks : List Known). ks ++ replicate (c.args.count - length ks) new_known) c.self.view_is

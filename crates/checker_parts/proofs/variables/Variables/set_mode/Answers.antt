@@ -1,4 +1,4 @@
-use Rattle.std.proofs.Common.{◌≡◌, refl}
+use Rattle.std.proofs.Common.{refl}
 use Rattle.checker_parts.proofs.Marks.{length_from_view, marked_mode, mode_list}
 use Rattle.checker_parts.proofs.variables.Variables.set_mode.Goals as goal
 

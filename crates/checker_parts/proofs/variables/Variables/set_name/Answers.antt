@@ -1,4 +1,4 @@
-use Rattle.std.proofs.Common.{◌≡◌, ◌∙◌, ℕ, List, false, None, ap, sym, refl}
+use Rattle.std.proofs.Common.{◌∙◌, List, ap, sym, refl}
 use Rattle.checker_rules.specs.State.{Known}
 use Rattle.checker_rules.specs.Transcript.{known_at}
 use Rattle.checker_parts.specs.Names.{is_taken}

@@ -1,4 +1,4 @@
-use Rattle.std.proofs.Common.{rules, arith, refl}
+use Rattle.std.proofs.Common.{arith}
 use Rattle.proof_bytes.specs.Steps.{fields_at}
 use Rattle.proof_bytes.proofs.Leading.{leads_nil, malformed}
 use Rattle.proof_bytes.proofs.Tags.{unknown_tag}

@@ -1,5 +1,4 @@
-use Rattle.std.proofs.Common.{ℕ, rules, sym}
-use Rattle.proof_bytes.specs.declared.format.Format.{Format}
+use Rattle.std.proofs.Common.{sym}
 use Rattle.checker_rules.specs.Step.{change_hash_bits}
 use Rattle.proof_bytes.proofs.Leading.{exits}
 use Rattle.proof_bytes.proofs.Tags.{no_tag, no_fields, step_read, after_same}

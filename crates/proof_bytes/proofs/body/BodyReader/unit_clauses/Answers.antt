@@ -1,6 +1,6 @@
 use Rattle.checker_rules.specs.Step.{unit_clauses}
 use Rattle.proof_bytes.specs.Fields.{list_at, unit_at}
-use Rattle.proof_bytes.proofs.Leading.{exits, leads_on, faults_on}
+use Rattle.proof_bytes.proofs.Leading.{exits}
 use Rattle.proof_bytes.proofs.StepFields.{only_fails, only_read}
 use Rattle.proof_bytes.proofs.body.BodyReader.unit_clauses.Goals as goal
 

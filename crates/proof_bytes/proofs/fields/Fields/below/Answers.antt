@@ -1,5 +1,4 @@
-use Rattle.std.proofs.Common.{rules, arith}
-use Rattle.proof_bytes.proofs.Leading.{exits, malformed, no_memory}
+use Rattle.proof_bytes.proofs.Leading.{exits, malformed}
 use Rattle.proof_bytes.proofs.FieldLemmas.{below_fails, below_ok, below_wrong}
 use Rattle.proof_bytes.proofs.fields.Fields.below.Goals as goal
 

@@ -1,7 +1,7 @@
-use Rattle.std.proofs.Common.{refl, ◌≡◌}
+use Rattle.std.proofs.Common.{refl}
 use Rattle.std.specs.Prelude.{◌==◌}
 use Rattle.proof_bytes.specs.Fields.{below_at}
-use Rattle.proof_bytes.proofs.Leading.{exits, malformed, no_memory}
+use Rattle.proof_bytes.proofs.Leading.{exits}
 use Rattle.proof_bytes.proofs.FieldLemmas.{made_fails, made_read}
 use Rattle.proof_bytes.proofs.fields.Fields.flag.Goals as goal
 

@@ -1,6 +1,6 @@
-use Rattle.std.proofs.Common.{rules, arith, ◌-◌, ◌+◌, ◌^◌}
+use Rattle.std.proofs.Common.{arith, ◌-◌, ◌+◌}
 use Rattle.proof_bytes.specs.Fields.{hash_at}
-use Rattle.proof_bytes.proofs.Leading.{exits, malformed, no_memory}
+use Rattle.proof_bytes.proofs.Leading.{exits, no_memory}
 use Rattle.proof_bytes.proofs.FieldLemmas.{list_fails, list_begins, item_fails, item_read, list_ends}
 use Rattle.proof_bytes.proofs.fields.Fields.hashes.Goals as goal
 

@@ -1,4 +1,4 @@
-use Rattle.std.proofs.Common.{◌-◌, ◌^◌}
+use Rattle.std.proofs.Common.{◌-◌}
 use Rattle.proof_bytes.specs.Taking.{unread_fields, Leads}
 use Rattle.proof_bytes.specs.Fields.{list_at, many_at, hash_at}
 use Rattle.proof_bytes.proofs.FieldLemmas.{with_front}

@@ -1,6 +1,6 @@
-use Rattle.std.proofs.Common.{rules, arith, refl}
+use Rattle.std.proofs.Common.{arith, refl}
 use Rattle.proof_bytes.specs.Fields.{below_at, justified}
-use Rattle.proof_bytes.proofs.Leading.{exits, malformed, no_memory}
+use Rattle.proof_bytes.proofs.Leading.{exits}
 use Rattle.proof_bytes.proofs.FieldLemmas.{made_fails, made_read, justified_last}
 use Rattle.proof_bytes.proofs.fields.Fields.justification.Goals as goal
 

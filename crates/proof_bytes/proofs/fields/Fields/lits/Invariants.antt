@@ -1,6 +1,5 @@
 use Rattle.std.proofs.Common.{◌-◌, ◌^◌}
 use Rattle.proof_bytes.specs.Taking.{unread_fields, Leads}
-use Rattle.proof_bytes.specs.Reading.{number_at}
 use Rattle.proof_bytes.specs.Fields.{list_at, many_at, below_at}
 use Rattle.proof_bytes.proofs.FieldLemmas.{with_front}
 use Rattle.proof_bytes.proofs.fields.Fields.lits.Given as goal

@@ -1,5 +1,5 @@
-use Rattle.std.proofs.Common.{rules, arith, ◌≡◌, ◌-◌, ◌+◌, ℕ, suc}
-use Rattle.proof_bytes.proofs.Leading.{exits, malformed, no_memory}
+use Rattle.std.proofs.Common.{rules, arith, ◌-◌, ◌+◌}
+use Rattle.proof_bytes.proofs.Leading.{exits, malformed}
 use Rattle.proof_bytes.proofs.Numbers.{first_alone, first_of_more, first_fails, group_fails, group_zero, group_last, group_more, tenth_fails, tenth_wrong, tenth_one, fits, next_weight}
 use Rattle.proof_bytes.proofs.fields.Fields.number.Goals as goal
 

@@ -1,5 +1,5 @@
-use Rattle.std.proofs.Common.{rules, arith, ◌^◌}
-use Rattle.proof_bytes.proofs.Leading.{exits, malformed, no_memory}
+use Rattle.std.proofs.Common.{arith, ◌^◌}
+use Rattle.proof_bytes.proofs.Leading.{exits, malformed}
 use Rattle.proof_bytes.proofs.FieldLemmas.{below_fails, below_ok, below_wrong}
 use Rattle.proof_bytes.proofs.fields.Fields.var.Goals as goal
 

@@ -1,6 +1,6 @@
-use Rattle.std.proofs.Common.{rules, arith, refl, sym, ◌∙◌, ◌-◌, ◌+◌, ◌*◌, ◌/◌}
+use Rattle.std.proofs.Common.{arith, refl, sym, ◌∙◌, ◌-◌, ◌+◌, ◌*◌}
 use Rattle.proof_bytes.specs.Formats.{bytes_of}
-use Rattle.proof_bytes.proofs.Leading.{exits, malformed, no_memory}
+use Rattle.proof_bytes.proofs.Leading.{exits, malformed}
 use Rattle.proof_bytes.proofs.Wide.{wide_begins, wide_fails, wide_more, wide_ok, wide_wrong, fits_256, next_256}
 use Rattle.proof_bytes.proofs.fields.Fields.wide.Goals as goal
 

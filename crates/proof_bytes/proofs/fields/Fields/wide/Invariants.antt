@@ -1,4 +1,4 @@
-use Rattle.std.proofs.Common.{◌≡◌, ◌+◌, ◌-◌, ◌*◌, ◌^◌, ◌<◌}
+use Rattle.std.proofs.Common.{◌≡◌, ◌-◌, ◌*◌, ◌^◌, ◌<◌}
 use Rattle.proof_bytes.specs.Taking.{unread_fields, Leads}
 use Rattle.proof_bytes.specs.Formats.{bytes_of}
 use Rattle.proof_bytes.specs.Fields.{wide_at}
