@@ -2,7 +2,9 @@ pub mod AssumeLemmas
 pub mod CheckLemmas
 pub mod ColumnLemmas
 pub mod StatusLemmas
+pub mod TraceLemmas
 pub mod TrailLemmas
 pub mod UnitsLemmas
 pub mod ViewLemmas
+pub mod VisitLemmas
 pub mod WalkLemmas

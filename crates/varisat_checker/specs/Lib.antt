@@ -3,6 +3,7 @@ pub mod CheckLaw
 pub mod Lits
 pub mod Rup
 pub mod StateOf
+pub mod Trace
 pub mod Trail
 pub mod Units
 pub mod View

@@ -1,5 +1,6 @@
 //! The propagation check.
 pub mod status;
+pub mod trace;
 pub mod trail;
 pub mod walk;
 
