@@ -20,7 +20,9 @@ pub mod SameListLemmas
 pub mod StatusLemmas
 pub mod StepAnswers
 pub mod StoreLemmas
+pub mod TraceLemmas
 pub mod TrailLemmas
 pub mod UnitsLemmas
 pub mod ViewLemmas
+pub mod VisitLemmas
 pub mod WalkLemmas

@@ -55,7 +55,7 @@ true_lits-falsity us m = true_lits-by us (negate m) ∙ ap (λ v. makes_true (op
 by_sign : (m k : ℕ) → var_of k ≡ var_of m → same_bool (not (is_negative m)) (not (is_negative k)) ≡ eqb k m
 by_sign m k e = grind (arith, nat_tests)
 
-negation_is : (m k : ℕ) → var_of k ≡ var_of m → (k ≡ m → ⊥) → k ≡ negate m
+pub negation_is : (m k : ℕ) → var_of k ≡ var_of m → (k ≡ m → ⊥) → k ≡ negate m
 negation_is m k e ne = grind (arith, nat_tests)
 
 absorbed : (s : ℕ → Bool) (m k : ℕ) → s (negate m) ≡ false → var_of k ≡ var_of m → eqb k m ≡ (eqb k m || s k)

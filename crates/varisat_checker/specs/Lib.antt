@@ -14,6 +14,7 @@ pub mod Refusal
 pub mod Rup
 pub mod StateOf
 pub mod Store
+pub mod Trace
 pub mod Trail
 pub mod Units
 pub mod View

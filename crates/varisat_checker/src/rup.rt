@@ -1,6 +1,7 @@
 //! The propagation check.
 pub mod check;
 pub mod status;
+pub mod trace;
 pub mod trail;
 pub mod walk;
 

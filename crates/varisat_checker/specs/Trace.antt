@@ -1,0 +1,74 @@
+-- What a traced check lists.
+use Rattle.std.specs.Prelude.{◌≡◌, ℕ, Bool, true, false, cond, ◌&&◌, List, [], ◌∷◌, ◌++◌, map, Option, None, Some, All}
+use Rattle.std.specs.Option.{option_map}
+use Rattle.checker_rules.specs.Clauses.{var_of}
+use Rattle.checker_rules.specs.Emits.{first_true}
+use Rattle.checker_rules.specs.Hints.{Item, Visit, trace, unlisted_at, visit}
+use Rattle.checker_rules.specs.State.{Stored, StoredUnit, some_true_unit, start_set, unit_of}
+use Rattle.checker_rules.specs.Store.{unit_id}
+use Rattle.checker_rules.specs.Traced.{ids_of}
+use Rattle.varisat_checker.specs.declared.clauses.units.UnitClause.{UnitClause}
+use Rattle.varisat_checker.specs.declared.clauses.units.UnitId.{UnitId}
+use Rattle.varisat_checker.specs.declared.clauses.units.UnitId.TheVariants.{Global, TracePos, InClause}
+use Rattle.varisat_checker.specs.Buckets.{Buckets}
+use Rattle.varisat_checker.specs.Rup.{true_lits}
+use Rattle.varisat_checker.specs.StateOf.{stored_units}
+use Rattle.varisat_checker.specs.Units.{unit_at}
+use Rattle.varisat_checker.specs.View.{stored_in}
+
+-- whether the id is a stored unit's
+abbrev pub is_global : UnitId → Bool
+is_global (Global n) = true
+is_global (TracePos n) = false
+is_global InClause = false
+
+-- a variable that has no value, or that of a stored unit
+abbrev pub IsAtRest : Option UnitClause → Type 0
+IsAtRest None = Unit {0}
+IsAtRest (Some u) = is_global u.id ≡ true
+
+-- every value is a stored unit's
+abbrev pub AreStored : List (Option UnitClause) → Type 0
+AreStored us = All IsAtRest us
+
+-- whether there is a value, and a stored unit's
+abbrev pub has_stored : Option UnitClause → Bool
+has_stored None = false
+has_stored (Some u) = is_global u.id
+
+-- the literals that stored units make true
+abbrev pub unlisted_lits : List (Option UnitClause) → ℕ → Bool
+unlisted_lits us m = has_stored (unit_at us (var_of m)) && true_lits us m
+
+-- no stored unit's value is new
+abbrev pub KeepsStored : List (Option UnitClause) → List (Option UnitClause) → Type 0
+KeepsStored us vs = (v : ℕ) → has_stored (unit_at vs v) ≡ true → unit_at us v ≡ unit_at vs v
+
+-- the ids of what is listed
+abbrev pub item_ids : List Item → List ℕ
+item_ids xs = map (λ x. x.id) xs
+
+-- what a look at the literals finds
+abbrev pub look : List (Option UnitClause) → List ℕ → Visit
+look us c = visit (stored_units us) (true_lits us) (unlisted_lits us) c
+
+-- the ids that are listed after a look, and the literals that stored units make true that are not
+abbrev pub looked : List ℕ → List (Option UnitClause) → List ℕ → List ℕ × (ℕ → Bool)
+looked ids us c = (ids ++ item_ids (look us c).items, (look us c).unlisted)
+
+-- the ids that are listed after a walk that meets a falsified clause
+abbrev pub ids_after : List ℕ → List (Option UnitClause) → List Stored → Option (List ℕ)
+ids_after ids us es = option_map (λ items. ids ++ item_ids items) (trace (stored_units us) (true_lits us) (unlisted_lits us) es)
+
+-- whatever clauses follow, the ids after all are known after these
+abbrev pub Lists : List ℕ → List (Option UnitClause) → List Stored → Bool → List ℕ → List (Option UnitClause) → Type 0
+Lists ids us es falsified ids_now us_now = (rest : List Stored) → ids_after ids us (es ++ rest) ≡ cond falsified (Some ids_now) (ids_after ids_now us_now rest)
+
+-- the clauses of the named buckets, one after the other
+abbrev pub named_clauses : List ℕ → Buckets → List ℕ → List Stored
+named_clauses buffer m [] = []
+named_clauses buffer m (h ∷ hs) = stored_in buffer m h ++ named_clauses buffer m hs
+
+-- the trace of a check over these clauses
+abbrev pub clause_trace : List (Option StoredUnit) → List ℕ → List Stored → List ℕ
+clause_trace us c es = cond (some_true_unit us c) (unit_id (unit_of us (var_of (first_true us c))) ∷ []) (ids_of (trace us (start_set us c) (unlisted_at us c) es))
