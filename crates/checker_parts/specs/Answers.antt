@@ -3,7 +3,8 @@
 --     all_steps s ts, first_accepted s ts      the outcome of a list of steps up to the first refusal, and the steps accepted before it
 --     EndsRun r next s x ts u      the answer r and the state u are those of the run from s over the text x, which accepted ts
 --     UnlessFailed r P      P, unless the call failed the checker
---     AnswersParts r o s      as AnswersStep, unless the call failed the checker
+--     UnlessGivenUp r P      P, unless memory was refused or a processor answered a fault
+--     AnswersParts r o s      as AnswersStep, and nothing where the call gave up
 --     IsFold ts s, IsCovered ts s      the satisfying set of s is the fold over ts; the members make all that is stored true
 --     SetsFold r ts t s, CoversFold r ts t s      the two after a call for one step t, where the steps ts came before
 use Rattle.std.specs.Prelude.{◌≡◌, ◌⊎◌, ℕ, Bool, true, List, [], ◌∷◌, ◌++◌, Option, Some, None, Result, Ok, Err}
@@ -99,6 +100,17 @@ SetsFold r ts t s = UnlessFailed r (IsFold (with_accepted r ts t) s)
 abbrev pub CoversFold : {A : Type 0} → Result A CheckerError → List Step → Step → State → Type 0
 CoversFold r ts t s = UnlessFailed r (IsCovered (with_accepted r ts t) s)
 
--- of a function over the parts of a checker, whose caller records a failure
+-- the fact, unless memory was refused or a processor answered a fault
+abbrev pub UnlessGivenUp : {A : Type 0} → Result A CheckerError → Type 0 → Type 0
+UnlessGivenUp (Ok done) P = P
+UnlessGivenUp (Err (CheckFailed number cause debug_step)) P = P
+UnlessGivenUp (Err (ProofIncomplete number)) P = P
+UnlessGivenUp (Err (IoError number cause)) P = P
+UnlessGivenUp (Err (ParseError number cause)) P = P
+UnlessGivenUp (Err (ProofProcessorError cause)) P = Unit {0}
+UnlessGivenUp (Err OutOfMemory) P = Unit {0}
+UnlessGivenUp (Err Failed) P = P
+
+-- of a function over the parts of a checker, whose caller records that it gave up
 abbrev pub AnswersParts : {A : Type 0} → Result A CheckerError → Outcome → State → Type 0
-AnswersParts r o s = UnlessFailed r (AnswersStep r o s)
+AnswersParts r o s = UnlessGivenUp r (AnswersStep r o s)

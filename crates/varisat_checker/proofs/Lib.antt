@@ -6,6 +6,7 @@ pub mod BucketLemmas
 pub mod BufferLemmas
 pub mod CheckLemmas
 pub mod ColumnLemmas
+pub mod CountLemmas
 pub mod EditLemmas
 pub mod FoundLemmas
 pub mod GrowthLemmas
@@ -14,6 +15,7 @@ pub mod InputLemmas
 pub mod LongLemmas
 pub mod NewLemmas
 pub mod OutcomeLemmas
+pub mod ProofRuns
 pub mod ReadyLemmas
 pub mod RefusalLemmas
 pub mod SameListLemmas

@@ -55,7 +55,7 @@ answers-unless-memory (Err (IoError number read)) o s h e = absurd cc
 answers-unless-memory (Err (ParseError number kind)) o s h e = absurd cc
 answers-unless-memory (Err (ProofProcessorError fault)) o s h e = tt
 answers-unless-memory (Err OutOfMemory) o s h e = tt
-answers-unless-memory (Err Failed) o s h e = tt
+answers-unless-memory (Err Failed) o s h e = absurd cc
 
 refused-again : (x : Option Cause) (number : ℕ) (o p : Outcome) (s : State) → ((cause : Cause) → o.refused ≡ Some cause → p ≡ refuse cause o.after) → IsRefusal x number o s → IsRefusal x number p s
 refused-again None number o p s f h = absurd h
@@ -69,7 +69,7 @@ answers-part (IoError number read) o p s f h = absurd h
 answers-part (ParseError number kind) o p s f h = absurd h
 answers-part (ProofProcessorError fault) o p s f h = tt
 answers-part OutOfMemory o p s f h = tt
-answers-part Failed o p s f h = tt
+answers-part Failed o p s f h = absurd h
 
 refused-after : (x : Option Cause) (number : ℕ) (o : Outcome) (s : State) → IsRefusal x number o s → s ≡ o.after
 refused-after None number o s h = absurd h
@@ -84,7 +84,7 @@ sound-answer (Err (IoError number read)) o s k h = absurd h
 sound-answer (Err (ParseError number kind)) o s k h = absurd h
 sound-answer (Err (ProofProcessorError fault)) o s k h = tt
 sound-answer (Err OutOfMemory) o s k h = tt
-sound-answer (Err Failed) o s k h = tt
+sound-answer (Err Failed) o s k h = absurd h
 
 -- two facts at once
 pub unless-both : {A : Type 0} {P Q R : Type 0} (r : Result A CheckerError) → (P → Q → R) → UnlessFailed r P → UnlessFailed r Q → UnlessFailed r R

@@ -98,7 +98,7 @@ same-parts (IoError n read) e o s h k = absurd k
 same-parts (ParseError n kind) e o s h k = absurd k
 same-parts (ProofProcessorError cause) e o s h k = subst (λ (x : CheckerError). AnswersParts {A = Unit {0}} (Err x) o s) (sym h) tt
 same-parts OutOfMemory e o s h k = subst (λ (x : CheckerError). AnswersParts {A = Unit {0}} (Err x) o s) (sym h) tt
-same-parts Failed e o s h k = subst (λ (x : CheckerError). AnswersParts {A = Unit {0}} (Err x) o s) (sym h) tt
+same-parts Failed e o s h k = absurd k
 
 same-not_yet : (fault e : CheckerError) (n : ℕ) → IsSameFault fault e → RefusesWith n NotYet fault → RefusesWith n NotYet e
 same-not_yet (CheckFailed m msg debug_step) (CheckFailed number found text) n h k = (h.0 ∙ k.0, h.1 ∙ k.1)

@@ -10,6 +10,8 @@ pub mod Kept
 pub mod Lits
 pub mod NewParts
 pub mod NotYet
+pub mod ProofRun
+pub mod ReadFault
 pub mod Refusal
 pub mod Rup
 pub mod StateOf

@@ -12,3 +12,4 @@ pub mod variables;
 mod refusal;
 pub mod steps;
 pub mod check;
+pub mod proof;

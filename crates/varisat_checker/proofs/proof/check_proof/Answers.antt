@@ -1,0 +1,63 @@
+use Rattle.std.proofs.Common.{◌≡◌, ℕ, ◌+◌, ◌-◌, ◌<◌, ◌^◌, true, false, ltb, Ok, Err, refl, sym, ap, ◌∙◌, subst, arith}
+use Rattle.checker_rules.specs.Calls.{step_limit}
+use Rattle.checker_rules.specs.State.{State}
+use Rattle.proof_bytes.specs.NextStep.{view}
+use Rattle.proof_bytes.proofs.TextRuns.{MayRead, reader_open}
+use Rattle.varisat_checker.specs.Context.{context_state}
+use Rattle.varisat_checker.specs.StateOf.{state_of}
+use Rattle.varisat_checker.proofs.CountLemmas.{attempt-steps}
+use Rattle.varisat_checker.proofs.ProofRuns.{accepted-checked, run-begins, run-closes, run-exhausted, run-faulted, run-goes, run-refused}
+use Rattle.varisat_checker.proofs.StepAnswers.{no-number, some-number}
+use Rattle.varisat_checker.proofs.proof.check_proof.Goals as goal
+
+pub steps-init : goal.steps-init
+steps-init g c = record {
+  open_reader = λ going. c.new-reader.ensures.ended;
+  so_far = run-begins _ _ _ _ c.new-reader.ensures.bytes c.new-reader.ensures.format;
+  kept = c.requires;
+}
+
+pub returns-then-ctx-clause-run : goal.returns-then-ctx-clause-run
+returns-then-ctx-clause-run g c = run-exhausted c.steps.invariant.so_far c.refusal.result c.refusal.ensures c.steps-test.true (no-number c.steps.ctx.checker_state.step c.if-ctx.true)
+
+pub returns-in-Err-attempt_step-clause-run : goal.returns-in-Err-attempt_step-clause-run
+returns-in-Err-attempt_step-clause-run g c =
+    let t = context_state c.steps.ctx in
+    let may : MayRead t = record { going = c.steps-test.true; counted = some-number c.steps.ctx.checker_state.step (omega arith) c.if-ctx.false } in
+    let gave = rw c.in-Ok.is at c.next_step.follows.holds-at-none in
+    run-refused c.steps.invariant.so_far (gave.reads (c.steps.invariant.open_reader c.steps-test.true)) may (context_state c.attempt_step.new.ctx) c.in-Err-attempt_step.fault c.steps.invariant.kept.sound.good c.in-Err-attempt_step.ensures.step
+
+pub returns-in-Err-clause-run : goal.returns-in-Err-clause-run
+returns-in-Err-clause-run g c =
+    let t = context_state c.steps.ctx in
+    let may : MayRead t = record { going = c.steps-test.true; counted = some-number c.steps.ctx.checker_state.step (omega arith) c.if-ctx.false } in
+    let gave = rw c.in-Err.is at c.next_step.follows.holds-at-none in
+    run-faulted c.steps.invariant.so_far c.in-Err.fault c.read_fault.result _ (gave.reads (c.steps.invariant.open_reader c.steps-test.true)) may refl c.read_fault.ensures
+
+fewer-left : (a b : ℕ) → a < 2 ^ 64 → (a ≡ 2 ^ 64 - 1 → ⊥) → b ≡ a + 1 → 2 ^ 64 - 1 - b < 2 ^ 64 - 1 - a
+fewer-left a b fits some e = omega (arith, fits, some, e)
+
+pub steps-smaller : goal.steps-smaller
+steps-smaller g c =
+    let t = context_state c.steps.ctx in let u = context_state c.attempt_step.new.ctx in
+    let counted = some-number c.steps.ctx.checker_state.step (omega arith) c.if-ctx.false in
+    let h = rw c.in_default.is at c.attempt_step.ensures.step in
+    let accepted = accepted-checked t u (view c.in-Ok.step) counted h in
+    let more : u.steps ≡ t.steps + 1 = ap (λ (x : State). x.steps) accepted.1.1 ∙ attempt-steps t (view c.in-Ok.step) accepted.0 counted in
+    fewer-left c.steps.ctx.checker_state.step c.attempt_step.new.ctx.checker_state.step (omega arith) c.if-ctx.false more
+
+pub steps-preserved : goal.steps-preserved
+steps-preserved g c =
+    let t = context_state c.steps.ctx in let u = context_state c.attempt_step.new.ctx in
+    let may : MayRead t = record { going = c.steps-test.true; counted = some-number c.steps.ctx.checker_state.step (omega arith) c.if-ctx.false } in
+    let gave = rw c.in-Ok.is at c.next_step.follows.holds-at-none in
+    let h = rw c.in_default.is at c.attempt_step.ensures.step in
+    let accepted = accepted-checked t u (view c.in-Ok.step) may.counted h in
+    record {
+      open_reader = λ still. reader_open _ (view c.in-Ok.step) gave.ended may accepted.1.1 still;
+      so_far = run-goes u c.steps.invariant.so_far c.steps.invariant.kept.sound.good (gave.reads (c.steps.invariant.open_reader c.steps-test.true)) may h;
+      kept = c.in_default.ensures.kept;
+    }
+
+pub returns-clause-run : goal.returns-clause-run
+returns-clause-run g c = run-closes c.steps.invariant.so_far c.process_unit_conflicts.result (context_state c.process_unit_conflicts.new.ctx) c.steps.invariant.kept.sound.good c.steps-test.false c.process_unit_conflicts.ensures.answer

@@ -1,0 +1,71 @@
+//! How a proof is checked.
+ghost use Rattle.std.specs.Prelude.{◌≡◌, ℕ};
+ghost use Rattle.checker_parts.specs.Answers.{UnlessFailed};
+ghost use Rattle.varisat_checker.specs.Context.{IsKept, context_state};
+ghost use Rattle.varisat_checker.specs.ProofRun.{ProofRun};
+ghost use Rattle.varisat_checker.specs.ReadFault.{IsReadFault};
+
+use crate::check::{attempt_step, process_unit_conflicts};
+use crate::context::ContextOf;
+use crate::refusal::refusal;
+use checker_parts::error::{CheckCause, CheckerError};
+use checker_parts::processor::{ProofProcessor, ProofTranscriptProcessor};
+use log::{Log, info};
+use proof_bytes::{ProofFault, StepReader};
+use std::alloc::Global;
+use std::io::Read;
+
+/// Every so many steps one line goes to the log.
+const STEPS_A_LINE: u64 = 100_000;
+
+/// Checks the steps of a proof up to `End`, and then the closing conflict.
+///
+/// Where `End` was accepted before, nothing is read. Each call begins a new text.
+pub fn check_proof<P: ProofProcessor, T: ProofTranscriptProcessor, L: Log, R: Read + Drop>(
+    rt: &L,
+    alloc: Global,
+    ctx: &mut ContextOf<P, T>,
+    proof: R,
+) -> Result<(), CheckerError>
+    requires { IsKept ctx.old }
+    ensures run { ProofRun (R.remaining proof) (context_state ctx.old) result (context_state ctx.new) }
+    ensures kept { UnlessFailed result (IsKept ctx.new) }
+{
+    let mut reader = StepReader::new(alloc, proof);
+    'steps: while !ctx.checker_state.ended {
+        if ctx.checker_state.step == u64::MAX {
+            return Err(refusal(alloc, &ctx.checker_state, CheckCause::StepsExhausted));
+        }
+        match reader.next_step() {
+            Ok(step) => {
+                if let Err(fault) = attempt_step(alloc, ctx, &step) {
+                    return Err(fault);
+                }
+            }
+            Err(fault) => {
+                ctx.checker_state.step += 1;
+                return Err(read_fault(ctx.checker_state.step, fault));
+            }
+        }
+        tell_progress(rt, ctx.checker_state.step);
+    }
+    process_unit_conflicts(alloc, ctx)
+}
+
+/// What is answered where no step could be read.
+fn read_fault(step: u64, fault: ProofFault) -> CheckerError
+    ensures { IsReadFault step fault result }
+{
+    match fault {
+        ProofFault::End => CheckerError::ProofIncomplete { step },
+        ProofFault::Read(cause) => CheckerError::IoError { step, cause },
+        ProofFault::Malformed(cause) => CheckerError::ParseError { step, cause },
+        ProofFault::OutOfMemory => CheckerError::OutOfMemory,
+    }
+}
+
+fn tell_progress<L: Log>(rt: &L, step: u64) {
+    if step % STEPS_A_LINE == 0 {
+        info!(rt; "checking step {}k", step / 1000);
+    }
+}
