@@ -2,12 +2,13 @@
 --     pos n, neg n      literals by their DIMACS numbers
 --     Answer      accepted, or refused for a cause at a step number, with the steps emitted
 --     answers s calls, transcribed s calls      what a list of calls answers; what a transcript takes of it
+--     shown_names s call      the names shown with what a call emits
 --     call ⇒ answer, Plays s row      a line of a row; the row holds
 use Rattle.std.specs.Prelude.{◌≡◌, ℕ, ◌-◌, ◌*◌, List, [], ◌∷◌, ◌++◌, map, Option, Some, None}
 use Rattle.checker_rules.specs.Calls.{Call, answer_of}
 use Rattle.checker_rules.specs.CheckedSteps.{CheckedStep}
 use Rattle.checker_rules.specs.Outcome.{Cause}
-use Rattle.checker_rules.specs.State.{State, Stored}
+use Rattle.checker_rules.specs.State.{Known, State, Stored}
 use Rattle.checker_rules.specs.Traced.{traced_by}
 use Rattle.checker_rules.specs.Transcript.{TranscriptStep, images}
 
@@ -50,6 +51,10 @@ answers s (call ∷ calls) = answer_by (answer_of s call).refused (answer_of s c
 abbrev pub transcribed : State → List Call → List TranscriptStep
 transcribed s [] = []
 transcribed s (call ∷ calls) = images (traced_by s call) ++ transcribed (answer_of s call).after calls
+
+-- the names shown with the steps that a call emits
+abbrev pub shown_names : State → Call → List (List Known)
+shown_names s call = map (λ e. e.names) (traced_by s call)
 
 -- a line of a row
 infix 70 ◌⇒◌
