@@ -136,11 +136,11 @@ impl<R: Read> BodyReader<R> {
         ensures in_force { IfOk result (λ t. IsFormat t.0) }
     {
         let first = self.fields.byte()?;
-        if first != 0 {
+        if first != tag::MARK {
             return Ok((Format::Numbers, first));
         }
         let second = self.fields.byte()?;
-        if second != 2 {
+        if second != tag::VERSION {
             return Err(Stop::Malformed(MalformedStep::UnknownTag));
         }
         let tag = self.fields.byte()?;

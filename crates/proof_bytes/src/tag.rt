@@ -1,4 +1,11 @@
-//! The byte that each kind of step begins with.
+//! The byte that each kind of step begins with, and the mark before the first step.
+
+/// Begins a text with a version of its own, whose number follows.
+pub(crate) const MARK: u8 = 0;
+
+/// The version whose hashes stand in bytes of a width.
+pub(crate) const VERSION: u8 = 2;
+
 pub(crate) const SOLVER_VAR_NAME: u8 = 1;
 
 pub(crate) const USER_VAR_NAME: u8 = 2;
