@@ -13,10 +13,19 @@ use Rattle.checker_rules.proofs.Keeping.{step_keeps}
 use Rattle.checker_rules.proofs.Runs.{append_none, append_step, changed_same, holds_last}
 use Rattle.checker_rules.proofs.WholeRuns.{close_keeps, covers_attempt, covers_close, covers_same, keeps_attempt, runs_are_fold, runs_cover}
 use Rattle.proof_bytes.specs.Reading.{Fault, Short, Wrong}
-use Rattle.checker_parts.specs.Answers.{AnswersStep, CoversFold, EndsRun, IsCovered, IsFold, IsRefusal, RunIsRefused, SetsFold, UnlessFailed, all_steps, first_accepted, unless_refused}
+use Rattle.checker_parts.specs.Answers.{AnswersStep, AnswersText, CoversFold, EndsRun, IsCovered, IsFold, IsRefusal, RunIsRefused, SetsFold, UnlessFailed, UnlessTextFailed, all_steps, first_accepted, unless_refused}
 use Rattle.checker_parts.specs.Causes.{cause_of}
 use Rattle.checker_parts.specs.declared.error.CheckerError.{CheckerError}
+use Rattle.checker_parts.specs.declared.error.DimacsError.{DimacsError}
+use Rattle.checker_parts.specs.declared.error.DimacsError.TheVariants.{Read, Malformed, Checker}
 use Rattle.checker_parts.specs.declared.error.CheckerError.TheVariants.{ProofIncomplete, IoError, ParseError, CheckFailed, ProofProcessorError, OutOfMemory, Failed}
+
+-- the answers of a call
+abbrev done : Result (Unit {0}) CheckerError
+done = Ok tt
+
+abbrev fault : CheckerError → Result (Unit {0}) CheckerError
+fault e = Err e
 
 -- the members after one more step
 covers-last : (ts : List Step) (t : Step) (s : State) → Covers (changed t (holds ts)) s → IsCovered (ts ++ t ∷ []) s
@@ -138,8 +147,21 @@ sets_fold-all s before ts r u g f h = unless_failed (IsFold (before ++ first_acc
 pub covers_fold-all : (s : State) (before ts : List Step) (r : Result (Unit {0}) CheckerError) (u : State) → IsCovered before s → AnswersStep r (all_steps s ts) u → UnlessFailed r (IsCovered (before ++ first_accepted s ts) u)
 covers_fold-all s before ts r u k h = unless_failed (IsCovered (before ++ first_accepted s ts)) (all_steps s ts) (covers-all s before ts k) r u h
 
+-- the clauses of a text
+sets_text : {P : Type 0} (o : Outcome) (u : State) → ((r : Result (Unit {0}) CheckerError) → AnswersStep r o u → UnlessFailed r P) → (r : Result (Unit {0}) DimacsError) → AnswersText r o u → UnlessTextFailed r P
+sets_text o u k (Ok x) h = k done h
+sets_text o u k (Err (Read cause)) h = k done h
+sets_text o u k (Err (Malformed line kind)) h = k done h
+sets_text o u k (Err (Checker e)) h = k (fault e) h
+
+pub sets_fold-text : (s : State) (before ts : List Step) (r : Result (Unit {0}) DimacsError) (u : State) → Good s → IsFold before s → AnswersText r (all_steps s ts) u → UnlessTextFailed r (IsFold (before ++ first_accepted s ts) u)
+sets_fold-text s before ts r u g f h = sets_text (all_steps s ts) u (λ r h. sets_fold-all s before ts r u g f h) r h
+
+pub covers_fold-text : (s : State) (before ts : List Step) (r : Result (Unit {0}) DimacsError) (u : State) → IsCovered before s → AnswersText r (all_steps s ts) u → UnlessTextFailed r (IsCovered (before ++ first_accepted s ts) u)
+covers_fold-text s before ts r u k h = sets_text (all_steps s ts) u (λ r h. covers_fold-all s before ts r u k h) r h
+
 -- a run
-ends : {X : Type 0} (P : List Step → State → Type 0) (next : X → (Step × X) ⊎ Fault) (s : State) (x : X) → ((ts : List Step) (answer : Option (Cause ⊎ Fault)) (u : State) → Runs next s x ts answer u → P ts u)
+pub ends : {X : Type 0} (P : List Step → State → Type 0) (next : X → (Step × X) ⊎ Fault) (s : State) (x : X) → ((ts : List Step) (answer : Option (Cause ⊎ Fault)) (u : State) → Runs next s x ts answer u → P ts u)
     → (r : Result (Unit {0}) CheckerError) (ts : List Step) (u : State) → EndsRun r next s x ts u → UnlessFailed r (P ts u)
 ends P next s x k (Ok done) ts u h = k ts None u h
 ends P next s x k (Err (CheckFailed number cause debug_step)) ts u h = refused (cause_of cause) h.1
@@ -168,12 +190,6 @@ all_steps-accepted s t ts h = ap (λ x. and_then_by x (step s t).after (λ r. al
 
 pub all_steps-refused : (s : State) (t : Step) (ts : List Step) (cause : Cause) → (step s t).refused ≡ Some cause → all_steps s (t ∷ ts) ≡ refuse cause (step s t).after
 all_steps-refused s t ts cause h = ap (λ x. and_then_by x (step s t).after (λ r. all_steps r ts)) h
-
-abbrev done : Result (Unit {0}) CheckerError
-done = Ok tt
-
-abbrev fault : CheckerError → Result (Unit {0}) CheckerError
-fault e = Err e
 
 pub answers_on : (s : State) (t : Step) (ts : List Step) (u : State) → AnswersStep done (step s t) u → (r : Result (Unit {0}) CheckerError) (w : State) → AnswersStep r (all_steps u ts) w → AnswersStep r (all_steps s (t ∷ ts)) w
 answers_on s t ts u k r w h = subst (λ o. AnswersStep r o w) (ap (λ v. all_steps v ts) k.1 ∙ sym (all_steps-accepted s t ts k.0)) h

@@ -1,8 +1,9 @@
 -- What a call answers and leaves, by the definitions.
 --     AnswersStep r o s      the answer r and the state s after the call are those of the outcome o
+--     AnswersText r o s      the same of the clauses of a DIMACS text
 --     all_steps s ts, first_accepted s ts      the outcome of a list of steps up to the first refusal, and the steps accepted before it
 --     EndsRun r next s x ts u      the answer r and the state u are those of the run from s over the text x, which accepted ts
---     UnlessFailed r P      P, unless the call failed the checker
+--     UnlessFailed r P, UnlessTextFailed r P      P, unless the call failed the checker
 --     UnlessGivenUp r P      P, unless memory was refused or a processor answered a fault
 --     AnswersParts r o s      as AnswersStep, and nothing where the call gave up
 --     IsFold ts s, IsCovered ts s      the satisfying set of s is the fold over ts; the members make all that is stored true
@@ -20,6 +21,8 @@ use Rattle.proof_bytes.specs.Reading.{Fault, Short, Wrong}
 use Rattle.checker_parts.specs.Causes.{cause_of}
 use Rattle.checker_parts.specs.declared.error.CheckerError.{CheckerError}
 use Rattle.checker_parts.specs.declared.error.CheckerError.TheVariants.{ProofIncomplete, IoError, ParseError, CheckFailed, ProofProcessorError, OutOfMemory, Failed}
+use Rattle.checker_parts.specs.declared.error.DimacsError.{DimacsError}
+use Rattle.checker_parts.specs.declared.error.DimacsError.TheVariants.{Read, Malformed, Checker}
 
 -- refused with the cause of the definitions, if there is one, at the step number of the state after
 abbrev pub IsRefusal : Option Cause → ℕ → Outcome → State → Type 0
@@ -52,6 +55,13 @@ abbrev pub first_accepted : State → List Step → List Step
 first_accepted s [] = []
 first_accepted s (t ∷ ts) = unless_refused (step s t).refused t (first_accepted (step s t).after ts)
 
+-- of the clauses of a text: all were accepted where the text ends or has its fault, else the first refusal is answered
+abbrev pub AnswersText : {A : Type 0} → Result A DimacsError → Outcome → State → Type 0
+AnswersText (Ok done) o s = (o.refused ≡ None) × (s ≡ o.after)
+AnswersText (Err (Read cause)) o s = (o.refused ≡ None) × (s ≡ o.after)
+AnswersText (Err (Malformed line kind)) o s = (o.refused ≡ None) × (s ≡ o.after)
+AnswersText {A = A} (Err (Checker e)) o s = AnswersStep {A = A} (Err e) o s
+
 -- the refusal of a run
 abbrev pub RunIsRefused : {X : Type 0} → Option Cause → (X → (Step × X) ⊎ Fault) → State → X → List Step → State → Type 0
 RunIsRefused None next s x ts r = ⊥
@@ -78,6 +88,13 @@ UnlessFailed (Err (ParseError number cause)) P = P
 UnlessFailed (Err (ProofProcessorError cause)) P = Unit {0}
 UnlessFailed (Err OutOfMemory) P = Unit {0}
 UnlessFailed (Err Failed) P = Unit {0}
+
+-- the same of a call over a text of clauses
+abbrev pub UnlessTextFailed : {A : Type 0} → Result A DimacsError → Type 0 → Type 0
+UnlessTextFailed (Ok done) P = P
+UnlessTextFailed (Err (Read cause)) P = P
+UnlessTextFailed (Err (Malformed line kind)) P = P
+UnlessTextFailed {A = A} (Err (Checker e)) P = UnlessFailed {A = A} (Err e) P
 
 -- the satisfying set is the fold over the steps
 abbrev pub IsFold : List Step → State → Type 0

@@ -118,19 +118,9 @@ pub enum DimacsError {
     #[error("error reading formula: {0}")]
     Read(io::Error),
     /// The text's first fault, and its line.
-    #[error("line {line}: {}", text_of(.kind))]
+    #[error("line {line}: {kind}")]
     Malformed { line: u64, kind: DimacsKind },
     /// The checker's own answer, or the reader's want of memory.
     #[error("{0}")]
     Checker(CheckerError),
-}
-
-fn text_of(kind: &DimacsKind) -> &'static str {
-    match kind {
-        DimacsKind::BadNumber => "bad number",
-        DimacsKind::VarTooLarge => "variable too large",
-        DimacsKind::BadHeader => "bad header",
-        DimacsKind::LateHeader => "late header",
-        DimacsKind::UnterminatedClause => "unterminated clause",
-    }
 }

@@ -12,11 +12,11 @@ use sat_formula::lit::{Lit, Var};
 use std::alloc::Global;
 use std::test::Fail;
 
-// The literals of these codes.
-fn lits(alloc: Global, codes: &[usize]) -> Result<Vec<Lit>, Fail> {
+// The literals of these DIMACS numbers.
+fn lits(alloc: Global, numbers: &[i64]) -> Result<Vec<Lit>, Fail> {
     let mut lits = Vec::new(alloc);
-    for &code in codes {
-        lits.push(Lit::from_code(code).ok_or("no literal")?)?;
+    for &number in numbers {
+        lits.push(Lit::from_dimacs(number).ok_or("no literal")?)?;
     }
     Ok(lits)
 }

@@ -9,11 +9,11 @@ use std::alloc::Global;
 use std::test::Fail;
 
 // The same in canonical form.
-fn canonical(alloc: Global, codes: &[usize]) -> Result<Vec<Lit>, Fail>
+fn canonical(alloc: Global, numbers: &[i64]) -> Result<Vec<Lit>, Fail>
     ensures { IfOk result (λ v. IsTrue (is_canonical v.items)) }
 {
     let mut target = Vec::new(alloc);
-    let src = lits(alloc, codes)?;
+    let src = lits(alloc, numbers)?;
     copy_canonical(&mut target, &src)?;
     Ok(target)
 }
@@ -21,11 +21,11 @@ fn canonical(alloc: Global, codes: &[usize]) -> Result<Vec<Lit>, Fail>
 #[test]
 fn canonical_lists(rt: HostRuntime) -> Result<(), Fail> {
     let alloc = rt.alloc();
-    let mut target = lits(alloc, &[7])?;
-    assert!(rt; !copy_canonical(&mut target, &lits(alloc, &[4, 0, 4, 3])?)?);
-    assert_eq!(rt; target, lits(alloc, &[0, 3, 4])?);
-    assert!(rt; copy_canonical(&mut target, &lits(alloc, &[2, 1, 0])?)?);
-    assert_eq!(rt; target, lits(alloc, &[0, 1, 2])?);
+    let mut target = lits(alloc, &[-4])?;
+    assert!(rt; !copy_canonical(&mut target, &lits(alloc, &[3, 1, 3, -2])?)?);
+    assert_eq!(rt; target, lits(alloc, &[1, -2, 3])?);
+    assert!(rt; copy_canonical(&mut target, &lits(alloc, &[2, -1, 1])?)?);
+    assert_eq!(rt; target, lits(alloc, &[1, -1, 2])?);
     assert!(rt; !copy_canonical(&mut target, &[])?);
     assert!(rt; target.is_empty());
     Ok(())
@@ -35,9 +35,9 @@ fn canonical_lists(rt: HostRuntime) -> Result<(), Fail> {
 fn subsets(rt: HostRuntime) -> Result<(), Fail> {
     let alloc = rt.alloc();
     let none = canonical(alloc, &[])?;
-    let one = canonical(alloc, &[0])?;
-    let two = canonical(alloc, &[0, 2])?;
-    let three = canonical(alloc, &[4])?;
+    let one = canonical(alloc, &[1])?;
+    let two = canonical(alloc, &[1, 2])?;
+    let three = canonical(alloc, &[3])?;
     assert!(rt; is_subset(&one, &two, true));
     assert!(rt; !is_subset(&two, &two, true));
     assert!(rt; is_subset(&two, &two, false));

@@ -15,7 +15,7 @@ fn clauses(rt: HostRuntime) -> Result<(), Fail> {
     let mut variables = Variables::new(alloc);
     variables.know(2)?;
     let _propagations = ResolutionPropagations {};
-    let clause = lits(alloc, &[0, 3])?;
+    let clause = lits(alloc, &[1, -2])?;
     let mut transcript = Transcript::new(alloc);
     let step = CheckedProofStep::AddClause {
         id: 0,
