@@ -1,6 +1,8 @@
 pub mod AnswerLemmas
 pub mod BucketLemmas
 pub mod BufferLemmas
+pub mod GatherLemmas
+pub mod GatheredLemmas
 pub mod HashLemmas
 pub mod EditLemmas
 pub mod FoundLemmas
