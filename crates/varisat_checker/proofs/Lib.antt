@@ -9,6 +9,8 @@ pub mod ColumnLemmas
 pub mod CountLemmas
 pub mod EditLemmas
 pub mod FoundLemmas
+pub mod GatherLemmas
+pub mod GatheredLemmas
 pub mod GrowthLemmas
 pub mod HashLemmas
 pub mod InputLemmas

@@ -128,7 +128,7 @@ in_all f x k [] i less at h = absurd (omega (arith, less))
 in_all f x k (l ∷ ks) zero less at h = in_left x (f l) (flat_map f ks) (subst (λ m. In x (f m)) (sym at) h)
 in_all f x k (l ∷ ks) (suc i) less at h = in_right x (f l) (flat_map f ks) (in_all f x k ks i (omega (arith, less)) at h)
 
-in_filter : (p : Stored → Bool) (x : Stored) (es : List Stored) → p x ≡ true → In x es → In x (filter p es)
+pub in_filter : (p : Stored → Bool) (x : Stored) (es : List Stored) → p x ≡ true → In x es → In x (filter p es)
 in_filter p x [] h i = absurd i
 in_filter p x (e ∷ es) h (inl same) = subst (λ b. In x (cond b (e ∷ filter p es) (filter p es))) (sym (ap p (sym same) ∙ h)) (inl same)
 in_filter p x (e ∷ es) h (inr i) = elim (p e) as (λ b. In x (cond b (e ∷ filter p es) (filter p es))) [ true ↦ inr (in_filter p x es h i) | false ↦ in_filter p x es h i ]
@@ -149,7 +149,7 @@ same_id low (e ∷ es) y z a (inl p) (inr j) same = let k = in_above (suc e.id) 
 same_id low (e ∷ es) y z a (inr i) (inl q) same = let k = in_above (suc e.id) y es a.1 i in let l : z.id ≡ e.id = ap (λ (w : Stored). w.id) q in absurd (omega (arith, k, l, same))
 same_id low (e ∷ es) y z a (inr i) (inr j) same = same_id (suc e.id) es y z a.1 i j same
 
-some_here : (buffer : List ℕ) (m : Buckets) (k : ℕ) (x : Stored) → In x (stored_in buffer m k) → IsSome (get nat_eq m k)
+pub some_here : (buffer : List ℕ) (m : Buckets) (k : ℕ) (x : Stored) → In x (stored_in buffer m k) → IsSome (get nat_eq m k)
 some_here buffer m k x i = cases (get nat_eq m k) i
   where
     cases : (o : _) → In x (map (stored_of buffer) (bucket_items o)) → IsSome o

@@ -1,5 +1,5 @@
 -- The stored clauses by their hashes.
-use Rattle.std.specs.Prelude.{ℕ, ◌+◌, nat_eq, Bool, cond, List, [], Option, None, Some, All}
+use Rattle.std.specs.Prelude.{ℕ, ◌+◌, nat_eq, eqb, Bool, cond, List, [], Option, None, Some, All}
 use Rattle.std.specs.HashMap.{HashMap, get}
 use Rattle.std.specs.declared.hash.FoldHasher.{FoldHasher}
 use Rattle.std.specs.declared.hash.BuildHasherDefault.{BuildHasherDefault}
@@ -41,3 +41,7 @@ raised redundant c = cond redundant (record c { redundant = c.redundant + 1 }) (
 -- a clause with one copy
 abbrev pub first_copy_of : Bool → ℕ → ClauseLits → Clause
 first_copy_of redundant id ls = record { id = id; irredundant = cond redundant 0 1; redundant = cond redundant 1 0; lits = ls }
+
+-- whether the clause has this hash
+abbrev pub has_hash : (List ℕ → ℕ) → List ℕ → ℕ → Clause → Bool
+has_hash h buffer k c = eqb (h (lits_of c.lits buffer)) k

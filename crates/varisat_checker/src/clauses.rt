@@ -5,6 +5,7 @@ ghost use Rattle.checker_rules.specs.Store.{id_limit};
 
 pub mod buckets;
 pub mod lits;
+pub mod rebuild;
 pub mod store;
 pub mod units;
 
