@@ -2,6 +2,7 @@ pub mod Buckets
 pub mod Edits
 pub mod Found
 pub mod Lits
+pub mod Names
 pub mod StateOf
 pub mod Store
 pub mod Units
