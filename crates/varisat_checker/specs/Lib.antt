@@ -8,6 +8,7 @@ pub mod Growth
 pub mod InputCause
 pub mod Kept
 pub mod Lits
+pub mod Names
 pub mod NewParts
 pub mod NotYet
 pub mod ProofRun

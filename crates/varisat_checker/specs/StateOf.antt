@@ -1,16 +1,15 @@
 -- The parts of a checker as the state of the rules.
-use Rattle.std.specs.Prelude.{ℕ, nat_eq, ◌≡◌, List, map, Option}
+use Rattle.std.specs.Prelude.{ℕ, ◌≡◌, List, map, Option}
 use Rattle.std.specs.Option.{option_map}
-use Rattle.std.specs.HashMap.{get}
 use Rattle.checker_rules.specs.State.{State, StoredUnit, Known, clause_hash}
 use Rattle.checker_rules.specs.Buckets.{of_hash}
-use Rattle.sat_formula.specs.Vars.{index_of, indexes_of}
 use Rattle.varisat_checker.specs.declared.clauses.Clauses.{Clauses}
 use Rattle.varisat_checker.specs.declared.clauses.units.UnitClause.{UnitClause}
 use Rattle.varisat_checker.specs.declared.clauses.units.UnitId.{UnitId}
 use Rattle.varisat_checker.specs.declared.clauses.units.UnitId.TheVariants.{Global, TracePos, InClause}
 use Rattle.varisat_checker.specs.declared.hash.ClauseHasher.{ClauseHasher}
 use Rattle.varisat_checker.specs.declared.state.CheckerState.{CheckerState}
+use Rattle.varisat_checker.specs.Names.{indexes, names_of}
 use Rattle.varisat_checker.specs.View.{stored_at, stored_list}
 
 -- the id of a stored unit; between calls every value is a stored unit's
@@ -29,7 +28,7 @@ stored_units us = map (option_map stored_unit) us
 
 -- the applied name of a variable
 abbrev pub applied_of : ClauseHasher → ℕ → Option ℕ
-applied_of h v = indexes_of (get nat_eq h.solver_names v)
+applied_of h v = names_of h.solver_names v
 
 -- the hash of a clause by the applied names and the width
 abbrev pub hash_of : ClauseHasher → List ℕ → ℕ
@@ -37,7 +36,7 @@ hash_of h c = clause_hash (applied_of h) h.hash_bits c
 
 -- the pending names and removals
 abbrev pub pending_of : ClauseHasher → List (ℕ × Option ℕ)
-pending_of h = map (λ p. (index_of p.0, indexes_of p.1)) h.pending.items
+pending_of h = map indexes h.pending.items
 
 -- the state that the parts stand for, with these known variables
 abbrev pub state_of : CheckerState → ClauseHasher → Clauses → List Known → State

@@ -1,5 +1,5 @@
 //! The buckets of all clauses, built anew.
-ghost use Rattle.std.specs.Prelude.{◌≡◌, ◌<◌, ◌≤◌, ℕ, All, IfOk, filter, map};
+ghost use Rattle.std.specs.Prelude.{◌≡◌, ◌<◌, ◌≤◌, ℕ, All, IfOk, OnOk, map};
 ghost use Rattle.checker_rules.specs.Buckets.{of_hash};
 ghost use Rattle.varisat_checker.specs.Buckets.{AreWithin};
 ghost use Rattle.varisat_checker.specs.Lits.{IsWithin};
@@ -46,4 +46,22 @@ pub fn rebuild(
         push_clause(alloc, &mut buckets, hash, *clause)?;
     }
     Ok(buckets)
+}
+
+/// Puts every clause into the bucket of its hash. Before, they stood in those of other hashes.
+pub fn rebuild_buckets(
+    alloc: Global,
+    hasher: &ClauseHasher,
+    clauses: &mut Clauses,
+) -> Result<(), AllocError>
+    requires some_bits { 0 < hasher.now.hash_bits }
+    requires bits { hasher.now.hash_bits ≤ 64 }
+    requires store { (h : ClauseHasher) × IsStore h clauses.old }
+    ensures store { OnOk result (IsStore hasher.now clauses.new) }
+    ensures list { OnOk result (stored_list clauses.new ≡ stored_list clauses.old) }
+    ensures others { OnOk result (clauses.new ≡ record clauses.old { buckets = clauses.new.buckets }) }
+{
+    let all = gather(alloc, clauses)?;
+    clauses.buckets = rebuild(alloc, hasher, &all, &clauses.literal_buffer)?;
+    Ok(())
 }

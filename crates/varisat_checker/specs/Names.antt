@@ -1,0 +1,15 @@
+-- The solver's names of variables.
+use Rattle.std.specs.Prelude.{ℕ, nat_eq, Option}
+use Rattle.std.specs.HashMap.{HashMap, get}
+use Rattle.std.specs.declared.hash.BuildHasherDefault.{BuildHasherDefault}
+use Rattle.std.specs.declared.hash.FoldHasher.{FoldHasher}
+use Rattle.sat_formula.specs.declared.lit.Var.{Var}
+use Rattle.sat_formula.specs.Vars.{index_of, indexes_of}
+
+-- the applied name of a variable, by indexes
+abbrev pub names_of : HashMap ℕ Var (BuildHasherDefault FoldHasher) → ℕ → Option ℕ
+names_of m v = indexes_of (get nat_eq m v)
+
+-- a name or a removal, by indexes
+abbrev pub indexes : Var × Option Var → ℕ × Option ℕ
+indexes p = (index_of p.0, indexes_of p.1)
