@@ -21,11 +21,11 @@ use Rattle.checker_parts.specs.declared.error.DimacsError.TheVariants.{Read, Mal
 use Rattle.checker_parts.specs.declared.error.CheckerError.TheVariants.{ProofIncomplete, IoError, ParseError, CheckFailed, ProofProcessorError, OutOfMemory, Failed}
 
 -- the answers of a call
-abbrev done : Result (Unit {0}) CheckerError
-done = Ok tt
+abbrev ok_answer : Result (Unit {0}) CheckerError
+ok_answer = Ok tt
 
-abbrev fault : CheckerError → Result (Unit {0}) CheckerError
-fault e = Err e
+abbrev err_answer : CheckerError → Result (Unit {0}) CheckerError
+err_answer e = Err e
 
 -- the members after one more step
 covers-last : (ts : List Step) (t : Step) (s : State) → Covers (changed t (holds ts)) s → IsCovered (ts ++ t ∷ []) s
@@ -149,10 +149,10 @@ covers_fold-all s before ts r u k h = unless_failed (IsCovered (before ++ first_
 
 -- the clauses of a text
 sets_text : {P : Type 0} (o : Outcome) (u : State) → ((r : Result (Unit {0}) CheckerError) → AnswersStep r o u → UnlessFailed r P) → (r : Result (Unit {0}) DimacsError) → AnswersText r o u → UnlessTextFailed r P
-sets_text o u k (Ok x) h = k done h
-sets_text o u k (Err (Read cause)) h = k done h
-sets_text o u k (Err (Malformed line kind)) h = k done h
-sets_text o u k (Err (Checker e)) h = k (fault e) h
+sets_text o u k (Ok x) h = k ok_answer h
+sets_text o u k (Err (Read cause)) h = k ok_answer h
+sets_text o u k (Err (Malformed line kind)) h = k ok_answer h
+sets_text o u k (Err (Checker e)) h = k (err_answer e) h
 
 pub sets_fold-text : (s : State) (before ts : List Step) (r : Result (Unit {0}) DimacsError) (u : State) → Good s → IsFold before s → AnswersText r (all_steps s ts) u → UnlessTextFailed r (IsFold (before ++ first_accepted s ts) u)
 sets_fold-text s before ts r u g f h = sets_text (all_steps s ts) u (λ r h. sets_fold-all s before ts r u g f h) r h
@@ -191,10 +191,10 @@ all_steps-accepted s t ts h = ap (λ x. and_then_by x (step s t).after (λ r. al
 pub all_steps-refused : (s : State) (t : Step) (ts : List Step) (cause : Cause) → (step s t).refused ≡ Some cause → all_steps s (t ∷ ts) ≡ refuse cause (step s t).after
 all_steps-refused s t ts cause h = ap (λ x. and_then_by x (step s t).after (λ r. all_steps r ts)) h
 
-pub answers_on : (s : State) (t : Step) (ts : List Step) (u : State) → AnswersStep done (step s t) u → (r : Result (Unit {0}) CheckerError) (w : State) → AnswersStep r (all_steps u ts) w → AnswersStep r (all_steps s (t ∷ ts)) w
+pub answers_on : (s : State) (t : Step) (ts : List Step) (u : State) → AnswersStep ok_answer (step s t) u → (r : Result (Unit {0}) CheckerError) (w : State) → AnswersStep r (all_steps u ts) w → AnswersStep r (all_steps s (t ∷ ts)) w
 answers_on s t ts u k r w h = subst (λ o. AnswersStep r o w) (ap (λ v. all_steps v ts) k.1 ∙ sym (all_steps-accepted s t ts k.0)) h
 
-pub answers_stop : (s : State) (t : Step) (ts : List Step) (e : CheckerError) (u : State) → AnswersStep (fault e) (step s t) u → AnswersStep (fault e) (all_steps s (t ∷ ts)) u
+pub answers_stop : (s : State) (t : Step) (ts : List Step) (e : CheckerError) (u : State) → AnswersStep (err_answer e) (step s t) u → AnswersStep (err_answer e) (all_steps s (t ∷ ts)) u
 answers_stop s t ts (CheckFailed number cause debug_step) u h = refused (cause_of cause) h
   where
     refused : (x : Option Cause) → IsRefusal x number (step s t) u → IsRefusal x number (all_steps s (t ∷ ts)) u

@@ -1,7 +1,7 @@
 -- Accepted models and cores prove what the headline says of them.
-use Rattle.std.proofs.Common.{◌≡◌, ◌⊎◌, ℕ, Bool, true, false, cond, ltb, Result, Ok, Err, List, [], ◌∷◌, ◌++◌, Option, Some, None, refl, sym, ap, ◌∙◌, subst}
+use Rattle.std.proofs.Common.{◌≡◌, ◌⊎◌, Bool, true, false, cond, ltb, Result, Ok, Err, List, ◌++◌, Option, None, sym, ◌∙◌, subst}
 use Rattle.checker_rules.specs.Calls.{attempt, count_step, step_limit}
-use Rattle.checker_rules.specs.Headline.{Good, holds}
+use Rattle.checker_rules.specs.Headline.{Good}
 use Rattle.checker_rules.specs.Outcome.{Cause, refuse, steps_exhausted}
 use Rattle.checker_rules.specs.Run.{Runs}
 use Rattle.checker_rules.specs.State.{State, sat}

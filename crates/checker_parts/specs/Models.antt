@@ -1,7 +1,7 @@
 -- What an accepted model and an accepted failed core prove of the members.
 --     Proves t ts s      the parts of the headline on models and cores, of a step t accepted in the state s, where the steps ts came before
 --     RunProves before ts      the same of each step that a run accepts
-use Rattle.std.specs.Prelude.{◌≡◌, ℕ, Bool, true, List, [], ◌∷◌, ◌++◌, Option}
+use Rattle.std.specs.Prelude.{◌≡◌, ℕ, Bool, true, List, ◌∷◌, ◌++◌, Option}
 use Rattle.std.specs.List.{list_all}
 use Rattle.checker_rules.specs.Clauses.{lit_true}
 use Rattle.checker_rules.specs.Headline.{Extends, holds}
