@@ -8,6 +8,7 @@ pub mod CheckLemmas
 pub mod ColumnLemmas
 pub mod CountLemmas
 pub mod EditLemmas
+pub mod FailingLemmas
 pub mod FoundLemmas
 pub mod GatherLemmas
 pub mod GatheredLemmas

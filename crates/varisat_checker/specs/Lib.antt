@@ -3,6 +3,7 @@ pub mod CheckLaw
 pub mod Context
 pub mod Derived
 pub mod Edits
+pub mod Failing
 pub mod Found
 pub mod Growth
 pub mod InputCause
@@ -15,6 +16,7 @@ pub mod ProofRun
 pub mod ReadFault
 pub mod Refusal
 pub mod Rup
+pub mod Shown
 pub mod StateOf
 pub mod Store
 pub mod Trace

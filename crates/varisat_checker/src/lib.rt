@@ -13,3 +13,4 @@ mod refusal;
 pub mod steps;
 pub mod check;
 pub mod proof;
+pub mod checker;

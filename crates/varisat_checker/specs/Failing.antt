@@ -1,0 +1,33 @@
+-- Calls that fail the checker.
+--     has_failed r      whether the checker has failed when it answers r
+--     IsFailed r      the answer of a checker that had failed before the call
+--     RecordsFailure r s      where the call gave up the state says so
+use Rattle.std.specs.Prelude.{◌≡◌, Bool, true, false, Result, Ok, Err}
+use Rattle.checker_rules.specs.State.{State}
+use Rattle.checker_parts.specs.declared.error.CheckerError.{CheckerError}
+use Rattle.checker_parts.specs.declared.error.CheckerError.TheVariants.{ProofIncomplete, IoError, ParseError, CheckFailed, ProofProcessorError, OutOfMemory, Failed}
+use Rattle.checker_parts.specs.declared.error.DimacsError.{DimacsError}
+use Rattle.checker_parts.specs.declared.error.DimacsError.TheVariants.{Checker}
+
+-- memory was refused, a processor answered a fault, or the checker had failed before
+abbrev pub has_failed : {A : Type 0} → Result A CheckerError → Bool
+has_failed (Ok x) = false
+has_failed (Err (ProofIncomplete number)) = false
+has_failed (Err (IoError number cause)) = false
+has_failed (Err (ParseError number cause)) = false
+has_failed (Err (CheckFailed number msg debug_step)) = false
+has_failed (Err (ProofProcessorError cause)) = true
+has_failed (Err OutOfMemory) = true
+has_failed (Err Failed) = true
+
+-- a checker that has failed answers so
+abbrev pub IsFailed : {A : Type 0} → Result A CheckerError → Type 0
+IsFailed r = r ≡ Err Failed
+
+-- the same of a text of clauses
+abbrev pub IsTextFailed : {A : Type 0} → Result A DimacsError → Type 0
+IsTextFailed r = r ≡ Err (Checker Failed)
+
+-- a checker that gave up has failed
+abbrev pub RecordsFailure : {A : Type 0} → Result A CheckerError → State → Type 0
+RecordsFailure r s = has_failed r ≡ true → s.failed ≡ true
