@@ -1,5 +1,5 @@
 -- Clauses added one after the other.
-use Rattle.std.proofs.Common.{◌≡◌, ℕ, Bool, true, false, cond, not, ◌&&◌, ltb, leb, List, [], ◌∷◌, ◌++◌, map, Option, Some, None, refl, sym, ap, ◌∙◌, subst}
+use Rattle.std.proofs.Common.{◌≡◌, ℕ, Bool, true, false, not, ◌&&◌, ltb, leb, List, [], ◌∷◌, ◌++◌, map, Some, None, refl, sym, ap, ◌∙◌}
 use Rattle.std.proofs.lemmas.Bool.{cond_both}
 use Rattle.checker_rules.specs.AddClause.{store_input, take_input}
 use Rattle.checker_rules.specs.AddFormula.{FormulasAreFold, FormulasJoin, add_clauses, added, added_by}
@@ -7,7 +7,7 @@ use Rattle.checker_rules.specs.Calls.{adds, calls_after}
 use Rattle.checker_rules.specs.Canonical.{canonical}
 use Rattle.checker_rules.specs.Clauses.{all_true, clause_true}
 use Rattle.checker_rules.specs.Covers.{Covers, CoversAfter}
-use Rattle.checker_rules.specs.Headline.{Good, SetAfter, accepted, changed, holds}
+use Rattle.checker_rules.specs.Headline.{Good, SetAfter, changed, holds}
 use Rattle.checker_rules.specs.KnownVars.{know_clause, some_not_sampling}
 use Rattle.checker_rules.specs.Outcome.{Cause, Outcome, accept, and_then, and_then_by}
 use Rattle.checker_rules.specs.Sound.{Sound}

@@ -1,7 +1,7 @@
 -- The closing conflict and the deletion of a variable, as runs of the hint machine.
-use Rattle.std.proofs.Common.{◌≡◌, ℕ, suc, Bool, true, false, cond, not, ◌&&◌, ◌||◌, eqb, ltb, leb, List, [], ◌∷◌, ◌++◌, map, Option, Some, None, refl, sym, ap, ◌∙◌, subst, is_some, is_none}
+use Rattle.std.proofs.Common.{◌≡◌, ℕ, suc, Bool, true, false, cond, ltb, List, [], ◌∷◌, ◌++◌, Option, Some, None, refl, sym, ap, ◌∙◌, subst, is_some}
 use Rattle.std.specs.List.{list_any}
-use Rattle.std.proofs.lemmas.Bool.{cond_both, true≢false}
+use Rattle.std.proofs.lemmas.Bool.{true≢false}
 use Rattle.checker_rules.specs.Calls.{close_by, closing_conflict}
 use Rattle.checker_rules.specs.CheckedSteps.{ShownStep, checked_at_clause, hint_step, hint_steps, shown_in}
 use Rattle.checker_rules.specs.DeleteVar.{close_conflict, drop_unit, free_var, holds_var, is_conflict_on, is_unit_with, step_delete_var}

@@ -1,8 +1,7 @@
 -- Stored entries: canonical, by rising ids, each list once.
-use Rattle.std.proofs.Common.{◌≡◌, ℕ, zero, suc, ◌+◌, ◌-◌, ◌<◌, ◌≤◌, Bool, true, false, cond, not, ◌&&◌, ◌||◌, eqb, ltb, leb, List, [], ◌∷◌, ◌++◌, map, length, set, replicate, Option, Some, None, filter, refl, sym, ap, ◌∙◌, subst, arith, is_some, is_none, length-append, length-set}
-use Rattle.std.specs.List.{list_any, list_all}
-use Rattle.std.proofs.lemmas.Bool.{and_parts, and_from, or_parts, or_from, both_ways, not-true, eqb-false, ltb-true, ltb-false, lt-ltb, leb-true, le-leb, ne_eqb, false_from_ne_true, cond_both}
-use Rattle.std.proofs.lemmas.List.{length-replicate}
+use Rattle.std.proofs.Common.{◌≡◌, ℕ, suc, ◌+◌, ◌-◌, ◌<◌, ◌≤◌, Bool, true, false, cond, not, ◌&&◌, ◌||◌, eqb, ltb, leb, List, [], ◌∷◌, ◌++◌, map, filter, refl, sym, ap, ◌∙◌, subst, arith}
+use Rattle.std.specs.List.{list_all}
+use Rattle.std.proofs.lemmas.Bool.{and_parts, and_from, or_parts, or_from, both_ways, not-true, eqb-false, ltb-true, ltb-false, lt-ltb, leb-true, le-leb, ne_eqb, false_from_ne_true}
 use Rattle.checker_rules.specs.Canonical.{canonical, insert_lit, same_list, var_bound}
 use Rattle.checker_rules.specs.Clauses.{is_canonical, is_tautology}
 use Rattle.checker_rules.specs.DeleteClause.{is_short}

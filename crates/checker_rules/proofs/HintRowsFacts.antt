@@ -1,6 +1,6 @@
 -- The rows on the hint machine, by computation.
-use Rattle.std.proofs.Common.{◌≡◌, ◌≤◌, ℕ, suc, Bool, true, false, List, [], ◌∷◌, Option, Some, None, refl, sym, ap, ◌∙◌, subst, arith, inl, inr}
-use Rattle.std.proofs.lemmas.Bool.{false≢true, true≢false, both_ways}
+use Rattle.std.proofs.Common.{◌≡◌, ◌≤◌, ℕ, suc, false, List, [], ◌∷◌, Option, Some, None, refl, sym, ap, ◌∙◌, arith, inl, inr}
+use Rattle.std.proofs.lemmas.Bool.{true≢false, both_ways}
 use Rattle.checker_rules.specs.CallEmissions.{empty_machine}
 use Rattle.checker_rules.specs.HintRows.{HintRows, two_clauses}
 use Rattle.checker_rules.specs.Hints.{IsAdmitted, NamedBy, negated_set}

@@ -1,5 +1,5 @@
 -- Explicit user names are distinct.
-use Rattle.std.proofs.Common.{◌≡◌, ℕ, zero, suc, Bool, true, false, not, ◌&&◌, ◌||◌, eqb, List, [], ◌∷◌, ◌++◌, get_or, set, replicate, Option, Some, None, refl, sym, ap, ◌∙◌, eq-eqb}
+use Rattle.std.proofs.Common.{◌≡◌, ℕ, zero, suc, true, false, not, ◌&&◌, ◌||◌, eqb, List, [], ◌∷◌, ◌++◌, get_or, set, replicate, Option, Some, None, refl, sym, ap, ◌∙◌, eq-eqb}
 use Rattle.std.proofs.lemmas.Bool.{and_parts, and_from, or_parts, or_from, not-true, eqb-true, false_from_ne_true, true≢false}
 use Rattle.checker_rules.specs.KnownVars.{name_among, new_known, option_is}
 use Rattle.checker_rules.specs.State.{Known, sample}

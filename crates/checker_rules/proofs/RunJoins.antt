@@ -1,10 +1,9 @@
 -- Runs over texts in parts, their moves, and what they emit.
 use Rattle.std.proofs.Common.{◌≡◌, ◌⊎◌, Bool, true, false, cond, ltb, List, [], ◌∷◌, ◌++◌, map, Option, Some, None, refl, sym, ap, ◌∙◌, subst, inl, inr}
-use Rattle.std.proofs.lemmas.Bool.{cond_both}
 use Rattle.checker_rules.specs.CallEmissions.{EmitsCalls}
 use Rattle.checker_rules.specs.Calls.{Call, answer_of, attempt, calls_after, checks, closes, closing_conflict, step_limit}
 use Rattle.checker_rules.specs.CheckedSteps.{ShownStep, hint_steps}
-use Rattle.checker_rules.specs.Headline.{accepted, run}
+use Rattle.checker_rules.specs.Headline.{run}
 use Rattle.checker_rules.specs.HintRun.{IsRun, machine_after}
 use Rattle.checker_rules.specs.Machine.{IsTied, Machine}
 use Rattle.checker_rules.specs.Outcome.{Cause, steps_exhausted}
@@ -17,7 +16,6 @@ use Rattle.checker_rules.specs.WellFormed.{WellFormed}
 use Rattle.checker_rules.proofs.CallRuns.{calls_run_machine}
 use Rattle.checker_rules.proofs.DeletedVars.{hints-append}
 use Rattle.checker_rules.proofs.Emissions.{after-append, run-append}
-use Rattle.checker_rules.proofs.Entries.{one_more}
 
 assoc : (xs ys zs : List ShownStep) → (xs ++ ys) ++ zs ≡ xs ++ (ys ++ zs)
 assoc [] ys zs = refl

@@ -1,5 +1,5 @@
 -- Steps, calls and runs leave sound states.
-use Rattle.std.proofs.Common.{◌≡◌, ◌⊎◌, Bool, cond, ltb, List, [], ◌∷◌, Option, Some, None, refl, subst, inl, inr}
+use Rattle.std.proofs.Common.{◌⊎◌, ltb, List, [], ◌∷◌, Option, Some, None, subst, inl, inr}
 use Rattle.std.proofs.lemmas.Bool.{cond_both}
 use Rattle.checker_rules.specs.Calls.{Call, adds, answer_of, attempt, calls_after, checks, closes, closing_conflict, count_step, fail, step_limit}
 use Rattle.checker_rules.specs.Headline.{run}

@@ -1,7 +1,7 @@
 -- Each step keeps the form of the state.
-use Rattle.std.proofs.Common.{◌≡◌, ℕ, zero, suc, ◌+◌, ◌-◌, ◌<◌, ◌≤◌, Bool, true, false, cond, not, ◌&&◌, ◌||◌, eqb, ltb, leb, List, [], ◌∷◌, ◌++◌, map, length, set, replicate, Option, Some, None, filter, refl, sym, ap, ◌∙◌, subst, arith, is_some, is_none, length-append, length-set}
+use Rattle.std.proofs.Common.{◌≡◌, ℕ, suc, ◌-◌, ◌≤◌, Bool, true, false, cond, not, ◌&&◌, ◌||◌, eqb, ltb, leb, List, [], ◌∷◌, map, length, replicate, Option, Some, None, refl, arith, is_some, is_none, length-append}
 use Rattle.std.specs.List.{list_any, list_all}
-use Rattle.std.proofs.lemmas.Bool.{and_parts, and_from, or_parts, or_from, both_ways, not-true, eqb-false, ltb-true, ltb-false, lt-ltb, leb-true, le-leb, ne_eqb, false_from_ne_true, cond_both}
+use Rattle.std.proofs.lemmas.Bool.{or_parts, eqb-false, ltb-false, cond_both}
 use Rattle.std.proofs.lemmas.List.{length-replicate}
 use Rattle.checker_rules.specs.AddClause.{step_add_clause, store_input, take_input}
 use Rattle.checker_rules.specs.Assumptions.{step_assumptions}

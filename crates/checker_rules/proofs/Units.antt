@@ -1,5 +1,5 @@
 -- Units by their variables: ids below a bound, and the unit that a recorded conflict is on.
-use Rattle.std.proofs.Common.{◌≡◌, ◌⊎◌, ℕ, zero, suc, ◌+◌, ◌<◌, Bool, true, false, ◌||◌, eqb, ltb, List, [], ◌∷◌, ◌++◌, set, replicate, Option, Some, None, refl, sym, ap, ◌∙◌, subst, arith, inl, inr, eq-eqb}
+use Rattle.std.proofs.Common.{◌≡◌, ◌⊎◌, ℕ, zero, suc, ◌+◌, true, false, List, [], ◌∷◌, ◌++◌, set, replicate, Option, Some, None, refl, sym, ap, ◌∙◌, arith, inl, inr, eq-eqb}
 use Rattle.std.proofs.lemmas.Bool.{or_cases, or_left, or_right, false≢true, true≢false, ltb-true, lt-ltb, eqb-true}
 use Rattle.checker_rules.specs.DeleteVar.{is_conflict_on, is_unit_with}
 use Rattle.checker_rules.specs.State.{StoredUnit, unit_of}

@@ -7,7 +7,7 @@ use Rattle.std.specs.Prelude.{◌≡◌, ℕ, Bool, List, [], ◌∷◌, ◌++�
 use Rattle.checker_rules.specs.Calls.{adds, calls_after}
 use Rattle.checker_rules.specs.Clauses.{all_true}
 use Rattle.checker_rules.specs.Covers.{Covers}
-use Rattle.checker_rules.specs.Headline.{Good, holds, run}
+use Rattle.checker_rules.specs.Headline.{Good, holds}
 use Rattle.checker_rules.specs.Outcome.{Cause, Outcome, accept, and_then}
 use Rattle.checker_rules.specs.Sound.{Sound}
 use Rattle.checker_rules.specs.State.{State, sat}

@@ -2,7 +2,7 @@
 --     Reaches next s x ts r y      the moves from s over x accept ts and leave the state r and the text y
 --     MovesAre      what one move is, in each of its cases
 --     RunsJoin      what was reached so far, and the run from there
-use Rattle.std.specs.Prelude.{◌≡◌, ◌⊎◌, Bool, true, false, ltb, List, [], ◌∷◌, ◌++◌, map, Option, Some, None}
+use Rattle.std.specs.Prelude.{◌≡◌, ◌⊎◌, true, false, ltb, List, [], ◌∷◌, ◌++◌, map, Option, Some, None}
 use Rattle.std.proofs.Common.{inl, inr}
 use Rattle.checker_rules.specs.Calls.{attempt, calls_after, checks, closing_conflict, count_step, step_limit}
 use Rattle.checker_rules.specs.Outcome.{Cause, steps_exhausted}

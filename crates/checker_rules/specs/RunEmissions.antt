@@ -31,7 +31,7 @@ EmitsRun next s x [] es = EmitsCalls s (last_calls next s x) es
 EmitsRun {X = X} next s x (t ∷ ts) es =
     (rest : X) × (move next s x ≡ inl (t, rest)) × (xs : List ShownStep) × (ys : List ShownStep) × EmitsCall s (checks t) xs × EmitsRun next (attempt s t).after rest ts ys × (es ≡ xs ++ ys)
 
--- for every map that is linked to the state
+-- for every map that is tied to the state
 abbrev pub RunsRunMachine : (X F : Type 0) → Type 0
 RunsRunMachine X F = (next : X → (Step × X) ⊎ F) (m : Machine) (s : State) (x : X) (ts : List Step) (answer : Option (Cause ⊎ F)) (r : State) (es : List ShownStep) →
     IsTied m s → WellFormed s → Runs next s x ts answer r → EmitsRun next s x ts es →
