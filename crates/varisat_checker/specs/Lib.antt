@@ -19,6 +19,8 @@ pub mod Rup
 pub mod Shown
 pub mod StateOf
 pub mod Store
+pub mod TextFault
+pub mod TextRun
 pub mod Trace
 pub mod Trail
 pub mod Units

@@ -3,12 +3,18 @@ ghost use Rattle.std.specs.Prelude.{◌≡◌, false};
 ghost use Rattle.varisat_checker.specs.Context.{IsKept};
 ghost use Rattle.varisat_checker.specs.Failing.{has_failed};
 
+use crate::check::{attempt_step, process_unit_conflicts};
 use crate::context::ContextOf;
+use crate::internal::SelfChecker;
 use crate::steps::add_clause;
-use checker_parts::error::CheckerError;
+use crate::proof;
+use checker_parts::error::{CheckerError, DimacsError};
 use checker_parts::processor::{ProofProcessor, ProofTranscriptProcessor};
-use sat_formula::Lit;
+use log::{Log, info};
+use proof_bytes::ProofStep;
+use sat_formula::{CnfFormula, DimacsFault, DimacsReader, Lit};
 use std::alloc::Global;
+use std::io::Read;
 
 /// A checker of unsatisfiability proofs, over its processors and transcripts.
 #[derive(Drop)]
@@ -23,13 +29,17 @@ pub type Checker = CheckerOf<Box<dyn ProofProcessor>, Box<dyn ProofTranscriptPro
 
 #[tactic(auto, unfolding(crate::specs::Shown::state))]
 impl<P: ProofProcessor, T: ProofTranscriptProcessor> CheckerOf<P, T> {
-    ghost use Rattle.std.specs.Prelude.{◌≡◌, true, false, List};
+    ghost use Rattle.std.specs.Prelude.{◌≡◌, ◌++◌, true, false, List, map};
+    ghost use Rattle.checker_rules.specs.AddFormula.{add_clauses, added};
     ghost use Rattle.checker_rules.specs.Calls.{shown_inputs, shown_unsat};
     ghost use Rattle.checker_rules.specs.Step as rules;
     ghost use Rattle.checker_rules.specs.Steps.{new_state, step};
-    ghost use Rattle.checker_parts.specs.Answers.{AnswersStep, CoversFold, IsCovered, IsFold, SetsFold};
-    ghost use Rattle.varisat_checker.specs.Failing.{IsFailed};
+    ghost use Rattle.checker_parts.specs.Answers.{AnswersStep, CoversFold, IsCovered, IsFold, SetsFold, UnlessFailed};
+    ghost use Rattle.varisat_checker.specs.Failing.{IsFailed, IsTextFailed, RecordsFailure};
+    ghost use Rattle.varisat_checker.specs.ProofRun.{ProofRun};
     ghost use Rattle.varisat_checker.specs.Shown.{state};
+    ghost use Rattle.varisat_checker.specs.TextFault.{IsTextFault};
+    ghost use Rattle.varisat_checker.specs.TextRun.{TextRun};
 
     /// A checker with nothing stored. Takes no memory.
     pub fn new(alloc: Global) -> CheckerOf<P, T>
@@ -58,6 +68,86 @@ impl<P: ProofProcessor, T: ProofTranscriptProcessor> CheckerOf<P, T> {
         answer
     }
 
+    /// Adds the clauses of a formula, in their order, up to the first that is refused.
+    pub fn add_formula(&mut self, formula: &CnfFormula) -> Result<(), CheckerError>
+        ensures failed { (state self.old).failed ≡ true → IsFailed result × (self.new ≡ self.old) }
+        ensures steps { (state self.old).failed ≡ false → AnswersStep result (add_clauses (state self.old) formula.now) (state self.new) }
+        ensures headline { (state self.old).failed ≡ false → (before : List rules.Step) → IsFold before (state self.old) → UnlessFailed result (IsFold (before ++ map rules.add_clause (added (state self.old) formula.now)) (state self.new)) }
+        ensures covers { (state self.old).failed ≡ false → (before : List rules.Step) → IsCovered before (state self.old) → UnlessFailed result (IsCovered (before ++ map rules.add_clause (added (state self.old) formula.now)) (state self.new)) }
+    {
+        if self.ctx.checker_state.failed {
+            return Err(CheckerError::Failed);
+        }
+        'clauses: for clause in formula {
+            self.add_clause(clause)?;
+        }
+        Ok(())
+    }
+
+    /// Adds the clauses of a text in DIMACS CNF, each as it ends, up to the first that is refused.
+    ///
+    /// The text is read as it goes. One line goes to the log where all of it was added.
+    pub fn add_dimacs_cnf<L: Log, R: Read + Drop>(
+        &mut self,
+        rt: &L,
+        input: R,
+    ) -> Result<(), DimacsError>
+        ensures failed { (state self.old).failed ≡ true → IsTextFailed result × (self.new ≡ self.old) }
+        ensures text { (state self.old).failed ≡ false → TextRun (R.remaining input) (state self.old) result (state self.new) }
+    {
+        if self.ctx.checker_state.failed {
+            return Err(DimacsError::Checker(CheckerError::Failed));
+        }
+        let mut reader = DimacsReader::new(self.alloc, input);
+        let mut clause = Vec::new(self.alloc);
+        'clauses: loop {
+            match reader.next_clause(&mut clause) {
+                Ok(true) => self.add_clause(&clause).map_err(DimacsError::Checker)?,
+                Ok(false) => break,
+                Err(fault) => return Err(self.text_fault(fault)),
+            }
+        }
+        info!(rt; "Parsed formula with {} variables and {} clauses", reader.var_count(), reader.clause_count());
+        Ok(())
+    }
+
+    /// The answer for a fault of a formula's text. Want of memory fails the checker.
+    fn text_fault(&mut self, fault: DimacsFault) -> DimacsError
+        ensures { IsTextFault fault (state self.old) result (state self.new) }
+    {
+        match fault {
+            DimacsFault::Read(cause) => DimacsError::Read(cause),
+            DimacsFault::Malformed { line, kind } => DimacsError::Malformed { line, kind },
+            DimacsFault::OutOfMemory => {
+                self.ctx.checker_state.failed = true;
+                DimacsError::Checker(CheckerError::OutOfMemory)
+            }
+        }
+    }
+
+    /// Checks the steps of a proof up to `End`, and then the closing conflict.
+    ///
+    /// Where `End` was accepted before, nothing is read. Each call begins a new text, which is read as it goes. Every 100000 steps
+    /// one line goes to the log.
+    pub fn check_proof<L: Log, R: Read + Drop>(
+        &mut self,
+        rt: &L,
+        proof: R,
+    ) -> Result<(), CheckerError>
+        ensures failed { (state self.old).failed ≡ true → IsFailed result × (self.new ≡ self.old) }
+        ensures run { (state self.old).failed ≡ false → ProofRun (R.remaining proof) (state self.old) result (state self.new) }
+        ensures records { RecordsFailure result (state self.new) }
+    {
+        if self.ctx.checker_state.failed {
+            return Err(CheckerError::Failed);
+        }
+        let answer = proof::check_proof(rt, self.alloc, &mut self.ctx, proof);
+        if fails(&answer) {
+            self.ctx.checker_state.failed = true;
+        }
+        answer
+    }
+
     /// Whether unsatisfiability is recorded and the checker has not failed.
     pub fn unsat(&self) -> bool
         ensures { result ≡ shown_unsat (state self.now) }
@@ -74,6 +164,35 @@ impl<P: ProofProcessor, T: ProofTranscriptProcessor> CheckerOf<P, T> {
         } else {
             self.ctx.checker_state.input_clauses
         }
+    }
+}
+
+#[tactic(auto, unfolding(crate::specs::Shown::state))]
+impl<P: ProofProcessor, T: ProofTranscriptProcessor> SelfChecker for CheckerOf<P, T> {
+    ghost use Rattle.varisat_checker.specs.Shown.{state};
+
+    ghost shown = { λ c. state c };
+
+    fn self_check_step(&mut self, step: ProofStep) -> Result<(), CheckerError> {
+        if self.ctx.checker_state.failed {
+            return Err(CheckerError::Failed);
+        }
+        let answer = attempt_step(self.alloc, &mut self.ctx, &step);
+        if fails(&answer) {
+            self.ctx.checker_state.failed = true;
+        }
+        answer
+    }
+
+    fn self_check_delayed_steps(&mut self) -> Result<(), CheckerError> {
+        if self.ctx.checker_state.failed {
+            return Err(CheckerError::Failed);
+        }
+        let answer = process_unit_conflicts(self.alloc, &mut self.ctx);
+        if fails(&answer) {
+            self.ctx.checker_state.failed = true;
+        }
+        answer
     }
 }
 

@@ -13,4 +13,7 @@ mod refusal;
 pub mod steps;
 pub mod check;
 pub mod proof;
+pub mod internal;
 pub mod checker;
+
+pub use checker::{Checker, CheckerOf};
