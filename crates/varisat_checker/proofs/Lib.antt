@@ -7,6 +7,7 @@ pub mod BufferLemmas
 pub mod CheckLemmas
 pub mod ColumnLemmas
 pub mod CountLemmas
+pub mod CountedSteps
 pub mod EditLemmas
 pub mod FailingLemmas
 pub mod FoundLemmas
