@@ -6,19 +6,17 @@ ghost use Rattle.sat_formula.specs.Vars.{index_of, indexes_of};
 ghost use Rattle.proof_bytes.specs.Formats.{bytes_of, IsFormat};
 ghost use Rattle.proof_bytes.specs.Growing.{Grows};
 ghost use Rattle.proof_bytes.specs.NextStep.{view, why};
+ghost use Rattle.proof_bytes.specs.Writer.{writing, mark};
 ghost use Rattle.proof_bytes.specs.Spelling.{all_fit, hashes_of, IsStep, IsName, IsUnit, AreLits, AreHashes, Listed, spells, fields_of, number, numbers, flag, name, justification, listed, hash, unit, little};
 
 use crate::format::Format;
 use crate::hash::ClauseHash;
 use crate::step::{DeleteClauseProof, ProofStep};
+use crate::tag;
 use sat_formula::{Lit, Var};
 use std::alloc::AllocError;
 
-pub(crate) fn push_step(
-    out: &mut Vec<u8>,
-    format: Format,
-    step: &ProofStep,
-) -> Result<(), AllocError>
+fn push_step(out: &mut Vec<u8>, format: Format, step: &ProofStep) -> Result<(), AllocError>
     requires in_force { IsFormat format }
     requires narrow { all_fit format (hashes_of (view step.now)) ≡ true }
     ensures ok { OnOk result (out.new.items ≡ out.old.items ++ spells format (view step.now)) }
@@ -27,6 +25,25 @@ pub(crate) fn push_step(
 {
     out.push(step.tag())?;
     push_fields(out, format, step)
+}
+
+// The step, after the mark where it begins a text of version 2.
+pub(crate) fn push_marked(
+    out: &mut Vec<u8>,
+    format: Format,
+    step: &ProofStep,
+) -> Result<(), AllocError>
+    requires in_force { IsFormat format }
+    requires narrow { all_fit (writing format) (hashes_of (view step.now)) ≡ true }
+    ensures ok { OnOk result (out.new.items ≡ out.old.items ++ (mark format ++ spells (writing format) (view step.now))) }
+    ensures fits { OnOk result (IsStep (writing format) (view step.now)) }
+    ensures grows { Grows out.old.items out.new.items }
+{
+    if let Format::Start = format {
+        out.push(tag::MARK)?;
+        out.push(tag::VERSION)?;
+    }
+    push_step(out, format.writing(), step)
 }
 
 fn push_fields(out: &mut Vec<u8>, format: Format, step: &ProofStep) -> Result<(), AllocError>
