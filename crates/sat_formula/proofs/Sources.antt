@@ -1,10 +1,6 @@
 -- Bytes read ahead, one after the other.
-use Rattle.std.proofs.Common.{◌≡◌, ℕ, suc, ◌+◌, ◌-◌, ◌<◌, ◌≤◌, List, [], ◌∷◌, ◌++◌, length, get_or, slice_range, Option, Some, None, Result, Ok, Err, Bool, true, false, sym, ap, ◌∙◌, refl, arith, drop-cons, add-one}
-use Rattle.std.specs.Prelude.{IsTrue}
+use Rattle.std.proofs.Common.{◌≡◌, ℕ, suc, ◌+◌, ◌-◌, ◌<◌, ◌≤◌, List, [], ◌∷◌, ◌++◌, length, get_or, slice_range, Option, Some, None, sym, ap, ◌∙◌, refl, arith, drop-cons, add-one}
 use Rattle.std.specs.Io.KnownBytes.{prepend_known, Consumes, Keeps}
-use Rattle.sat_formula.specs.declared.source.NoByte.{NoByte}
-use Rattle.sat_formula.specs.declared.source.Source.{Source}
-use Rattle.sat_formula.specs.Source.{is_limited, room_of, TakesRoom}
 
 abbrev Known : Type 0
 Known = Option (List ℕ)

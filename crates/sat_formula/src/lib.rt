@@ -1,6 +1,7 @@
 //! Variables, literals, formulas and DIMACS text.
 #![tactic(auto)]
 
+mod cnf;
 mod dimacs;
 mod fault;
 pub mod laws;
@@ -11,7 +12,7 @@ mod tests;
 mod text;
 mod word;
 
+pub use cnf::{CnfClauses, CnfFormula};
 pub use dimacs::DimacsReader;
-pub use fault::{DimacsFault, DimacsKind, Stop};
+pub use fault::{DimacsFault, DimacsKind};
 pub use lit::{Lit, Var};
-pub use word::{Header, Number, Token};

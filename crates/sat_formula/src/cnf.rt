@@ -1,0 +1,144 @@
+//! Formulas: lists of clauses as they were given.
+ghost use Rattle.std.specs.Prelude.{◌≡◌, ◌↔◌, [], ◌∷◌, ◌++◌, length, IsTrue, OnOk, OnErr};
+ghost use Rattle.sat_formula.specs.Formula.{vars_with, var_count_of};
+
+use crate::lit::Lit;
+use std::alloc::{AllocError, Global};
+use std::marker::Model;
+
+/// A formula in conjunctive normal form: its clauses in the order in which they were added, each with
+/// its literals as they were given.
+#[derive(Drop)]
+pub struct CnfFormula {
+    lits: Vec<Lit>,
+    lens: Vec<usize>,
+    var_count: usize,
+}
+
+impl Model for CnfFormula {
+    ghost use Rattle.std.specs.Prelude.{ℕ, List};
+
+    ghost Value = { List (List ℕ) };
+
+    ghost use Rattle.sat_formula.specs.Formula.{cut, IsWhole};
+
+    ghost view = { λ f. cut f.lens.items f.lits.items };
+
+    ghost invariant = { λ f. IsWhole f.lens.items f.lits.items f.var_count };
+}
+
+impl CnfFormula {
+    /// The formula without clauses.
+    pub fn new(alloc: Global) -> CnfFormula
+        ensures { result ≡ [] }
+    {
+        CnfFormula {
+            lits: Vec::new(alloc),
+            lens: Vec::new(alloc),
+            var_count: 0,
+        }
+    }
+
+    /// Adds a clause at the end.
+    pub fn add_clause(&mut self, clause: &[Lit]) -> Result<(), AllocError>
+        ensures ok { OnOk result (self.new ≡ self.old ++ clause.now ∷ []) }
+        ensures err { OnErr result (self.new ≡ self.old) }
+    {
+        self.lens.reserve(1)?;
+        self.lits.extend_from_slice(clause)?;
+        self.lens.push_reserved(clause.len());
+        self.var_count = count_vars(self.var_count, clause);
+        Ok(())
+    }
+
+    /// How many clauses there are.
+    pub fn len(&self) -> usize
+        ensures { result ≡ length self.now }
+    {
+        self.lens.len()
+    }
+
+    pub fn is_empty(&self) -> bool
+        ensures { IsTrue result ↔ (self.now ≡ []) }
+    {
+        self.lens.is_empty()
+    }
+
+    /// The largest index of a variable and 1, or 0 where there is no literal.
+    pub fn var_count(&self) -> usize
+        ensures { result ≡ var_count_of self.now }
+    {
+        self.var_count
+    }
+
+    /// The clauses, in their order.
+    pub fn iter(&self) -> CnfClauses<'_>
+        ensures { result ≡ self.now }
+    {
+        CnfClauses {
+            lits: &self.lits,
+            lens: &self.lens,
+        }
+    }
+}
+
+impl<'a> IntoIterator for &'a CnfFormula {
+    type Item = &'a [Lit];
+
+    type IntoIter = CnfClauses<'a>;
+
+    ghost into_iter_gives = { λ formula clauses. clauses ≡ formula.now };
+
+    fn into_iter(self) -> CnfClauses<'a> {
+        self.iter()
+    }
+}
+
+/// The clauses of a formula that are still to come, in their order.
+#[derive(Drop)]
+pub struct CnfClauses<'a> {
+    lits: &'a [Lit],
+    lens: &'a [usize],
+}
+
+impl<'a> Model for CnfClauses<'a> {
+    ghost use Rattle.std.specs.Prelude.{◌≡◌, ℕ, List, sum, length};
+
+    ghost Value = { List (List ℕ) };
+
+    ghost use Rattle.sat_formula.specs.Formula.{cut};
+
+    ghost view = { λ c. cut c.lens.now c.lits.now };
+
+    ghost invariant = { λ c. sum c.lens.now ≡ length c.lits.now };
+}
+
+impl<'a> Iterator for CnfClauses<'a> {
+    ghost use Rattle.std.specs.Iterator.{YieldsFirstBy, item_count};
+
+    type Item = &'a [Lit];
+
+    ghost next_gives = { YieldsFirstBy (λ clause. clause.now) (λ left. left) };
+
+    ghost remaining = { item_count (λ left. left) };
+
+    fn next(&mut self) -> Option<&'a [Lit]> {
+        let (len, lens) = self.lens.split_first()?;
+        let (clause, lits) = self.lits.split_at(*len);
+        self.lens = lens;
+        self.lits = lits;
+        Some(clause)
+    }
+}
+
+/// The variables of a clause beside those counted: at least its largest index and 1.
+#[inline(always)]
+pub(crate) fn count_vars(count: usize, clause: &[Lit]) -> usize
+    ensures { result ≡ vars_with count clause.now }
+{
+    let mut most = count;
+    'lits: for lit in clause {
+        most = most.max(lit.index() + 1);
+    }
+    most
+}
