@@ -1,5 +1,5 @@
 //! The stored clauses and units.
-ghost use Rattle.std.specs.Prelude.{◌≡◌, ◌+◌, ◌<◌, OnSome, IfNone};
+ghost use Rattle.std.specs.Prelude.{◌≡◌, ◌+◌, ◌<◌, ◌≤◌, [], None, OnSome, IfNone};
 ghost use Rattle.std.specs.Option.{SomeIff};
 ghost use Rattle.checker_rules.specs.Store.{id_limit};
 
@@ -13,6 +13,8 @@ use crate::clauses::buckets::Buckets;
 use crate::clauses::lits::ClauseLits;
 use crate::clauses::units::Units;
 use sat_formula::lit::Lit;
+use std::alloc::Global;
+use std::collections::HashMap;
 
 /// A clause of two or more literals, with the number of its copies of either kind.
 #[derive(Clone, Copy)]
@@ -58,12 +60,35 @@ pub struct Clauses {
 }
 
 impl Clauses {
+    ghost use Rattle.varisat_checker.specs.declared.hash.ClauseHasher.{ClauseHasher};
+    ghost use Rattle.varisat_checker.specs.Store.{IsStore};
+    ghost use Rattle.varisat_checker.specs.View.{stored_list};
+
+    /// Nothing is stored, and the first id is 0.
+    pub fn new(alloc: Global) -> Clauses
+        ensures list { stored_list result ≡ [] }
+        ensures units { result.unit_clauses ≡ [] }
+        ensures conflict { result.unit_conflict ≡ None }
+        ensures next { result.next_clause_id ≡ 0 }
+        ensures store { (h : ClauseHasher) → 0 < h.hash_bits → h.hash_bits ≤ 64 → IsStore h result }
+    {
+        Clauses {
+            next_clause_id: 0,
+            literal_buffer: Vec::new(alloc),
+            garbage_size: 0,
+            buckets: HashMap::new(alloc),
+            unit_clauses: Units::new(alloc),
+            unit_conflict: None,
+        }
+    }
+
     /// Takes the next id. None where none is left.
     #[tactic(auto, unfolding(checker_rules::specs::Store::id_limit))]
     pub fn take_id(&mut self) -> Option<u64>
         ensures id { SomeIff result (self.old.next_clause_id < id_limit) self.old.next_clause_id }
         ensures taken { OnSome result (self.new ≡ record self.old { next_clause_id = self.old.next_clause_id + 1 }) }
         ensures unchanged { IfNone result (self.new ≡ self.old) }
+        ensures store { (h : ClauseHasher) → IsStore h self.old → IsStore h self.new }
     {
         let id = self.next_clause_id;
         self.next_clause_id = id.checked_add(1)?;
