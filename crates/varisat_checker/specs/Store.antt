@@ -71,7 +71,7 @@ abbrev pub store_counters : List ℕ → Bool → State → Outcome
 store_counters c redundant s = counters redundant c (not (stands c s)) s accept
 
 -- the clause is stored, which leads from s to t, with the answers
-pub record IsStored (c : List ℕ) (redundant : Bool) (s t : State) (id : ℕ) (result : StoreClauseResult) : Type 0 where
+pub record Stores (c : List ℕ) (redundant : Bool) (s t : State) (id : ℕ) (result : StoreClauseResult) : Type 0 where
   pub room : store_counters c redundant s ≡ accept s
   pub after : t ≡ store c redundant s
   pub id_is : id ≡ id_of c s
@@ -79,7 +79,7 @@ pub record IsStored (c : List ℕ) (redundant : Bool) (s t : State) (id : ℕ) (
 
 -- what an attempt to store the clause answers; nothing is said where memory was refused
 abbrev pub AnswersStore : Result (ℕ × StoreClauseResult) StoreFault → List ℕ → Bool → State → State → Type 0
-AnswersStore (Ok p) c redundant s t = IsStored c redundant s t p.0 p.1
+AnswersStore (Ok p) c redundant s t = Stores c redundant s t p.0 p.1
 AnswersStore (Err OutOfMemory) c redundant s t = Unit {0}
 AnswersStore (Err IdsExhausted) c redundant s t = (store_counters c redundant s ≡ refuse ids_exhausted s) × (t ≡ s)
 AnswersStore (Err CountExhausted) c redundant s t = (store_counters c redundant s ≡ refuse count_exhausted s) × (t ≡ s)

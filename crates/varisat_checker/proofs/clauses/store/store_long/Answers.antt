@@ -5,7 +5,7 @@ use Rattle.varisat_checker.specs.declared.clauses.Clauses.{Clauses}
 use Rattle.varisat_checker.specs.Edits.{IsRaised}
 use Rattle.varisat_checker.specs.Found.{found_in}
 use Rattle.varisat_checker.specs.StateOf.{hash_of, state_of}
-use Rattle.varisat_checker.specs.Store.{AnswersPush, AnswersStore, IsStored}
+use Rattle.varisat_checker.specs.Store.{AnswersPush, AnswersStore, Stores}
 use Rattle.varisat_checker.specs.View.{stored_in, stored_list}
 use Rattle.varisat_checker.proofs.EditLemmas.{is_store-raised, is_store-same, stored_list-raised, stored_list-same}
 use Rattle.varisat_checker.proofs.FoundLemmas.{raise-absent}
@@ -30,8 +30,8 @@ returns-in-Ok-Some-clause-answer c st known =
     let raised = read (λ b k. IsRaised b k r ls cs.buckets m) _ _ _ _ e f p.raised in
     let found : Some (id, n) ≡ found_in ls (stored_list cs) = sym c.in-Ok-Some.field-0-is ∙ read (λ b k. c.in-Ok-Some.field-0 ≡ found_in ls (stored_in b cs.buckets k)) _ _ _ _ e f p.found ∙ found_in-bucket h cs c.requires.store ls in
     let few : count_of r ls (stored_list cs) < count_limit = subst (λ x. x < count_limit) (count_of-bucket h cs c.requires.store r ls) (read (λ b k. count_of r ls (stored_in b cs.buckets k) < count_limit) _ _ _ _ e f p.room) in
-    subst (λ t. IsStored ls r s t id c.raised_as.result) (sym (state_of-buckets st h cs known m (map (raise r ls) (stored_list cs)) (stored_list-raised h cs c.requires.store m r ls raised)))
-    (subst (λ x. IsStored ls r s (record s { clauses = map (raise r ls) s.clauses }) id x) (sym c.raised_as.ensures) (long-stands ls r s id n c.requires.long found few))
+    subst (λ t. Stores ls r s t id c.raised_as.result) (sym (state_of-buckets st h cs known m (map (raise r ls) (stored_list cs)) (stored_list-raised h cs c.requires.store m r ls raised)))
+    (subst (λ x. Stores ls r s (record s { clauses = map (raise r ls) s.clauses }) id x) (sym c.raised_as.ensures) (long-stands ls r s id n c.requires.long found few))
 
 pub returns-in-Ok-Some-clause-store : goal.returns-in-Ok-Some-clause-store
 returns-in-Ok-Some-clause-store c =

@@ -7,7 +7,7 @@ use Rattle.checker_rules.specs.State.{State, makes_true, same_bool, unit_of}
 use Rattle.varisat_checker.specs.declared.clauses.StoreClauseResult.TheVariants.{Duplicate}
 use Rattle.varisat_checker.specs.declared.clauses.units.UnitClause.{UnitClause}
 use Rattle.varisat_checker.specs.StateOf.{id_of_unit, state_of, stored_unit, stored_units}
-use Rattle.varisat_checker.specs.Store.{IsStore, IsStored, is_stored_unit, unit_for}
+use Rattle.varisat_checker.specs.Store.{IsStore, Stores, is_stored_unit, unit_for}
 use Rattle.varisat_checker.specs.Units.{unit_at}
 use Rattle.varisat_checker.proofs.AnswerLemmas.{answers-new, either_way, unit-conflict, unit-new, unit-stands}
 use Rattle.varisat_checker.proofs.StoreLemmas.{few-short, is_store-units, list_all-set, stored_units-set, unit_of-stored_units}
@@ -49,7 +49,7 @@ returns-then-unit-is_positive-clause-answer c h known redundant kept =
     let st = c.args.state.now in let cs = c.args.clauses.now in let l = c.args.lit in let s = state_of st h cs known in let u = c.in-Some.unit in
     let here : unit_of s.units (var_of l) ≡ Some (stored_unit u) = unit_is cs.unit_clauses (Some u) c.index.result (l / 2) c.in-Some.ensures c.index.ensures.value in
     let same : same_bool u.value (not (is_negative l)) ≡ true = same_is u.value c.is_positive.result true (not (is_negative l)) c.if-unit-is_positive.true c.is_positive.ensures in
-    subst (λ n. IsStored (l ∷ []) redundant s s n Duplicate) (sym c.global_id-stored.ensures)
+    subst (λ n. Stores (l ∷ []) redundant s s n Duplicate) (sym c.global_id-stored.ensures)
     (unit-stands l redundant s (few-short h cs kept redundant (l ∷ []) refl) (stored_unit u) here same)
 
 pub returns-else-unit-is_positive-clause-answer : goal.returns-else-unit-is_positive-clause-answer
