@@ -3,6 +3,7 @@ pub mod CheckLemmas
 pub mod ColumnLemmas
 pub mod StatusLemmas
 pub mod TraceLemmas
+pub mod TraceStepLemmas
 pub mod TrailLemmas
 pub mod UnitsLemmas
 pub mod ViewLemmas
