@@ -5,6 +5,7 @@ pub mod StatusLemmas
 pub mod TraceLemmas
 pub mod TraceStepLemmas
 pub mod TrailLemmas
+pub mod TrueUnitLemmas
 pub mod UnitsLemmas
 pub mod ViewLemmas
 pub mod VisitLemmas

@@ -6,8 +6,9 @@ use Rattle.smallvec.specs.SmallVec.{SmallVec}
 use Rattle.std.proofs.lemmas.Bool.{and_right, cases_eq, ne_eqb}
 use Rattle.std.proofs.lemmas.List.{append_assoc, drop_more, map-append}
 use Rattle.checker_rules.specs.Clauses.{add_lit, negate, var_of}
-use Rattle.checker_rules.specs.Hints.{Item, Visit, prepend, stored_item, trace}
-use Rattle.checker_rules.specs.State.{Stored, StoredUnit}
+use Rattle.checker_rules.specs.Hints.{Item, Visit, prepend, stored_item, trace, unlisted_at}
+use Rattle.checker_rules.specs.State.{Stored, StoredUnit, start_set}
+use Rattle.checker_rules.specs.Traced.{ids_of}
 use Rattle.varisat_checker.specs.declared.clauses.Clause.{Clause}
 use Rattle.varisat_checker.specs.declared.clauses.units.UnitClause.{UnitClause}
 use Rattle.varisat_checker.specs.declared.rup.status.ClauseStatus.{ClauseStatus}
@@ -15,7 +16,7 @@ use Rattle.varisat_checker.specs.declared.rup.status.ClauseStatus.TheVariants as
 use Rattle.varisat_checker.specs.Buckets.{Buckets, bucket_items}
 use Rattle.varisat_checker.specs.Rup.{status_of, true_lits}
 use Rattle.varisat_checker.specs.StateOf.{stored_units}
-use Rattle.varisat_checker.specs.Trace.{KeepsStored, Lists, has_stored, ids_after, is_global, item_ids, look, looked, named_clauses, unlisted_lits}
+use Rattle.varisat_checker.specs.Trace.{KeepsStored, Lists, has_stored, ids_after, is_global, item_ids, look, looked, named_clauses, open_trace, unlisted_lits}
 use Rattle.varisat_checker.specs.Units.{AreKnown, unit_at}
 use Rattle.varisat_checker.specs.View.{stored_of}
 use Rattle.varisat_checker.proofs.TraceLemmas.{keeps-agree, keeps-set, keeps-then, unlisted_lits-set}
@@ -117,3 +118,13 @@ named_clauses-drop buffer m hs i b cs less found is =
 -- the trace goes on after a bucket without a falsified clause
 pub lists-bucket : (ids ids_now : List ℕ) (us vs : List (Option UnitClause)) (es : List Stored) (falsified : Bool) → Lists ids us es falsified ids_now vs → falsified ≡ false → (rest : List Stored) → ids_after ids us (es ++ rest) ≡ ids_after ids_now vs rest
 lists-bucket ids ids_now us vs es falsified h e rest = h rest ∙ ap (λ b. cond b (Some ids_now) (ids_after ids_now vs rest)) e
+
+-- the trace of the walk from the values with the negated clause
+pub open_trace-is : (ids t : List ℕ) (us vs : List (Option UnitClause)) (c : List ℕ) (es : List Stored) → ids ≡ [] → KeepsStored us vs → true_lits vs ≡ start_set (stored_units us) c → unlisted_lits vs ≡ unlisted_at (stored_units us) c → ids_after ids vs es ≡ Some t → t ≡ ids_of (open_trace (stored_units us) c es)
+open_trace-is ids t us vs c es none kept start unlisted h =
+    found (trace (stored_units vs) (true_lits vs) (unlisted_lits vs) es) (ap (λ xs. ids_after xs vs es) (sym none) ∙ h)
+    ∙ ap ids_of (sym (goes_on us vs (start_set (stored_units us) c) (unlisted_at (stored_units us) c) es kept start unlisted))
+  where
+    found : (o : Option (List Item)) → option_map (λ items. [] ++ item_ids items) o ≡ Some t → t ≡ ids_of o
+    found None e = absurd (cc)
+    found (Some items) e = let same : item_ids items ≡ t = cc in sym same

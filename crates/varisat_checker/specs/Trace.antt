@@ -10,6 +10,8 @@ use Rattle.checker_rules.specs.Traced.{ids_of}
 use Rattle.varisat_checker.specs.declared.clauses.units.UnitClause.{UnitClause}
 use Rattle.varisat_checker.specs.declared.clauses.units.UnitId.{UnitId}
 use Rattle.varisat_checker.specs.declared.clauses.units.UnitId.TheVariants.{Global, TracePos, InClause}
+use Rattle.varisat_checker.specs.declared.rup.Answer.{Answer}
+use Rattle.varisat_checker.specs.declared.rup.Answer.TheVariants.{Passed, NoClauseForHash, Failed}
 use Rattle.varisat_checker.specs.Buckets.{Buckets}
 use Rattle.varisat_checker.specs.Rup.{true_lits}
 use Rattle.varisat_checker.specs.StateOf.{stored_units}
@@ -69,6 +71,20 @@ abbrev pub named_clauses : List ℕ → Buckets → List ℕ → List Stored
 named_clauses buffer m [] = []
 named_clauses buffer m (h ∷ hs) = stored_in buffer m h ++ named_clauses buffer m hs
 
--- the trace of a check over these clauses
+-- the value that makes the first true literal true
+abbrev pub true_unit : List (Option UnitClause) → List ℕ → Option UnitClause
+true_unit us c = cond (some_true_unit (stored_units us) c) (unit_at us (var_of (first_true (stored_units us) c))) None
+
+-- the trace of the walk over these clauses with the negated clause
+abbrev pub open_trace : List (Option StoredUnit) → List ℕ → List Stored → Option (List Item)
+open_trace us c es = trace us (start_set us c) (unlisted_at us c) es
+
+-- the ids that a passed check lists
 abbrev pub clause_trace : List (Option StoredUnit) → List ℕ → List Stored → List ℕ
-clause_trace us c es = cond (some_true_unit us c) (unit_id (unit_of us (var_of (first_true us c))) ∷ []) (ids_of (trace us (start_set us c) (unlisted_at us c) es))
+clause_trace us c es = cond (some_true_unit us c) (unit_id (unit_of us (var_of (first_true us c))) ∷ []) (ids_of (open_trace us c es))
+
+-- the ids that stand after a check: those of its trace where it was traced and passed
+abbrev pub trace_ids_after : Bool → Answer → List ℕ → List ℕ → List ℕ
+trace_ids_after traced Passed ids old = cond traced ids old
+trace_ids_after traced NoClauseForHash ids old = old
+trace_ids_after traced Failed ids old = old

@@ -4,16 +4,28 @@ pub mod trace;
 pub mod trail;
 pub mod walk;
 
-ghost use Rattle.std.specs.Prelude.{◌≡◌, [], false, length, IfOk};
+ghost use Rattle.std.specs.Prelude.{◌≡◌, [], false, length, IfOk, IsTrue};
 ghost use Rattle.checker_rules.specs.Clauses.{is_tautology};
 ghost use Rattle.checker_rules.specs.Passes as rules;
 ghost use Rattle.checker_rules.specs.State.{some_true_unit, start_set};
+ghost use Rattle.checker_rules.specs.Traced.{ids_of};
 ghost use Rattle.varisat_checker.specs.Buckets.{AreWithin};
 ghost use Rattle.varisat_checker.specs.Rup.{AreAllKnown, check_answer, clause_answer, named_buckets};
 ghost use Rattle.varisat_checker.specs.StateOf.{stored_units};
+ghost use Rattle.varisat_checker.specs.Trace.{AreStored, clause_trace, named_clauses, open_trace, trace_ids_after};
 ghost use Rattle.varisat_checker.specs.Trail.{IsTrailFor, undone};
 ghost use Rattle.varisat_checker.specs.Units.{AreKnown};
 
+use crate::clauses::buckets::Buckets;
+use crate::clauses::units::Units;
+use crate::rup::status::true_unit;
+use crate::rup::trace::list_alone;
+use crate::rup::trail::{assume_false, undo};
+use crate::rup::walk::{Propagation, walk_buckets};
+use proof_bytes::hash::ClauseHash;
+use sat_formula::lit::Lit;
+use std::alloc::{AllocError, Global};
+use std::mem::swap;
 
 /// What the check of a clause found.
 #[derive(Clone, Copy, PartialEq, Eq, Debug)]
@@ -26,3 +38,109 @@ pub enum Answer {
     Failed,
 }
 
+/// What a check uses, kept from one to the next for its memory.
+#[derive(Drop)]
+pub struct RupCheck {
+    propagation: Propagation,
+    /// The ids of what the last check used that was traced and passed.
+    pub trace_ids: Vec<u64>,
+    ghost at_rest: { propagation.trail.items ≡ [] },
+}
+
+impl RupCheck {
+    pub fn new(alloc: Global) -> RupCheck
+        ensures { result.trace_ids.items ≡ [] }
+    {
+        RupCheck {
+            propagation: Propagation::new(alloc),
+            trace_ids: Vec::new(alloc),
+        }
+    }
+}
+
+/// Whether a clause follows by propagation from the clauses that the hashes name, in the order named.
+///
+/// A clause with a literal that is true already passes whatever the hashes are. Only a traced check
+/// that passes changes `trace_ids`; out of memory, nothing is said of them.
+pub fn check_clause(
+    rup: &mut RupCheck,
+    units: &mut Units,
+    buckets: &Buckets,
+    buffer: &[Lit],
+    lits: &[Lit],
+    hashes: &[ClauseHash],
+    traced: bool,
+) -> Result<Answer, AllocError>
+    requires within { AreWithin buffer.now buckets.now }
+    requires known { AreKnown units.old lits.now }
+    requires all_known { AreAllKnown units.old buffer.now buckets.now }
+    requires stored { AreStored units.old }
+    requires no_tautology { is_tautology lits.now ≡ false }
+    ensures answer { IfOk result (λ a. check_answer a ≡ clause_answer (stored_units units.old) lits.now (named_buckets buffer.now buckets.now hashes.now)) }
+    ensures units { units.new ≡ units.old }
+    ensures trace_ids { IfOk result (λ a. rup.new.trace_ids.items ≡ trace_ids_after traced a (clause_trace (stored_units units.old) lits.now (named_clauses buffer.now buckets.now hashes.now)) rup.old.trace_ids.items) }
+{
+    if let Some(unit) = true_unit(units, lits) {
+        if traced {
+            list_alone(&mut rup.trace_ids, &unit)?;
+        }
+        return Ok(Answer::Passed);
+    }
+    check_open_clause(rup, units, buckets, buffer, lits, hashes, traced)
+}
+
+/// The same for a clause without a true literal.
+fn check_open_clause(
+    rup: &mut RupCheck,
+    units: &mut Units,
+    buckets: &Buckets,
+    buffer: &[Lit],
+    lits: &[Lit],
+    hashes: &[ClauseHash],
+    traced: bool,
+) -> Result<Answer, AllocError>
+    requires within { AreWithin buffer.now buckets.now }
+    requires known { AreKnown units.old lits.now }
+    requires all_known { AreAllKnown units.old buffer.now buckets.now }
+    requires stored { AreStored units.old }
+    requires free { some_true_unit (stored_units units.old) lits.now ≡ false }
+    requires no_tautology { is_tautology lits.now ≡ false }
+    ensures answer { IfOk result (λ a. check_answer a ≡ rules.walk_buckets (start_set (stored_units units.old) lits.now) (named_buckets buffer.now buckets.now hashes.now)) }
+    ensures units { units.new ≡ units.old }
+    ensures trace_ids { IfOk result (λ a. rup.new.trace_ids.items ≡ trace_ids_after traced a (ids_of (open_trace (stored_units units.old) lits.now (named_clauses buffer.now buckets.now hashes.now))) rup.old.trace_ids.items) }
+{
+    rup.propagation.begin(traced);
+    let answer = walk_negated(units, &mut rup.propagation, buckets, buffer, lits, hashes);
+    undo(units, &mut rup.propagation.trail);
+    if let (true, Ok(Answer::Passed)) = (traced, &answer) {
+        swap(&mut rup.propagation.trace, &mut rup.trace_ids);
+    }
+    answer
+}
+
+/// The walk with the literals taken as false, whose values stay.
+fn walk_negated(
+    units: &mut Units,
+    run: &mut Propagation,
+    buckets: &Buckets,
+    buffer: &[Lit],
+    lits: &[Lit],
+    hashes: &[ClauseHash],
+) -> Result<Answer, AllocError>
+    requires within { AreWithin buffer.now buckets.now }
+    requires known { AreKnown units.old lits.now }
+    requires all_known { AreAllKnown units.old buffer.now buckets.now }
+    requires stored { AreStored units.old }
+    requires free { some_true_unit (stored_units units.old) lits.now ≡ false }
+    requires no_tautology { is_tautology lits.now ≡ false }
+    requires trail { IsTrailFor units.old run.old.trail.items }
+    requires trace { run.old.trace.items ≡ [] }
+    ensures answer { IfOk result (λ a. check_answer a ≡ rules.walk_buckets (start_set (stored_units units.old) lits.now) (named_buckets buffer.now buckets.now hashes.now)) }
+    ensures listed { IsTrue run.old.traced → IfOk result (λ a. a ≡ Answer.Passed → run.new.trace.items ≡ ids_of (open_trace (stored_units units.old) lits.now (named_clauses buffer.now buckets.now hashes.now))) }
+    ensures known { length units.new ≡ length units.old }
+    ensures undone { undone units.new run.new.trail.items ≡ undone units.old run.old.trail.items }
+    ensures trail { IsTrailFor units.new run.new.trail.items }
+{
+    assume_false(units, &mut run.trail, lits)?;
+    walk_buckets(units, run, buckets, buffer, hashes)
+}

@@ -1,10 +1,10 @@
 //! What the values of its literals make of a clause.
 ghost use Rattle.std.specs.Prelude.{◌≡◌};
-ghost use Rattle.std.specs.List.{list_any};
 ghost use Rattle.varisat_checker.specs.Rup.{status_of, true_lits};
+ghost use Rattle.varisat_checker.specs.Trace as traces;
 ghost use Rattle.varisat_checker.specs.Units as spec;
 
-use crate::clauses::units::Units;
+use crate::clauses::units::{UnitClause, Units};
 use sat_formula::lit::Lit;
 
 /// What follows from a clause.
@@ -29,16 +29,16 @@ pub fn lit_value(units: &Units, lit: Lit) -> Option<bool>
     }
 }
 
-/// Whether a literal is true.
-pub fn has_true_lit(units: &Units, lits: &[Lit]) -> bool
-    ensures { result ≡ list_any (true_lits units.now) lits.now }
+/// The value that makes the first true literal true.
+pub fn true_unit(units: &Units, lits: &[Lit]) -> Option<UnitClause>
+    ensures { result ≡ traces.true_unit units.now lits.now }
 {
     for lit in lits {
         if let Some(true) = lit_value(units, *lit) {
-            return true;
+            return units.get(lit.index());
         }
     }
-    false
+    None
 }
 
 /// Looks at each literal once, and no further than a true or a second free one.

@@ -1,8 +1,9 @@
 //! The trace of a check: the ids of what it uses.
-ghost use Rattle.std.specs.Prelude.{◌≡◌, ◌<◌, ◌∷◌, ℕ, List, Some, false, length, OnOk};
+ghost use Rattle.std.specs.Prelude.{◌≡◌, ◌<◌, ◌∷◌, [], ℕ, List, Some, false, true, length, OnOk};
 ghost use Rattle.checker_rules.specs.Clauses.{var_of};
 ghost use Rattle.varisat_checker.specs.Rup.{true_lits};
-ghost use Rattle.varisat_checker.specs.Trace.{KeepsStored, looked, unlisted_lits};
+ghost use Rattle.varisat_checker.specs.StateOf.{id_of_unit};
+ghost use Rattle.varisat_checker.specs.Trace.{KeepsStored, is_global, looked, unlisted_lits};
 ghost use Rattle.varisat_checker.specs.Trail.{IsTrailFor, undone};
 ghost use Rattle.varisat_checker.specs.Units.{AreKnown, lit_value, unit_at};
 
@@ -65,6 +66,18 @@ fn list_unit(
         };
         trace.push(id)?;
         overwrite(units, trail, lit, renamed)?;
+    }
+    Ok(())
+}
+
+/// Lists a stored unit and nothing else.
+pub fn list_alone(trace: &mut Vec<u64>, unit: &UnitClause) -> Result<(), AllocError>
+    requires { is_global unit.now.id ≡ true }
+    ensures { OnOk result (trace.new.items ≡ id_of_unit unit.now.id ∷ []) }
+{
+    trace.clear();
+    if let UnitId::Global(id) = unit.id {
+        trace.push(id)?;
     }
     Ok(())
 }

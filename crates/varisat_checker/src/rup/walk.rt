@@ -18,7 +18,7 @@ use crate::rup::trace::list_units;
 use crate::rup::trail::{Trail, overwrite};
 use proof_bytes::hash::ClauseHash;
 use sat_formula::lit::Lit;
-use std::alloc::AllocError;
+use std::alloc::{AllocError, Global};
 
 /// What a walk overwrites and lists.
 #[derive(Drop)]
@@ -31,6 +31,27 @@ pub struct Propagation {
 }
 
 impl Propagation {
+    pub fn new(alloc: Global) -> Propagation
+        ensures trail { result.trail.items ≡ [] }
+        ensures trace { result.trace.items ≡ [] }
+    {
+        Propagation {
+            trail: Vec::new(alloc),
+            traced: false,
+            trace: Vec::new(alloc),
+        }
+    }
+
+    /// Nothing is listed yet.
+    pub fn begin(&mut self, traced: bool)
+        ensures traced { self.new.traced ≡ traced }
+        ensures trace { self.new.trace.items ≡ [] }
+        ensures trail { self.new.trail ≡ self.old.trail }
+    {
+        self.traced = traced;
+        self.trace.clear();
+    }
+
     /// Lists the stored units that a clause meets false.
     fn list_units(&mut self, units: &mut Units, lits: &[Lit]) -> Result<(), AllocError>
         requires known { AreKnown units.old lits.now }

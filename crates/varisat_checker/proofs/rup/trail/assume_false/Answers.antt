@@ -1,5 +1,7 @@
-use Rattle.std.proofs.Common.{◌≡◌, length, ◌∙◌}
-use Rattle.varisat_checker.proofs.AssumeLemmas.{assume-step, known-at}
+use Rattle.std.proofs.Common.{◌≡◌, length, refl, sym, ◌∙◌, subst}
+use Rattle.varisat_checker.specs.Trace.{KeepsStored}
+use Rattle.varisat_checker.proofs.AssumeLemmas.{assume-step, known-at, unlisted-all, unlisted-step}
+use Rattle.varisat_checker.proofs.TraceLemmas.{keeps-set, keeps-then}
 use Rattle.varisat_checker.proofs.rup.trail.assume_false.Goals as goal
 
 pub overwrite-requires-clause-known : goal.overwrite-requires-clause-known
@@ -7,10 +9,16 @@ overwrite-requires-clause-known c = known-at c.args.lits.now c.loop-lit.lit-inde
 
 pub loop-lit-preserved : goal.loop-lit-preserved
 loop-lit-preserved c =
-    let known = known-at c.args.lits.now c.loop-lit.lit-index c.lit-item.result (length c.loop-lit.units) (rw c.loop-lit.invariant.known c.requires.known) c.loop-lit-test.true c.lit-item.is in
+    let us = c.loop-lit.units in let m = c.lit-item.result in let written = c.in_ok-overwrite.ensures.ok in
+    let known = known-at c.args.lits.now c.loop-lit.lit-index m (length us) (rw c.loop-lit.invariant.known c.requires.known) c.loop-lit-test.true c.lit-item.is in
     record {
-      same = assume-step c.loop-lit.units _ _ c.args.lits.now c.loop-lit.lit-index c.lit-item.result _ c.loop-lit-test.true c.lit-item.is known c.is_negative.ensures c.in_ok-overwrite.ensures.ok c.requires.free c.requires.no_tautology c.loop-lit.invariant.same;
+      same = assume-step us _ _ c.args.lits.now c.loop-lit.lit-index m _ c.loop-lit-test.true c.lit-item.is known c.is_negative.ensures written c.requires.free c.requires.no_tautology c.loop-lit.invariant.same;
+      unlisted = unlisted-step us _ _ c.args.lits.now c.loop-lit.lit-index m _ c.loop-lit-test.true c.lit-item.is known refl written c.loop-lit.invariant.unlisted;
+      kept = keeps-then _ us _ c.loop-lit.invariant.kept (subst (KeepsStored us) (sym written) (keeps-set us _ _ known refl));
       known = c.overwrite.ensures.known ∙ c.loop-lit.invariant.known;
       undone = c.overwrite.ensures.undone ∙ c.loop-lit.invariant.undone;
       trail = c.overwrite.ensures.trail;
     }
+
+pub returns-clause-unlisted : goal.returns-clause-unlisted
+returns-clause-unlisted c = unlisted-all _ _ c.args.lits.now c.loop-lit.lit-index c.requires.stored c.loop-lit-test.false c.loop-lit.invariant.unlisted
