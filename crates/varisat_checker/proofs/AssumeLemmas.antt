@@ -1,5 +1,5 @@
 -- Taking the literals of a clause as false.
-use Rattle.std.proofs.Common.{◌≡◌, ℕ, zero, suc, ◌+◌, ◌<◌, ◌≤◌, Bool, true, false, not, ◌&&◌, ◌||◌, eqb, List, [], ◌∷◌, ◌++◌, length, take, set, get_or, Option, Some, max, ⊎_elim, refl, sym, ap, ◌∙◌, subst, arith, inl, inr}
+use Rattle.std.proofs.Common.{◌≡◌, ℕ, zero, suc, ◌+◌, ◌<◌, ◌≤◌, Bool, true, false, not, ◌&&◌, ◌||◌, eqb, List, [], ◌∷◌, ◌++◌, length, take, set, get_or, Option, None, Some, max, ⊎_elim, refl, sym, ap, ◌∙◌, subst, arith, inl, inr}
 use Rattle.std.specs.List.{list_any}
 use Rattle.std.proofs.lemmas.Bool.{both_ways, cases_eq, eq-eqb, eqb-true, false_from_ne_true, false≢true, ne_eqb, or_cases, or_from, or_left, or_right}
 use Rattle.std.proofs.lemmas.List.{take_all, take_more}
@@ -16,8 +16,8 @@ use Rattle.checker_rules.proofs.Walks.{any_at, any_from}
 use Rattle.varisat_checker.specs.declared.clauses.units.UnitClause.{UnitClause}
 use Rattle.varisat_checker.specs.Rup.{true_lits}
 use Rattle.varisat_checker.specs.StateOf.{stored_units}
-use Rattle.varisat_checker.specs.Units.{AreKnown}
-use Rattle.varisat_checker.specs.Trace.{AreStored, is_global, unlisted_lits}
+use Rattle.varisat_checker.specs.Units.{AreKnown, number_of}
+use Rattle.varisat_checker.specs.Trace.{AreStored, unlisted_lits}
 use Rattle.varisat_checker.proofs.TraceLemmas.{unlisted_lits-at_rest, unlisted_lits-set}
 use Rattle.varisat_checker.proofs.UnitsLemmas.{true_lits-set}
 
@@ -71,7 +71,7 @@ assume-step us vs ss c i m u less is known v e free apart same k =
     move false false false = refl
 
 -- the stored units of variables that are not in the clause stay unlisted
-pub unlisted-step : (us vs ws : List (Option UnitClause)) (c : List ℕ) (i m : ℕ) (u : UnitClause) → i < length c → m ≡ get_or c i m → var_of m < length us → is_global u.id ≡ false → vs ≡ set us (var_of m) (Some u)
+pub unlisted-step : (us vs ws : List (Option UnitClause)) (c : List ℕ) (i m : ℕ) (u : UnitClause) → i < length c → m ≡ get_or c i m → var_of m < length us → number_of u.id ≡ None → vs ≡ set us (var_of m) (Some u)
     → ((k : ℕ) → unlisted_lits us k ≡ (unlisted_lits ws k && not (holds_var (var_of k) (take i c)))) → (k : ℕ) → unlisted_lits vs k ≡ (unlisted_lits ws k && not (holds_var (var_of k) (take (i + 1) c)))
 unlisted-step us vs ws c i m u less is known new e same k =
     let p : ℕ → Bool = λ l. eqb (var_of l) (var_of k) in

@@ -1,5 +1,5 @@
 -- How the trace goes on after a clause.
-use Rattle.std.proofs.Common.{◌≡◌, ℕ, ◌+◌, ◌<◌, nat_eq, Bool, true, false, cond, not, ◌&&◌, eqb, List, [], ◌∷◌, ◌++◌, length, map, drop, get_or, set, Option, None, Some, ⊎_elim, refl, sym, ap, ◌∙◌, subst}
+use Rattle.std.proofs.Common.{◌≡◌, ℕ, ◌+◌, ◌<◌, nat_eq, Bool, true, false, cond, not, ◌&&◌, eqb, List, [], ◌∷◌, ◌++◌, length, map, drop, get_or, set, Option, None, Some, is_some, ⊎_elim, refl, sym, ap, ◌∙◌, subst}
 use Rattle.std.specs.HashMap.{get}
 use Rattle.std.specs.Option.{option_map}
 use Rattle.smallvec.specs.SmallVec.{SmallVec}
@@ -16,8 +16,8 @@ use Rattle.varisat_checker.specs.declared.rup.status.ClauseStatus.TheVariants as
 use Rattle.varisat_checker.specs.Buckets.{Buckets, bucket_items}
 use Rattle.varisat_checker.specs.Rup.{status_of, true_lits}
 use Rattle.varisat_checker.specs.StateOf.{stored_units}
-use Rattle.varisat_checker.specs.Trace.{KeepsStored, Lists, has_stored, ids_after, is_global, item_ids, look, looked, named_clauses, open_trace, unlisted_lits}
-use Rattle.varisat_checker.specs.Units.{AreKnown, unit_at}
+use Rattle.varisat_checker.specs.Trace.{KeepsStored, Lists, ids_after, item_ids, look, looked, named_clauses, open_trace, unlisted_lits}
+use Rattle.varisat_checker.specs.Units.{AreKnown, number_of, stored_id, unit_at}
 use Rattle.varisat_checker.specs.View.{stored_of}
 use Rattle.varisat_checker.proofs.TraceLemmas.{keeps-agree, keeps-set, keeps-then, unlisted_lits-set}
 use Rattle.varisat_checker.proofs.UnitsLemmas.{negation_is, true_lits-set}
@@ -76,13 +76,13 @@ lists-idle ids ids_now us vs e h rest =
     ∙ ap (with_ids ids_now) (goes_on us vs (true_lits us) v.unlisted rest h.kept h.same (sym (ap (λ p. p.1) h.listed)))
 
 -- a free literal that is made true is no stored unit's
-unlisted_lits-free : (us : List (Option UnitClause)) (m : ℕ) (w : UnitClause) → var_of m < length us → is_global w.id ≡ false → true_lits us m ≡ false → true_lits us (negate m) ≡ false → unlisted_lits (set us (var_of m) (Some w)) ≡ unlisted_lits us
+unlisted_lits-free : (us : List (Option UnitClause)) (m : ℕ) (w : UnitClause) → var_of m < length us → number_of w.id ≡ None → true_lits us m ≡ false → true_lits us (negate m) ≡ false → unlisted_lits (set us (var_of m) (Some w)) ≡ unlisted_lits us
 unlisted_lits-free us m w known new free n = λ i k. point k i
   where
     none : (k : ℕ) → var_of k ≡ var_of m → unlisted_lits us k ≡ false
     none k e = ⊎_elim {C = unlisted_lits us k ≡ false}
-        (λ (same : k ≡ m). and_right (has_stored (unit_at us (var_of k))) (true_lits us k) (ap (true_lits us) same ∙ free))
-        (λ (ne : k ≡ m → ⊥). and_right (has_stored (unit_at us (var_of k))) (true_lits us k) (ap (true_lits us) (negation_is m k e ne) ∙ n))
+        (λ (same : k ≡ m). and_right (is_some (stored_id (unit_at us (var_of k)))) (true_lits us k) (ap (true_lits us) same ∙ free))
+        (λ (ne : k ≡ m → ⊥). and_right (is_some (stored_id (unit_at us (var_of k)))) (true_lits us k) (ap (true_lits us) (negation_is m k e ne) ∙ n))
         (cases_eq k m)
 
     and_true : (a : Bool) → (a && true) ≡ a
@@ -96,7 +96,7 @@ unlisted_lits-free us m w known new free n = λ i k. point k i
         (cases_eq (var_of k) (var_of m))
 
 pub lists-unit : (ids ids_now ids_last : List ℕ) (us vs ws : List (Option UnitClause)) (e : Stored) (m : ℕ) (w : UnitClause) → AreKnown vs e.lits → IsLooked ids ids_now us vs e (statuses.Unit m) → ids_last ≡ ids_now ++ e.id ∷ []
-    → is_global w.id ≡ false → true_lits ws ≡ add_lit m (true_lits us) → ws ≡ set vs (var_of m) (Some w) → (rest : List Stored) → ids_after ids us (e ∷ rest) ≡ ids_after ids_last ws rest
+    → number_of w.id ≡ None → true_lits ws ≡ add_lit m (true_lits us) → ws ≡ set vs (var_of m) (Some w) → (rest : List Stored) → ids_after ids us (e ∷ rest) ≡ ids_after ids_last ws rest
 unfolding with_ids
 lists-unit ids ids_now ids_last us vs ws e m w known h last new added written rest =
     let v = look us e.lits in

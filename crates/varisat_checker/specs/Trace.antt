@@ -1,5 +1,5 @@
 -- What a traced check lists.
-use Rattle.std.specs.Prelude.{◌≡◌, ℕ, Bool, true, false, cond, ◌&&◌, List, [], ◌∷◌, ◌++◌, map, Option, None, Some, All}
+use Rattle.std.specs.Prelude.{◌≡◌, ℕ, Bool, true, cond, ◌&&◌, List, [], ◌∷◌, ◌++◌, map, Option, None, Some, All, is_some}
 use Rattle.std.specs.Option.{option_map}
 use Rattle.checker_rules.specs.Clauses.{var_of}
 use Rattle.checker_rules.specs.Emits.{first_true}
@@ -8,43 +8,30 @@ use Rattle.checker_rules.specs.State.{Stored, StoredUnit, some_true_unit, start_
 use Rattle.checker_rules.specs.Store.{unit_id}
 use Rattle.checker_rules.specs.Traced.{ids_of}
 use Rattle.varisat_checker.specs.declared.clauses.units.UnitClause.{UnitClause}
-use Rattle.varisat_checker.specs.declared.clauses.units.UnitId.{UnitId}
-use Rattle.varisat_checker.specs.declared.clauses.units.UnitId.TheVariants.{Global, TracePos, InClause}
 use Rattle.varisat_checker.specs.declared.rup.Answer.{Answer}
 use Rattle.varisat_checker.specs.declared.rup.Answer.TheVariants.{Passed, NoClauseForHash, Failed}
 use Rattle.varisat_checker.specs.Buckets.{Buckets}
 use Rattle.varisat_checker.specs.Rup.{true_lits}
 use Rattle.varisat_checker.specs.StateOf.{stored_units}
-use Rattle.varisat_checker.specs.Units.{unit_at}
+use Rattle.varisat_checker.specs.Units.{number_of, stored_id, unit_at}
 use Rattle.varisat_checker.specs.View.{stored_in}
-
--- whether the id is a stored unit's
-abbrev pub is_global : UnitId → Bool
-is_global (Global n) = true
-is_global (TracePos n) = false
-is_global InClause = false
 
 -- a variable that has no value, or that of a stored unit
 abbrev pub IsAtRest : Option UnitClause → Type 0
 IsAtRest None = Unit {0}
-IsAtRest (Some u) = is_global u.id ≡ true
+IsAtRest (Some u) = is_some (number_of u.id) ≡ true
 
 -- every value is a stored unit's
 abbrev pub AreStored : List (Option UnitClause) → Type 0
 AreStored us = All IsAtRest us
 
--- whether there is a value, and a stored unit's
-abbrev pub has_stored : Option UnitClause → Bool
-has_stored None = false
-has_stored (Some u) = is_global u.id
-
 -- the literals that stored units make true
 abbrev pub unlisted_lits : List (Option UnitClause) → ℕ → Bool
-unlisted_lits us m = has_stored (unit_at us (var_of m)) && true_lits us m
+unlisted_lits us m = is_some (stored_id (unit_at us (var_of m))) && true_lits us m
 
 -- no stored unit's value is new
 abbrev pub KeepsStored : List (Option UnitClause) → List (Option UnitClause) → Type 0
-KeepsStored us vs = (v : ℕ) → has_stored (unit_at vs v) ≡ true → unit_at us v ≡ unit_at vs v
+KeepsStored us vs = (v : ℕ) → is_some (stored_id (unit_at vs v)) ≡ true → unit_at us v ≡ unit_at vs v
 
 -- the ids of what is listed
 abbrev pub item_ids : List Item → List ℕ
@@ -71,9 +58,9 @@ abbrev pub named_clauses : List ℕ → Buckets → List ℕ → List Stored
 named_clauses buffer m [] = []
 named_clauses buffer m (h ∷ hs) = stored_in buffer m h ++ named_clauses buffer m hs
 
--- the value that makes the first true literal true
-abbrev pub true_unit : List (Option UnitClause) → List ℕ → Option UnitClause
-true_unit us c = cond (some_true_unit (stored_units us) c) (unit_at us (var_of (first_true (stored_units us) c))) None
+-- the id of the unit that makes the first true literal true
+abbrev pub true_unit_id : List (Option StoredUnit) → List ℕ → Option ℕ
+true_unit_id us c = cond (some_true_unit us c) (Some (unit_id (unit_of us (var_of (first_true us c))))) None
 
 -- the trace of the walk over these clauses with the negated clause
 abbrev pub open_trace : List (Option StoredUnit) → List ℕ → List Stored → Option (List Item)

@@ -18,8 +18,7 @@ ghost use Rattle.varisat_checker.specs.Units.{AreKnown};
 
 use crate::clauses::buckets::Buckets;
 use crate::clauses::units::Units;
-use crate::rup::status::true_unit;
-use crate::rup::trace::list_alone;
+use crate::rup::status::true_unit_id;
 use crate::rup::trail::{assume_false, undo};
 use crate::rup::walk::{Propagation, walk_buckets};
 use proof_bytes::hash::ClauseHash;
@@ -80,9 +79,10 @@ pub fn check_clause(
     ensures units { units.new ≡ units.old }
     ensures trace_ids { IfOk result (λ a. rup.new.trace_ids.items ≡ trace_ids_after traced a (clause_trace (stored_units units.old) lits.now (named_clauses buffer.now buckets.now hashes.now)) rup.old.trace_ids.items) }
 {
-    if let Some(unit) = true_unit(units, lits) {
+    if let Some(id) = true_unit_id(units, lits) {
         if traced {
-            list_alone(&mut rup.trace_ids, &unit)?;
+            rup.trace_ids.clear();
+            rup.trace_ids.push(id)?;
         }
         return Ok(Answer::Passed);
     }

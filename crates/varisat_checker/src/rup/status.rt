@@ -1,10 +1,12 @@
 //! What the values of its literals make of a clause.
 ghost use Rattle.std.specs.Prelude.{◌≡◌};
 ghost use Rattle.varisat_checker.specs.Rup.{status_of, true_lits};
+ghost use Rattle.varisat_checker.specs.StateOf.{stored_units};
 ghost use Rattle.varisat_checker.specs.Trace as traces;
+ghost use Rattle.varisat_checker.specs.Trace.{AreStored};
 ghost use Rattle.varisat_checker.specs.Units as spec;
 
-use crate::clauses::units::{UnitClause, Units};
+use crate::clauses::units::Units;
 use sat_formula::lit::Lit;
 
 /// What follows from a clause.
@@ -29,13 +31,21 @@ pub fn lit_value(units: &Units, lit: Lit) -> Option<bool>
     }
 }
 
-/// The value that makes the first true literal true.
-pub fn true_unit(units: &Units, lits: &[Lit]) -> Option<UnitClause>
-    ensures { result ≡ traces.true_unit units.now lits.now }
+/// Whether a literal is true.
+fn is_true(units: &Units, lit: Lit) -> bool
+    ensures { result ≡ true_lits units.now lit }
+{
+    matches!(lit_value(units, lit), Some(true))
+}
+
+/// The id of the stored unit that makes the first true literal true.
+pub fn true_unit_id(units: &Units, lits: &[Lit]) -> Option<u64>
+    requires { AreStored units.now }
+    ensures { result ≡ traces.true_unit_id (stored_units units.now) lits.now }
 {
     for lit in lits {
-        if let Some(true) = lit_value(units, *lit) {
-            return units.get(lit.index());
+        if is_true(units, *lit) {
+            return units.stored_id(lit.index());
         }
     }
     None
