@@ -1,4 +1,7 @@
 //! The propagation check.
+#![tactic(auto, using(crate::proofs::TrailLemmas::is_undoable_then, crate::proofs::TrailLemmas::is_undoable_from_same))]
+
+pub mod propagation;
 pub mod status;
 pub mod trace;
 pub mod trail;
@@ -13,14 +16,15 @@ ghost use Rattle.varisat_checker.specs.Buckets.{AreWithin};
 ghost use Rattle.varisat_checker.specs.Rup.{AreAllKnown, check_answer, clause_answer, named_buckets};
 ghost use Rattle.varisat_checker.specs.StateOf.{stored_units};
 ghost use Rattle.varisat_checker.specs.Trace.{AreStored, clause_trace, named_clauses, open_trace, trace_ids_after};
-ghost use Rattle.varisat_checker.specs.Trail.{IsTrailFor, undone};
+ghost use Rattle.varisat_checker.specs.Trail.{IsTrailFor, IsUndoable};
 ghost use Rattle.varisat_checker.specs.Units.{AreKnown};
 
 use crate::clauses::buckets::Buckets;
 use crate::clauses::units::Units;
+use crate::rup::propagation::Propagation;
 use crate::rup::status::true_unit_id;
 use crate::rup::trail::{assume_false, undo};
-use crate::rup::walk::{Propagation, walk_buckets};
+use crate::rup::walk::walk_buckets;
 use proof_bytes::hash::ClauseHash;
 use sat_formula::lit::Lit;
 use std::alloc::{AllocError, Global};
@@ -75,9 +79,17 @@ pub fn check_clause(
     requires all_known { AreAllKnown units.old buffer.now buckets.now }
     requires stored { AreStored units.old }
     requires no_tautology { is_tautology lits.now ≡ false }
-    ensures answer { IfOk result (λ a. check_answer a ≡ clause_answer (stored_units units.old) lits.now (named_buckets buffer.now buckets.now hashes.now)) }
+    ensures answer {
+        let named = named_buckets buffer.now buckets.now hashes.now in
+        IfOk result (λ a. check_answer a ≡ clause_answer (stored_units units.old) lits.now named)
+    }
     ensures units { units.new ≡ units.old }
-    ensures trace_ids { IfOk result (λ a. rup.new.trace_ids.items ≡ trace_ids_after traced a (clause_trace (stored_units units.old) lits.now (named_clauses buffer.now buckets.now hashes.now)) rup.old.trace_ids.items) }
+    ensures trace_ids {
+        let named = named_clauses buffer.now buckets.now hashes.now in
+        let ids = clause_trace (stored_units units.old) lits.now named in
+        IfOk result (λ a. rup.new.trace_ids.items
+            ≡ trace_ids_after traced a ids rup.old.trace_ids.items)
+    }
 {
     if let Some(id) = true_unit_id(units, lits) {
         if traced {
@@ -105,9 +117,18 @@ fn check_open_clause(
     requires stored { AreStored units.old }
     requires free { some_true_unit (stored_units units.old) lits.now ≡ false }
     requires no_tautology { is_tautology lits.now ≡ false }
-    ensures answer { IfOk result (λ a. check_answer a ≡ rules.walk_buckets (start_set (stored_units units.old) lits.now) (named_buckets buffer.now buckets.now hashes.now)) }
+    ensures answer {
+        let named = named_buckets buffer.now buckets.now hashes.now in
+        IfOk result (λ a. check_answer a
+            ≡ rules.walk_buckets (start_set (stored_units units.old) lits.now) named)
+    }
     ensures units { units.new ≡ units.old }
-    ensures trace_ids { IfOk result (λ a. rup.new.trace_ids.items ≡ trace_ids_after traced a (ids_of (open_trace (stored_units units.old) lits.now (named_clauses buffer.now buckets.now hashes.now))) rup.old.trace_ids.items) }
+    ensures trace_ids {
+        let named = named_clauses buffer.now buckets.now hashes.now in
+        let ids = ids_of (open_trace (stored_units units.old) lits.now named) in
+        IfOk result (λ a. rup.new.trace_ids.items
+            ≡ trace_ids_after traced a ids rup.old.trace_ids.items)
+    }
 {
     rup.propagation.begin(traced);
     let answer = walk_negated(units, &mut rup.propagation, buckets, buffer, lits, hashes);
@@ -121,7 +142,7 @@ fn check_open_clause(
 /// The walk with the literals taken as false, whose values stay.
 fn walk_negated(
     units: &mut Units,
-    run: &mut Propagation,
+    propagation: &mut Propagation,
     buckets: &Buckets,
     buffer: &[Lit],
     lits: &[Lit],
@@ -133,14 +154,23 @@ fn walk_negated(
     requires stored { AreStored units.old }
     requires free { some_true_unit (stored_units units.old) lits.now ≡ false }
     requires no_tautology { is_tautology lits.now ≡ false }
-    requires trail { IsTrailFor units.old run.old.trail.items }
-    requires trace { run.old.trace.items ≡ [] }
-    ensures answer { IfOk result (λ a. check_answer a ≡ rules.walk_buckets (start_set (stored_units units.old) lits.now) (named_buckets buffer.now buckets.now hashes.now)) }
-    ensures listed { IsTrue run.old.traced → IfOk result (λ a. a ≡ Answer.Passed → run.new.trace.items ≡ ids_of (open_trace (stored_units units.old) lits.now (named_clauses buffer.now buckets.now hashes.now))) }
-    ensures known { length units.new ≡ length units.old }
-    ensures undone { undone units.new run.new.trail.items ≡ undone units.old run.old.trail.items }
-    ensures trail { IsTrailFor units.new run.new.trail.items }
+    requires trail { IsTrailFor units.old propagation.old.trail.items }
+    requires trace { propagation.old.trace.items ≡ [] }
+    ensures answer {
+        let named = named_buckets buffer.now buckets.now hashes.now in
+        IfOk result (λ a. check_answer a
+            ≡ rules.walk_buckets (start_set (stored_units units.old) lits.now) named)
+    }
+    ensures listed {
+        let named = named_clauses buffer.now buckets.now hashes.now in
+        IsTrue propagation.old.traced → IfOk result (λ a. a ≡ Answer.Passed →
+            propagation.new.trace.items
+                ≡ ids_of (open_trace (stored_units units.old) lits.now named))
+    }
+    ensures undoable {
+        IsUndoable units.old propagation.old.trail.items units.new propagation.new.trail.items
+    }
 {
-    assume_false(units, &mut run.trail, lits)?;
-    walk_buckets(units, run, buckets, buffer, hashes)
+    assume_false(units, &mut propagation.trail, lits)?;
+    walk_buckets(units, propagation, buckets, buffer, hashes)
 }

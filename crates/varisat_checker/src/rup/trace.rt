@@ -1,9 +1,11 @@
 //! The trace of a check: the ids of what it uses.
+#![tactic(auto, using(crate::proofs::TrailLemmas::is_undoable_then, crate::proofs::TrailLemmas::is_undoable_from_same))]
+
 ghost use Rattle.std.specs.Prelude.{◌≡◌, ◌<◌, ◌∷◌, ℕ, List, Some, false, length, OnOk};
 ghost use Rattle.checker_rules.specs.Clauses.{var_of};
 ghost use Rattle.varisat_checker.specs.Rup.{true_lits};
 ghost use Rattle.varisat_checker.specs.Trace.{KeepsStored, looked, unlisted_lits};
-ghost use Rattle.varisat_checker.specs.Trail.{IsTrailFor, undone};
+ghost use Rattle.varisat_checker.specs.Trail.{IsTrailFor, IsUndoable};
 ghost use Rattle.varisat_checker.specs.Units as values;
 ghost use Rattle.varisat_checker.specs.Units.{AreKnown};
 
@@ -24,12 +26,13 @@ pub fn list_units(
 ) -> Result<(), AllocError>
     requires known { AreKnown units.old lits.now }
     requires trail { IsTrailFor units.old trail.old.items }
-    ensures listed { OnOk result (looked trace.old.items units.old lits.now ≡ (trace.new.items, unlisted_lits units.new)) }
+    ensures listed {
+        OnOk result (looked trace.old.items units.old lits.now
+            ≡ (trace.new.items, unlisted_lits units.new))
+    }
     ensures kept { KeepsStored units.old units.new }
     ensures true_lits { true_lits units.new ≡ true_lits units.old }
-    ensures known { length units.new ≡ length units.old }
-    ensures undone { undone units.new trail.new.items ≡ undone units.old trail.old.items }
-    ensures trail { IsTrailFor units.new trail.new.items }
+    ensures undoable { IsUndoable units.old trail.old.items units.new trail.new.items }
 {
     for lit in lits {
         match lit_value(units, *lit) {
@@ -51,12 +54,14 @@ fn list_unit(
     requires known { var_of lit < length units.old }
     requires is_false { values.lit_value units.old lit ≡ Some false }
     requires trail { IsTrailFor units.old trail.old.items }
-    ensures listed { OnOk result ((c : List ℕ) → looked trace.old.items units.old (lit ∷ c) ≡ looked trace.new.items units.new c) }
+    // Whatever literals come after it.
+    ensures listed {
+        OnOk result ((rest : List ℕ) →
+            looked trace.old.items units.old (lit ∷ rest) ≡ looked trace.new.items units.new rest)
+    }
     ensures kept { KeepsStored units.old units.new }
     ensures true_lits { true_lits units.new ≡ true_lits units.old }
-    ensures known { length units.new ≡ length units.old }
-    ensures undone { undone units.new trail.new.items ≡ undone units.old trail.old.items }
-    ensures trail { IsTrailFor units.new trail.new.items }
+    ensures undoable { IsUndoable units.old trail.old.items units.new trail.new.items }
 {
     if let Some(id) = units.stored_id(lit.index()) {
         let renamed = UnitClause {

@@ -3,6 +3,7 @@ use Rattle.varisat_checker.specs.Trace.{looked}
 use Rattle.varisat_checker.specs.Units.{lit_value}
 use Rattle.varisat_checker.proofs.StatusLemmas.{drop-at}
 use Rattle.varisat_checker.proofs.TraceLemmas.{keeps-then, looked-free, looked-true}
+use Rattle.varisat_checker.proofs.TrailLemmas.{is_undoable_then}
 use Rattle.varisat_checker.proofs.rup.trace.list_units.Goals as goal
 use Rattle.varisat_checker.proofs.rup.trace.list_units.Goals.{in-Some-false+in_ok-list_unit-in-Some-false, in-None}
 
@@ -16,9 +17,7 @@ loop-lit-preserved c =
         listed = sym (w.in_ok-list_unit-in-Some-false.ensures.listed _) ∙ before;
         kept = keeps-then _ us _ inv.kept w.list_unit.ensures.kept;
         true_lits = w.list_unit.ensures.true_lits ∙ inv.true_lits;
-        known = w.list_unit.ensures.known ∙ inv.known;
-        undone = w.list_unit.ensures.undone ∙ inv.undone;
-        trail = w.list_unit.ensures.trail;
+        undoable = is_undoable_then _ _ _ _ _ _ inv.undoable w.list_unit.ensures.undoable;
       })
       | in-None w ↦
         let value : lit_value us m ≡ None = sym c.lit_value.ensures ∙ w.in-None.is in
@@ -26,8 +25,6 @@ loop-lit-preserved c =
           listed = sym (looked-free _ us m _ value) ∙ before;
           kept = inv.kept;
           true_lits = inv.true_lits;
-          known = inv.known;
-          undone = inv.undone;
-          trail = inv.trail;
+          undoable = inv.undoable;
         })
     ]
