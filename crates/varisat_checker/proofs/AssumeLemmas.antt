@@ -70,6 +70,12 @@ assume-step us vs ss c i m u less is known v e free apart same k =
     move false false true = refl
     move false false false = refl
 
+pub assume-all : (ss : List (Option StoredUnit)) (vs : List (Option UnitClause)) (c : List ℕ) (i : ℕ) → length c ≤ i → ((k : ℕ) → true_lits vs k ≡ start_set ss (take i c) k) → true_lits vs ≡ start_set ss c
+assume-all ss vs c i over h = λ j k. point k j
+  where
+    point : (k : ℕ) → true_lits vs k ≡ start_set ss c k
+    point k = h k ∙ ap (λ ls. start_set ss ls k) (take_all i c over)
+
 -- the stored units of variables that are not in the clause stay unlisted
 pub unlisted-step : (us vs ws : List (Option UnitClause)) (c : List ℕ) (i m : ℕ) (u : UnitClause) → i < length c → m ≡ get_or c i m → var_of m < length us → number_of u.id ≡ None → vs ≡ set us (var_of m) (Some u)
     → ((k : ℕ) → unlisted_lits us k ≡ (unlisted_lits ws k && not (holds_var (var_of k) (take i c)))) → (k : ℕ) → unlisted_lits vs k ≡ (unlisted_lits ws k && not (holds_var (var_of k) (take (i + 1) c)))

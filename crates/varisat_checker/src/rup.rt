@@ -1,6 +1,4 @@
 //! The propagation check.
-#![tactic(auto, using(crate::proofs::TrailLemmas::is_undoable_then, crate::proofs::TrailLemmas::is_undoable_from_same))]
-
 pub mod propagation;
 pub mod status;
 pub mod trace;

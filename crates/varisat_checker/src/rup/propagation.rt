@@ -1,6 +1,4 @@
 //! What a check overwrites and lists.
-#![tactic(auto, using(crate::proofs::TrailLemmas::is_undoable_then, crate::proofs::TrailLemmas::is_undoable_from_same))]
-
 ghost use Rattle.std.specs.Prelude.{◌≡◌, ◌∷◌, ◌++◌, [], IsTrue, OnOk};
 ghost use Rattle.varisat_checker.specs.Rup.{true_lits};
 ghost use Rattle.varisat_checker.specs.Trace.{KeepsStored, looked, unlisted_lits};

@@ -1,6 +1,4 @@
 //! The trace of a check: the ids of what it uses.
-#![tactic(auto, using(crate::proofs::TrailLemmas::is_undoable_then, crate::proofs::TrailLemmas::is_undoable_from_same))]
-
 ghost use Rattle.std.specs.Prelude.{◌≡◌, ◌<◌, ◌∷◌, ℕ, List, Some, false, length, OnOk};
 ghost use Rattle.checker_rules.specs.Clauses.{var_of};
 ghost use Rattle.varisat_checker.specs.Rup.{true_lits};

@@ -1,6 +1,4 @@
 //! Values that hold during a check only: what they overwrite is kept, and put back afterwards.
-#![tactic(auto, using(crate::proofs::TrailLemmas::is_undoable_then, crate::proofs::TrailLemmas::is_undoable_from_same))]
-
 ghost use Rattle.std.specs.Prelude.{◌≡◌, ◌<◌, [], Some, false, length, OnOk, OnErr, slice_set};
 ghost use Rattle.checker_rules.specs.Clauses.{is_tautology, var_of};
 ghost use Rattle.checker_rules.specs.Hints.{unlisted_at};

@@ -1,6 +1,4 @@
 //! The walk over the named clauses.
-#![tactic(auto, using(crate::proofs::TrailLemmas::is_undoable_then, crate::proofs::TrailLemmas::is_undoable_from_same))]
-
 ghost use Rattle.std.specs.Prelude.{◌≡◌, ◌∷◌, [], All, IfOk, IsTrue, Some, map};
 ghost use Rattle.checker_rules.specs.Passes as rules;
 ghost use Rattle.varisat_checker.specs.Buckets.{AreWithin};

@@ -1,6 +1,6 @@
 use Rattle.std.proofs.Common.{◌≡◌, length, refl, sym, ◌∙◌, subst}
 use Rattle.varisat_checker.specs.Trace.{KeepsStored}
-use Rattle.varisat_checker.proofs.AssumeLemmas.{assume-step, known-at, unlisted-all, unlisted-step}
+use Rattle.varisat_checker.proofs.AssumeLemmas.{assume-all, assume-step, known-at, unlisted-all, unlisted-step}
 use Rattle.varisat_checker.proofs.TraceLemmas.{keeps-set, keeps-then}
 use Rattle.varisat_checker.proofs.TrailLemmas.{is_undoable_then}
 use Rattle.varisat_checker.proofs.rup.trail.assume_false.Goals as goal
@@ -18,6 +18,12 @@ loop-lit-preserved c =
       kept = keeps-then _ us _ c.loop-lit.invariant.kept (subst (KeepsStored us) (sym written) (keeps-set us _ _ known refl));
       undoable = is_undoable_then _ _ _ _ _ _ c.loop-lit.invariant.undoable c.overwrite.ensures.undoable;
     }
+
+pub returns-in_err-overwrite-clause-undoable : goal.returns-in_err-overwrite-clause-undoable
+returns-in_err-overwrite-clause-undoable c = is_undoable_then _ _ _ _ _ _ c.loop-lit.invariant.undoable c.overwrite.ensures.undoable
+
+pub returns-clause-ok : goal.returns-clause-ok
+returns-clause-ok c = assume-all _ _ c.args.lits.now c.loop-lit.lit-index c.loop-lit-test.false c.loop-lit.invariant.same
 
 pub returns-clause-unlisted : goal.returns-clause-unlisted
 returns-clause-unlisted c = unlisted-all _ _ c.args.lits.now c.loop-lit.lit-index c.requires.stored c.loop-lit-test.false c.loop-lit.invariant.unlisted
