@@ -1,4 +1,5 @@
 pub mod AddClauseLemmas
+pub mod AddedSoFar
 pub mod AnswerLemmas
 pub mod AssumeLemmas
 pub mod AtClauseLemmas
@@ -20,6 +21,7 @@ pub mod LongLemmas
 pub mod NewLemmas
 pub mod OutcomeLemmas
 pub mod ProofRuns
+pub mod ReadSoFar
 pub mod ReadyLemmas
 pub mod RefusalLemmas
 pub mod SameListLemmas
