@@ -23,5 +23,13 @@ pub returns-clause-store : goal.returns-clause-store
 returns-clause-store c h low high =
     let cs : Clauses = record { next_clause_id = 0; literal_buffer = c.new.result; garbage_size = 0; buckets = c.new-2.result; unit_clauses = c.new-3.result; unit_conflict = None } in
     let none = no_clause c.new-2.result c.new-2.ensures.empty in let P : Clause → Type 0 = λ d. IsWithin d.lits c.new.result.items in
-    is_store-by h cs [] (λ k. ap (map (stored_of c.new.result.items)) (none k)) refl low high (λ k. subst (All P) (sym (none k)) (All-nil P)) refl refl
-    (ap length c.new.ensures.items) (omega arith) (subst (λ us. list_all is_stored_unit us ≡ true) (sym c.new-3.ensures) refl)
+    is_store-by h cs [] (record {
+      some_bits = low;
+      bits = high;
+      within = λ k. subst (All P) (sym (none k)) (All-nil P);
+      bucketed = λ k. ap (map (stored_of c.new.result.items)) (none k);
+      rise = refl;
+      apart = refl;
+      whole = refl;
+      used = ap length c.new.ensures.items;
+    }) (omega arith) (subst (λ us. list_all is_stored_unit us ≡ true) (sym c.new-3.ensures) refl)
