@@ -1,21 +1,21 @@
 -- What storing a clause answers, in the words of the rules.
 use Rattle.std.proofs.Common.{◌≡◌, ℕ, ◌+◌, ◌<◌, ◌≤◌, Bool, true, false, cond, not, ◌&&◌, ◌||◌, ltb, leb, List, [], ◌∷◌, set, Some, None, Result, Ok, Err, IfErr, OnErr, OnOk, refl, sym, ap, ◌∙◌, subst, arith}
-use Rattle.std.specs.List.{list_any}
+use Rattle.std.specs.List.{list_all}
 use Rattle.std.specs.Result.{OkIff}
-use Rattle.std.proofs.lemmas.Bool.{false_from_ne_true, or_parts}
+use Rattle.std.proofs.lemmas.Bool.{and_parts, false_from_ne_true, not-true}
 use Rattle.std.proofs.lemmas.Bool.Decides.{nat_tests}
 use Rattle.checker_rules.specs.Canonical.{same_list}
 use Rattle.checker_rules.specs.Clauses.{is_negative, var_of}
 use Rattle.checker_rules.specs.DeleteClause.{is_short}
 use Rattle.checker_rules.specs.Outcome.{Outcome, accept, and_then, count_exhausted, ids_exhausted, refuse}
 use Rattle.checker_rules.specs.State.{State, Stored, StoredUnit, makes_true, same_bool, unit_of}
-use Rattle.checker_rules.specs.Store.{count_limit, count_of, counters, id_limit, is_stored, stands, store_unit, unit_id}
+use Rattle.checker_rules.specs.Store.{count_limit, count_of, counters, id_limit, is_gone, is_stored, stands, store_unit, unit_id}
 use Rattle.checker_rules.proofs.Sets.{same_list-eq}
 use Rattle.varisat_checker.specs.declared.clauses.StoreClauseResult.{StoreClauseResult}
 use Rattle.varisat_checker.specs.declared.clauses.StoreClauseResult.TheVariants.{New, Duplicate}
 use Rattle.varisat_checker.specs.declared.clauses.store.StoreFault.{StoreFault}
 use Rattle.varisat_checker.specs.declared.clauses.store.StoreFault.TheVariants.{OutOfMemory, IdsExhausted, CountExhausted}
-use Rattle.varisat_checker.specs.Store.{AnswersStore, Stores, store_counters}
+use Rattle.varisat_checker.specs.Store.{AnswersStore, Stores, is_whole, store_counters}
 
 -- the counters
 pub counters-accept : (r : Bool) (c : List ℕ) (takes : Bool) (s : State) (next : State → Outcome) → (takes ≡ true → s.next < id_limit) → count_of r c s.clauses < count_limit → counters r c takes s next ≡ next s
@@ -49,10 +49,11 @@ counters-count r c takes s next h many =
     more n m h = grind (arith, nat_tests)
 
 -- a short clause is not among the long ones
-pub is_stored-short : (c : List ℕ) (es : List Stored) → is_short c ≡ true → list_any (λ e. is_short e.lits) es ≡ false → is_stored c es ≡ false
-is_stored-short c [] h none = refl
-is_stored-short c (e ∷ es) h none =
-    let p = or_parts (is_short e.lits) (list_any (λ x. is_short x.lits) es) none in
+pub is_stored-short : (c : List ℕ) (es : List Stored) → is_short c ≡ true → list_all is_whole es ≡ true → is_stored c es ≡ false
+is_stored-short c [] h all = refl
+is_stored-short c (e ∷ es) h all =
+    let p = and_parts (is_whole e) (list_all is_whole es) all in
+    let long : is_short e.lits ≡ false = not-true (is_short e.lits) (and_parts (not (is_short e.lits)) (not (is_gone e)) p.0).0 in
     let other : same_list e.lits c ≡ false = false_from_ne_true (same_list e.lits c) (λ y. let q : is_short e.lits ≡ is_short c = ap is_short (same_list-eq e.lits c y) in cc) in
     ap (λ b. b || is_stored c es) other ∙ is_stored-short c es h p.1
 
