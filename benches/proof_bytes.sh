@@ -8,7 +8,7 @@ work=$(mktemp -d)
 trap 'rm -rf "$work"' EXIT
 mkdir -p "$work/crates/proof_bench/src"
 cp -r "$top/crates/checker_rules" "$top/crates/sat_formula" "$top/crates/proof_bytes" "$work/crates/"
-cp "$top/benches/proof_bytes/main.rt" "$work/crates/proof_bench/src/"
+cp "$top/benches/proof_bytes/main.rt.txt" "$work/crates/proof_bench/src/main.rt"
 grep -E '^(checker_rules|sat_formula|proof_bytes):' "$top/crates.txt" > "$work/crates.txt"
 echo 'proof_bench: sat_formula proof_bytes anyhow' >> "$work/crates.txt"
 echo 'Rattle:'
