@@ -30,20 +30,14 @@ pub fn visit_clause(
     requires within { IsWithin clause.now.lits buffer.now }
     requires known { AreKnown units.old (lits_of clause.now.lits buffer.now) }
     requires trail { IsTrailFor units.old propagation.old.trail.items }
-    ensures ok {
-        let lits = lits_of clause.now.lits buffer.now in
+    ensures ok { let lits = lits_of clause.now.lits buffer.now in
         IfOk result (λ falsified. Walks (true_lits units.old) (lits ∷ []) falsified
-            (true_lits units.new))
-    }
-    ensures listed {
-        let stored = stored_of buffer.now clause.now in
+        (true_lits units.new)) }
+    ensures listed { let stored = stored_of buffer.now clause.now in
         IsTrue propagation.old.traced → IfOk result (λ falsified.
-            Lists propagation.old.trace.items units.old (stored ∷ []) falsified
-                propagation.new.trace.items units.new)
-    }
-    ensures undoable {
-        IsUndoable units.old propagation.old.trail.items units.new propagation.new.trail.items
-    }
+        Lists propagation.old.trace.items units.old (stored ∷ []) falsified
+        propagation.new.trace.items units.new) }
+    ensures undoable { IsUndoable units.old propagation.old.trail.items units.new propagation.new.trail.items }
     ensures traced { propagation.new.traced ≡ propagation.old.traced }
 {
     let lits = clause.lits.slice(buffer);
@@ -77,19 +71,13 @@ pub fn visit_bucket(
     requires within { All (λ c. IsWithin c.lits buffer.now) bucket.now }
     requires known { All (λ c. AreKnown units.old (lits_of c.lits buffer.now)) bucket.now }
     requires trail { IsTrailFor units.old propagation.old.trail.items }
-    ensures ok {
-        IfOk result (λ falsified. Walks (true_lits units.old) (lits_in buffer.now bucket.now)
-            falsified (true_lits units.new))
-    }
-    ensures listed {
-        let stored = map (stored_of buffer.now) bucket.now in
+    ensures ok { IfOk result (λ falsified. Walks (true_lits units.old) (lits_in buffer.now bucket.now)
+        falsified (true_lits units.new)) }
+    ensures listed { let stored = map (stored_of buffer.now) bucket.now in
         IsTrue propagation.old.traced → IfOk result (λ falsified.
-            Lists propagation.old.trace.items units.old stored falsified
-                propagation.new.trace.items units.new)
-    }
-    ensures undoable {
-        IsUndoable units.old propagation.old.trail.items units.new propagation.new.trail.items
-    }
+        Lists propagation.old.trace.items units.old stored falsified
+        propagation.new.trace.items units.new) }
+    ensures undoable { IsUndoable units.old propagation.old.trail.items units.new propagation.new.trail.items }
     ensures traced { propagation.new.traced ≡ propagation.old.traced }
 {
     for clause in bucket {
@@ -111,19 +99,13 @@ pub fn walk_buckets(
     requires within { AreWithin buffer.now buckets.now }
     requires known { AreAllKnown units.old buffer.now buckets.now }
     requires trail { IsTrailFor units.old propagation.old.trail.items }
-    ensures ok {
-        let named = named_buckets buffer.now buckets.now hashes.now in
-        IfOk result (λ a. check_answer a ≡ rules.walk_buckets (true_lits units.old) named)
-    }
-    ensures listed {
-        let named = named_clauses buffer.now buckets.now hashes.now in
+    ensures ok { let named = named_buckets buffer.now buckets.now hashes.now in
+        IfOk result (λ a. check_answer a ≡ rules.walk_buckets (true_lits units.old) named) }
+    ensures listed { let named = named_clauses buffer.now buckets.now hashes.now in
         IsTrue propagation.old.traced → IfOk result (λ a. a ≡ Answer.Passed →
-            ids_after propagation.old.trace.items units.old named
-                ≡ Some propagation.new.trace.items)
-    }
-    ensures undoable {
-        IsUndoable units.old propagation.old.trail.items units.new propagation.new.trail.items
-    }
+        ids_after propagation.old.trace.items units.old named
+        ≡ Some propagation.new.trace.items) }
+    ensures undoable { IsUndoable units.old propagation.old.trail.items units.new propagation.new.trail.items }
     ensures traced { propagation.new.traced ≡ propagation.old.traced }
 {
     for hash in hashes {

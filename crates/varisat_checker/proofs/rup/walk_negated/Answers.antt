@@ -1,4 +1,4 @@
-use Rattle.std.proofs.Common.{◌≡◌, Some, ap, sym, ◌∙◌}
+use Rattle.std.proofs.Common.{◌≡◌, Some}
 use Rattle.std.proofs.lemmas.Result.{IfOk-weaker}
 use Rattle.checker_rules.specs.Traced.{ids_of}
 use Rattle.varisat_checker.specs.declared.rup.Answer.TheVariants.{Passed}

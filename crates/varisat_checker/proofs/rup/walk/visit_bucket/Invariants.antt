@@ -1,4 +1,4 @@
-use Rattle.std.proofs.Common.{◌≡◌, List, ◌++◌, drop, length, map, IsTrue}
+use Rattle.std.proofs.Common.{◌≡◌, List, ◌++◌, drop, map, IsTrue}
 use Rattle.checker_rules.specs.Passes.{walk}
 use Rattle.checker_rules.specs.State.{Stored}
 use Rattle.varisat_checker.specs.Rup.{lits_in, true_lits}

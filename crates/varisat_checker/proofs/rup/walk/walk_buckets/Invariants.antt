@@ -1,4 +1,4 @@
-use Rattle.std.proofs.Common.{◌≡◌, drop, length, IsTrue}
+use Rattle.std.proofs.Common.{◌≡◌, drop, IsTrue}
 use Rattle.checker_rules.specs.Passes.{walk_buckets}
 use Rattle.varisat_checker.specs.Rup.{named_buckets, true_lits}
 use Rattle.varisat_checker.specs.Trace.{ids_after, named_clauses}
