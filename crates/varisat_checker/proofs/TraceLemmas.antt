@@ -97,14 +97,8 @@ true_lits-renamed us m w known found same = λ i k. point k i
 pub looked-nil : (ids : List ℕ) (us : List (Option UnitClause)) → looked ids us [] ≡ (ids, unlisted_lits us)
 looked-nil ids us = ap (λ xs. (xs, unlisted_lits us)) (append-nil ids)
 
-pub looked-true : (ids : List ℕ) (us : List (Option UnitClause)) (m : ℕ) (c : List ℕ) → lit_value us m ≡ Some true → looked ids us (m ∷ c) ≡ (ids, unlisted_lits us)
-looked-true ids us m c h = ap (λ v. (ids ++ item_ids v.items, v.unlisted)) (visit-true (stored_units us) (true_lits us) (unlisted_lits us) m c (true_lits-truth us m ∙ ap truth h)) ∙ looked-nil ids us
-
 pub looked-free : (ids : List ℕ) (us : List (Option UnitClause)) (m : ℕ) (c : List ℕ) → lit_value us m ≡ None → looked ids us (m ∷ c) ≡ looked ids us c
 looked-free ids us m c h = ap (λ v. (ids ++ item_ids v.items, v.unlisted)) (visit-free (stored_units us) (true_lits us) (unlisted_lits us) m c (true_lits-truth us m ∙ ap truth h) (true_lits-falsity us m ∙ ap falsity h))
-
-pub looked-passed : (ids : List ℕ) (us : List (Option UnitClause)) (m : ℕ) (c : List ℕ) → lit_value us m ≡ Some false → stored_id (unit_at us (var_of m)) ≡ None → looked ids us (m ∷ c) ≡ looked ids us c
-looked-passed ids us m c h n = ap (λ v. (ids ++ item_ids v.items, v.unlisted)) (visit-false (stored_units us) (true_lits us) (unlisted_lits us) m c (true_lits-truth us m ∙ ap truth h) (true_lits-falsity us m ∙ ap falsity h) (ap (λ b. b && true_lits us (negate m)) (ap (λ v. is_some (stored_id (unit_at us v))) (var-negate m) ∙ ap is_some n)))
 
 without-is : (us : List (Option UnitClause)) (m : ℕ) (w : UnitClause) → var_of m < length us → number_of w.id ≡ None → true_lits us m ≡ false → without_lit (negate m) (unlisted_lits us) ≡ unlisted_lits (set us (var_of m) (Some w))
 without-is us m w known new free = λ i k. point k i

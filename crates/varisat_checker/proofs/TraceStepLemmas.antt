@@ -116,7 +116,7 @@ named_clauses-drop buffer m hs i b cs less found is =
     ∙ ap (λ xs. map (stored_of buffer) xs ++ named_clauses buffer m (drop (i + 1) hs)) (sym is)
 
 -- the trace goes on after a bucket without a falsified clause
-pub lists-bucket : (ids ids_now : List ℕ) (us vs : List (Option UnitClause)) (es : List Stored) (falsified : Bool) → Lists ids us es falsified ids_now vs → falsified ≡ false → (rest : List Stored) → ids_after ids us (es ++ rest) ≡ ids_after ids_now vs rest
+pub lists-bucket : (ids ids_now : List ℕ) (us vs : List (Option UnitClause)) (es : List Stored) (falsified : Bool) → Lists ids us es ids_now vs falsified → falsified ≡ false → (rest : List Stored) → ids_after ids us (es ++ rest) ≡ ids_after ids_now vs rest
 lists-bucket ids ids_now us vs es falsified h e rest = h rest ∙ ap (λ b. cond b (Some ids_now) (ids_after ids_now vs rest)) e
 
 -- the trace of the walk from the values with the negated clause

@@ -30,9 +30,6 @@ is_undoable-overwritten us vs ts now m i old new at is e written less known = rw
   trail = rw length-set (All-push (λ t. var_of t.0 < length us) ts (m, old) known less);
 })
 
--- nothing is overwritten
-pub is_undoable_from_same : (us : List (Option UnitClause)) (ts : List (ℕ × Option UnitClause)) → IsTrailFor us ts → IsUndoable us ts us ts
-is_undoable_from_same us ts h = record { known = refl; undone = refl; trail = h }
-
+-- one change after another
 pub is_undoable_then : (us vs ws : List (Option UnitClause)) (ts now last : List (ℕ × Option UnitClause)) → IsUndoable us ts vs now → IsUndoable vs now ws last → IsUndoable us ts ws last
 is_undoable_then us vs ws ts now last h k = record { known = k.known ∙ h.known; undone = k.undone ∙ h.undone; trail = k.trail }

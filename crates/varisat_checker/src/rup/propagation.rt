@@ -47,8 +47,8 @@ impl Propagation {
     pub fn list_units(&mut self, units: &mut Units, lits: &[Lit]) -> Result<(), AllocError>
         requires known { AreKnown units.old lits.now }
         requires trail { IsTrailFor units.old self.old.trail.items }
-        ensures listed { IsTrue self.old.traced → OnOk result
-            (looked self.old.trace.items units.old lits.now
+        ensures listed { IsTrue self.old.traced → OnOk result (
+            looked self.old.trace.items units.old lits.now
             ≡ (self.new.trace.items, unlisted_lits units.new)) }
         ensures kept { KeepsStored units.old units.new }
         ensures true_lits { true_lits units.new ≡ true_lits units.old }
