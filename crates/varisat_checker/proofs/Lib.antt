@@ -29,7 +29,9 @@ pub mod StatusLemmas
 pub mod StepAnswers
 pub mod StoreLemmas
 pub mod TraceLemmas
+pub mod TraceStepLemmas
 pub mod TrailLemmas
+pub mod TrueUnitLemmas
 pub mod UnitsLemmas
 pub mod ViewLemmas
 pub mod VisitLemmas
