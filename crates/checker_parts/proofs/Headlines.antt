@@ -148,7 +148,7 @@ pub covers_fold-all : (s : State) (before ts : List Step) (r : Result (Unit {0})
 covers_fold-all s before ts r u k h = unless_failed (IsCovered (before ++ first_accepted s ts)) (all_steps s ts) (covers-all s before ts k) r u h
 
 -- the clauses of a text
-sets_text : {P : Type 0} (o : Outcome) (u : State) → ((r : Result (Unit {0}) CheckerError) → AnswersStep r o u → UnlessFailed r P) → (r : Result (Unit {0}) DimacsError) → AnswersText r o u → UnlessTextFailed r P
+pub sets_text : {P : Type 0} (o : Outcome) (u : State) → ((r : Result (Unit {0}) CheckerError) → AnswersStep r o u → UnlessFailed r P) → (r : Result (Unit {0}) DimacsError) → AnswersText r o u → UnlessTextFailed r P
 sets_text o u k (Ok x) h = k ok_answer h
 sets_text o u k (Err (Read cause)) h = k ok_answer h
 sets_text o u k (Err (Malformed line kind)) h = k ok_answer h

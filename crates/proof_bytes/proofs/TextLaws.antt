@@ -1,5 +1,5 @@
 -- How texts begin, and texts of many steps.
-use Rattle.std.proofs.Common.{◌≡◌, ◌≢◌, ℕ, suc, List, [], ◌∷◌, ◌++◌, Err, refl, sym, ap, subst, ◌∙◌, inl, append_assoc, arith}
+use Rattle.std.proofs.Common.{◌≡◌, ◌≢◌, ℕ, suc, List, [], ◌∷◌, ◌++◌, Err, refl, sym, ap, subst, ◌∙◌, inl, append_assoc, append-nil, arith}
 use Rattle.std.proofs.lemmas.Bool.{ne_eqb}
 use Rattle.checker_rules.specs.Step.{Step, solver_var_name, user_var_name, delete_var, change_sampling_mode, add_clause, at_clause, delete_clause, unit_clauses, change_hash_bits, model, assumptions, failed_assumptions, end_proof}
 use Rattle.proof_bytes.specs.declared.fault.MalformedStep.TheVariants.{UnknownTag}
@@ -7,11 +7,12 @@ use Rattle.proof_bytes.specs.declared.format.Format.{Format}
 use Rattle.proof_bytes.specs.declared.format.Format.TheVariants as formats
 use Rattle.proof_bytes.specs.Fields.{made_at}
 use Rattle.proof_bytes.specs.Formats.{after}
-use Rattle.proof_bytes.specs.Laws.{NoSpellingBeginsAnother, SpelledIsRead, ReadIsSpelled, StartIsRead, TextIsRead}
+use Rattle.proof_bytes.specs.Laws.{NoSpellingBeginsAnother, SpelledIsRead, ReadIsSpelled, StartIsRead, TextGrows, TextIsRead}
 use Rattle.proof_bytes.specs.Reading.{Wrong, Found, ◌>>=◌}
 use Rattle.proof_bytes.specs.Spelling.{spells, IsStep}
 use Rattle.proof_bytes.specs.Steps.{step_at, next_at, tag_at, marked_at, then_after}
 use Rattle.proof_bytes.specs.Texts.{Place, start_of, next_of, step_or_fault, ReadsTo, text, AreSteps, after_all}
+use Rattle.proof_bytes.specs.Writer.{mark, text_2, writing, written_after}
 use Rattle.proof_bytes.proofs.Codec.{given}
 use Rattle.proof_bytes.proofs.StepLaws.{step_again, step_exact}
 
@@ -137,4 +138,62 @@ text_is_read = record {
   version_2 = λ step steps rest h.
       let bytes = text (formats.Bytes 64) (step ∷ steps) ++ rest in
       reads_from (start_of (0 ∷ 2 ∷ bytes)) (formats.Bytes 64, bytes) _ step steps (marked_start bytes) (later_steps (formats.Bytes 64) (step ∷ steps) rest (λ e. absurd cc) h);
+}
+
+-- ---- texts written step by step
+
+text_more : (format : Format) (steps : List Step) (step : Step) → text format (steps ++ step ∷ []) ≡ text format steps ++ spells (after_all format steps) step
+unfolding text
+text_more format [] step = append-nil (spells format step)
+text_more format (first ∷ steps) step =
+    ap (λ (l : List ℕ). spells format first ++ l) (text_more (after first format) steps step)
+    ∙ sym (append_assoc (spells format first) (text (after first format) steps) (spells (after_all (after first format) steps) step))
+
+after_more : (format : Format) (steps : List Step) (step : Step) → after_all format (steps ++ step ∷ []) ≡ after step (after_all format steps)
+after_more format [] step = refl
+after_more format (first ∷ steps) step = after_more (after first format) steps step
+
+fits_more : (format : Format) (steps : List Step) (step : Step) → AreSteps format steps → IsStep (after_all format steps) step → AreSteps format (steps ++ step ∷ [])
+fits_more format [] step all h = (h, tt)
+fits_more format (first ∷ steps) step all h = (all.0, fits_more (after first format) steps step all.1 h)
+
+after_all_begun : (steps : List Step) (format : Format) → format ≢ formats.Start → after_all format steps ≢ formats.Start
+after_all_begun [] format n = n
+after_all_begun (step ∷ steps) format n = after_all_begun steps (after step format) (after_begun step format n)
+
+writing_begun : (format : Format) → format ≢ formats.Start → writing format ≡ format
+writing_begun formats.Start n = absurd (n refl)
+writing_begun formats.Numbers n = refl
+writing_begun (formats.Bytes width) n = refl
+
+mark_begun : (format : Format) → format ≢ formats.Start → mark format ≡ []
+mark_begun formats.Start n = absurd (n refl)
+mark_begun formats.Numbers n = refl
+mark_begun (formats.Bytes width) n = refl
+
+begun : (first : Step) (steps : List Step) → written_after (first ∷ steps) ≢ formats.Start
+begun first steps = after_all_begun (first ∷ steps) (formats.Bytes 64) (λ e. absurd cc)
+
+version_2_grows : (steps : List Step) (step : Step) → text_2 (steps ++ step ∷ []) ≡ text_2 steps ++ (mark (written_after steps) ++ spells (writing (written_after steps)) step)
+unfolding text
+version_2_grows [] step = ap (λ (l : List ℕ). 0 ∷ 2 ∷ l) (append-nil (spells (formats.Bytes 64) step))
+version_2_grows (first ∷ steps) step =
+    let n = begun first steps in
+    rw (writing_begun (written_after (first ∷ steps)) n, mark_begun (written_after (first ∷ steps)) n) (ap (λ (l : List ℕ). 0 ∷ 2 ∷ l) (text_more (formats.Bytes 64) (first ∷ steps) step))
+
+format_grows : (steps : List Step) (step : Step) → written_after (steps ++ step ∷ []) ≡ after step (writing (written_after steps))
+format_grows [] step = refl
+format_grows (first ∷ steps) step = after_more (formats.Bytes 64) (first ∷ steps) step ∙ ap (after step) (sym (writing_begun (written_after (first ∷ steps)) (begun first steps)))
+
+fits_2_grows : (steps : List Step) (step : Step) → AreSteps (formats.Bytes 64) steps → IsStep (writing (written_after steps)) step → AreSteps (formats.Bytes 64) (steps ++ step ∷ [])
+fits_2_grows [] step all h = fits_more (formats.Bytes 64) [] step all h
+fits_2_grows (first ∷ steps) step all h = fits_more (formats.Bytes 64) (first ∷ steps) step all (subst (λ (format : Format). IsStep format step) (writing_begun (written_after (first ∷ steps)) (begun first steps)) h)
+
+pub text_grows : TextGrows
+text_grows = record {
+  version_1 = λ steps s. text_more formats.Numbers steps s ∙ ap (λ (format : Format). text formats.Numbers steps ++ spells format s) (after_all_numbers steps);
+  version_2 = version_2_grows;
+  format = format_grows;
+  fits_1 = λ steps s all h. fits_more formats.Numbers steps s all (subst (λ (format : Format). IsStep format s) (sym (after_all_numbers steps)) h);
+  fits_2 = fits_2_grows;
 }

@@ -2,6 +2,7 @@
 --     NoSpellingBeginsAnother, SpelledIsRead, ReadIsSpelled      a step and its one spelling, in each format
 --     StartIsRead      how a text begins: with the mark, or with a step
 --     TextIsRead      many steps, with the widths that they set
+--     TextGrows      many steps written one by one
 use Rattle.std.specs.Prelude.{◌≡◌, ◌≢◌, ℕ, suc, List, [], ◌∷◌, ◌++◌, Ok, Err}
 use Rattle.checker_rules.specs.Step.{Step}
 use Rattle.proof_bytes.specs.declared.fault.MalformedStep.TheVariants.{UnknownTag}
@@ -12,6 +13,8 @@ use Rattle.proof_bytes.specs.Spelling.{spells, IsStep}
 use Rattle.proof_bytes.specs.Steps.{step_at, next_at, then_after}
 use Rattle.proof_bytes.specs.Taking.{IsBytes}
 use Rattle.proof_bytes.specs.Texts.{ReadsTo, start_of, text, AreSteps, after_all}
+use Rattle.proof_bytes.specs.Formats.{after}
+use Rattle.proof_bytes.specs.Writer.{writing, mark, text_2, written_after}
 
 -- no spelling begins another
 abbrev pub NoSpellingBeginsAnother : Type 0
@@ -43,4 +46,12 @@ pub record TextIsRead : Type 0 where
   pub version_1 : (s : Step) (steps : List Step) (rest : List ℕ) → AreSteps formats.Numbers (s ∷ steps) →
       ReadsTo (start_of (text formats.Numbers (s ∷ steps) ++ rest)) (s ∷ steps) (formats.Numbers, rest)
   pub version_2 : (s : Step) (steps : List Step) (rest : List ℕ) → AreSteps (formats.Bytes 64) (s ∷ steps) →
-      ReadsTo (start_of (0 ∷ 2 ∷ text (formats.Bytes 64) (s ∷ steps) ++ rest)) (s ∷ steps) (after_all (formats.Bytes 64) (s ∷ steps), rest)
+      ReadsTo (start_of (text_2 (s ∷ steps) ++ rest)) (s ∷ steps) (written_after (s ∷ steps), rest)
+
+-- a text grows by what is written for one more step: so what was written step by step is such a text
+pub record TextGrows : Type 0 where
+  pub version_1 : (steps : List Step) (s : Step) → text formats.Numbers (steps ++ s ∷ []) ≡ text formats.Numbers steps ++ spells formats.Numbers s
+  pub version_2 : (steps : List Step) (s : Step) → text_2 (steps ++ s ∷ []) ≡ text_2 steps ++ (mark (written_after steps) ++ spells (writing (written_after steps)) s)
+  pub format : (steps : List Step) (s : Step) → written_after (steps ++ s ∷ []) ≡ after s (writing (written_after steps))
+  pub fits_1 : (steps : List Step) (s : Step) → AreSteps formats.Numbers steps → IsStep formats.Numbers s → AreSteps formats.Numbers (steps ++ s ∷ [])
+  pub fits_2 : (steps : List Step) (s : Step) → AreSteps (formats.Bytes 64) steps → IsStep (writing (written_after steps)) s → AreSteps (formats.Bytes 64) (steps ++ s ∷ [])

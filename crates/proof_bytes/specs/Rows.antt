@@ -2,14 +2,16 @@
 --     NumberRows      numbers and their bytes, both ways
 --     StepRows      the first steps of texts of version 1, whole and hostile
 --     WidthRows      texts of version 2
-use Rattle.std.specs.Prelude.{◌≡◌, ℕ, ◌-◌, ◌^◌, List, [], ◌∷◌, Some, None, false, Ok}
+--     WriterRows      what a writer writes
+use Rattle.std.specs.Prelude.{◌≡◌, ℕ, ◌-◌, ◌^◌, List, [], ◌∷◌, Some, None, false, true, Ok}
 use Rattle.std.proofs.Common.{inl, inr}
 use Rattle.checker_rules.specs.Step.{Step, by_redundant, by_satisfied, user_var_name, add_clause, at_clause, delete_clause, unit_clauses, change_hash_bits, model, failed_assumptions, end_proof}
 use Rattle.proof_bytes.specs.declared.fault.MalformedStep.TheVariants.{UnknownTag, BadNumber, OutOfRange}
 use Rattle.proof_bytes.specs.declared.format.Format.TheVariants.{Numbers, Bytes}
 use Rattle.proof_bytes.specs.Reading.{Fault, Short, Wrong, number_at}
-use Rattle.proof_bytes.specs.Spelling.{number}
+use Rattle.proof_bytes.specs.Spelling.{number, all_fit, hashes_of}
 use Rattle.proof_bytes.specs.Texts.{ReadsTo, next_of, start_of}
+use Rattle.proof_bytes.specs.Writer.{text_2, writing, written_after}
 
 -- the number is written so, and nothing else is read as it
 abbrev pub Stands : ℕ → List ℕ → Type 0
@@ -82,3 +84,10 @@ pub record WidthRows : Type 0 where
   pub two_checks : ReadsTo (start_of (0x00 ∷ 0x02 ∷ 0x06 ∷ 0x00 ∷ 0x01 ∷ 0x00 ∷ 0x02 ∷ 0x2A ∷ 0x08 ∷ 0x95 ∷ 0x02 ∷ 0x93 ∷ 0x75 ∷ 0xAF ∷ 0xC4 ∷ 0x41 ∷ 0x8C ∷ 0x63 ∷ 0x82 ∷ 0x54 ∷ 0xFF ∷ 0xE7 ∷ 0x66
       ∷ 0x06 ∷ 0x00 ∷ 0x00 ∷ 0x02 ∷ 0x15 ∷ 0x8C ∷ 0x4B ∷ 0x83 ∷ 0x5A ∷ 0xFE ∷ 0xD7 ∷ 0x66 ∷ 0x7E ∷ 0x08 ∷ 0xBD ∷ 0x03 ∷ 0x9D ∷ 0x74 ∷ 0x9F ∷ 0xC4 ∷ 0x0D ∷ []))
       (at_clause false (0 ∷ []) (0xC4AF75930295082A ∷ 0x66E7FF5482638C41 ∷ []) ∷ at_clause false [] (0x66D7FE5A834B8C15 ∷ 0xC49F749D03BD087E ∷ []) ∷ end_proof ∷ []) (Bytes 64, [])
+
+-- a writer of version 2: the mark stands once, and a hash of ten bits is refused at width 9
+pub record WriterRows : Type 0 where
+  pub first : text_2 (change_hash_bits 9 ∷ []) ≡ 0x00 ∷ 0x02 ∷ 0x09 ∷ 0x09 ∷ []
+  pub refused : all_fit (writing (written_after (change_hash_bits 9 ∷ []))) (hashes_of (at_clause false [] (512 ∷ []))) ≡ false
+  pub allowed : all_fit (writing (written_after (change_hash_bits 9 ∷ []))) (hashes_of (at_clause false [] (511 ∷ []))) ≡ true
+  pub second : text_2 (change_hash_bits 9 ∷ at_clause false [] (511 ∷ []) ∷ []) ≡ 0x00 ∷ 0x02 ∷ 0x09 ∷ 0x09 ∷ 0x06 ∷ 0x00 ∷ 0x00 ∷ 0x01 ∷ 0xFF ∷ 0x01 ∷ []

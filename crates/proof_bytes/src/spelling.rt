@@ -1,35 +1,56 @@
 //! Steps as bytes, appended one after the other.
 //!
 //! What was there before stays in front, also where there is no memory for the rest.
-ghost use Rattle.std.specs.Prelude.{◌≡◌, ◌++◌, ◌≤◌, OnOk};
+ghost use Rattle.std.specs.Prelude.{◌≡◌, ◌++◌, ◌<◌, ◌≤◌, ◌^◌, true, map, OnOk};
 ghost use Rattle.sat_formula.specs.Vars.{index_of, indexes_of};
 ghost use Rattle.proof_bytes.specs.Formats.{bytes_of, IsFormat};
 ghost use Rattle.proof_bytes.specs.Growing.{Grows};
 ghost use Rattle.proof_bytes.specs.NextStep.{view, why};
-ghost use Rattle.proof_bytes.specs.Spelling.{spells, fields_of, number, numbers, flag, name, justification, listed, hash, unit, little};
+ghost use Rattle.proof_bytes.specs.Writer.{writing, mark};
+ghost use Rattle.proof_bytes.specs.Spelling.{all_fit, hashes_of, IsStep, IsName, IsUnit, AreLits, AreHashes, Listed, spells, fields_of, number, numbers, flag, name, justification, listed, hash, unit, little};
 
 use crate::format::Format;
 use crate::hash::ClauseHash;
 use crate::step::{DeleteClauseProof, ProofStep};
+use crate::tag;
 use sat_formula::{Lit, Var};
 use std::alloc::AllocError;
 
-pub(crate) fn push_step(
-    out: &mut Vec<u8>,
-    format: Format,
-    step: &ProofStep,
-) -> Result<(), AllocError>
-    requires { IsFormat format }
+fn push_step(out: &mut Vec<u8>, format: Format, step: &ProofStep) -> Result<(), AllocError>
+    requires in_force { IsFormat format }
+    requires narrow { all_fit format (hashes_of (view step.now)) ≡ true }
     ensures ok { OnOk result (out.new.items ≡ out.old.items ++ spells format (view step.now)) }
+    ensures fits { OnOk result (IsStep format (view step.now)) }
     ensures grows { Grows out.old.items out.new.items }
 {
     out.push(step.tag())?;
     push_fields(out, format, step)
 }
 
+// The step, after the mark where it begins a text of version 2.
+pub(crate) fn push_marked(
+    out: &mut Vec<u8>,
+    format: Format,
+    step: &ProofStep,
+) -> Result<(), AllocError>
+    requires in_force { IsFormat format }
+    requires narrow { all_fit (writing format) (hashes_of (view step.now)) ≡ true }
+    ensures ok { OnOk result (out.new.items ≡ out.old.items ++ (mark format ++ spells (writing format) (view step.now))) }
+    ensures fits { OnOk result (IsStep (writing format) (view step.now)) }
+    ensures grows { Grows out.old.items out.new.items }
+{
+    if let Format::Start = format {
+        out.push(tag::MARK)?;
+        out.push(tag::VERSION)?;
+    }
+    push_step(out, format.writing(), step)
+}
+
 fn push_fields(out: &mut Vec<u8>, format: Format, step: &ProofStep) -> Result<(), AllocError>
-    requires { IsFormat format }
+    requires in_force { IsFormat format }
+    requires narrow { all_fit format (hashes_of (view step.now)) ≡ true }
     ensures ok { OnOk result (out.new.items ≡ out.old.items ++ fields_of format (view step.now)) }
+    ensures fits { OnOk result (IsStep format (view step.now)) }
     ensures grows { Grows out.old.items out.new.items }
 {
     match *step {
@@ -58,6 +79,7 @@ fn push_fields(out: &mut Vec<u8>, format: Format, step: &ProofStep) -> Result<()
 
 fn push_naming(out: &mut Vec<u8>, global: Var, named: Option<Var>) -> Result<(), AllocError>
     ensures ok { OnOk result (out.new.items ≡ out.old.items ++ (number (index_of global) ++ number (name (indexes_of named)))) }
+    ensures fits { (index_of global < 2 ^ 28) × IsName (indexes_of named) }
     ensures grows { Grows out.old.items out.new.items }
 {
     push_var(out, global)?;
@@ -66,6 +88,7 @@ fn push_naming(out: &mut Vec<u8>, global: Var, named: Option<Var>) -> Result<(),
 
 fn push_mode(out: &mut Vec<u8>, var: Var, sample: bool) -> Result<(), AllocError>
     ensures ok { OnOk result (out.new.items ≡ out.old.items ++ (number (index_of var) ++ number (flag sample))) }
+    ensures fits { index_of var < 2 ^ 28 }
     ensures grows { Grows out.old.items out.new.items }
 {
     push_var(out, var)?;
@@ -79,8 +102,10 @@ fn push_at_clause(
     clause: &[Lit],
     hashes: &[ClauseHash],
 ) -> Result<(), AllocError>
-    requires { IsFormat format }
+    requires in_force { IsFormat format }
+    requires narrow { all_fit format hashes.now ≡ true }
     ensures ok { OnOk result (out.new.items ≡ out.old.items ++ (number (flag redundant) ++ (numbers clause.now ++ listed (hash format) hashes.now))) }
+    ensures fits { OnOk result (AreLits clause.now × AreHashes format hashes.now) }
     ensures grows { Grows out.old.items out.new.items }
 {
     push_flag(out, redundant)?;
@@ -93,8 +118,10 @@ fn push_check(
     lits: &[Lit],
     hashes: &[ClauseHash],
 ) -> Result<(), AllocError>
-    requires { IsFormat format }
+    requires in_force { IsFormat format }
+    requires narrow { all_fit format hashes.now ≡ true }
     ensures ok { OnOk result (out.new.items ≡ out.old.items ++ (numbers lits.now ++ listed (hash format) hashes.now)) }
+    ensures fits { OnOk result (AreLits lits.now × AreHashes format hashes.now) }
     ensures grows { Grows out.old.items out.new.items }
 {
     push_lits(out, lits)?;
@@ -107,6 +134,7 @@ fn push_deletion(
     proof: DeleteClauseProof,
 ) -> Result<(), AllocError>
     ensures ok { OnOk result (out.new.items ≡ out.old.items ++ (number (justification (why proof)) ++ numbers clause.now)) }
+    ensures fits { OnOk result (AreLits clause.now) }
     ensures grows { Grows out.old.items out.new.items }
 {
     push_justification(out, proof)?;
@@ -122,6 +150,7 @@ fn push_flag(out: &mut Vec<u8>, b: bool) -> Result<(), AllocError>
 
 fn push_var(out: &mut Vec<u8>, var: Var) -> Result<(), AllocError>
     ensures ok { OnOk result (out.new.items ≡ out.old.items ++ number (index_of var)) }
+    ensures fits { index_of var < 2 ^ 28 }
     ensures grows { Grows out.old.items out.new.items }
 {
     push_number(out, var.index() as u64)
@@ -129,6 +158,7 @@ fn push_var(out: &mut Vec<u8>, var: Var) -> Result<(), AllocError>
 
 fn push_name(out: &mut Vec<u8>, named: Option<Var>) -> Result<(), AllocError>
     ensures ok { OnOk result (out.new.items ≡ out.old.items ++ number (name (indexes_of named))) }
+    ensures fits { IsName (indexes_of named) }
     ensures grows { Grows out.old.items out.new.items }
 {
     match named {
@@ -167,6 +197,7 @@ fn push_number(out: &mut Vec<u8>, n: u64) -> Result<(), AllocError>
 
 fn push_lits(out: &mut Vec<u8>, lits: &[Lit]) -> Result<(), AllocError>
     ensures ok { OnOk result (out.new.items ≡ out.old.items ++ numbers lits.now) }
+    ensures fits { OnOk result (AreLits lits.now) }
     ensures grows { Grows out.old.items out.new.items }
 {
     push_number(out, lits.len() as u64)?;
@@ -202,8 +233,10 @@ fn push_wide(out: &mut Vec<u8>, width: u32, n: u64) -> Result<(), AllocError>
 }
 
 fn push_hashes(out: &mut Vec<u8>, format: Format, hashes: &[ClauseHash]) -> Result<(), AllocError>
-    requires { IsFormat format }
+    requires in_force { IsFormat format }
+    requires narrow { all_fit format hashes.now ≡ true }
     ensures ok { OnOk result (out.new.items ≡ out.old.items ++ listed (hash format) hashes.now) }
+    ensures fits { OnOk result (AreHashes format hashes.now) }
     ensures grows { Grows out.old.items out.new.items }
 {
     push_number(out, hashes.len() as u64)?;
@@ -218,8 +251,10 @@ fn push_units(
     format: Format,
     units: &[(Lit, ClauseHash)],
 ) -> Result<(), AllocError>
-    requires { IsFormat format }
+    requires in_force { IsFormat format }
+    requires narrow { all_fit format (map (λ u. u.1) units.now) ≡ true }
     ensures ok { OnOk result (out.new.items ≡ out.old.items ++ listed (unit format) units.now) }
+    ensures fits { OnOk result (Listed (IsUnit format) units.now) }
     ensures grows { Grows out.old.items out.new.items }
 {
     push_number(out, units.len() as u64)?;

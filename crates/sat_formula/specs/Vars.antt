@@ -1,5 +1,5 @@
 -- Variables by their indexes and literals by their codes.
-use Rattle.std.specs.Prelude.{◌≡◌, ℕ, ℤ, pos, negsuc, ◌+◌, ◌*◌, ◌%◌, Option, Some, None, if◌then◌else◌}
+use Rattle.std.specs.Prelude.{◌≡◌, ℕ, ℤ, pos, negsuc, ◌+◌, ◌-◌, ◌*◌, Bool, ◌%◌, Option, Some, None, if◌then◌else◌}
 use Rattle.checker_rules.specs.Clauses.{is_negative, var_of}
 use Rattle.sat_formula.specs.declared.lit.Var.{Var}
 
@@ -19,6 +19,10 @@ dimacs_var index = pos (index + 1)
 -- the DIMACS number of the literal of a code; `negsuc n` is the number -(n + 1)
 abbrev pub dimacs_lit : ℕ → ℤ
 dimacs_lit code = if is_negative code then negsuc (var_of code) else pos (var_of code + 1)
+
+-- the code of the literal of a number from 1 on, negative or not
+abbrev pub lit_code : ℕ → Bool → ℕ
+lit_code value negative = 2 * (value - 1) + (if negative then 1 else 0)
 
 -- a literal's variable is replaced by one that `post` allows, and its sign stays
 pub record IsMapped (post : Var → Var → Type 0) (lit result : ℕ) : Type 0 where

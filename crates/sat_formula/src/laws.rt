@@ -1,7 +1,8 @@
-//! Laws of variables and literals.
-ghost use Rattle.std.specs.Prelude.{◌≡◌, ◌==◌, ℕ, Some, IsTrue};
+//! Laws of variables, literals and DIMACS text.
+ghost use Rattle.std.specs.Prelude.{◌≡◌, ◌==◌, ◌<◌, ℕ, pos, neg_ℤ, true, false, Some, IsTrue};
 ghost use Rattle.std.specs.Ordering.{nat_cmp};
-ghost use Rattle.sat_formula.specs.Vars.{index_of, indexes_of};
+ghost use Rattle.sat_formula.specs.LineLaws.{BytesAreLines, WorkedTexts};
+ghost use Rattle.sat_formula.specs.Vars.{index_of, indexes_of, dimacs_lit, lit_code};
 ghost use Rattle.sat_formula.specs.declared.lit.Var.{Var};
 
 use crate::lit::{Lit, Var};
@@ -50,9 +51,25 @@ pub fn lit_from_its_number(lit: Lit) -> Option<Lit>
     Lit::from_dimacs(lit.to_dimacs())
 }
 
+/// The literal of a number in a text has this number.
+pub fn literals_are_their_numbers()
+    ensures positive { (value : ℕ) → 0 < value → dimacs_lit (lit_code value false) ≡ pos value }
+    ensures negative { (value : ℕ) → 0 < value → dimacs_lit (lit_code value true) ≡ neg_ℤ (pos value) }
+{}
+
 /// A literal is the negation of its negation.
 pub fn not_of_not(lit: Lit) -> Lit
     ensures { result ≡ lit }
 {
     !!lit
 }
+
+/// A text that is read byte after byte says what its lines say.
+pub fn bytes_are_lines()
+    ensures { BytesAreLines }
+{}
+
+/// What some texts say.
+pub fn worked_texts()
+    ensures { WorkedTexts }
+{}

@@ -96,7 +96,7 @@ impl Var {
 }
 
 impl Lit {
-    ghost use Rattle.sat_formula.specs.Vars.{index_of, dimacs_lit, IsMapped};
+    ghost use Rattle.sat_formula.specs.Vars.{index_of, dimacs_lit, lit_code, IsMapped};
     ghost use Rattle.sat_formula.specs.declared.lit.Var.{Var};
 
     /// The literal of a code below twice `Var::MAX_COUNT`.
@@ -178,10 +178,10 @@ impl Lit {
     pub(crate) fn of_number(value: u64, negative: bool) -> Lit
         requires some { 0 < value }
         requires small { value ≤ 2 ^ 28 }
-        ensures { result ≡ (value * 2 - 2) + (if negative then 1 else 0) }
+        ensures { result ≡ lit_code value negative }
     {
         Lit {
-            code: (value * 2 - 2) as u32 + negative as u32,
+            code: (value as u32 - 1) * 2 + negative as u32,
         }
     }
 }

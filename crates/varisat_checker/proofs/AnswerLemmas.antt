@@ -1,21 +1,21 @@
 -- What storing a clause answers, in the words of the rules.
 use Rattle.std.proofs.Common.{◌≡◌, ℕ, ◌+◌, ◌<◌, ◌≤◌, Bool, true, false, cond, not, ◌&&◌, ◌||◌, ltb, leb, List, [], ◌∷◌, set, Some, None, Result, Ok, Err, IfErr, OnErr, OnOk, refl, sym, ap, ◌∙◌, subst, arith}
-use Rattle.std.specs.List.{list_any}
+use Rattle.std.specs.List.{list_all}
 use Rattle.std.specs.Result.{OkIff}
-use Rattle.std.proofs.lemmas.Bool.{false_from_ne_true, or_parts}
+use Rattle.std.proofs.lemmas.Bool.{and_parts, false_from_ne_true, not-true}
 use Rattle.std.proofs.lemmas.Bool.Decides.{nat_tests}
 use Rattle.checker_rules.specs.Canonical.{same_list}
 use Rattle.checker_rules.specs.Clauses.{is_negative, var_of}
 use Rattle.checker_rules.specs.DeleteClause.{is_short}
-use Rattle.checker_rules.specs.Outcome.{Outcome, accept, count_exhausted, ids_exhausted, refuse}
+use Rattle.checker_rules.specs.Outcome.{Outcome, accept, and_then, count_exhausted, ids_exhausted, refuse}
 use Rattle.checker_rules.specs.State.{State, Stored, StoredUnit, makes_true, same_bool, unit_of}
-use Rattle.checker_rules.specs.Store.{count_limit, count_of, counters, id_limit, is_stored, stands, store_unit, unit_id}
+use Rattle.checker_rules.specs.Store.{count_limit, count_of, counters, id_limit, is_gone, is_stored, stands, store_unit, unit_id}
 use Rattle.checker_rules.proofs.Sets.{same_list-eq}
 use Rattle.varisat_checker.specs.declared.clauses.StoreClauseResult.{StoreClauseResult}
 use Rattle.varisat_checker.specs.declared.clauses.StoreClauseResult.TheVariants.{New, Duplicate}
 use Rattle.varisat_checker.specs.declared.clauses.store.StoreFault.{StoreFault}
 use Rattle.varisat_checker.specs.declared.clauses.store.StoreFault.TheVariants.{OutOfMemory, IdsExhausted, CountExhausted}
-use Rattle.varisat_checker.specs.Store.{AnswersStore, IsStored, store_counters}
+use Rattle.varisat_checker.specs.Store.{AnswersStore, Stores, is_whole, store_counters}
 
 -- the counters
 pub counters-accept : (r : Bool) (c : List ℕ) (takes : Bool) (s : State) (next : State → Outcome) → (takes ≡ true → s.next < id_limit) → count_of r c s.clauses < count_limit → counters r c takes s next ≡ next s
@@ -49,21 +49,22 @@ counters-count r c takes s next h many =
     more n m h = grind (arith, nat_tests)
 
 -- a short clause is not among the long ones
-pub is_stored-short : (c : List ℕ) (es : List Stored) → is_short c ≡ true → list_any (λ e. is_short e.lits) es ≡ false → is_stored c es ≡ false
-is_stored-short c [] h none = refl
-is_stored-short c (e ∷ es) h none =
-    let p = or_parts (is_short e.lits) (list_any (λ x. is_short x.lits) es) none in
+pub is_stored-short : (c : List ℕ) (es : List Stored) → is_short c ≡ true → list_all is_whole es ≡ true → is_stored c es ≡ false
+is_stored-short c [] h all = refl
+is_stored-short c (e ∷ es) h all =
+    let p = and_parts (is_whole e) (list_all is_whole es) all in
+    let long : is_short e.lits ≡ false = not-true (is_short e.lits) (and_parts (not (is_short e.lits)) (not (is_gone e)) p.0).0 in
     let other : same_list e.lits c ≡ false = false_from_ne_true (same_list e.lits c) (λ y. let q : is_short e.lits ≡ is_short c = ap is_short (same_list-eq e.lits c y) in cc) in
     ap (λ b. b || is_stored c es) other ∙ is_stored-short c es h p.1
 
 -- the empty clause
-pub empty-stored : (r : Bool) (s : State) → s.next < id_limit → count_of r [] s.clauses < count_limit → IsStored [] r s (record s { unsat = true; next = s.next + 1 }) s.next New
+pub empty-stored : (r : Bool) (s : State) → s.next < id_limit → count_of r [] s.clauses < count_limit → Stores [] r s (record s { unsat = true; next = s.next + 1 }) s.next New
 empty-stored r s room few = record { room = counters-accept r [] true s accept (λ e. room) few; after = refl; id_is = refl; result_is = refl }
 
 -- a unit, by what its variable has
 module _ (l : ℕ) (r : Bool) (s : State) (few : count_of r (l ∷ []) s.clauses < count_limit) where
   pub unit-new : unit_of s.units (var_of l) ≡ None → s.next < id_limit
-      → IsStored (l ∷ []) r s (record s { units = set s.units (var_of l) (Some (record { value = not (is_negative l); id = s.next })); next = s.next + 1 }) s.next New
+      → Stores (l ∷ []) r s (record s { units = set s.units (var_of l) (Some (record { value = not (is_negative l); id = s.next })); next = s.next + 1 }) s.next New
   unit-new none room = record {
     room = counters-accept r (l ∷ []) (not (stands (l ∷ []) s)) s accept (λ e. room) few;
     after = ap (λ u. store_unit l u s) (sym none);
@@ -71,7 +72,7 @@ module _ (l : ℕ) (r : Bool) (s : State) (few : count_of r (l ∷ []) s.clauses
     result_is = sym (ap (λ u. cond (makes_true u l) Duplicate New) none);
   }
 
-  pub unit-stands : (u : StoredUnit) → unit_of s.units (var_of l) ≡ Some u → same_bool u.value (not (is_negative l)) ≡ true → IsStored (l ∷ []) r s s u.id Duplicate
+  pub unit-stands : (u : StoredUnit) → unit_of s.units (var_of l) ≡ Some u → same_bool u.value (not (is_negative l)) ≡ true → Stores (l ∷ []) r s s u.id Duplicate
   unit-stands u here same =
       let true_by : makes_true (unit_of s.units (var_of l)) l ≡ true = ap (λ o. makes_true o l) here ∙ same in
       record {
@@ -82,7 +83,7 @@ module _ (l : ℕ) (r : Bool) (s : State) (few : count_of r (l ∷ []) s.clauses
       }
 
   pub unit-conflict : (u : StoredUnit) → unit_of s.units (var_of l) ≡ Some u → same_bool u.value (not (is_negative l)) ≡ false → s.next < id_limit
-      → IsStored (l ∷ []) r s (record s { unsat = true; conflict = Some (u.id, s.next); next = s.next + 1 }) s.next New
+      → Stores (l ∷ []) r s (record s { unsat = true; conflict = Some (u.id, s.next); next = s.next + 1 }) s.next New
   unit-conflict u here other room =
       let false_by : makes_true (unit_of s.units (var_of l)) l ≡ false = ap (λ o. makes_true o l) here ∙ other in
       record {
@@ -98,9 +99,9 @@ answers-ids c r s other none = counters-ids r c (not (stands c s)) s accept (ap 
 
 -- a clause that does not stand takes an id, if one is left
 pub answers-new : (res : Result (ℕ × StoreClauseResult) StoreFault) (c : List ℕ) (r : Bool) (s t u : State) → OkIff res (s.next < id_limit) (s.next, New) → IfErr res (λ f. f ≡ IdsExhausted) → OnOk res (t ≡ u) → OnErr res (t ≡ s)
-    → stands c s ≡ false → (s.next < id_limit → IsStored c r s u s.next New) → AnswersStore res c r s t
+    → stands c s ≡ false → (s.next < id_limit → Stores c r s u s.next New) → AnswersStore res c r s t
 answers-new (Ok p) c r s t u h only ok err other stored =
-    subst (λ x. IsStored c r s x p.0 p.1) (sym ok) (subst (λ (x : ℕ × StoreClauseResult). IsStored c r s u x.0 x.1) (sym h.1) (stored h.0))
+    subst (λ x. Stores c r s x p.0 p.1) (sym ok) (subst (λ (x : ℕ × StoreClauseResult). Stores c r s u x.0 x.1) (sym h.1) (stored h.0))
 answers-new (Err OutOfMemory) c r s t u h only ok err other stored = tt
 answers-new (Err IdsExhausted) c r s t u h only ok err other stored = (answers-ids c r s other (omega (arith, h)), err)
 answers-new (Err CountExhausted) c r s t u h only ok err other stored = cc
@@ -109,3 +110,12 @@ answers-new (Err CountExhausted) c r s t u h only ok err other stored = cc
 pub either_way : {A E P : Type 0} (res : Result A E) → OnOk res P → OnErr res P → P
 either_way (Ok x) ok err = ok
 either_way (Err e) ok err = err
+
+-- what comes after the counters, where they do not refuse
+pub counters-then : (r : Bool) (c : List ℕ) (takes : Bool) (s : State) (next : State → Outcome) → counters r c takes s next ≡ and_then (counters r c takes s accept) next
+counters-then r c takes s next = cases (takes && not (ltb s.next id_limit)) (leb count_limit (count_of r c s.clauses))
+  where
+    cases : (b d : Bool) → cond b (refuse ids_exhausted s) (cond d (refuse count_exhausted s) (next s)) ≡ and_then (cond b (refuse ids_exhausted s) (cond d (refuse count_exhausted s) (accept s))) next
+    cases true d = refl
+    cases false true = refl
+    cases false false = refl

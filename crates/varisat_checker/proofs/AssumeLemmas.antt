@@ -1,12 +1,13 @@
 -- Taking the literals of a clause as false.
-use Rattle.std.proofs.Common.{◌≡◌, ℕ, zero, suc, ◌+◌, ◌<◌, ◌≤◌, Bool, true, false, not, ◌||◌, eqb, List, [], ◌∷◌, ◌++◌, length, take, set, get_or, Option, Some, max, refl, sym, ap, ◌∙◌, subst, arith, inl, inr}
+use Rattle.std.proofs.Common.{◌≡◌, ℕ, zero, suc, ◌+◌, ◌<◌, ◌≤◌, Bool, true, false, not, ◌&&◌, ◌||◌, eqb, List, [], ◌∷◌, ◌++◌, length, take, set, get_or, Option, None, Some, max, ⊎_elim, refl, sym, ap, ◌∙◌, subst, arith, inl, inr}
 use Rattle.std.specs.List.{list_any}
-use Rattle.std.proofs.lemmas.Bool.{both_ways, eq-eqb, eqb-true, false_from_ne_true, false≢true, or_cases, or_from, or_left, or_right}
+use Rattle.std.proofs.lemmas.Bool.{both_ways, cases_eq, eq-eqb, eqb-true, false_from_ne_true, false≢true, ne_eqb, or_cases, or_from, or_left, or_right}
 use Rattle.std.proofs.lemmas.List.{take_all, take_more}
 use Rattle.std.proofs.lemmas.List.Folds.{list_any-append, list_any_at}
 use Rattle.checker_rules.specs.Canonical.{var_bound}
 use Rattle.checker_rules.specs.Clauses.{add_lit, has, is_negative, is_tautology, negate, var_of}
-use Rattle.checker_rules.specs.Hints.{negated_set}
+use Rattle.checker_rules.specs.DeleteVar.{holds_var}
+use Rattle.checker_rules.specs.Hints.{negated_set, unlisted_at}
 use Rattle.checker_rules.specs.State.{StoredUnit, lit_by_unit, some_true_unit, start_set}
 use Rattle.checker_rules.proofs.Chains.{negate-negate}
 use Rattle.checker_rules.proofs.Models.{negative_negate}
@@ -15,7 +16,9 @@ use Rattle.checker_rules.proofs.Walks.{any_at, any_from}
 use Rattle.varisat_checker.specs.declared.clauses.units.UnitClause.{UnitClause}
 use Rattle.varisat_checker.specs.Rup.{true_lits}
 use Rattle.varisat_checker.specs.StateOf.{stored_units}
-use Rattle.varisat_checker.specs.Units.{AreKnown}
+use Rattle.varisat_checker.specs.Units.{AreKnown, number_of}
+use Rattle.varisat_checker.specs.Trace.{AreStored, unlisted_lits}
+use Rattle.varisat_checker.proofs.TraceLemmas.{unlisted_lits-at_rest, unlisted_lits-set}
 use Rattle.varisat_checker.proofs.UnitsLemmas.{true_lits-set}
 
 -- a literal of the list has a known variable
@@ -66,3 +69,35 @@ assume-step us vs ss c i m u less is known v e free apart same k =
     move false true b = refl
     move false false true = refl
     move false false false = refl
+
+pub assume-all : (ss : List (Option StoredUnit)) (vs : List (Option UnitClause)) (c : List ℕ) (i : ℕ) → length c ≤ i → ((k : ℕ) → true_lits vs k ≡ start_set ss (take i c) k) → true_lits vs ≡ start_set ss c
+assume-all ss vs c i over h = λ j k. point k j
+  where
+    point : (k : ℕ) → true_lits vs k ≡ start_set ss c k
+    point k = h k ∙ ap (λ ls. start_set ss ls k) (take_all i c over)
+
+-- the stored units of variables that are not in the clause stay unlisted
+pub unlisted-step : (us vs ws : List (Option UnitClause)) (c : List ℕ) (i m : ℕ) (u : UnitClause) → i < length c → m ≡ get_or c i m → var_of m < length us → number_of u.id ≡ None → vs ≡ set us (var_of m) (Some u)
+    → ((k : ℕ) → unlisted_lits us k ≡ (unlisted_lits ws k && not (holds_var (var_of k) (take i c)))) → (k : ℕ) → unlisted_lits vs k ≡ (unlisted_lits ws k && not (holds_var (var_of k) (take (i + 1) c)))
+unlisted-step us vs ws c i m u less is known new e same k =
+    let p : ℕ → Bool = λ l. eqb (var_of l) (var_of k) in
+    let cut : take (i + 1) c ≡ take i c ++ m ∷ [] = take_more c i m less ∙ ap (λ x. take i c ++ x ∷ []) (sym is) in
+    ap (λ ws. unlisted_lits ws k) e ∙ unlisted_lits-set us (var_of m) k u known new ∙ ap (λ b. b && not (eqb (var_of k) (var_of m))) (same k)
+    ∙ ap (λ b. (unlisted_lits ws k && not (list_any p (take i c))) && not b) (eqb_comm (var_of k) (var_of m))
+    ∙ move (unlisted_lits ws k) (list_any p (take i c)) (p m)
+    ∙ sym (ap (λ ls. unlisted_lits ws k && not (list_any p ls)) cut ∙ ap (λ b. unlisted_lits ws k && not b) (list_any-append p (take i c) (m ∷ [])))
+  where
+    eqb_comm : (a b : ℕ) → eqb a b ≡ eqb b a
+    eqb_comm a b = ⊎_elim {C = eqb a b ≡ eqb b a} (λ (h : a ≡ b). eq-eqb a b h ∙ sym (eq-eqb b a (sym h))) (λ (h : a ≡ b → ⊥). ne_eqb a b h ∙ sym (ne_eqb b a (λ g. h (sym g)))) (cases_eq a b)
+
+    move : (g a b : Bool) → ((g && not a) && not b) ≡ (g && not (a || (b || false)))
+    move true true b = refl
+    move true false true = refl
+    move true false false = refl
+    move false a b = refl
+
+pub unlisted-all : (us vs : List (Option UnitClause)) (c : List ℕ) (i : ℕ) → AreStored us → length c ≤ i → ((k : ℕ) → unlisted_lits vs k ≡ (unlisted_lits us k && not (holds_var (var_of k) (take i c)))) → unlisted_lits vs ≡ unlisted_at (stored_units us) c
+unlisted-all us vs c i stored over h = λ j k. point k j
+  where
+    point : (k : ℕ) → unlisted_lits vs k ≡ unlisted_at (stored_units us) c k
+    point k = h k ∙ ap (λ ls. unlisted_lits us k && not (holds_var (var_of k) ls)) (take_all i c over) ∙ ap (λ b. b && not (holds_var (var_of k) c)) (unlisted_lits-at_rest us k stored)

@@ -1,5 +1,5 @@
 -- The answer of the check is that of the rules.
-use Rattle.std.proofs.Common.{◌≡◌, ℕ, ◌≤◌, Bool, true, false, not, cond, ◌&&◌, leb, List, [], ◌∷◌, length, map, filter, Option, All, refl, sym, ap, ◌∙◌, subst}
+use Rattle.std.proofs.Common.{◌≡◌, ℕ, ◌≤◌, Bool, true, false, not, cond, ◌&&◌, leb, List, [], ◌∷◌, ◌++◌, length, map, filter, Option, All, refl, sym, ap, ◌∙◌, subst}
 use Rattle.std.specs.List.{list_all}
 use Rattle.std.specs.Option.{option_map}
 use Rattle.std.proofs.lemmas.Bool.{and_from, and_parts, leb-true}
@@ -12,6 +12,7 @@ use Rattle.checker_rules.specs.Exact.{AllCanonical, walk_check}
 use Rattle.checker_rules.specs.Passes.{CheckAnswer, failed, none_empty, no_clause, passed}
 use Rattle.checker_rules.specs.State.{Known, State, Stored, all_lits, bucket, buckets, clause_passes}
 use Rattle.checker_rules.specs.Store.{is_gone}
+use Rattle.checker_rules.specs.Traced.{bucket_entries, walked}
 use Rattle.checker_rules.specs.WellFormed.{WellFormed, is_fine}
 use Rattle.checker_rules.proofs.Exacts.{check_exact}
 use Rattle.varisat_checker.specs.declared.clauses.Clause.{Clause}
@@ -26,6 +27,7 @@ use Rattle.varisat_checker.specs.CheckLaw.{Answers, CheckIsByRules, IsAnswerIn}
 use Rattle.varisat_checker.specs.Lits.{lits_of}
 use Rattle.varisat_checker.specs.Rup.{AreAllKnown, check_answer, clause_answer, lits_at, named_buckets}
 use Rattle.varisat_checker.specs.StateOf.{IsBucketed, state_of, stored_unit, stored_units}
+use Rattle.varisat_checker.specs.Trace.{clause_trace, named_clauses}
 use Rattle.varisat_checker.specs.Units.{AreKnown}
 use Rattle.varisat_checker.specs.View.{stored_list, stored_of}
 
@@ -76,9 +78,15 @@ answers s c hs Passed can apart e = (check_exact s c hs can apart).passes.0 (sym
 answers s c hs NoClauseForHash can apart e = (check_exact s c hs can apart).no_clause.0 (sym e)
 answers s c hs Failed can apart e = (check_exact s c hs can apart).failed.0 (sym e)
 
+named-walked : (st : CheckerState) (h : ClauseHasher) (cs : Clauses) (known : List Known) (hs : List ℕ) → IsBucketed h cs → named_clauses cs.literal_buffer.items cs.buckets hs ≡ walked (state_of st h cs known) hs
+unfolding bucket_entries
+named-walked st h cs known [] tied = refl
+named-walked st h cs known (k ∷ hs) tied = ap (λ es. es ++ named_clauses cs.literal_buffer.items cs.buckets hs) (tied k) ∙ ap (λ es. bucket_entries (state_of st h cs known) k ++ es) (named-walked st h cs known hs tied)
+
 pub check_is_by_rules : CheckIsByRules
 check_is_by_rules = record {
   all_known = all_known;
   walk = walk-is;
   answers = λ st h cs known c hs a tied form apart e. answers (state_of st h cs known) c hs a (all_canonical (length known) (stored_list cs) form.fine) apart (e ∙ walk-is st h cs known c hs tied);
+  trace = λ st h cs known c hs tied. ap (clause_trace (stored_units cs.unit_clauses) c) (named-walked st h cs known hs tied);
 }

@@ -1,4 +1,4 @@
--- The steps that are checked leave the step counter; a counted one raises it by one.
+-- The steps that are checked leave the step counter and whether the checker has failed; a counted one raises the counter by one.
 use Rattle.std.proofs.Common.{◌≡◌, ℕ, ◌+◌, ◌&&◌, Bool, true, false, cond, not, ltb, leb, List, [], ◌∷◌, ◌++◌, Option, None, Some, map, refl, sym, ap, ◌∙◌, subst}
 use Rattle.checker_rules.specs.AddClause.{step_add_clause, store_input, take_input}
 use Rattle.checker_rules.specs.AtClause.{step_at_clause, store_derived}
@@ -17,9 +17,13 @@ use Rattle.checker_rules.proofs.Openings.{attempt-counted}
 use Rattle.checker_rules.proofs.StepKinds.{step-add_clause, step-at_clause, step-end_proof}
 use Rattle.varisat_checker.specs.NotYet.{is_checked}
 
--- the counter is that of the state
+-- what steps leave
+abbrev left : State → ℕ × Bool
+left s = (s.steps, s.failed)
+
+-- they are those of the state
 abbrev Same : State → State → Type 0
-Same s t = t.steps ≡ s.steps
+Same s t = left t ≡ left s
 
 unit-same : (l : ℕ) (o : Option StoredUnit) (s : State) → Same s (store_unit l o s)
 unit-same l None s = refl
@@ -82,9 +86,9 @@ at-same s redundant ls hs =
     by false o h = h
 
 checked-same : (s : State) (t : Step) → is_checked t ≡ true → Same s (step s t).after
-checked-same s (add_clause c) h = ap (λ (o : Outcome). o.after.steps) (step-add_clause s c) ∙ add-same s c
-checked-same s (at_clause redundant c hashes) h = ap (λ (o : Outcome). o.after.steps) (step-at_clause s redundant c hashes) ∙ at-same s redundant c hashes
-checked-same s end_proof h = ap (λ (o : Outcome). o.after.steps) (step-end_proof s)
+checked-same s (add_clause c) h = ap (λ (o : Outcome). left o.after) (step-add_clause s c) ∙ add-same s c
+checked-same s (at_clause redundant c hashes) h = ap (λ (o : Outcome). left o.after) (step-at_clause s redundant c hashes) ∙ at-same s redundant c hashes
+checked-same s end_proof h = ap (λ (o : Outcome). left o.after) (step-end_proof s)
 checked-same s (solver_var_name x name) h = absurd cc
 checked-same s (user_var_name x name) h = absurd cc
 checked-same s (delete_var x) h = absurd cc
@@ -96,6 +100,10 @@ checked-same s (model literals) h = absurd cc
 checked-same s (assumptions c) h = absurd cc
 checked-same s (failed_assumptions core hashes) h = absurd cc
 
+-- an input clause leaves whether the checker has failed
+pub add-failed : (s : State) (c : List ℕ) → (step s (add_clause c)).after.failed ≡ s.failed
+add-failed s c = ap (λ (p : ℕ × Bool). p.1) (checked-same s (add_clause c) refl)
+
 -- a counted step raises the counter by one
 pub attempt-steps : (s : State) (t : Step) → is_checked t ≡ true → ltb s.steps step_limit ≡ true → (attempt s t).after.steps ≡ s.steps + 1
-attempt-steps s t h room = ap (λ (o : Outcome). o.after.steps) (attempt-counted s t room) ∙ checked-same (count_step s) t h
+attempt-steps s t h room = ap (λ (o : Outcome). o.after.steps) (attempt-counted s t room) ∙ ap (λ (p : ℕ × Bool). p.0) (checked-same (count_step s) t h)

@@ -22,8 +22,8 @@ use Rattle.varisat_checker.specs.declared.hash.ClauseHasher.{ClauseHasher}
 use Rattle.varisat_checker.specs.Buckets.{Buckets, bucket_items}
 use Rattle.varisat_checker.specs.Lits.{IsWithin}
 use Rattle.varisat_checker.specs.StateOf.{hash_of}
-use Rattle.varisat_checker.specs.Store.{IsStore}
-use Rattle.varisat_checker.specs.View.{stored_in, stored_list, stored_of}
+use Rattle.varisat_checker.specs.Store.{Files}
+use Rattle.varisat_checker.specs.View.{stored_in, stored_of}
 use Rattle.varisat_checker.proofs.GatherLemmas.{covers, same_from_permutation}
 use Rattle.varisat_checker.proofs.ViewLemmas.{In, above_from, in_filter, some_here}
 
@@ -55,23 +55,23 @@ ids_rise-by (x ∷ xs) up i j d le l =
     let li : i < length (x ∷ xs) = omega (arith, le, lj) in
     let a = get_or-map f (x ∷ xs) i x d li in let b = get_or-map f (x ∷ xs) j x d lj in let c = up i j x le lj in omega (arith, a, b, c)
 
-module _ (h : ClauseHasher) (cs : Clauses) (s : IsStore h cs) (unique : IsUnique nat_eq cs.buckets) where
-  covered : list_all (λ e. list_any (eqb (hash_of h e.lits)) (keys cs.buckets)) (stored_list cs) ≡ true
-  covered = all_in (λ e. list_any (eqb (hash_of h e.lits)) (keys cs.buckets)) (stored_list cs) (λ x i.
+module _ (h : ClauseHasher) (cs : Clauses) (es : List Stored) (f : Files h cs es) (unique : IsUnique nat_eq cs.buckets) where
+  covered : list_all (λ e. list_any (eqb (hash_of h e.lits)) (keys cs.buckets)) es ≡ true
+  covered = all_in (λ e. list_any (eqb (hash_of h e.lits)) (keys cs.buckets)) es (λ x i.
       let k = hash_of h x.lits in
-      let here : In x (stored_in cs.literal_buffer.items cs.buckets k) = subst (In x) (sym (s.bucketed k)) (in_filter (λ e. eqb (hash_of h e.lits) k) x (stored_list cs) (grind arith) i) in
+      let here : In x (stored_in cs.literal_buffer.items cs.buckets k) = subst (In x) (sym (f.bucketed k)) (in_filter (λ e. eqb (hash_of h e.lits) k) x es (grind arith) i) in
       list_any-from_Contains nat_eq_equiv k (keys cs.buckets) ((hash_map_contains_key_iff nat_eq_equiv exact_unsigned_eq cs.buckets k).0 (some_here cs.literal_buffer.items cs.buckets k x here)))
 
-  in_other_order : IsPermutation (stored_list cs) (map (stored_of cs.literal_buffer.items) (flat_map (λ b. b.items) (values cs.buckets)))
+  in_other_order : IsPermutation es (map (stored_of cs.literal_buffer.items) (flat_map (λ b. b.items) (values cs.buckets)))
   in_other_order =
-      subst (IsPermutation (stored_list cs)) (sym (flat_map-entries cs.literal_buffer.items cs.buckets cs.buckets.entries (found_all cs.literal_buffer.items cs.buckets unique) ∙ flat_map-same (stored_in cs.literal_buffer.items cs.buckets) (λ k. of_hash (hash_of h) k (stored_list cs)) s.bucketed (keys cs.buckets)))
-      (covers (hash_of h) (keys cs.buckets) (stored_list cs) unique covered)
+      subst (IsPermutation es) (sym (flat_map-entries cs.literal_buffer.items cs.buckets cs.buckets.entries (found_all cs.literal_buffer.items cs.buckets unique) ∙ flat_map-same (stored_in cs.literal_buffer.items cs.buckets) (λ k. of_hash (hash_of h) k es) f.bucketed (keys cs.buckets)))
+      (covers (hash_of h) (keys cs.buckets) es unique covered)
 
   -- sorted by their ids
-  pub gathered : (all : List Clause) → IsPermutation (flat_map (λ b. b.items) (values cs.buckets)) all → IsNonDecreasingBy (λ c. c.id) all → map (stored_of cs.literal_buffer.items) all ≡ stored_list cs
+  pub gathered : (all : List Clause) → IsPermutation (flat_map (λ b. b.items) (values cs.buckets)) all → IsNonDecreasingBy (λ c. c.id) all → map (stored_of cs.literal_buffer.items) all ≡ es
   gathered all p up =
-      same_from_permutation (stored_list cs) (map (stored_of cs.literal_buffer.items) all) (above_from 0 cs.next_clause_id (stored_list cs) s.rise)
-      (IsPermutation-trans (stored_list cs) _ (map (stored_of cs.literal_buffer.items) all) in_other_order (IsPermutation-map (stored_of cs.literal_buffer.items) _ all p))
+      same_from_permutation es (map (stored_of cs.literal_buffer.items) all) (above_from 0 cs.next_clause_id es f.rise)
+      (IsPermutation-trans es _ (map (stored_of cs.literal_buffer.items) all) in_other_order (IsPermutation-map (stored_of cs.literal_buffer.items) _ all p))
       (subst IsNonDecreasing (ids-same all) (ids_rise-by all up))
     where
       ids-same : (xs : List Clause) → map (λ c. c.id) xs ≡ map (λ e. e.id) (map (stored_of cs.literal_buffer.items) xs)
@@ -79,11 +79,11 @@ module _ (h : ClauseHasher) (cs : Clauses) (s : IsStore h cs) (unique : IsUnique
       ids-same (x ∷ xs) = ap (λ ks. x.id ∷ ks) (ids-same xs)
 
   -- they lie in the buffer
-  all_within : (es : List (ℕ × SmallVec Clause)) → All (λ e. get nat_eq cs.buckets e.0 ≡ Some e.1) es → All (λ c. IsWithin c.lits cs.literal_buffer.items) (flat_map (λ b. b.items) (values_of es))
+  all_within : (xs : List (ℕ × SmallVec Clause)) → All (λ e. get nat_eq cs.buckets e.0 ≡ Some e.1) xs → All (λ c. IsWithin c.lits cs.literal_buffer.items) (flat_map (λ b. b.items) (values_of xs))
   all_within [] found = All-nil (λ (c : Clause). IsWithin c.lits cs.literal_buffer.items)
-  all_within (e ∷ es) found =
+  all_within (e ∷ xs) found =
       let P : Clause → Type 0 = λ c. IsWithin c.lits cs.literal_buffer.items in
-      All-append P e.1.items (flat_map (λ b. b.items) (values_of es)) (subst (λ o. All P (bucket_items o)) (found 0 e (omega arith)) (s.within e.0)) (all_within es (λ k d l. found (suc k) d (omega (arith, l))))
+      All-append P e.1.items (flat_map (λ b. b.items) (values_of xs)) (subst (λ o. All P (bucket_items o)) (found 0 e (omega arith)) (f.within e.0)) (all_within xs (λ k d l. found (suc k) d (omega (arith, l))))
 
   pub gathered_within : (all : List Clause) → IsPermutation (flat_map (λ b. b.items) (values cs.buckets)) all → All (λ c. IsWithin c.lits cs.literal_buffer.items) all
   gathered_within all p = All-permutation (λ (c : Clause). IsWithin c.lits cs.literal_buffer.items) (flat_map (λ b. b.items) (values cs.buckets)) all p (all_within cs.buckets.entries (found_all cs.literal_buffer.items cs.buckets unique))

@@ -1,4 +1,5 @@
 pub mod AddClauseLemmas
+pub mod AddedSoFar
 pub mod AnswerLemmas
 pub mod AssumeLemmas
 pub mod AtClauseLemmas
@@ -7,6 +8,7 @@ pub mod BufferLemmas
 pub mod CheckLemmas
 pub mod ColumnLemmas
 pub mod CountLemmas
+pub mod CountedSteps
 pub mod EditLemmas
 pub mod FailingLemmas
 pub mod FoundLemmas
@@ -19,6 +21,7 @@ pub mod LongLemmas
 pub mod NewLemmas
 pub mod OutcomeLemmas
 pub mod ProofRuns
+pub mod ReadSoFar
 pub mod ReadyLemmas
 pub mod RefusalLemmas
 pub mod SameListLemmas
@@ -26,7 +29,9 @@ pub mod StatusLemmas
 pub mod StepAnswers
 pub mod StoreLemmas
 pub mod TraceLemmas
+pub mod TraceStepLemmas
 pub mod TrailLemmas
+pub mod TrueUnitLemmas
 pub mod UnitsLemmas
 pub mod ViewLemmas
 pub mod VisitLemmas

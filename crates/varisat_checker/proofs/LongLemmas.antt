@@ -15,11 +15,11 @@ use Rattle.varisat_checker.specs.Buckets.{Buckets}
 use Rattle.varisat_checker.specs.Edits.{IsPushed}
 use Rattle.varisat_checker.specs.StateOf.{hash_of, state_of, stored_units}
 use Rattle.varisat_checker.specs.Found.{found_in}
-use Rattle.varisat_checker.specs.Store.{AnswersPush, AnswersStore, IsStore, IsStored, UnlessOutOfMemory, raised_as, store_counters}
+use Rattle.varisat_checker.specs.Store.{AnswersPush, AnswersStore, IsStore, Stores, UnlessOutOfMemory, raised_as, store_counters}
 use Rattle.varisat_checker.specs.View.{stored_list}
 use Rattle.varisat_checker.proofs.AnswerLemmas.{answers-ids, counters-accept, counters-count}
 use Rattle.varisat_checker.proofs.BucketLemmas.{count_limit-some}
-use Rattle.varisat_checker.proofs.EditLemmas.{is_store-pushed, stored_list-pushed}
+use Rattle.varisat_checker.proofs.EditLemmas.{files-pushed, is_store-pushed, stored_list-is}
 use Rattle.varisat_checker.proofs.FoundLemmas.{count_of-absent}
 
 -- what a look-up tells
@@ -40,7 +40,7 @@ long_is [] w = absurd (omega (arith, w))
 long_is (l ∷ []) w = absurd (omega (arith, w))
 long_is (l ∷ k ∷ ls) w = refl
 
-pub long-stands : (c : List ℕ) (r : Bool) (s : State) (id n : ℕ) → 1 < length c → Some (id, n) ≡ found_in c s.clauses → count_of r c s.clauses < count_limit → IsStored c r s (record s { clauses = map (raise r c) s.clauses }) id (raised_as r n)
+pub long-stands : (c : List ℕ) (r : Bool) (s : State) (id n : ℕ) → 1 < length c → Some (id, n) ≡ found_in c s.clauses → count_of r c s.clauses < count_limit → Stores c r s (record s { clauses = map (raise r c) s.clauses }) id (raised_as r n)
 long-stands [] r s id n w e few = absurd (omega (arith, w))
 long-stands (l ∷ []) r s id n w e few = absurd (omega (arith, w))
 long-stands (l ∷ k ∷ ls) r s id n w e few =
@@ -55,7 +55,7 @@ long-stands (l ∷ k ∷ ls) r s id n w e few =
       result_is = ap (λ (x : ℕ × ℕ). raised_as r x.1) p.1 ∙ sym (ap (λ b. cond b (raised_as r (count_of false c es)) New) p.0);
     }
 
-pub long-new : (c : List ℕ) (r : Bool) (s : State) → 1 < length c → is_stored c s.clauses ≡ false → s.next < id_limit → IsStored c r s (record s { clauses = s.clauses ++ new_stored r c s.next ∷ []; next = s.next + 1 }) s.next New
+pub long-new : (c : List ℕ) (r : Bool) (s : State) → 1 < length c → is_stored c s.clauses ≡ false → s.next < id_limit → Stores c r s (record s { clauses = s.clauses ++ new_stored r c s.next ∷ []; next = s.next + 1 }) s.next New
 long-new [] r s w new room = absurd (omega (arith, w))
 long-new (l ∷ []) r s w new room = absurd (omega (arith, w))
 long-new (l ∷ k ∷ ls) r s w new room =
@@ -97,14 +97,14 @@ module _ (h : ClauseHasher) (cs cs' : Clauses) (c : List ℕ) (r : Bool) (long :
       let before = state_of st h cs known in
       let es = stored_list cs ++ new_stored r c cs.next_clause_id ∷ [] in
       let after : State = record before { clauses = es; next = cs.next_clause_id + 1 } in
-      subst (λ t. IsStored c r before t p.0 p.1) (sym (state_of-pushed st h cs cs' known (hash_of h c) (new_stored r c cs.next_clause_id) es a.2 (stored_list-pushed h cs cs' s r c a.2)))
-      (subst (λ (x : ℕ × StoreClauseResult). IsStored c r before after x.0 x.1) (sym a.1) (long-new c r before long new a.0))
+      subst (λ t. Stores c r before t p.0 p.1) (sym (state_of-pushed st h cs cs' known (hash_of h c) (new_stored r c cs.next_clause_id) es a.2 (stored_list-is h cs' es (files-pushed h cs cs' (stored_list cs) r c s.filed a.2 new (long_is c long)))))
+      (subst (λ (x : ℕ × StoreClauseResult). Stores c r before after x.0 x.1) (sym a.1) (long-new c r before long new a.0))
   answers-pushed st known (Err OutOfMemory) a = tt
   answers-pushed st known (Err IdsExhausted) a = (answers-ids c r (state_of st h cs known) (long-other c (state_of st h cs known) long ∙ new) a.0, ap (λ x. state_of st h x known) a.1)
   answers-pushed st known (Err CountExhausted) a = absurd a
 
   pub is_store-answered : (res : Result (ℕ × StoreClauseResult) StoreFault) → AnswersPush res (hash_of h c) c r cs cs' → UnlessOutOfMemory res (IsStore h cs')
-  is_store-answered (Ok p) a = is_store-pushed h cs cs' s r c a.2 new (long_is c long)
+  is_store-answered (Ok p) a = is_store-pushed h cs cs' r c s a.2 new (long_is c long)
   is_store-answered (Err OutOfMemory) a = tt
   is_store-answered (Err IdsExhausted) a = subst (IsStore h) (sym a.1) s
   is_store-answered (Err CountExhausted) a = absurd a

@@ -106,10 +106,10 @@ run-goes {known} {now} {new} {s} {t} {format} {next} {step} u p good leads may h
     }
 
 -- counting a step changes no set
-fold-counted : (ts : List Step) (t u : State) → u ≡ count_step t → IsFold ts t → IsFold ts u
+pub fold-counted : (ts : List Step) (t u : State) → u ≡ count_step t → IsFold ts t → IsFold ts u
 fold-counted ts t u e h a = ap (λ (w : State). sat w a) e ∙ sat-count_step t a ∙ h a
 
-cover-counted : (ts : List Step) (t u : State) → u ≡ count_step t → IsCovered ts t → IsCovered ts u
+pub cover-counted : (ts : List Step) (t u : State) → u ≡ count_step t → IsCovered ts t → IsCovered ts u
 cover-counted ts t u e h = subst (λ (w : State). Covers (holds ts) w) (sym e) h
 
 module _ {known now : Known} {s t : State} {format : Format} (p : SoFarRun known now s t format) where

@@ -17,28 +17,32 @@ use Rattle.varisat_checker.specs.declared.clauses.units.UnitClause.{UnitClause}
 use Rattle.varisat_checker.specs.declared.hash.ClauseHasher.{ClauseHasher}
 use Rattle.varisat_checker.specs.Found.{found_in}
 use Rattle.varisat_checker.specs.StateOf.{hash_of, stored_unit, stored_units}
-use Rattle.varisat_checker.specs.Store.{IsStore, is_stored_unit}
+use Rattle.varisat_checker.specs.Store.{Files, IsStore, is_stored_unit}
 use Rattle.varisat_checker.specs.Units.{unit_at}
 use Rattle.varisat_checker.specs.View.{stored_at, stored_list}
 use Rattle.varisat_checker.proofs.AnswerLemmas.{is_stored-short}
 use Rattle.varisat_checker.proofs.BucketLemmas.{count_limit-some}
 use Rattle.varisat_checker.proofs.FoundLemmas.{count_of-absent}
 
-module _ (h : ClauseHasher) (cs : Clauses) (s : IsStore h cs) where
+module _ (h : ClauseHasher) (cs : Clauses) (es : List Stored) (f : Files h cs es) where
   -- a bucket answers for all
-  pub count_of-bucket : (r : Bool) (c : List ℕ) → count_of r c (stored_at cs (hash_of h c)) ≡ count_of r c (stored_list cs)
-  count_of-bucket r c = ap (count_of r c) (s.bucketed (hash_of h c)) ∙ (buckets_serve (hash_of h) (stored_list cs)).count r c
+  pub count_of-bucket : (r : Bool) (c : List ℕ) → count_of r c (stored_at cs (hash_of h c)) ≡ count_of r c es
+  count_of-bucket r c = ap (count_of r c) (f.bucketed (hash_of h c)) ∙ (buckets_serve (hash_of h) es).count r c
 
-  pub found_in-bucket : (c : List ℕ) → found_in c (stored_at cs (hash_of h c)) ≡ found_in c (stored_list cs)
+  pub found_in-bucket : (c : List ℕ) → found_in c (stored_at cs (hash_of h c)) ≡ found_in c es
   found_in-bucket c =
-      let serve = buckets_serve (hash_of h) (stored_list cs) in
-      ap (found_in c) (s.bucketed (hash_of h c))
-      ∙ ap (λ b. cond b (Some (id_among c (of_hash (hash_of h) (hash_of h c) (stored_list cs)), count_of false c (of_hash (hash_of h) (hash_of h c) (stored_list cs)))) None) (serve.look_up c)
-      ∙ ap (λ i. cond (is_stored c (stored_list cs)) (Some (i, count_of false c (of_hash (hash_of h) (hash_of h c) (stored_list cs)))) None) (serve.id c)
-      ∙ ap (λ n. cond (is_stored c (stored_list cs)) (Some (id_among c (stored_list cs), n)) None) (serve.count false c)
+      let serve = buckets_serve (hash_of h) es in
+      ap (found_in c) (f.bucketed (hash_of h c))
+      ∙ ap (λ b. cond b (Some (id_among c (of_hash (hash_of h) (hash_of h c) es), count_of false c (of_hash (hash_of h) (hash_of h c) es))) None) (serve.look_up c)
+      ∙ ap (λ i. cond (is_stored c es) (Some (i, count_of false c (of_hash (hash_of h) (hash_of h c) es))) None) (serve.id c)
+      ∙ ap (λ n. cond (is_stored c es) (Some (id_among c es, n)) None) (serve.count false c)
 
   pub are_apart-bucket : (k : ℕ) → are_apart (stored_at cs k) ≡ true
-  are_apart-bucket k = ap are_apart (s.bucketed k) ∙ apart_filter (λ e. eqb (hash_of h e.lits) k) (stored_list cs) s.apart
+  are_apart-bucket k = ap are_apart (f.bucketed k) ∙ apart_filter (λ e. eqb (hash_of h e.lits) k) es f.apart
+
+  -- no copy of a short clause is counted
+  pub few-short : (r : Bool) (c : List ℕ) → is_short c ≡ true → count_of r c es < count_limit
+  few-short r c short = subst (λ n. n < count_limit) (sym (count_of-absent c r es (is_stored-short c es short f.whole))) count_limit-some
 
 ids_rise-more : (a n m : ℕ) (es : List Stored) → n ≤ m → ids_rise a es n ≡ true → ids_rise a es m ≡ true
 ids_rise-more a n m [] le h = grind (arith, le, h)
@@ -47,14 +51,16 @@ ids_rise-more a n m (e ∷ es) le h = let k = and_parts (leb a e.id) (ids_rise (
 -- other units and a later id
 pub is_store-units : (h : ClauseHasher) (cs : Clauses) (us : List (Option UnitClause)) (conflict : Option (ℕ × ℕ)) (n : ℕ) → cs.next_clause_id ≤ n → list_all is_stored_unit us ≡ true → IsStore h cs → IsStore h (record cs { unit_clauses = us; unit_conflict = conflict; next_clause_id = n })
 is_store-units h cs us conflict n le units s = record {
-  some_bits = s.some_bits;
-  bits = s.bits;
-  within = s.within;
-  bucketed = s.bucketed;
-  rise = ids_rise-more 0 cs.next_clause_id n (stored_list cs) le s.rise;
-  apart = s.apart;
-  none_short = s.none_short;
-  used = s.used;
+  filed = let f = s.filed in record {
+    some_bits = f.some_bits;
+    bits = f.bits;
+    within = f.within;
+    bucketed = f.bucketed;
+    rise = ids_rise-more 0 cs.next_clause_id n (stored_list cs) le f.rise;
+    apart = f.apart;
+    whole = f.whole;
+    used = f.used;
+  };
   garbage = s.garbage;
   units = units;
 }
@@ -64,10 +70,6 @@ pub list_all-set : {X : Type 0} (p : X → Bool) (xs : List X) (i : ℕ) (y : X)
 list_all-set p [] i y h k = k
 list_all-set p (x ∷ xs) zero y h k = and_from _ _ h (and_parts (p x) (list_all p xs) k).1
 list_all-set p (x ∷ xs) (suc i) y h k = let q = and_parts (p x) (list_all p xs) k in and_from _ _ q.0 (list_all-set p xs i y h q.1)
-
--- no copy of a short clause is counted
-pub few-short : (h : ClauseHasher) (cs : Clauses) → IsStore h cs → (r : Bool) (c : List ℕ) → is_short c ≡ true → count_of r c (stored_list cs) < count_limit
-few-short h cs s r c short = subst (λ n. n < count_limit) (sym (count_of-absent c r (stored_list cs) (is_stored-short c (stored_list cs) short s.none_short))) count_limit-some
 
 -- the unit of a variable
 pub unit_of-stored_units : (us : List (Option UnitClause)) (v : ℕ) → unit_of (stored_units us) v ≡ option_map stored_unit (unit_at us v)

@@ -5,7 +5,7 @@ use Rattle.std.proofs.lemmas.List.{set-get_or}
 use Rattle.std.proofs.lemmas.List.Elements.{All-push}
 use Rattle.checker_rules.specs.Clauses.{var_of}
 use Rattle.varisat_checker.specs.declared.clauses.units.UnitClause.{UnitClause}
-use Rattle.varisat_checker.specs.Trail.{IsTrailFor, undone}
+use Rattle.varisat_checker.specs.Trail.{IsTrailFor, IsUndoable, undone}
 use Rattle.varisat_checker.specs.Units.{unit_at}
 
 -- the newest value is put back first
@@ -22,10 +22,17 @@ pub trail-rest : (us : List (Option UnitClause)) (ts rest : List (ℕ × Option 
 trail-rest us ts rest t i u e known k d h = grind (arith, common_steps, known k d)
 
 -- a value is overwritten and kept
-pub undone-overwritten : (us : List (Option UnitClause)) (ts more : List (ℕ × Option UnitClause)) (m i : ℕ) (old new : Option UnitClause) → i ≡ var_of m → old ≡ unit_at us i → more ≡ ts ++ (m, old) ∷ [] → undone (set us i new) more ≡ undone us ts
-undone-overwritten us ts more m i old new at is e =
-    ap (undone (set us i new)) e ∙ undone-push (set us i new) ts (m, old)
-    ∙ ap (λ (vs : List (Option UnitClause)). undone vs ts) (ap (λ (k : ℕ). set (set us i new) k old) (sym at) ∙ set-set us i new old ∙ ap (set us i) is ∙ set-get_or us i None)
+pub is_undoable-overwritten : (us vs : List (Option UnitClause)) (ts now : List (ℕ × Option UnitClause)) (m i : ℕ) (old new : Option UnitClause) → i ≡ var_of m → old ≡ unit_at us i → now ≡ ts ++ (m, old) ∷ [] → vs ≡ set us i new → var_of m < length us → IsTrailFor us ts → IsUndoable us ts vs now
+is_undoable-overwritten us vs ts now m i old new at is e written less known = rw (written, e) (record {
+  known = length-set us i new;
+  undone = undone-push (set us i new) ts (m, old)
+    ∙ ap (λ (ws : List (Option UnitClause)). undone ws ts) (ap (λ (k : ℕ). set (set us i new) k old) (sym at) ∙ set-set us i new old ∙ ap (set us i) is ∙ set-get_or us i None);
+  trail = rw length-set (All-push (λ t. var_of t.0 < length us) ts (m, old) known less);
+})
 
-pub trail-overwritten : (us : List (Option UnitClause)) (ts more : List (ℕ × Option UnitClause)) (t : ℕ × Option UnitClause) (i : ℕ) (new : Option UnitClause) → more ≡ ts ++ t ∷ [] → var_of t.0 < length us → IsTrailFor us ts → IsTrailFor (set us i new) more
-trail-overwritten us ts more t i new e h known = rw (e, length-set) (All-push (λ t. var_of t.0 < length us) ts t known h)
+-- nothing is overwritten
+pub is_undoable_from_same : (us : List (Option UnitClause)) (ts : List (ℕ × Option UnitClause)) → IsTrailFor us ts → IsUndoable us ts us ts
+is_undoable_from_same us ts h = record { known = refl; undone = refl; trail = h }
+
+pub is_undoable_then : (us vs ws : List (Option UnitClause)) (ts now last : List (ℕ × Option UnitClause)) → IsUndoable us ts vs now → IsUndoable vs now ws last → IsUndoable us ts ws last
+is_undoable_then us vs ws ts now last h k = record { known = k.known ∙ h.known; undone = k.undone ∙ h.undone; trail = k.trail }

@@ -44,6 +44,7 @@ walk-unit s c m h = rw (h.none_true, h.one_free) refl
 -- the literal that alone is free
 pub record IsFree (s : ℕ → Bool) (c : List ℕ) (m : ℕ) : Type 0 where
   pub member : has m c ≡ true
+  pub not_true : s m ≡ false
   pub not_false : s (negate m) ≡ false
 
 pub is_free : (s : ℕ → Bool) (c : List ℕ) (m : ℕ) → IsUnit s c m → IsFree s c m
@@ -51,14 +52,16 @@ is_free s c m h =
     let p = and_parts (has m c) _ (unit_here s c m h.none_true h.one_free) in
     let q = and_parts (list_all _ c) (not (s m) && not (s (negate m))) p.1 in
     let r = and_parts (not (s m)) (not (s (negate m))) q.1 in
-    record { member = p.0; not_false = not-true (s (negate m)) r.1 }
+    record { member = p.0; not_true = not-true (s m) r.0; not_false = not-true (s (negate m)) r.1 }
+
+pub unit-known : (us : List (Option UnitClause)) (c : List ℕ) (m n : ℕ) → var_bound c ≤ n → statuses.Unit m ≡ status_of (true_lits us) c → var_of m < n
+unit-known us c m n known status = known-has c m n known (is_free (true_lits us) c m (is_unit (true_lits us) c m (sym status))).member
 
 -- the literal that alone is free is made true
-pub unit-step : (us vs : List (Option UnitClause)) (c : List ℕ) (m : ℕ) (u : UnitClause) → AreKnown us c → statuses.Unit m ≡ status_of (true_lits us) c → u.value ≡ not (is_negative m) → vs ≡ set us (var_of m) (Some u) → walk (true_lits us) (c ∷ []) ≡ Some (true_lits vs)
-unit-step us vs c m u known status v e =
-    let unit = is_unit (true_lits us) c m (sym status) in
-    let free = is_free (true_lits us) c m unit in
-    walk-unit (true_lits us) c m unit ∙ ap (λ s. Some s) (sym (ap true_lits e ∙ true_lits-set us m u (known-has c m (length us) known free.member) v free.not_false))
+pub unit-added : (us vs ws : List (Option UnitClause)) (c : List ℕ) (m : ℕ) (u : UnitClause) → var_bound c ≤ length vs → statuses.Unit m ≡ status_of (true_lits us) c → true_lits vs ≡ true_lits us → u.value ≡ not (is_negative m) → ws ≡ set vs (var_of m) (Some u) → true_lits ws ≡ add_lit m (true_lits us)
+unit-added us vs ws c m u known status same v e =
+    let free = is_free (true_lits us) c m (is_unit (true_lits us) c m (sym status)) in
+    ap true_lits e ∙ true_lits-set vs m u (unit-known us c m (length vs) known status) v (ap (λ s. s (negate m)) same ∙ free.not_false) ∙ ap (add_lit m) same
 
-pub unit-known : (us : List (Option UnitClause)) (c : List ℕ) (m : ℕ) → AreKnown us c → statuses.Unit m ≡ status_of (true_lits us) c → var_of m < length us
-unit-known us c m known status = known-has c m (length us) known (is_free (true_lits us) c m (is_unit (true_lits us) c m (sym status))).member
+pub unit-step : (us ws : List (Option UnitClause)) (c : List ℕ) (m : ℕ) → statuses.Unit m ≡ status_of (true_lits us) c → true_lits ws ≡ add_lit m (true_lits us) → walk (true_lits us) (c ∷ []) ≡ Some (true_lits ws)
+unit-step us ws c m status e = walk-unit (true_lits us) c m (is_unit (true_lits us) c m (sym status)) ∙ ap (λ s. Some s) (sym e)

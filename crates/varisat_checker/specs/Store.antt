@@ -1,12 +1,13 @@
 -- What the stored clauses keep between calls, and what storing a clause answers.
 use Rattle.std.specs.Prelude.{◌≡◌, ◌<◌, ◌≤◌, ℕ, ◌+◌, ◌*◌, ◌&&◌, Bool, true, false, cond, not, eqb, length, Option, Some, None, Result, Ok, Err, List}
-use Rattle.std.specs.List.{list_all, list_any}
+use Rattle.std.specs.List.{list_all}
+use Rattle.checker_rules.specs.Buckets.{of_hash}
 use Rattle.checker_rules.specs.Clauses.{is_negative}
 use Rattle.checker_rules.specs.DeleteClause.{is_short}
 use Rattle.checker_rules.specs.LiveLiterals.{live_literals}
 use Rattle.checker_rules.specs.Outcome.{Outcome, accept, count_exhausted, ids_exhausted, refuse}
-use Rattle.checker_rules.specs.State.{State}
-use Rattle.checker_rules.specs.Store.{count_of, counters, id_limit, id_of, new_stored, stands, store}
+use Rattle.checker_rules.specs.State.{State, Stored}
+use Rattle.checker_rules.specs.Store.{count_of, counters, id_limit, id_of, is_gone, new_stored, stands, store}
 use Rattle.checker_rules.specs.WellFormed.{are_apart, ids_rise}
 use Rattle.varisat_checker.specs.declared.clauses.Clauses.{Clauses}
 use Rattle.varisat_checker.specs.declared.clauses.StoreClauseResult.{StoreClauseResult}
@@ -19,8 +20,8 @@ use Rattle.varisat_checker.specs.declared.clauses.units.UnitId.TheVariants.{Glob
 use Rattle.varisat_checker.specs.declared.hash.ClauseHasher.{ClauseHasher}
 use Rattle.varisat_checker.specs.Buckets.{AreWithin}
 use Rattle.varisat_checker.specs.Edits.{IsPushed}
-use Rattle.varisat_checker.specs.StateOf.{IsBucketed}
-use Rattle.varisat_checker.specs.View.{stored_list}
+use Rattle.varisat_checker.specs.StateOf.{hash_of}
+use Rattle.varisat_checker.specs.View.{stored_at, stored_list}
 
 -- a value that comes from a stored unit
 abbrev pub is_global : UnitId → Bool
@@ -33,17 +34,24 @@ abbrev pub is_stored_unit : Option UnitClause → Bool
 is_stored_unit None = true
 is_stored_unit (Some u) = is_global u.id
 
--- the stored clauses, each of two or more literals, are apart, by rising ids, in the buckets of their hashes;
--- the buffer holds their literals and the garbage, which is at most half of it; all values are those of stored units
-pub record IsStore (h : ClauseHasher) (cs : Clauses) : Type 0 where
+-- a clause of two or more literals, with a copy
+abbrev pub is_whole : Stored → Bool
+is_whole e = not (is_short e.lits) && not (is_gone e)
+
+-- the buckets hold these clauses by their hashes: whole ones, apart, by rising ids; the buffer holds their literals and the garbage
+pub record Files (h : ClauseHasher) (cs : Clauses) (es : List Stored) : Type 0 where
   pub some_bits : 0 < h.hash_bits
   pub bits : h.hash_bits ≤ 64
   pub within : AreWithin cs.literal_buffer.items cs.buckets
-  pub bucketed : IsBucketed h cs
-  pub rise : ids_rise 0 (stored_list cs) cs.next_clause_id ≡ true
-  pub apart : are_apart (stored_list cs) ≡ true
-  pub none_short : list_any (λ e. is_short e.lits) (stored_list cs) ≡ false
-  pub used : length cs.literal_buffer.items ≡ live_literals (stored_list cs) + cs.garbage_size
+  pub bucketed : (k : ℕ) → stored_at cs k ≡ of_hash (hash_of h) k es
+  pub rise : ids_rise 0 es cs.next_clause_id ≡ true
+  pub apart : are_apart es ≡ true
+  pub whole : list_all is_whole es ≡ true
+  pub used : length cs.literal_buffer.items ≡ live_literals es + cs.garbage_size
+
+-- what is kept between calls: the stored clauses are filed, at most half of the buffer is garbage, and all values are those of stored units
+pub record IsStore (h : ClauseHasher) (cs : Clauses) : Type 0 where
+  pub filed : Files h cs (stored_list cs)
   pub garbage : 2 * cs.garbage_size ≤ length cs.literal_buffer.items
   pub units : list_all is_stored_unit cs.unit_clauses ≡ true
 
@@ -71,7 +79,7 @@ abbrev pub store_counters : List ℕ → Bool → State → Outcome
 store_counters c redundant s = counters redundant c (not (stands c s)) s accept
 
 -- the clause is stored, which leads from s to t, with the answers
-pub record IsStored (c : List ℕ) (redundant : Bool) (s t : State) (id : ℕ) (result : StoreClauseResult) : Type 0 where
+pub record Stores (c : List ℕ) (redundant : Bool) (s t : State) (id : ℕ) (result : StoreClauseResult) : Type 0 where
   pub room : store_counters c redundant s ≡ accept s
   pub after : t ≡ store c redundant s
   pub id_is : id ≡ id_of c s
@@ -79,7 +87,7 @@ pub record IsStored (c : List ℕ) (redundant : Bool) (s t : State) (id : ℕ) (
 
 -- what an attempt to store the clause answers; nothing is said where memory was refused
 abbrev pub AnswersStore : Result (ℕ × StoreClauseResult) StoreFault → List ℕ → Bool → State → State → Type 0
-AnswersStore (Ok p) c redundant s t = IsStored c redundant s t p.0 p.1
+AnswersStore (Ok p) c redundant s t = Stores c redundant s t p.0 p.1
 AnswersStore (Err OutOfMemory) c redundant s t = Unit {0}
 AnswersStore (Err IdsExhausted) c redundant s t = (store_counters c redundant s ≡ refuse ids_exhausted s) × (t ≡ s)
 AnswersStore (Err CountExhausted) c redundant s t = (store_counters c redundant s ≡ refuse count_exhausted s) × (t ≡ s)

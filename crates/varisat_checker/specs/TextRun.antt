@@ -14,7 +14,7 @@ use Rattle.checker_parts.specs.declared.error.DimacsError.TheVariants.{Read, Mal
 
 -- what a text of these bytes holds, where they are known
 abbrev pub outcome_of : Option (List ℕ) → Option dimacs.Outcome
-outcome_of known = option_map (dimacs.outcome_at dimacs.start) known
+outcome_of known = option_map dimacs.outcome_of known
 
 -- all the clauses of the text, those before its fault, or those before a failed read, want of memory or a refused clause, and it
 abbrev pub EndsText : {A : Type 0} → Option dimacs.Outcome → List (List ℕ) → Result A DimacsError → Type 0

@@ -1,5 +1,5 @@
 -- What a traced check lists.
-use Rattle.std.specs.Prelude.{◌≡◌, ℕ, Bool, true, false, cond, ◌&&◌, List, [], ◌∷◌, ◌++◌, map, Option, None, Some, All}
+use Rattle.std.specs.Prelude.{◌≡◌, ℕ, Bool, true, cond, ◌&&◌, List, [], ◌∷◌, ◌++◌, map, Option, None, Some, All, is_some}
 use Rattle.std.specs.Option.{option_map}
 use Rattle.checker_rules.specs.Clauses.{var_of}
 use Rattle.checker_rules.specs.Emits.{first_true}
@@ -8,41 +8,30 @@ use Rattle.checker_rules.specs.State.{Stored, StoredUnit, some_true_unit, start_
 use Rattle.checker_rules.specs.Store.{unit_id}
 use Rattle.checker_rules.specs.Traced.{ids_of}
 use Rattle.varisat_checker.specs.declared.clauses.units.UnitClause.{UnitClause}
-use Rattle.varisat_checker.specs.declared.clauses.units.UnitId.{UnitId}
-use Rattle.varisat_checker.specs.declared.clauses.units.UnitId.TheVariants.{Global, TracePos, InClause}
+use Rattle.varisat_checker.specs.declared.rup.Answer.{Answer}
+use Rattle.varisat_checker.specs.declared.rup.Answer.TheVariants.{Passed, NoClauseForHash, Failed}
 use Rattle.varisat_checker.specs.Buckets.{Buckets}
 use Rattle.varisat_checker.specs.Rup.{true_lits}
 use Rattle.varisat_checker.specs.StateOf.{stored_units}
-use Rattle.varisat_checker.specs.Units.{unit_at}
+use Rattle.varisat_checker.specs.Units.{number_of, stored_id, unit_at}
 use Rattle.varisat_checker.specs.View.{stored_in}
-
--- whether the id is a stored unit's
-abbrev pub is_global : UnitId → Bool
-is_global (Global n) = true
-is_global (TracePos n) = false
-is_global InClause = false
 
 -- a variable that has no value, or that of a stored unit
 abbrev pub IsAtRest : Option UnitClause → Type 0
 IsAtRest None = Unit {0}
-IsAtRest (Some u) = is_global u.id ≡ true
+IsAtRest (Some u) = is_some (number_of u.id) ≡ true
 
 -- every value is a stored unit's
 abbrev pub AreStored : List (Option UnitClause) → Type 0
 AreStored us = All IsAtRest us
 
--- whether there is a value, and a stored unit's
-abbrev pub has_stored : Option UnitClause → Bool
-has_stored None = false
-has_stored (Some u) = is_global u.id
-
 -- the literals that stored units make true
 abbrev pub unlisted_lits : List (Option UnitClause) → ℕ → Bool
-unlisted_lits us m = has_stored (unit_at us (var_of m)) && true_lits us m
+unlisted_lits us m = is_some (stored_id (unit_at us (var_of m))) && true_lits us m
 
 -- no stored unit's value is new
 abbrev pub KeepsStored : List (Option UnitClause) → List (Option UnitClause) → Type 0
-KeepsStored us vs = (v : ℕ) → has_stored (unit_at vs v) ≡ true → unit_at us v ≡ unit_at vs v
+KeepsStored us vs = (v : ℕ) → is_some (stored_id (unit_at vs v)) ≡ true → unit_at us v ≡ unit_at vs v
 
 -- the ids of what is listed
 abbrev pub item_ids : List Item → List ℕ
@@ -69,6 +58,20 @@ abbrev pub named_clauses : List ℕ → Buckets → List ℕ → List Stored
 named_clauses buffer m [] = []
 named_clauses buffer m (h ∷ hs) = stored_in buffer m h ++ named_clauses buffer m hs
 
--- the trace of a check over these clauses
+-- the id of the unit that makes the first true literal true
+abbrev pub true_unit_id : List (Option StoredUnit) → List ℕ → Option ℕ
+true_unit_id us c = cond (some_true_unit us c) (Some (unit_id (unit_of us (var_of (first_true us c))))) None
+
+-- the trace of the walk over these clauses with the negated clause
+abbrev pub open_trace : List (Option StoredUnit) → List ℕ → List Stored → Option (List Item)
+open_trace us c es = trace us (start_set us c) (unlisted_at us c) es
+
+-- the ids that a passed check lists
 abbrev pub clause_trace : List (Option StoredUnit) → List ℕ → List Stored → List ℕ
-clause_trace us c es = cond (some_true_unit us c) (unit_id (unit_of us (var_of (first_true us c))) ∷ []) (ids_of (trace us (start_set us c) (unlisted_at us c) es))
+clause_trace us c es = cond (some_true_unit us c) (unit_id (unit_of us (var_of (first_true us c))) ∷ []) (ids_of (open_trace us c es))
+
+-- the ids that stand after a check: those of its trace where it was traced and passed
+abbrev pub trace_ids_after : Bool → Answer → List ℕ → List ℕ → List ℕ
+trace_ids_after traced Passed ids old = cond traced ids old
+trace_ids_after traced NoClauseForHash ids old = old
+trace_ids_after traced Failed ids old = old

@@ -45,6 +45,17 @@ pub record AreEven (vs : List Value) (ss : List Source) (ns : List ℕ) : Type 0
 abbrev pub unit_at : List (Option UnitClause) → ℕ → Option UnitClause
 unit_at us k = slice_index_or us k None
 
+-- the id of a stored unit
+abbrev pub number_of : UnitId → Option ℕ
+number_of (Global n) = Some n
+number_of (TracePos n) = None
+number_of InClause = None
+
+-- the id of the stored unit that gives the value
+abbrev pub stored_id : Option UnitClause → Option ℕ
+stored_id None = None
+stored_id (Some u) = number_of u.id
+
 -- the value of a literal, where its variable has this one
 abbrev pub value_by : Option UnitClause → ℕ → Option Bool
 value_by None m = None

@@ -102,9 +102,12 @@ impl<P: ProofProcessor, T: ProofTranscriptProcessor> CheckerOf<P, T> {
         let mut clause = Vec::new(self.alloc);
         'clauses: loop {
             match reader.next_clause(&mut clause) {
-                Ok(true) => self.add_clause(&clause).map_err(DimacsError::Checker)?,
+                Ok(true) => {}
                 Ok(false) => break,
                 Err(fault) => return Err(self.text_fault(fault)),
+            }
+            if let Err(fault) = self.add_clause(&clause) {
+                return Err(DimacsError::Checker(fault));
             }
         }
         info!(rt; "Parsed formula with {} variables and {} clauses", reader.var_count(), reader.clause_count());

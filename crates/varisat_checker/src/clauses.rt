@@ -1,5 +1,5 @@
 //! The stored clauses and units.
-ghost use Rattle.std.specs.Prelude.{◌≡◌, ◌+◌, ◌<◌, OnSome, IfNone};
+ghost use Rattle.std.specs.Prelude.{◌≡◌, ◌+◌, ◌<◌, ◌≤◌, [], None, OnSome, IfNone};
 ghost use Rattle.std.specs.Option.{SomeIff};
 ghost use Rattle.checker_rules.specs.Store.{id_limit};
 
@@ -7,6 +7,8 @@ pub mod buckets;
 pub mod lits;
 pub mod rebuild;
 pub mod store;
+#[cfg(test)]
+mod tests;
 pub mod units;
 
 use crate::clauses::buckets::Buckets;
@@ -60,7 +62,9 @@ pub struct Clauses {
 }
 
 impl Clauses {
+    ghost use Rattle.varisat_checker.specs.declared.hash.ClauseHasher.{ClauseHasher};
     ghost use Rattle.varisat_checker.specs.NewParts.{IsEmptyStore};
+    ghost use Rattle.varisat_checker.specs.Store.{IsStore};
 
     /// Nothing is stored.
     pub fn new(alloc: Global) -> Clauses
@@ -82,6 +86,7 @@ impl Clauses {
         ensures id { SomeIff result (self.old.next_clause_id < id_limit) self.old.next_clause_id }
         ensures taken { OnSome result (self.new ≡ record self.old { next_clause_id = self.old.next_clause_id + 1 }) }
         ensures unchanged { IfNone result (self.new ≡ self.old) }
+        ensures store { (h : ClauseHasher) → IsStore h self.old → IsStore h self.new }
     {
         let id = self.next_clause_id;
         self.next_clause_id = id.checked_add(1)?;

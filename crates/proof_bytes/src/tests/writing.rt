@@ -1,9 +1,10 @@
 //! Steps of each kind and numbers of each length, written and read.
 use super::{Cuts, read_all};
+use crate::fault::WriteFault;
 use crate::reader::StepReader;
 use crate::step::{DeleteClauseProof, ProofStep};
-use crate::writer::write_step;
-use sat_formula::Var;
+use crate::writer::{ProofWriter, write_step};
+use sat_formula::{Lit, Var};
 use std::test::Fail;
 
 #[test]
@@ -186,5 +187,57 @@ fn each_kind(rt: HostRuntime) -> Result<(), Fail> {
         assert_eq!(rt; all.written.as_slice(), KINDS.as_slice());
         assert_eq!(rt; all.count, 18);
     }
+    Ok(())
+}
+
+#[test]
+fn writer_of_version_2(rt: HostRuntime) -> Result<(), Fail> {
+    let mut writer = ProofWriter::new();
+    let mut out: Vec<u8> = Vec::new(rt.alloc());
+    let width = ProofStep::ChangeHashBits { bits: 9 };
+    assert!(rt; writer.write(&mut out, &width).is_ok());
+    assert_eq!(rt; out.as_slice(), b"\x00\x02\x09\x09".as_slice());
+    let too_wide = ProofStep::AtClause {
+        redundant: false,
+        clause: &[],
+        propagation_hashes: &[512],
+    };
+    let refused = writer.write(&mut out, &too_wide);
+    assert!(rt; matches!(refused, Err(WriteFault::HashTooWide)));
+    assert_eq!(rt; out.len(), 4);
+    let widest = ProofStep::AtClause {
+        redundant: false,
+        clause: &[],
+        propagation_hashes: &[511],
+    };
+    assert!(rt; writer.write(&mut out, &widest).is_ok());
+    assert_eq!(rt; &out[4..], b"\x06\x00\x00\x01\xFF\x01".as_slice());
+    Ok(())
+}
+
+// Hashes of 8 bytes and of 1, and a width that is none, in each step that has hashes.
+#[test]
+fn texts_of_a_writer(rt: HostRuntime) -> Result<(), Fail> {
+    let lit = Lit::from_code(2).expect(&rt, "a literal");
+    let mut writer = ProofWriter::new();
+    let mut out: Vec<u8> = Vec::new(rt.alloc());
+    let units = [(lit, 0xC4AF_7593_0295_082A)];
+    let named = ProofStep::UnitClauses { units: &units };
+    assert!(rt; writer.write(&mut out, &named).is_ok());
+    let no_width = ProofStep::ChangeHashBits { bits: 65 };
+    assert!(rt; writer.write(&mut out, &no_width).is_ok());
+    let width = ProofStep::ChangeHashBits { bits: 1 };
+    assert!(rt; writer.write(&mut out, &width).is_ok());
+    let core = ProofStep::FailedAssumptions {
+        failed_core: &[lit],
+        propagation_hashes: &[1, 0],
+    };
+    assert!(rt; writer.write(&mut out, &core).is_ok());
+    assert!(rt; writer.write(&mut out, &ProofStep::End).is_ok());
+    let text =
+        b"\x00\x02\x08\x01\x02\x2A\x08\x95\x02\x93\x75\xAF\xC4\x09\x41\x09\x01\x0C\x01\x02\x02\x01\x00\x0D";
+    assert_eq!(rt; out.as_slice(), text.as_slice());
+    let all = read_all(rt.alloc(), out.as_slice())?;
+    assert_eq!(rt; all.count, 5);
     Ok(())
 }

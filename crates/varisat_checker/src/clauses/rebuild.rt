@@ -1,10 +1,11 @@
 //! The buckets of all clauses, built anew.
-ghost use Rattle.std.specs.Prelude.{◌≡◌, ◌<◌, ◌≤◌, ℕ, All, IfOk, OnOk, map};
+ghost use Rattle.std.specs.Prelude.{◌≡◌, ◌<◌, ◌≤◌, ℕ, All, List, IfOk, OnOk, map};
 ghost use Rattle.checker_rules.specs.Buckets.{of_hash};
+ghost use Rattle.checker_rules.specs.State.{Stored};
 ghost use Rattle.varisat_checker.specs.Buckets.{AreWithin};
 ghost use Rattle.varisat_checker.specs.Lits.{IsWithin};
 ghost use Rattle.varisat_checker.specs.StateOf.{hash_of};
-ghost use Rattle.varisat_checker.specs.Store.{IsStore};
+ghost use Rattle.varisat_checker.specs.Store.{Files};
 ghost use Rattle.varisat_checker.specs.View.{stored_in, stored_list, stored_of};
 
 use crate::clauses::buckets::{Buckets, push_clause};
@@ -16,8 +17,8 @@ use std::collections::HashMap;
 
 /// All clauses of two or more literals, by rising ids.
 pub fn gather(alloc: Global, clauses: &Clauses) -> Result<Vec<Clause>, AllocError>
-    ensures within { (h : ClauseHasher) → IsStore h clauses.now → IfOk result (λ all. All (λ c. IsWithin c.lits clauses.now.literal_buffer.items) all.items) }
-    ensures list { (h : ClauseHasher) → IsStore h clauses.now → IfOk result (λ all. map (stored_of clauses.now.literal_buffer.items) all.items ≡ stored_list clauses.now) }
+    ensures within { (h : ClauseHasher) (es : List Stored) → Files h clauses.now es → IfOk result (λ all. All (λ c. IsWithin c.lits clauses.now.literal_buffer.items) all.items) }
+    ensures list { (h : ClauseHasher) (es : List Stored) → Files h clauses.now es → IfOk result (λ all. map (stored_of clauses.now.literal_buffer.items) all.items ≡ es) }
 {
     let mut all = Vec::new(alloc);
     for bucket in clauses.buckets.values() {
@@ -56,8 +57,8 @@ pub fn rebuild_buckets(
 ) -> Result<(), AllocError>
     requires some_bits { 0 < hasher.now.hash_bits }
     requires bits { hasher.now.hash_bits ≤ 64 }
-    requires store { (h : ClauseHasher) × IsStore h clauses.old }
-    ensures store { OnOk result (IsStore hasher.now clauses.new) }
+    requires filed { (h : ClauseHasher) × Files h clauses.old (stored_list clauses.old) }
+    ensures filed { OnOk result (Files hasher.now clauses.new (stored_list clauses.new)) }
     ensures list { OnOk result (stored_list clauses.new ≡ stored_list clauses.old) }
     ensures others { OnOk result (clauses.new ≡ record clauses.old { buckets = clauses.new.buckets }) }
 {

@@ -1,6 +1,7 @@
 //! The value of each known variable, where it has one.
 ghost use Rattle.std.specs.Prelude.{◌≡◌, ◌-◌, ◌<◌, ◌++◌, ◌∷◌, [], length, replicate, None, OnOk, OnErr, slice_set};
 ghost use Rattle.std.specs.Option.{option_map};
+ghost use Rattle.varisat_checker.specs.Units as spec;
 ghost use Rattle.varisat_checker.specs.Units.{unit_at};
 
 use std::alloc::{AllocError, Global};
@@ -33,8 +34,6 @@ enum Value {
 }
 
 impl Value {
-    ghost use Rattle.varisat_checker.specs.Units as spec;
-
     fn of(value: bool) -> Value
         ensures { spec.known result ≡ Some value }
     {
@@ -144,6 +143,16 @@ impl Units {
         let value = self.value(index)?;
         let id = self.sources[index].id(self.numbers[index]);
         Some(UnitClause { id, value })
+    }
+
+    /// The id of the stored unit that gives the variable of this index its value.
+    pub fn stored_id(&self, index: usize) -> Option<u64>
+        ensures { result ≡ spec.stored_id (unit_at self.now index) }
+    {
+        match self.get(index)?.id {
+            UnitId::Global(id) => Some(id),
+            _ => None,
+        }
     }
 
     #[inline]

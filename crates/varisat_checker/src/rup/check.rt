@@ -51,6 +51,7 @@ pub fn check_clause_with_hashes(
         clauses.literal_buffer.as_slice(),
         lits,
         hashes,
+        false,
     ) else {
         return Err(CheckerError::OutOfMemory);
     };

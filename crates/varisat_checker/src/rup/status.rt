@@ -1,7 +1,9 @@
 //! What the values of its literals make of a clause.
 ghost use Rattle.std.specs.Prelude.{◌≡◌};
-ghost use Rattle.std.specs.List.{list_any};
 ghost use Rattle.varisat_checker.specs.Rup.{status_of, true_lits};
+ghost use Rattle.varisat_checker.specs.StateOf.{stored_units};
+ghost use Rattle.varisat_checker.specs.Trace as traces;
+ghost use Rattle.varisat_checker.specs.Trace.{AreStored};
 ghost use Rattle.varisat_checker.specs.Units as spec;
 
 use crate::clauses::units::Units;
@@ -30,15 +32,23 @@ pub fn lit_value(units: &Units, lit: Lit) -> Option<bool>
 }
 
 /// Whether a literal is true.
-pub fn has_true_lit(units: &Units, lits: &[Lit]) -> bool
-    ensures { result ≡ list_any (true_lits units.now) lits.now }
+fn is_true(units: &Units, lit: Lit) -> bool
+    ensures { result ≡ true_lits units.now lit }
+{
+    matches!(lit_value(units, lit), Some(true))
+}
+
+/// The id of the stored unit that makes the first true literal true.
+pub fn true_unit_id(units: &Units, lits: &[Lit]) -> Option<u64>
+    requires { AreStored units.now }
+    ensures { result ≡ traces.true_unit_id (stored_units units.now) lits.now }
 {
     for lit in lits {
-        if let Some(true) = lit_value(units, *lit) {
-            return true;
+        if is_true(units, *lit) {
+            return units.stored_id(lit.index());
         }
     }
-    false
+    None
 }
 
 /// Looks at each literal once, and no further than a true or a second free one.

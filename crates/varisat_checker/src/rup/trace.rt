@@ -3,10 +3,12 @@ ghost use Rattle.std.specs.Prelude.{◌≡◌, ◌<◌, ◌∷◌, ℕ, List, So
 ghost use Rattle.checker_rules.specs.Clauses.{var_of};
 ghost use Rattle.varisat_checker.specs.Rup.{true_lits};
 ghost use Rattle.varisat_checker.specs.Trace.{KeepsStored, looked, unlisted_lits};
-ghost use Rattle.varisat_checker.specs.Trail.{IsTrailFor, undone};
-ghost use Rattle.varisat_checker.specs.Units.{AreKnown, lit_value, unit_at};
+ghost use Rattle.varisat_checker.specs.Trail.{IsTrailFor, IsUndoable};
+ghost use Rattle.varisat_checker.specs.Units as values;
+ghost use Rattle.varisat_checker.specs.Units.{AreKnown};
 
 use crate::clauses::units::{UnitClause, UnitId, Units};
+use crate::rup::status::lit_value;
 use crate::rup::trail::{Trail, overwrite};
 use sat_formula::lit::Lit;
 use std::alloc::AllocError;
@@ -22,46 +24,47 @@ pub fn list_units(
 ) -> Result<(), AllocError>
     requires known { AreKnown units.old lits.now }
     requires trail { IsTrailFor units.old trail.old.items }
-    ensures listed { OnOk result (looked trace.old.items units.old lits.now ≡ (trace.new.items, unlisted_lits units.new)) }
+    ensures listed {
+        OnOk result (looked trace.old.items units.old lits.now
+            ≡ (trace.new.items, unlisted_lits units.new))
+    }
     ensures kept { KeepsStored units.old units.new }
     ensures true_lits { true_lits units.new ≡ true_lits units.old }
-    ensures known { length units.new ≡ length units.old }
-    ensures undone { undone units.new trail.new.items ≡ undone units.old trail.old.items }
-    ensures trail { IsTrailFor units.new trail.new.items }
+    ensures undoable { IsUndoable units.old trail.old.items units.new trail.new.items }
 {
     for lit in lits {
-        if let Some(unit) = units.get(lit.index()) {
-            if unit.value == lit.is_positive() {
-                return Ok(());
-            }
-            list_unit(units, trail, trace, *lit, &unit)?;
+        match lit_value(units, *lit) {
+            Some(true) => return Ok(()),
+            Some(false) => list_unit(units, trail, trace, *lit)?,
+            None => {}
         }
     }
     Ok(())
 }
 
+/// Lists the unit that makes the literal false, if it is a stored one.
 fn list_unit(
     units: &mut Units,
     trail: &mut Trail,
     trace: &mut Vec<u64>,
     lit: Lit,
-    unit: &UnitClause,
 ) -> Result<(), AllocError>
     requires known { var_of lit < length units.old }
-    requires found { unit_at units.old (var_of lit) ≡ Some unit.now }
-    requires is_false { lit_value units.old lit ≡ Some false }
+    requires is_false { values.lit_value units.old lit ≡ Some false }
     requires trail { IsTrailFor units.old trail.old.items }
-    ensures listed { OnOk result ((c : List ℕ) → looked trace.old.items units.old (lit ∷ c) ≡ looked trace.new.items units.new c) }
+    // Whatever literals come after it.
+    ensures listed {
+        OnOk result ((rest : List ℕ) →
+            looked trace.old.items units.old (lit ∷ rest) ≡ looked trace.new.items units.new rest)
+    }
     ensures kept { KeepsStored units.old units.new }
     ensures true_lits { true_lits units.new ≡ true_lits units.old }
-    ensures known { length units.new ≡ length units.old }
-    ensures undone { undone units.new trail.new.items ≡ undone units.old trail.old.items }
-    ensures trail { IsTrailFor units.new trail.new.items }
+    ensures undoable { IsUndoable units.old trail.old.items units.new trail.new.items }
 {
-    if let UnitId::Global(id) = unit.id {
+    if let Some(id) = units.stored_id(lit.index()) {
         let renamed = UnitClause {
             id: UnitId::TracePos(trace.len()),
-            value: unit.value,
+            value: lit.is_negative(),
         };
         trace.push(id)?;
         overwrite(units, trail, lit, renamed)?;

@@ -1,10 +1,12 @@
 //! Values that hold during a check only: what they overwrite is kept, and put back afterwards.
 ghost use Rattle.std.specs.Prelude.{◌≡◌, ◌<◌, [], Some, false, length, OnOk, OnErr, slice_set};
 ghost use Rattle.checker_rules.specs.Clauses.{is_tautology, var_of};
+ghost use Rattle.checker_rules.specs.Hints.{unlisted_at};
 ghost use Rattle.checker_rules.specs.State.{some_true_unit, start_set};
 ghost use Rattle.varisat_checker.specs.Rup.{true_lits};
 ghost use Rattle.varisat_checker.specs.StateOf.{stored_units};
-ghost use Rattle.varisat_checker.specs.Trail.{undone, IsTrailFor};
+ghost use Rattle.varisat_checker.specs.Trace.{AreStored, KeepsStored, unlisted_lits};
+ghost use Rattle.varisat_checker.specs.Trail.{IsTrailFor, IsUndoable, undone};
 ghost use Rattle.varisat_checker.specs.Units.{AreKnown};
 
 use crate::clauses::units::{UnitClause, UnitId, Units};
@@ -25,9 +27,7 @@ pub fn overwrite(
     requires trail { IsTrailFor units.old trail.old.items }
     ensures ok { OnOk result (units.new ≡ slice_set units.old (var_of lit) (Some unit)) }
     ensures err { OnErr result (units.new ≡ units.old) }
-    ensures known { length units.new ≡ length units.old }
-    ensures undone { undone units.new trail.new.items ≡ undone units.old trail.old.items }
-    ensures trail { IsTrailFor units.new trail.new.items }
+    ensures undoable { IsUndoable units.old trail.old.items units.new trail.new.items }
 {
     let index = lit.index();
     let old = units.get(index);
@@ -39,13 +39,16 @@ pub fn overwrite(
 /// Takes every literal as false.
 pub fn assume_false(units: &mut Units, trail: &mut Trail, lits: &[Lit]) -> Result<(), AllocError>
     requires known { AreKnown units.old lits.now }
+    requires stored { AreStored units.old }
     requires free { some_true_unit (stored_units units.old) lits.now ≡ false }
     requires no_tautology { is_tautology lits.now ≡ false }
     requires trail { IsTrailFor units.old trail.old.items }
     ensures ok { OnOk result (true_lits units.new ≡ start_set (stored_units units.old) lits.now) }
-    ensures known { length units.new ≡ length units.old }
-    ensures undone { undone units.new trail.new.items ≡ undone units.old trail.old.items }
-    ensures trail { IsTrailFor units.new trail.new.items }
+    ensures unlisted {
+        OnOk result (unlisted_lits units.new ≡ unlisted_at (stored_units units.old) lits.now)
+    }
+    ensures kept { KeepsStored units.old units.new }
+    ensures undoable { IsUndoable units.old trail.old.items units.new trail.new.items }
 {
     for lit in lits {
         let unit = UnitClause {

@@ -1,39 +1,66 @@
 //! The walk over the named clauses.
-ghost use Rattle.std.specs.Prelude.{◌≡◌, ◌∷◌, [], All, IfOk, length};
+ghost use Rattle.std.specs.Prelude.{◌≡◌, ◌∷◌, [], All, IfOk, IsTrue, Some, map};
 ghost use Rattle.checker_rules.specs.Passes as rules;
 ghost use Rattle.varisat_checker.specs.Buckets.{AreWithin};
 ghost use Rattle.varisat_checker.specs.Lits.{IsWithin, lits_of};
 ghost use Rattle.varisat_checker.specs.Rup.{AreAllKnown, Walks, check_answer, lits_in, named_buckets, true_lits};
-ghost use Rattle.varisat_checker.specs.Trail.{undone, IsTrailFor};
+ghost use Rattle.varisat_checker.specs.Trace.{Lists, ids_after, named_clauses};
+ghost use Rattle.varisat_checker.specs.Trail.{IsTrailFor, IsUndoable};
 ghost use Rattle.varisat_checker.specs.Units.{AreKnown};
+ghost use Rattle.varisat_checker.specs.View.{stored_of};
 
 use crate::clauses::Clause;
 use crate::clauses::buckets::Buckets;
 use crate::clauses::units::{UnitClause, UnitId, Units};
 use crate::rup::Answer;
+use crate::rup::propagation::Propagation;
 use crate::rup::status::{ClauseStatus, clause_status};
-use crate::rup::trail::{Trail, overwrite};
+use crate::rup::trail::overwrite;
 use proof_bytes::hash::ClauseHash;
 use sat_formula::lit::Lit;
 use std::alloc::AllocError;
 
 /// Makes the literal true that alone is free. Answers whether the clause is falsified.
-pub fn visit_clause(units: &mut Units, trail: &mut Trail, lits: &[Lit]) -> Result<bool, AllocError>
-    requires known { AreKnown units.old lits.now }
-    requires trail { IsTrailFor units.old trail.old.items }
-    ensures ok { IfOk result (λ falsified. Walks (true_lits units.old) (lits.now ∷ []) falsified (true_lits units.new)) }
-    ensures known { length units.new ≡ length units.old }
-    ensures undone { undone units.new trail.new.items ≡ undone units.old trail.old.items }
-    ensures trail { IsTrailFor units.new trail.new.items }
+pub fn visit_clause(
+    units: &mut Units,
+    propagation: &mut Propagation,
+    clause: &Clause,
+    buffer: &[Lit],
+) -> Result<bool, AllocError>
+    requires within { IsWithin clause.now.lits buffer.now }
+    requires known { AreKnown units.old (lits_of clause.now.lits buffer.now) }
+    requires trail { IsTrailFor units.old propagation.old.trail.items }
+    ensures ok {
+        let lits = lits_of clause.now.lits buffer.now in
+        IfOk result (λ falsified. Walks (true_lits units.old) (lits ∷ []) falsified
+            (true_lits units.new))
+    }
+    ensures listed {
+        let stored = stored_of buffer.now clause.now in
+        IsTrue propagation.old.traced → IfOk result (λ falsified.
+            Lists propagation.old.trace.items units.old (stored ∷ []) falsified
+                propagation.new.trace.items units.new)
+    }
+    ensures undoable {
+        IsUndoable units.old propagation.old.trail.items units.new propagation.new.trail.items
+    }
+    ensures traced { propagation.new.traced ≡ propagation.old.traced }
 {
-    match clause_status(units, lits) {
-        ClauseStatus::Falsified => Ok(true),
+    let lits = clause.lits.slice(buffer);
+    let status = clause_status(units, lits);
+    propagation.list_units(units, lits)?;
+    match status {
+        ClauseStatus::Falsified => {
+            propagation.list_clause(clause.id)?;
+            Ok(true)
+        }
         ClauseStatus::Unit(lit) => {
             let unit = UnitClause {
-                id: UnitId::TracePos(0),
+                id: UnitId::TracePos(propagation.trace.len()),
                 value: lit.is_positive(),
             };
-            overwrite(units, trail, lit, unit)?;
+            propagation.list_clause(clause.id)?;
+            overwrite(units, &mut propagation.trail, lit, unit)?;
             Ok(false)
         }
         ClauseStatus::Idle => Ok(false),
@@ -43,20 +70,30 @@ pub fn visit_clause(units: &mut Units, trail: &mut Trail, lits: &[Lit]) -> Resul
 /// Visits the clauses in turn, and answers whether one is falsified.
 pub fn visit_bucket(
     units: &mut Units,
-    trail: &mut Trail,
+    propagation: &mut Propagation,
     bucket: &[Clause],
     buffer: &[Lit],
 ) -> Result<bool, AllocError>
     requires within { All (λ c. IsWithin c.lits buffer.now) bucket.now }
     requires known { All (λ c. AreKnown units.old (lits_of c.lits buffer.now)) bucket.now }
-    requires trail { IsTrailFor units.old trail.old.items }
-    ensures ok { IfOk result (λ falsified. Walks (true_lits units.old) (lits_in buffer.now bucket.now) falsified (true_lits units.new)) }
-    ensures known { length units.new ≡ length units.old }
-    ensures undone { undone units.new trail.new.items ≡ undone units.old trail.old.items }
-    ensures trail { IsTrailFor units.new trail.new.items }
+    requires trail { IsTrailFor units.old propagation.old.trail.items }
+    ensures ok {
+        IfOk result (λ falsified. Walks (true_lits units.old) (lits_in buffer.now bucket.now)
+            falsified (true_lits units.new))
+    }
+    ensures listed {
+        let stored = map (stored_of buffer.now) bucket.now in
+        IsTrue propagation.old.traced → IfOk result (λ falsified.
+            Lists propagation.old.trace.items units.old stored falsified
+                propagation.new.trace.items units.new)
+    }
+    ensures undoable {
+        IsUndoable units.old propagation.old.trail.items units.new propagation.new.trail.items
+    }
+    ensures traced { propagation.new.traced ≡ propagation.old.traced }
 {
     for clause in bucket {
-        if visit_clause(units, trail, clause.lits.slice(buffer))? {
+        if visit_clause(units, propagation, clause, buffer)? {
             return Ok(true);
         }
     }
@@ -66,23 +103,33 @@ pub fn visit_bucket(
 /// Visits the buckets of the hashes in turn, up to a falsified clause or a missing bucket.
 pub fn walk_buckets(
     units: &mut Units,
-    trail: &mut Trail,
+    propagation: &mut Propagation,
     buckets: &Buckets,
     buffer: &[Lit],
     hashes: &[ClauseHash],
 ) -> Result<Answer, AllocError>
     requires within { AreWithin buffer.now buckets.now }
     requires known { AreAllKnown units.old buffer.now buckets.now }
-    requires trail { IsTrailFor units.old trail.old.items }
-    ensures ok { IfOk result (λ a. check_answer a ≡ rules.walk_buckets (true_lits units.old) (named_buckets buffer.now buckets.now hashes.now)) }
-    ensures known { length units.new ≡ length units.old }
-    ensures undone { undone units.new trail.new.items ≡ undone units.old trail.old.items }
-    ensures trail { IsTrailFor units.new trail.new.items }
+    requires trail { IsTrailFor units.old propagation.old.trail.items }
+    ensures ok {
+        let named = named_buckets buffer.now buckets.now hashes.now in
+        IfOk result (λ a. check_answer a ≡ rules.walk_buckets (true_lits units.old) named)
+    }
+    ensures listed {
+        let named = named_clauses buffer.now buckets.now hashes.now in
+        IsTrue propagation.old.traced → IfOk result (λ a. a ≡ Answer.Passed →
+            ids_after propagation.old.trace.items units.old named
+                ≡ Some propagation.new.trace.items)
+    }
+    ensures undoable {
+        IsUndoable units.old propagation.old.trail.items units.new propagation.new.trail.items
+    }
+    ensures traced { propagation.new.traced ≡ propagation.old.traced }
 {
     for hash in hashes {
         match buckets.get(hash) {
             Some(bucket) if !bucket.is_empty() => {
-                if visit_bucket(units, trail, bucket.as_slice(), buffer)? {
+                if visit_bucket(units, propagation, bucket.as_slice(), buffer)? {
                     return Ok(Answer::Passed);
                 }
             }

@@ -1,5 +1,4 @@
 use Rattle.varisat_checker.proofs.ViewLemmas as lemmas
-use Rattle.varisat_checker.proofs.TraceLemmas as v
 use Rattle.varisat_checker.proofs.laws.list_is.Goals as goal
 
 pub returns : goal.returns

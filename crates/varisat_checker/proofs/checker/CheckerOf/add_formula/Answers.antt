@@ -1,41 +1,38 @@
-use Rattle.std.proofs.Common.{rules, ◌≡◌, false, ◌++◌, true, List, map, ℕ, ◌+◌, ◌-◌, ◌*◌, ◌<◌, ◌≤◌, length, ◌/◌, ◌%◌, Bool, nat_eq, nat_lt, [], ◌∷◌, slice_index_or, slice_set, bit_and, bit_or, Fits, w8, w32, w64, Bor, MutBor}
-use Rattle.varisat_checker.specs.Context.{IsKept}
-use Rattle.varisat_checker.specs.Failing.{has_failed, IsFailed}
-use Rattle.checker_rules.specs.AddFormula.{add_clauses, added}
-use Rattle.checker_rules.specs.Calls.{shown_inputs, shown_unsat}
-use Rattle.checker_rules.specs.Steps.{new_state, step}
-use Rattle.checker_parts.specs.Answers.{AnswersStep, CoversFold, IsCovered, IsFold, SetsFold, UnlessFailed}
+use Rattle.std.proofs.Common.{Ok, err_from_is_err_and}
+use Rattle.varisat_checker.specs.Context.{context_state}
 use Rattle.varisat_checker.specs.Shown.{state}
+use Rattle.varisat_checker.proofs.AddedSoFar.{covers-added, of-all, of-more, of-none, of-stops, sets-added}
 use Rattle.varisat_checker.proofs.checker.CheckerOf.add_formula.Goals as goal
 
--- src/checker.rt:72:9
 pub clauses-init : goal.clauses-init
-clauses-init g c = ?
+unfolding state
+clauses-init g c = of-none (state c.args.self.now) c.args.formula.now _ c.if-self.false c.into_iter-clause-iterator.ensures.into_iter_gives
 
--- src/checker.rt:72:9
 pub clauses-preserved : goal.clauses-preserved
-clauses-preserved g c = ?
+clauses-preserved g c = of-more c.clauses.invariant c.in-Some.ensures.steps (rw c.in_ok-add_clause.was at (c.add_clause.ensures.step c.clauses.invariant.so_far.running))
 
--- src/checker.rt:73:13
 pub returns-in_err-add_clause-clause-steps : goal.returns-in_err-add_clause-clause-steps
-returns-in_err-add_clause-clause-steps g c = ?
+returns-in_err-add_clause-clause-steps g c = λ running.
+    let q = err_from_is_err_and c.from_residual.result c.from_residual.ensures.1 in
+    rw (q.1, q.2) (of-stops c.in_err-add_clause.field-0.0 (state c.add_clause.new.self) c.clauses.invariant c.in-Some.ensures.steps (rw c.in_err-add_clause.was at (c.add_clause.ensures.step c.clauses.invariant.so_far.running)))
 
--- src/checker.rt:73:13
 pub returns-in_err-add_clause-clause-headline : goal.returns-in_err-add_clause-clause-headline
-returns-in_err-add_clause-clause-headline g c = ?
+unfolding state
+returns-in_err-add_clause-clause-headline g c = λ running before fold.
+    sets-added (context_state c.args.self.now.ctx) before c.args.formula.now c.from_residual.result _ (c.args.self.now.kept running).sound.good fold (returns-in_err-add_clause-clause-steps g c running)
 
--- src/checker.rt:73:13
 pub returns-in_err-add_clause-clause-covers : goal.returns-in_err-add_clause-clause-covers
-returns-in_err-add_clause-clause-covers g c = ?
+returns-in_err-add_clause-clause-covers g c = λ running before covered.
+    covers-added (state c.args.self.now) before c.args.formula.now c.from_residual.result _ covered (returns-in_err-add_clause-clause-steps g c running)
 
--- src/checker.rt:63:5
 pub returns-clause-steps : goal.returns-clause-steps
-returns-clause-steps g c = ?
+returns-clause-steps g c = λ running. of-all c.clauses.invariant c.in-None.ensures.steps.0
 
--- src/checker.rt:63:5
 pub returns-clause-headline : goal.returns-clause-headline
-returns-clause-headline g c = ?
+unfolding state
+returns-clause-headline g c = λ running before fold.
+    sets-added (context_state c.args.self.now.ctx) before c.args.formula.now (Ok tt) _ (c.args.self.now.kept running).sound.good fold (returns-clause-steps g c running)
 
--- src/checker.rt:63:5
 pub returns-clause-covers : goal.returns-clause-covers
-returns-clause-covers g c = ?
+returns-clause-covers g c = λ running before covered.
+    covers-added (state c.args.self.now) before c.args.formula.now (Ok tt) _ covered (returns-clause-steps g c running)

@@ -2,7 +2,8 @@ use Rattle.std.proofs.Common.{◌+◌, [], true, refl, sym, subst, arith}
 use Rattle.varisat_checker.specs.declared.clauses.Clauses.{Clauses}
 use Rattle.varisat_checker.specs.declared.clauses.StoreClauseResult.TheVariants.{New}
 use Rattle.varisat_checker.specs.StateOf.{state_of}
-use Rattle.varisat_checker.specs.Store.{IsStore, IsStored}
+use Rattle.varisat_checker.specs.Store.{IsStore, Stores}
+use Rattle.varisat_checker.specs.View.{stored_list}
 use Rattle.varisat_checker.proofs.AnswerLemmas.{empty-stored}
 use Rattle.varisat_checker.proofs.StoreLemmas.{few-short, is_store-units}
 use Rattle.varisat_checker.proofs.clauses.store.store_empty.Goals as goal
@@ -11,8 +12,8 @@ pub returns-clause-answer : goal.returns-clause-answer
 returns-clause-answer c h known redundant kept =
     let st = c.args.state.now in let cs = c.args.clauses.now in let s = state_of st h cs known in
     let e = c.in-Some.ensures in
-    subst (λ (x : Clauses). IsStored [] redundant s (state_of (record st { unsat = true }) h x known) c.in-Some.id New) (sym e.taken)
-    (subst (λ n. IsStored [] redundant s (record s { unsat = true; next = s.next + 1 }) n New) (sym e.id.1) (empty-stored redundant s e.id.0 (few-short h cs kept redundant [] refl)))
+    subst (λ (x : Clauses). Stores [] redundant s (state_of (record st { unsat = true }) h x known) c.in-Some.id New) (sym e.taken)
+    (subst (λ n. Stores [] redundant s (record s { unsat = true; next = s.next + 1 }) n New) (sym e.id.1) (empty-stored redundant s e.id.0 (few-short h cs (stored_list cs) kept.filed redundant [] refl)))
 
 pub returns-clause-store : goal.returns-clause-store
 returns-clause-store c h kept =

@@ -7,8 +7,9 @@ use Rattle.checker_rules.specs.State.{State, makes_true, same_bool, unit_of}
 use Rattle.varisat_checker.specs.declared.clauses.StoreClauseResult.TheVariants.{Duplicate}
 use Rattle.varisat_checker.specs.declared.clauses.units.UnitClause.{UnitClause}
 use Rattle.varisat_checker.specs.StateOf.{id_of_unit, state_of, stored_unit, stored_units}
-use Rattle.varisat_checker.specs.Store.{IsStore, IsStored, is_stored_unit, unit_for}
+use Rattle.varisat_checker.specs.Store.{IsStore, Stores, is_stored_unit, unit_for}
 use Rattle.varisat_checker.specs.Units.{unit_at}
+use Rattle.varisat_checker.specs.View.{stored_list}
 use Rattle.varisat_checker.proofs.AnswerLemmas.{answers-new, either_way, unit-conflict, unit-new, unit-stands}
 use Rattle.varisat_checker.proofs.StoreLemmas.{few-short, is_store-units, list_all-set, stored_units-set, unit_of-stored_units}
 use Rattle.varisat_checker.proofs.clauses.store.store_unit.Goals as goal
@@ -36,7 +37,7 @@ returns-in-None-clause-answer c h known redundant kept =
     answers-new c.put_unit.result (l ∷ []) redundant s (state_of st h c.put_unit.new.clauses known) u e.answer e.exhausted
     (on_ok_weaker c.put_unit.result (λ q. ap (λ x. state_of st h x known) q ∙ ap (λ us. record s { units = us; next = s.next + 1 }) (stored_units-set cs.unit_clauses (l / 2) (unit_for l cs.next_clause_id))) e.stored)
     (on_err_weaker c.put_unit.result (λ q. ap (λ x. state_of st h x known) q) e.unchanged)
-    (ap (λ o. makes_true o l) none) (unit-new l redundant s (few-short h cs kept redundant (l ∷ []) refl) none)
+    (ap (λ o. makes_true o l) none) (unit-new l redundant s (few-short h cs (stored_list cs) kept.filed redundant (l ∷ []) refl) none)
 
 pub returns-in-None-clause-store : goal.returns-in-None-clause-store
 returns-in-None-clause-store c h kept =
@@ -49,8 +50,8 @@ returns-then-unit-is_positive-clause-answer c h known redundant kept =
     let st = c.args.state.now in let cs = c.args.clauses.now in let l = c.args.lit in let s = state_of st h cs known in let u = c.in-Some.unit in
     let here : unit_of s.units (var_of l) ≡ Some (stored_unit u) = unit_is cs.unit_clauses (Some u) c.index.result (l / 2) c.in-Some.ensures c.index.ensures.value in
     let same : same_bool u.value (not (is_negative l)) ≡ true = same_is u.value c.is_positive.result true (not (is_negative l)) c.if-unit-is_positive.true c.is_positive.ensures in
-    subst (λ n. IsStored (l ∷ []) redundant s s n Duplicate) (sym c.global_id-stored.ensures)
-    (unit-stands l redundant s (few-short h cs kept redundant (l ∷ []) refl) (stored_unit u) here same)
+    subst (λ n. Stores (l ∷ []) redundant s s n Duplicate) (sym c.global_id-stored.ensures)
+    (unit-stands l redundant s (few-short h cs (stored_list cs) kept.filed redundant (l ∷ []) refl) (stored_unit u) here same)
 
 pub returns-else-unit-is_positive-clause-answer : goal.returns-else-unit-is_positive-clause-answer
 returns-else-unit-is_positive-clause-answer c h known redundant kept =
@@ -62,7 +63,7 @@ returns-else-unit-is_positive-clause-answer c h known redundant kept =
     answers-new res (l ∷ []) redundant s (state_of c.put_conflict.new.state h c.put_conflict.new.clauses known) t e.answer e.exhausted
     (both_ok res (λ p q. ap (λ x. state_of x h c.put_conflict.new.clauses known) p ∙ q) e.unsat clauses_are)
     (on_err_weaker res (λ q. ap (λ x. state_of c.put_conflict.new.state h x known) q.0 ∙ ap (λ x. state_of x h cs known) q.1) e.unchanged)
-    (ap (λ o. makes_true o l) here ∙ other) (unit-conflict l redundant s (few-short h cs kept redundant (l ∷ []) refl) (stored_unit u) here other)
+    (ap (λ o. makes_true o l) here ∙ other) (unit-conflict l redundant s (few-short h cs (stored_list cs) kept.filed redundant (l ∷ []) refl) (stored_unit u) here other)
 
 pub returns-else-unit-is_positive-clause-store : goal.returns-else-unit-is_positive-clause-store
 returns-else-unit-is_positive-clause-store c h kept =

@@ -1,14 +1,17 @@
-use Rattle.std.proofs.Common.{◌≡◌, ℕ, length, take}
+use Rattle.std.proofs.Common.{◌≡◌, ℕ, ◌&&◌, not, length, take}
+use Rattle.checker_rules.specs.Clauses.{var_of}
+use Rattle.checker_rules.specs.DeleteVar.{holds_var}
 use Rattle.checker_rules.specs.State.{start_set}
 use Rattle.varisat_checker.specs.Rup.{true_lits}
 use Rattle.varisat_checker.specs.StateOf.{stored_units}
-use Rattle.varisat_checker.specs.Trail.{IsTrailFor, undone}
+use Rattle.varisat_checker.specs.Trace.{KeepsStored, unlisted_lits}
+use Rattle.varisat_checker.specs.Trail.{IsUndoable}
 use Rattle.varisat_checker.proofs.rup.trail.assume_false.Given as goal
 
 abbrev pub invariant-loop-lit : goal.invariant-loop-lit
 invariant-loop-lit l = record {
   same : (m : ℕ) → true_lits l.units m ≡ start_set (stored_units l.initial.units) (take l.lit-index l.lits) m;
-  known : length l.units ≡ length l.initial.units;
-  undone : undone l.units l.trail.items ≡ undone l.initial.units l.initial.trail.items;
-  trail : IsTrailFor l.units l.trail.items;
+  unlisted : (m : ℕ) → unlisted_lits l.units m ≡ (unlisted_lits l.initial.units m && not (holds_var (var_of m) (take l.lit-index l.lits)));
+  kept : KeepsStored l.initial.units l.units;
+  undoable : IsUndoable l.initial.units l.initial.trail.items l.units l.trail.items;
 }

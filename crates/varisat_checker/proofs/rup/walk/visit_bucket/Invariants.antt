@@ -1,13 +1,16 @@
-use Rattle.std.proofs.Common.{◌≡◌, drop, length}
+use Rattle.std.proofs.Common.{◌≡◌, List, ◌++◌, drop, length, map, IsTrue}
 use Rattle.checker_rules.specs.Passes.{walk}
+use Rattle.checker_rules.specs.State.{Stored}
 use Rattle.varisat_checker.specs.Rup.{lits_in, true_lits}
-use Rattle.varisat_checker.specs.Trail.{IsTrailFor, undone}
+use Rattle.varisat_checker.specs.Trace.{ids_after}
+use Rattle.varisat_checker.specs.Trail.{IsUndoable}
+use Rattle.varisat_checker.specs.View.{stored_of}
 use Rattle.varisat_checker.proofs.rup.walk.visit_bucket.Given as goal
 
 abbrev pub invariant-loop-clause : goal.invariant-loop-clause
 invariant-loop-clause l = record {
   same : walk (true_lits l.units) (lits_in l.buffer (drop l.clause-index l.bucket)) ≡ walk (true_lits l.initial.units) (lits_in l.buffer l.bucket);
-  known : length l.units ≡ length l.initial.units;
-  undone : undone l.units l.trail.items ≡ undone l.initial.units l.initial.trail.items;
-  trail : IsTrailFor l.units l.trail.items;
+  listed : IsTrue l.initial.propagation.traced → (rest : List Stored) → ids_after l.propagation.trace.items l.units (map (stored_of l.buffer) (drop l.clause-index l.bucket) ++ rest) ≡ ids_after l.initial.propagation.trace.items l.initial.units (map (stored_of l.buffer) l.bucket ++ rest);
+  undoable : IsUndoable l.initial.units l.initial.propagation.trail.items l.units l.propagation.trail.items;
+  traced : l.propagation.traced ≡ l.initial.propagation.traced;
 }

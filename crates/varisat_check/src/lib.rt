@@ -1,0 +1,15 @@
+//! Whether a proof shows a formula to be unsatisfiable, said in one line.
+#![tactic(auto)]
+
+pub mod fault;
+pub mod run;
+pub mod status;
+pub mod verdict;
+
+pub use fault::RunFault;
+pub use run::{run_check, run_proof};
+pub use status::exit_status;
+pub use verdict::Verdict;
+
+#[cfg(test)]
+mod tests;

@@ -1,0 +1,93 @@
+//! Runs: a proof is checked, and its verdict is written.
+ghost use Rattle.std.specs.Prelude.{◌≡◌, ◌≤◌, ℕ, Bool, true, false, List, OnErr, IfOk, Ok, Err};
+ghost use Rattle.std.specs.Io.KnownBytes.{Appends};
+ghost use Rattle.checker_rules.specs.Calls.{shown_inputs, shown_unsat};
+ghost use Rattle.checker_rules.specs.Headline.{holds};
+ghost use Rattle.checker_rules.specs.Step.{Step};
+ghost use Rattle.checker_parts.specs.Answers.{IsCovered};
+ghost use Rattle.varisat_checker.specs.Failing.{RecordsFailure};
+ghost use Rattle.varisat_checker.specs.ProofRun.{ProofRun};
+ghost use Rattle.varisat_checker.specs.Shown.{state};
+ghost use Rattle.varisat_check.specs.Runs.{CheckRun, IsFailedRun, IsRefuted, IsRefusedRun, OnProof};
+ghost use Rattle.varisat_check.specs.Verdicts.{shown_line, verdict_of};
+ghost use Rattle.varisat_check.specs.declared.verdict.Verdict.TheVariants.{Unsatisfiable};
+
+use crate::fault::RunFault;
+use crate::verdict::Verdict;
+use log::Log;
+use std::alloc::Global;
+use std::io;
+use std::io::{Read, Write};
+use varisat_checker::Checker;
+
+/// Checks a proof with a checker that has its formula, and writes the verdict's line.
+///
+/// Nothing is written unless the whole proof is accepted. The checker stays in the state that `check_proof` leaves.
+pub fn run_proof<L: Log, R: Read + Drop, W: Write>(
+    rt: &L,
+    checker: &mut Checker,
+    proof: R,
+    out: &mut W,
+) -> Result<Verdict, RunFault>
+    ensures failed { (state checker.old).failed ≡ true → IsFailedRun result × (checker.new ≡ checker.old) }
+    ensures run { (state checker.old).failed ≡ false → OnProof (λ answer. ProofRun (R.remaining proof) (state checker.old) answer (state checker.new)) result }
+    ensures records { OnProof (λ answer. RecordsFailure answer (state checker.new)) result }
+    ensures verdict { IfOk result (λ verdict. verdict ≡ verdict_of (shown_inputs (state checker.old)) (state checker.new)) }
+    ensures line { IfOk result (λ verdict. Appends (W.contents out.old) (W.contents out.new) (shown_line verdict)) }
+    ensures silent { IsRefusedRun result → out.new ≡ out.old }
+    ensures refutes { result ≡ Ok Unsatisfiable → (before : List Step) → IsCovered before (state checker.old) → (a : ℕ → Bool) → holds before a ≡ false }
+{
+    let inputs = checker.input_clauses();
+    if let Err(fault) = checker.check_proof(rt, proof) {
+        return Err(RunFault::Proof(fault));
+    }
+    let verdict = verdict_after(checker, inputs);
+    match write_line(out, verdict) {
+        Ok(()) => Ok(verdict),
+        Err(fault) => Err(RunFault::Write(fault)),
+    }
+}
+
+/// Adds a formula in DIMACS CNF to a new checker, checks the proof, and writes the verdict's line.
+///
+/// The proof is read only once the formula was added whole. Nothing is written unless the whole proof is accepted.
+pub fn run_check<L: Log, F: Read + Drop, P: Read + Drop, W: Write>(
+    rt: &L,
+    alloc: Global,
+    cnf: F,
+    proof: P,
+    out: &mut W,
+) -> Result<Verdict, RunFault>
+    ensures run { CheckRun (F.remaining cnf) (P.remaining proof) result }
+    ensures line { IfOk result (λ verdict. Appends (W.contents out.old) (W.contents out.new) (shown_line verdict)) }
+    ensures silent { IsRefusedRun result → out.new ≡ out.old }
+    ensures refutes { result ≡ Ok Unsatisfiable → IsRefuted (F.remaining cnf) }
+{
+    let mut checker = Checker::new(alloc);
+    if let Err(fault) = checker.add_dimacs_cnf(rt, cnf) {
+        return Err(RunFault::Formula(fault));
+    }
+    run_proof(rt, &mut checker, proof, out)
+}
+
+/// The verdict of a checker that accepted a proof, and whose count of input clauses was this before it.
+fn verdict_after(checker: &Checker, inputs: u64) -> Verdict
+    requires { shown_unsat (state checker.now) ≡ true → inputs ≤ shown_inputs (state checker.now) }
+    ensures { result ≡ verdict_of inputs (state checker.now) }
+{
+    if !checker.unsat() {
+        return Verdict::NotShown;
+    }
+    match checker.input_clauses() - inputs {
+        0 => Verdict::Unsatisfiable,
+        added => Verdict::UnsatisfiableWithAdded(added),
+    }
+}
+
+/// Writes a verdict's line whole, also out of a writer's buffer.
+fn write_line<W: Write>(out: &mut W, verdict: Verdict) -> io::Result<()>
+    ensures { IfOk result (λ done. Appends (W.contents out.old) (W.contents out.new) (shown_line verdict)) }
+{
+    writeln!(out, "{verdict}")?;
+    out.flush()
+}
