@@ -8,7 +8,7 @@ work=$(mktemp -d)
 trap 'rm -rf "$work"' EXIT
 mkdir -p "$work/crates/dimacs_bench/src"
 cp -r "$top/crates/checker_rules" "$top/crates/sat_formula" "$work/crates/"
-cp "$top/benches/dimacs/main.rt" "$work/crates/dimacs_bench/src/"
+cp "$top/benches/dimacs/main.rt.txt" "$work/crates/dimacs_bench/src/main.rt"
 grep -E '^(checker_rules|sat_formula):' "$top/crates.txt" > "$work/crates.txt"
 echo 'dimacs_bench: sat_formula anyhow' >> "$work/crates.txt"
 echo 'Rattle:'

@@ -10,7 +10,7 @@ use Rattle.checker_rules.specs.Step.{at_clause}
 use Rattle.checker_rules.specs.Steps.{step}
 use Rattle.checker_rules.specs.Store.{counters, id_of, stands, store}
 use Rattle.varisat_checker.specs.declared.clauses.StoreClauseResult.{StoreClauseResult}
-use Rattle.varisat_checker.specs.Store.{IsStored, store_counters}
+use Rattle.varisat_checker.specs.Store.{Stores, store_counters}
 use Rattle.checker_rules.proofs.StepKinds.{step-at_clause}
 use Rattle.varisat_checker.specs.Derived.{stored_after}
 use Rattle.varisat_checker.proofs.OutcomeLemmas.{and_then-accepted, and_then-refused, check-and_then, counters-and_then, counters-after}
@@ -49,13 +49,13 @@ stored_after-accepted redundant c r e =
     ∙ ap (λ q. accept (store_derived c redundant q)) (counters-after redundant c (not (stands c r)) r)
 
 -- the answers of the three parts
-pub derived-stored : (redundant : Bool) (c : List ℕ) (s t : State) (id : ℕ) (r : StoreClauseResult) → IsStored c redundant s t id r → redundant ≡ true → (stored_after redundant c s).refused ≡ None × (t ≡ (stored_after redundant c s).after)
+pub derived-stored : (redundant : Bool) (c : List ℕ) (s t : State) (id : ℕ) (r : StoreClauseResult) → Stores c redundant s t id r → redundant ≡ true → (stored_after redundant c s).refused ≡ None × (t ≡ (stored_after redundant c s).after)
 derived-stored redundant c s t id r k e =
     let o = stored_after-accepted redundant c s (ap (λ (x : Outcome). x.refused) k.room) in
     (ap (λ (x : Outcome). x.refused) o,
       k.after ∙ sym (ap (λ (b : Bool). cond b (store c true s) (set_previous c (id_of c s) (store c false s))) e ∙ ap (λ (b : Bool). store c b s) (sym e)) ∙ sym (ap (λ (x : Outcome). x.after) o))
 
-pub derived-previous : (redundant : Bool) (c : List ℕ) (s t u : State) (id : ℕ) (r : StoreClauseResult) → IsStored c redundant s t id r → redundant ≡ false → u ≡ set_previous c id t → (stored_after redundant c s).refused ≡ None × (u ≡ (stored_after redundant c s).after)
+pub derived-previous : (redundant : Bool) (c : List ℕ) (s t u : State) (id : ℕ) (r : StoreClauseResult) → Stores c redundant s t id r → redundant ≡ false → u ≡ set_previous c id t → (stored_after redundant c s).refused ≡ None × (u ≡ (stored_after redundant c s).after)
 derived-previous redundant c s t u id r k e is =
     let o = stored_after-accepted redundant c s (ap (λ (x : Outcome). x.refused) k.room) in
     (ap (λ (x : Outcome). x.refused) o,

@@ -14,7 +14,8 @@ use Rattle.varisat_checker.specs.declared.clauses.units.UnitClause.{UnitClause}
 use Rattle.varisat_checker.specs.declared.hash.ClauseHasher.{ClauseHasher}
 use Rattle.varisat_checker.specs.declared.state.CheckerState.{CheckerState}
 use Rattle.varisat_checker.specs.Growth.{KnowsVars, not_sampling_among}
-use Rattle.varisat_checker.specs.Store.{IsStore, is_stored_unit}
+use Rattle.varisat_checker.specs.Store.{Files, IsStore, is_stored_unit}
+use Rattle.varisat_checker.specs.View.{stored_list}
 use Rattle.varisat_checker.specs.StateOf.{state_of, stored_unit, stored_units}
 
 map-free : (n : ℕ) → map (option_map stored_unit) (replicate n None) ≡ replicate n None
@@ -46,18 +47,18 @@ all-more [] n h = all-free n
 all-more (u ∷ us) n h = let p = and_parts (is_stored_unit u) (list_all is_stored_unit us) h in and_from (is_stored_unit u) (list_all is_stored_unit (us ++ replicate n None)) p.0 (all-more us n p.1)
 
 in_order : (h : ClauseHasher) (cs : Clauses) (us : List (Option UnitClause)) → IsStore h cs → list_all is_stored_unit us ≡ true → IsStore h (record cs { unit_clauses = us })
-in_order h cs us k all = record {
-  some_bits = k.some_bits;
-  bits = k.bits;
-  within = k.within;
-  bucketed = k.bucketed;
-  rise = k.rise;
-  apart = k.apart;
-  none_short = k.none_short;
-  used = k.used;
-  garbage = k.garbage;
-  units = all;
-}
+in_order h cs us k all =
+    let filed : Files h (record cs { unit_clauses = us }) (stored_list cs) = record {
+      some_bits = k.filed.some_bits;
+      bits = k.filed.bits;
+      within = k.filed.within;
+      bucketed = k.filed.bucketed;
+      rise = k.filed.rise;
+      apart = k.filed.apart;
+      whole = k.filed.whole;
+      used = k.filed.used;
+    } in
+    record { filed = filed; garbage = k.garbage; units = all }
 
 -- variables made known leave the store in order
 pub is_store-known : (count : ℕ) (h : ClauseHasher) (cs cs' : Clauses) (known known' : List Known) → KnowsVars count cs known cs' known' → IsStore h cs → IsStore h cs'

@@ -15,7 +15,7 @@ use Rattle.varisat_checker.specs.declared.state.CheckerState.{CheckerState}
 use Rattle.varisat_checker.specs.InputCause.{HasRoom}
 use Rattle.varisat_checker.specs.StateOf.{state_of}
 use Rattle.varisat_checker.specs.View.{stored_list}
-use Rattle.varisat_checker.specs.Store.{IsStore, IsStored, result_of, store_counters}
+use Rattle.varisat_checker.specs.Store.{Files, IsStore, Stores, result_of, store_counters}
 
 -- an id below the limit has a next one
 pub fits-next : (n : ℕ) → n < id_limit → Fits w64 (n + 1)
@@ -28,18 +28,18 @@ fits-input i n le h = omega arith
 
 -- taking an id leaves the store in order
 pub is_store-next : (h : ClauseHasher) (cs : Clauses) → IsStore h cs → IsStore h (record cs { next_clause_id = cs.next_clause_id + 1 })
-is_store-next h cs k = record {
-  some_bits = k.some_bits;
-  bits = k.bits;
-  within = k.within;
-  bucketed = k.bucketed;
-  rise = rise_next 0 (stored_list cs) cs.next_clause_id k.rise;
-  apart = k.apart;
-  none_short = k.none_short;
-  used = k.used;
-  garbage = k.garbage;
-  units = k.units;
-}
+is_store-next h cs k =
+    let filed : Files h (record cs { next_clause_id = cs.next_clause_id + 1 }) (stored_list cs) = record {
+      some_bits = k.filed.some_bits;
+      bits = k.filed.bits;
+      within = k.filed.within;
+      bucketed = k.filed.bucketed;
+      rise = rise_next 0 (stored_list cs) cs.next_clause_id k.filed.rise;
+      apart = k.filed.apart;
+      whole = k.filed.whole;
+      used = k.filed.used;
+    } in
+    record { filed = filed; garbage = k.garbage; units = k.units }
 
 -- a tautology takes an id
 pub input-tautology : (c : List ℕ) (s : State) → true ≡ is_tautology c → store_input c s ≡ take_id s
@@ -85,10 +85,10 @@ result-new : (b d e : Bool) (r : StoreClauseResult) → (r ≡ New → ⊥) → 
 result-new true d e r other h = refl
 result-new false d e r other h = absurd (other h)
 
-pub stood-not : (c : List ℕ) (s t : State) (id : ℕ) (r : StoreClauseResult) → IsStored c false s t id r → r ≡ New → stands c s ≡ false
+pub stood-not : (c : List ℕ) (s t : State) (id : ℕ) (r : StoreClauseResult) → Stores c false s t id r → r ≡ New → stands c s ≡ false
 stood-not c s t id r k e = result-stands (stands c s) (is_short c) (eqb (count_of false c s.clauses) 0) (sym e ∙ k.result_is)
 
-pub stood : (c : List ℕ) (s t : State) (id : ℕ) (r : StoreClauseResult) → IsStored c false s t id r → (r ≡ New → ⊥) → stands c s ≡ true
+pub stood : (c : List ℕ) (s t : State) (id : ℕ) (r : StoreClauseResult) → Stores c false s t id r → (r ≡ New → ⊥) → stands c s ≡ true
 stood c s t id r k h = result-new (stands c s) (is_short c) (eqb (count_of false c s.clauses) 0) r h k.result_is
 
 -- counters with room refuse nothing

@@ -16,8 +16,8 @@ use Rattle.varisat_checker.specs.Buckets.{Buckets, bucket_items, clauses_at}
 use Rattle.varisat_checker.specs.Kept.{Kept}
 use Rattle.varisat_checker.specs.NewParts.{IsEmptyStore, IsNewState}
 use Rattle.varisat_checker.specs.StateOf.{applied_of, pending_of, state_of}
-use Rattle.varisat_checker.specs.Store.{IsStore}
-use Rattle.varisat_checker.specs.View.{by_id, list_of, stored_in, stored_of}
+use Rattle.varisat_checker.specs.Store.{Files, IsStore}
+use Rattle.varisat_checker.specs.View.{by_id, list_of, stored_in, stored_list, stored_of}
 
 -- no bucket holds a clause
 pub clauses_at-empty : (m : Buckets) (k : ℕ) → IsEmpty m → clauses_at m k ≡ []
@@ -37,18 +37,17 @@ state_of-new st h cs fresh bits names pending empty =
 pub is_store-new : (h : ClauseHasher) (cs : Clauses) → h.hash_bits ≡ 64 → IsEmptyStore cs → IsStore h cs
 is_store-new h cs bits empty =
     let none = list_of-empty cs.literal_buffer.items cs.buckets empty.buckets in
-    record {
+    let filed : Files h cs (stored_list cs) = record {
       some_bits = rw bits (omega arith);
       bits = rw bits (omega arith);
       within = λ k. rw (clauses_at-empty cs.buckets k empty.buckets) (λ i d less. absurd (omega arith));
       bucketed = λ k. rw (none, clauses_at-empty cs.buckets k empty.buckets) refl;
       rise = rw (none, empty.next) refl;
       apart = rw none refl;
-      none_short = rw none refl;
+      whole = rw none refl;
       used = rw (none, empty.buffer, empty.garbage) refl;
-      garbage = rw (empty.buffer, empty.garbage) (omega arith);
-      units = rw empty.units refl;
-    }
+    } in
+    record { filed = filed; garbage = rw (empty.buffer, empty.garbage) (omega arith); units = rw empty.units refl }
 
 -- both
 pub kept-new : (st : CheckerState) (h : ClauseHasher) (cs : Clauses) → IsNewState st → h.hash_bits ≡ 64 → applied_of h ≡ (λ v. None) → pending_of h ≡ [] → IsEmptyStore cs → Kept st h cs []

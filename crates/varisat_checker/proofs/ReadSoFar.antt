@@ -10,7 +10,7 @@ use Rattle.sat_formula.specs.declared.dimacs.DimacsReader.{DimacsReader}
 use Rattle.sat_formula.specs.declared.fault.DimacsFault.{DimacsFault}
 use Rattle.sat_formula.specs.declared.fault.DimacsFault.TheVariants as faults
 use Rattle.sat_formula.specs.DimacsReader.{IsNext, has_ended, standing, unread_of}
-use Rattle.sat_formula.specs.Text as dimacs
+use Rattle.sat_formula.specs.Outcome as dimacs
 use Rattle.sat_formula.specs.Whole.{BeginsWith, FailsAfter, HasGiven, IsOutcome, outcome_left}
 use Rattle.sat_formula.proofs.Whole.{BeginsWith-given, FailsAfter-given, HasGiven-more, HasGiven-nil, IsOutcome-ended, outcome_left-new}
 use Rattle.checker_parts.specs.Answers.{AnswersStep, AnswersText, IsCovered, IsFold, UnlessFailed, UnlessTextFailed}

@@ -41,7 +41,7 @@ ready-form s t c k e = subst WellFormed (sym e) (form-ready s c k.form)
 
 -- there the variables of the stored clauses are known
 pub ready-known : (st : CheckerState) (h : ClauseHasher) (cs : Clauses) (known : List Known) → IsStore h cs → WellFormed (state_of st h cs known) → AreAllKnown cs.unit_clauses cs.literal_buffer.items cs.buckets
-ready-known st h cs known store form = check_is_by_rules.all_known st h cs known store.bucketed form
+ready-known st h cs known store form = check_is_by_rules.all_known st h cs known store.filed.bucketed form
 
 -- the outcome by what was found
 pub check-passed : (s : State) (c hs : List ℕ) → clause_passes (ready s c) c hs ≡ true → check s c hs accept ≡ accept (ready s c)
@@ -64,7 +64,7 @@ pub ready-answers : (st : CheckerState) (h : ClauseHasher) (cs : Clauses) (known
     → buffer ≡ cs.literal_buffer.items → check_answer a ≡ clause_answer (stored_units cs.unit_clauses) c (named_buckets buffer cs.buckets hs) → Answers (ready s c) c hs a
 ready-answers st h cs known buffer c hs a s store sound here apart whole e =
     let is = subst (λ (b : List ℕ). check_answer a ≡ clause_answer (stored_units cs.unit_clauses) c (named_buckets b cs.buckets hs)) whole e in
-    subst (λ (r : State). Answers r c hs a) here (check_is_by_rules.answers st h cs known c hs a store.bucketed (ready-form s (state_of st h cs known) c sound here) apart is)
+    subst (λ (r : State). Answers r c hs a) here (check_is_by_rules.answers st h cs known c hs a store.filed.bucketed (ready-form s (state_of st h cs known) c sound here) apart is)
 
 -- the state with the units of before
 pub same-units : (st : CheckerState) (h : ClauseHasher) (cs : Clauses) (known : List Known) (us : List (Option UnitClause)) (t : State) → us ≡ cs.unit_clauses → state_of st h cs known ≡ t → state_of st h (record cs { unit_clauses = us }) known ≡ t

@@ -6,7 +6,8 @@ use Rattle.std.specs.Option.{option_map}
 use Rattle.checker_rules.specs.AddFormula.{add_clauses, added}
 use Rattle.checker_rules.specs.State.{State}
 use Rattle.checker_rules.specs.Step.{Step, add_clause}
-use Rattle.sat_formula.specs.Text as dimacs
+use Rattle.sat_formula.specs.Outcome as dimacs
+use Rattle.sat_formula.specs.Lines as lines
 use Rattle.sat_formula.specs.Whole.{BeginsWith, IsOutcome}
 use Rattle.checker_parts.specs.Answers.{AnswersText, IsCovered, IsFold, UnlessTextFailed}
 use Rattle.checker_parts.specs.declared.error.DimacsError.{DimacsError}
@@ -14,7 +15,7 @@ use Rattle.checker_parts.specs.declared.error.DimacsError.TheVariants.{Read, Mal
 
 -- what a text of these bytes holds, where they are known
 abbrev pub outcome_of : Option (List ℕ) → Option dimacs.Outcome
-outcome_of known = option_map dimacs.outcome_of known
+outcome_of known = option_map lines.outcome_of known
 
 -- all the clauses of the text, those before its fault, or those before a failed read, want of memory or a refused clause, and it
 abbrev pub EndsText : {A : Type 0} → Option dimacs.Outcome → List (List ℕ) → Result A DimacsError → Type 0

@@ -19,3 +19,13 @@ pub mod checker;
 mod tests;
 
 pub use checker::{Checker, CheckerOf};
+pub use checker_parts::error::{CheckCause, CheckerError, DimacsError};
+pub use checker_parts::processor::{CheckerData, ProofProcessor, ProofTranscriptProcessor};
+pub use checker_parts::step::{
+    CheckedProofStep,
+    CheckedSamplingMode,
+    CheckedUserVar,
+    ProofTranscriptStep,
+    ResolutionPropagations,
+};
+pub use checker_parts::{sorted_lits, transcript};

@@ -1,4 +1,5 @@
-use Rattle.std.proofs.Common.{Ok, err_from_is_err_and}
+use Rattle.std.proofs.Common.{Ok}
+use Rattle.std.proofs.lemmas.Result.{err_from_is_err_and}
 use Rattle.varisat_checker.specs.Context.{context_state}
 use Rattle.varisat_checker.specs.Shown.{state}
 use Rattle.varisat_checker.proofs.AddedSoFar.{covers-added, of-all, of-more, of-none, of-stops, sets-added}

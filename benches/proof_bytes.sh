@@ -1,0 +1,18 @@
+#!/usr/bin/env bash
+# Times the reader of proof bytes against the same work in Rust: benches/proof_bytes.sh [RT]
+# RT is the command of the kit, rt where none is given. It works on a copy, and changes nothing here.
+set -euo pipefail
+rt=${1:-rt}
+top=$(cd "$(dirname "$0")/.." && pwd)
+work=$(mktemp -d)
+trap 'rm -rf "$work"' EXIT
+mkdir -p "$work/crates/proof_bench/src"
+cp -r "$top/crates/checker_rules" "$top/crates/sat_formula" "$top/crates/proof_bytes" "$work/crates/"
+cp "$top/benches/proof_bytes/main.rt.txt" "$work/crates/proof_bench/src/main.rt"
+grep -E '^(checker_rules|sat_formula|proof_bytes):' "$top/crates.txt" > "$work/crates.txt"
+echo 'proof_bench: sat_formula proof_bytes anyhow' >> "$work/crates.txt"
+echo 'Rattle:'
+(cd "$work/crates/proof_bench" && "$rt" run 2> "$work/log" | grep 'ms$') || { tail -5 "$work/log"; exit 1; }
+echo 'Rust:'
+rustc --edition 2021 -O -o "$work/twin" "$top/benches/proof_bytes/main.rs"
+"$work/twin"
