@@ -2,9 +2,12 @@
 mod derived;
 mod formulas;
 mod input;
+mod logs;
 mod orders;
 mod proofs;
 mod readers;
+mod texts;
+mod unchecked;
 
 use crate::checker::Checker;
 use crate::internal::SelfChecker;
