@@ -50,7 +50,7 @@ module _ (X F : Type 0) where
       read d (inl p) = tried d p.0 p.1 (attempt s p.0).refused refl
       read d (inr f) = omega arith
 
-  counted_run : (next : X → (Step × X) ⊎ F) (s : State) (x : X) (ts : List Step) (answer : Option (Cause ⊎ F)) (r : State) → Runs next s x ts answer r → s.inputs ≤ r.inputs
+  pub counted_run : (next : X → (Step × X) ⊎ F) (s : State) (x : X) (ts : List Step) (answer : Option (Cause ⊎ F)) (r : State) → Runs next s x ts answer r → s.inputs ≤ r.inputs
   counted_run next s x [] answer r run = subst (Moved {X = X} {F = F} s) run (moved next s x)
   counted_run next s x (t ∷ ts) answer r run = let a = counted_attempt s t in let b = counted_run next (attempt s t).after run.0 ts answer r run.2 in omega arith
 

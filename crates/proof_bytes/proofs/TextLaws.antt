@@ -12,7 +12,7 @@ use Rattle.proof_bytes.specs.Reading.{Wrong, Found, ◌>>=◌}
 use Rattle.proof_bytes.specs.Spelling.{spells, IsStep}
 use Rattle.proof_bytes.specs.Steps.{step_at, next_at, tag_at, marked_at, then_after}
 use Rattle.proof_bytes.specs.Texts.{Place, start_of, next_of, step_or_fault, ReadsTo, text, AreSteps, after_all}
-use Rattle.proof_bytes.specs.Writer.{mark, text_2, writing, written_after}
+use Rattle.proof_bytes.specs.Version2.{mark, text_2, writing, written_after}
 use Rattle.proof_bytes.proofs.Codec.{given}
 use Rattle.proof_bytes.proofs.StepLaws.{step_again, step_exact}
 
@@ -61,10 +61,6 @@ after_begun (change_hash_bits bits) formats.Start n = n
 after_begun (change_hash_bits bits) formats.Numbers n = n
 after_begun (change_hash_bits bits) (formats.Bytes width) n = λ e. absurd cc
 after_begun _ format n = n
-
-same_next : (format : Format) (bytes more : List ℕ) → next_at format bytes ≡ next_at format more → next_of (format, bytes) ≡ next_of (format, more)
-unfolding next_of
-same_next format bytes more e = ap step_or_fault e
 
 next_step : (format : Format) (step : Step) (rest : List ℕ) → format ≢ formats.Start → IsStep format step → next_of (format, spells format step ++ rest) ≡ inl (step, (after step format, rest))
 unfolding next_of

@@ -90,10 +90,11 @@ justified (suc (suc n)) = by_simplified
 abbrev pub justification_at : List ℕ → Found Justification
 justification_at = made_at (below_at 3) justified
 
--- a list of literals, of hashes
+-- a list of literals
 abbrev pub lits_at : List ℕ → Found (List ℕ)
 lits_at = list_at lit_at
 
+-- a list of hashes
 abbrev pub hashes_at : Format → List ℕ → Found (List ℕ)
 hashes_at format = list_at (hash_at format)
 

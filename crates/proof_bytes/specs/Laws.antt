@@ -14,7 +14,7 @@ use Rattle.proof_bytes.specs.Steps.{step_at, next_at, then_after}
 use Rattle.proof_bytes.specs.Taking.{IsBytes}
 use Rattle.proof_bytes.specs.Texts.{ReadsTo, start_of, text, AreSteps, after_all}
 use Rattle.proof_bytes.specs.Formats.{after}
-use Rattle.proof_bytes.specs.Writer.{writing, mark, text_2, written_after}
+use Rattle.proof_bytes.specs.Version2.{writing, mark, text_2, written_after}
 
 -- no spelling begins another
 abbrev pub NoSpellingBeginsAnother : Type 0

@@ -11,7 +11,7 @@ use Rattle.proof_bytes.specs.declared.format.Format.TheVariants.{Numbers, Bytes}
 use Rattle.proof_bytes.specs.Reading.{Fault, Short, Wrong, number_at}
 use Rattle.proof_bytes.specs.Spelling.{number, all_fit, hashes_of}
 use Rattle.proof_bytes.specs.Texts.{ReadsTo, next_of, start_of}
-use Rattle.proof_bytes.specs.Writer.{text_2, writing, written_after}
+use Rattle.proof_bytes.specs.Version2.{text_2, writing, written_after}
 
 -- the number is written so, and nothing else is read as it
 abbrev pub Stands : ℕ → List ℕ → Type 0

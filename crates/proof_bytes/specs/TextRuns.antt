@@ -1,7 +1,7 @@
 -- Runs over the text that a reader gives.
 --     RunsTo      how a run begins
 --     RunsOver      a run over the whole text
---     RunsUntilRead, RunsBefore      runs over what was read, where a read failed or memory was wanted
+--     RunsUntilCut, RunsBefore      runs over what was read, where a read failed or memory was wanted
 --     RunsToFault      the run that a fault of the reader ended
 use Rattle.std.specs.Prelude.{◌≡◌, ◌⊎◌, ℕ, List, [], ◌∷◌, ◌++◌, Option, Some, None}
 use Rattle.std.proofs.Common.{inl, inr}
@@ -42,7 +42,7 @@ pub record RunsOver (known : Option (List ℕ)) (s : State) (steps : List Step) 
   pub runs : Runs next_of s (start_of text) steps answer r
 
 -- the same over what was read before a read failed: that stands in place of the text's end
-pub record RunsUntilRead (known : Option (List ℕ)) (s : State) (steps : List Step) (r : State) : Type 0 where
+pub record RunsUntilCut (known : Option (List ℕ)) (s : State) (steps : List Step) (r : State) : Type 0 where
   pub text : List ℕ
   pub begins : BeginsTextOf known text
   pub runs : Runs next_of s (start_of text) steps (Some (inr Short)) r
@@ -57,6 +57,6 @@ pub record RunsBefore (known : Option (List ℕ)) (s : State) (steps : List Step
 -- the run that a fault of the reader ended: t is the state that it was met in, r the state left
 abbrev pub RunsToFault : Option (List ℕ) → State → List Step → ProofFault → State → State → Type 0
 RunsToFault known s steps proof_faults.End t r = RunsOver known s steps (Some (inr Short)) r
-RunsToFault known s steps (proof_faults.Read e) t r = RunsUntilRead known s steps r
+RunsToFault known s steps (proof_faults.Read e) t r = RunsUntilCut known s steps r
 RunsToFault known s steps (proof_faults.Malformed kind) t r = RunsOver known s steps (Some (inr (Wrong kind))) r
 RunsToFault known s steps proof_faults.OutOfMemory t r = RunsBefore known s steps t

@@ -6,7 +6,7 @@ ghost use Rattle.sat_formula.specs.Vars.{index_of, indexes_of};
 ghost use Rattle.proof_bytes.specs.Formats.{bytes_of, IsFormat};
 ghost use Rattle.proof_bytes.specs.Growing.{Grows};
 ghost use Rattle.proof_bytes.specs.NextStep.{view, why};
-ghost use Rattle.proof_bytes.specs.Writer.{writing, mark};
+ghost use Rattle.proof_bytes.specs.Version2.{writing, mark};
 ghost use Rattle.proof_bytes.specs.Spelling.{all_fit, hashes_of, IsStep, IsName, IsUnit, AreLits, AreHashes, Listed, spells, fields_of, number, numbers, flag, name, justification, listed, hash, unit, little};
 
 use crate::format::Format;

@@ -52,7 +52,8 @@ fn seen(fault: ProofFault) -> Fault {
     }
 }
 
-// The steps of a text, as their bytes in version 1 and their number, the first fault, and the answer after it.
+// The steps of a text, as their bytes in version 1 and their number, the first fault, and the
+// answer after it.
 #[derive(Drop)]
 struct Reading {
     written: Vec<u8>,

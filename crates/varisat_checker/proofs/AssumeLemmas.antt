@@ -1,11 +1,11 @@
 -- Taking the literals of a clause as false.
-use Rattle.std.proofs.Common.{◌≡◌, ℕ, zero, suc, ◌+◌, ◌<◌, ◌≤◌, Bool, true, false, not, ◌&&◌, ◌||◌, eqb, List, [], ◌∷◌, ◌++◌, length, take, set, get_or, Option, None, Some, max, ⊎_elim, refl, sym, ap, ◌∙◌, subst, arith, inl, inr}
+use Rattle.std.proofs.Common.{◌≡◌, ℕ, zero, suc, ◌+◌, ◌<◌, ◌≤◌, Bool, true, false, not, ◌&&◌, ◌||◌, eqb, List, [], ◌∷◌, ◌++◌, length, take, set, get_or, Option, None, Some, ⊎_elim, refl, sym, ap, ◌∙◌, subst, arith, inl, inr}
 use Rattle.std.specs.List.{list_any}
 use Rattle.std.proofs.lemmas.Bool.{both_ways, cases_eq, eq-eqb, eqb-true, false_from_ne_true, false≢true, ne_eqb, or_cases, or_from, or_left, or_right}
 use Rattle.std.proofs.lemmas.List.{take_all, take_more}
 use Rattle.std.proofs.lemmas.List.Folds.{list_any-append, list_any_at}
 use Rattle.checker_rules.specs.Canonical.{var_bound}
-use Rattle.checker_rules.specs.Clauses.{add_lit, has, is_negative, is_tautology, negate, var_of}
+use Rattle.checker_rules.specs.Clauses.{has, is_negative, is_tautology, negate, var_of}
 use Rattle.checker_rules.specs.DeleteVar.{holds_var}
 use Rattle.checker_rules.specs.Hints.{negated_set, unlisted_at}
 use Rattle.checker_rules.specs.State.{StoredUnit, lit_by_unit, some_true_unit, start_set}
@@ -16,7 +16,7 @@ use Rattle.checker_rules.proofs.Walks.{any_at, any_from}
 use Rattle.varisat_checker.specs.declared.clauses.units.UnitClause.{UnitClause}
 use Rattle.varisat_checker.specs.Rup.{true_lits}
 use Rattle.varisat_checker.specs.StateOf.{stored_units}
-use Rattle.varisat_checker.specs.Units.{AreKnown, number_of}
+use Rattle.varisat_checker.specs.Units.{number_of}
 use Rattle.varisat_checker.specs.Trace.{AreStored, unlisted_lits}
 use Rattle.varisat_checker.proofs.TraceLemmas.{unlisted_lits-at_rest, unlisted_lits-set}
 use Rattle.varisat_checker.proofs.UnitsLemmas.{true_lits-set}

@@ -1,5 +1,5 @@
 -- The answer of the check is that of the rules.
-use Rattle.std.proofs.Common.{◌≡◌, ℕ, ◌≤◌, Bool, true, false, not, cond, ◌&&◌, leb, List, [], ◌∷◌, ◌++◌, length, map, filter, Option, All, refl, sym, ap, ◌∙◌, subst}
+use Rattle.std.proofs.Common.{◌≡◌, ℕ, ◌≤◌, Bool, true, false, not, cond, leb, List, [], ◌∷◌, ◌++◌, length, map, filter, Option, All, refl, sym, ap, ◌∙◌, subst}
 use Rattle.std.specs.List.{list_all}
 use Rattle.std.specs.Option.{option_map}
 use Rattle.std.proofs.lemmas.Bool.{and_from, and_parts, leb-true}
@@ -9,8 +9,7 @@ use Rattle.checker_rules.specs.Canonical.{var_bound}
 use Rattle.checker_rules.specs.Clauses.{is_canonical, is_tautology}
 use Rattle.checker_rules.specs.DeleteClause.{is_short}
 use Rattle.checker_rules.specs.Exact.{AllCanonical, walk_check}
-use Rattle.checker_rules.specs.Passes.{CheckAnswer, failed, none_empty, no_clause, passed}
-use Rattle.checker_rules.specs.State.{Known, State, Stored, all_lits, bucket, buckets, clause_passes}
+use Rattle.checker_rules.specs.State.{Known, State, Stored, all_lits, bucket, buckets}
 use Rattle.checker_rules.specs.Store.{is_gone}
 use Rattle.checker_rules.specs.Traced.{bucket_entries, walked}
 use Rattle.checker_rules.specs.WellFormed.{WellFormed, is_fine}
@@ -23,9 +22,9 @@ use Rattle.varisat_checker.specs.declared.rup.Answer.{Answer}
 use Rattle.varisat_checker.specs.declared.rup.Answer.TheVariants.{Passed, NoClauseForHash, Failed}
 use Rattle.varisat_checker.specs.declared.state.CheckerState.{CheckerState}
 use Rattle.varisat_checker.specs.Buckets.{clauses_at}
-use Rattle.varisat_checker.specs.CheckLaw.{Answers, CheckIsByRules, IsAnswerIn}
+use Rattle.varisat_checker.specs.CheckLaw.{Answers, CheckIsByRules}
 use Rattle.varisat_checker.specs.Lits.{lits_of}
-use Rattle.varisat_checker.specs.Rup.{AreAllKnown, check_answer, clause_answer, lits_at, named_buckets}
+use Rattle.varisat_checker.specs.Rup.{AreAllKnown, check_answer, clause_answer, named_buckets}
 use Rattle.varisat_checker.specs.StateOf.{IsBucketed, state_of, stored_unit, stored_units}
 use Rattle.varisat_checker.specs.Trace.{clause_trace, named_clauses}
 use Rattle.varisat_checker.specs.Units.{AreKnown}

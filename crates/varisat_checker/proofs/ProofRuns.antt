@@ -20,7 +20,7 @@ use Rattle.proof_bytes.specs.declared.format.Format.TheVariants as formats
 use Rattle.proof_bytes.specs.Reading.{Found, Short, Wrong}
 use Rattle.proof_bytes.specs.Steps.{next_at}
 use Rattle.proof_bytes.specs.Taking.{Faults, Leads, stop_of}
-use Rattle.proof_bytes.specs.TextRuns.{RunsBefore, RunsOver, RunsToFault, RunsUntilRead}
+use Rattle.proof_bytes.specs.TextRuns.{RunsBefore, RunsOver, RunsToFault, RunsUntilCut}
 use Rattle.proof_bytes.proofs.TextRuns.{MayRead, SoFar, nothing_yet, one_more, run_before, run_closed, run_exhausted, run_faulted, run_refused}
 use Rattle.checker_parts.specs.Answers.{AnswersParts, AnswersStep, IsCovered, IsFold, IsRefusal, UnlessFailed, UnlessGivenUp}
 use Rattle.checker_parts.specs.Causes.{cause_of}

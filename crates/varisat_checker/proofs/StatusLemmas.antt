@@ -1,13 +1,12 @@
 -- What follows from a clause, literal by literal.
-use Rattle.std.proofs.Common.{◌≡◌, ℕ, ◌+◌, ◌<◌, Bool, true, false, not, cond, ◌||◌, List, [], ◌∷◌, length, drop, get_or, Option, None, Some, refl, sym, ap, ◌∙◌, subst}
+use Rattle.std.proofs.Common.{◌≡◌, ℕ, ◌+◌, ◌<◌, Bool, false, cond, List, ◌∷◌, length, drop, get_or, Option, None, Some, refl, sym, ap, ◌∙◌}
 use Rattle.std.specs.List.{list_any}
 use Rattle.std.proofs.lemmas.List.{drop_more}
-use Rattle.checker_rules.specs.Clauses.{negate}
 use Rattle.checker_rules.specs.Passes.{by_count, unfalsified}
 use Rattle.varisat_checker.specs.declared.clauses.units.UnitClause.{UnitClause}
 use Rattle.varisat_checker.specs.declared.rup.status.ClauseStatus.{ClauseStatus}
 use Rattle.varisat_checker.specs.declared.rup.status.ClauseStatus.TheVariants as statuses
-use Rattle.varisat_checker.specs.Rup.{status_of, true_lits}
+use Rattle.varisat_checker.specs.Rup.{true_lits}
 use Rattle.varisat_checker.specs.Units.{lit_value}
 use Rattle.varisat_checker.proofs.UnitsLemmas.{falsity, true_lits-falsity, true_lits-truth, truth}
 

@@ -1,16 +1,13 @@
 -- Stored units that are listed and overwritten.
-use Rattle.std.proofs.Common.{◌≡◌, ℕ, zero, suc, ◌+◌, ◌<◌, Bool, true, false, cond, not, ◌&&◌, ◌||◌, eqb, List, [], ◌∷◌, ◌++◌, length, drop, take, map, set, get_or, Option, None, Some, All, is_some, ⊎_elim, refl, sym, ap, ◌∙◌, subst, arith}
-use Rattle.std.specs.List.{list_any}
+use Rattle.std.proofs.Common.{◌≡◌, ℕ, zero, suc, ◌<◌, Bool, true, false, not, ◌&&◌, eqb, List, [], ◌∷◌, ◌++◌, length, set, Option, None, Some, is_some, ⊎_elim, refl, sym, ap, ◌∙◌, subst}
 use Rattle.std.specs.Option.{option_map}
-use Rattle.std.proofs.lemmas.Bool.{and_parts, and_right, cases_eq, eq-eqb, eqb-true, false≢true, ne_eqb, true≢false}
+use Rattle.std.proofs.lemmas.Bool.{and_parts, and_right, cases_eq, eq-eqb, false≢true, ne_eqb, true≢false}
 use Rattle.std.proofs.lemmas.Grind.{get_or-set_at}
-use Rattle.std.proofs.lemmas.List.{append-nil, append_assoc, get_or-set_other, map-append, take_more}
+use Rattle.std.proofs.lemmas.List.{append-nil, append_assoc, get_or-set_other}
 use Rattle.std.proofs.lemmas.List.Elements.{All-head, All-tail}
-use Rattle.std.proofs.lemmas.List.Folds.{list_any-append}
-use Rattle.checker_rules.specs.Clauses.{add_lit, is_negative, negate, var_of}
-use Rattle.checker_rules.specs.DeleteVar.{holds_var}
-use Rattle.checker_rules.specs.Hints.{Item, Visit, listing, prepend, trace, unit_item, unlisted_at, visit, without_lit}
-use Rattle.checker_rules.specs.State.{Stored, StoredUnit, lit_by_unit, makes_true, same_bool, unit_of}
+use Rattle.checker_rules.specs.Clauses.{is_negative, negate, var_of}
+use Rattle.checker_rules.specs.Hints.{listing, unit_item, visit, without_lit}
+use Rattle.checker_rules.specs.State.{makes_true, same_bool, unit_of}
 use Rattle.checker_rules.specs.Store.{unit_id}
 use Rattle.checker_rules.proofs.Traces.{var-negate}
 use Rattle.varisat_checker.specs.declared.clauses.units.UnitClause.{UnitClause}
@@ -21,7 +18,7 @@ use Rattle.varisat_checker.specs.StateOf.{id_of_unit, stored_unit, stored_units}
 use Rattle.varisat_checker.specs.Trace.{AreStored, IsAtRest, KeepsStored, item_ids, look, looked, unlisted_lits}
 use Rattle.varisat_checker.specs.Units.{lit_value, number_of, stored_id, unit_at, value_by}
 use Rattle.varisat_checker.proofs.UnitsLemmas.{falsity, negation_is, true_lits-by, true_lits-falsity, true_lits-truth, truth, unit_of-stored_units}
-use Rattle.varisat_checker.proofs.VisitLemmas.{AgreeOn, trace-agree, visit-agree, visit-false, visit-free, visit-listed, visit-true}
+use Rattle.varisat_checker.proofs.VisitLemmas.{AgreeOn, visit-agree, visit-false, visit-free, visit-listed, visit-true}
 
 -- at rest every value is a stored unit's
 pub at_rest : (us : List (Option UnitClause)) (v : ℕ) → AreStored us → IsAtRest (unit_at us v)
@@ -92,7 +89,7 @@ true_lits-renamed us m w known found same = λ i k. point k i
     point : (k : ℕ) → true_lits (set us (var_of m) (Some w)) k ≡ true_lits us k
     point k = ⊎_elim {C = true_lits (set us (var_of m) (Some w)) k ≡ true_lits us k}
         (λ (e : var_of k ≡ var_of m). true_lits-by (set us (var_of m) (Some w)) k ∙ ap (λ o. makes_true (option_map stored_unit o) k) (get_or-set_at us (var_of m) (var_of k) (Some w) None e known)
-            ∙ ap (λ b. same_bool b (not (is_negative k))) same ∙ value-false (unit_at us (var_of m)) m k found ∙ sym (true_lits-by us k ∙ ap (λ v. makes_true (option_map stored_unit (unit_at us v)) k) e))
+        ∙ ap (λ b. same_bool b (not (is_negative k))) same ∙ value-false (unit_at us (var_of m)) m k found ∙ sym (true_lits-by us k ∙ ap (λ v. makes_true (option_map stored_unit (unit_at us v)) k) e))
         (λ (ne : var_of k ≡ var_of m → ⊥). true_lits-by (set us (var_of m) (Some w)) k ∙ ap (λ o. makes_true (option_map stored_unit o) k) (get_or-set_other us (var_of m) (var_of k) (Some w) None ne) ∙ sym (true_lits-by us k))
         (cases_eq (var_of k) (var_of m))
 
@@ -100,14 +97,8 @@ true_lits-renamed us m w known found same = λ i k. point k i
 pub looked-nil : (ids : List ℕ) (us : List (Option UnitClause)) → looked ids us [] ≡ (ids, unlisted_lits us)
 looked-nil ids us = ap (λ xs. (xs, unlisted_lits us)) (append-nil ids)
 
-pub looked-true : (ids : List ℕ) (us : List (Option UnitClause)) (m : ℕ) (c : List ℕ) → lit_value us m ≡ Some true → looked ids us (m ∷ c) ≡ (ids, unlisted_lits us)
-looked-true ids us m c h = ap (λ v. (ids ++ item_ids v.items, v.unlisted)) (visit-true (stored_units us) (true_lits us) (unlisted_lits us) m c (true_lits-truth us m ∙ ap truth h)) ∙ looked-nil ids us
-
 pub looked-free : (ids : List ℕ) (us : List (Option UnitClause)) (m : ℕ) (c : List ℕ) → lit_value us m ≡ None → looked ids us (m ∷ c) ≡ looked ids us c
 looked-free ids us m c h = ap (λ v. (ids ++ item_ids v.items, v.unlisted)) (visit-free (stored_units us) (true_lits us) (unlisted_lits us) m c (true_lits-truth us m ∙ ap truth h) (true_lits-falsity us m ∙ ap falsity h))
-
-pub looked-passed : (ids : List ℕ) (us : List (Option UnitClause)) (m : ℕ) (c : List ℕ) → lit_value us m ≡ Some false → stored_id (unit_at us (var_of m)) ≡ None → looked ids us (m ∷ c) ≡ looked ids us c
-looked-passed ids us m c h n = ap (λ v. (ids ++ item_ids v.items, v.unlisted)) (visit-false (stored_units us) (true_lits us) (unlisted_lits us) m c (true_lits-truth us m ∙ ap truth h) (true_lits-falsity us m ∙ ap falsity h) (ap (λ b. b && true_lits us (negate m)) (ap (λ v. is_some (stored_id (unit_at us v))) (var-negate m) ∙ ap is_some n)))
 
 without-is : (us : List (Option UnitClause)) (m : ℕ) (w : UnitClause) → var_of m < length us → number_of w.id ≡ None → true_lits us m ≡ false → without_lit (negate m) (unlisted_lits us) ≡ unlisted_lits (set us (var_of m) (Some w))
 without-is us m w known new free = λ i k. point k i
@@ -115,7 +106,7 @@ without-is us m w known new free = λ i k. point k i
     here : (k : ℕ) → var_of k ≡ var_of m → without_lit (negate m) (unlisted_lits us) k ≡ (unlisted_lits us k && not (eqb (var_of k) (var_of m)))
     here k e = ⊎_elim {C = without_lit (negate m) (unlisted_lits us) k ≡ (unlisted_lits us k && not (eqb (var_of k) (var_of m)))}
         (λ (same : k ≡ m). let none : unlisted_lits us k ≡ false = and_right (is_some (stored_id (unit_at us (var_of k)))) (true_lits us k) (ap (true_lits us) same ∙ free) in
-            ap (λ b. b && not (eqb k (negate m))) none ∙ sym (ap (λ b. b && not (eqb (var_of k) (var_of m))) none))
+        ap (λ b. b && not (eqb k (negate m))) none ∙ sym (ap (λ b. b && not (eqb (var_of k) (var_of m))) none))
         (λ (ne : k ≡ m → ⊥). ap (λ b. unlisted_lits us k && not b) (eq-eqb k (negate m) (negation_is m k e ne) ∙ sym (eq-eqb (var_of k) (var_of m) e)))
         (cases_eq k m)
 
@@ -150,8 +141,8 @@ looked-listed ids us vs m n w c known value found same new e =
     let left_same : without_lit (negate m) (unlisted_lits us) ≡ unlisted_lits vs = without-is us m w known new not_true ∙ ap unlisted_lits (sym e) in
     let kept : KeepsStored us vs = subst (KeepsStored us) (sym e) (keeps-set us (var_of m) w known new) in
     let rest : visit ss s (without_lit (negate m) (unlisted_lits us)) c ≡ look vs c =
-        ap (λ t. visit ss t (without_lit (negate m) (unlisted_lits us)) c) true_same ∙ ap (λ g. visit ss (true_lits vs) g c) left_same
-        ∙ visit-agree (stored_units vs) ss (true_lits vs) (unlisted_lits vs) c (keeps-agree us vs kept) in
+    ap (λ t. visit ss t (without_lit (negate m) (unlisted_lits us)) c) true_same ∙ ap (λ g. visit ss (true_lits vs) g c) left_same
+    ∙ visit-agree (stored_units vs) ss (true_lits vs) (unlisted_lits vs) c (keeps-agree us vs kept) in
     ap (λ v. (ids ++ item_ids v.items, v.unlisted)) (visit-listed ss s (unlisted_lits us) m c not_true is_true unlisted)
     ∙ ap (λ v. (ids ++ item_ids (listing (unit_item ss (negate m)) v).items, v.unlisted)) rest
     ∙ ap (λ k. (ids ++ k ∷ item_ids (look vs c).items, (look vs c).unlisted)) (unit_id-stored us (var_of (negate m)) n at)

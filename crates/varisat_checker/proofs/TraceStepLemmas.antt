@@ -6,8 +6,8 @@ use Rattle.smallvec.specs.SmallVec.{SmallVec}
 use Rattle.std.proofs.lemmas.Bool.{and_right, cases_eq, ne_eqb}
 use Rattle.std.proofs.lemmas.List.{append_assoc, drop_more, map-append}
 use Rattle.checker_rules.specs.Clauses.{add_lit, negate, var_of}
-use Rattle.checker_rules.specs.Hints.{Item, Visit, prepend, stored_item, trace, unlisted_at}
-use Rattle.checker_rules.specs.State.{Stored, StoredUnit, start_set}
+use Rattle.checker_rules.specs.Hints.{Item, prepend, stored_item, trace, unlisted_at}
+use Rattle.checker_rules.specs.State.{Stored, start_set}
 use Rattle.checker_rules.specs.Traced.{ids_of}
 use Rattle.varisat_checker.specs.declared.clauses.Clause.{Clause}
 use Rattle.varisat_checker.specs.declared.clauses.units.UnitClause.{UnitClause}
@@ -20,7 +20,7 @@ use Rattle.varisat_checker.specs.Trace.{KeepsStored, Lists, ids_after, item_ids,
 use Rattle.varisat_checker.specs.Units.{AreKnown, number_of, stored_id, unit_at}
 use Rattle.varisat_checker.specs.View.{stored_of}
 use Rattle.varisat_checker.proofs.TraceLemmas.{keeps-agree, keeps-set, keeps-then, unlisted_lits-set}
-use Rattle.varisat_checker.proofs.UnitsLemmas.{negation_is, true_lits-set}
+use Rattle.varisat_checker.proofs.UnitsLemmas.{negation_is}
 use Rattle.varisat_checker.proofs.VisitLemmas.{on_status, on_visit-status, trace-agree}
 use Rattle.varisat_checker.proofs.WalkLemmas.{is_free, is_unit, known-has}
 
@@ -116,7 +116,7 @@ named_clauses-drop buffer m hs i b cs less found is =
     ∙ ap (λ xs. map (stored_of buffer) xs ++ named_clauses buffer m (drop (i + 1) hs)) (sym is)
 
 -- the trace goes on after a bucket without a falsified clause
-pub lists-bucket : (ids ids_now : List ℕ) (us vs : List (Option UnitClause)) (es : List Stored) (falsified : Bool) → Lists ids us es falsified ids_now vs → falsified ≡ false → (rest : List Stored) → ids_after ids us (es ++ rest) ≡ ids_after ids_now vs rest
+pub lists-bucket : (ids ids_now : List ℕ) (us vs : List (Option UnitClause)) (es : List Stored) (falsified : Bool) → Lists ids us es ids_now vs falsified → falsified ≡ false → (rest : List Stored) → ids_after ids us (es ++ rest) ≡ ids_after ids_now vs rest
 lists-bucket ids ids_now us vs es falsified h e rest = h rest ∙ ap (λ b. cond b (Some ids_now) (ids_after ids_now vs rest)) e
 
 -- the trace of the walk from the values with the negated clause

@@ -1,5 +1,5 @@
 -- Putting values back.
-use Rattle.std.proofs.Common.{◌≡◌, ℕ, ◌<◌, List, [], ◌∷◌, ◌++◌, Option, None, length, get_or, set, set-set, length-set, refl, sym, ap, ◌∙◌, arith}
+use Rattle.std.proofs.Common.{◌≡◌, ℕ, ◌<◌, List, [], ◌∷◌, ◌++◌, Option, None, length, set, set-set, length-set, refl, sym, ap, ◌∙◌, arith}
 use Rattle.std.proofs.lemmas.Grind.{common_steps}
 use Rattle.std.proofs.lemmas.List.{set-get_or}
 use Rattle.std.proofs.lemmas.List.Elements.{All-push}
@@ -26,13 +26,10 @@ pub is_undoable-overwritten : (us vs : List (Option UnitClause)) (ts now : List 
 is_undoable-overwritten us vs ts now m i old new at is e written less known = rw (written, e) (record {
   known = length-set us i new;
   undone = undone-push (set us i new) ts (m, old)
-    ∙ ap (λ (ws : List (Option UnitClause)). undone ws ts) (ap (λ (k : ℕ). set (set us i new) k old) (sym at) ∙ set-set us i new old ∙ ap (set us i) is ∙ set-get_or us i None);
+      ∙ ap (λ (ws : List (Option UnitClause)). undone ws ts) (ap (λ (k : ℕ). set (set us i new) k old) (sym at) ∙ set-set us i new old ∙ ap (set us i) is ∙ set-get_or us i None);
   trail = rw length-set (All-push (λ t. var_of t.0 < length us) ts (m, old) known less);
 })
 
--- nothing is overwritten
-pub is_undoable_from_same : (us : List (Option UnitClause)) (ts : List (ℕ × Option UnitClause)) → IsTrailFor us ts → IsUndoable us ts us ts
-is_undoable_from_same us ts h = record { known = refl; undone = refl; trail = h }
-
+-- one change after another
 pub is_undoable_then : (us vs ws : List (Option UnitClause)) (ts now last : List (ℕ × Option UnitClause)) → IsUndoable us ts vs now → IsUndoable vs now ws last → IsUndoable us ts ws last
 is_undoable_then us vs ws ts now last h k = record { known = k.known ∙ h.known; undone = k.undone ∙ h.undone; trail = k.trail }

@@ -1,9 +1,9 @@
 -- The id of the unit that makes the first true literal true.
-use Rattle.std.proofs.Common.{◌≡◌, ℕ, Bool, true, false, List, ◌∷◌, Option, None, Some, is_some, refl, sym, ap, ◌∙◌}
+use Rattle.std.proofs.Common.{◌≡◌, ℕ, true, false, List, ◌∷◌, Option, None, Some, is_some, refl, sym, ap, ◌∙◌}
 use Rattle.std.specs.Option.{option_map}
 use Rattle.std.proofs.lemmas.Bool.{false≢true}
 use Rattle.checker_rules.specs.Clauses.{var_of}
-use Rattle.checker_rules.specs.State.{lit_by_unit, makes_true, unit_of}
+use Rattle.checker_rules.specs.State.{makes_true}
 use Rattle.checker_rules.specs.Store.{unit_id}
 use Rattle.varisat_checker.specs.declared.clauses.units.UnitClause.{UnitClause}
 use Rattle.varisat_checker.specs.declared.clauses.units.UnitId.{UnitId}

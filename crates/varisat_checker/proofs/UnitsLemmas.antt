@@ -1,12 +1,12 @@
 -- The literals that the values make true.
-use Rattle.std.proofs.Common.{◌≡◌, ℕ, zero, suc, ◌<◌, Bool, true, false, not, ◌||◌, eqb, List, [], ◌∷◌, length, map, set, get_or, Option, None, Some, ◌⊎◌, ⊎_elim, refl, sym, ap, ◌∙◌, subst, arith}
+use Rattle.std.proofs.Common.{◌≡◌, ℕ, zero, suc, ◌<◌, Bool, true, false, not, ◌||◌, eqb, List, [], ◌∷◌, length, set, Option, None, Some, ⊎_elim, refl, sym, ap, ◌∙◌, arith}
 use Rattle.std.specs.Option.{option_map}
 use Rattle.std.proofs.lemmas.Bool.{cases_eq, eq-eqb, ne_eqb}
 use Rattle.std.proofs.lemmas.Bool.Decides.{nat_tests}
 use Rattle.std.proofs.lemmas.Grind.{get_or-set_at}
 use Rattle.std.proofs.lemmas.List.{get_or-set_other}
 use Rattle.checker_rules.specs.Clauses.{add_lit, is_negative, negate, var_of}
-use Rattle.checker_rules.specs.State.{StoredUnit, makes_true, same_bool, unit_of}
+use Rattle.checker_rules.specs.State.{makes_true, same_bool, unit_of}
 use Rattle.checker_rules.proofs.Models.{negative_negate}
 use Rattle.checker_rules.proofs.Traces.{var-negate}
 use Rattle.varisat_checker.specs.declared.clauses.units.UnitClause.{UnitClause}

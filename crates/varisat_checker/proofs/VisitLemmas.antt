@@ -1,5 +1,5 @@
 -- The look at a clause and the trace of the walk, in the words of the rules.
-use Rattle.std.proofs.Common.{◌≡◌, ℕ, Bool, true, false, cond, not, ◌&&◌, ◌||◌, eqb, List, [], ◌∷◌, ◌++◌, map, Option, Some, None, refl, sym, ap, ◌∙◌}
+use Rattle.std.proofs.Common.{◌≡◌, ℕ, Bool, true, false, cond, not, eqb, List, [], ◌∷◌, ◌++◌, Option, Some, refl, sym, ap, ◌∙◌}
 use Rattle.std.specs.List.{list_any}
 use Rattle.std.proofs.lemmas.Bool.{and_parts, true≢false}
 use Rattle.checker_rules.specs.Clauses.{add_lit, negate}
@@ -83,7 +83,7 @@ pub visit-agree : (vs us : List (Option StoredUnit)) (s g : ℕ → Bool) (c : L
 visit-agree vs = by_cases (λ us s g c. AgreeOn g us vs → visit us s g c ≡ visit vs s g c) (λ us s g e. refl) (λ us s g m c. record {
   here = λ h e. visit-true us s g m c h ∙ sym (visit-true vs s g m c h);
   listed = λ h n l more e. visit-listed us s g m c h n l ∙ ap (λ x. listing x (visit us s (without_lit (negate m) g) c)) (e (negate m) l)
-    ∙ ap (listing (unit_item vs (negate m))) (more (λ k y. e k (and_parts (g k) (not (eqb k (negate m))) y).0)) ∙ sym (visit-listed vs s g m c h n l);
+      ∙ ap (listing (unit_item vs (negate m))) (more (λ k y. e k (and_parts (g k) (not (eqb k (negate m))) y).0)) ∙ sym (visit-listed vs s g m c h n l);
   passed = λ h n l more e. visit-false us s g m c h n l ∙ more e ∙ sym (visit-false vs s g m c h n l);
   freed = λ h n more e. visit-free us s g m c h n ∙ ap (freeing m) (more e) ∙ sym (visit-free vs s g m c h n);
 })

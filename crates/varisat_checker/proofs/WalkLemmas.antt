@@ -1,16 +1,14 @@
 -- Steps of the walk.
-use Rattle.std.proofs.Common.{◌≡◌, ℕ, ◌<◌, ◌≤◌, Bool, true, false, not, cond, ◌&&◌, eqb, List, [], ◌∷◌, length, set, Option, None, Some, max, refl, sym, ap, ◌∙◌, subst, arith, inl, inr}
+use Rattle.std.proofs.Common.{◌≡◌, ℕ, ◌<◌, ◌≤◌, Bool, true, false, not, cond, ◌&&◌, eqb, List, [], ◌∷◌, length, set, Option, Some, refl, sym, ap, ◌∙◌, arith, inl, inr}
 use Rattle.std.specs.List.{list_any, list_all}
 use Rattle.std.proofs.lemmas.Bool.{and_parts, eqb-true, false≢true, not-true, or_cases}
 use Rattle.checker_rules.specs.Canonical.{var_bound}
-use Rattle.checker_rules.specs.Clauses.{add_lit, has, is_negative, is_unit_on, negate, var_of}
+use Rattle.checker_rules.specs.Clauses.{add_lit, has, is_negative, negate, var_of}
 use Rattle.checker_rules.specs.Passes.{by_count, unfalsified, walk}
 use Rattle.checker_rules.proofs.Walks.{unit_here}
 use Rattle.varisat_checker.specs.declared.clauses.units.UnitClause.{UnitClause}
-use Rattle.varisat_checker.specs.declared.rup.status.ClauseStatus.{ClauseStatus}
 use Rattle.varisat_checker.specs.declared.rup.status.ClauseStatus.TheVariants as statuses
 use Rattle.varisat_checker.specs.Rup.{status_of, true_lits}
-use Rattle.varisat_checker.specs.Units.{AreKnown}
 use Rattle.varisat_checker.proofs.UnitsLemmas.{true_lits-set}
 
 -- a literal of the list has a known variable

@@ -9,7 +9,7 @@ use Rattle.checker_rules.specs.Outcome.{Cause}
 use Rattle.checker_rules.specs.State.{State}
 use Rattle.checker_rules.specs.Step.{Step}
 use Rattle.proof_bytes.specs.Reading.{Short, Wrong}
-use Rattle.proof_bytes.specs.TextRuns.{RunsBefore, RunsOver, RunsUntilRead}
+use Rattle.proof_bytes.specs.TextRuns.{RunsBefore, RunsOver, RunsUntilCut}
 use Rattle.checker_parts.specs.Answers.{IsCovered, IsFold, UnlessFailed}
 use Rattle.checker_parts.specs.Causes.{cause_of}
 use Rattle.checker_parts.specs.declared.error.CheckerError.{CheckerError}
@@ -29,7 +29,7 @@ abbrev pub EndsProof : {A : Type 0} → Option (List ℕ) → State → List Ste
 EndsProof known s steps (Ok x) t = RunsOver known s steps None t
 EndsProof known s steps (Err (CheckFailed number msg debug_step)) t = (number ≡ t.steps) × RunsToRefusal (cause_of msg) known s steps t
 EndsProof known s steps (Err (ProofIncomplete number)) t = (number ≡ t.steps) × RunsOver known s steps (Some (inr Short)) t
-EndsProof known s steps (Err (IoError number cause)) t = (number ≡ t.steps) × RunsUntilRead known s steps t
+EndsProof known s steps (Err (IoError number cause)) t = (number ≡ t.steps) × RunsUntilCut known s steps t
 EndsProof known s steps (Err (ParseError number kind)) t = (number ≡ t.steps) × RunsOver known s steps (Some (inr (Wrong kind))) t
 EndsProof known s steps (Err (ProofProcessorError cause)) t = Unit {0}
 EndsProof known s steps (Err OutOfMemory) t = Unit {0}

@@ -23,9 +23,9 @@ true_lits us = lit_by_unit (stored_units us)
 abbrev pub status_of : (ℕ → Bool) → List ℕ → ClauseStatus
 status_of s c = cond (list_any s c) statuses.Idle (by_count (unfalsified s c) statuses.Falsified (λ l. statuses.Unit l) statuses.Idle)
 
--- a walk over clauses meets a falsified one, or leaves these literals true
-abbrev pub Walks : (ℕ → Bool) → List (List ℕ) → Bool → (ℕ → Bool) → Type 0
-Walks s cs falsified r = walk s cs ≡ cond falsified None (Some r)
+-- a walk over clauses from these values meets a falsified one, or leaves those
+abbrev pub Walks : List (Option UnitClause) → List (List ℕ) → List (Option UnitClause) → Bool → Type 0
+Walks us cs vs falsified = walk (true_lits us) cs ≡ cond falsified None (Some (true_lits vs))
 
 -- the lists of literals of clauses
 abbrev pub lits_in : List ℕ → List Clause → List (List ℕ)

@@ -49,9 +49,9 @@ looked ids us c = (ids ++ item_ids (look us c).items, (look us c).unlisted)
 abbrev pub ids_after : List ℕ → List (Option UnitClause) → List Stored → Option (List ℕ)
 ids_after ids us es = option_map (λ items. ids ++ item_ids items) (trace (stored_units us) (true_lits us) (unlisted_lits us) es)
 
--- whatever clauses follow, the ids after all are known after these
-abbrev pub Lists : List ℕ → List (Option UnitClause) → List Stored → Bool → List ℕ → List (Option UnitClause) → Type 0
-Lists ids us es falsified ids_now us_now = (rest : List Stored) → ids_after ids us (es ++ rest) ≡ cond falsified (Some ids_now) (ids_after ids_now us_now rest)
+-- a walk over clauses meets a falsified one, or goes on with these ids and values, whatever clauses follow
+abbrev pub Lists : List ℕ → List (Option UnitClause) → List Stored → List ℕ → List (Option UnitClause) → Bool → Type 0
+Lists ids us es now vs falsified = (rest : List Stored) → ids_after ids us (es ++ rest) ≡ cond falsified (Some now) (ids_after now vs rest)
 
 -- the clauses of the named buckets, one after the other
 abbrev pub named_clauses : List ℕ → Buckets → List ℕ → List Stored
@@ -71,7 +71,7 @@ abbrev pub clause_trace : List (Option StoredUnit) → List ℕ → List Stored 
 clause_trace us c es = cond (some_true_unit us c) (unit_id (unit_of us (var_of (first_true us c))) ∷ []) (ids_of (open_trace us c es))
 
 -- the ids that stand after a check: those of its trace where it was traced and passed
-abbrev pub trace_ids_after : Bool → Answer → List ℕ → List ℕ → List ℕ
-trace_ids_after traced Passed ids old = cond traced ids old
-trace_ids_after traced NoClauseForHash ids old = old
-trace_ids_after traced Failed ids old = old
+abbrev pub last_trace : Bool → Answer → List ℕ → List ℕ → List ℕ
+last_trace traced Passed ids old = cond traced ids old
+last_trace traced NoClauseForHash ids old = old
+last_trace traced Failed ids old = old

@@ -14,7 +14,7 @@ ghost use Rattle.checker_rules.specs.Traced.{ids_of};
 ghost use Rattle.varisat_checker.specs.Buckets.{AreWithin};
 ghost use Rattle.varisat_checker.specs.Rup.{AreAllKnown, check_answer, clause_answer, named_buckets};
 ghost use Rattle.varisat_checker.specs.StateOf.{stored_units};
-ghost use Rattle.varisat_checker.specs.Trace.{AreStored, clause_trace, named_clauses, open_trace, trace_ids_after};
+ghost use Rattle.varisat_checker.specs.Trace.{AreStored, clause_trace, named_clauses, open_trace, last_trace};
 ghost use Rattle.varisat_checker.specs.Trail.{IsTrailFor, IsUndoable};
 ghost use Rattle.varisat_checker.specs.Units.{AreKnown};
 
@@ -78,17 +78,13 @@ pub fn check_clause(
     requires all_known { AreAllKnown units.old buffer.now buckets.now }
     requires stored { AreStored units.old }
     requires no_tautology { is_tautology lits.now ≡ false }
-    ensures answer {
-        let named = named_buckets buffer.now buckets.now hashes.now in
-        IfOk result (λ a. check_answer a ≡ clause_answer (stored_units units.old) lits.now named)
-    }
+    ensures answer { let named = named_buckets buffer.now buckets.now hashes.now in
+        IfOk result (λ a. check_answer a ≡ clause_answer (stored_units units.old) lits.now named) }
     ensures units { units.new ≡ units.old }
-    ensures trace_ids {
-        let named = named_clauses buffer.now buckets.now hashes.now in
+    ensures trace_ids { let named = named_clauses buffer.now buckets.now hashes.now in
         let ids = clause_trace (stored_units units.old) lits.now named in
-        IfOk result (λ a. rup.new.trace_ids.items
-            ≡ trace_ids_after traced a ids rup.old.trace_ids.items)
-    }
+        IfOk result (λ a.
+        rup.new.trace_ids.items ≡ last_trace traced a ids rup.old.trace_ids.items) }
 {
     if let Some(id) = true_unit_id(units, lits) {
         if traced {
@@ -116,18 +112,14 @@ fn check_open_clause(
     requires stored { AreStored units.old }
     requires free { some_true_unit (stored_units units.old) lits.now ≡ false }
     requires no_tautology { is_tautology lits.now ≡ false }
-    ensures answer {
-        let named = named_buckets buffer.now buckets.now hashes.now in
+    ensures answer { let named = named_buckets buffer.now buckets.now hashes.now in
         IfOk result (λ a. check_answer a
-            ≡ rules.walk_buckets (start_set (stored_units units.old) lits.now) named)
-    }
+        ≡ rules.walk_buckets (start_set (stored_units units.old) lits.now) named) }
     ensures units { units.new ≡ units.old }
-    ensures trace_ids {
-        let named = named_clauses buffer.now buckets.now hashes.now in
+    ensures trace_ids { let named = named_clauses buffer.now buckets.now hashes.now in
         let ids = ids_of (open_trace (stored_units units.old) lits.now named) in
-        IfOk result (λ a. rup.new.trace_ids.items
-            ≡ trace_ids_after traced a ids rup.old.trace_ids.items)
-    }
+        IfOk result (λ a.
+        rup.new.trace_ids.items ≡ last_trace traced a ids rup.old.trace_ids.items) }
 {
     rup.propagation.begin(traced);
     let answer = walk_negated(units, &mut rup.propagation, buckets, buffer, lits, hashes);
@@ -141,7 +133,7 @@ fn check_open_clause(
 /// The walk with the literals taken as false, whose values stay.
 fn walk_negated(
     units: &mut Units,
-    propagation: &mut Propagation,
+    run: &mut Propagation,
     buckets: &Buckets,
     buffer: &[Lit],
     lits: &[Lit],
@@ -153,23 +145,16 @@ fn walk_negated(
     requires stored { AreStored units.old }
     requires free { some_true_unit (stored_units units.old) lits.now ≡ false }
     requires no_tautology { is_tautology lits.now ≡ false }
-    requires trail { IsTrailFor units.old propagation.old.trail.items }
-    requires trace { propagation.old.trace.items ≡ [] }
-    ensures answer {
-        let named = named_buckets buffer.now buckets.now hashes.now in
+    requires trail { IsTrailFor units.old run.old.trail.items }
+    requires trace { run.old.trace.items ≡ [] }
+    ensures answer { let named = named_buckets buffer.now buckets.now hashes.now in
         IfOk result (λ a. check_answer a
-            ≡ rules.walk_buckets (start_set (stored_units units.old) lits.now) named)
-    }
-    ensures listed {
-        let named = named_clauses buffer.now buckets.now hashes.now in
-        IsTrue propagation.old.traced → IfOk result (λ a. a ≡ Answer.Passed →
-            propagation.new.trace.items
-                ≡ ids_of (open_trace (stored_units units.old) lits.now named))
-    }
-    ensures undoable {
-        IsUndoable units.old propagation.old.trail.items units.new propagation.new.trail.items
-    }
+        ≡ rules.walk_buckets (start_set (stored_units units.old) lits.now) named) }
+    ensures listed { let named = named_clauses buffer.now buckets.now hashes.now in
+        IsTrue run.old.traced → IfOk result (λ a. a ≡ Answer.Passed →
+        run.new.trace.items ≡ ids_of (open_trace (stored_units units.old) lits.now named)) }
+    ensures undoable { IsUndoable units.old run.old.trail.items units.new run.new.trail.items }
 {
-    assume_false(units, &mut propagation.trail, lits)?;
-    walk_buckets(units, propagation, buckets, buffer, hashes)
+    assume_false(units, &mut run.trail, lits)?;
+    walk_buckets(units, run, buckets, buffer, hashes)
 }

@@ -47,16 +47,12 @@ impl Propagation {
     pub fn list_units(&mut self, units: &mut Units, lits: &[Lit]) -> Result<(), AllocError>
         requires known { AreKnown units.old lits.now }
         requires trail { IsTrailFor units.old self.old.trail.items }
-        ensures listed {
-            IsTrue self.old.traced → OnOk result
-                (looked self.old.trace.items units.old lits.now
-                    ≡ (self.new.trace.items, unlisted_lits units.new))
-        }
+        ensures listed { IsTrue self.old.traced → OnOk result (
+            looked self.old.trace.items units.old lits.now
+            ≡ (self.new.trace.items, unlisted_lits units.new)) }
         ensures kept { KeepsStored units.old units.new }
         ensures true_lits { true_lits units.new ≡ true_lits units.old }
-        ensures undoable {
-            IsUndoable units.old self.old.trail.items units.new self.new.trail.items
-        }
+        ensures undoable { IsUndoable units.old self.old.trail.items units.new self.new.trail.items }
         ensures traced { self.new.traced ≡ self.old.traced }
     {
         if self.traced {
@@ -67,10 +63,8 @@ impl Propagation {
 
     /// Lists a clause, in a traced check.
     pub fn list_clause(&mut self, id: u64) -> Result<(), AllocError>
-        ensures listed {
-            IsTrue self.old.traced → OnOk result
-                (self.new.trace.items ≡ self.old.trace.items ++ id ∷ [])
-        }
+        ensures listed { IsTrue self.old.traced → OnOk result
+            (self.new.trace.items ≡ self.old.trace.items ++ id ∷ []) }
         ensures trail { self.new.trail ≡ self.old.trail }
         ensures traced { self.new.traced ≡ self.old.traced }
     {

@@ -24,10 +24,8 @@ pub fn list_units(
 ) -> Result<(), AllocError>
     requires known { AreKnown units.old lits.now }
     requires trail { IsTrailFor units.old trail.old.items }
-    ensures listed {
-        OnOk result (looked trace.old.items units.old lits.now
-            ≡ (trace.new.items, unlisted_lits units.new))
-    }
+    ensures listed { OnOk result (looked trace.old.items units.old lits.now
+        ≡ (trace.new.items, unlisted_lits units.new)) }
     ensures kept { KeepsStored units.old units.new }
     ensures true_lits { true_lits units.new ≡ true_lits units.old }
     ensures undoable { IsUndoable units.old trail.old.items units.new trail.new.items }
@@ -53,10 +51,8 @@ fn list_unit(
     requires is_false { values.lit_value units.old lit ≡ Some false }
     requires trail { IsTrailFor units.old trail.old.items }
     // Whatever literals come after it.
-    ensures listed {
-        OnOk result ((rest : List ℕ) →
-            looked trace.old.items units.old (lit ∷ rest) ≡ looked trace.new.items units.new rest)
-    }
+    ensures listed { OnOk result ((rest : List ℕ) →
+        looked trace.old.items units.old (lit ∷ rest) ≡ looked trace.new.items units.new rest) }
     ensures kept { KeepsStored units.old units.new }
     ensures true_lits { true_lits units.new ≡ true_lits units.old }
     ensures undoable { IsUndoable units.old trail.old.items units.new trail.new.items }

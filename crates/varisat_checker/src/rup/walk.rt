@@ -23,44 +23,34 @@ use std::alloc::AllocError;
 /// Makes the literal true that alone is free. Answers whether the clause is falsified.
 pub fn visit_clause(
     units: &mut Units,
-    propagation: &mut Propagation,
+    run: &mut Propagation,
     clause: &Clause,
     buffer: &[Lit],
 ) -> Result<bool, AllocError>
     requires within { IsWithin clause.now.lits buffer.now }
     requires known { AreKnown units.old (lits_of clause.now.lits buffer.now) }
-    requires trail { IsTrailFor units.old propagation.old.trail.items }
-    ensures ok {
-        let lits = lits_of clause.now.lits buffer.now in
-        IfOk result (λ falsified. Walks (true_lits units.old) (lits ∷ []) falsified
-            (true_lits units.new))
-    }
-    ensures listed {
-        let stored = stored_of buffer.now clause.now in
-        IsTrue propagation.old.traced → IfOk result (λ falsified.
-            Lists propagation.old.trace.items units.old (stored ∷ []) falsified
-                propagation.new.trace.items units.new)
-    }
-    ensures undoable {
-        IsUndoable units.old propagation.old.trail.items units.new propagation.new.trail.items
-    }
-    ensures traced { propagation.new.traced ≡ propagation.old.traced }
+    requires trail { IsTrailFor units.old run.old.trail.items }
+    ensures ok { IfOk result (Walks units.old (lits_in buffer.now (clause.now ∷ [])) units.new) }
+    ensures listed { IsTrue run.old.traced → IfOk result (Lists run.old.trace.items units.old
+        (stored_of buffer.now clause.now ∷ []) run.new.trace.items units.new) }
+    ensures undoable { IsUndoable units.old run.old.trail.items units.new run.new.trail.items }
+    ensures traced { run.new.traced ≡ run.old.traced }
 {
     let lits = clause.lits.slice(buffer);
     let status = clause_status(units, lits);
-    propagation.list_units(units, lits)?;
+    run.list_units(units, lits)?;
     match status {
         ClauseStatus::Falsified => {
-            propagation.list_clause(clause.id)?;
+            run.list_clause(clause.id)?;
             Ok(true)
         }
         ClauseStatus::Unit(lit) => {
             let unit = UnitClause {
-                id: UnitId::TracePos(propagation.trace.len()),
+                id: UnitId::TracePos(run.trace.len()),
                 value: lit.is_positive(),
             };
-            propagation.list_clause(clause.id)?;
-            overwrite(units, &mut propagation.trail, lit, unit)?;
+            run.list_clause(clause.id)?;
+            overwrite(units, &mut run.trail, lit, unit)?;
             Ok(false)
         }
         ClauseStatus::Idle => Ok(false),
@@ -70,30 +60,21 @@ pub fn visit_clause(
 /// Visits the clauses in turn, and answers whether one is falsified.
 pub fn visit_bucket(
     units: &mut Units,
-    propagation: &mut Propagation,
+    run: &mut Propagation,
     bucket: &[Clause],
     buffer: &[Lit],
 ) -> Result<bool, AllocError>
     requires within { All (λ c. IsWithin c.lits buffer.now) bucket.now }
     requires known { All (λ c. AreKnown units.old (lits_of c.lits buffer.now)) bucket.now }
-    requires trail { IsTrailFor units.old propagation.old.trail.items }
-    ensures ok {
-        IfOk result (λ falsified. Walks (true_lits units.old) (lits_in buffer.now bucket.now)
-            falsified (true_lits units.new))
-    }
-    ensures listed {
-        let stored = map (stored_of buffer.now) bucket.now in
-        IsTrue propagation.old.traced → IfOk result (λ falsified.
-            Lists propagation.old.trace.items units.old stored falsified
-                propagation.new.trace.items units.new)
-    }
-    ensures undoable {
-        IsUndoable units.old propagation.old.trail.items units.new propagation.new.trail.items
-    }
-    ensures traced { propagation.new.traced ≡ propagation.old.traced }
+    requires trail { IsTrailFor units.old run.old.trail.items }
+    ensures ok { IfOk result (Walks units.old (lits_in buffer.now bucket.now) units.new) }
+    ensures listed { IsTrue run.old.traced → IfOk result (Lists run.old.trace.items units.old
+        (map (stored_of buffer.now) bucket.now) run.new.trace.items units.new) }
+    ensures undoable { IsUndoable units.old run.old.trail.items units.new run.new.trail.items }
+    ensures traced { run.new.traced ≡ run.old.traced }
 {
     for clause in bucket {
-        if visit_clause(units, propagation, clause, buffer)? {
+        if visit_clause(units, run, clause, buffer)? {
             return Ok(true);
         }
     }
@@ -103,33 +84,26 @@ pub fn visit_bucket(
 /// Visits the buckets of the hashes in turn, up to a falsified clause or a missing bucket.
 pub fn walk_buckets(
     units: &mut Units,
-    propagation: &mut Propagation,
+    run: &mut Propagation,
     buckets: &Buckets,
     buffer: &[Lit],
     hashes: &[ClauseHash],
 ) -> Result<Answer, AllocError>
     requires within { AreWithin buffer.now buckets.now }
     requires known { AreAllKnown units.old buffer.now buckets.now }
-    requires trail { IsTrailFor units.old propagation.old.trail.items }
-    ensures ok {
-        let named = named_buckets buffer.now buckets.now hashes.now in
-        IfOk result (λ a. check_answer a ≡ rules.walk_buckets (true_lits units.old) named)
-    }
-    ensures listed {
-        let named = named_clauses buffer.now buckets.now hashes.now in
-        IsTrue propagation.old.traced → IfOk result (λ a. a ≡ Answer.Passed →
-            ids_after propagation.old.trace.items units.old named
-                ≡ Some propagation.new.trace.items)
-    }
-    ensures undoable {
-        IsUndoable units.old propagation.old.trail.items units.new propagation.new.trail.items
-    }
-    ensures traced { propagation.new.traced ≡ propagation.old.traced }
+    requires trail { IsTrailFor units.old run.old.trail.items }
+    ensures ok { let named = named_buckets buffer.now buckets.now hashes.now in
+        IfOk result (λ a. check_answer a ≡ rules.walk_buckets (true_lits units.old) named) }
+    ensures listed { let named = named_clauses buffer.now buckets.now hashes.now in
+        IsTrue run.old.traced → IfOk result (λ a. a ≡ Answer.Passed →
+        ids_after run.old.trace.items units.old named ≡ Some run.new.trace.items) }
+    ensures undoable { IsUndoable units.old run.old.trail.items units.new run.new.trail.items }
+    ensures traced { run.new.traced ≡ run.old.traced }
 {
     for hash in hashes {
         match buckets.get(hash) {
             Some(bucket) if !bucket.is_empty() => {
-                if visit_bucket(units, propagation, bucket.as_slice(), buffer)? {
+                if visit_bucket(units, run, bucket.as_slice(), buffer)? {
                     return Ok(Answer::Passed);
                 }
             }

@@ -1,7 +1,6 @@
-use Rattle.std.proofs.Common.{◌≡◌, ℕ, true, false, Some, None, refl, sym, ap, ◌∙◌}
-use Rattle.varisat_checker.specs.Rup.{status_of, true_lits}
+use Rattle.std.proofs.Common.{◌≡◌, false, Some, None, sym, ap, ◌∙◌}
 use Rattle.varisat_checker.specs.Units.{lit_value}
-use Rattle.varisat_checker.proofs.StatusLemmas.{drop-at, status_from, status_from-false, status_from-free}
+use Rattle.varisat_checker.proofs.StatusLemmas.{drop-at, status_from-false, status_from-free}
 use Rattle.varisat_checker.proofs.rup.status.clause_status.Goals as goal
 use Rattle.varisat_checker.proofs.rup.status.clause_status.Goals.{in-Some-false, in-None+in-Falsified}
 

@@ -1,4 +1,4 @@
-use Rattle.std.proofs.Common.{◌≡◌, ap, sym, ◌∙◌}
+use Rattle.std.proofs.Common.{ap, sym, ◌∙◌}
 use Rattle.varisat_checker.specs.StateOf.{stored_units}
 use Rattle.varisat_checker.specs.Trace.{true_unit_id}
 use Rattle.varisat_checker.specs.Units.{stored_id, unit_at}

@@ -1,4 +1,4 @@
-use Rattle.std.proofs.Common.{◌≡◌, sym, ap, refl, ◌∙◌}
+use Rattle.std.proofs.Common.{sym, ap, refl, ◌∙◌}
 use Rattle.varisat_checker.specs.Rup.{true_lits}
 use Rattle.varisat_checker.specs.Trace.{looked}
 use Rattle.varisat_checker.specs.Units.{stored_id, unit_at}

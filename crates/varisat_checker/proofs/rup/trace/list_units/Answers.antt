@@ -1,8 +1,8 @@
-use Rattle.std.proofs.Common.{◌≡◌, true, false, None, Some, sym, ap, ◌∙◌}
+use Rattle.std.proofs.Common.{◌≡◌, None, sym, ap, ◌∙◌}
 use Rattle.varisat_checker.specs.Trace.{looked}
 use Rattle.varisat_checker.specs.Units.{lit_value}
 use Rattle.varisat_checker.proofs.StatusLemmas.{drop-at}
-use Rattle.varisat_checker.proofs.TraceLemmas.{keeps-then, looked-free, looked-true}
+use Rattle.varisat_checker.proofs.TraceLemmas.{keeps-then, looked-free}
 use Rattle.varisat_checker.proofs.TrailLemmas.{is_undoable_then}
 use Rattle.varisat_checker.proofs.rup.trace.list_units.Goals as goal
 use Rattle.varisat_checker.proofs.rup.trace.list_units.Goals.{in-Some-false+in_ok-list_unit-in-Some-false, in-None}
@@ -20,11 +20,11 @@ loop-lit-preserved c =
         undoable = is_undoable_then _ _ _ _ _ _ inv.undoable w.list_unit.ensures.undoable;
       })
       | in-None w ↦
-        let value : lit_value us m ≡ None = sym c.lit_value.ensures ∙ w.in-None.is in
-        rw (w.units-is, w.trail-is, w.trace-is) (record {
-          listed = sym (looked-free _ us m _ value) ∙ before;
-          kept = inv.kept;
-          true_lits = inv.true_lits;
-          undoable = inv.undoable;
-        })
+          let value : lit_value us m ≡ None = sym c.lit_value.ensures ∙ w.in-None.is in
+          rw (w.units-is, w.trail-is, w.trace-is) (record {
+            listed = sym (looked-free _ us m _ value) ∙ before;
+            kept = inv.kept;
+            true_lits = inv.true_lits;
+            undoable = inv.undoable;
+          })
     ]

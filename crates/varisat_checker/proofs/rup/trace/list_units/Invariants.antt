@@ -1,4 +1,4 @@
-use Rattle.std.proofs.Common.{◌≡◌, drop, length}
+use Rattle.std.proofs.Common.{◌≡◌, drop}
 use Rattle.varisat_checker.specs.Rup.{true_lits}
 use Rattle.varisat_checker.specs.Trace.{KeepsStored, looked}
 use Rattle.varisat_checker.specs.Trail.{IsUndoable}

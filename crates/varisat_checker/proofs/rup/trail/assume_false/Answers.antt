@@ -1,4 +1,4 @@
-use Rattle.std.proofs.Common.{◌≡◌, length, refl, sym, ◌∙◌, subst}
+use Rattle.std.proofs.Common.{length, refl, sym, subst}
 use Rattle.varisat_checker.specs.Trace.{KeepsStored}
 use Rattle.varisat_checker.proofs.AssumeLemmas.{assume-all, assume-step, known-at, unlisted-all, unlisted-step}
 use Rattle.varisat_checker.proofs.TraceLemmas.{keeps-set, keeps-then}

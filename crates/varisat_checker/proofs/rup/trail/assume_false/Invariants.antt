@@ -1,4 +1,4 @@
-use Rattle.std.proofs.Common.{◌≡◌, ℕ, ◌&&◌, not, length, take}
+use Rattle.std.proofs.Common.{◌≡◌, ℕ, ◌&&◌, not, take}
 use Rattle.checker_rules.specs.Clauses.{var_of}
 use Rattle.checker_rules.specs.DeleteVar.{holds_var}
 use Rattle.checker_rules.specs.State.{start_set}

@@ -1,4 +1,4 @@
-use Rattle.std.proofs.Common.{◌≡◌, ◌≤◌, length, ap, refl, sym, ◌∙◌}
+use Rattle.std.proofs.Common.{ap, refl, ◌∙◌}
 use Rattle.varisat_checker.specs.Rup.{status_of, true_lits}
 use Rattle.varisat_checker.specs.Units.{AreKnown}
 use Rattle.varisat_checker.specs.View.{stored_of}

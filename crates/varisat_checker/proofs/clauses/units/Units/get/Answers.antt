@@ -1,4 +1,4 @@
-use Rattle.std.proofs.Common.{sym, ap, ◌∙◌}
+use Rattle.std.proofs.Common.{sym, ◌∙◌}
 use Rattle.varisat_checker.proofs.ColumnLemmas.{in_range, is_place, unit-read}
 use Rattle.varisat_checker.proofs.clauses.units.Units.get.Goals as goal
 

@@ -1,4 +1,4 @@
-use Rattle.std.proofs.Common.{◌≡◌, length, sym, ap, ◌∙◌}
+use Rattle.std.proofs.Common.{length, sym, ap, ◌∙◌}
 use Rattle.varisat_checker.proofs.ColumnLemmas.{length-units_by}
 use Rattle.varisat_checker.proofs.clauses.units.Units.len.Goals as goal
 

@@ -1,4 +1,4 @@
-use Rattle.std.proofs.Common.{◌≡◌, [], ◌∷◌, ◌++◌, None, ap, ◌∙◌}
+use Rattle.std.proofs.Common.{[], ◌∷◌, ◌++◌, None, ap, ◌∙◌}
 use Rattle.varisat_checker.specs.declared.clauses.units.Source.TheVariants.{Stored}
 use Rattle.varisat_checker.specs.declared.clauses.units.Value.TheVariants as values
 use Rattle.varisat_checker.proofs.ColumnLemmas.{units_by-push}

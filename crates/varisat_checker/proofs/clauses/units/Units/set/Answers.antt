@@ -1,4 +1,4 @@
-use Rattle.std.proofs.Common.{◌≡◌, set, None, sym, ap, ◌∙◌}
+use Rattle.std.proofs.Common.{set, None, sym, ap, ◌∙◌}
 use Rattle.varisat_checker.proofs.ColumnLemmas.{is_place, unit-write, units_by-free}
 use Rattle.varisat_checker.proofs.clauses.units.Units.set.Goals as goal
 

@@ -1,7 +1,6 @@
-use Rattle.std.proofs.Common.{◌≡◌, ◌≤◌, get_or, sym, ap, ◌∙◌, arith}
+use Rattle.std.proofs.Common.{◌≡◌, get_or, ap, ◌∙◌, arith}
 use Rattle.std.specs.Option.{option_map, unwrap_or}
 use Rattle.varisat_checker.specs.declared.clauses.units.UnitClause.{UnitClause}
-use Rattle.varisat_checker.specs.declared.clauses.units.Value.{Value}
 use Rattle.varisat_checker.specs.declared.clauses.units.Value.TheVariants as values
 use Rattle.varisat_checker.specs.Units.{known, unit_at}
 use Rattle.varisat_checker.proofs.ColumnLemmas.{value-units_by}

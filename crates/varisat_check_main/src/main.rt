@@ -1,0 +1,87 @@
+//! The command `varisat_check CNF PROOF`: checks a proof against a formula, and says in one line what it shows.
+//!
+//! Without arguments it checks a small fixed example.
+#![tactic(auto)]
+
+use log::sink::Console;
+use log::{LevelFilter, Logged};
+use sat_formula::Lit;
+use std::env;
+use std::fs::File;
+use std::io;
+use std::process::ExitCode;
+use varisat_check::{RunFault, Verdict, exit_status, run_check, run_proof};
+use varisat_checker::Checker;
+
+/// The exit status of a call that can't be run.
+const NOT_RUN: u8 = 2;
+
+/// A proof of one step, which ends it.
+const END_ALONE: [u8; 1] = [0x0D];
+
+fn main(rt: HostRuntime) -> ExitCode {
+    ExitCode::from(status_of_call(&rt))
+}
+
+fn status_of_call(rt: &HostRuntime) -> u8 {
+    let mut words = match env::args(rt) {
+        Ok(words) => words.skip(1),
+        Err(fault) => {
+            let _ = eprintln!(rt; "{fault}");
+            return NOT_RUN;
+        }
+    };
+    match (words.next(), words.next(), words.next()) {
+        (None, _, _) => check_example(rt),
+        (Some(cnf), Some(proof), None) => check_files(rt, cnf.as_str(), proof.as_str()),
+        _ => {
+            let _ = eprintln!(rt; "usage: varisat_check CNF PROOF");
+            NOT_RUN
+        }
+    }
+}
+
+/// Both files are opened before anything is read.
+fn check_files(rt: &HostRuntime, cnf_name: &str, proof_name: &str) -> u8 {
+    let Some(cnf) = open(rt, cnf_name) else {
+        return NOT_RUN;
+    };
+    let Some(proof) = open(rt, proof_name) else {
+        return NOT_RUN;
+    };
+    let log = Logged::new(rt, LevelFilter::Warn, Console(rt));
+    let outcome = run_check(&log, rt.alloc(), cnf, proof, &mut io::writer(rt));
+    report(rt, &outcome)
+}
+
+/// A variable that has to be true and false, and a proof that has nothing to add.
+fn check_example(rt: &HostRuntime) -> u8 {
+    let mut checker = Checker::new(rt.alloc());
+    for number in [1, -1] {
+        if let Some(lit) = Lit::from_dimacs(number) && let Err(fault) = checker.add_clause(&[lit]) {
+            return report(rt, &Err(RunFault::Proof(fault)));
+        }
+    }
+    let log = Logged::new(rt, LevelFilter::Warn, Console(rt));
+    let outcome = run_proof(&log, &mut checker, END_ALONE.as_slice(), &mut io::writer(rt));
+    report(rt, &outcome)
+}
+
+/// The file, or a line that says that it can't be opened.
+fn open(rt: &HostRuntime, name: &str) -> Option<File> {
+    match File::open(rt, name) {
+        Ok(file) => Some(file),
+        Err(_) => {
+            let _ = eprintln!(rt; "cannot open {name}");
+            None
+        }
+    }
+}
+
+/// Says why there is no verdict, and gives the exit status.
+fn report(rt: &HostRuntime, outcome: &Result<Verdict, RunFault>) -> u8 {
+    if let Err(fault) = outcome {
+        let _ = eprintln!(rt; "{fault}");
+    }
+    exit_status(outcome)
+}
