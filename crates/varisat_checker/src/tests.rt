@@ -1,9 +1,11 @@
 //! Worked calls: what they answer, and what is recorded after them.
 mod derived;
+mod exhausted;
 mod formulas;
 mod input;
 mod logs;
 mod orders;
+mod parts;
 mod proofs;
 mod readers;
 mod texts;
