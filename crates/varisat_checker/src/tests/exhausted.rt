@@ -47,11 +47,13 @@ fn add(alloc: Global, ctx: &mut Context, numbers: &[i64]) -> Result<Seen, Fail>
     let clause = lits(alloc, numbers)?;
     match add_clause(alloc, ctx, &clause) {
         Ok(()) => Ok(Seen::Done),
-        Err(CheckerError::CheckFailed {
-            step,
-            msg,
-            debug_step,
-        }) => Ok(Seen::Refused(step, msg, !debug_step.is_empty())),
+        Err(
+            CheckerError::CheckFailed {
+                step,
+                msg,
+                debug_step,
+            },
+        ) => Ok(Seen::Refused(step, msg, !debug_step.is_empty())),
         Err(_) => Err("the parts failed".into()),
     }
 }
@@ -62,11 +64,13 @@ fn attempt(alloc: Global, ctx: &mut Context, step: &ProofStep) -> Result<Seen, F
 {
     match attempt_step(alloc, ctx, step) {
         Ok(()) => Ok(Seen::Done),
-        Err(CheckerError::CheckFailed {
-            step,
-            msg,
-            debug_step,
-        }) => Ok(Seen::Refused(step, msg, !debug_step.is_empty())),
+        Err(
+            CheckerError::CheckFailed {
+                step,
+                msg,
+                debug_step,
+            },
+        ) => Ok(Seen::Refused(step, msg, !debug_step.is_empty())),
         Err(_) => Err("the parts failed".into()),
     }
 }
@@ -91,11 +95,13 @@ fn close(alloc: Global, ctx: &mut Context) -> Result<Seen, Fail>
 {
     match process_unit_conflicts(alloc, ctx) {
         Ok(()) => Ok(Seen::Done),
-        Err(CheckerError::CheckFailed {
-            step,
-            msg,
-            debug_step,
-        }) => Ok(Seen::Refused(step, msg, !debug_step.is_empty())),
+        Err(
+            CheckerError::CheckFailed {
+                step,
+                msg,
+                debug_step,
+            },
+        ) => Ok(Seen::Refused(step, msg, !debug_step.is_empty())),
         Err(_) => Err("the parts failed".into()),
     }
 }
@@ -106,11 +112,13 @@ fn prove<R: Read + Drop>(alloc: Global, ctx: &mut Context, proof: R) -> Result<S
 {
     match check_proof(&Discard, alloc, ctx, proof) {
         Ok(()) => Ok(Seen::Done),
-        Err(CheckerError::CheckFailed {
-            step,
-            msg,
-            debug_step,
-        }) => Ok(Seen::Refused(step, msg, !debug_step.is_empty())),
+        Err(
+            CheckerError::CheckFailed {
+                step,
+                msg,
+                debug_step,
+            },
+        ) => Ok(Seen::Refused(step, msg, !debug_step.is_empty())),
         Err(_) => Err("the parts failed, or the proof was read".into()),
     }
 }
@@ -141,7 +149,10 @@ fn no_id_for_the_closing_conflict(rt: HostRuntime) -> Result<(), Fail> {
     let mut ctx = with_ids_from(alloc, u64::MAX - 2);
     assert_eq!(rt; add(alloc, &mut ctx, &[1])?, Seen::Done);
     assert_eq!(rt; add(alloc, &mut ctx, &[-1])?, Seen::Done);
-    assert_eq!(rt; ctx.clauses.unit_conflict, Some((u64::MAX - 2, u64::MAX - 1)));
+    assert_eq!(rt;
+        ctx.clauses.unit_conflict,
+        Some((u64::MAX - 2, u64::MAX - 1))
+    );
     assert_eq!(rt;
         close(alloc, &mut ctx)?,
         Seen::Refused(0, CheckCause::IdsExhausted, false)
@@ -180,7 +191,10 @@ fn nothing_is_read_without_a_step_number(rt: HostRuntime) -> Result<(), Fail> {
     assert_eq!(rt; prove(alloc, &mut ctx, unread)?, refused);
     assert!(rt; !ctx.checker_state.ended);
     let mut ctx = after_steps(alloc, u64::MAX - 1);
-    assert_eq!(rt; prove(alloc, &mut ctx, b"\x05\x00\x05".as_slice())?, refused);
+    assert_eq!(rt;
+        prove(alloc, &mut ctx, b"\x05\x00\x05".as_slice())?,
+        refused
+    );
     assert_eq!(rt; ctx.checker_state.input_clauses, 1);
     Ok(())
 }

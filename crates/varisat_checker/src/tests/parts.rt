@@ -159,7 +159,11 @@ fn hashes_of_clauses(rt: HostRuntime) -> Result<(), Fail> {
         (&[], 0),
     ];
     for (clause, hash) in rows {
-        assert_eq!(rt; hasher.clause_hash(&lits(rt.alloc(), clause)?), hash, "{clause:?}");
+        assert_eq!(rt;
+            hasher.clause_hash(&lits(rt.alloc(), clause)?),
+            hash,
+            "{clause:?}"
+        );
     }
     Ok(())
 }
