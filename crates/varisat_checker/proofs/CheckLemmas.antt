@@ -22,7 +22,7 @@ use Rattle.varisat_checker.specs.declared.rup.Answer.{Answer}
 use Rattle.varisat_checker.specs.declared.rup.Answer.TheVariants.{Passed, NoClauseForHash, Failed}
 use Rattle.varisat_checker.specs.declared.state.CheckerState.{CheckerState}
 use Rattle.varisat_checker.specs.Buckets.{clauses_at}
-use Rattle.varisat_checker.specs.CheckLaw.{Answers, CheckIsByRules}
+use Rattle.varisat_checker.specs.CheckLaw.{AnswersCheck, CheckIsByRules}
 use Rattle.varisat_checker.specs.Lits.{lits_of}
 use Rattle.varisat_checker.specs.Rup.{AreAllKnown, check_answer, clause_answer, named_buckets}
 use Rattle.varisat_checker.specs.StateOf.{IsBucketed, state_of, stored_unit, stored_units}
@@ -72,7 +72,7 @@ named-is st h cs known (k ∷ hs) tied = ap (λ es. all_lits es ∷ named_bucket
 walk-is : (st : CheckerState) (h : ClauseHasher) (cs : Clauses) (known : List Known) (c hs : List ℕ) → IsBucketed h cs → clause_answer (stored_units cs.unit_clauses) c (named_buckets cs.literal_buffer.items cs.buckets hs) ≡ walk_check (state_of st h cs known) c hs
 walk-is st h cs known c hs tied = ap (clause_answer (stored_units cs.unit_clauses) c) (named-is st h cs known hs tied)
 
-answers : (s : State) (c hs : List ℕ) (a : Answer) → AllCanonical s → is_tautology c ≡ false → check_answer a ≡ walk_check s c hs → Answers s c hs a
+answers : (s : State) (c hs : List ℕ) (a : Answer) → AllCanonical s → is_tautology c ≡ false → check_answer a ≡ walk_check s c hs → AnswersCheck s c hs a
 answers s c hs Passed can apart e = (check_exact s c hs can apart).passes.0 (sym e)
 answers s c hs NoClauseForHash can apart e = (check_exact s c hs can apart).no_clause.0 (sym e)
 answers s c hs Failed can apart e = (check_exact s c hs can apart).failed.0 (sym e)

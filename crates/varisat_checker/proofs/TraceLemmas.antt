@@ -18,7 +18,7 @@ use Rattle.varisat_checker.specs.StateOf.{id_of_unit, stored_unit, stored_units}
 use Rattle.varisat_checker.specs.Trace.{AreStored, IsAtRest, KeepsStored, item_ids, look, looked, unlisted_lits}
 use Rattle.varisat_checker.specs.Units.{lit_value, number_of, stored_id, unit_at, value_by}
 use Rattle.varisat_checker.proofs.UnitsLemmas.{falsity, negation_is, true_lits-by, true_lits-falsity, true_lits-truth, truth, unit_of-stored_units}
-use Rattle.varisat_checker.proofs.VisitLemmas.{AgreeOn, visit-agree, visit-false, visit-free, visit-listed, visit-true}
+use Rattle.varisat_checker.proofs.VisitLemmas.{AgreeOn, visit-agree, visit-free, visit-listed}
 
 -- at rest every value is a stored unit's
 pub at_rest : (us : List (Option UnitClause)) (v : ℕ) → AreStored us → IsAtRest (unit_at us v)

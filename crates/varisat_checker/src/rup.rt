@@ -1,10 +1,10 @@
 //! The propagation check.
 pub mod check;
-pub mod propagation;
-pub mod status;
-pub mod trace;
-pub mod trail;
-pub mod walk;
+mod propagation;
+mod status;
+mod trace;
+mod trail;
+mod walk;
 
 ghost use Rattle.std.specs.Prelude.{◌≡◌, [], false, length, IfOk, IsTrue};
 ghost use Rattle.checker_rules.specs.Clauses.{is_tautology};
@@ -21,7 +21,6 @@ ghost use Rattle.varisat_checker.specs.Units.{AreKnown};
 use crate::clauses::buckets::Buckets;
 use crate::clauses::units::Units;
 use crate::rup::propagation::Propagation;
-use crate::rup::status::true_unit_id;
 use crate::rup::trail::{assume_false, undo};
 use crate::rup::walk::walk_buckets;
 use proof_bytes::hash::ClauseHash;
@@ -86,7 +85,7 @@ pub fn check_clause(
         IfOk result (λ a.
         rup.new.trace_ids.items ≡ last_trace traced a ids rup.old.trace_ids.items) }
 {
-    if let Some(id) = true_unit_id(units, lits) {
+    if let Some(id) = units.true_unit_id(lits) {
         if traced {
             rup.trace_ids.clear();
             rup.trace_ids.push(id)?;

@@ -4,6 +4,7 @@ ghost use Rattle.std.specs.Option.{option_map};
 ghost use Rattle.varisat_checker.specs.Units as spec;
 ghost use Rattle.varisat_checker.specs.Units.{unit_at};
 
+use sat_formula::lit::Lit;
 use std::alloc::{AllocError, Global};
 use std::marker::Model;
 
@@ -106,6 +107,11 @@ impl Model for Units {
 }
 
 impl Units {
+    ghost use Rattle.varisat_checker.specs.Rup.{true_lits};
+    ghost use Rattle.varisat_checker.specs.StateOf.{stored_units};
+    ghost use Rattle.varisat_checker.specs.Trace as traces;
+    ghost use Rattle.varisat_checker.specs.Trace.{AreStored};
+
     pub fn new(alloc: Global) -> Units
         ensures { result ≡ [] }
     {
@@ -135,7 +141,7 @@ impl Units {
             .known()
     }
 
-    /// The same with its id.
+    /// The value of the variable of this index, with its id. None for an unknown variable too.
     #[inline]
     pub fn get(&self, index: usize) -> Option<UnitClause>
         ensures { result ≡ unit_at self.now index }
@@ -153,6 +159,36 @@ impl Units {
             UnitId::Global(id) => Some(id),
             _ => None,
         }
+    }
+
+    /// The value of a literal.
+    #[inline]
+    pub fn lit_value(&self, lit: Lit) -> Option<bool>
+        ensures { result ≡ spec.lit_value self.now lit }
+    {
+        match self.value(lit.index()) {
+            Some(value) => Some(value == lit.is_positive()),
+            None => None,
+        }
+    }
+
+    fn is_true(&self, lit: Lit) -> bool
+        ensures { result ≡ true_lits self.now lit }
+    {
+        matches!(self.lit_value(lit), Some(true))
+    }
+
+    /// The id of the stored unit that makes the first true literal true.
+    pub fn true_unit_id(&self, lits: &[Lit]) -> Option<u64>
+        requires { AreStored self.now }
+        ensures { result ≡ traces.true_unit_id (stored_units self.now) lits.now }
+    {
+        for lit in lits {
+            if self.is_true(*lit) {
+                return self.stored_id(lit.index());
+            }
+        }
+        None
     }
 
     #[inline]

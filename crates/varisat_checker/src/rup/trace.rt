@@ -8,7 +8,6 @@ ghost use Rattle.varisat_checker.specs.Units as values;
 ghost use Rattle.varisat_checker.specs.Units.{AreKnown};
 
 use crate::clauses::units::{UnitClause, UnitId, Units};
-use crate::rup::status::lit_value;
 use crate::rup::trail::{Trail, overwrite};
 use sat_formula::lit::Lit;
 use std::alloc::AllocError;
@@ -31,7 +30,7 @@ pub fn list_units(
     ensures undoable { IsUndoable units.old trail.old.items units.new trail.new.items }
 {
     for lit in lits {
-        match lit_value(units, *lit) {
+        match units.lit_value(*lit) {
             Some(true) => return Ok(()),
             Some(false) => list_unit(units, trail, trace, *lit)?,
             None => {}
