@@ -5,7 +5,7 @@ use Rattle.checker_rules.specs.Clauses.{var_of}
 -- literals in one row, cut into pieces of these lengths
 abbrev pub cut : List ℕ → List ℕ → List (List ℕ)
 cut [] lits = []
-cut (len ∷ lens) lits = take len lits ∷ cut lens (drop len lits)
+cut (len ∷ lengths) lits = take len lits ∷ cut lengths (drop len lits)
 
 -- how many variables there are beside those counted: enough for each literal's
 abbrev pub vars_with : ℕ → List ℕ → ℕ
@@ -17,6 +17,6 @@ abbrev pub var_count_of : List (List ℕ) → ℕ
 var_count_of clauses = fold vars_with 0 clauses
 
 -- the lengths are those of all the literals together, and the variables are counted
-pub record IsWhole (lens lits : List ℕ) (var_count : ℕ) : Type 0 where
-  pub lengths : sum lens ≡ length lits
-  pub vars : var_count ≡ var_count_of (cut lens lits)
+pub record IsWhole (lengths lits : List ℕ) (var_count : ℕ) : Type 0 where
+  pub total : sum lengths ≡ length lits
+  pub vars : var_count ≡ var_count_of (cut lengths lits)

@@ -90,7 +90,7 @@ token_then line begun tokens.Zero next = with_clause begun (next [])
 token_then line begun (tokens.Literal code) next = next (begun ++ code ∷ [])
 token_then line begun (tokens.Wrong kind) next = ([], Faulty line kind)
 
--- the tokens of one line
+-- the tokens of a line, after these literals of an open clause
 unfoldable pub tokens_from : ℕ → List ℕ → List (List ℕ) → (List ℕ → Outcome) → Outcome
 tokens_from line begun [] next = next begun
 tokens_from line begun (w ∷ ws) next = token_then line begun (token_of_word w) (λ still. tokens_from line still ws next)
@@ -109,7 +109,7 @@ line_then EndMark line seen begun bytes next = ([], finish line begun)
 line_then HeaderLine line seen begun bytes next = header_then line seen (is_header (words_of bytes)) (next true begun)
 line_then TokenLine line seen begun bytes next = tokens_from line begun (words_of bytes) (next true)
 
--- the lines after the one of this number
+-- the lines after the one of this number, once a number or a header has come or none, with these literals of an open clause
 unfoldable pub lines_from : ℕ → Bool → List ℕ → List (List ℕ) → Outcome
 lines_from before seen begun [] = ([], finish before begun)
 lines_from before seen begun (l ∷ ls) =

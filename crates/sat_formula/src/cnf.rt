@@ -11,7 +11,7 @@ use std::marker::Model;
 #[derive(Drop)]
 pub struct CnfFormula {
     lits: Vec<Lit>,
-    lens: Vec<usize>,
+    lengths: Vec<usize>,
     var_count: usize,
 }
 
@@ -22,9 +22,9 @@ impl Model for CnfFormula {
 
     ghost use Rattle.sat_formula.specs.Formula.{cut, IsWhole};
 
-    ghost view = { λ f. cut f.lens.items f.lits.items };
+    ghost view = { λ f. cut f.lengths.items f.lits.items };
 
-    ghost invariant = { λ f. IsWhole f.lens.items f.lits.items f.var_count };
+    ghost invariant = { λ f. IsWhole f.lengths.items f.lits.items f.var_count };
 }
 
 impl CnfFormula {
@@ -34,7 +34,7 @@ impl CnfFormula {
     {
         CnfFormula {
             lits: Vec::new(alloc),
-            lens: Vec::new(alloc),
+            lengths: Vec::new(alloc),
             var_count: 0,
         }
     }
@@ -44,9 +44,9 @@ impl CnfFormula {
         ensures ok { OnOk result (self.new ≡ self.old ++ clause.now ∷ []) }
         ensures err { OnErr result (self.new ≡ self.old) }
     {
-        self.lens.reserve(1)?;
+        self.lengths.reserve(1)?;
         self.lits.extend_from_slice(clause)?;
-        self.lens.push_reserved(clause.len());
+        self.lengths.push_reserved(clause.len());
         self.var_count = count_vars(self.var_count, clause);
         Ok(())
     }
@@ -55,13 +55,13 @@ impl CnfFormula {
     pub fn len(&self) -> usize
         ensures { result ≡ length self.now }
     {
-        self.lens.len()
+        self.lengths.len()
     }
 
     pub fn is_empty(&self) -> bool
         ensures { IsTrue result ↔ (self.now ≡ []) }
     {
-        self.lens.is_empty()
+        self.lengths.is_empty()
     }
 
     /// The largest index of a variable and 1, or 0 where there is no literal.
@@ -77,7 +77,7 @@ impl CnfFormula {
     {
         CnfClauses {
             lits: &self.lits,
-            lens: &self.lens,
+            lengths: &self.lengths,
         }
     }
 }
@@ -98,7 +98,7 @@ impl<'a> IntoIterator for &'a CnfFormula {
 #[derive(Drop)]
 pub struct CnfClauses<'a> {
     lits: &'a [Lit],
-    lens: &'a [usize],
+    lengths: &'a [usize],
 }
 
 impl<'a> Model for CnfClauses<'a> {
@@ -108,9 +108,9 @@ impl<'a> Model for CnfClauses<'a> {
 
     ghost use Rattle.sat_formula.specs.Formula.{cut};
 
-    ghost view = { λ c. cut c.lens.now c.lits.now };
+    ghost view = { λ c. cut c.lengths.now c.lits.now };
 
-    ghost invariant = { λ c. sum c.lens.now ≡ length c.lits.now };
+    ghost invariant = { λ c. sum c.lengths.now ≡ length c.lits.now };
 }
 
 impl<'a> Iterator for CnfClauses<'a> {
@@ -123,9 +123,9 @@ impl<'a> Iterator for CnfClauses<'a> {
     ghost remaining = { item_count (λ left. left) };
 
     fn next(&mut self) -> Option<&'a [Lit]> {
-        let (len, lens) = self.lens.split_first()?;
+        let (len, lengths) = self.lengths.split_first()?;
         let (clause, lits) = self.lits.split_at(*len);
-        self.lens = lens;
+        self.lengths = lengths;
         self.lits = lits;
         Some(clause)
     }

@@ -13,14 +13,16 @@ pub fn vars_compare_by_index()
     ensures same { (a b : Var) → index_of a ≡ index_of b → a ≡ b }
     ensures eq { (a b : Var) → ⟦<Var as PartialEq>⟧.eq a b ≡ (index_of a == index_of b) }
     ensures order { (a b : Var) → ⟦<Var as Ord>⟧.cmp a b ≡ nat_cmp (index_of a) (index_of b) }
-    ensures hash { (a b : Var) → IsTrue (⟦<Var as PartialEq>⟧.eq a b) → ⟦<Var as Hash>⟧.hash_input a ≡ ⟦<Var as Hash>⟧.hash_input b }
+    ensures hash { (a b : Var) → IsTrue (⟦<Var as PartialEq>⟧.eq a b)
+        → ⟦<Var as Hash>⟧.hash_input a ≡ ⟦<Var as Hash>⟧.hash_input b }
 {}
 
 /// Literals compare and hash as their codes do.
 pub fn lits_compare_by_code()
     ensures eq { (a b : ℕ) → ⟦<Lit as PartialEq>⟧.eq a b ≡ (a == b) }
     ensures order { (a b : ℕ) → ⟦<Lit as Ord>⟧.cmp a b ≡ nat_cmp a b }
-    ensures hash { (a b : ℕ) → IsTrue (⟦<Lit as PartialEq>⟧.eq a b) → ⟦<Lit as Hash>⟧.hash_input a ≡ ⟦<Lit as Hash>⟧.hash_input b }
+    ensures hash { (a b : ℕ) → IsTrue (⟦<Lit as PartialEq>⟧.eq a b)
+        → ⟦<Lit as Hash>⟧.hash_input a ≡ ⟦<Lit as Hash>⟧.hash_input b }
 {}
 
 /// A variable is the one of its index.
@@ -53,8 +55,10 @@ pub fn lit_from_its_number(lit: Lit) -> Option<Lit>
 
 /// The literal of a number in a text has this number.
 pub fn literals_are_their_numbers()
-    ensures positive { (value : ℕ) → 0 < value → dimacs_lit (lit_code value false) ≡ pos value }
-    ensures negative { (value : ℕ) → 0 < value → dimacs_lit (lit_code value true) ≡ neg_ℤ (pos value) }
+    ensures positive { (value : ℕ) → 0 < value
+        → dimacs_lit (lit_code value false) ≡ pos value }
+    ensures negative { (value : ℕ) → 0 < value
+        → dimacs_lit (lit_code value true) ≡ neg_ℤ (pos value) }
 {}
 
 /// A literal is the negation of its negation.

@@ -113,7 +113,8 @@ impl Lit {
     /// The literal of a number with an absolute value from 1 to `Var::MAX_COUNT`, negative where the number is.
     pub fn from_dimacs(number: i64) -> Option<Lit>
         ensures value { IfSome result (λ lit. dimacs_lit lit ≡ number) }
-        ensures range { IsSome result ↔ ((0 < unsigned_abs number) × (unsigned_abs number ≤ 2 ^ 28)) }
+        ensures range { IsSome result
+            ↔ ((0 < unsigned_abs number) × (unsigned_abs number ≤ 2 ^ 28)) }
     {
         let value = number.unsigned_abs();
         if 0 < value && value <= Var::MAX_COUNT as u64 {

@@ -1,0 +1,2 @@
+pub mod Unfailed
+pub mod VerdictLemmas

@@ -6,10 +6,9 @@
 use log::sink::Console;
 use log::{LevelFilter, Logged};
 use sat_formula::Lit;
-use std::env;
 use std::fs::File;
-use std::io;
 use std::process::ExitCode;
+use std::{env, io};
 use varisat_check::{RunFault, Verdict, exit_status, run_check, run_proof};
 use varisat_checker::Checker;
 
@@ -58,12 +57,19 @@ fn check_files(rt: &HostRuntime, cnf_name: &str, proof_name: &str) -> u8 {
 fn check_example(rt: &HostRuntime) -> u8 {
     let mut checker = Checker::new(rt.alloc());
     for number in [1, -1] {
-        if let Some(lit) = Lit::from_dimacs(number) && let Err(fault) = checker.add_clause(&[lit]) {
+        if let Some(lit) = Lit::from_dimacs(number)
+            && let Err(fault) = checker.add_clause(&[lit])
+        {
             return report(rt, &Err(RunFault::Proof(fault)));
         }
     }
     let log = Logged::new(rt, LevelFilter::Warn, Console(rt));
-    let outcome = run_proof(&log, &mut checker, END_ALONE.as_slice(), &mut io::writer(rt));
+    let outcome = run_proof(
+        &log,
+        &mut checker,
+        END_ALONE.as_slice(),
+        &mut io::writer(rt),
+    );
     report(rt, &outcome)
 }
 

@@ -51,16 +51,18 @@ stored_after-accepted redundant c r e =
 -- the answers of the three parts
 pub derived-stored : (redundant : Bool) (c : List ℕ) (s t : State) (id : ℕ) (r : StoreClauseResult) → Stores c redundant s t id r → redundant ≡ true → (stored_after redundant c s).refused ≡ None × (t ≡ (stored_after redundant c s).after)
 derived-stored redundant c s t id r k e =
-    let o = stored_after-accepted redundant c s (ap (λ (x : Outcome). x.refused) k.room) in
-    (ap (λ (x : Outcome). x.refused) o,
-      k.after ∙ sym (ap (λ (b : Bool). cond b (store c true s) (set_previous c (id_of c s) (store c false s))) e ∙ ap (λ (b : Bool). store c b s) (sym e)) ∙ sym (ap (λ (x : Outcome). x.after) o))
+    let o = stored_after-accepted redundant c s (ap (λ (x : Outcome). x.refused) k.room) in (
+      ap (λ (x : Outcome). x.refused) o,
+      k.after ∙ sym (ap (λ (b : Bool). cond b (store c true s) (set_previous c (id_of c s) (store c false s))) e ∙ ap (λ (b : Bool). store c b s) (sym e)) ∙ sym (ap (λ (x : Outcome). x.after) o),
+    )
 
 pub derived-previous : (redundant : Bool) (c : List ℕ) (s t u : State) (id : ℕ) (r : StoreClauseResult) → Stores c redundant s t id r → redundant ≡ false → u ≡ set_previous c id t → (stored_after redundant c s).refused ≡ None × (u ≡ (stored_after redundant c s).after)
 derived-previous redundant c s t u id r k e is =
-    let o = stored_after-accepted redundant c s (ap (λ (x : Outcome). x.refused) k.room) in
-    (ap (λ (x : Outcome). x.refused) o,
+    let o = stored_after-accepted redundant c s (ap (λ (x : Outcome). x.refused) k.room) in (
+      ap (λ (x : Outcome). x.refused) o,
       is ∙ ap (λ n. set_previous c n t) k.id_is ∙ ap (set_previous c (id_of c s)) (k.after ∙ ap (λ (b : Bool). store c b s) e)
-      ∙ sym (ap (λ (b : Bool). cond b (store c true s) (set_previous c (id_of c s) (store c false s))) e) ∙ sym (ap (λ (x : Outcome). x.after) o))
+          ∙ sym (ap (λ (b : Bool). cond b (store c true s) (set_previous c (id_of c s) (store c false s))) e) ∙ sym (ap (λ (x : Outcome). x.after) o),
+    )
 
 pub derived-refused : (redundant : Bool) (c : List ℕ) (s : State) (cause : Cause) → store_counters c redundant s ≡ refuse cause s → stored_after redundant c s ≡ refuse cause s
 derived-refused redundant c s cause e = stored_after-refused redundant c s cause (ap (λ (x : Outcome). x.refused) e)

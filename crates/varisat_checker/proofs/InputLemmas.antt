@@ -64,7 +64,7 @@ repeated (l ∷ []) s h = unit-repeated l (unit_of s.units (var_of l)) s h
 repeated (l ∷ k ∷ ls) s h =
     let c = l ∷ k ∷ ls in
     let P : Bool → Type 0 = λ b. cond b (record (take_id s) { clauses = map (raise false c) s.clauses }) (record (take_id s) { clauses = s.clauses ++ new_stored false c (s.next + 1) ∷ []; next = s.next + 1 + 1 })
-      ≡ take_id (cond b (record s { clauses = map (raise false c) s.clauses }) (record s { clauses = s.clauses ++ new_stored false c s.next ∷ []; next = s.next + 1 })) in
+    ≡ take_id (cond b (record s { clauses = map (raise false c) s.clauses }) (record s { clauses = s.clauses ++ new_stored false c s.next ∷ []; next = s.next + 1 })) in
     subst P (sym h) refl
 
 -- a clause that stands takes an id of its own

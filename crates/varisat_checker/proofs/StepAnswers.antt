@@ -66,14 +66,14 @@ exhausted-answers e s t h none =
     by (is_checked t) (ltb s.steps step_limit) none (whole (attempt s t) (attempt-exhausted s t none)) (whole (refuse steps_exhausted s) refl)
   where
     by : (b d : Bool) → d ≡ false → AnswersParts {A = Unit {0}} (Err e) (attempt s t) s → AnswersParts {A = Unit {0}} (Err e) (refuse steps_exhausted s) s
-      → MatchBool b (AnswersParts {A = Unit {0}} (Err e) (attempt s t) s) (MatchBool d (IsNotYet {A = Unit {0}} (Err e) s.steps × (s ≡ count_step s)) (AnswersParts {A = Unit {0}} (Err e) (refuse steps_exhausted s) s))
+        → MatchBool b (AnswersParts {A = Unit {0}} (Err e) (attempt s t) s) (MatchBool d (IsNotYet {A = Unit {0}} (Err e) s.steps × (s ≡ count_step s)) (AnswersParts {A = Unit {0}} (Err e) (refuse steps_exhausted s) s))
     by true d none p q = p
     by false true none p q = absurd cc
     by false false none p q = q
 
 -- a counted step
 counted-by : (r : Result (Unit {0}) CheckerError) (s u : State) (t : Step) (b d : Bool) → d ≡ true → attempt s t ≡ step (count_step s) t → MatchBool b (AnswersParts r (step (count_step s) t) u) (IsNotYet r u.steps × (u ≡ count_step s))
-  → MatchBool b (AnswersParts r (attempt s t) u) (MatchBool d (IsNotYet r u.steps × (u ≡ count_step s)) (AnswersParts r (refuse steps_exhausted s) u))
+    → MatchBool b (AnswersParts r (attempt s t) u) (MatchBool d (IsNotYet r u.steps × (u ≡ count_step s)) (AnswersParts r (refuse steps_exhausted s) u))
 counted-by r s u t true d room e h = subst (λ (o : Outcome). AnswersParts r o u) (sym e) h
 counted-by r s u t false true room e h = h
 counted-by r s u t false false room e h = absurd cc
@@ -116,7 +116,7 @@ same-not_yet OutOfMemory e n h k = absurd k
 same-not_yet Failed e n h k = absurd k
 
 same-by : (fault e : CheckerError) (s u : State) (t : Step) (b : Bool) → IsSameFault fault e → MatchBool b (AnswersParts {A = Unit {0}} (Err fault) (step s t) u) (IsNotYet {A = Unit {0}} (Err fault) u.steps × (u ≡ s))
-  → MatchBool b (AnswersParts {A = Unit {0}} (Err e) (step s t) u) (IsNotYet {A = Unit {0}} (Err e) u.steps × (u ≡ s))
+    → MatchBool b (AnswersParts {A = Unit {0}} (Err e) (step s t) u) (IsNotYet {A = Unit {0}} (Err e) u.steps × (u ≡ s))
 same-by fault e s u t true h k = same-parts fault e (step s t) u h k
 same-by fault e s u t false h k = (same-not_yet fault e u.steps h k.0, k.1)
 

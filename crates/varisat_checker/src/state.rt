@@ -1,7 +1,6 @@
 //! What is recorded beside the clauses, and how a proof is checked.
 pub use crate::check::{check_step, process_unit_conflicts};
 pub use crate::proof::check_proof;
-
 use sat_formula::Lit;
 use std::alloc::Global;
 

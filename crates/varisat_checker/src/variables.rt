@@ -14,7 +14,11 @@ use sat_formula::{Lit, Var};
 use std::alloc::AllocError;
 
 /// Makes the first `count` variables known, new ones unnamed and in mode `Sample`.
-pub fn ensure_vars(clauses: &mut Clauses, variables: &mut Variables, count: usize) -> Result<(), AllocError>
+pub fn ensure_vars(
+    clauses: &mut Clauses,
+    variables: &mut Variables,
+    count: usize,
+) -> Result<(), AllocError>
     requires { length clauses.old.unit_clauses ≡ length variables.old }
     ensures { OnOk result (KnowsVars count clauses.old variables.old clauses.new variables.new) }
 {

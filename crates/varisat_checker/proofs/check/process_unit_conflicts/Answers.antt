@@ -21,9 +21,10 @@ returns-then-is_none-clause-answer g c =
 pub returns-in-Some-clause-answer : goal.returns-in-Some-clause-answer
 returns-in-Some-clause-answer g c =
     let ctx = c.args.ctx.now in
-    let o = closing-taken (state_of ctx.checker_state ctx.clause_hasher ctx.clauses ctx.variables) (some-of ctx.clauses.unit_conflict c.if-is_none.ensures) c.in-Some.ensures.id.0 in
-    (ap (λ (x : Outcome). x.refused) o,
-      ap (λ (cs : Clauses). state_of ctx.checker_state ctx.clause_hasher cs ctx.variables) c.in-Some.ensures.taken ∙ sym (ap (λ (x : Outcome). x.after) o))
+    let o = closing-taken (state_of ctx.checker_state ctx.clause_hasher ctx.clauses ctx.variables) (some-of ctx.clauses.unit_conflict c.if-is_none.ensures) c.in-Some.ensures.id.0 in (
+      ap (λ (x : Outcome). x.refused) o,
+      ap (λ (cs : Clauses). state_of ctx.checker_state ctx.clause_hasher cs ctx.variables) c.in-Some.ensures.taken ∙ sym (ap (λ (x : Outcome). x.after) o),
+    )
 
 pub returns-in-Some-clause-kept : goal.returns-in-Some-clause-kept
 returns-in-Some-clause-kept g c =

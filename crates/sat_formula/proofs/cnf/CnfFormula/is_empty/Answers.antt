@@ -4,4 +4,4 @@ use Rattle.sat_formula.proofs.Formulas.{cut-empty}
 use Rattle.sat_formula.proofs.cnf.CnfFormula.is_empty.Goals as goal
 
 pub returns : goal.returns
-returns c = rw (← c.self.view_is) (cut-empty c.self.inside.lens.items c.self.inside.lits.items _ (c.is_empty.ensures ∙ ap (λ (n : ℕ). n == 0) c.self.inside.lens.ok.0))
+returns c = rw (← c.self.view_is) (cut-empty c.self.inside.lengths.items c.self.inside.lits.items _ (c.is_empty.ensures ∙ ap (λ (n : ℕ). n == 0) c.self.inside.lengths.ok.0))

@@ -9,10 +9,10 @@ pub returns-else-fails-clause-headline : goal.returns-else-fails-clause-headline
 unfolding state
 returns-else-fails-clause-headline g c = λ running before fold.
     sets_fold-counted (context_state c.args.self.now.ctx) _ c.attempt_step-answer.result (context_state c.attempt_step-answer.new.ctx) before (c.args.self.now.kept running).sound.good fold
-        (went-on-counted c.attempt_step-answer.result _ _ _ (sym c.fails.ensures ∙ c.if-fails.false) c.attempt_step-answer.ensures.step)
+    (went-on-counted c.attempt_step-answer.result _ _ _ (sym c.fails.ensures ∙ c.if-fails.false) c.attempt_step-answer.ensures.step)
 
 pub returns-else-fails-clause-covers : goal.returns-else-fails-clause-covers
 unfolding state
 returns-else-fails-clause-covers g c = λ running before covered.
     covers_fold-counted (context_state c.args.self.now.ctx) _ c.attempt_step-answer.result (context_state c.attempt_step-answer.new.ctx) before covered
-        (went-on-counted c.attempt_step-answer.result _ _ _ (sym c.fails.ensures ∙ c.if-fails.false) c.attempt_step-answer.ensures.step)
+    (went-on-counted c.attempt_step-answer.result _ _ _ (sym c.fails.ensures ∙ c.if-fails.false) c.attempt_step-answer.ensures.step)

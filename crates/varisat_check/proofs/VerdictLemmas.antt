@@ -1,0 +1,99 @@
+-- What an accepted proof and its verdict say.
+--     more_inputs      a proof takes no input clause away
+--     refuted_before      a verdict of unsatisfiability refutes what held before the proof
+--     refuted_text      and the formula, where the checker was new
+use Rattle.std.proofs.Common.{◌≡◌, ◌≤◌, ℕ, Bool, true, false, not, List, [], ◌++◌, map, Option, None, Result, Ok, Err, refl, sym, ap, ◌∙◌, subst, arith}
+use Rattle.std.specs.Prelude.{◌==◌, ◌-◌, if◌then◌else◌, IfOk}
+use Rattle.std.proofs.lemmas.Bool.{and_parts, eqb-true}
+use Rattle.checker_rules.specs.AddFormula.{add_clauses, added}
+use Rattle.checker_rules.specs.Calls.{shown_inputs, shown_unsat}
+use Rattle.checker_rules.specs.Clauses.{all_true}
+use Rattle.checker_rules.specs.Headline.{holds}
+use Rattle.checker_rules.specs.State.{State}
+use Rattle.checker_rules.specs.Step.{Step, add_clause}
+use Rattle.checker_rules.specs.Steps.{new_state}
+use Rattle.checker_rules.proofs.AddedClauses.{formulas_are_fold, members}
+use Rattle.checker_rules.proofs.Refuting.{counted_run, runs_refute}
+use Rattle.proof_bytes.specs.Reading.{Fault}
+use Rattle.proof_bytes.specs.Texts.{Place, next_of, start_of}
+use Rattle.checker_parts.specs.Answers.{IsCovered}
+use Rattle.checker_parts.specs.declared.error.CheckerError.{CheckerError}
+use Rattle.varisat_checker.specs.ProofRun.{ProofRun}
+use Rattle.varisat_checker.specs.TextRun.{TextRun}
+use Rattle.varisat_checker.specs.Failing.{IsFailed}
+use Rattle.varisat_check.specs.Runs.{CheckRun, IsRefuted, OnProof}
+use Rattle.varisat_check.specs.declared.fault.RunFault.{RunFault}
+use Rattle.varisat_check.specs.declared.fault.RunFault.TheVariants.{Formula, Proof, Write}
+use Rattle.varisat_check.specs.Verdicts.{verdict_of}
+use Rattle.varisat_check.specs.declared.verdict.Verdict.{Verdict}
+use Rattle.varisat_check.specs.declared.verdict.Verdict.TheVariants.{Unsatisfiable, UnsatisfiableWithAdded, NotShown}
+use Rattle.varisat_check.proofs.Unfailed.{failed-add_clauses}
+
+abbrev Known : Type 0
+Known = Option (List ℕ)
+
+-- the checker accepted the proof
+abbrev Accepts : Known → State → State → Type 0
+Accepts known s t = ProofRun {A = Unit {0}} known s (Ok tt) t
+
+not_true : (b : Bool) → not b ≡ true → b ≡ false
+not_true true h = absurd (cc)
+not_true false h = refl
+
+alive : (s : State) → s.failed ≡ false → shown_inputs s ≡ s.inputs
+alive s h = rw h refl
+
+records : (t : State) → shown_unsat t ≡ true → (t.unsat ≡ true) × (t.failed ≡ false)
+records t h = let parts = and_parts t.unsat (not t.failed) h in (parts.0, not_true t.failed parts.1)
+
+pub more_inputs : (known : Known) (s t : State) → Accepts known s t → s.failed ≡ false → shown_unsat t ≡ true → shown_inputs s ≤ shown_inputs t
+more_inputs known s t run lives h =
+    let more = counted_run Place Fault next_of s (start_of run.ends.text) run.steps None t run.ends.runs in
+    let before = alive s lives in
+    let after = alive t (records t h).1 in
+    omega arith
+
+verdict_parts : (b e : Bool) (n : ℕ) → (if b then (if e then Unsatisfiable else UnsatisfiableWithAdded n) else NotShown) ≡ Unsatisfiable → (b ≡ true) × (e ≡ true)
+verdict_parts true true n h = (refl, refl)
+verdict_parts true false n h = absurd (cc)
+verdict_parts false e n h = absurd (cc)
+
+pub refuted_before : (known : Known) (s t : State) (before : List Step) → Accepts known s t → s.failed ≡ false → verdict_of (shown_inputs s) t ≡ Unsatisfiable
+    → IsCovered before s → (a : ℕ → Bool) → holds before a ≡ false
+refuted_before known s t before run lives v covered a =
+    let parts = verdict_parts (shown_unsat t) (shown_inputs t == shown_inputs s) (shown_inputs t - shown_inputs s) v in
+    let recorded = records t parts.0 in
+    let same : shown_inputs t ≡ shown_inputs s = eqb-true _ _ parts.1 in
+    runs_refute Place Fault next_of (holds before) s (start_of run.ends.text) run.steps None t covered run.ends.runs recorded.0
+        (sym (alive t recorded.1) ∙ same ∙ alive s lives) a
+
+pub lives_on : (known : Known) (s : State) → TextRun {A = Unit {0}} known new_state (Ok tt) s → s.failed ≡ false
+lives_on known s text = ap (λ (r : State). r.failed) text.answer.1 ∙ failed-add_clauses new_state text.clauses
+
+-- a new checker with the whole formula: its clauses are the steps before the proof
+pub refuted_text : (cnf : Known) (s : State) → TextRun {A = Unit {0}} cnf new_state (Ok tt) s → ((before : List Step) → IsCovered before s → (a : ℕ → Bool) → holds before a ≡ false) → IsRefuted cnf
+refuted_text cnf s text refuted = (text.clauses, text.text, λ a. sym (members text.clauses a) ∙ refuted (map add_clause text.clauses) covered a)
+  where
+    covered : IsCovered (map add_clause text.clauses) s
+    covered = subst (λ l. IsCovered (map add_clause l) s) (formulas_are_fold.accepted new_state text.clauses text.answer.0) (text.covers [] (λ b m. refl))
+
+-- a checker that answered Ok had not failed before
+pub not_failed : {K : Type 0} (b : Bool) (x : Unit {0}) → (b ≡ true → IsFailed {A = Unit {0}} (Ok x) × K) → b ≡ false
+not_failed true x h = absurd (let e = (h refl).0 in cc)
+not_failed false x h = refl
+
+-- the verdict that is answered, by the state before the proof
+pub verdict_told : (v : Verdict) (n : ℕ) (s t : State) → ◌≡◌ {A = Result Verdict RunFault} (Ok v) (Ok Unsatisfiable) → v ≡ verdict_of n t → n ≡ shown_inputs s → verdict_of (shown_inputs s) t ≡ Unsatisfiable
+verdict_told v n s t h e k = let same : v ≡ Unsatisfiable = cc in sym (ap (λ m. verdict_of m t) k) ∙ sym e ∙ same
+
+-- a new checker that was handed the formula
+pub text_added : (cnf : Known) (s t : State) → s ≡ new_state → (s.failed ≡ false → TextRun {A = Unit {0}} cnf s (Ok tt) t) → TextRun {A = Unit {0}} cnf new_state (Ok tt) t
+text_added cnf s t e h = subst (λ r. TextRun {A = Unit {0}} cnf r (Ok tt) t) e (h (ap (λ (r : State). r.failed) e))
+
+-- the proof's run behind a whole formula
+pub whole_run : (cnf proof : Known) (s t : State) (r : Result Verdict RunFault) → TextRun {A = Unit {0}} cnf new_state (Ok tt) s
+    → OnProof (λ answer. ProofRun proof s answer t) r → IfOk r (λ v. v ≡ verdict_of (shown_inputs s) t) → CheckRun cnf proof r
+whole_run cnf proof s t (Ok v) text run told = record { formula = s; left = t; adds = text; runs = run; verdict = told }
+whole_run cnf proof s t (Err (Write cause)) text run told = record { formula = s; left = t; adds = text; runs = run; verdict = told }
+whole_run cnf proof s t (Err (Proof e)) text run told = record { formula = s; left = t; adds = text; runs = run; verdict = told }
+whole_run cnf proof s t (Err (Formula e)) text run told = absurd run
