@@ -38,6 +38,6 @@ kept-next st h cs known n e k =
     }
 
 pub returns : goal.returns
-returns c =
+returns g c =
     let ctx = c.new.result in
     kept-next ctx.checker_state ctx.clause_hasher ctx.clauses ctx.variables c.args.next c.new.ensures.state c.new.ensures.kept
