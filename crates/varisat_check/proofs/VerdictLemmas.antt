@@ -65,7 +65,7 @@ refuted_before known s t before run lives v covered a =
     let recorded = records t parts.0 in
     let same : shown_inputs t ≡ shown_inputs s = eqb-true _ _ parts.1 in
     runs_refute Place Fault next_of (holds before) s (start_of run.ends.text) run.steps None t covered run.ends.runs recorded.0
-        (sym (alive t recorded.1) ∙ same ∙ alive s lives) a
+    (sym (alive t recorded.1) ∙ same ∙ alive s lives) a
 
 pub lives_on : (known : Known) (s : State) → TextRun {A = Unit {0}} known new_state (Ok tt) s → s.failed ≡ false
 lives_on known s text = ap (λ (r : State). r.failed) text.answer.1 ∙ failed-add_clauses new_state text.clauses

@@ -46,7 +46,7 @@ impl Read for Slow<'_> {
     }
 }
 
-fn slow<'a>(bytes: &'a [u8]) -> Slow<'a> {
+fn byte_by_byte<'a>(bytes: &'a [u8]) -> Slow<'a> {
     Slow {
         bytes,
         at: 0,
@@ -85,7 +85,11 @@ struct Answer {
     status: u8,
 }
 
-fn answer(alloc: Global, outcome: Result<Verdict, RunFault>, written: Vec<u8>) -> Result<Answer, Fail> {
+fn answered(
+    alloc: Global,
+    outcome: Result<Verdict, RunFault>,
+    written: Vec<u8>,
+) -> Result<Answer, Fail> {
     let status = exit_status(&outcome);
     let (verdict, fault) = match outcome {
         Ok(verdict) => (Some(verdict), String::new(alloc)),
@@ -102,13 +106,13 @@ fn answer(alloc: Global, outcome: Result<Verdict, RunFault>, written: Vec<u8>) -
 fn check<F: Read + Drop, P: Read + Drop>(alloc: Global, cnf: F, proof: P) -> Result<Answer, Fail> {
     let mut out = Vec::new(alloc);
     let outcome = run_check(&Discard, alloc, cnf, proof, &mut out);
-    answer(alloc, outcome, out)
+    answered(alloc, outcome, out)
 }
 
 fn prove(alloc: Global, checker: &mut Checker, proof: &[u8]) -> Result<Answer, Fail> {
     let mut out = Vec::new(alloc);
     let outcome = run_proof(&Discard, checker, proof, &mut out);
-    answer(alloc, outcome, out)
+    answered(alloc, outcome, out)
 }
 
 // From the four clauses: first the unit 1, and then the empty clause.
@@ -140,7 +144,7 @@ fn opposite_units_are_unsatisfiable(rt: HostRuntime) -> Result<(), Fail> {
     }
     let answer = prove(rt.alloc(), &mut checker, &[0x0D])?;
     assert_eq!(rt; answer.verdict, Some(Verdict::Unsatisfiable));
-    assert_eq!(rt; answer.written.as_slice(), b"s UNSATISFIABLE\n");
+    assert_eq!(rt; answer.written.as_slice(), b"s UNSATISFIABLE\n".as_slice());
     assert_eq!(rt; answer.status, 0);
     Ok(())
 }
@@ -149,14 +153,24 @@ fn opposite_units_are_unsatisfiable(rt: HostRuntime) -> Result<(), Fail> {
 fn proofs_on_a_new_checker(rt: HostRuntime) -> Result<(), Fail> {
     let ended = prove(rt.alloc(), &mut Checker::new(rt.alloc()), &[0x0D])?;
     assert_eq!(rt; ended.verdict, Some(Verdict::NotShown));
-    assert_eq!(rt; ended.written.as_slice(), b"s NOT SHOWN\n");
+    assert_eq!(rt; ended.written.as_slice(), b"s NOT SHOWN\n".as_slice());
 
-    let added = prove(rt.alloc(), &mut Checker::new(rt.alloc()), &[0x05, 0x00, 0x0D])?;
+    let added = prove(
+        rt.alloc(),
+        &mut Checker::new(rt.alloc()),
+        &[0x05, 0x00, 0x0D],
+    )?;
     assert_eq!(rt; added.verdict, Some(Verdict::UnsatisfiableWithAdded(1)));
-    assert_eq!(rt; added.written.as_slice(), b"s UNSATISFIABLE WITH 1 ADDED CLAUSES\n");
+    assert_eq!(rt;
+        added.written.as_slice(),
+        b"s UNSATISFIABLE WITH 1 ADDED CLAUSES\n".as_slice()
+    );
 
     let empty = prove(rt.alloc(), &mut Checker::new(rt.alloc()), &[])?;
-    assert_eq!(rt; empty.fault.as_str(), "step 1: Unexpected end of proof file");
+    assert_eq!(rt;
+        empty.fault.as_str(),
+        "step 1: Unexpected end of proof file"
+    );
     assert!(rt; empty.written.is_empty());
     assert_eq!(rt; empty.status, 1);
     Ok(())
@@ -176,15 +190,18 @@ fn an_accepted_end_asks_for_nothing_more(rt: HostRuntime) -> Result<(), Fail> {
 fn formulas_with_short_proofs(rt: HostRuntime) -> Result<(), Fail> {
     let alloc = rt.alloc();
     let added = check(alloc, "1 0".as_bytes(), [0x05, 0x00, 0x0D].as_slice())?;
-    assert_eq!(rt; added.written.as_slice(), b"s UNSATISFIABLE WITH 1 ADDED CLAUSES\n");
+    assert_eq!(rt;
+        added.written.as_slice(),
+        b"s UNSATISFIABLE WITH 1 ADDED CLAUSES\n".as_slice()
+    );
     assert_eq!(rt; added.status, 3);
 
     let shown = check(alloc, "1 0\n-1 0\n".as_bytes(), [0x0D].as_slice())?;
-    assert_eq!(rt; shown.written.as_slice(), b"s UNSATISFIABLE\n");
+    assert_eq!(rt; shown.written.as_slice(), b"s UNSATISFIABLE\n".as_slice());
     assert_eq!(rt; shown.status, 0);
 
     let open = check(alloc, "1 0".as_bytes(), [0x0D].as_slice())?;
-    assert_eq!(rt; open.written.as_slice(), b"s NOT SHOWN\n");
+    assert_eq!(rt; open.written.as_slice(), b"s NOT SHOWN\n".as_slice());
     assert_eq!(rt; open.status, 3);
     Ok(())
 }
@@ -195,9 +212,9 @@ fn four_clauses_however_cut(rt: HostRuntime) -> Result<(), Fail> {
     let proof = proof_of_four(alloc)?;
     let whole = check(alloc, FOUR.as_bytes(), proof.as_slice())?;
     assert_eq!(rt; whole.verdict, Some(Verdict::Unsatisfiable));
-    let cut = check(alloc, slow(FOUR.as_bytes()), slow(&proof))?;
+    let cut = check(alloc, byte_by_byte(FOUR.as_bytes()), byte_by_byte(&proof))?;
     assert_eq!(rt; cut.verdict, Some(Verdict::Unsatisfiable));
-    assert_eq!(rt; cut.written.as_slice(), b"s UNSATISFIABLE\n");
+    assert_eq!(rt; cut.written.as_slice(), b"s UNSATISFIABLE\n".as_slice());
     Ok(())
 }
 
@@ -208,7 +225,13 @@ fn no_beginning_of_a_proof_will_do(rt: HostRuntime) -> Result<(), Fail> {
     for len in 0..proof.len() {
         let mut out = Vec::new(alloc);
         let outcome = run_check(&Discard, alloc, FOUR.as_bytes(), &proof[..len], &mut out);
-        assert!(rt; matches!(&outcome, Err(RunFault::Proof(CheckerError::ProofIncomplete { .. }))), "{len}");
+        assert!(rt;
+            matches!(
+                &outcome,
+                Err(RunFault::Proof(CheckerError::ProofIncomplete { .. }))
+            ),
+            "{len}"
+        );
         assert!(rt; out.is_empty(), "{len}");
         assert_eq!(rt; exit_status(&outcome), 1, "{len}");
     }
@@ -226,8 +249,16 @@ fn texts_of_refusals(rt: HostRuntime) -> Result<(), Fail> {
         ("p cnf 1\n", end, "line 1: bad header"),
         ("1 0\np cnf 1 1\n", end, "line 2: late header"),
         ("268435457 0", end, "line 1: variable too large"),
-        ("1 0", &[0x0E], "step 1: Could not parse proof step: unknown step tag"),
-        ("1 2 0", &[0x06, 0x00, 0x00, 0x00], "step 1: Checking proof failed: AT check failed"),
+        (
+            "1 0",
+            &[0x0E],
+            "step 1: Could not parse proof step: unknown step tag",
+        ),
+        (
+            "1 2 0",
+            &[0x06, 0x00, 0x00, 0x00],
+            "step 1: Checking proof failed: AT check failed",
+        ),
     ];
     for (cnf, proof, text) in cases {
         let answer = check(alloc, cnf.as_bytes(), proof)?;
@@ -236,7 +267,10 @@ fn texts_of_refusals(rt: HostRuntime) -> Result<(), Fail> {
         assert_eq!(rt; answer.status, 1, "{text}");
     }
     let incomplete = check(alloc, "1 0".as_bytes(), empty)?;
-    assert_eq!(rt; incomplete.fault.as_str(), "step 1: Unexpected end of proof file");
+    assert_eq!(rt;
+        incomplete.fault.as_str(),
+        "step 1: Unexpected end of proof file"
+    );
     Ok(())
 }
 
@@ -247,11 +281,17 @@ fn reads_that_fail(rt: HostRuntime) -> Result<(), Fail> {
     let cause = io::Error::from(ErrorKind::ConnectionReset);
 
     let formula = check(alloc, broken("1 0\n-1 0\n".as_bytes()), end)?;
-    assert_eq!(rt; formula.fault.as_str(), format!(in alloc; "error reading formula: {cause}")?.as_str());
+    assert_eq!(rt;
+        formula.fault.as_str(),
+        format!(in alloc; "error reading formula: {cause}")?.as_str()
+    );
     assert!(rt; formula.written.is_empty());
 
     let proof = check(alloc, "1 0\n-1 0\n".as_bytes(), broken(&[0x05, 0x00]))?;
-    assert_eq!(rt; proof.fault.as_str(), format!(in alloc; "step 2: Error reading proof file: {cause}")?.as_str());
+    assert_eq!(rt;
+        proof.fault.as_str(),
+        format!(in alloc; "step 2: Error reading proof file: {cause}")?.as_str()
+    );
     assert!(rt; proof.written.is_empty());
     Ok(())
 }
@@ -264,15 +304,25 @@ fn lines_that_cannot_be_written(rt: HostRuntime) -> Result<(), Fail> {
     let outcome = run_check(&Discard, alloc, "1 0\n-1 0\n".as_bytes(), end, &mut Full);
     assert!(rt; matches!(&outcome, Err(RunFault::Write(_))));
     assert_eq!(rt; exit_status(&outcome), 1);
-    let text = answer(alloc, outcome, Vec::new(alloc))?.fault;
-    assert_eq!(rt; text.as_str(), format!(in alloc; "error writing: {cause}")?.as_str());
+    let text = answered(alloc, outcome, Vec::new(alloc))?.fault;
+    assert_eq!(rt;
+        text.as_str(),
+        format!(in alloc; "error writing: {cause}")?.as_str()
+    );
     Ok(())
 }
 
 #[test]
-fn nothing_is_written_to_a_writer_that_fails_where_the_proof_is_refused(rt: HostRuntime) -> Result<(), Fail> {
+fn nothing_is_written_to_a_writer_that_fails_where_the_proof_is_refused(
+    rt: HostRuntime,
+) -> Result<(), Fail> {
     let empty: &[u8] = &[];
     let outcome = run_check(&Discard, rt.alloc(), "1 0".as_bytes(), empty, &mut Full);
-    assert!(rt; matches!(&outcome, Err(RunFault::Proof(CheckerError::ProofIncomplete { step: 1 }))));
+    assert!(rt;
+        matches!(
+            &outcome,
+            Err(RunFault::Proof(CheckerError::ProofIncomplete { step: 1 }))
+        )
+    );
     Ok(())
 }

@@ -12,4 +12,4 @@ pub returns-in-Ok-clause-refutes : goal.returns-in-Ok-clause-refutes
 returns-in-Ok-clause-refutes g c =
     let lives = not_failed (state c.args.checker.now).failed c.in_default.field-0 c.in_default.ensures.failed in
     λ h before covered a. refuted_before _ (state c.args.checker.now) (state c.check_proof.new.self) before (c.in_default.ensures.run lives) lives
-        (verdict_told _ _ (state c.args.checker.now) (state c.check_proof.new.self) h c.verdict_after-verdict.ensures c.input_clauses-inputs.ensures) covered a
+    (verdict_told _ _ (state c.args.checker.now) (state c.check_proof.new.self) h c.verdict_after-verdict.ensures c.input_clauses-inputs.ensures) covered a
