@@ -46,7 +46,7 @@ impl Read for Slow<'_> {
     }
 }
 
-fn slow<'a>(bytes: &'a [u8]) -> Slow<'a> {
+fn byte_by_byte<'a>(bytes: &'a [u8]) -> Slow<'a> {
     Slow {
         bytes,
         at: 0,
@@ -85,7 +85,7 @@ struct Answer {
     status: u8,
 }
 
-fn answer(
+fn answered(
     alloc: Global,
     outcome: Result<Verdict, RunFault>,
     written: Vec<u8>,
@@ -106,13 +106,13 @@ fn answer(
 fn check<F: Read + Drop, P: Read + Drop>(alloc: Global, cnf: F, proof: P) -> Result<Answer, Fail> {
     let mut out = Vec::new(alloc);
     let outcome = run_check(&Discard, alloc, cnf, proof, &mut out);
-    answer(alloc, outcome, out)
+    answered(alloc, outcome, out)
 }
 
 fn prove(alloc: Global, checker: &mut Checker, proof: &[u8]) -> Result<Answer, Fail> {
     let mut out = Vec::new(alloc);
     let outcome = run_proof(&Discard, checker, proof, &mut out);
-    answer(alloc, outcome, out)
+    answered(alloc, outcome, out)
 }
 
 // From the four clauses: first the unit 1, and then the empty clause.
@@ -144,7 +144,7 @@ fn opposite_units_are_unsatisfiable(rt: HostRuntime) -> Result<(), Fail> {
     }
     let answer = prove(rt.alloc(), &mut checker, &[0x0D])?;
     assert_eq!(rt; answer.verdict, Some(Verdict::Unsatisfiable));
-    assert_eq!(rt; answer.written.as_slice(), b"s UNSATISFIABLE\n");
+    assert_eq!(rt; answer.written.as_slice(), b"s UNSATISFIABLE\n".as_slice());
     assert_eq!(rt; answer.status, 0);
     Ok(())
 }
@@ -153,7 +153,7 @@ fn opposite_units_are_unsatisfiable(rt: HostRuntime) -> Result<(), Fail> {
 fn proofs_on_a_new_checker(rt: HostRuntime) -> Result<(), Fail> {
     let ended = prove(rt.alloc(), &mut Checker::new(rt.alloc()), &[0x0D])?;
     assert_eq!(rt; ended.verdict, Some(Verdict::NotShown));
-    assert_eq!(rt; ended.written.as_slice(), b"s NOT SHOWN\n");
+    assert_eq!(rt; ended.written.as_slice(), b"s NOT SHOWN\n".as_slice());
 
     let added = prove(
         rt.alloc(),
@@ -163,7 +163,7 @@ fn proofs_on_a_new_checker(rt: HostRuntime) -> Result<(), Fail> {
     assert_eq!(rt; added.verdict, Some(Verdict::UnsatisfiableWithAdded(1)));
     assert_eq!(rt;
         added.written.as_slice(),
-        b"s UNSATISFIABLE WITH 1 ADDED CLAUSES\n"
+        b"s UNSATISFIABLE WITH 1 ADDED CLAUSES\n".as_slice()
     );
 
     let empty = prove(rt.alloc(), &mut Checker::new(rt.alloc()), &[])?;
@@ -192,16 +192,16 @@ fn formulas_with_short_proofs(rt: HostRuntime) -> Result<(), Fail> {
     let added = check(alloc, "1 0".as_bytes(), [0x05, 0x00, 0x0D].as_slice())?;
     assert_eq!(rt;
         added.written.as_slice(),
-        b"s UNSATISFIABLE WITH 1 ADDED CLAUSES\n"
+        b"s UNSATISFIABLE WITH 1 ADDED CLAUSES\n".as_slice()
     );
     assert_eq!(rt; added.status, 3);
 
     let shown = check(alloc, "1 0\n-1 0\n".as_bytes(), [0x0D].as_slice())?;
-    assert_eq!(rt; shown.written.as_slice(), b"s UNSATISFIABLE\n");
+    assert_eq!(rt; shown.written.as_slice(), b"s UNSATISFIABLE\n".as_slice());
     assert_eq!(rt; shown.status, 0);
 
     let open = check(alloc, "1 0".as_bytes(), [0x0D].as_slice())?;
-    assert_eq!(rt; open.written.as_slice(), b"s NOT SHOWN\n");
+    assert_eq!(rt; open.written.as_slice(), b"s NOT SHOWN\n".as_slice());
     assert_eq!(rt; open.status, 3);
     Ok(())
 }
@@ -212,9 +212,9 @@ fn four_clauses_however_cut(rt: HostRuntime) -> Result<(), Fail> {
     let proof = proof_of_four(alloc)?;
     let whole = check(alloc, FOUR.as_bytes(), proof.as_slice())?;
     assert_eq!(rt; whole.verdict, Some(Verdict::Unsatisfiable));
-    let cut = check(alloc, slow(FOUR.as_bytes()), slow(&proof))?;
+    let cut = check(alloc, byte_by_byte(FOUR.as_bytes()), byte_by_byte(&proof))?;
     assert_eq!(rt; cut.verdict, Some(Verdict::Unsatisfiable));
-    assert_eq!(rt; cut.written.as_slice(), b"s UNSATISFIABLE\n");
+    assert_eq!(rt; cut.written.as_slice(), b"s UNSATISFIABLE\n".as_slice());
     Ok(())
 }
 
@@ -304,7 +304,7 @@ fn lines_that_cannot_be_written(rt: HostRuntime) -> Result<(), Fail> {
     let outcome = run_check(&Discard, alloc, "1 0\n-1 0\n".as_bytes(), end, &mut Full);
     assert!(rt; matches!(&outcome, Err(RunFault::Write(_))));
     assert_eq!(rt; exit_status(&outcome), 1);
-    let text = answer(alloc, outcome, Vec::new(alloc))?.fault;
+    let text = answered(alloc, outcome, Vec::new(alloc))?.fault;
     assert_eq!(rt;
         text.as_str(),
         format!(in alloc; "error writing: {cause}")?.as_str()
