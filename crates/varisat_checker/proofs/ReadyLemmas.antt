@@ -15,7 +15,7 @@ use Rattle.varisat_checker.specs.declared.clauses.units.UnitClause.{UnitClause}
 use Rattle.varisat_checker.specs.declared.hash.ClauseHasher.{ClauseHasher}
 use Rattle.varisat_checker.specs.declared.state.CheckerState.{CheckerState}
 use Rattle.varisat_checker.specs.declared.rup.Answer.{Answer}
-use Rattle.varisat_checker.specs.CheckLaw.{Answers}
+use Rattle.varisat_checker.specs.CheckLaw.{AnswersCheck}
 use Rattle.varisat_checker.specs.Rup.{AreAllKnown, check_answer, clause_answer, named_buckets}
 use Rattle.varisat_checker.specs.StateOf.{state_of, stored_unit, stored_units}
 use Rattle.varisat_checker.specs.Store.{IsStore}
@@ -61,10 +61,10 @@ check-failed s c hs e n =
 
 -- what the check found, in the state in which the clause is checked
 pub ready-answers : (st : CheckerState) (h : ClauseHasher) (cs : Clauses) (known : List Known) (buffer c hs : List ℕ) (a : Answer) (s : State) → IsStore h cs → Sound s → state_of st h cs known ≡ ready s c → is_tautology c ≡ false
-    → buffer ≡ cs.literal_buffer.items → check_answer a ≡ clause_answer (stored_units cs.unit_clauses) c (named_buckets buffer cs.buckets hs) → Answers (ready s c) c hs a
+    → buffer ≡ cs.literal_buffer.items → check_answer a ≡ clause_answer (stored_units cs.unit_clauses) c (named_buckets buffer cs.buckets hs) → AnswersCheck (ready s c) c hs a
 ready-answers st h cs known buffer c hs a s store sound here apart whole e =
     let is = subst (λ (b : List ℕ). check_answer a ≡ clause_answer (stored_units cs.unit_clauses) c (named_buckets b cs.buckets hs)) whole e in
-    subst (λ (r : State). Answers r c hs a) here (check_is_by_rules.answers st h cs known c hs a store.filed.bucketed (ready-form s (state_of st h cs known) c sound here) apart is)
+    subst (λ (r : State). AnswersCheck r c hs a) here (check_is_by_rules.answers st h cs known c hs a store.filed.bucketed (ready-form s (state_of st h cs known) c sound here) apart is)
 
 -- the state with the units of before
 pub same-units : (st : CheckerState) (h : ClauseHasher) (cs : Clauses) (known : List Known) (us : List (Option UnitClause)) (t : State) → us ≡ cs.unit_clauses → state_of st h cs known ≡ t → state_of st h (record cs { unit_clauses = us }) known ≡ t
