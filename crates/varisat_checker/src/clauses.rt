@@ -7,8 +7,6 @@ pub mod buckets;
 pub mod lits;
 pub mod rebuild;
 pub mod store;
-#[cfg(test)]
-mod tests;
 pub mod units;
 
 use crate::clauses::buckets::Buckets;

@@ -14,8 +14,6 @@ mod refusal;
 pub mod rup;
 pub mod state;
 pub mod steps;
-#[cfg(test)]
-mod tests;
 pub mod variables;
 
 pub use checker::{Checker, CheckerOf};
