@@ -10,3 +10,6 @@ pub use fault::RunFault;
 pub use run::{run_check, run_proof};
 pub use status::exit_status;
 pub use verdict::Verdict;
+
+#[cfg(test)]
+mod tests;

@@ -1,20 +1,23 @@
 -- A clause of a bucket as a stored one.
-use Rattle.std.proofs.Common.{◌≡◌, ℕ, ◌+◌, ◌-◌, ◌^◌, ◌<◌, ◌≤◌, Bool, true, false, cond, ◌||◌, ltb, List, [], ◌∷◌, length, get_or, set, map, Some, None, position, refl, sym, ap, ◌∙◌, arith}
-use Rattle.std.specs.List.{list_any, position_or_len}
+use Rattle.std.proofs.Common.{◌≡◌, ℕ, suc, ◌+◌, ◌-◌, ◌^◌, ◌<◌, ◌≤◌, Bool, true, false, cond, ◌||◌, ltb, List, [], ◌∷◌, ◌++◌, length, get_or, take, drop, set, map, Some, None, position, refl, sym, ap, ◌∙◌, subst, arith}
+use Rattle.std.specs.List.{list_all, list_any, position_or_len}
 use Rattle.std.proofs.lemmas.List.Quantifiers.{position-Some}
-use Rattle.std.proofs.lemmas.List.{map-set}
+use Rattle.std.proofs.lemmas.List.{drop-map, map-append, map-set, take-map}
 use Rattle.std.proofs.lemmas.List.Folds.{list_any_none}
 use Rattle.std.proofs.lemmas.List.Sums.{fails_before_first}
 use Rattle.std.proofs.Math.ListN.{get_or-map, length-map}
 use Rattle.checker_rules.specs.Canonical.{same_list}
+use Rattle.checker_rules.specs.Buckets.{remaining}
 use Rattle.checker_rules.specs.State.{Stored}
-use Rattle.checker_rules.specs.Store.{count_limit, count_of, id_among, is_stored, raise}
+use Rattle.checker_rules.specs.Store.{count_limit, count_of, id_among, is_gone, is_stored, lower, raise}
 use Rattle.checker_rules.specs.WellFormed.{are_apart}
 use Rattle.varisat_checker.specs.declared.clauses.Clause.{Clause}
-use Rattle.varisat_checker.specs.Buckets.{is_of, copies_of, raised}
+use Rattle.varisat_checker.specs.Buckets.{copies_of, is_of, raised}
 use Rattle.varisat_checker.specs.Found.{found_in}
+use Rattle.varisat_checker.specs.Lowered.{IsLeft, left_of, lowered}
+use Rattle.varisat_checker.specs.Store.{is_whole}
 use Rattle.varisat_checker.specs.View.{stored_of}
-use Rattle.varisat_checker.proofs.FoundLemmas.{is_stored-at, id_among-at, count_of-at, raise-at}
+use Rattle.varisat_checker.proofs.FoundLemmas.{is_stored-at, id_among-at, count_of-at, lower-at, raise-at, remaining-gone, remaining-set}
 
 pub count_limit-is : count_limit ≡ 2 ^ 32 - 1
 unfolding count_limit
@@ -69,6 +72,54 @@ module _ (buffer c : List ℕ) (cs : List Clause) where
 
     pub count_of-place : (r : Bool) → count_of r c (map (stored_of buffer) cs) ≡ copies_of r d
     count_of-place r = count_of-at c (stored_of buffer d) same r (map (stored_of buffer) cs) i within stands before
+
+    pub is_stored-place : is_stored c (map (stored_of buffer) cs) ≡ true
+    is_stored-place = is_stored-at c (stored_of buffer d) same (map (stored_of buffer) cs) i within stands
+
+    pub id_among-place : id_among c (map (stored_of buffer) cs) ≡ d.id
+    id_among-place = id_among-at c (stored_of buffer d) same (map (stored_of buffer) cs) i within stands before
+
+    -- one copy less, which may be the last
+    lowered_same : (r : Bool) → stored_of buffer (lowered r d) ≡ lower r c (stored_of buffer d)
+    lowered_same true = sym (ap (λ b. cond b (record (stored_of buffer d) { redundant = d.redundant - 1 }) (stored_of buffer d)) same)
+    lowered_same false = sym (ap (λ b. cond b (record (stored_of buffer d) { irredundant = d.irredundant - 1 }) (stored_of buffer d)) same)
+
+    lowered_at : (r : Bool) → are_apart (map (stored_of buffer) cs) ≡ true → remaining (map (lower r c) (map (stored_of buffer) cs)) ≡ remaining (set (map (stored_of buffer) cs) i (stored_of buffer (lowered r d)))
+    lowered_at r a =
+        let e = stored_of buffer d in let es = map (stored_of buffer) cs in
+        ap remaining (lower-at c e same r es i within stands before a ∙ ap (set es i) (sym (lowered_same r)))
+
+    pub lowered-place : (r : Bool) (left : Clause) → left ≡ lowered r d → is_gone (stored_of buffer left) ≡ false → are_apart (map (stored_of buffer) cs) ≡ true → list_all is_whole (map (stored_of buffer) cs) ≡ true → map (stored_of buffer) (set cs i left) ≡ remaining (map (lower r c) (map (stored_of buffer) cs))
+    lowered-place r left e g a w =
+        let es = map (stored_of buffer) cs in let x = stored_of buffer left in
+        map-set (stored_of buffer) cs i left ∙ sym (lowered_at r a ∙ ap (λ y. remaining (set es i (stored_of buffer y))) (sym e) ∙ remaining-set x es i g w)
+
+    pub removed-place : (r : Bool) (left : Clause) → left ≡ lowered r d → is_gone (stored_of buffer left) ≡ true → are_apart (map (stored_of buffer) cs) ≡ true → list_all is_whole (map (stored_of buffer) cs) ≡ true → map (stored_of buffer) (take i cs ++ drop (suc i) cs) ≡ remaining (map (lower r c) (map (stored_of buffer) cs))
+    removed-place r left e g a w =
+        let es = map (stored_of buffer) cs in let x = stored_of buffer left in
+        map-append (stored_of buffer) (take i cs) (drop (suc i) cs)
+        ∙ ap (λ xs. xs ++ map (stored_of buffer) (drop (suc i) cs)) (sym (take-map (stored_of buffer) i cs)) ∙ ap (λ xs. take i es ++ xs) (sym (drop-map (stored_of buffer) (suc i) cs))
+        ∙ sym (lowered_at r a ∙ ap (λ y. remaining (set es i (stored_of buffer y))) (sym e) ∙ remaining-gone x es i within g w)
+
+    pub left-place : (r : Bool) → 0 < copies_of r d → IsLeft r c (map (stored_of buffer) cs) (left_of (lowered r d))
+    left-place r had = record {
+      copy = subst (λ n. 0 < n) (sym (count_of-place r)) had;
+      id = id_is r ∙ sym id_among-place;
+      irredundant = irredundant_is r ∙ ap (λ n. n - cond r 0 1) (sym (count_of-place false));
+      redundants = redundant_is r ∙ ap (λ n. n - cond r 1 0) (sym (count_of-place true));
+    }
+      where
+        id_is : (r : Bool) → (lowered r d).id ≡ d.id
+        id_is true = refl
+        id_is false = refl
+
+        irredundant_is : (r : Bool) → (lowered r d).irredundant ≡ d.irredundant - cond r 0 1
+        irredundant_is true = omega arith
+        irredundant_is false = refl
+
+        redundant_is : (r : Bool) → (lowered r d).redundant ≡ d.redundant - cond r 1 0
+        redundant_is true = refl
+        redundant_is false = omega arith
 
     pub raised-place : (r : Bool) → are_apart (map (stored_of buffer) cs) ≡ true → map (stored_of buffer) (set cs i (raised r d)) ≡ map (raise r c) (map (stored_of buffer) cs)
     raised-place r a =

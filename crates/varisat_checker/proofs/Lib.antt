@@ -9,6 +9,8 @@ pub mod CheckLemmas
 pub mod ColumnLemmas
 pub mod CountLemmas
 pub mod CountedSteps
+pub mod DeleteLemmas
+pub mod DeletedLemmas
 pub mod EditLemmas
 pub mod FailingLemmas
 pub mod FoundLemmas
@@ -18,6 +20,7 @@ pub mod GrowthLemmas
 pub mod HashLemmas
 pub mod InputLemmas
 pub mod LongLemmas
+pub mod MoveLemmas
 pub mod NewLemmas
 pub mod OutcomeLemmas
 pub mod ProofRuns

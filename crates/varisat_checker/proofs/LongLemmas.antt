@@ -35,7 +35,7 @@ absent_from c es e = none (is_stored c es) (id_among c es, count_of false c es) 
     none false q e = refl
 
 -- a clause of two or more literals
-long_is : (c : List ℕ) → 1 < length c → is_short c ≡ false
+pub long_is : (c : List ℕ) → 1 < length c → is_short c ≡ false
 long_is [] w = absurd (omega (arith, w))
 long_is (l ∷ []) w = absurd (omega (arith, w))
 long_is (l ∷ k ∷ ls) w = refl

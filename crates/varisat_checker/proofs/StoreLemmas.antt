@@ -77,3 +77,7 @@ unit_of-stored_units us v = get_or-map (option_map stored_unit) us v None
 
 pub stored_units-set : (us : List (Option UnitClause)) (v : ℕ) (u : UnitClause) → stored_units (set us v (Some u)) ≡ set (stored_units us) v (Some (stored_unit u))
 stored_units-set us v u = map-set (option_map stored_unit) us v (Some u)
+
+-- what is true of the buffer that was read and of the hash that was computed is true of the store's
+pub read : (P : List ℕ → ℕ → Type 0) (b buffer : List ℕ) (k hash : ℕ) → b ≡ buffer → k ≡ hash → P b k → P buffer hash
+read P b buffer k hash e f p = subst (P buffer) f (subst (λ x. P x k) e p)

@@ -24,3 +24,9 @@ pub record IsPushed (hash : ℕ) (e : Stored) (cs cs' : Clauses) : Type 0 where
   pub garbage : cs'.garbage_size ≡ cs.garbage_size
   pub units : cs'.unit_clauses ≡ cs.unit_clauses
   pub conflict : cs'.unit_conflict ≡ cs.unit_conflict
+
+-- ids, units and the unit conflict stay
+pub record KeepsRest (cs cs' : Clauses) : Type 0 where
+  pub next : cs'.next_clause_id ≡ cs.next_clause_id
+  pub units : cs'.unit_clauses ≡ cs.unit_clauses
+  pub conflict : cs'.unit_conflict ≡ cs.unit_conflict

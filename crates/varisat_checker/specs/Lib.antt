@@ -1,6 +1,7 @@
 pub mod Buckets
 pub mod CheckLaw
 pub mod Context
+pub mod Delete
 pub mod Derived
 pub mod Edits
 pub mod Failing
@@ -9,6 +10,7 @@ pub mod Growth
 pub mod InputCause
 pub mod Kept
 pub mod Lits
+pub mod Lowered
 pub mod Names
 pub mod NewParts
 pub mod NotYet

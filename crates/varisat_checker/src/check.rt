@@ -42,7 +42,7 @@ pub fn check_step<P: ProofProcessor, T: ProofTranscriptProcessor>(
 }
 
 /// Counts a step and checks it. Where no step number is left it is refused before anything of it is looked at.
-pub(crate) fn attempt_step<P: ProofProcessor, T: ProofTranscriptProcessor>(
+pub fn attempt_step<P: ProofProcessor, T: ProofTranscriptProcessor>(
     alloc: Global,
     ctx: &mut ContextOf<P, T>,
     step: &ProofStep,

@@ -4,7 +4,10 @@ ghost use Rattle.std.specs.Option.{SomeIff};
 ghost use Rattle.checker_rules.specs.Store.{id_limit};
 
 pub mod buckets;
+pub mod collect;
+pub mod delete;
 pub mod lits;
+pub mod lower;
 pub mod rebuild;
 pub mod store;
 pub mod units;
@@ -46,6 +49,17 @@ pub enum StoreClauseResult {
     Duplicate,
     /// It was stored as a redundant clause only, and is irredundant now.
     NewlyIrredundant,
+}
+
+/// What deleting a copy of a clause did.
+#[derive(Clone, Copy, PartialEq, Eq)]
+pub enum DeleteClauseResult {
+    /// The clause is still stored in that kind, or a redundant copy of several went.
+    Unchanged,
+    /// Its last irredundant copy went, and redundant ones remain.
+    NewlyRedundant,
+    /// Its last copy went.
+    Removed,
 }
 
 /// The stored clauses and units.

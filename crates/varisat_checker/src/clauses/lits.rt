@@ -50,13 +50,10 @@ impl ClauseLits {
         }
     }
 
-    /// How many literals stand in the buffer.
-    pub fn buffer_used(&self) -> usize
-        ensures { result ≡ buffer_used self.now }
+    /// How many literals of such a clause stand in the buffer.
+    pub fn buffer_size(lits: &[Lit]) -> usize
+        ensures { result ≡ live_of lits.now }
     {
-        match self {
-            ClauseLits::Long { len, .. } => *len,
-            _ => 0,
-        }
+        if lits.len() > 3 { lits.len() } else { 0 }
     }
 }

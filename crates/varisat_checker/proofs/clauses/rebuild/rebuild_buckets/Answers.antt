@@ -10,6 +10,7 @@ use Rattle.varisat_checker.specs.Store.{Files}
 use Rattle.varisat_checker.specs.StateOf.{hash_of}
 use Rattle.varisat_checker.specs.View.{stored_in, stored_list, stored_of}
 use Rattle.varisat_checker.proofs.EditLemmas.{stored_list-is}
+use Rattle.varisat_checker.proofs.MoveLemmas.{rebuilt_by}
 use Rattle.varisat_checker.proofs.clauses.rebuild.rebuild_buckets.Goals as goal
 
 pub rebuild-requires-clause-within : goal.rebuild-requires-clause-within
@@ -18,11 +19,7 @@ rebuild-requires-clause-within c =
     subst (λ b. All (λ (d : Clause). IsWithin d.lits b) c.deref.result.now) (sym c.deref-2.ensures.value)
     (subst (All (λ (d : Clause). IsWithin d.lits c.args.clauses.now.literal_buffer.items)) (sym c.deref.ensures.value) (c.in_ok-all.ensures.within s.0 (stored_list c.args.clauses.now) s.1))
 
--- the new buckets hold the clauses by their hashes
-tied : (f : List ℕ → ℕ) (m : Buckets) (es : List Stored) (buffer b : List ℕ) (all xs : List Clause) → b ≡ buffer → xs ≡ all → map (stored_of buffer) all ≡ es → ((k : ℕ) → stored_in b m k ≡ of_hash f k (map (stored_of b) xs)) → (k : ℕ) → stored_in buffer m k ≡ of_hash f k es
-tied f m es buffer b all xs p q r t k = ap (λ y. stored_in y m k) (sym p) ∙ t k ∙ ap (λ y. of_hash f k (map (stored_of y) xs)) p ∙ ap (λ ys. of_hash f k (map (stored_of buffer) ys)) q ∙ ap (of_hash f k) r
-
--- and everything else stays
+-- what does not hang on the buckets stays
 files : (h g : ClauseHasher) (cs : Clauses) (m : Buckets) (es : List Stored) → 0 < h.hash_bits → h.hash_bits ≤ 64 → Files g cs es → AreWithin cs.literal_buffer.items m → ((k : ℕ) → stored_in cs.literal_buffer.items m k ≡ of_hash (hash_of h) k es) → Files h (record cs { buckets = m }) es
 files h g cs m es low high f within here = record {
   some_bits = low;
@@ -39,7 +36,7 @@ rebuilt : (c : goal.After-drop-all-2) → Files c.args.hasher.now (record c.args
 rebuilt c =
     let h = c.args.hasher.now in let cs = c.args.clauses.now in let s = c.requires.filed in let m = c.in_ok-clauses.field-0 in let e = c.in_ok-clauses.ensures in
     files h s.0 cs m (stored_list cs) c.requires.some_bits c.requires.bits s.1 (subst (λ b. AreWithin b m) c.deref-2.ensures.value e.within)
-    (tied (hash_of h) m (stored_list cs) cs.literal_buffer.items c.deref-2.result.now c.in_ok-all.all.items c.deref.result.now c.deref-2.ensures.value c.deref.ensures.value (c.in_ok-all.ensures.list s.0 (stored_list cs) s.1) e.buckets)
+    (rebuilt_by (hash_of h) m (stored_list cs) cs.literal_buffer.items c.deref-2.result.now c.in_ok-all.all.items c.deref.result.now c.deref-2.ensures.value c.deref.ensures.value (c.in_ok-all.ensures.list s.0 (stored_list cs) s.1) e.buckets)
 
 pub returns-clause-filed : goal.returns-clause-filed
 returns-clause-filed c =

@@ -12,12 +12,8 @@ use Rattle.varisat_checker.specs.View.{stored_in, stored_list}
 use Rattle.varisat_checker.proofs.EditLemmas.{files-raised, files-same, is_store-by, stored_list-is}
 use Rattle.varisat_checker.proofs.FoundLemmas.{raise-absent}
 use Rattle.varisat_checker.proofs.LongLemmas.{absent_from, answers-pushed, is_store-answered, long-full, long-stands, state_of-buckets}
-use Rattle.varisat_checker.proofs.StoreLemmas.{are_apart-bucket, count_of-bucket, found_in-bucket}
+use Rattle.varisat_checker.proofs.StoreLemmas.{are_apart-bucket, count_of-bucket, found_in-bucket, read}
 use Rattle.varisat_checker.proofs.clauses.store.store_long.Goals as goal
-
--- what is true of the buffer that was read and of the hash that was computed is true of the store's
-read : (P : List ℕ → ℕ → Type 0) (b buffer : List ℕ) (k hash : ℕ) → b ≡ buffer → k ≡ hash → P b k → P buffer hash
-read P b buffer k hash e f p = subst (P buffer) f (subst (λ x. P x k) e p)
 
 raised_store : (h : ClauseHasher) (cs : Clauses) (m : Buckets) (r : Bool) (c : List ℕ) → IsStore h cs → IsRaised cs.literal_buffer.items (hash_of h c) r c cs.buckets m → IsStore h (record cs { buckets = m })
 raised_store h cs m r c s p = is_store-by h (record cs { buckets = m }) (map (raise r c) (stored_list cs)) (files-raised h cs (stored_list cs) m r c s.filed p) s.garbage s.units
