@@ -34,23 +34,33 @@ shorten() {
   head -c -1 "$work/files/$1" > "$work/files/short.$1"
 }
 
-# refutes NAME STEPS OFFSET BYTE: the proof of so many steps is accepted, and refused where its last byte is missing
-# or where the first hash, at the offset, begins with another byte
+# refutes NAME KIND STEPS AT OFFSET BYTE: the proof of so many steps is accepted, and refused where its last byte is missing
+# or where the first hash, in the step AT and at the offset, begins with another byte
 refutes() {
-  local cnf=$1.cnf proof=$1.derive.proof
-  expect "$1" 0 's UNSATISFIABLE' '' "$cnf" "$proof"
+  local cnf=$1.cnf proof=$1.$2.proof
+  expect "$1_$2" 0 's UNSATISFIABLE' '' "$cnf" "$proof"
   shorten "$proof"
-  expect "$1_short" 1 '' "step $2: Unexpected end of proof file" "$cnf" "short.$proof"
-  change "$proof" "$3" "$4"
-  expect "$1_changed" 1 '' 'step 1: Checking proof failed: no clause found for hash' "$cnf" "changed.$proof"
+  expect "$1_$2_short" 1 '' "step $3: Unexpected end of proof file" "$cnf" "short.$proof"
+  change "$proof" "$5" "$6"
+  expect "$1_$2_changed" 1 '' "step $4: Checking proof failed: no clause found for hash" "$cnf" "changed.$proof"
 }
 
-refutes par10 116 9 fb
-refutes board6 88 6 89
-refutes grid5 796 9 cd
-
-# A proof with deletions: their kind of step is read, and not checked yet.
-expect deletions 1 '' 'step 17: Checking proof failed: step kind not checked yet' board6.cnf board6.proof
+# without deletions
+refutes par10 derive 113 1 9 fb
+refutes board6 derive 45 1 6 89
+refutes grid5 derive 786 1 9 cd
+# with them
+refutes par10 whole 149 1 9 fb
+refutes board6 whole 52 1 6 89
+refutes grid5 whole 1181 1 9 cd
+# with hashes of 32 bits
+refutes par10 width32 150 2 11 be
+refutes board6 width32 53 2 8 bd
+refutes grid5 width32 1182 2 11 fd
+# in version 2 of the bytes
+refutes par10 v2 149 1 11 7b
+refutes board6 v2 52 1 8 09
+refutes grid5 v2 1181 1 11 cd
 
 printf '1 2 0\n1 x 0\n' > "$work/files/malformed.cnf"
 printf '1 0\n' > "$work/files/unit.cnf"

@@ -29,5 +29,3 @@ mod orders;
 mod proofs;
 #[cfg(test)]
 mod runs;
-#[cfg(test)]
-mod unchecked_kinds;

@@ -13,7 +13,7 @@ use Rattle.checker_rules.proofs.Keeping.{step_keeps}
 use Rattle.checker_rules.proofs.Runs.{append_none, append_step, changed_same, holds_last}
 use Rattle.checker_rules.proofs.WholeRuns.{close_keeps, covers_attempt, covers_close, covers_same, keeps_attempt, runs_are_fold, runs_cover}
 use Rattle.proof_bytes.specs.Reading.{Fault, Short, Wrong}
-use Rattle.checker_parts.specs.Answers.{AnswersStep, AnswersText, CoversFold, EndsRun, IsCovered, IsFold, IsRefusal, RunIsRefused, SetsFold, UnlessFailed, UnlessTextFailed, all_steps, first_accepted, unless_refused}
+use Rattle.checker_parts.specs.Answers.{AnswersStep, AnswersText, CoversFold, EndsRun, IsCovered, IsFold, SetsFold, UnlessFailed, UnlessTextFailed, all_steps, first_accepted, unless_refused}
 use Rattle.checker_parts.specs.Causes.{cause_of}
 use Rattle.checker_parts.specs.declared.error.CheckerError.{CheckerError}
 use Rattle.checker_parts.specs.declared.error.DimacsError.{DimacsError}
@@ -41,15 +41,11 @@ sets_fold s t o k ts f (Ok x) u h = fold-last ts t (sat s) u f (λ a. ap (λ w. 
     accepted : (x : Option Cause) → x ≡ None → SetAfter (sat s) t x o.after → (a : ℕ → Bool) → sat o.after a ≡ changed t (sat s) a
     accepted None e k = k
     accepted (Some cause) e k = cc
-sets_fold s t o k ts f (Err (CheckFailed number cause debug_step)) u h = refused (cause_of cause) h
+sets_fold s t o k ts f (Err (CheckFailed number cause debug_step)) u h = λ a. ap (λ w. sat w a) h.1 ∙ kept o.refused (cause_of cause) h.0 k a ∙ f a
   where
     kept : (x : Option Cause) (c : Cause) → x ≡ Some c → SetAfter (sat s) t x o.after → (a : ℕ → Bool) → sat o.after a ≡ sat s a
     kept None c e k = cc
     kept (Some d) c e k = k
-
-    refused : (x : Option Cause) → IsRefusal x number o u → IsFold ts u
-    refused None h = absurd h
-    refused (Some c) h = λ a. ap (λ w. sat w a) h.1 ∙ kept o.refused c h.0 k a ∙ f a
 sets_fold s t o k ts f (Err (ProofIncomplete number)) u h = absurd h
 sets_fold s t o k ts f (Err (IoError number cause)) u h = absurd h
 sets_fold s t o k ts f (Err (ParseError number cause)) u h = absurd h
@@ -63,15 +59,11 @@ covers_fold t o ts k (Ok x) u h = covers-last ts t u (subst (Covers (changed t (
     accepted : (x : Option Cause) → x ≡ None → CoversAfter (holds ts) t x o.after → Covers (changed t (holds ts)) o.after
     accepted None e k = k
     accepted (Some cause) e k = cc
-covers_fold t o ts k (Err (CheckFailed number cause debug_step)) u h = refused (cause_of cause) h
+covers_fold t o ts k (Err (CheckFailed number cause debug_step)) u h = subst (Covers (holds ts)) (sym h.1) (kept o.refused (cause_of cause) h.0 k)
   where
     kept : (x : Option Cause) (c : Cause) → x ≡ Some c → CoversAfter (holds ts) t x o.after → Covers (holds ts) o.after
     kept None c e k = cc
     kept (Some d) c e k = k
-
-    refused : (x : Option Cause) → IsRefusal x number o u → Covers (holds ts) u
-    refused None h = absurd h
-    refused (Some c) h = subst (Covers (holds ts)) (sym h.1) (kept o.refused c h.0 k)
 covers_fold t o ts k (Err (ProofIncomplete number)) u h = absurd h
 covers_fold t o ts k (Err (IoError number cause)) u h = absurd h
 covers_fold t o ts k (Err (ParseError number cause)) u h = absurd h
@@ -96,11 +88,7 @@ covers_fold-attempt s t ts r u k h = covers_fold t (attempt s t) ts (covers_atte
 -- an outcome that changes no set, and one that keeps what the members make true
 pub unless_failed : (P : State → Type 0) (o : Outcome) → P o.after → (r : Result (Unit {0}) CheckerError) (u : State) → AnswersStep r o u → UnlessFailed r (P u)
 unless_failed P o k (Ok x) u h = subst P (sym h.1) k
-unless_failed P o k (Err (CheckFailed number cause debug_step)) u h = refused (cause_of cause) h
-  where
-    refused : (x : Option Cause) → IsRefusal x number o u → P u
-    refused None h = absurd h
-    refused (Some c) h = subst P (sym h.1) k
+unless_failed P o k (Err (CheckFailed number cause debug_step)) u h = subst P (sym h.1) k
 unless_failed P o k (Err (ProofIncomplete number)) u h = absurd h
 unless_failed P o k (Err (IoError number cause)) u h = absurd h
 unless_failed P o k (Err (ParseError number cause)) u h = absurd h
@@ -164,11 +152,7 @@ covers_fold-text s before ts r u k h = sets_text (all_steps s ts) u (λ r h. cov
 pub ends : {X : Type 0} (P : List Step → State → Type 0) (next : X → (Step × X) ⊎ Fault) (s : State) (x : X) → ((ts : List Step) (answer : Option (Cause ⊎ Fault)) (u : State) → Runs next s x ts answer u → P ts u)
     → (r : Result (Unit {0}) CheckerError) (ts : List Step) (u : State) → EndsRun r next s x ts u → UnlessFailed r (P ts u)
 ends P next s x k (Ok done) ts u h = k ts None u h
-ends P next s x k (Err (CheckFailed number cause debug_step)) ts u h = refused (cause_of cause) h.1
-  where
-    refused : (c : Option Cause) → RunIsRefused c next s x ts u → P ts u
-    refused None h = absurd h
-    refused (Some c) h = k ts (Some (inl c)) u h
+ends P next s x k (Err (CheckFailed number cause debug_step)) ts u h = k ts (Some (inl (cause_of cause))) u h.1
 ends P next s x k (Err (ProofIncomplete number)) ts u h = k ts (Some (inr Short)) u h.1
 ends P next s x k (Err (IoError number cause)) ts u h = k ts (Some (inr Short)) u h.1
 ends P next s x k (Err (ParseError number cause)) ts u h = k ts (Some (inr (Wrong cause))) u h.1
@@ -195,11 +179,7 @@ pub answers_on : (s : State) (t : Step) (ts : List Step) (u : State) → Answers
 answers_on s t ts u k r w h = subst (λ o. AnswersStep r o w) (ap (λ v. all_steps v ts) k.1 ∙ sym (all_steps-accepted s t ts k.0)) h
 
 pub answers_stop : (s : State) (t : Step) (ts : List Step) (e : CheckerError) (u : State) → AnswersStep (err_answer e) (step s t) u → AnswersStep (err_answer e) (all_steps s (t ∷ ts)) u
-answers_stop s t ts (CheckFailed number cause debug_step) u h = refused (cause_of cause) h
-  where
-    refused : (x : Option Cause) → IsRefusal x number (step s t) u → IsRefusal x number (all_steps s (t ∷ ts)) u
-    refused None h = h
-    refused (Some c) h = let e = all_steps-refused s t ts c h.0 in (ap (λ (o : Outcome). o.refused) e, h.1 ∙ ap (λ (o : Outcome). o.after) (sym e), h.2)
+answers_stop s t ts (CheckFailed number cause debug_step) u h = let e = all_steps-refused s t ts (cause_of cause) h.0 in (ap (λ (o : Outcome). o.refused) e, h.1 ∙ ap (λ (o : Outcome). o.after) (sym e), h.2)
 answers_stop s t ts (ProofIncomplete number) u h = h
 answers_stop s t ts (IoError number cause) u h = h
 answers_stop s t ts (ParseError number cause) u h = h

@@ -1,4 +1,5 @@
 pub mod CanonicalLists
+pub mod Columns
 pub mod Headlines
 pub mod InBoxes
 pub mod Marks

@@ -24,10 +24,9 @@ use Rattle.checker_parts.specs.declared.error.CheckerError.TheVariants.{ProofInc
 use Rattle.checker_parts.specs.declared.error.DimacsError.{DimacsError}
 use Rattle.checker_parts.specs.declared.error.DimacsError.TheVariants.{Read, Malformed, Checker}
 
--- refused with the cause of the definitions, if there is one, at the step number of the state after
-abbrev pub IsRefusal : Option Cause → ℕ → Outcome → State → Type 0
-IsRefusal None number o s = ⊥
-IsRefusal (Some cause) number o s = (o.refused ≡ Some cause) × (s ≡ o.after) × (number ≡ s.steps)
+-- refused with this cause, at the step number of the state after
+abbrev pub IsRefusal : Cause → ℕ → Outcome → State → Type 0
+IsRefusal cause number o s = (o.refused ≡ Some cause) × (s ≡ o.after) × (number ≡ s.steps)
 
 -- accepted, or refused with this cause, and the state after; a call that finds no memory or meets a processor's fault fails the checker
 abbrev pub AnswersStep : {A : Type 0} → Result A CheckerError → Outcome → State → Type 0
@@ -62,15 +61,10 @@ AnswersText (Err (Read cause)) o s = (o.refused ≡ None) × (s ≡ o.after)
 AnswersText (Err (Malformed line kind)) o s = (o.refused ≡ None) × (s ≡ o.after)
 AnswersText {A = A} (Err (Checker e)) o s = AnswersStep {A = A} (Err e) o s
 
--- the refusal of a run
-abbrev pub RunIsRefused : {X : Type 0} → Option Cause → (X → (Step × X) ⊎ Fault) → State → X → List Step → State → Type 0
-RunIsRefused None next s x ts r = ⊥
-RunIsRefused (Some cause) next s x ts r = Runs next s x ts (Some (inl cause)) r
-
 -- Ok after `End`; else the first refusal, the end of the text, its first fault, or a read's fault where the text then ends; a call may fail the checker here too
 abbrev pub EndsRun : {A X : Type 0} → Result A CheckerError → (X → (Step × X) ⊎ Fault) → State → X → List Step → State → Type 0
 EndsRun (Ok done) next s x ts r = Runs next s x ts None r
-EndsRun (Err (CheckFailed number cause debug_step)) next s x ts r = (number ≡ r.steps) × RunIsRefused (cause_of cause) next s x ts r
+EndsRun (Err (CheckFailed number cause debug_step)) next s x ts r = (number ≡ r.steps) × Runs next s x ts (Some (inl (cause_of cause))) r
 EndsRun (Err (ProofIncomplete number)) next s x ts r = (number ≡ r.steps) × Runs next s x ts (Some (inr Short)) r
 EndsRun (Err (IoError number cause)) next s x ts r = (number ≡ r.steps) × Runs next s x ts (Some (inr Short)) r
 EndsRun (Err (ParseError number cause)) next s x ts r = (number ≡ r.steps) × Runs next s x ts (Some (inr (Wrong cause))) r

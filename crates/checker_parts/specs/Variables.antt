@@ -1,9 +1,8 @@
 -- The variables of the code as the known variables of the definitions.
-use Rattle.std.specs.Prelude.{◌≡◌, ℕ, false, cond, List, map, get_or, None}
+use Rattle.std.specs.Prelude.{◌≡◌, ◌^◌, ℕ, Bool, false, cond, ltb, List, [], ◌∷◌, length, get_or, Option, Some, None}
 use Rattle.sat_formula.specs.Vars.{indexes_of}
 use Rattle.checker_rules.specs.State.{Known, Mode, hide, sample, witness}
 use Rattle.checker_parts.specs.Names.{times_taken}
-use Rattle.checker_parts.specs.declared.variables.Entry.{Entry}
 use Rattle.checker_parts.specs.declared.variables.SamplingMode.{SamplingMode}
 use Rattle.checker_parts.specs.declared.variables.SamplingMode.TheVariants.{Sample, Witness, Hide}
 use Rattle.checker_parts.specs.declared.variables.VarData.{VarData}
@@ -18,18 +17,22 @@ mode_of Hide = hide
 abbrev pub known_of_data : VarData → Known
 known_of_data d = record { name = indexes_of d.user_var; mode = mode_of d.sampling_mode }
 
--- the same of an entry
-abbrev pub known_of_entry : Entry → Known
-known_of_entry e = record { name = indexes_of e.user_var; mode = mode_of e.sampling_mode }
+-- the name that a number stands for; none for one that no variable has as its index
+abbrev pub name_of : ℕ → Option ℕ
+name_of n = cond (ltb n (2 ^ 28)) (Some n) None
 
--- the known variables
-abbrev pub known_list : List Entry → List Known
-known_list es = map known_of_entry es
-
--- a variable that is not known
-abbrev pub new_entry : Entry
-new_entry = record { user_var = None; sampling_mode = Sample; is_name = false }
+-- the columns of names and modes as one list, the known variables
+abbrev pub known_by : List ℕ → List SamplingMode → List Known
+known_by [] ms = []
+known_by (n ∷ ns) [] = []
+known_by (n ∷ ns) (m ∷ ms) = record { name = name_of n; mode = mode_of m } ∷ known_by ns ms
 
 -- each index is marked exactly if it is the user name of one variable, and of no more
-abbrev pub IsMarked : List Entry → Type 0
-IsMarked es = (u : ℕ) → times_taken (known_list es) u ≡ cond (get_or es u new_entry).is_name 1 0
+abbrev pub IsMarked : List Known → List Bool → Type 0
+IsMarked ks ts = (u : ℕ) → times_taken ks u ≡ cond (get_or ts u false) 1 0
+
+-- the columns have one length, and the last marks the user names
+pub record AreColumns (ns : List ℕ) (ms : List SamplingMode) (ts : List Bool) : Type 0 where
+  pub modes : length ms ≡ length ns
+  pub taken : length ts ≡ length ns
+  pub marked : IsMarked (known_by ns ms) ts

@@ -65,8 +65,6 @@ pub enum CheckCause {
     CountExhausted,
     #[error("no step number left")]
     StepsExhausted,
-    #[error("step kind not checked yet")]
-    NotYet,
 }
 
 /// What a call of the checker answers in place of Ok.

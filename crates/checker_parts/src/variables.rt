@@ -1,6 +1,6 @@
 //! The known variables: their user names and sampling modes.
 ghost use Rattle.std.specs.Prelude.{◌≡◌, ◌==◌, ◌++◌, ◌-◌, ◌<◌, length, set, replicate, [], None, Some, false, OnOk, OnErr};
-ghost use Rattle.sat_formula.specs.Vars.{index_of};
+ghost use Rattle.sat_formula.specs.Vars.{index_of, indexes_of};
 ghost use Rattle.checker_rules.specs.KnownVars.{new_known};
 ghost use Rattle.checker_rules.specs.State.{hide};
 ghost use Rattle.checker_rules.specs.Transcript.{known_at};
@@ -12,7 +12,7 @@ use std::alloc::{AllocError, Global};
 use std::marker::Model;
 
 /// Data for each literal.
-#[derive(Clone, Default, Drop)]
+#[derive(Clone, Copy, Default)]
 pub struct LitData {
     /// So many stored clauses of two or more literals hold the literal.
     pub clause_count: usize,
@@ -49,20 +49,18 @@ impl Default for VarData {
     }
 }
 
-// A variable's data, and whether its index is a user name.
-#[derive(Clone, Copy)]
-struct Entry {
-    user_var: Option<Var>,
-    sampling_mode: SamplingMode,
-    is_name: bool,
-}
+// Stands in place of a name's index. No variable has this index.
+const UNNAMED: u32 = u32::MAX;
 
-/// The known variables, in order of their indexes.
+/// The known variables, in order of their indexes, in six bytes a variable.
 ///
 /// User names are indexes of known variables, and no two variables have the same.
 #[derive(Drop)]
 pub struct Variables {
-    entries: Vec<Entry>,
+    names: Vec<u32>,
+    modes: Vec<SamplingMode>,
+    // Whether the index is a user name.
+    taken: Vec<bool>,
 }
 
 impl Model for Variables {
@@ -71,11 +69,11 @@ impl Model for Variables {
 
     ghost Value = { List Known };
 
-    ghost use Rattle.checker_parts.specs.Variables.{IsMarked, known_list};
+    ghost use Rattle.checker_parts.specs.Variables.{AreColumns, known_by};
 
-    ghost view = { λ v. known_list v.entries.items };
+    ghost view = { λ v. known_by v.names.items v.modes.items };
 
-    ghost invariant = { λ v. IsMarked v.entries.items };
+    ghost invariant = { λ v. AreColumns v.names.items v.modes.items v.taken.items };
 }
 
 impl Variables {
@@ -84,7 +82,9 @@ impl Variables {
         ensures { result ≡ [] }
     {
         Variables {
-            entries: Vec::new(alloc),
+            names: Vec::new(alloc),
+            modes: Vec::new(alloc),
+            taken: Vec::new(alloc),
         }
     }
 
@@ -92,26 +92,33 @@ impl Variables {
     pub fn len(&self) -> usize
         ensures { result ≡ length self.now }
     {
-        self.entries.len()
+        self.names.len()
     }
 
     pub fn is_empty(&self) -> bool
         ensures { result ≡ (length self.now == 0) }
     {
-        self.entries.is_empty()
+        self.names.is_empty()
     }
 
     /// Name and mode of a variable. An unknown one is as a new one.
     pub fn get(&self, var: Var) -> VarData
         ensures { known_of_data result ≡ known_at self.now (index_of var) }
     {
-        match self.entries.get(var.index()) {
-            Some(entry) => VarData {
-                user_var: entry.user_var,
-                sampling_mode: entry.sampling_mode,
+        let index = var.index();
+        match self.modes.get(index) {
+            Some(mode) => VarData {
+                user_var: self.name(index),
+                sampling_mode: *mode,
             },
             None => VarData::default(),
         }
+    }
+
+    fn name(&self, index: usize) -> Option<Var>
+        ensures { indexes_of result ≡ (known_at self.now index).name }
+    {
+        Var::from_index(*self.names.get(index)? as usize)
     }
 
     /// Whether some variable has this user name.
@@ -119,8 +126,8 @@ impl Variables {
         ensures value { result ≡ is_taken self.now (index_of user_var) }
         ensures distinct { AreDistinct self.now }
     {
-        match self.entries.get(user_var.index()) {
-            Some(entry) => entry.is_name,
+        match self.taken.get(user_var.index()) {
+            Some(taken) => *taken,
             None => false,
         }
     }
@@ -131,14 +138,13 @@ impl Variables {
         ensures err { OnErr result (self.new ≡ self.old) }
     {
         if self.len() < count {
-            self.entries.resize(
-                count,
-                Entry {
-                    user_var: None,
-                    sampling_mode: SamplingMode::Sample,
-                    is_name: false,
-                },
-            )?;
+            let more = count - self.len();
+            self.names.reserve(more)?;
+            self.modes.reserve(more)?;
+            self.taken.reserve(more)?;
+            self.names.resize(count, UNNAMED)?;
+            self.modes.resize(count, SamplingMode::Sample)?;
+            self.taken.resize(count, false)?;
         }
         Ok(())
     }
@@ -151,8 +157,9 @@ impl Variables {
         requires not_taken { is_taken self.old (index_of user_var) ≡ false }
         ensures { self.new ≡ set self.old (index_of var) (record { name = Some (index_of user_var); mode = (known_at self.old (index_of var)).mode }) }
     {
-        self.entries[user_var.index()].is_name = true;
-        self.entries[var.index()].user_var = Some(user_var);
+        let name = user_var.index();
+        self.taken[name] = true;
+        self.names[var.index()] = name as u32;
     }
 
     /// Takes the user name, if there is one, from a variable, and hides it.
@@ -161,18 +168,18 @@ impl Variables {
         ensures { self.new ≡ set self.old (index_of var) (record { name = None; mode = hide }) }
     {
         let index = var.index();
-        if let Some(user_var) = self.entries[index].user_var {
-            self.entries[user_var.index()].is_name = false;
+        let name = self.name(index);
+        self.names[index] = UNNAMED;
+        self.modes[index] = SamplingMode::Hide;
+        if let Some(user_var) = name {
+            self.taken[user_var.index()] = false;
         }
-        let entry = &mut self.entries[index];
-        entry.user_var = None;
-        entry.sampling_mode = SamplingMode::Hide;
     }
 
     pub fn set_mode(&mut self, var: Var, sampling_mode: SamplingMode)
         requires { index_of var < length self.old }
         ensures { self.new ≡ set self.old (index_of var) (record { name = (known_at self.old (index_of var)).name; mode = mode_of sampling_mode }) }
     {
-        self.entries[var.index()].sampling_mode = sampling_mode;
+        self.modes[var.index()] = sampling_mode;
     }
 }

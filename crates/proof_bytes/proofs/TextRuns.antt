@@ -38,29 +38,29 @@ ends answer r = inr (answer, r)
 move_reads : (t : State) (place : Place) → MayRead t → move next_of t place ≡ after_read t (next_of place)
 move_reads t place h = rw (h.going, h.counted) refl
 
-found_step : (place next : Place) (step : Step) → next_at place.0 place.1 ≡ Ok ((next.0, step), next.1) → next_of place ≡ inl (step, next)
+pub found_step : (place next : Place) (step : Step) → next_at place.0 place.1 ≡ Ok ((next.0, step), next.1) → next_of place ≡ inl (step, next)
 unfolding next_of
 found_step place next step e = ap step_or_fault e
 
-found_fault : (place : Place) (fault : Fault) → next_at place.0 place.1 ≡ Err fault → next_of place ≡ inr fault
+pub found_fault : (place : Place) (fault : Fault) → next_at place.0 place.1 ≡ Err fault → next_of place ≡ inr fault
 unfolding next_of
 found_fault place fault e = ap step_or_fault e
 
 attempted : (o : Outcome) (refused : Option Cause) (step : Step) (next : Place) → o.refused ≡ refused → after_attempt {X = Place} {F = Fault} o.refused o.after step next ≡ after_attempt refused o.after step next
 attempted o refused step next e = ap (λ (r : Option Cause). after_attempt {X = Place} {F = Fault} r o.after step next) e
 
-move_step : (t : State) (place next : Place) (step : Step) (refused : Option Cause) → MayRead t → next_at place.0 place.1 ≡ Ok ((next.0, step), next.1) → (attempt t step).refused ≡ refused →
+pub move_step : (t : State) (place next : Place) (step : Step) (refused : Option Cause) → MayRead t → next_at place.0 place.1 ≡ Ok ((next.0, step), next.1) → (attempt t step).refused ≡ refused →
     move next_of t place ≡ after_attempt refused (attempt t step).after step next
 move_step t place next step refused h e r =
     move_reads t place h ∙ ap (λ (found : (Step × Place) ⊎ Fault). after_read t found) (found_step place next step e) ∙ attempted (attempt t step) refused step next r
 
-move_fault : (t : State) (place : Place) (fault : Fault) → MayRead t → next_at place.0 place.1 ≡ Err fault → move next_of t place ≡ inr (Some (inr fault), count_step t)
+pub move_fault : (t : State) (place : Place) (fault : Fault) → MayRead t → next_at place.0 place.1 ≡ Err fault → move next_of t place ≡ inr (Some (inr fault), count_step t)
 move_fault t place fault h e = move_reads t place h ∙ ap (λ (found : (Step × Place) ⊎ Fault). after_read t found) (found_fault place fault e)
 
-move_exhausted : (t : State) (place : Place) → t.ended ≡ false → ltb t.steps step_limit ≡ false → move next_of t place ≡ inr (Some (inl steps_exhausted), t)
+pub move_exhausted : (t : State) (place : Place) → t.ended ≡ false → ltb t.steps step_limit ≡ false → move next_of t place ≡ inr (Some (inl steps_exhausted), t)
 move_exhausted t place going none = rw (going, none) refl
 
-move_closed : (t : State) (place : Place) → t.ended ≡ true → move next_of t place ≡ inr (as_answer (closing_conflict t).refused, (closing_conflict t).after)
+pub move_closed : (t : State) (place : Place) → t.ended ≡ true → move next_of t place ≡ inr (as_answer (closing_conflict t).refused, (closing_conflict t).after)
 move_closed t place ended = rw ended refl
 
 -- after `End` nothing more is read
@@ -116,22 +116,26 @@ one_more {old} {now} {new} {s} {t} {steps} {format} {next} {step} u p q h r is =
 
 -- ---- how a loop ends
 
-run_ends : (s : State) (here : Place) (steps : List Step) (t : State) (there : Place) (answer : Answer) (r : State) → RunsTo s here steps t there → move next_of t there ≡ inr (answer, r) → Runs next_of s here steps answer r
+pub run_ends : (s : State) (here : Place) (steps : List Step) (t : State) (there : Place) (answer : Answer) (r : State) → RunsTo s here steps t there → move next_of t there ≡ inr (answer, r) → Runs next_of s here steps answer r
 run_ends s here [] t there answer r p e = ap (λ (v : State). move next_of v here) p.0 ∙ ap (λ (q : Place). move next_of t q) p.1 ∙ e
 run_ends s here (first ∷ steps) t there answer r p e = (p.0, p.1, run_ends (attempt s first).after p.0 steps t there answer r p.2 e)
 
--- whatever comes after the bytes taken
-over : (known new : Known) (taken : List ℕ) (s : State) (steps : List Step) (answer : Answer) (r : State) → IsBytes taken → Consumes known new taken → ((more : List ℕ) → Runs next_of s (start_of (taken ++ more)) steps answer r) → RunsOver known s steps answer r
-over None new taken s steps answer r bytes consumed runs = record { text = taken; is_text = bytes; runs = subst (λ (text : List ℕ). Runs next_of s (start_of text) steps answer r) (append-nil taken) (runs []) }
-over (Some known) None taken s steps answer r bytes consumed runs = absurd consumed
-over (Some known) (Some rest) taken s steps answer r bytes consumed runs = record { text = taken ++ rest; is_text = consumed; runs = runs rest }
+-- what holds of every text that begins with the bytes taken holds of one of the reader's
+pub of_text : (P : List ℕ → Type 0) (known new : Known) (taken : List ℕ) → IsBytes taken → Consumes known new taken → ((more : List ℕ) → P (taken ++ more)) → (text : List ℕ) × IsTextOf known text × P text
+of_text P None new taken bytes consumed h = (taken, bytes, subst P (append-nil taken) (h []))
+of_text P (Some known) None taken bytes consumed h = absurd consumed
+of_text P (Some known) (Some rest) taken bytes consumed h = (taken ++ rest, consumed, h rest)
 
-all_taken : (known new : Known) (taken : List ℕ) → IsBytes taken → Consumes known new taken → IsAtEnd new → IsTextOf known taken
+over : (known new : Known) (taken : List ℕ) (s : State) (steps : List Step) (answer : Answer) (r : State) → IsBytes taken → Consumes known new taken → ((more : List ℕ) → Runs next_of s (start_of (taken ++ more)) steps answer r) → RunsOver known s steps answer r
+over known new taken s steps answer r bytes consumed runs =
+    let k = of_text (λ (text : List ℕ). Runs next_of s (start_of text) steps answer r) known new taken bytes consumed runs in record { text = k.0; is_text = k.1; runs = k.2 }
+
+pub all_taken : (known new : Known) (taken : List ℕ) → IsBytes taken → Consumes known new taken → IsAtEnd new → IsTextOf known taken
 all_taken None new taken bytes consumed end = bytes
 all_taken (Some known) None taken bytes consumed end = absurd consumed
 all_taken (Some known) (Some rest) taken bytes consumed end = consumed ∙ ap (λ (l : List ℕ). taken ++ l) end ∙ append-nil taken
 
-some_taken : (known new : Known) (taken : List ℕ) → IsBytes taken → Consumes known new taken → BeginsTextOf known taken
+pub some_taken : (known new : Known) (taken : List ℕ) → IsBytes taken → Consumes known new taken → BeginsTextOf known taken
 some_taken None new taken bytes consumed = bytes
 some_taken (Some known) None taken bytes consumed = absurd consumed
 some_taken (Some known) (Some rest) taken bytes consumed = (rest, consumed)

@@ -77,43 +77,75 @@ impl Write for Full {
     }
 }
 
-// What a run answers: its text, or that of its fault; what it wrote; its exit status.
-#[derive(Drop)]
-struct Answer {
-    verdict: Option<Verdict>,
-    fault: String,
-    written: Vec<u8>,
-    status: u8,
+// What a run answers: its verdict or the text of its fault, what it wrote, and its exit status.
+type Outcome<'a> = (Result<Verdict, &'a str>, &'a str, u8);
+
+const SHOWN: Outcome<'static> = (Ok(Verdict::Unsatisfiable), "s UNSATISFIABLE\n", 0);
+
+const WITH_ONE_ADDED: Outcome<'static> = (
+    Ok(Verdict::UnsatisfiableWithAdded(1)),
+    "s UNSATISFIABLE WITH 1 ADDED CLAUSES\n",
+    3,
+);
+
+const NOT_SHOWN: Outcome<'static> = (Ok(Verdict::NotShown), "s NOT SHOWN\n", 3);
+
+// Where the formula or the proof is refused nothing is written.
+fn refused(text: &str) -> Outcome<'_> {
+    (Err(text), "", 1)
 }
 
-fn answered(
+fn is_answered(
+    rt: &impl Abort,
     alloc: Global,
-    outcome: Result<Verdict, RunFault>,
-    written: Vec<u8>,
-) -> Result<Answer, Fail> {
-    let status = exit_status(&outcome);
-    let (verdict, fault) = match outcome {
-        Ok(verdict) => (Some(verdict), String::new(alloc)),
-        Err(fault) => (None, format!(in alloc; "{fault}")?),
-    };
-    Ok(Answer {
-        verdict,
-        fault,
-        written,
-        status,
-    })
+    answer: Result<Verdict, RunFault>,
+    written: &[u8],
+    (verdict, line, status): Outcome<'_>,
+) -> Result<(), Fail> {
+    assert_eq!(rt; exit_status(&answer), status);
+    assert_eq!(rt; written, line.as_bytes());
+    match (answer, verdict) {
+        (Ok(found), Ok(expected)) => assert_eq!(rt; found, expected),
+        (Err(fault), Err(text)) => {
+            assert_eq!(rt; format!(in alloc; "{fault}")?.as_str(), text);
+        }
+        (Ok(_), Err(text)) => return Err(text.into()),
+        (Err(_), Ok(_)) => return Err("refused".into()),
+    }
+    Ok(())
 }
 
-fn check<F: Read + Drop, P: Read + Drop>(alloc: Global, cnf: F, proof: P) -> Result<Answer, Fail> {
+// A formula and a proof.
+fn check<F: Read + Drop, P: Read + Drop>(
+    rt: &impl Abort,
+    alloc: Global,
+    cnf: F,
+    proof: P,
+    expected: Outcome<'_>,
+) -> Result<(), Fail> {
     let mut out = Vec::new(alloc);
-    let outcome = run_check(&Discard, alloc, cnf, proof, &mut out);
-    answered(alloc, outcome, out)
+    let answer = run_check(&Discard, alloc, cnf, proof, &mut out);
+    is_answered(rt, alloc, answer, &out, expected)
 }
 
-fn prove(alloc: Global, checker: &mut Checker, proof: &[u8]) -> Result<Answer, Fail> {
-    let mut out = Vec::new(alloc);
-    let outcome = run_proof(&Discard, checker, proof, &mut out);
-    answered(alloc, outcome, out)
+// A checker with these units, and then one proof after the other.
+fn prove(
+    rt: &impl Abort,
+    alloc: Global,
+    units: &[i64],
+    proofs: &[(&[u8], Outcome<'_>)],
+) -> Result<(), Fail> {
+    let mut checker = Checker::new(alloc);
+    for &number in units {
+        let lit = Lit::from_dimacs(number).ok_or("no literal")?;
+        assert!(rt; checker.add_clause(&[lit]).is_ok());
+    }
+    for &(proof, expected) in proofs {
+        let mut out = Vec::new(alloc);
+        let answer = run_proof(&Discard, &mut checker, proof, &mut out);
+        is_answered(rt, alloc, answer, &out, expected)?;
+    }
+    Ok(())
 }
 
 // From the four clauses: first the unit 1, and then the empty clause.
@@ -138,85 +170,52 @@ fn proof_of_four(alloc: Global) -> Result<Vec<u8>, Fail> {
 
 #[test]
 fn opposite_units_are_unsatisfiable(rt: HostRuntime) -> Result<(), Fail> {
-    let mut checker = Checker::new(rt.alloc());
-    for number in [1, -1] {
-        let lit = Lit::from_dimacs(number).ok_or("no literal")?;
-        assert!(rt; checker.add_clause(&[lit]).is_ok());
-    }
-    let answer = prove(rt.alloc(), &mut checker, &[0x0D])?;
-    assert_eq!(rt; answer.verdict, Some(Verdict::Unsatisfiable));
-    assert_eq!(rt; answer.written.as_slice(), b"s UNSATISFIABLE\n".as_slice());
-    assert_eq!(rt; answer.status, 0);
-    Ok(())
+    prove(&rt, rt.alloc(), &[1, -1], &[(&[0x0D], SHOWN)])
 }
 
 #[test]
 fn proofs_on_a_new_checker(rt: HostRuntime) -> Result<(), Fail> {
-    let ended = prove(rt.alloc(), &mut Checker::new(rt.alloc()), &[0x0D])?;
-    assert_eq!(rt; ended.verdict, Some(Verdict::NotShown));
-    assert_eq!(rt; ended.written.as_slice(), b"s NOT SHOWN\n".as_slice());
-
-    let added = prove(
-        rt.alloc(),
-        &mut Checker::new(rt.alloc()),
-        &[0x05, 0x00, 0x0D],
-    )?;
-    assert_eq!(rt; added.verdict, Some(Verdict::UnsatisfiableWithAdded(1)));
-    assert_eq!(rt;
-        added.written.as_slice(),
-        b"s UNSATISFIABLE WITH 1 ADDED CLAUSES\n".as_slice()
-    );
-
-    let empty = prove(rt.alloc(), &mut Checker::new(rt.alloc()), &[])?;
-    assert_eq!(rt;
-        empty.fault.as_str(),
-        "step 1: Unexpected end of proof file"
-    );
-    assert!(rt; empty.written.is_empty());
-    assert_eq!(rt; empty.status, 1);
+    let rows: [(&[u8], Outcome<'_>); 3] = [
+        (&[0x0D], NOT_SHOWN),
+        (&[0x05, 0x00, 0x0D], WITH_ONE_ADDED),
+        (&[], refused("step 1: Unexpected end of proof file")),
+    ];
+    for row in rows {
+        prove(&rt, rt.alloc(), &[], &[row])?;
+    }
     Ok(())
 }
 
 #[test]
 fn an_accepted_end_asks_for_nothing_more(rt: HostRuntime) -> Result<(), Fail> {
-    let mut checker = Checker::new(rt.alloc());
-    let first = prove(rt.alloc(), &mut checker, &[0x05, 0x00, 0x0D])?;
-    assert_eq!(rt; first.verdict, Some(Verdict::UnsatisfiableWithAdded(1)));
-    let second = prove(rt.alloc(), &mut checker, &[])?;
-    assert_eq!(rt; second.verdict, Some(Verdict::Unsatisfiable));
-    Ok(())
+    prove(
+        &rt,
+        rt.alloc(),
+        &[],
+        &[(&[0x05, 0x00, 0x0D], WITH_ONE_ADDED), (&[], SHOWN)],
+    )
 }
 
 #[test]
 fn formulas_with_short_proofs(rt: HostRuntime) -> Result<(), Fail> {
-    let alloc = rt.alloc();
-    let added = check(alloc, "1 0".as_bytes(), [0x05, 0x00, 0x0D].as_slice())?;
-    assert_eq!(rt;
-        added.written.as_slice(),
-        b"s UNSATISFIABLE WITH 1 ADDED CLAUSES\n".as_slice()
-    );
-    assert_eq!(rt; added.status, 3);
-
-    let shown = check(alloc, "1 0\n-1 0\n".as_bytes(), [0x0D].as_slice())?;
-    assert_eq!(rt; shown.written.as_slice(), b"s UNSATISFIABLE\n".as_slice());
-    assert_eq!(rt; shown.status, 0);
-
-    let open = check(alloc, "1 0".as_bytes(), [0x0D].as_slice())?;
-    assert_eq!(rt; open.written.as_slice(), b"s NOT SHOWN\n".as_slice());
-    assert_eq!(rt; open.status, 3);
+    let rows: [(&str, &[u8], Outcome<'_>); 3] = [
+        ("1 0", &[0x05, 0x00, 0x0D], WITH_ONE_ADDED),
+        ("1 0\n-1 0\n", &[0x0D], SHOWN),
+        ("1 0", &[0x0D], NOT_SHOWN),
+    ];
+    for (cnf, proof, expected) in rows {
+        check(&rt, rt.alloc(), cnf.as_bytes(), proof, expected)?;
+    }
     Ok(())
 }
 
 #[test]
 fn four_clauses_however_cut(rt: HostRuntime) -> Result<(), Fail> {
     let alloc = rt.alloc();
+    let cnf = FOUR.as_bytes();
     let proof = proof_of_four(alloc)?;
-    let whole = check(alloc, FOUR.as_bytes(), proof.as_slice())?;
-    assert_eq!(rt; whole.verdict, Some(Verdict::Unsatisfiable));
-    let cut = check(alloc, byte_by_byte(FOUR.as_bytes()), byte_by_byte(&proof))?;
-    assert_eq!(rt; cut.verdict, Some(Verdict::Unsatisfiable));
-    assert_eq!(rt; cut.written.as_slice(), b"s UNSATISFIABLE\n".as_slice());
-    Ok(())
+    check(&rt, alloc, cnf, proof.as_slice(), SHOWN)?;
+    check(&rt, alloc, byte_by_byte(cnf), byte_by_byte(&proof), SHOWN)
 }
 
 #[test]
@@ -225,32 +224,16 @@ fn no_beginning_of_a_proof_will_do(rt: HostRuntime) -> Result<(), Fail> {
     let proof = proof_of_four(alloc)?;
     for len in 0..proof.len() {
         let mut out = Vec::new(alloc);
-        let outcome = run_check(&Discard, alloc, FOUR.as_bytes(), &proof[..len], &mut out);
+        let answer = run_check(&Discard, alloc, FOUR.as_bytes(), &proof[..len], &mut out);
         assert!(rt;
             matches!(
-                &outcome,
+                &answer,
                 Err(RunFault::Proof(CheckerError::ProofIncomplete { .. }))
             ),
             "{len}"
         );
-        assert!(rt; out.is_empty(), "{len}");
-        assert_eq!(rt; exit_status(&outcome), 1, "{len}");
+        assert_eq!(rt; (out.len(), exit_status(&answer)), (0, 1), "{len}");
     }
-    Ok(())
-}
-
-// The formula or the proof is refused with this text, and nothing is written.
-fn refuses(
-    rt: &impl Abort,
-    alloc: Global,
-    cnf: &str,
-    proof: &[u8],
-    text: &str,
-) -> Result<(), Fail> {
-    let answer = check(alloc, cnf.as_bytes(), proof)?;
-    assert_eq!(rt; answer.fault.as_str(), text);
-    assert!(rt; answer.written.is_empty());
-    assert_eq!(rt; answer.status, 1);
     Ok(())
 }
 
@@ -263,8 +246,9 @@ fn texts_of_refused_formulas(rt: HostRuntime) -> Result<(), Fail> {
         ("1 0\np cnf 1 1\n", "line 2: late header"),
         ("268435457 0", "line 1: variable too large"),
     ];
+    let end: &[u8] = &[0x0D];
     for (cnf, text) in rows {
-        refuses(&rt, rt.alloc(), cnf, &[0x0D], text)?;
+        check(&rt, rt.alloc(), cnf.as_bytes(), end, refused(text))?;
     }
     Ok(())
 }
@@ -285,7 +269,7 @@ fn texts_of_refused_proofs(rt: HostRuntime) -> Result<(), Fail> {
         ),
     ];
     for (cnf, proof, text) in rows {
-        refuses(&rt, rt.alloc(), cnf, proof, text)?;
+        check(&rt, rt.alloc(), cnf.as_bytes(), proof, refused(text))?;
     }
     Ok(())
 }
@@ -294,22 +278,14 @@ fn texts_of_refused_proofs(rt: HostRuntime) -> Result<(), Fail> {
 fn reads_that_fail(rt: HostRuntime) -> Result<(), Fail> {
     let alloc = rt.alloc();
     let end: &[u8] = &[0x0D];
+    let cnf = "1 0\n-1 0\n".as_bytes();
     let cause = io::Error::from(ErrorKind::ConnectionReset);
 
-    let formula = check(alloc, broken("1 0\n-1 0\n".as_bytes()), end)?;
-    assert_eq!(rt;
-        formula.fault.as_str(),
-        format!(in alloc; "error reading formula: {cause}")?.as_str()
-    );
-    assert!(rt; formula.written.is_empty());
+    let text = format!(in alloc; "error reading formula: {cause}")?;
+    check(&rt, alloc, broken(cnf), end, refused(&text))?;
 
-    let proof = check(alloc, "1 0\n-1 0\n".as_bytes(), broken(&[0x05, 0x00]))?;
-    assert_eq!(rt;
-        proof.fault.as_str(),
-        format!(in alloc; "step 2: Error reading proof file: {cause}")?.as_str()
-    );
-    assert!(rt; proof.written.is_empty());
-    Ok(())
+    let text = format!(in alloc; "step 2: Error reading proof file: {cause}")?;
+    check(&rt, alloc, cnf, broken(&[0x05, 0x00]), refused(&text))
 }
 
 #[test]
@@ -317,26 +293,19 @@ fn lines_that_cannot_be_written(rt: HostRuntime) -> Result<(), Fail> {
     let alloc = rt.alloc();
     let end: &[u8] = &[0x0D];
     let cause = io::Error::from(ErrorKind::StorageFull);
-    let outcome = run_check(&Discard, alloc, "1 0\n-1 0\n".as_bytes(), end, &mut Full);
-    assert!(rt; matches!(&outcome, Err(RunFault::Write(_))));
-    assert_eq!(rt; exit_status(&outcome), 1);
-    let text = answered(alloc, outcome, Vec::new(alloc))?.fault;
-    assert_eq!(rt;
-        text.as_str(),
-        format!(in alloc; "error writing: {cause}")?.as_str()
-    );
-    Ok(())
+    let answer = run_check(&Discard, alloc, "1 0\n-1 0\n".as_bytes(), end, &mut Full);
+    assert!(rt; matches!(&answer, Err(RunFault::Write(_))));
+    let text = format!(in alloc; "error writing: {cause}")?;
+    is_answered(&rt, alloc, answer, &[], refused(&text))
 }
 
 #[test]
-fn nothing_is_written_to_a_writer_that_fails_where_the_proof_is_refused(
-    rt: HostRuntime,
-) -> Result<(), Fail> {
+fn refused_proof_is_not_a_failed_write(rt: HostRuntime) -> Result<(), Fail> {
     let empty: &[u8] = &[];
-    let outcome = run_check(&Discard, rt.alloc(), "1 0".as_bytes(), empty, &mut Full);
+    let answer = run_check(&Discard, rt.alloc(), "1 0".as_bytes(), empty, &mut Full);
     assert!(rt;
         matches!(
-            &outcome,
+            &answer,
             Err(RunFault::Proof(CheckerError::ProofIncomplete { step: 1 }))
         )
     );

@@ -1,8 +1,7 @@
 -- The step of an input clause, by its cause.
 use Rattle.std.proofs.Common.{◌≡◌, ℕ, ◌<◌, ◌-◌, ◌^◌, Bool, true, false, cond, not, ltb, leb, List, Option, Some, None, refl, sym, ap, ◌∙◌, subst, arith}
-use Rattle.checker_rules.specs.AddClause.{step_add_clause, store_input, take_input}
 use Rattle.checker_rules.specs.Canonical.{canonical}
-use Rattle.checker_rules.specs.KnownVars.{know_clause, some_not_sampling}
+use Rattle.checker_rules.specs.KnownVars.{some_not_sampling}
 use Rattle.checker_rules.specs.Outcome.{Cause, Outcome, accept, count_exhausted, ids_exhausted, not_sampling, refuse}
 use Rattle.checker_rules.specs.State.{State}
 use Rattle.checker_rules.specs.Step.{add_clause}
@@ -11,15 +10,16 @@ use Rattle.checker_rules.specs.Store.{count_limit, count_of, counters, id_limit}
 use Rattle.checker_rules.proofs.StepKinds.{step-add_clause}
 use Rattle.varisat_checker.specs.InputCause.{HasRoom, input_cause, taken}
 
-abbrev by_cause : Option Cause → State → Outcome → Outcome
+-- refused with the cause, where there is one
+abbrev pub by_cause : Option Cause → State → Outcome → Outcome
 by_cause None s o = o
 by_cause (Some cause) s o = refuse cause s
 
-choose : (a b d : Bool) (x y z : Cause) (s : State) (o : Outcome) → cond a (refuse x s) (cond b (refuse y s) (cond d (refuse z s) o)) ≡ by_cause (cond a (Some x) (cond b (Some y) (cond d (Some z) None))) s o
-choose true b d x y z s o = refl
-choose false true d x y z s o = refl
-choose false false true x y z s o = refl
-choose false false false x y z s o = refl
+pub conds-by_cause : (a b d : Bool) (x y z : Cause) (s : State) (o : Outcome) → cond a (refuse x s) (cond b (refuse y s) (cond d (refuse z s) o)) ≡ by_cause (cond a (Some x) (cond b (Some y) (cond d (Some z) None))) s o
+conds-by_cause true b d x y z s o = refl
+conds-by_cause false true d x y z s o = refl
+conds-by_cause false false true x y z s o = refl
+conds-by_cause false false false x y z s o = refl
 
 -- where `unsat` is recorded nothing happens
 pub add-unsat : (s : State) (ls : List ℕ) → s.unsat ≡ true → step s (add_clause ls) ≡ accept s
@@ -31,7 +31,7 @@ add-by : (s : State) (ls : List ℕ) → s.unsat ≡ false → step s (add_claus
 add-by s ls live =
     let c = canonical ls in
     step-add_clause s ls ∙ ap (λ b. cond b (accept s) (cond (some_not_sampling s c) (refuse not_sampling s) (counters false c true s (λ r. accept (taken r c))))) live
-    ∙ choose (some_not_sampling s c) (not (ltb s.next id_limit)) (leb count_limit (count_of false c s.clauses)) not_sampling ids_exhausted count_exhausted s (accept (taken s c))
+    ∙ conds-by_cause (some_not_sampling s c) (not (ltb s.next id_limit)) (leb count_limit (count_of false c s.clauses)) not_sampling ids_exhausted count_exhausted s (accept (taken s c))
 
 pub add-accepts : (s : State) (ls : List ℕ) → s.unsat ≡ false → input_cause s (canonical ls) ≡ None → step s (add_clause ls) ≡ accept (taken s (canonical ls))
 add-accepts s ls live e = add-by s ls live ∙ ap (λ o. by_cause o s (accept (taken s (canonical ls)))) e

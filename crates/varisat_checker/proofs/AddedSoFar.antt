@@ -1,15 +1,15 @@
 -- A loop that adds clauses one after the other.
 --     AddedSoFar s cs u      the clauses were all accepted, and led to u
 --     added-none, added-more, added-stops      its start, a turn, and a refusal
-use Rattle.std.proofs.Common.{◌≡◌, ℕ, Bool, true, false, List, [], ◌∷◌, ◌++◌, map, Option, Some, None, Result, Ok, Err, refl, sym, ap, ◌∙◌, subst, append-nil, append_assoc}
+use Rattle.std.proofs.Common.{◌≡◌, ℕ, false, List, [], ◌∷◌, ◌++◌, map, Result, Ok, Err, refl, sym, ap, ◌∙◌, subst, append-nil}
 use Rattle.checker_rules.specs.AddFormula.{add_clauses, added}
 use Rattle.checker_rules.specs.Headline.{Good}
-use Rattle.checker_rules.specs.Outcome.{Cause, Outcome, accept, and_then, and_then_by, refuse}
+use Rattle.checker_rules.specs.Outcome.{Outcome, accept, and_then, and_then_by, refuse}
 use Rattle.checker_rules.specs.State.{State}
 use Rattle.checker_rules.specs.Step.{Step, add_clause}
 use Rattle.checker_rules.specs.Steps.{step}
 use Rattle.checker_rules.proofs.AddedClauses.{formulas_are_fold, formulas_join}
-use Rattle.checker_parts.specs.Answers.{AnswersStep, IsCovered, IsFold, IsRefusal, UnlessFailed}
+use Rattle.checker_parts.specs.Answers.{AnswersStep, IsCovered, IsFold, UnlessFailed}
 use Rattle.checker_parts.specs.Causes.{cause_of}
 use Rattle.checker_parts.specs.declared.error.CheckerError.{CheckerError}
 use Rattle.checker_parts.specs.declared.error.CheckerError.TheVariants.{ProofIncomplete, IoError, ParseError, CheckFailed, ProofProcessorError, OutOfMemory, Failed}
@@ -39,13 +39,9 @@ added-more {s} {u} {cs} c w p h = record {
 
 -- a refusal of the first of two parts is one of both
 stops : (o : Outcome) (next : State → Outcome) (e : CheckerError) (w : State) → AnswersStep {A = Unit {0}} (Err e) o w → AnswersStep {A = Unit {0}} (Err e) (and_then o next) w
-stops o next (CheckFailed number msg debug_step) w h = refused (cause_of msg) h
-  where
-    refused : (x : Option Cause) → IsRefusal x number o w → IsRefusal x number (and_then o next) w
-    refused None h = h
-    refused (Some c) h =
-        let e : and_then o next ≡ refuse c o.after = ap (λ x. and_then_by x o.after next) h.0 in
-        (ap (λ (p : Outcome). p.refused) e, h.1 ∙ ap (λ (p : Outcome). p.after) (sym e), h.2)
+stops o next (CheckFailed number msg debug_step) w h =
+    let e : and_then o next ≡ refuse (cause_of msg) o.after = ap (λ x. and_then_by x o.after next) h.0 in
+    (ap (λ (p : Outcome). p.refused) e, h.1 ∙ ap (λ (p : Outcome). p.after) (sym e), h.2)
 stops o next (ProofIncomplete number) w h = h
 stops o next (IoError number cause) w h = h
 stops o next (ParseError number cause) w h = h
@@ -65,16 +61,6 @@ pub record AddedOf (s : State) (all : List (List ℕ)) (u : State) (rest : List 
   pub added : List (List ℕ)
   pub so_far : AddedSoFar s added u
   pub is : all ≡ added ++ rest
-
-pub of-none : (s : State) (all rest : List (List ℕ)) → s.failed ≡ false → rest ≡ all → AddedOf s all s rest
-of-none s all rest running e = record { added = []; so_far = added-none s running; is = sym e }
-
-pub of-more : {s u : State} {all rest : List (List ℕ)} {c : List ℕ} {left : List (List ℕ)} {w : State} → AddedOf s all u rest → rest ≡ c ∷ left → AnswersStep {A = Unit {0}} (Ok tt) (step u (add_clause c)) w → AddedOf s all w left
-of-more {c = c} {left = left} {w = w} p e h = record {
-  added = p.added ++ c ∷ [];
-  so_far = added-more c w p.so_far h;
-  is = p.is ∙ ap (λ (l : List (List ℕ)). p.added ++ l) e ∙ sym (append_assoc p.added (c ∷ []) left);
-}
 
 pub of-stops : {s u : State} {all rest : List (List ℕ)} {c : List ℕ} {left : List (List ℕ)} (e : CheckerError) (w : State) → AddedOf s all u rest → rest ≡ c ∷ left → AnswersStep {A = Unit {0}} (Err e) (step u (add_clause c)) w → AnswersStep {A = Unit {0}} (Err e) (add_clauses s all) w
 of-stops {s} {c = c} {left = left} e w p is h = subst (λ (l : List (List ℕ)). AnswersStep {A = Unit {0}} (Err e) (add_clauses s l) w) (sym (p.is ∙ ap (λ (l : List (List ℕ)). p.added ++ l) is)) (added-stops c left e w p.so_far h)

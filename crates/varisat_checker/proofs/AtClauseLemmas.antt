@@ -1,68 +1,79 @@
 -- The step of a derived clause, part by part.
-use Rattle.std.proofs.Common.{◌≡◌, ℕ, Bool, true, false, cond, not, List, Option, Some, None, refl, sym, ap, ◌∙◌}
-use Rattle.checker_rules.specs.AtClause.{set_previous, step_at_clause, store_derived}
+use Rattle.std.proofs.Common.{◌≡◌, ℕ, Bool, true, false, cond, not, ◌&&◌, leb, ltb, List, Option, Some, None, refl, sym, ap, ◌∙◌, subst}
+use Rattle.checker_rules.specs.AtClause.{set_previous, store_derived}
 use Rattle.checker_rules.specs.Canonical.{canonical}
-use Rattle.checker_rules.specs.Check.{check}
+use Rattle.checker_rules.specs.Check.{check, ready}
 use Rattle.checker_rules.specs.Clauses.{is_tautology}
-use Rattle.checker_rules.specs.Outcome.{Cause, Outcome, accept, and_then, refuse, tautology}
-use Rattle.checker_rules.specs.State.{State}
+use Rattle.checker_rules.specs.Outcome.{Cause, Outcome, accept, and_then, and_then_by, at_check_failed, count_exhausted, ids_exhausted, no_clause_for_hash, refuse, tautology}
+use Rattle.checker_rules.specs.Passes.{none_empty}
+use Rattle.checker_rules.specs.State.{State, buckets, clause_passes}
 use Rattle.checker_rules.specs.Step.{at_clause}
 use Rattle.checker_rules.specs.Steps.{step}
-use Rattle.checker_rules.specs.Store.{counters, id_of, stands, store}
-use Rattle.varisat_checker.specs.declared.clauses.StoreClauseResult.{StoreClauseResult}
-use Rattle.varisat_checker.specs.Store.{Stores, store_counters}
+use Rattle.checker_rules.specs.Store.{count_limit, count_of, counters, id_limit, id_of, stands, store}
+use Rattle.checker_rules.specs.Traced.{traced, traced_derived, traced_when}
 use Rattle.checker_rules.proofs.StepKinds.{step-at_clause}
-use Rattle.varisat_checker.specs.Derived.{stored_after}
-use Rattle.varisat_checker.proofs.OutcomeLemmas.{and_then-accepted, and_then-refused, check-and_then, counters-and_then, counters-after}
+use Rattle.varisat_checker.specs.Derived.{derived, derived_steps, steps_unless}
+use Rattle.varisat_checker.proofs.OutcomeLemmas.{and_then-accepted, and_then-refused}
 
--- a tautology is refused
-pub at-tautology : (s : State) (redundant : Bool) (ls hs : List ℕ) → is_tautology (canonical ls) ≡ true → step s (at_clause redundant ls hs) ≡ refuse tautology s
-at-tautology s redundant ls hs h = step-at_clause s redundant ls hs ∙ ap (λ b. cond b (refuse tautology s) (check s (canonical ls) hs (stored_after redundant (canonical ls)))) h
+-- an irredundant clause becomes the previous one, with its id
+abbrev pub kept_as_previous : Bool → List ℕ → ℕ → State → State
+kept_as_previous redundant c id s = cond redundant s (set_previous c id s)
 
-at-checked : (s : State) (redundant : Bool) (ls hs : List ℕ) → is_tautology (canonical ls) ≡ false → step s (at_clause redundant ls hs) ≡ and_then (check s (canonical ls) hs accept) (stored_after redundant (canonical ls))
-at-checked s redundant ls hs h =
-    step-at_clause s redundant ls hs ∙ ap (λ b. cond b (refuse tautology s) (check s (canonical ls) hs (stored_after redundant (canonical ls)))) h
-    ∙ check-and_then s (canonical ls) hs (stored_after redundant (canonical ls))
+-- what comes after the check and the counters
+abbrev stored_after : Bool → List ℕ → State → Outcome
+stored_after redundant c s = counters redundant c (not (stands c s)) s (λ r. accept (store_derived c redundant r))
 
--- the check refuses
-pub at-refused : (s : State) (redundant : Bool) (ls hs : List ℕ) (cause : Cause) → is_tautology (canonical ls) ≡ false → (check s (canonical ls) hs accept).refused ≡ Some cause
-    → step s (at_clause redundant ls hs) ≡ refuse cause (check s (canonical ls) hs accept).after
-at-refused s redundant ls hs cause h e = at-checked s redundant ls hs h ∙ and_then-refused (check s (canonical ls) hs accept) (stored_after redundant (canonical ls)) cause e
+choose : (passes missed ids copies : Bool) (w x y z : Cause) (r q : State) (next : State → Outcome) → cond passes (cond ids (refuse w r) (cond copies (refuse x r) (next q))) (cond missed (refuse y r) (refuse z r))
+    ≡ and_then (cond passes (cond ids (refuse w r) (cond copies (refuse x r) (accept q))) (cond missed (refuse y r) (refuse z r))) next
+choose true missed true copies w x y z r q next = refl
+choose true missed false true w x y z r q next = refl
+choose true missed false false w x y z r q next = refl
+choose false true ids copies w x y z r q next = refl
+choose false false ids copies w x y z r q next = refl
 
--- the check passes
-pub at-passed : (s : State) (redundant : Bool) (ls hs : List ℕ) → is_tautology (canonical ls) ≡ false → (check s (canonical ls) hs accept).refused ≡ None
-    → step s (at_clause redundant ls hs) ≡ stored_after redundant (canonical ls) (check s (canonical ls) hs accept).after
-at-passed s redundant ls hs h e = at-checked s redundant ls hs h ∙ and_then-accepted (check s (canonical ls) hs accept) (stored_after redundant (canonical ls)) e
+stored-previous : (c : List ℕ) (redundant : Bool) (s : State) → store_derived c redundant s ≡ kept_as_previous redundant c (id_of c s) (store c redundant s)
+stored-previous c true s = refl
+stored-previous c false s = refl
 
--- a counter is at its end
-pub stored_after-refused : (redundant : Bool) (c : List ℕ) (r : State) (cause : Cause) → (counters redundant c (not (stands c r)) r accept).refused ≡ Some cause → stored_after redundant c r ≡ refuse cause r
-stored_after-refused redundant c r cause e =
-    counters-and_then redundant c (not (stands c r)) r (λ q. accept (store_derived c redundant q))
-    ∙ and_then-refused (counters redundant c (not (stands c r)) r accept) (λ q. accept (store_derived c redundant q)) cause e
-    ∙ ap (refuse cause) (counters-after redundant c (not (stands c r)) r)
+refused-next : (x : Option Cause) (s : State) (f : State → State) → (and_then_by x s (λ q. accept (f q))).refused ≡ x
+refused-next None s f = refl
+refused-next (Some cause) s f = refl
 
--- the clause is stored
-pub stored_after-accepted : (redundant : Bool) (c : List ℕ) (r : State) → (counters redundant c (not (stands c r)) r accept).refused ≡ None → stored_after redundant c r ≡ accept (store_derived c redundant r)
-stored_after-accepted redundant c r e =
-    counters-and_then redundant c (not (stands c r)) r (λ q. accept (store_derived c redundant q))
-    ∙ and_then-accepted (counters redundant c (not (stands c r)) r accept) (λ q. accept (store_derived c redundant q)) e
-    ∙ ap (λ q. accept (store_derived c redundant q)) (counters-after redundant c (not (stands c r)) r)
+module _ (s : State) (redundant : Bool) (ls hs : List ℕ) where
+  -- a tautology is refused
+  pub at-tautology : is_tautology (canonical ls) ≡ true → step s (at_clause redundant ls hs) ≡ refuse tautology s
+  at-tautology h = step-at_clause s redundant ls hs ∙ ap (λ b. cond b (refuse tautology s) (check s (canonical ls) hs (stored_after redundant (canonical ls)))) h
 
--- the answers of the three parts
-pub derived-stored : (redundant : Bool) (c : List ℕ) (s t : State) (id : ℕ) (r : StoreClauseResult) → Stores c redundant s t id r → redundant ≡ true → (stored_after redundant c s).refused ≡ None × (t ≡ (stored_after redundant c s).after)
-derived-stored redundant c s t id r k e =
-    let o = stored_after-accepted redundant c s (ap (λ (x : Outcome). x.refused) k.room) in (
-      ap (λ (x : Outcome). x.refused) o,
-      k.after ∙ sym (ap (λ (b : Bool). cond b (store c true s) (set_previous c (id_of c s) (store c false s))) e ∙ ap (λ (b : Bool). store c b s) (sym e)) ∙ sym (ap (λ (x : Outcome). x.after) o),
-    )
+  canonical-derived : is_tautology (canonical ls) ≡ false → step s (at_clause redundant ls hs) ≡ and_then (derived s redundant (canonical ls) hs) (λ q. accept (kept_as_previous redundant (canonical ls) (id_of (canonical ls) (ready s (canonical ls))) q))
+  canonical-derived apart =
+      let c = canonical ls in let r = ready s c in
+      step-at_clause s redundant ls hs ∙ ap (λ b. cond b (refuse tautology s) (check s c hs (stored_after redundant c))) apart
+      ∙ ap (λ (u : State). check s c hs (λ q. counters redundant c (not (stands c q)) q (λ p. accept u))) (stored-previous c redundant r)
+      ∙ choose (clause_passes r c hs) (none_empty (buckets r hs)) (not (stands c r) && not (ltb r.next id_limit)) (leb count_limit (count_of redundant c r.clauses)) ids_exhausted count_exhausted at_check_failed no_clause_for_hash r (store c redundant r)
+      (λ q. accept (kept_as_previous redundant c (id_of c r) q))
 
-pub derived-previous : (redundant : Bool) (c : List ℕ) (s t u : State) (id : ℕ) (r : StoreClauseResult) → Stores c redundant s t id r → redundant ≡ false → u ≡ set_previous c id t → (stored_after redundant c s).refused ≡ None × (u ≡ (stored_after redundant c s).after)
-derived-previous redundant c s t u id r k e is =
-    let o = stored_after-accepted redundant c s (ap (λ (x : Outcome). x.refused) k.room) in (
-      ap (λ (x : Outcome). x.refused) o,
-      is ∙ ap (λ n. set_previous c n t) k.id_is ∙ ap (set_previous c (id_of c s)) (k.after ∙ ap (λ (b : Bool). store c b s) e)
-          ∙ sym (ap (λ (b : Bool). cond b (store c true s) (set_previous c (id_of c s) (store c false s))) e) ∙ sym (ap (λ (x : Outcome). x.after) o),
-    )
+  -- c is its canonical list, without opposite literals
+  module _ (c : List ℕ) (list : c ≡ canonical ls) (apart : is_tautology (canonical ls) ≡ false) where
+    at-derived : step s (at_clause redundant ls hs) ≡ and_then (derived s redundant c hs) (λ q. accept (kept_as_previous redundant c (id_of c (ready s c)) q))
+    at-derived = subst (λ (x : List ℕ). step s (at_clause redundant ls hs) ≡ and_then (derived s redundant x hs) (λ q. accept (kept_as_previous redundant x (id_of x (ready s x)) q))) (sym list) (canonical-derived apart)
 
-pub derived-refused : (redundant : Bool) (c : List ℕ) (s : State) (cause : Cause) → store_counters c redundant s ≡ refuse cause s → stored_after redundant c s ≡ refuse cause s
-derived-refused redundant c s cause e = stored_after-refused redundant c s cause (ap (λ (x : Outcome). x.refused) e)
+    -- the check or a counter refuses
+    pub at-refused : (cause : Cause) → (derived s redundant c hs).refused ≡ Some cause → step s (at_clause redundant ls hs) ≡ refuse cause (derived s redundant c hs).after
+    at-refused cause e = at-derived ∙ and_then-refused (derived s redundant c hs) (λ q. accept (kept_as_previous redundant c (id_of c (ready s c)) q)) cause e
+
+    -- the clause is stored, under this id
+    pub at-stored : (t u : State) (id : ℕ) → ((derived s redundant c hs).refused ≡ None) × (t ≡ (derived s redundant c hs).after) → id ≡ id_of c (ready s c) → u ≡ kept_as_previous redundant c id t
+        → ((step s (at_clause redundant ls hs)).refused ≡ None) × (u ≡ (step s (at_clause redundant ls hs)).after)
+    at-stored t u id h named kept =
+        let e = at-derived ∙ and_then-accepted (derived s redundant c hs) (λ q. accept (kept_as_previous redundant c (id_of c (ready s c)) q)) h.0 in
+        (ap (λ (o : Outcome). o.refused) e, kept ∙ ap (λ n. kept_as_previous redundant c n t) named ∙ ap (kept_as_previous redundant c (id_of c (ready s c))) h.1 ∙ sym (ap (λ (o : Outcome). o.after) e))
+
+    same-when : (x : Option Cause) → steps_unless x (traced_derived (ready s c) redundant c hs) ≡ traced_when x s (at_clause redundant ls hs)
+    same-when None = ap (λ (x : List ℕ). traced_derived (ready s x) redundant x hs) list
+    same-when (Some cause) = refl
+
+    -- what it hands on is what it emits
+    pub at-steps : derived_steps s redundant c hs ≡ traced s (at_clause redundant ls hs)
+    at-steps =
+        let same : (step s (at_clause redundant ls hs)).refused ≡ (derived s redundant c hs).refused = ap (λ (o : Outcome). o.refused) at-derived ∙ refused-next (derived s redundant c hs).refused (derived s redundant c hs).after (kept_as_previous redundant c (id_of c (ready s c))) in
+        same-when (derived s redundant c hs).refused ∙ ap (λ (x : Option Cause). traced_when x s (at_clause redundant ls hs)) (sym same)

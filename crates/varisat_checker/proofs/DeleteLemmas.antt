@@ -1,9 +1,10 @@
 -- The store after a copy of a clause was taken away.
-use Rattle.std.proofs.Common.{◌≡◌, ℕ, ◌+◌, ◌-◌, ◌<◌, Bool, true, false, cond, not, ◌&&◌, ◌||◌, eqb, List, [], ◌∷◌, map, refl, sym, ap, ◌∙◌, subst, arith, eq-eqb}
+use Rattle.std.proofs.Common.{◌≡◌, ℕ, ◌+◌, ◌-◌, ◌<◌, Bool, true, false, cond, not, ◌&&◌, ◌||◌, eqb, List, [], ◌∷◌, length, get_or, map, refl, sym, ap, ◌∙◌, subst, arith, eq-eqb}
 use Rattle.std.specs.List.{filter, list_all}
 use Rattle.std.proofs.lemmas.Bool.{and_from, and_parts, not-true}
 use Rattle.checker_rules.specs.Buckets.{of_hash, remaining}
 use Rattle.checker_rules.specs.Canonical.{same_list}
+use Rattle.checker_rules.specs.Clauses.{has}
 use Rattle.checker_rules.specs.DeleteClause.{is_short}
 use Rattle.checker_rules.specs.LiveLiterals.{live_literals, live_of}
 use Rattle.checker_rules.specs.State.{Stored}
@@ -19,6 +20,7 @@ use Rattle.varisat_checker.specs.declared.hash.ClauseHasher.{ClauseHasher}
 use Rattle.varisat_checker.specs.Buckets.{Buckets}
 use Rattle.varisat_checker.specs.declared.clauses.lower.Missing.{Missing}
 use Rattle.varisat_checker.specs.declared.clauses.lower.Missing.TheVariants.{Clause as NoClause, Copy as NoCopy}
+use Rattle.varisat_checker.specs.Counts.{AreCounts, HoldOneMore, times_held}
 use Rattle.varisat_checker.specs.Lowered.{IsLeft, IsLowered, IsMissing, is_gone as is_none_left}
 use Rattle.varisat_checker.specs.StateOf.{hash_of}
 use Rattle.varisat_checker.specs.Store.{Files, is_whole}
@@ -59,31 +61,94 @@ gone_lowered r c e same =
     nothing_less : (n : ℕ) → n ≡ n - 0
     nothing_less n = omega arith
 
--- the literals of a clause that goes are no longer live
-pub live_literals-lower : (r : Bool) (c : List ℕ) (es : List Stored) → are_apart es ≡ true → list_all is_whole es ≡ true → is_stored c es ≡ true
-    → live_literals es ≡ live_literals (remaining (map (lower r c) es)) + cond (is_last r (count_of false c es) (count_of true c es)) (live_of c) 0
-live_literals-lower r c [] a w h = cc
-live_literals-lower r c (e ∷ es) a w h =
-    let p = and_parts (not (is_stored e.lits es)) (are_apart es) a in let q = and_parts (is_whole e) (list_all is_whole es) w in let x = lower r c e in
-    elim (same_list e.lits c) as (λ b. same_list e.lits c ≡ b → live_of e.lits + live_literals es ≡ live_literals (cond (not (is_gone x)) (x ∷ remaining (map (lower r c) es)) (remaining (map (lower r c) es))) + cond (is_last r (cond b e.irredundant (count_of false c es)) (cond b e.redundant (count_of true c es))) (live_of c) 0) [
+-- what the clauses weigh together
+abbrev weight_of : (List ℕ → ℕ) → List Stored → ℕ
+weight_of w [] = 0
+weight_of w (e ∷ es) = w e.lits + weight_of w es
+
+-- a clause that goes takes its weight away
+weight_of-lower : (w : List ℕ → ℕ) (r : Bool) (c : List ℕ) (es : List Stored) → are_apart es ≡ true → list_all is_whole es ≡ true → is_stored c es ≡ true
+    → weight_of w es ≡ weight_of w (remaining (map (lower r c) es)) + cond (is_last r (count_of false c es) (count_of true c es)) (w c) 0
+weight_of-lower w r c [] a full h = cc
+weight_of-lower w r c (e ∷ es) a full h =
+    let p = and_parts (not (is_stored e.lits es)) (are_apart es) a in let q = and_parts (is_whole e) (list_all is_whole es) full in let x = lower r c e in
+    elim (same_list e.lits c) as (λ b. same_list e.lits c ≡ b → w e.lits + weight_of w es ≡ weight_of w (cond (not (is_gone x)) (x ∷ remaining (map (lower r c) es)) (remaining (map (lower r c) es))) + cond (is_last r (cond b e.irredundant (count_of false c es)) (cond b e.redundant (count_of true c es))) (w c) 0) [
       | true ↦ λ same.
           let lits = same_list-eq e.lits c same in
           let none : is_stored c es ≡ false = subst (λ d. is_stored d es ≡ false) lits (not-true (is_stored e.lits es) p.0) in
           let rest : remaining (map (lower r c) es) ≡ es = ap remaining (lower-absent c r es none) ∙ remaining-whole es q.1 in
-          subst (λ xs. live_of e.lits + live_literals es ≡ live_literals (cond (not (is_gone x)) (x ∷ xs) xs) + cond (is_last r e.irredundant e.redundant) (live_of c) 0) (sym rest)
-          (subst (λ b. live_of e.lits + live_literals es ≡ live_literals (cond (not b) (x ∷ es) es) + cond (is_last r e.irredundant e.redundant) (live_of c) 0) (sym (gone_lowered r c e same))
+          subst (λ xs. w e.lits + weight_of w es ≡ weight_of w (cond (not (is_gone x)) (x ∷ xs) xs) + cond (is_last r e.irredundant e.redundant) (w c) 0) (sym rest)
+          (subst (λ b. w e.lits + weight_of w es ≡ weight_of w (cond (not b) (x ∷ es) es) + cond (is_last r e.irredundant e.redundant) (w c) 0) (sym (gone_lowered r c e same))
           (either (is_last r e.irredundant e.redundant) x (lower-lits r c e ∙ lits) lits))
       | false ↦ λ other.
           let later : is_stored c es ≡ true = sym (ap (λ b. b || is_stored c es) other) ∙ h in
           let stays : x ≡ e = lower-other r c e other in
-          subst (λ y. live_of e.lits + live_literals es ≡ live_literals (cond (not (is_gone y)) (y ∷ remaining (map (lower r c) es)) (remaining (map (lower r c) es))) + cond (is_last r (count_of false c es) (count_of true c es)) (live_of c) 0) (sym stays)
-          (subst (λ b. live_of e.lits + live_literals es ≡ live_literals (cond b (e ∷ remaining (map (lower r c) es)) (remaining (map (lower r c) es))) + cond (is_last r (count_of false c es) (count_of true c es)) (live_of c) 0) (sym (and_parts (not (is_short e.lits)) (not (is_gone e)) q.0).1)
-          (let k = live_literals-lower r c es p.1 q.1 later in omega (arith, k)))
+          subst (λ y. w e.lits + weight_of w es ≡ weight_of w (cond (not (is_gone y)) (y ∷ remaining (map (lower r c) es)) (remaining (map (lower r c) es))) + cond (is_last r (count_of false c es) (count_of true c es)) (w c) 0) (sym stays)
+          (subst (λ b. w e.lits + weight_of w es ≡ weight_of w (cond b (e ∷ remaining (map (lower r c) es)) (remaining (map (lower r c) es))) + cond (is_last r (count_of false c es) (count_of true c es)) (w c) 0) (sym (and_parts (not (is_short e.lits)) (not (is_gone e)) q.0).1)
+          (let k = weight_of-lower w r c es p.1 q.1 later in omega (arith, k)))
     ] refl
   where
-    either : (b : Bool) (x : Stored) → x.lits ≡ c → e.lits ≡ c → live_of e.lits + live_literals es ≡ live_literals (cond (not b) (x ∷ es) es) + cond b (live_of c) 0
-    either true x same here = let k = ap live_of here in omega (arith, k)
-    either false x same here = let k = ap live_of here in let l = ap live_of same in omega (arith, k, l)
+    either : (b : Bool) (x : Stored) → x.lits ≡ c → e.lits ≡ c → w e.lits + weight_of w es ≡ weight_of w (cond (not b) (x ∷ es) es) + cond b (w c) 0
+    either true x same here = let k = ap w here in omega (arith, k)
+    either false x same here = let k = ap w here in let l = ap w same in omega (arith, k, l)
+
+live-weight : (es : List Stored) → live_literals es ≡ weight_of live_of es
+live-weight [] = refl
+live-weight (e ∷ es) = ap (λ n. live_of e.lits + n) (live-weight es)
+
+-- the literals of a clause that goes are no longer live
+pub live_literals-lower : (r : Bool) (c : List ℕ) (es : List Stored) → are_apart es ≡ true → list_all is_whole es ≡ true → is_stored c es ≡ true
+    → live_literals es ≡ live_literals (remaining (map (lower r c) es)) + cond (is_last r (count_of false c es) (count_of true c es)) (live_of c) 0
+live_literals-lower r c es a full h =
+    live-weight es ∙ weight_of-lower live_of r c es a full h ∙ ap (λ n. n + cond (is_last r (count_of false c es) (count_of true c es)) (live_of c) 0) (sym (live-weight (remaining (map (lower r c) es))))
+
+-- once where it is so
+abbrev one_if : Bool → ℕ
+one_if b = cond b 1 0
+
+held-weight : (l : ℕ) (es : List Stored) → times_held l es ≡ weight_of (λ ls. cond (has l ls) 1 0) es
+held-weight l [] = refl
+held-weight l (e ∷ es) = ap (λ n. cond (has l e.lits) 1 0 + n) (held-weight l es)
+
+-- nor does it hold any
+pub times_held-lower : (l : ℕ) (r : Bool) (c : List ℕ) (es : List Stored) → are_apart es ≡ true → list_all is_whole es ≡ true → is_stored c es ≡ true
+    → times_held l es ≡ times_held l (remaining (map (lower r c) es)) + cond (is_last r (count_of false c es) (count_of true c es)) (cond (has l c) 1 0) 0
+times_held-lower l r c es a full h =
+    held-weight l es ∙ weight_of-lower (λ ls. cond (has l ls) 1 0) r c es a full h ∙ ap (λ n. n + cond (is_last r (count_of false c es) (count_of true c es)) (cond (has l c) 1 0) 0) (sym (held-weight l (remaining (map (lower r c) es))))
+
+module _ (counts : List ℕ) (n : ℕ) (r : Bool) (c : List ℕ) (es : List Stored) (a : AreCounts counts n es) (apart : are_apart es ≡ true) (full : list_all is_whole es ≡ true) (stored : is_stored c es ≡ true) where
+  -- each literal of a stored clause is held
+  pub held-stored : is_last r (count_of false c es) (count_of true c es) ≡ true → (l : ℕ) → has l c ≡ true → 0 < get_or counts l 0
+  held-stored last l here =
+      let lower = times_held-lower l r c es apart full stored in let all = ap (λ b. cond b (one_if (has l c)) 0) last in let one : one_if (has l c) ≡ 1 = ap one_if here in
+      omega (arith, lower, all, one, a.held l)
+
+  -- the last copy goes
+  pub counts-lowered : (counts' : List ℕ) → is_last r (count_of false c es) (count_of true c es) ≡ true → HoldOneMore c counts' counts → length counts' ≡ length counts → AreCounts counts' n (remaining (map (lower r c) es))
+  counts-lowered counts' last less same = record {
+    known = same ∙ a.known;
+    held = λ l. let lower = times_held-lower l r c es apart full stored in let all = ap (λ b. cond b (one_if (has l c)) 0) last in omega (arith, lower, all, less l, a.held l);
+  }
+
+  -- another one remains
+  pub counts-kept : is_last r (count_of false c es) (count_of true c es) ≡ false → AreCounts counts n (remaining (map (lower r c) es))
+  counts-kept more = record {
+    known = a.known;
+    held = λ l. let lower = times_held-lower l r c es apart full stored in let all = ap (λ b. cond b (one_if (has l c)) 0) more in omega (arith, lower, all, a.held l);
+  }
+
+-- other counts of literals
+pub files-counts : (h : ClauseHasher) (cs : Clauses) (counts : List ℕ) (es : List Stored) → Files h cs es → Files h (record cs { lit_counts = counts }) es
+files-counts h cs counts es f = record {
+  some_bits = f.some_bits;
+  bits = f.bits;
+  within = f.within;
+  bucketed = f.bucketed;
+  rise = f.rise;
+  apart = f.apart;
+  whole = f.whole;
+  used = f.used;
+}
 
 -- in one bucket
 pub files-lowered : (h : ClauseHasher) (cs : Clauses) (es : List Stored) (m : Buckets) (g : ℕ) (r : Bool) (c : List ℕ) (left : Left) → Files h cs es → IsLowered cs.literal_buffer.items (hash_of h c) r c cs.buckets m left → is_stored c es ≡ true
@@ -137,3 +202,29 @@ stored_with-copy r c es had = elim (is_stored c es) as (λ b. is_stored c es ≡
 -- whether it was the last copy
 pub last_of : (r : Bool) (c : List ℕ) (es : List Stored) (left : Left) → IsLeft r c es left → is_last r (count_of false c es) (count_of true c es) ≡ is_none_left left
 last_of r c es left p = sym (ap (λ n. eqb n 0 && eqb left.redundant 0) p.irredundant ∙ ap (λ n. eqb (count_of false c es - cond r 0 1) 0 && eqb n 0) p.redundants)
+
+-- a clause is stored still, unless its last copy went
+pub is_stored-lowered : (r : Bool) (c : List ℕ) (es : List Stored) → are_apart es ≡ true → list_all is_whole es ≡ true → is_stored c es ≡ true
+    → is_stored c (remaining (map (lower r c) es)) ≡ not (is_last r (count_of false c es) (count_of true c es))
+is_stored-lowered r c [] a w h = cc
+is_stored-lowered r c (e ∷ es) a w h =
+    let p = and_parts (not (is_stored e.lits es)) (are_apart es) a in let q = and_parts (is_whole e) (list_all is_whole es) w in let x = lower r c e in
+    elim (same_list e.lits c) as (λ b. same_list e.lits c ≡ b → is_stored c (cond (not (is_gone x)) (x ∷ remaining (map (lower r c) es)) (remaining (map (lower r c) es))) ≡ not (is_last r (cond b e.irredundant (count_of false c es)) (cond b e.redundant (count_of true c es)))) [
+      | true ↦ λ same.
+          let lits = same_list-eq e.lits c same in
+          let none : is_stored c es ≡ false = subst (λ d. is_stored d es ≡ false) lits (not-true (is_stored e.lits es) p.0) in
+          let rest : remaining (map (lower r c) es) ≡ es = ap remaining (lower-absent c r es none) ∙ remaining-whole es q.1 in
+          let here : same_list x.lits c ≡ true = ap (λ (ls : List ℕ). same_list ls c) (lower-lits r c e) ∙ same in
+          ap (λ xs. is_stored c (cond (not (is_gone x)) (x ∷ xs) xs)) rest
+          ∙ ap (λ b. is_stored c (cond (not b) (x ∷ es) es)) (gone_lowered r c e same) ∙ either (is_last r e.irredundant e.redundant) x here none
+      | false ↦ λ other.
+          let later : is_stored c es ≡ true = sym (ap (λ b. b || is_stored c es) other) ∙ h in
+          let stays : x ≡ e = lower-other r c e other in
+          ap (λ (y : Stored). is_stored c (cond (not (is_gone y)) (y ∷ remaining (map (lower r c) es)) (remaining (map (lower r c) es)))) stays
+          ∙ ap (λ b. is_stored c (cond b (e ∷ remaining (map (lower r c) es)) (remaining (map (lower r c) es)))) (and_parts (not (is_short e.lits)) (not (is_gone e)) q.0).1
+          ∙ ap (λ b. b || is_stored c (remaining (map (lower r c) es))) other ∙ is_stored-lowered r c es p.1 q.1 later
+    ] refl
+  where
+    either : (b : Bool) (x : Stored) → same_list x.lits c ≡ true → is_stored c es ≡ false → is_stored c (cond (not b) (x ∷ es) es) ≡ not b
+    either true x here none = none
+    either false x here none = ap (λ d. d || is_stored c es) here

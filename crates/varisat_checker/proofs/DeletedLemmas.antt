@@ -11,6 +11,7 @@ use Rattle.varisat_checker.specs.declared.clauses.Clauses.{Clauses}
 use Rattle.varisat_checker.specs.declared.clauses.lower.Left.{Left}
 use Rattle.varisat_checker.specs.declared.hash.ClauseHasher.{ClauseHasher}
 use Rattle.varisat_checker.specs.declared.state.CheckerState.{CheckerState}
+use Rattle.varisat_checker.specs.Counts.{AreCounts}
 use Rattle.varisat_checker.specs.Delete.{Deletes, deleted_as}
 use Rattle.varisat_checker.specs.Edits.{KeepsRest}
 use Rattle.varisat_checker.specs.Lowered.{IsLeft}
@@ -74,8 +75,8 @@ rest_of-buckets cs cs' e = record {
 }
 
 -- in order after a change of the stored clauses alone
-pub store-rest : (h : ClauseHasher) (cs cs' : Clauses) (es : List Stored) → Files h cs' es → 2 * cs'.garbage_size ≤ length cs'.literal_buffer.items → KeepsRest cs cs' → IsStore h cs → IsStore h cs'
-store-rest h cs cs' es f garbage rest s = is_store-by h cs' es f garbage (subst (λ us. list_all is_stored_unit us ≡ true) (sym rest.units) s.units)
+pub store-rest : (h : ClauseHasher) (cs cs' : Clauses) (es : List Stored) → Files h cs' es → 2 * cs'.garbage_size ≤ length cs'.literal_buffer.items → KeepsRest cs cs' → AreCounts cs'.lit_counts (length cs'.unit_clauses) es → IsStore h cs → IsStore h cs'
+store-rest h cs cs' es f garbage rest counts s = is_store-by h cs' es f garbage (subst (λ us. list_all is_stored_unit us ≡ true) (sym rest.units) s.units) counts
 
 module _ (h : ClauseHasher) (cs : Clauses) where
   -- nothing goes
@@ -84,7 +85,8 @@ module _ (h : ClauseHasher) (cs : Clauses) where
 
   pub store-unchanged : (cs' : Clauses) → Files h cs' (stored_list cs) → cs' ≡ record cs { buckets = cs'.buckets } → IsStore h cs → IsStore h cs'
   store-unchanged cs' f e s =
-      store-rest h cs cs' (stored_list cs) f (subst (λ (x : Clauses). 2 * x.garbage_size ≤ length x.literal_buffer.items) (sym e) s.garbage) (rest_of-buckets cs cs' e) s
+      store-rest h cs cs' (stored_list cs) f (subst (λ (x : Clauses). 2 * x.garbage_size ≤ length x.literal_buffer.items) (sym e) s.garbage) (rest_of-buckets cs cs' e)
+      (subst (λ (x : Clauses). AreCounts x.lit_counts (length x.unit_clauses) (stored_list cs)) (sym e) s.counts) s
 
   -- a copy goes, and then the garbage
   pub deletes : (r : Bool) (c : List ℕ) → is_short c ≡ false → (st : CheckerState) (known : List Known) (taken after : Clauses) (left : Left) → IsLeft r c (stored_list cs) left → Files h taken (remaining (map (lower r c) (stored_list cs))) → KeepsRest cs taken → Files h after (stored_list taken) → KeepsRest taken after

@@ -17,19 +17,23 @@ use Rattle.checker_rules.proofs.Sets.{raise-lits}
 use Rattle.varisat_checker.specs.declared.clauses.Clauses.{Clauses}
 use Rattle.varisat_checker.specs.declared.hash.ClauseHasher.{ClauseHasher}
 use Rattle.varisat_checker.specs.Buckets.{AreWithin, Buckets, clauses_at}
+use Rattle.varisat_checker.specs.Counts.{AreCounts}
 use Rattle.varisat_checker.specs.Edits.{IsPushed, IsRaised}
 use Rattle.varisat_checker.specs.Lits.{IsWithin}
 use Rattle.varisat_checker.specs.StateOf.{hash_of}
 use Rattle.varisat_checker.specs.Store.{Files, IsStore, is_stored_unit, is_whole}
 use Rattle.varisat_checker.specs.View.{stored_at, stored_in, stored_list, stored_of}
+use Rattle.varisat_checker.proofs.HeldEdits.{counts-pushed}
 use Rattle.varisat_checker.proofs.ViewLemmas.{above_from, list_is}
 
 -- buckets that hold a list by rising ids
 pub stored_list-is : (h : ClauseHasher) (cs : Clauses) (es : List Stored) → Files h cs es → stored_list cs ≡ es
 stored_list-is h cs es f = list_is cs.literal_buffer.items cs.buckets (hash_of h) es (above_from 0 cs.next_clause_id es f.rise) f.bucketed
 
-pub is_store-by : (h : ClauseHasher) (cs : Clauses) (es : List Stored) → Files h cs es → 2 * cs.garbage_size ≤ length cs.literal_buffer.items → list_all is_stored_unit cs.unit_clauses ≡ true → IsStore h cs
-is_store-by h cs es f garbage units = record { filed = subst (Files h cs) (sym (stored_list-is h cs es f)) f; garbage = garbage; units = units }
+pub is_store-by : (h : ClauseHasher) (cs : Clauses) (es : List Stored) → Files h cs es → 2 * cs.garbage_size ≤ length cs.literal_buffer.items → list_all is_stored_unit cs.unit_clauses ≡ true
+    → AreCounts cs.lit_counts (length cs.unit_clauses) es → IsStore h cs
+is_store-by h cs es f garbage units counts =
+    let same = sym (stored_list-is h cs es f) in record { filed = subst (Files h cs) same f; garbage = garbage; units = units; counts = subst (AreCounts cs.lit_counts (length cs.unit_clauses)) same counts }
 
 -- a change in one bucket
 pub here_or_there : (k n : ℕ) (xs ys : List Stored) → (k ≡ n → xs ≡ ys) → ((k ≡ n → ⊥) → xs ≡ ys) → xs ≡ ys
@@ -109,6 +113,7 @@ pub is_store-pushed : (h : ClauseHasher) (cs cs' : Clauses) (r : Bool) (c : List
 is_store-pushed h cs cs' r c s p new long =
     is_store-by h cs' (stored_list cs ++ new_stored r c cs.next_clause_id ∷ []) (files-pushed h cs cs' (stored_list cs) r c s.filed p new long) (omega (arith, p.used, p.garbage, s.garbage))
     (subst (λ us. list_all is_stored_unit us ≡ true) (sym p.units) s.units)
+    (subst (λ us. AreCounts cs'.lit_counts (length us) (stored_list cs ++ new_stored r c cs.next_clause_id ∷ [])) (sym p.units) (counts-pushed cs.lit_counts cs'.lit_counts (length cs.unit_clauses) (stored_list cs) (new_stored r c cs.next_clause_id) s.counts p.held p.counted))
 
 -- nothing is changed
 pub files-same : (h : ClauseHasher) (cs : Clauses) (es : List Stored) (m : Buckets) → Files h cs es → ((k : ℕ) → clauses_at m k ≡ clauses_at cs.buckets k) → Files h (record cs { buckets = m }) es

@@ -1,15 +1,11 @@
 -- A call over the parts of a checker, and what is recorded of its failure.
-use Rattle.std.proofs.Common.{◌≡◌, Bool, true, false, List, Result, Ok, Err, refl, sym, subst}
-use Rattle.std.specs.Prelude.{MatchBool, ltb}
-use Rattle.checker_rules.specs.Calls.{attempt, step_limit}
-use Rattle.checker_rules.specs.Outcome.{Outcome, refuse, steps_exhausted}
+use Rattle.std.proofs.Common.{◌≡◌, true, false, Result, Ok, Err}
+use Rattle.checker_rules.specs.Outcome.{Outcome}
 use Rattle.checker_rules.specs.State.{State}
-use Rattle.checker_rules.specs.Step.{Step}
 use Rattle.checker_parts.specs.Answers.{AnswersParts, AnswersStep, UnlessFailed}
 use Rattle.checker_parts.specs.declared.error.CheckerError.{CheckerError}
 use Rattle.checker_parts.specs.declared.error.CheckerError.TheVariants.{ProofIncomplete, IoError, ParseError, CheckFailed, ProofProcessorError, OutOfMemory, Failed}
 use Rattle.varisat_checker.specs.Failing.{has_failed}
-use Rattle.varisat_checker.specs.NotYet.{AnswersAttempt, AnswersCounted, is_checked}
 
 abbrev Answer : Type 0
 Answer = Result (Unit {0}) CheckerError
@@ -45,12 +41,3 @@ kept-on (Err (ParseError number cause)) h k = k
 kept-on (Err (ProofProcessorError cause)) h k = absurd cc
 kept-on (Err OutOfMemory) h k = absurd cc
 kept-on (Err Failed) h k = absurd cc
-
--- a counted step
-went-on-counted-by : (b d : Bool) (r : Answer) (o p : Outcome) (t : State) (N : Type 0) → has_failed r ≡ false → MatchBool b (AnswersParts r o t) (MatchBool d N (AnswersParts r p t)) → MatchBool b (AnswersStep r o t) (MatchBool d N (AnswersStep r p t))
-went-on-counted-by true d r o p t N h a = went-on r o t h a
-went-on-counted-by false true r o p t N h a = a
-went-on-counted-by false false r o p t N h a = went-on r p t h a
-
-pub went-on-counted : (r : Answer) (s : State) (t : Step) (u : State) → has_failed r ≡ false → AnswersAttempt r s t u → AnswersCounted r s t u
-went-on-counted r s t u h a = went-on-counted-by (is_checked t) (ltb s.steps step_limit) r (attempt s t) (refuse steps_exhausted s) u _ h a

@@ -62,7 +62,7 @@ module _ (h : ClauseHasher) (cs : Clauses) (es : List Stored) (f : Files h cs es
       let here : In x (stored_in cs.literal_buffer.items cs.buckets k) = subst (In x) (sym (f.bucketed k)) (in_filter (λ e. eqb (hash_of h e.lits) k) x es (grind arith) i) in
       list_any-from_Contains nat_eq_equiv k (keys cs.buckets) ((hash_map_contains_key_iff nat_eq_equiv exact_unsigned_eq cs.buckets k).0 (some_here cs.literal_buffer.items cs.buckets k x here)))
 
-  in_other_order : IsPermutation es (map (stored_of cs.literal_buffer.items) (flat_map (λ b. b.items) (values cs.buckets)))
+  pub in_other_order : IsPermutation es (map (stored_of cs.literal_buffer.items) (flat_map (λ b. b.items) (values cs.buckets)))
   in_other_order =
       subst (IsPermutation es) (sym (flat_map-entries cs.literal_buffer.items cs.buckets cs.buckets.entries (found_all cs.literal_buffer.items cs.buckets unique) ∙ flat_map-same (stored_in cs.literal_buffer.items cs.buckets) (λ k. of_hash (hash_of h) k es) f.bucketed (keys cs.buckets)))
       (covers (hash_of h) (keys cs.buckets) es unique covered)
@@ -85,5 +85,8 @@ module _ (h : ClauseHasher) (cs : Clauses) (es : List Stored) (f : Files h cs es
       let P : Clause → Type 0 = λ c. IsWithin c.lits cs.literal_buffer.items in
       All-append P e.1.items (flat_map (λ b. b.items) (values_of xs)) (subst (λ o. All P (bucket_items o)) (found 0 e (omega arith)) (f.within e.0)) (all_within xs (λ k d l. found (suc k) d (omega (arith, l))))
 
+  pub walked_within : All (λ c. IsWithin c.lits cs.literal_buffer.items) (flat_map (λ b. b.items) (values cs.buckets))
+  walked_within = all_within cs.buckets.entries (found_all cs.literal_buffer.items cs.buckets unique)
+
   pub gathered_within : (all : List Clause) → IsPermutation (flat_map (λ b. b.items) (values cs.buckets)) all → All (λ c. IsWithin c.lits cs.literal_buffer.items) all
-  gathered_within all p = All-permutation (λ (c : Clause). IsWithin c.lits cs.literal_buffer.items) (flat_map (λ b. b.items) (values cs.buckets)) all p (all_within cs.buckets.entries (found_all cs.literal_buffer.items cs.buckets unique))
+  gathered_within all p = All-permutation (λ (c : Clause). IsWithin c.lits cs.literal_buffer.items) (flat_map (λ b. b.items) (values cs.buckets)) all p walked_within

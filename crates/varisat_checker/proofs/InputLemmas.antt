@@ -1,21 +1,19 @@
 -- Storing an input clause.
-use Rattle.std.proofs.Common.{◌≡◌, ℕ, ◌+◌, ◌-◌, ◌^◌, ◌<◌, ◌≤◌, ◌&&◌, Bool, true, false, cond, not, eqb, ltb, leb, List, [], ◌∷◌, ◌++◌, Option, Some, None, refl, sym, ap, ◌∙◌, subst, arith, Fits, w64, map}
+use Rattle.std.proofs.Common.{◌≡◌, ℕ, ◌+◌, ◌<◌, ◌≤◌, ◌&&◌, Bool, true, false, cond, not, eqb, ltb, leb, List, [], ◌∷◌, ◌++◌, Option, Some, None, refl, sym, ap, ◌∙◌, subst, arith, Fits, w64, map}
 use Rattle.checker_rules.specs.AddClause.{store_input}
 use Rattle.checker_rules.specs.Clauses.{is_tautology, var_of}
 use Rattle.checker_rules.specs.DeleteClause.{is_short}
 use Rattle.checker_rules.specs.Outcome.{Cause, Outcome, accept, count_exhausted, ids_exhausted, refuse}
-use Rattle.checker_rules.specs.State.{Known, State, Stored, StoredUnit, lit_by_unit, makes_true, unit_of}
-use Rattle.checker_rules.specs.Store.{count_limit, count_of, counters, id_limit, is_stored, new_stored, raise, stands, store, store_long, store_unit, take_id}
+use Rattle.checker_rules.specs.State.{State, StoredUnit, makes_true, unit_of}
+use Rattle.checker_rules.specs.Store.{count_limit, count_of, counters, id_limit, is_stored, new_stored, raise, stands, store, store_unit, take_id}
 use Rattle.checker_rules.proofs.Entries.{rise_next}
 use Rattle.varisat_checker.specs.declared.clauses.Clauses.{Clauses}
 use Rattle.varisat_checker.specs.declared.clauses.StoreClauseResult.{StoreClauseResult}
 use Rattle.varisat_checker.specs.declared.clauses.StoreClauseResult.TheVariants.{New, Duplicate, NewlyIrredundant}
 use Rattle.varisat_checker.specs.declared.hash.ClauseHasher.{ClauseHasher}
-use Rattle.varisat_checker.specs.declared.state.CheckerState.{CheckerState}
 use Rattle.varisat_checker.specs.InputCause.{HasRoom}
-use Rattle.varisat_checker.specs.StateOf.{state_of}
 use Rattle.varisat_checker.specs.View.{stored_list}
-use Rattle.varisat_checker.specs.Store.{Files, IsStore, Stores, result_of, store_counters}
+use Rattle.varisat_checker.specs.Store.{Files, IsStore, Stores, store_counters}
 
 -- an id below the limit has a next one
 pub fits-next : (n : ℕ) → n < id_limit → Fits w64 (n + 1)
@@ -39,7 +37,7 @@ is_store-next h cs k =
       whole = k.filed.whole;
       used = k.filed.used;
     } in
-    record { filed = filed; garbage = k.garbage; units = k.units }
+    record { filed = filed; garbage = k.garbage; units = k.units; counts = k.counts }
 
 -- a tautology takes an id
 pub input-tautology : (c : List ℕ) (s : State) → true ≡ is_tautology c → store_input c s ≡ take_id s

@@ -1,14 +1,11 @@
 -- A checker with nothing stored.
-use Rattle.std.proofs.Common.{◌≡◌, ℕ, ◌<◌, ◌≤◌, List, [], nat_eq, true, false, None, refl, sym, ap, ◌∙◌, subst, arith, All}
-use Rattle.std.specs.HashMap.{IsEmpty, get, keys}
+use Rattle.std.proofs.Common.{◌≡◌, ℕ, List, [], nat_eq, None, refl, sym, ap, subst, arith}
+use Rattle.std.specs.HashMap.{IsEmpty}
 use Rattle.std.specs.Map.{keys_of, lookup}
 use Rattle.std.specs.List.{flat_map}
 use Rattle.checker_rules.specs.Sound.{Sound}
-use Rattle.checker_rules.specs.State.{State, Stored}
 use Rattle.checker_rules.specs.Steps.{new_state}
-use Rattle.checker_rules.specs.WellFormed.{are_apart, ids_rise}
 use Rattle.checker_rules.proofs.SoundStates.{sound-new_state}
-use Rattle.varisat_checker.specs.declared.clauses.Clause.{Clause}
 use Rattle.varisat_checker.specs.declared.clauses.Clauses.{Clauses}
 use Rattle.varisat_checker.specs.declared.hash.ClauseHasher.{ClauseHasher}
 use Rattle.varisat_checker.specs.declared.state.CheckerState.{CheckerState}
@@ -17,7 +14,7 @@ use Rattle.varisat_checker.specs.Kept.{Kept}
 use Rattle.varisat_checker.specs.NewParts.{IsEmptyStore, IsNewState}
 use Rattle.varisat_checker.specs.StateOf.{applied_of, pending_of, state_of}
 use Rattle.varisat_checker.specs.Store.{Files, IsStore}
-use Rattle.varisat_checker.specs.View.{by_id, list_of, stored_in, stored_list, stored_of}
+use Rattle.varisat_checker.specs.View.{by_id, list_of, stored_in, stored_list}
 
 -- no bucket holds a clause
 pub clauses_at-empty : (m : Buckets) (k : ℕ) → IsEmpty m → clauses_at m k ≡ []
@@ -47,7 +44,7 @@ is_store-new h cs bits empty =
       whole = rw none refl;
       used = rw (none, empty.buffer, empty.garbage) refl;
     } in
-    record { filed = filed; garbage = rw (empty.buffer, empty.garbage) (omega arith); units = rw empty.units refl }
+    record { filed = filed; garbage = rw (empty.buffer, empty.garbage) (omega arith); units = rw empty.units refl; counts = rw (none, empty.counts, empty.units) (record { known = refl; held = λ l. refl }) }
 
 -- both
 pub kept-new : (st : CheckerState) (h : ClauseHasher) (cs : Clauses) → IsNewState st → h.hash_bits ≡ 64 → applied_of h ≡ (λ v. None) → pending_of h ≡ [] → IsEmptyStore cs → Kept st h cs []

@@ -1,5 +1,5 @@
 -- Outcomes in sequence.
-use Rattle.std.proofs.Common.{◌≡◌, ℕ, Bool, true, false, cond, not, ◌&&◌, ltb, leb, List, Option, Some, None, refl, sym, ap, ◌∙◌}
+use Rattle.std.proofs.Common.{◌≡◌, ℕ, Bool, true, false, cond, not, ◌&&◌, ltb, leb, List, Some, None, refl, ap}
 use Rattle.checker_rules.specs.Check.{check, ready}
 use Rattle.checker_rules.specs.Outcome.{Cause, Outcome, accept, and_then, and_then_by, refuse, ids_exhausted, count_exhausted, at_check_failed, no_clause_for_hash}
 use Rattle.checker_rules.specs.Passes.{none_empty}

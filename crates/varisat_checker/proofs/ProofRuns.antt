@@ -2,12 +2,10 @@
 --     SoFarRun      what was read and accepted so far, and the fold over it
 --     run-begins, run-goes      the loop's start, and a turn of it
 --     run-refused, run-faulted, run-exhausted, run-closes      how it ends
-use Rattle.std.proofs.Common.{◌≡◌, ◌⊎◌, ℕ, Bool, true, false, ltb, List, [], ◌∷◌, ◌++◌, Option, Some, None, Result, Ok, Err, refl, sym, ap, ◌∙◌, subst, inl, inr}
-use Rattle.std.specs.Prelude.{MatchBool}
+use Rattle.std.proofs.Common.{◌≡◌, ℕ, true, false, ltb, List, [], ◌∷◌, ◌++◌, Option, Some, None, Result, Ok, Err, refl, sym, ap, ◌∙◌, subst, inl}
 use Rattle.checker_rules.specs.Calls.{attempt, closing_conflict, count_step, step_limit}
 use Rattle.checker_rules.specs.Covers.{Covers}
 use Rattle.checker_rules.specs.Headline.{Good, holds}
-use Rattle.checker_rules.specs.Outcome.{Cause, Outcome, refuse, steps_exhausted}
 use Rattle.checker_rules.specs.State.{State, sat}
 use Rattle.checker_rules.specs.Step.{Step}
 use Rattle.checker_rules.proofs.Openings.{sat-count_step}
@@ -17,20 +15,20 @@ use Rattle.proof_bytes.specs.declared.fault.ProofFault.{ProofFault}
 use Rattle.proof_bytes.specs.declared.fault.ProofFault.TheVariants as faults
 use Rattle.proof_bytes.specs.declared.format.Format.{Format}
 use Rattle.proof_bytes.specs.declared.format.Format.TheVariants as formats
-use Rattle.proof_bytes.specs.Reading.{Found, Short, Wrong}
 use Rattle.proof_bytes.specs.Steps.{next_at}
 use Rattle.proof_bytes.specs.Taking.{Faults, Leads, stop_of}
-use Rattle.proof_bytes.specs.TextRuns.{RunsBefore, RunsOver, RunsToFault, RunsUntilCut}
-use Rattle.proof_bytes.proofs.TextRuns.{MayRead, SoFar, nothing_yet, one_more, run_before, run_closed, run_exhausted, run_faulted, run_refused}
-use Rattle.checker_parts.specs.Answers.{AnswersParts, AnswersStep, IsCovered, IsFold, IsRefusal, UnlessFailed, UnlessGivenUp}
+use Rattle.proof_bytes.specs.TextRuns.{RunsOver, RunsToFault}
+use Rattle.proof_bytes.proofs.TextRuns.{MayRead, SoFar, nothing_yet, one_more, run_closed, run_exhausted, run_faulted, run_refused}
+use Rattle.checker_parts.specs.Answers.{AnswersParts, IsCovered, IsFold, UnlessFailed, UnlessGivenUp}
 use Rattle.checker_parts.specs.Causes.{cause_of}
+use Rattle.checker_parts.specs.Models.{Proves, RunProves, RunRefutes, attempted}
 use Rattle.checker_parts.specs.declared.error.CheckCause.{CheckCause}
-use Rattle.checker_parts.specs.declared.error.CheckCause.TheVariants.{NotYet, StepsExhausted}
+use Rattle.checker_parts.specs.declared.error.CheckCause.TheVariants.{StepsExhausted}
 use Rattle.checker_parts.specs.declared.error.CheckerError.{CheckerError}
 use Rattle.checker_parts.specs.declared.error.CheckerError.TheVariants.{ProofIncomplete, IoError, ParseError, CheckFailed, ProofProcessorError, OutOfMemory, Failed}
 use Rattle.checker_parts.proofs.Headlines.{covers_fold-attempt, covers_fold-closing, sets_fold-attempt, sets_fold-closing}
-use Rattle.varisat_checker.specs.NotYet.{AnswersAttempt, IsNotYet, is_checked}
-use Rattle.varisat_checker.specs.ProofRun.{EndsProof, ProofRun, RunsToRefusal, RunsUntilNotYet}
+use Rattle.checker_parts.proofs.Proving.{attempt_proves, attempt_refutes, attempted-more, run_proves-more, run_refutes-more}
+use Rattle.varisat_checker.specs.ProofRun.{EndsProof, ProofRun}
 use Rattle.varisat_checker.specs.ReadFault.{IsReadFault}
 use Rattle.varisat_checker.specs.Refusal.{RefusesWith}
 
@@ -40,12 +38,15 @@ Known = Option (List ℕ)
 abbrev Answer : Type 0
 Answer = Result (Unit {0}) CheckerError
 
--- the run so far, with the fold over the steps that it accepted
+-- the run so far, with the fold over the steps that it accepted, and what they prove
 pub record SoFarRun (known bytes : Known) (s t : State) (format : Format) : Type 0 where
   pub steps : List Step
   pub reads : SoFar known bytes s steps t format
   pub folds : (before : List Step) → IsFold before s → IsFold (before ++ steps) t
   pub covers : (before : List Step) → IsCovered before s → IsCovered (before ++ steps) t
+  pub led : attempted s steps ≡ t
+  pub proves : (before : List Step) → IsFold before s → RunProves before s steps
+  pub refutes : (before : List Step) → IsCovered before s → RunRefutes before steps
 
 same-fold : (ts us : List Step) (s : State) → ts ≡ us → IsFold ts s → IsFold us s
 same-fold ts us s e h = subst (λ (l : List Step). IsFold l s) e h
@@ -59,6 +60,9 @@ run-begins known bytes s format e starts = record {
   reads = nothing_yet known bytes s format e starts;
   folds = λ before h. same-fold before (before ++ []) s (sym (append_none before)) h;
   covers = λ before h. same-cover before (before ++ []) s (sym (append_none before)) h;
+  led = refl;
+  proves = λ before h. tt;
+  refutes = λ before h. tt;
 }
 
 -- what holds unless a call failed holds where it gave up or not
@@ -82,28 +86,18 @@ unless-always (Err (ProofProcessorError fault)) h = tt
 unless-always (Err OutOfMemory) h = tt
 unless-always (Err Failed) h = tt
 
--- an accepted step is of a kind that is checked
-accepted-by : (b d : Bool) (t u : State) (step : Step) → d ≡ true
-    → MatchBool b (AnswersParts {A = Unit {0}} (Ok tt) (attempt t step) u) (MatchBool d (IsNotYet {A = Unit {0}} (Ok tt) u.steps × (u ≡ count_step t)) (AnswersParts {A = Unit {0}} (Ok tt) (refuse steps_exhausted t) u))
-    → (b ≡ true) × AnswersParts {A = Unit {0}} (Ok tt) (attempt t step) u
-accepted-by true d t u step room h = (refl, h)
-accepted-by false true t u step room h = absurd h.0
-accepted-by false false t u step room h = absurd cc
-
-pub accepted-checked : (t u : State) (step : Step) → ltb t.steps step_limit ≡ true → AnswersAttempt {A = Unit {0}} (Ok tt) t step u → (is_checked step ≡ true) × AnswersParts {A = Unit {0}} (Ok tt) (attempt t step) u
-accepted-checked t u step room h = accepted-by (is_checked step) (ltb t.steps step_limit) t u step room h
-
 -- a turn of the loop
 pub run-goes : {known now new : Known} {s t : State} {format next : Format} {step : Step} (u : State) → SoFarRun known now s t format → Good t
-    → Leads now new (next_at format) (λ more. Ok ((next, step), more)) → MayRead t → AnswersAttempt {A = Unit {0}} (Ok tt) t step u → SoFarRun known new s u next
-run-goes {known} {now} {new} {s} {t} {format} {next} {step} u p good leads may h =
-    let k = (accepted-checked t u step may.counted h).1 in
-    record {
-      steps = p.steps ++ step ∷ [];
-      reads = one_more u p.reads leads may k.0 k.1;
-      folds = λ before f. same-fold ((before ++ p.steps) ++ step ∷ []) (before ++ (p.steps ++ step ∷ [])) u (append_append before p.steps (step ∷ [])) (sets_fold-attempt t step (before ++ p.steps) (Ok tt) u good (p.folds before f) k);
-      covers = λ before f. same-cover ((before ++ p.steps) ++ step ∷ []) (before ++ (p.steps ++ step ∷ [])) u (append_append before p.steps (step ∷ [])) (covers_fold-attempt t step (before ++ p.steps) (Ok tt) u (p.covers before f) k);
-    }
+    → Leads now new (next_at format) (λ more. Ok ((next, step), more)) → MayRead t → AnswersParts {A = Unit {0}} (Ok tt) (attempt t step) u → SoFarRun known new s u next
+run-goes {known} {now} {new} {s} {t} {format} {next} {step} u p good leads may k = record {
+  steps = p.steps ++ step ∷ [];
+  reads = one_more u p.reads leads may k.0 k.1;
+  folds = λ before f. same-fold ((before ++ p.steps) ++ step ∷ []) (before ++ (p.steps ++ step ∷ [])) u (append_append before p.steps (step ∷ [])) (sets_fold-attempt t step (before ++ p.steps) (Ok tt) u good (p.folds before f) k);
+  covers = λ before f. same-cover ((before ++ p.steps) ++ step ∷ []) (before ++ (p.steps ++ step ∷ [])) u (append_append before p.steps (step ∷ [])) (covers_fold-attempt t step (before ++ p.steps) (Ok tt) u (p.covers before f) k);
+  led = attempted-more s p.steps step ∙ ap (λ (w : State). (attempt w step).after) p.led ∙ sym k.1;
+  proves = λ before f. run_proves-more before s p.steps step (p.proves before f) (subst (Proves step (before ++ p.steps)) (sym p.led) (attempt_proves t step (before ++ p.steps) good (p.folds before f) k.0));
+  refutes = λ before f. run_refutes-more before p.steps step (p.refutes before f) (attempt_refutes t step (before ++ p.steps) good (p.covers before f) k.0);
+}
 
 -- counting a step changes no set
 pub fold-counted : (ts : List Step) (t u : State) → u ≡ count_step t → IsFold ts t → IsFold ts u
@@ -120,10 +114,12 @@ module _ {known now : Known} {s t : State} {format : Format} (p : SoFarRun known
     ends = by e h;
     folds = λ before f. unless-always (Err e) (p.folds before f);
     covers = λ before f. unless-always (Err e) (p.covers before f);
+    proves = p.proves;
+    refutes = p.refutes;
   }
     where
       by : (e : CheckerError) → RefusesWith t.steps StepsExhausted e → EndsProof {A = Unit {0}} known s p.steps (Err e) t
-      by (CheckFailed number msg debug_step) h = (h.0, subst (λ (m : CheckCause). RunsToRefusal (cause_of m) known s p.steps t) (sym h.1) (run_exhausted p.reads going none))
+      by (CheckFailed number msg debug_step) h = (h.0, subst (λ (m : CheckCause). RunsOver known s p.steps (Some (inl (cause_of m))) t) (sym h.1) (run_exhausted p.reads going none))
       by (ProofIncomplete number) h = absurd h
       by (IoError number read) h = absurd h
       by (ParseError number kind) h = absurd h
@@ -132,12 +128,8 @@ module _ {known now : Known} {s t : State} {format : Format} (p : SoFarRun known
       by Failed h = absurd h
 
   module _ {new : Known} {next : Format} {step : Step} (leads : Leads now new (next_at format) (λ more. Ok ((next, step), more))) (may : MayRead t) (u : State) where
-    refused-by : (x : Option Cause) (number : ℕ) → IsRefusal x number (attempt t step) u → (number ≡ u.steps) × RunsToRefusal x known s p.steps u
-    refused-by None number h = absurd h
-    refused-by (Some cause) number h = (h.2, run_refused p.reads cause u leads may h.0 h.1)
-
     ends-checked : (e : CheckerError) → AnswersParts {A = Unit {0}} (Err e) (attempt t step) u → EndsProof {A = Unit {0}} known s p.steps (Err e) u
-    ends-checked (CheckFailed number msg debug_step) h = refused-by (cause_of msg) number h
+    ends-checked (CheckFailed number msg debug_step) h = (h.2, run_refused p.reads (cause_of msg) u leads may h.0 h.1)
     ends-checked (ProofIncomplete number) h = absurd h
     ends-checked (IoError number read) h = absurd h
     ends-checked (ParseError number kind) h = absurd h
@@ -145,35 +137,16 @@ module _ {known now : Known} {s t : State} {format : Format} (p : SoFarRun known
     ends-checked OutOfMemory h = tt
     ends-checked Failed h = absurd h
 
-    ends-not_yet : (e : CheckerError) → RefusesWith u.steps NotYet e → u ≡ count_step t → EndsProof {A = Unit {0}} known s p.steps (Err e) u
-    ends-not_yet (CheckFailed number msg debug_step) h counted = (h.0, subst (λ (m : CheckCause). RunsToRefusal (cause_of m) known s p.steps u) (sym h.1) (t, run_before p.reads, counted))
-    ends-not_yet (ProofIncomplete number) h counted = absurd h
-    ends-not_yet (IoError number read) h counted = absurd h
-    ends-not_yet (ParseError number kind) h counted = absurd h
-    ends-not_yet (ProofProcessorError fault) h counted = absurd h
-    ends-not_yet OutOfMemory h counted = absurd h
-    ends-not_yet Failed h counted = absurd h
-
-    refused : (e : CheckerError) (b d : Bool) → Good t → d ≡ true
-        → MatchBool b (AnswersParts {A = Unit {0}} (Err e) (attempt t step) u) (MatchBool d (IsNotYet {A = Unit {0}} (Err e) u.steps × (u ≡ count_step t)) (AnswersParts {A = Unit {0}} (Err e) (refuse steps_exhausted t) u))
-        → ProofRun {A = Unit {0}} known s (Err e) u
-    refused e true d good room h = record {
+    -- the step that was read is refused
+    pub run-refused : (e : CheckerError) → Good t → AnswersParts {A = Unit {0}} (Err e) (attempt t step) u → ProofRun {A = Unit {0}} known s (Err e) u
+    run-refused e good h = record {
       steps = p.steps;
       ends = ends-checked e h;
       folds = λ before f. unless-bind (Err e) (IsFold (before ++ p.steps) u) (λ k. sets_fold-attempt t step (before ++ p.steps) (Err e) u good (p.folds before f) k) h;
       covers = λ before f. unless-bind (Err e) (IsCovered (before ++ p.steps) u) (λ k. covers_fold-attempt t step (before ++ p.steps) (Err e) u (p.covers before f) k) h;
+      proves = p.proves;
+      refutes = p.refutes;
     }
-    refused e false true good room h = record {
-      steps = p.steps;
-      ends = ends-not_yet e h.0 h.1;
-      folds = λ before f. unless-always (Err e) (fold-counted (before ++ p.steps) t u h.1 (p.folds before f));
-      covers = λ before f. unless-always (Err e) (cover-counted (before ++ p.steps) t u h.1 (p.covers before f));
-    }
-    refused e false false good room h = absurd cc
-
-    -- the step that was read is refused
-    pub run-refused : (e : CheckerError) → Good t → AnswersAttempt {A = Unit {0}} (Err e) t step u → ProofRun {A = Unit {0}} known s (Err e) u
-    run-refused e good h = refused e (is_checked step) (ltb t.steps step_limit) good may.counted h
 
   -- no step was read
   pub run-faulted : {new : Known} (fault : ProofFault) (e : CheckerError) (u : State) → Faults now new (stop_of fault) (next_at format) → MayRead t → u ≡ count_step t → IsReadFault u.steps fault e → ProofRun {A = Unit {0}} known s (Err e) u
@@ -182,6 +155,8 @@ module _ {known now : Known} {s t : State} {format : Format} (p : SoFarRun known
     ends = by fault is (run_faulted p.reads fault u h may counted);
     folds = λ before f. unless-always (Err e) (fold-counted (before ++ p.steps) t u counted (p.folds before f));
     covers = λ before f. unless-always (Err e) (cover-counted (before ++ p.steps) t u counted (p.covers before f));
+    proves = p.proves;
+    refutes = p.refutes;
   }
     where
       by : (fault : ProofFault) → IsReadFault u.steps fault e → RunsToFault known s p.steps fault t u → EndsProof {A = Unit {0}} known s p.steps (Err e) u
@@ -190,13 +165,9 @@ module _ {known now : Known} {s t : State} {format : Format} (p : SoFarRun known
       by (faults.Malformed kind) is k = subst (λ (x : CheckerError). EndsProof {A = Unit {0}} known s p.steps (Err x) u) (sym is) (refl, k)
       by faults.OutOfMemory is k = subst (λ (x : CheckerError). EndsProof {A = Unit {0}} known s p.steps (Err x) u) (sym is) tt
 
-  closed-by : (x : Option Cause) (number : ℕ) (u : State) → t.ended ≡ true → IsRefusal x number (closing_conflict t) u → (number ≡ u.steps) × RunsToRefusal x known s p.steps u
-  closed-by None number u ended h = absurd h
-  closed-by (Some cause) number u ended h = (h.2, run_closed p.reads (Some cause) u ended h.0 h.1)
-
   ends-closed : (r : Answer) (u : State) → t.ended ≡ true → AnswersParts r (closing_conflict t) u → EndsProof known s p.steps r u
   ends-closed (Ok done) u ended h = run_closed p.reads None u ended h.0 h.1
-  ends-closed (Err (CheckFailed number msg debug_step)) u ended h = closed-by (cause_of msg) number u ended h
+  ends-closed (Err (CheckFailed number msg debug_step)) u ended h = (h.2, run_closed p.reads (Some (cause_of msg)) u ended h.0 h.1)
   ends-closed (Err (ProofIncomplete number)) u ended h = absurd h
   ends-closed (Err (IoError number read)) u ended h = absurd h
   ends-closed (Err (ParseError number kind)) u ended h = absurd h
@@ -211,4 +182,6 @@ module _ {known now : Known} {s t : State} {format : Format} (p : SoFarRun known
     ends = ends-closed r u ended h;
     folds = λ before f. unless-bind r (IsFold (before ++ p.steps) u) (λ k. sets_fold-closing t (before ++ p.steps) r u good (p.folds before f) k) h;
     covers = λ before f. unless-bind r (IsCovered (before ++ p.steps) u) (λ k. covers_fold-closing t (before ++ p.steps) r u (p.covers before f) k) h;
+    proves = p.proves;
+    refutes = p.refutes;
   }

@@ -1,13 +1,14 @@
 -- The state in which a clause is checked, and the outcome of the check.
-use Rattle.std.proofs.Common.{◌≡◌, ℕ, Bool, true, false, cond, List, length, Option, None, Some, refl, sym, ap, ◌∙◌, subst}
+use Rattle.std.proofs.Common.{◌≡◌, ℕ, Bool, true, false, cond, List, length, Option, refl, sym, ap, ◌∙◌, subst}
 use Rattle.std.specs.Option.{option_map}
 use Rattle.std.proofs.lemmas.List.{length-map}
 use Rattle.checker_rules.specs.Check.{apply_if_named, apply_pending, check, ready, some_pending_name}
 use Rattle.checker_rules.specs.Clauses.{is_tautology}
-use Rattle.checker_rules.specs.Outcome.{Outcome, accept, at_check_failed, no_clause_for_hash, refuse}
+use Rattle.checker_rules.specs.Outcome.{accept, at_check_failed, no_clause_for_hash, refuse}
 use Rattle.checker_rules.specs.Passes.{none_empty}
 use Rattle.checker_rules.specs.Sound.{Sound}
 use Rattle.checker_rules.specs.State.{Known, State, StoredUnit, buckets, clause_passes}
+use Rattle.checker_rules.specs.Traced.{check_trace}
 use Rattle.checker_rules.specs.WellFormed.{WellFormed}
 use Rattle.checker_rules.proofs.StepForms.{form-ready}
 use Rattle.varisat_checker.specs.declared.clauses.Clauses.{Clauses}
@@ -15,10 +16,12 @@ use Rattle.varisat_checker.specs.declared.clauses.units.UnitClause.{UnitClause}
 use Rattle.varisat_checker.specs.declared.hash.ClauseHasher.{ClauseHasher}
 use Rattle.varisat_checker.specs.declared.state.CheckerState.{CheckerState}
 use Rattle.varisat_checker.specs.declared.rup.Answer.{Answer}
+use Rattle.varisat_checker.specs.declared.rup.Answer.TheVariants.{Passed}
 use Rattle.varisat_checker.specs.CheckLaw.{AnswersCheck}
 use Rattle.varisat_checker.specs.Rup.{AreAllKnown, check_answer, clause_answer, named_buckets}
 use Rattle.varisat_checker.specs.StateOf.{state_of, stored_unit, stored_units}
 use Rattle.varisat_checker.specs.Store.{IsStore}
+use Rattle.varisat_checker.specs.Trace.{clause_trace, last_trace, named_clauses}
 use Rattle.varisat_checker.proofs.CheckLemmas.{check_is_by_rules}
 
 -- names change no unit
@@ -69,3 +72,12 @@ ready-answers st h cs known buffer c hs a s store sound here apart whole e =
 -- the state with the units of before
 pub same-units : (st : CheckerState) (h : ClauseHasher) (cs : Clauses) (known : List Known) (us : List (Option UnitClause)) (t : State) → us ≡ cs.unit_clauses → state_of st h cs known ≡ t → state_of st h (record cs { unit_clauses = us }) known ≡ t
 same-units st h cs known us t e here = ap (λ (us : List (Option UnitClause)). state_of st h (record cs { unit_clauses = us }) known) e ∙ here
+
+-- the ids that a traced check leaves where it passes
+pub ready-trace : (st : CheckerState) (h : ClauseHasher) (cs : Clauses) (known : List Known) (buffer c hs before now : List ℕ) (a : Answer) (traced : Bool) (s : State) → IsStore h cs → state_of st h cs known ≡ ready s c → buffer ≡ cs.literal_buffer.items
+    → a ≡ Passed → traced ≡ true → now ≡ last_trace traced a (clause_trace (stored_units cs.unit_clauses) c (named_clauses buffer cs.buckets hs)) before → now ≡ check_trace (ready s c) c hs
+ready-trace st h cs known buffer c hs before now a traced s store here whole passed on e =
+    let ids = clause_trace (stored_units cs.unit_clauses) c (named_clauses buffer cs.buckets hs) in
+    e ∙ ap (λ (x : Answer). last_trace traced x ids before) passed ∙ ap (λ b. cond b ids before) on
+    ∙ ap (λ (b : List ℕ). clause_trace (stored_units cs.unit_clauses) c (named_clauses b cs.buckets hs)) whole
+    ∙ check_is_by_rules.trace st h cs known c hs store.filed.bucketed ∙ ap (λ (r : State). check_trace r c hs) here

@@ -1,6 +1,6 @@
 -- Refusals, and what follows for the parts of a checker.
 use Rattle.std.specs.Result.{OnErr, OnOk}
-use Rattle.std.proofs.Common.{◌≡◌, ℕ, List, Option, None, Some, Result, Ok, Err, false, refl, sym, ap, ◌∙◌, subst}
+use Rattle.std.proofs.Common.{◌≡◌, ℕ, List, None, Some, Result, Ok, Err, false, refl, sym, ap, ◌∙◌, subst}
 use Rattle.checker_rules.specs.Canonical.{canonical}
 use Rattle.checker_rules.specs.Outcome.{Cause, Outcome, refuse}
 use Rattle.checker_rules.specs.Sound.{Sound}
@@ -12,7 +12,7 @@ use Rattle.checker_parts.specs.Causes.{cause_of}
 use Rattle.checker_parts.specs.declared.error.CheckCause.{CheckCause}
 use Rattle.checker_parts.specs.declared.error.CheckerError.{CheckerError}
 use Rattle.checker_parts.specs.declared.error.CheckerError.TheVariants.{ProofIncomplete, IoError, ParseError, CheckFailed, ProofProcessorError, OutOfMemory, Failed}
-use Rattle.varisat_checker.specs.InputCause.{IsCause, input_cause}
+use Rattle.varisat_checker.specs.InputCause.{input_cause}
 use Rattle.varisat_checker.specs.declared.clauses.Clauses.{Clauses}
 use Rattle.varisat_checker.specs.declared.hash.ClauseHasher.{ClauseHasher}
 use Rattle.varisat_checker.specs.declared.state.CheckerState.{CheckerState}
@@ -24,10 +24,10 @@ use Rattle.checker_rules.proofs.SoundStates.{sound_after}
 use Rattle.varisat_checker.proofs.AddClauseLemmas.{add-refuses}
 
 -- a refusal answers an outcome that refuses with its cause
-pub answers-refusal : (e : CheckerError) (n : ℕ) (msg : CheckCause) (cause : Cause) (o : Outcome) (s : State) → RefusesWith n msg e → cause_of msg ≡ Some cause → o.refused ≡ Some cause → s ≡ o.after → n ≡ s.steps
+pub answers-refusal : (e : CheckerError) (n : ℕ) (msg : CheckCause) (cause : Cause) (o : Outcome) (s : State) → RefusesWith n msg e → cause_of msg ≡ cause → o.refused ≡ Some cause → s ≡ o.after → n ≡ s.steps
     → AnswersParts {A = Unit {0}} (Err e) o s
 answers-refusal (CheckFailed number found debug_step) n msg cause o s h named refused after counted =
-    subst (λ (x : Option Cause). IsRefusal x number o s) (sym (ap cause_of h.1 ∙ named)) (refused, after, h.0 ∙ counted)
+    subst (λ (x : Cause). IsRefusal x number o s) (sym (ap cause_of h.1 ∙ named)) (refused, after, h.0 ∙ counted)
 answers-refusal (ProofIncomplete number) n msg cause o s h named refused after counted = absurd h
 answers-refusal (IoError number read) n msg cause o s h named refused after counted = absurd h
 answers-refusal (ParseError number kind) n msg cause o s h named refused after counted = absurd h
@@ -36,15 +36,11 @@ answers-refusal OutOfMemory n msg cause o s h named refused after counted = absu
 answers-refusal Failed n msg cause o s h named refused after counted = absurd h
 
 -- the refusal of an input clause
-pub answers-input : (e : CheckerError) (msg : CheckCause) (s : State) (ls : List ℕ) → RefusesWith s.steps msg e → s.unsat ≡ false → IsCause (cause_of msg) (input_cause s (canonical ls))
+pub answers-input : (e : CheckerError) (msg : CheckCause) (s : State) (ls : List ℕ) → RefusesWith s.steps msg e → s.unsat ≡ false → input_cause s (canonical ls) ≡ Some (cause_of msg)
     → AnswersParts {A = Unit {0}} (Err e) (step s (add_clause ls)) s
-answers-input e msg s ls h live named = by (cause_of msg) refl named
-  where
-    by : (x : Option Cause) → cause_of msg ≡ x → IsCause x (input_cause s (canonical ls)) → AnswersParts {A = Unit {0}} (Err e) (step s (add_clause ls)) s
-    by None is k = absurd k
-    by (Some cause) is k =
-        let o = add-refuses s ls cause live (sym k) in
-        answers-refusal e s.steps msg cause (step s (add_clause ls)) s h is (ap (λ (x : Outcome). x.refused) o) (sym (ap (λ (x : Outcome). x.after) o)) refl
+answers-input e msg s ls h live named =
+    let o = add-refuses s ls (cause_of msg) live (sym named) in
+    answers-refusal e s.steps msg (cause_of msg) (step s (add_clause ls)) s h refl (ap (λ (x : Outcome). x.refused) o) (sym (ap (λ (x : Outcome). x.after) o)) refl
 
 -- accepted, or want of memory
 pub answers-unless-memory : (r : Result (Unit {0}) CheckerError) (o : Outcome) (s : State) → OnOk r ((o.refused ≡ None) × (s ≡ o.after)) → OnErr r (r ≡ Err OutOfMemory) → AnswersParts r o s
@@ -57,9 +53,8 @@ answers-unless-memory (Err (ProofProcessorError fault)) o s h e = tt
 answers-unless-memory (Err OutOfMemory) o s h e = tt
 answers-unless-memory (Err Failed) o s h e = absurd cc
 
-refused-again : (x : Option Cause) (number : ℕ) (o p : Outcome) (s : State) → ((cause : Cause) → o.refused ≡ Some cause → p ≡ refuse cause o.after) → IsRefusal x number o s → IsRefusal x number p s
-refused-again None number o p s f h = absurd h
-refused-again (Some cause) number o p s f h = let e = f cause h.0 in (ap (λ (x : Outcome). x.refused) e, h.1 ∙ sym (ap (λ (x : Outcome). x.after) e), h.2)
+refused-again : (cause : Cause) (number : ℕ) (o p : Outcome) (s : State) → ((cause : Cause) → o.refused ≡ Some cause → p ≡ refuse cause o.after) → IsRefusal cause number o s → IsRefusal cause number p s
+refused-again cause number o p s f h = let e = f cause h.0 in (ap (λ (x : Outcome). x.refused) e, h.1 ∙ sym (ap (λ (x : Outcome). x.after) e), h.2)
 
 -- the refusal of a part is that of the whole
 pub answers-part : (e : CheckerError) (o p : Outcome) (s : State) → ((cause : Cause) → o.refused ≡ Some cause → p ≡ refuse cause o.after) → AnswersParts {A = Unit {0}} (Err e) o s → AnswersParts {A = Unit {0}} (Err e) p s
@@ -71,14 +66,10 @@ answers-part (ProofProcessorError fault) o p s f h = tt
 answers-part OutOfMemory o p s f h = tt
 answers-part Failed o p s f h = absurd h
 
-refused-after : (x : Option Cause) (number : ℕ) (o : Outcome) (s : State) → IsRefusal x number o s → s ≡ o.after
-refused-after None number o s h = absurd h
-refused-after (Some cause) number o s h = h.1
-
 -- a sound outcome, whatever the answer
 pub sound-answer : {A : Type 0} (r : Result A CheckerError) (o : Outcome) (s : State) → Sound o.after → AnswersParts r o s → UnlessFailed r (Sound s)
 sound-answer (Ok done) o s k h = subst Sound (sym h.1) k
-sound-answer (Err (CheckFailed number msg debug_step)) o s k h = subst Sound (sym (refused-after (cause_of msg) number o s h)) k
+sound-answer (Err (CheckFailed number msg debug_step)) o s k h = subst Sound (sym h.1) k
 sound-answer (Err (ProofIncomplete number)) o s k h = absurd h
 sound-answer (Err (IoError number read)) o s k h = absurd h
 sound-answer (Err (ParseError number kind)) o s k h = absurd h

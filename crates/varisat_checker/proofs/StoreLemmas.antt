@@ -1,5 +1,5 @@
 -- The stored clauses through changes of their buckets.
-use Rattle.std.proofs.Common.{◌≡◌, ℕ, zero, suc, ◌<◌, ◌≤◌, Bool, true, false, cond, eqb, leb, List, [], ◌∷◌, set, Option, Some, None, sym, ap, ◌∙◌, subst, arith}
+use Rattle.std.proofs.Common.{◌≡◌, ℕ, zero, suc, ◌<◌, ◌≤◌, Bool, true, false, cond, eqb, leb, List, [], ◌∷◌, length, set, Option, Some, None, sym, ap, ◌∙◌, subst, arith}
 use Rattle.std.specs.List.{list_all}
 use Rattle.std.specs.Option.{option_map}
 use Rattle.std.proofs.lemmas.List.{map-set}
@@ -15,6 +15,7 @@ use Rattle.checker_rules.proofs.Entries.{apart_filter}
 use Rattle.varisat_checker.specs.declared.clauses.Clauses.{Clauses}
 use Rattle.varisat_checker.specs.declared.clauses.units.UnitClause.{UnitClause}
 use Rattle.varisat_checker.specs.declared.hash.ClauseHasher.{ClauseHasher}
+use Rattle.varisat_checker.specs.Counts.{AreCounts}
 use Rattle.varisat_checker.specs.Found.{found_in}
 use Rattle.varisat_checker.specs.StateOf.{hash_of, stored_unit, stored_units}
 use Rattle.varisat_checker.specs.Store.{Files, IsStore, is_stored_unit}
@@ -49,8 +50,8 @@ ids_rise-more a n m [] le h = grind (arith, le, h)
 ids_rise-more a n m (e ∷ es) le h = let k = and_parts (leb a e.id) (ids_rise (suc e.id) es n) h in and_from _ _ k.0 (ids_rise-more (suc e.id) n m es le k.1)
 
 -- other units and a later id
-pub is_store-units : (h : ClauseHasher) (cs : Clauses) (us : List (Option UnitClause)) (conflict : Option (ℕ × ℕ)) (n : ℕ) → cs.next_clause_id ≤ n → list_all is_stored_unit us ≡ true → IsStore h cs → IsStore h (record cs { unit_clauses = us; unit_conflict = conflict; next_clause_id = n })
-is_store-units h cs us conflict n le units s = record {
+pub is_store-units : (h : ClauseHasher) (cs : Clauses) (us : List (Option UnitClause)) (conflict : Option (ℕ × ℕ)) (n : ℕ) → cs.next_clause_id ≤ n → list_all is_stored_unit us ≡ true → length us ≡ length cs.unit_clauses → IsStore h cs → IsStore h (record cs { unit_clauses = us; unit_conflict = conflict; next_clause_id = n })
+is_store-units h cs us conflict n le units long s = record {
   filed = let f = s.filed in record {
     some_bits = f.some_bits;
     bits = f.bits;
@@ -63,6 +64,7 @@ is_store-units h cs us conflict n le units s = record {
   };
   garbage = s.garbage;
   units = units;
+  counts = subst (λ k. AreCounts cs.lit_counts k (stored_list cs)) (sym long) s.counts;
 }
 
 -- one more value is a stored unit's
@@ -74,6 +76,10 @@ list_all-set p (x ∷ xs) (suc i) y h k = let q = and_parts (p x) (list_all p xs
 -- the unit of a variable
 pub unit_of-stored_units : (us : List (Option UnitClause)) (v : ℕ) → unit_of (stored_units us) v ≡ option_map stored_unit (unit_at us v)
 unit_of-stored_units us v = get_or-map (option_map stored_unit) us v None
+
+-- read at an index
+pub unit_is : (us : List (Option UnitClause)) (o : Option UnitClause) (i v : ℕ) → o ≡ unit_at us i → i ≡ v → unit_of (stored_units us) v ≡ option_map stored_unit o
+unit_is us o i v h e = unit_of-stored_units us v ∙ ap (λ k. option_map stored_unit (unit_at us k)) (sym e) ∙ ap (option_map stored_unit) (sym h)
 
 pub stored_units-set : (us : List (Option UnitClause)) (v : ℕ) (u : UnitClause) → stored_units (set us v (Some u)) ≡ set (stored_units us) v (Some (stored_unit u))
 stored_units-set us v u = map-set (option_map stored_unit) us v (Some u)

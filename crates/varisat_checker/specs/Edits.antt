@@ -5,6 +5,7 @@ use Rattle.checker_rules.specs.State.{Stored}
 use Rattle.checker_rules.specs.Store.{raise}
 use Rattle.varisat_checker.specs.declared.clauses.Clauses.{Clauses}
 use Rattle.varisat_checker.specs.Buckets.{AreWithin, Buckets, clauses_at}
+use Rattle.varisat_checker.specs.Counts.{HoldOneMore}
 use Rattle.varisat_checker.specs.Lits.{IsWithin}
 use Rattle.varisat_checker.specs.View.{stored_at, stored_in}
 
@@ -14,7 +15,8 @@ pub record IsRaised (buffer : List ℕ) (hash : ℕ) (redundant : Bool) (c : Lis
   pub within : All (λ d. IsWithin d.lits buffer) (clauses_at m' hash)
   pub others : (k : ℕ) → (k ≡ hash → ⊥) → clauses_at m' k ≡ clauses_at m k
 
--- one more clause stands at the end of the bucket, and its literals in the buffer if there are more than three; an id is taken
+-- one more clause stands at the end of the bucket, and its literals in the buffer if there are more than three; an id is taken,
+-- and its literals are counted
 pub record IsPushed (hash : ℕ) (e : Stored) (cs cs' : Clauses) : Type 0 where
   pub here : stored_at cs' hash ≡ stored_at cs hash ++ e ∷ []
   pub others : (k : ℕ) → (k ≡ hash → ⊥) → stored_at cs' k ≡ stored_at cs k
@@ -22,6 +24,8 @@ pub record IsPushed (hash : ℕ) (e : Stored) (cs cs' : Clauses) : Type 0 where
   pub used : length cs'.literal_buffer.items ≡ length cs.literal_buffer.items + live_of e.lits
   pub next : cs'.next_clause_id ≡ cs.next_clause_id + 1
   pub garbage : cs'.garbage_size ≡ cs.garbage_size
+  pub held : HoldOneMore e.lits cs.lit_counts cs'.lit_counts
+  pub counted : length cs'.lit_counts ≡ length cs.lit_counts
   pub units : cs'.unit_clauses ≡ cs.unit_clauses
   pub conflict : cs'.unit_conflict ≡ cs.unit_conflict
 

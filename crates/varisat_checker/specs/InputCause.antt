@@ -18,15 +18,10 @@ input_cause s c =
     (cond (not (ltb s.next id_limit)) (Some ids_exhausted)
     (cond (leb count_limit (count_of false c s.clauses)) (Some count_exhausted) None))
 
--- both name the same cause
-abbrev pub IsCause : Option Cause → Option Cause → Type 0
-IsCause None found = ⊥
-IsCause (Some cause) found = found ≡ Some cause
-
 -- the cause of the code is that cause
 abbrev pub IsInputCause : Option CheckCause → State → List ℕ → Type 0
 IsInputCause None s c = input_cause s c ≡ None
-IsInputCause (Some msg) s c = IsCause (cause_of msg) (input_cause s c)
+IsInputCause (Some msg) s c = input_cause s c ≡ Some (cause_of msg)
 
 -- an id is left, and a copy can be counted
 pub record HasRoom (s : State) (c : List ℕ) : Type 0 where

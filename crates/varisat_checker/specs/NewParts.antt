@@ -20,5 +20,6 @@ pub record IsEmptyStore (cs : Clauses) : Type 0 where
   pub buffer : cs.literal_buffer.items ≡ []
   pub garbage : cs.garbage_size ≡ 0
   pub buckets : IsEmpty cs.buckets
+  pub counts : cs.lit_counts ≡ []
   pub units : cs.unit_clauses ≡ []
   pub conflict : cs.unit_conflict ≡ None

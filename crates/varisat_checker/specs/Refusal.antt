@@ -1,8 +1,11 @@
 -- Refusals as errors.
 use Rattle.std.specs.Prelude.{◌≡◌, ℕ}
 use Rattle.checker_parts.specs.declared.error.CheckCause.{CheckCause}
+use Rattle.checker_parts.specs.declared.error.CheckCause.TheVariants as causes
 use Rattle.checker_parts.specs.declared.error.CheckerError.{CheckerError}
 use Rattle.checker_parts.specs.declared.error.CheckerError.TheVariants.{ProofIncomplete, IoError, ParseError, CheckFailed, ProofProcessorError, OutOfMemory, Failed}
+use Rattle.varisat_checker.specs.declared.clauses.store.StoreFault.{StoreFault}
+use Rattle.varisat_checker.specs.declared.clauses.store.StoreFault.TheVariants as faults
 
 -- the error is a refusal with this cause at this step, whatever text it shows
 abbrev pub RefusesWith : ℕ → CheckCause → CheckerError → Type 0
@@ -23,3 +26,9 @@ IsSameFault (ParseError step kind) e = e ≡ ParseError step kind
 IsSameFault (ProofProcessorError fault) e = e ≡ ProofProcessorError fault
 IsSameFault OutOfMemory e = e ≡ OutOfMemory
 IsSameFault Failed e = e ≡ Failed
+
+-- the error where a clause is not stored, at this step
+abbrev pub IsStoreRefusal : StoreFault → ℕ → CheckerError → Type 0
+IsStoreRefusal faults.OutOfMemory n e = e ≡ OutOfMemory
+IsStoreRefusal faults.IdsExhausted n e = RefusesWith n causes.IdsExhausted e
+IsStoreRefusal faults.CountExhausted n e = RefusesWith n causes.CountExhausted e

@@ -19,6 +19,7 @@ use Rattle.varisat_checker.specs.declared.clauses.units.UnitId.{UnitId}
 use Rattle.varisat_checker.specs.declared.clauses.units.UnitId.TheVariants.{Global, TracePos, InClause}
 use Rattle.varisat_checker.specs.declared.hash.ClauseHasher.{ClauseHasher}
 use Rattle.varisat_checker.specs.Buckets.{AreWithin}
+use Rattle.varisat_checker.specs.Counts.{AreCounts}
 use Rattle.varisat_checker.specs.Edits.{IsPushed}
 use Rattle.varisat_checker.specs.StateOf.{hash_of}
 use Rattle.varisat_checker.specs.View.{stored_at, stored_list}
@@ -49,11 +50,13 @@ pub record Files (h : ClauseHasher) (cs : Clauses) (es : List Stored) : Type 0 w
   pub whole : list_all is_whole es ≡ true
   pub used : length cs.literal_buffer.items ≡ live_literals es + cs.garbage_size
 
--- what is kept between calls: the stored clauses are filed, at most half of the buffer is garbage, and all values are those of stored units
+-- what is kept between calls: the stored clauses are filed, at most half of the buffer is garbage, all values are those of stored units,
+-- and the literals of the known variables are counted
 pub record IsStore (h : ClauseHasher) (cs : Clauses) : Type 0 where
   pub filed : Files h cs (stored_list cs)
   pub garbage : 2 * cs.garbage_size ≤ length cs.literal_buffer.items
   pub units : list_all is_stored_unit cs.unit_clauses ≡ true
+  pub counts : AreCounts cs.lit_counts (length cs.unit_clauses) (stored_list cs)
 
 -- what an attempt to push a new clause answers
 abbrev pub AnswersPush : Result (ℕ × StoreClauseResult) StoreFault → ℕ → List ℕ → Bool → Clauses → Clauses → Type 0

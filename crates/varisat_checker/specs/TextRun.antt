@@ -1,7 +1,7 @@
 -- The clauses of a DIMACS text, added one after the other.
 --     EndsText known clauses r      these clauses of the text were given when the call answered r
 --     TextRun known s r u      they were added to s, and what follows for the satisfying set
-use Rattle.std.specs.Prelude.{◌≡◌, ℕ, List, ◌++◌, map, Option, Result, Ok, Err}
+use Rattle.std.specs.Prelude.{ℕ, List, ◌++◌, map, Option, Result, Ok, Err}
 use Rattle.std.specs.Option.{option_map}
 use Rattle.checker_rules.specs.AddFormula.{add_clauses, added}
 use Rattle.checker_rules.specs.State.{State}

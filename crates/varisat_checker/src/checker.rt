@@ -6,6 +6,7 @@ ghost use Rattle.varisat_checker.specs.Failing.{has_failed};
 use crate::check::{attempt_step, process_unit_conflicts};
 use crate::context::ContextOf;
 use crate::internal::SelfChecker;
+use crate::processing::ProcessingOf;
 use crate::proof;
 use crate::steps::add_clause;
 use checker_parts::error::{CheckerError, DimacsError};
@@ -27,23 +28,31 @@ pub struct CheckerOf<P, T> {
 /// A checker whose processors are boxes.
 pub type Checker = CheckerOf<Box<dyn ProofProcessor>, Box<dyn ProofTranscriptProcessor>>;
 
-#[tactic(auto, unfolding(crate::specs::Shown::state))]
+#[tactic(auto, unfolding(crate::specs::Shown::state, crate::specs::Shown::boxes))]
 impl<P: ProofProcessor, T: ProofTranscriptProcessor> CheckerOf<P, T> {
-    ghost use Rattle.std.specs.Prelude.{◌≡◌, ◌++◌, true, false, List, map};
+    ghost use Rattle.std.specs.Prelude.{◌≡◌, ◌++◌, ◌∷◌, [], true, false, List, map, Err, IfErr, OnErr, OnOk, ◌*◌, ◌≤◌};
     ghost use Rattle.checker_rules.specs.AddFormula.{add_clauses, added};
-    ghost use Rattle.checker_rules.specs.Calls.{shown_inputs, shown_unsat};
+    ghost use Rattle.checker_rules.specs.CallEmissions.{EmitsCall, EmitsCalls};
+    ghost use Rattle.checker_rules.specs.Calls.{adds, shown_inputs, shown_unsat};
     ghost use Rattle.checker_rules.specs.Step as rules;
     ghost use Rattle.checker_rules.specs.Steps.{new_state, step};
+    ghost use Rattle.checker_parts.specs.declared.error.CheckerError.TheVariants.{Failed, OutOfMemory};
     ghost use Rattle.checker_parts.specs.Answers.{AnswersStep, CoversFold, IsCovered, IsFold, SetsFold, UnlessFailed};
+    ghost use Rattle.varisat_checker.specs.Certified.{Certifies};
     ghost use Rattle.varisat_checker.specs.Failing.{IsFailed, IsTextFailed, RecordsFailure};
+    ghost use Rattle.varisat_checker.specs.Handed.{Handed};
+    ghost use Rattle.varisat_checker.specs.ProofHanded.{ProofHanded};
     ghost use Rattle.varisat_checker.specs.ProofRun.{ProofRun};
-    ghost use Rattle.varisat_checker.specs.Shown.{state};
+    ghost use Rattle.varisat_checker.specs.Shown.{boxes, state, buffer_length, shown_literals};
     ghost use Rattle.varisat_checker.specs.TextFault.{IsTextFault};
+    ghost use Rattle.varisat_checker.specs.TextHanded.{TextHanded};
     ghost use Rattle.varisat_checker.specs.TextRun.{TextRun};
 
     /// A checker with nothing stored. Takes no memory.
     pub fn new(alloc: Global) -> CheckerOf<P, T>
-        ensures { state result ≡ new_state }
+        ensures state { state result ≡ new_state }
+        ensures processors { (boxes result).processors ≡ [] }
+        ensures transcripts { (boxes result).transcripts ≡ [] }
     {
         CheckerOf {
             ctx: ContextOf::new(alloc),
@@ -57,6 +66,8 @@ impl<P: ProofProcessor, T: ProofTranscriptProcessor> CheckerOf<P, T> {
         ensures step { (state self.old).failed ≡ false → AnswersStep result (step (state self.old) (rules.add_clause clause.now)) (state self.new) }
         ensures headline { (state self.old).failed ≡ false → (before : List rules.Step) → IsFold before (state self.old) → SetsFold result before (rules.add_clause clause.now) (state self.new) }
         ensures covers { (state self.old).failed ≡ false → (before : List rules.Step) → IsCovered before (state self.old) → CoversFold result before (rules.add_clause clause.now) (state self.new) }
+        ensures handed { (state self.old).failed ≡ false → Handed result (EmitsCall (state self.old) (adds clause.now)) P.took P.faulted T.took T.faulted (boxes self.old) (boxes self.new) }
+        ensures certified { (state self.old).failed ≡ false → Certifies result (EmitsCall (state self.old) (adds clause.now)) (state self.old) (state self.new) }
     {
         if self.ctx.checker_state.failed {
             return Err(CheckerError::Failed);
@@ -74,6 +85,8 @@ impl<P: ProofProcessor, T: ProofTranscriptProcessor> CheckerOf<P, T> {
         ensures steps { (state self.old).failed ≡ false → AnswersStep result (add_clauses (state self.old) formula.now) (state self.new) }
         ensures headline { (state self.old).failed ≡ false → (before : List rules.Step) → IsFold before (state self.old) → UnlessFailed result (IsFold (before ++ map rules.add_clause (added (state self.old) formula.now)) (state self.new)) }
         ensures covers { (state self.old).failed ≡ false → (before : List rules.Step) → IsCovered before (state self.old) → UnlessFailed result (IsCovered (before ++ map rules.add_clause (added (state self.old) formula.now)) (state self.new)) }
+        ensures handed { (state self.old).failed ≡ false → Handed result (EmitsCalls (state self.old) (map adds (added (state self.old) formula.now))) P.took P.faulted T.took T.faulted (boxes self.old) (boxes self.new) }
+        ensures certified { (state self.old).failed ≡ false → Certifies result (EmitsCalls (state self.old) (map adds (added (state self.old) formula.now))) (state self.old) (state self.new) }
     {
         if self.ctx.checker_state.failed {
             return Err(CheckerError::Failed);
@@ -94,6 +107,7 @@ impl<P: ProofProcessor, T: ProofTranscriptProcessor> CheckerOf<P, T> {
     ) -> Result<(), DimacsError>
         ensures failed { (state self.old).failed ≡ true → IsTextFailed result × (self.new ≡ self.old) }
         ensures text { (state self.old).failed ≡ false → TextRun (R.remaining input) (state self.old) result (state self.new) }
+        ensures handed { (state self.old).failed ≡ false → TextHanded (R.remaining input) (state self.old) result (state self.new) P.took P.faulted T.took T.faulted (boxes self.old) (boxes self.new) }
     {
         if self.ctx.checker_state.failed {
             return Err(DimacsError::Checker(CheckerError::Failed));
@@ -116,7 +130,8 @@ impl<P: ProofProcessor, T: ProofTranscriptProcessor> CheckerOf<P, T> {
 
     /// The answer for a fault of a formula's text. Want of memory fails the checker.
     fn text_fault(&mut self, fault: DimacsFault) -> DimacsError
-        ensures { IsTextFault fault (state self.old) result (state self.new) }
+        ensures fault { IsTextFault fault (state self.old) result (state self.new) }
+        ensures boxes { boxes self.new ≡ boxes self.old }
     {
         match fault {
             DimacsFault::Read(cause) => DimacsError::Read(cause),
@@ -140,6 +155,7 @@ impl<P: ProofProcessor, T: ProofTranscriptProcessor> CheckerOf<P, T> {
         ensures failed { (state self.old).failed ≡ true → IsFailed result × (self.new ≡ self.old) }
         ensures run { (state self.old).failed ≡ false → ProofRun (R.remaining proof) (state self.old) result (state self.new) }
         ensures records { RecordsFailure result (state self.new) }
+        ensures handed { (state self.old).failed ≡ false → ProofHanded (R.remaining proof) (state self.old) result (state self.new) P.took P.faulted T.took T.faulted (boxes self.old) (boxes self.new) }
     {
         if self.ctx.checker_state.failed {
             return Err(CheckerError::Failed);
@@ -149,6 +165,55 @@ impl<P: ProofProcessor, T: ProofTranscriptProcessor> CheckerOf<P, T> {
             self.ctx.checker_state.failed = true;
         }
         answer
+    }
+
+    /// Registers a processor after those that stand already. A refused one is handed back, and the checker is as it was.
+    pub fn add_processor(&mut self, processor: P) -> Result<(), (P, CheckerError)>
+        ensures failed { (state self.old).failed ≡ true → (result ≡ Err (processor, Failed)) × (self.new ≡ self.old) }
+        ensures state { state self.new ≡ state self.old }
+        ensures registered { OnOk result (boxes self.new ≡ record (boxes self.old) { processors = (boxes self.old).processors ++ processor ∷ [] }) }
+        ensures refused { OnErr result (boxes self.new ≡ boxes self.old) }
+        ensures returned { (state self.old).failed ≡ false → IfErr result (λ refusal. refusal ≡ (processor, OutOfMemory)) }
+    {
+        if self.ctx.checker_state.failed {
+            return Err((processor, CheckerError::Failed));
+        }
+        match self.ctx.processing.processors.push(processor) {
+            Ok(()) => Ok(()),
+            Err(refused) => Err((refused.value, CheckerError::OutOfMemory)),
+        }
+    }
+
+    /// Registers a transcript after those that stand already. A refused one is handed back, and the checker is as it was.
+    pub fn add_transcript(&mut self, transcript: T) -> Result<(), (T, CheckerError)>
+        ensures failed { (state self.old).failed ≡ true → (result ≡ Err (transcript, Failed)) × (self.new ≡ self.old) }
+        ensures state { state self.new ≡ state self.old }
+        ensures registered { OnOk result (boxes self.new ≡ record (boxes self.old) { transcripts = (boxes self.old).transcripts ++ transcript ∷ [] }) }
+        ensures refused { OnErr result (boxes self.new ≡ boxes self.old) }
+        ensures returned { (state self.old).failed ≡ false → IfErr result (λ refusal. refusal ≡ (transcript, OutOfMemory)) }
+    {
+        if self.ctx.checker_state.failed {
+            return Err((transcript, CheckerError::Failed));
+        }
+        match self.ctx.processing.transcript_processors.push(transcript) {
+            Ok(()) => Ok(()),
+            Err(refused) => Err((refused.value, CheckerError::OutOfMemory)),
+        }
+    }
+
+    /// Ends the checker, and hands back the processors and the transcripts, each in order of registration.
+    pub fn into_processors(self) -> (Vec<P>, Vec<T>)
+        ensures processors { result.0.items ≡ (boxes self).processors }
+        ensures transcripts { result.1.items ≡ (boxes self).transcripts }
+    {
+        let CheckerOf { ctx, .. } = self;
+        let ContextOf { processing, .. } = ctx;
+        let ProcessingOf {
+            processors,
+            transcript_processors,
+            ..
+        } = processing;
+        (processors, transcript_processors)
     }
 
     /// Whether unsatisfiability is recorded and the checker has not failed.
@@ -168,13 +233,33 @@ impl<P: ProofProcessor, T: ProofTranscriptProcessor> CheckerOf<P, T> {
             self.ctx.checker_state.input_clauses
         }
     }
+
+    /// The length of the literal buffer, and how many literals of it are those of stored clauses; (0, 0) of a checker that has failed.
+    ///
+    /// Only clauses that are longer than three stand in the buffer.
+    #[tactic(auto, unfolding(crate::specs::Shown::buffer_length, crate::specs::Shown::state))]
+    pub fn literal_counts(&self) -> (usize, usize)
+        ensures buffer { result.0 ≡ buffer_length self.now }
+        ensures literals { result.1 ≡ shown_literals (state self.now) }
+        ensures bound { result.0 ≤ 2 * result.1 }
+    {
+        if self.ctx.checker_state.failed {
+            return (0, 0);
+        }
+        let clauses = &self.ctx.clauses;
+        let length = clauses.literal_buffer.len();
+        (length, length - clauses.garbage_size)
+    }
 }
 
-#[tactic(auto, unfolding(crate::specs::Shown::state))]
+#[tactic(auto, unfolding(crate::specs::Shown::state, crate::specs::Shown::boxes))]
 impl<P: ProofProcessor, T: ProofTranscriptProcessor> SelfChecker for CheckerOf<P, T> {
-    ghost use Rattle.varisat_checker.specs.Shown.{state};
+    ghost use Rattle.varisat_checker.specs.Handed.{Handed};
+    ghost use Rattle.varisat_checker.specs.Shown.{boxes, state};
 
     ghost shown = { λ c. state c };
+
+    ghost hands = { λ answer emitted old new. Handed answer emitted P.took P.faulted T.took T.faulted (boxes old) (boxes new) };
 
     fn self_check_step(&mut self, step: ProofStep) -> Result<(), CheckerError> {
         if self.ctx.checker_state.failed {

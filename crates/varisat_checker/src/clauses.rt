@@ -5,6 +5,7 @@ ghost use Rattle.checker_rules.specs.Store.{id_limit};
 
 pub mod buckets;
 pub mod collect;
+pub mod counts;
 pub mod delete;
 pub mod lits;
 pub mod lower;
@@ -13,6 +14,7 @@ pub mod store;
 pub mod units;
 
 use crate::clauses::buckets::Buckets;
+use crate::clauses::counts::LitCounts;
 use crate::clauses::lits::ClauseLits;
 use crate::clauses::units::Units;
 use sat_formula::Lit;
@@ -69,6 +71,7 @@ pub struct Clauses {
     pub literal_buffer: Vec<Lit>,
     pub garbage_size: usize,
     pub buckets: Buckets,
+    pub lit_counts: LitCounts,
     pub unit_clauses: Units,
     pub unit_conflict: Option<(u64, u64)>,
 }
@@ -87,6 +90,7 @@ impl Clauses {
             literal_buffer: Vec::new(alloc),
             garbage_size: 0,
             buckets: HashMap::new(alloc),
+            lit_counts: LitCounts::new(alloc),
             unit_clauses: Units::new(alloc),
             unit_conflict: None,
         }

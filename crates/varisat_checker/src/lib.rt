@@ -5,6 +5,7 @@ pub mod check;
 pub mod checker;
 pub mod clauses;
 pub mod context;
+mod emit;
 pub mod hash;
 pub mod internal;
 pub mod laws;

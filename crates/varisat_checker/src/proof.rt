@@ -2,6 +2,8 @@
 ghost use Rattle.std.specs.Prelude.{◌≡◌, ℕ};
 ghost use Rattle.checker_parts.specs.Answers.{UnlessFailed};
 ghost use Rattle.varisat_checker.specs.Context.{IsKept, context_state};
+ghost use Rattle.varisat_checker.specs.Handed.{boxes_of};
+ghost use Rattle.varisat_checker.specs.ProofHanded.{ProofHanded};
 ghost use Rattle.varisat_checker.specs.ProofRun.{ProofRun};
 ghost use Rattle.varisat_checker.specs.ReadFault.{IsReadFault};
 
@@ -30,6 +32,7 @@ pub fn check_proof<P: ProofProcessor, T: ProofTranscriptProcessor, L: Log, R: Re
     requires { IsKept ctx.old }
     ensures run { ProofRun (R.remaining proof) (context_state ctx.old) result (context_state ctx.new) }
     ensures kept { UnlessFailed result (IsKept ctx.new) }
+    ensures handed { ProofHanded (R.remaining proof) (context_state ctx.old) result (context_state ctx.new) P.took P.faulted T.took T.faulted (boxes_of ctx.old.processing) (boxes_of ctx.new.processing) }
 {
     let mut reader = StepReader::new(alloc, proof);
     'steps: while !ctx.checker_state.ended {

@@ -103,7 +103,6 @@ fn causes(rt: HostRuntime) -> Result<(), Fail> {
         (CheckCause::IdsExhausted, "no clause id left"),
         (CheckCause::CountExhausted, "clause count exhausted"),
         (CheckCause::StepsExhausted, "no step number left"),
-        (CheckCause::NotYet, "step kind not checked yet"),
     ];
     for (cause, text) in rows {
         assert!(rt; is_text(rt.alloc(), cause, text)?);

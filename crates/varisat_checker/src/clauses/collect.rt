@@ -23,6 +23,7 @@ pub fn collect_garbage(
     ensures filed { OnOk result (Files hasher.now clauses.new (stored_list clauses.old)) }
     ensures garbage { OnOk result (2 * clauses.new.garbage_size ≤ length clauses.new.literal_buffer.items) }
     ensures rest { OnOk result (KeepsRest clauses.old clauses.new) }
+    ensures counts { OnOk result (clauses.new.lit_counts ≡ clauses.old.lit_counts) }
 {
     if clauses.garbage_size <= clauses.literal_buffer.len() / 2 {
         return Ok(());

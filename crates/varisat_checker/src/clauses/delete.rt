@@ -1,8 +1,10 @@
 //! Deleting copies of clauses.
-ghost use Rattle.std.specs.Prelude.{◌≡◌, ◌<◌, List, IfErr, IfOk, OnErr, OnOk, length, map};
+ghost use Rattle.std.specs.Prelude.{◌≡◌, ◌<◌, List, IfErr, IfOk, OnErr, OnOk, length, map, true};
 ghost use Rattle.checker_rules.specs.Buckets.{remaining};
+ghost use Rattle.checker_rules.specs.Clauses.{is_canonical};
 ghost use Rattle.checker_rules.specs.State.{Known};
 ghost use Rattle.checker_rules.specs.Store.{lower};
+ghost use Rattle.varisat_checker.specs.Counts.{AreCounts};
 ghost use Rattle.varisat_checker.specs.Delete.{AnswersDelete, UnlessOutOfMemory, deleted_as};
 ghost use Rattle.varisat_checker.specs.Edits.{KeepsRest};
 ghost use Rattle.varisat_checker.specs.Lowered.{IsLeft, IsMissing};
@@ -40,7 +42,7 @@ impl From<AllocError> for DeleteFault {
     }
 }
 
-/// Deletes one copy of the kind, and answers the clause's id. After `OutOfMemory` the parts are of no use.
+/// Deletes one copy of the kind of a canonical clause, and answers the clause's id. After `OutOfMemory` the parts are of no use.
 pub fn delete_clause(
     alloc: Global,
     hasher: &ClauseHasher,
@@ -48,7 +50,8 @@ pub fn delete_clause(
     lits: &[Lit],
     redundant: bool,
 ) -> Result<(u64, DeleteClauseResult), DeleteFault>
-    requires { IsStore hasher.now clauses.old }
+    requires store { IsStore hasher.now clauses.old }
+    requires canonical { is_canonical lits.now ≡ true }
     ensures answer { (st : CheckerState) (known : List Known) → AnswersDelete result lits.now redundant (state_of st hasher.now clauses.old known) (state_of st hasher.now clauses.new known) }
     ensures store { UnlessOutOfMemory result (IsStore hasher.now clauses.new) }
 {
@@ -78,16 +81,19 @@ fn deleted_as(left: &Left, redundant: bool) -> DeleteClauseResult
     }
 }
 
-/// Takes one copy of a clause away. The literals of a clause that goes are garbage.
+/// Takes one copy of a clause away. The literals of a clause that goes are garbage, and it holds them no longer.
 fn take_copy(
     hasher: &ClauseHasher,
     clauses: &mut Clauses,
     lits: &[Lit],
     redundant: bool,
 ) -> Result<Left, Missing>
-    requires { Files hasher.now clauses.old (stored_list clauses.old) }
+    requires filed { Files hasher.now clauses.old (stored_list clauses.old) }
+    requires counts { AreCounts clauses.old.lit_counts (length clauses.old.unit_clauses) (stored_list clauses.old) }
+    requires canonical { is_canonical lits.now ≡ true }
     ensures left { IfOk result (IsLeft redundant lits.now (stored_list clauses.old)) }
     ensures filed { OnOk result (Files hasher.now clauses.new (remaining (map (lower redundant lits.now) (stored_list clauses.old)))) }
+    ensures counts { OnOk result (AreCounts clauses.new.lit_counts (length clauses.old.unit_clauses) (remaining (map (lower redundant lits.now) (stored_list clauses.old)))) }
     ensures rest { OnOk result (KeepsRest clauses.old clauses.new) }
     ensures missing { IfErr result (IsMissing redundant lits.now (stored_list clauses.old)) }
     ensures still_filed { OnErr result (Files hasher.now clauses.new (stored_list clauses.old)) }
@@ -98,6 +104,7 @@ fn take_copy(
     let left = lower_clause(&mut clauses.buckets, buffer, hash, lits, redundant)?;
     if left.is_gone() {
         clauses.garbage_size += ClauseLits::buffer_size(lits);
+        clauses.lit_counts.lower(lits);
     }
     Ok(left)
 }

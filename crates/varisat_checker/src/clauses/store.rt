@@ -1,7 +1,8 @@
 //! Storing clauses.
-ghost use Rattle.std.specs.Prelude.{◌≡◌, ◌+◌, ◌/◌, ◌<◌, ◌≤◌, ◌∷◌, [], ℕ, Bool, List, Some, true, length, IfErr, IfOk, OnErr, OnOk, slice_set};
+ghost use Rattle.std.specs.Prelude.{◌≡◌, ◌+◌, ◌*◌, ◌/◌, ◌<◌, ◌≤◌, ◌∷◌, [], ℕ, Bool, List, Some, true, length, IfErr, IfOk, OnErr, OnOk, slice_index, slice_set};
 ghost use Rattle.std.specs.Result.{OkIff};
 ghost use Rattle.checker_rules.specs.Canonical.{var_bound};
+ghost use Rattle.checker_rules.specs.Clauses.{is_canonical};
 ghost use Rattle.checker_rules.specs.State.{Known};
 ghost use Rattle.checker_rules.specs.Store.{count_of, id_limit};
 ghost use Rattle.varisat_checker.specs.Buckets.{AreWithin, first_copy_of};
@@ -65,6 +66,7 @@ pub fn store_clause(
     redundant: bool,
 ) -> Result<(u64, StoreClauseResult), StoreFault>
     requires store { IsStore hasher.now clauses.old }
+    requires canonical { is_canonical lits.now ≡ true }
     requires known { var_bound lits.now ≤ length clauses.old.unit_clauses }
     ensures answer { (known : List Known) → AnswersStore result lits.now redundant (state_of state.old hasher.now clauses.old known) (state_of state.new hasher.now clauses.new known) }
     ensures store { UnlessOutOfMemory result (IsStore hasher.now clauses.new) }
@@ -154,7 +156,7 @@ fn put_conflict(
 }
 
 /// The id of a stored unit.
-fn global_id(unit: &UnitClause) -> u64
+pub(crate) fn global_id(unit: &UnitClause) -> u64
     ensures { result ≡ id_of_unit unit.now.id }
 {
     match unit.id {
@@ -173,6 +175,8 @@ fn store_long(
 ) -> Result<(u64, StoreClauseResult), StoreFault>
     requires store { IsStore hasher.now clauses.old }
     requires long { 1 < length lits.now }
+    requires canonical { is_canonical lits.now ≡ true }
+    requires known { var_bound lits.now ≤ length clauses.old.unit_clauses }
     ensures answer { (st : CheckerState) (known : List Known) → AnswersStore result lits.now redundant (state_of st hasher.now clauses.old known) (state_of st hasher.now clauses.new known) }
     ensures store { UnlessOutOfMemory result (IsStore hasher.now clauses.new) }
 {
@@ -206,6 +210,8 @@ fn push_new(
 ) -> Result<(u64, StoreClauseResult), StoreFault>
     requires within { AreWithin clauses.old.literal_buffer.items clauses.old.buckets }
     requires long { 1 < length lits.now }
+    requires canonical { is_canonical lits.now ≡ true }
+    requires known { 2 * var_bound lits.now ≤ length clauses.old.lit_counts }
     ensures { AnswersPush result hash lits.now redundant clauses.old clauses.new }
 {
     let Some(id) = clauses.take_id() else {
@@ -214,6 +220,7 @@ fn push_new(
     let kept = ClauseLits::new(lits, &mut clauses.literal_buffer)?;
     let clause = first_copy(id, redundant, kept);
     push_clause(alloc, &mut clauses.buckets, hash, clause)?;
+    clauses.lit_counts.raise(lits)?;
     Ok((id, StoreClauseResult::New))
 }
 

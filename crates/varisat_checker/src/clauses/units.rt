@@ -107,6 +107,7 @@ impl Model for Units {
 }
 
 impl Units {
+    ghost use Rattle.checker_rules.specs.Clauses.{negate};
     ghost use Rattle.varisat_checker.specs.Rup.{true_lits};
     ghost use Rattle.varisat_checker.specs.StateOf.{stored_units};
     ghost use Rattle.varisat_checker.specs.Trace as traces;
@@ -176,6 +177,13 @@ impl Units {
         ensures { result ≡ true_lits self.now lit }
     {
         matches!(self.lit_value(lit), Some(true))
+    }
+
+    /// Whether its variable's value makes the literal false.
+    pub fn is_false(&self, lit: Lit) -> bool
+        ensures { result ≡ true_lits self.now (negate lit) }
+    {
+        self.lit_value(lit) == Some(false)
     }
 
     /// The id of the stored unit that makes the first true literal true.

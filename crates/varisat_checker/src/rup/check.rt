@@ -1,11 +1,13 @@
 //! The check of a clause in the state that the parts stand for.
-ghost use Rattle.std.specs.Prelude.{◌≡◌, ◌≤◌, false, OnOk, length};
+ghost use Rattle.std.specs.Prelude.{◌≡◌, ◌≤◌, false, IsTrue, OnOk, length};
 ghost use Rattle.checker_rules.specs.Canonical.{var_bound};
 ghost use Rattle.checker_rules.specs.Check.{check, ready};
 ghost use Rattle.checker_rules.specs.Clauses.{is_tautology};
 ghost use Rattle.checker_rules.specs.Outcome.{accept};
+ghost use Rattle.checker_rules.specs.Traced.{check_trace};
 ghost use Rattle.checker_parts.specs.Answers.{AnswersParts, UnlessFailed};
 ghost use Rattle.varisat_checker.specs.Kept.{Kept};
+ghost use Rattle.varisat_checker.specs.Quiet.{IsQuiet};
 ghost use Rattle.varisat_checker.specs.StateOf.{state_of};
 ghost use Rattle.varisat_checker.specs.Store.{IsStore};
 
@@ -24,7 +26,7 @@ use std::alloc::{AllocError, Global};
 /// Whether a canonical clause without opposite literals follows by propagation from the clauses that the hashes name.
 ///
 /// Where a pending solver name waits, all pending names and removals are applied first. The variables of the clause become known.
-/// The units are those of before, passed or refused.
+/// The units are those of before, passed or refused. A traced check that passes leaves the ids of what it used in `trace_ids`.
 pub fn check_clause_with_hashes(
     alloc: Global,
     state: &CheckerState,
@@ -32,6 +34,7 @@ pub fn check_clause_with_hashes(
     clauses: &mut Clauses,
     variables: &mut Variables,
     rup: &mut RupCheck,
+    traced: bool,
     lits: &[Lit],
     hashes: &[ClauseHash],
 ) -> Result<(), CheckerError>
@@ -40,6 +43,8 @@ pub fn check_clause_with_hashes(
     ensures answer { AnswersParts result (check (state_of state.now hasher.old clauses.old variables.old) lits.now hashes.now accept) (state_of state.now hasher.new clauses.new variables.new) }
     ensures store { UnlessFailed result (IsStore hasher.new clauses.new) }
     ensures known { OnOk result (var_bound lits.now ≤ length clauses.new.unit_clauses) }
+    ensures trace { IsTrue traced → OnOk result (rup.new.trace_ids.items ≡ check_trace (ready (state_of state.now hasher.old clauses.old variables.old) lits.now) lits.now hashes.now) }
+    ensures quiet { IsQuiet result }
 {
     let Ok(()) = make_ready(alloc, state, hasher, clauses, variables, lits) else {
         return Err(CheckerError::OutOfMemory);
@@ -51,7 +56,7 @@ pub fn check_clause_with_hashes(
         clauses.literal_buffer.as_slice(),
         lits,
         hashes,
-        false,
+        traced,
     ) else {
         return Err(CheckerError::OutOfMemory);
     };

@@ -34,7 +34,7 @@ kept-next st h cs known n e k =
     } in
     record {
       sound = subst Sound (sym (ap (λ (s : State). record s { next = n }) e)) (sound-next n);
-      store = record { filed = filed; garbage = k.store.garbage; units = k.store.units };
+      store = record { filed = filed; garbage = k.store.garbage; units = k.store.units; counts = k.store.counts };
     }
 
 pub returns : goal.returns

@@ -1,8 +1,16 @@
 use Rattle.std.proofs.Common.{Ok, Err, arith}
 use Rattle.proof_bytes.specs.NextStep.{view}
+use Rattle.checker_rules.specs.CallEmissions.{EmitsCall}
+use Rattle.checker_rules.specs.Calls.{checks, count_step}
+use Rattle.checker_rules.specs.Emits.{Emits}
+use Rattle.checker_rules.specs.Steps.{step}
+use Rattle.checker_parts.specs.declared.error.CheckCause.TheVariants.{StepsExhausted}
+use Rattle.varisat_checker.specs.Handed.{boxes_of}
 use Rattle.varisat_checker.specs.StateOf.{state_of}
-use Rattle.checker_rules.specs.Calls.{count_step}
-use Rattle.varisat_checker.proofs.StepAnswers.{counted-answers, exhausted-answers, no-number, same-answers, some-number}
+use Rattle.varisat_checker.proofs.EmissionLemmas.{handed-none, handed-same}
+use Rattle.varisat_checker.proofs.EmittedSteps.{emits-counted, emits-exhausted}
+use Rattle.varisat_checker.proofs.HandingLemmas.{handed-weaker}
+use Rattle.varisat_checker.proofs.StepAnswers.{counted-answers, exhausted-answers, no-number, same-parts, some-number}
 use Rattle.varisat_checker.proofs.check.attempt_step.Goals as goal
 
 pub returns-then-ctx-clause-step : goal.returns-then-ctx-clause-step
@@ -21,4 +29,26 @@ returns-in-Err-clause-step g c =
     let ctx = c.args.ctx.now in let new = c.check_step.new.ctx in
     let s = state_of ctx.checker_state ctx.clause_hasher ctx.clauses ctx.variables in let u = state_of new.checker_state new.clause_hasher new.clauses new.variables in
     counted-answers (Err c.with_step.result) s u (view c.args.step.now) (some-number ctx.checker_state.step (omega arith) c.if-ctx.false)
-    (same-answers c.in-Err.fault c.with_step.result (count_step s) u (view c.args.step.now) c.with_step.ensures c.in-Err.ensures.step)
+    (same-parts c.in-Err.fault c.with_step.result (step (count_step s) (view c.args.step.now)) u c.with_step.ensures c.in-Err.ensures.step)
+
+pub returns-then-ctx-clause-handed : goal.returns-then-ctx-clause-handed
+returns-then-ctx-clause-handed g c =
+    let ctx = c.args.ctx.now in
+    let s = state_of ctx.checker_state ctx.clause_hasher ctx.clauses ctx.variables in
+    handed-none g.P.ProofProcessor.took g.P.ProofProcessor.faulted g.T.ProofTranscriptProcessor.took g.T.ProofTranscriptProcessor.faulted (EmitsCall s (checks (view c.args.step.now))) c.refusal.result ctx.checker_state.step StepsExhausted (boxes_of ctx.processing) c.refusal.ensures
+    (emits-exhausted s (view c.args.step.now) (no-number ctx.checker_state.step c.if-ctx.true))
+
+pub returns-in-Ok-clause-handed : goal.returns-in-Ok-clause-handed
+returns-in-Ok-clause-handed g c =
+    let ctx = c.args.ctx.now in
+    let s = state_of ctx.checker_state ctx.clause_hasher ctx.clauses ctx.variables in
+    handed-weaker g.P.ProofProcessor.took g.P.ProofProcessor.faulted g.T.ProofTranscriptProcessor.took g.T.ProofTranscriptProcessor.faulted {A = Unit {0}} (Emits (count_step s) (view c.args.step.now)) (EmitsCall s (checks (view c.args.step.now))) (boxes_of ctx.processing) (boxes_of c.check_step.new.ctx.processing) (Ok tt)
+    (λ es h. emits-counted s (view c.args.step.now) es (some-number ctx.checker_state.step (omega arith) c.if-ctx.false) h) c.in-Ok.ensures.handed
+
+pub returns-in-Err-clause-handed : goal.returns-in-Err-clause-handed
+returns-in-Err-clause-handed g c =
+    let ctx = c.args.ctx.now in
+    let s = state_of ctx.checker_state ctx.clause_hasher ctx.clauses ctx.variables in
+    handed-same g.P.ProofProcessor.took g.P.ProofProcessor.faulted g.T.ProofTranscriptProcessor.took g.T.ProofTranscriptProcessor.faulted (EmitsCall s (checks (view c.args.step.now))) c.in-Err.fault c.with_step.result (boxes_of ctx.processing) (boxes_of c.check_step.new.ctx.processing) c.with_step.ensures
+    (handed-weaker g.P.ProofProcessor.took g.P.ProofProcessor.faulted g.T.ProofTranscriptProcessor.took g.T.ProofTranscriptProcessor.faulted {A = Unit {0}} (Emits (count_step s) (view c.args.step.now)) (EmitsCall s (checks (view c.args.step.now))) (boxes_of ctx.processing) (boxes_of c.check_step.new.ctx.processing) (Err c.in-Err.fault)
+    (λ es h. emits-counted s (view c.args.step.now) es (some-number ctx.checker_state.step (omega arith) c.if-ctx.false) h) c.in-Err.ensures.handed)

@@ -1,12 +1,12 @@
-use Rattle.std.proofs.Common.{◌≡◌, ℕ, ◌+◌, ◌-◌, ◌<◌, ◌^◌, true, false, ltb, Ok, Err, refl, sym, ap, ◌∙◌, subst, arith}
-use Rattle.checker_rules.specs.Calls.{step_limit}
+use Rattle.std.proofs.Common.{◌≡◌, ℕ, ◌+◌, ◌-◌, ◌<◌, ◌^◌, refl, ap, ◌∙◌, arith}
 use Rattle.checker_rules.specs.State.{State}
 use Rattle.proof_bytes.specs.NextStep.{view}
 use Rattle.proof_bytes.proofs.TextRuns.{MayRead, reader_open}
 use Rattle.varisat_checker.specs.Context.{context_state}
-use Rattle.varisat_checker.specs.StateOf.{state_of}
+use Rattle.varisat_checker.specs.Handed.{boxes_of}
 use Rattle.varisat_checker.proofs.CountLemmas.{attempt-steps}
-use Rattle.varisat_checker.proofs.ProofRuns.{accepted-checked, run-begins, run-closes, run-exhausted, run-faulted, run-goes, run-refused}
+use Rattle.varisat_checker.proofs.ProofRuns.{run-begins, run-closes, run-exhausted, run-faulted, run-goes, run-refused}
+use Rattle.varisat_checker.proofs.RunHanded.{handed-begins, handed-closes, handed-exhausted, handed-faulted, handed-goes, handed-refused}
 use Rattle.varisat_checker.proofs.StepAnswers.{no-number, some-number}
 use Rattle.varisat_checker.proofs.proof.check_proof.Goals as goal
 
@@ -15,6 +15,7 @@ steps-init g c = record {
   open_reader = λ going. c.new-reader.ensures.ended;
   so_far = run-begins _ _ _ _ c.new-reader.ensures.bytes c.new-reader.ensures.format;
   kept = c.requires;
+  handed = handed-begins g.P.ProofProcessor.took g.P.ProofProcessor.faulted g.T.ProofTranscriptProcessor.took g.T.ProofTranscriptProcessor.faulted _ _ _ _ _ c.new-reader.ensures.bytes c.new-reader.ensures.format;
 }
 
 pub returns-then-ctx-clause-run : goal.returns-then-ctx-clause-run
@@ -42,8 +43,7 @@ steps-smaller g c =
     let t = context_state c.steps.ctx in let u = context_state c.attempt_step.new.ctx in
     let counted = some-number c.steps.ctx.checker_state.step (omega arith) c.if-ctx.false in
     let h = rw c.in_default.is at c.attempt_step.ensures.step in
-    let accepted = accepted-checked t u (view c.in-Ok.step) counted h in
-    let more : u.steps ≡ t.steps + 1 = ap (λ (x : State). x.steps) accepted.1.1 ∙ attempt-steps t (view c.in-Ok.step) accepted.0 counted in
+    let more : u.steps ≡ t.steps + 1 = ap (λ (x : State). x.steps) h.1 ∙ attempt-steps t (view c.in-Ok.step) counted in
     fewer-left c.steps.ctx.checker_state.step c.attempt_step.new.ctx.checker_state.step (omega arith) c.if-ctx.false more
 
 pub steps-preserved : goal.steps-preserved
@@ -52,12 +52,34 @@ steps-preserved g c =
     let may : MayRead t = record { going = c.steps-test.true; counted = some-number c.steps.ctx.checker_state.step (omega arith) c.if-ctx.false } in
     let gave = rw c.in-Ok.is at c.next_step.follows.holds-at-none in
     let h = rw c.in_default.is at c.attempt_step.ensures.step in
-    let accepted = accepted-checked t u (view c.in-Ok.step) may.counted h in
     record {
-      open_reader = λ still. reader_open _ (view c.in-Ok.step) gave.ended may accepted.1.1 still;
+      open_reader = λ still. reader_open _ (view c.in-Ok.step) gave.ended may h.1 still;
       so_far = run-goes u c.steps.invariant.so_far c.steps.invariant.kept.sound.good (gave.reads (c.steps.invariant.open_reader c.steps-test.true)) may h;
       kept = c.in_default.ensures.kept;
+      handed = handed-goes g.P.ProofProcessor.took g.P.ProofProcessor.faulted g.T.ProofTranscriptProcessor.took g.T.ProofTranscriptProcessor.faulted c.steps.invariant.handed u (boxes_of c.attempt_step.new.ctx.processing) (gave.reads (c.steps.invariant.open_reader c.steps-test.true)) may h (rw c.in_default.is at c.attempt_step.ensures.handed);
     }
 
 pub returns-clause-run : goal.returns-clause-run
 returns-clause-run g c = run-closes c.steps.invariant.so_far c.process_unit_conflicts.result (context_state c.process_unit_conflicts.new.ctx) c.steps.invariant.kept.sound.good c.steps-test.false c.process_unit_conflicts.ensures.answer
+
+pub returns-then-ctx-clause-handed : goal.returns-then-ctx-clause-handed
+returns-then-ctx-clause-handed g c =
+    handed-exhausted g.P.ProofProcessor.took g.P.ProofProcessor.faulted g.T.ProofTranscriptProcessor.took g.T.ProofTranscriptProcessor.faulted c.steps.invariant.handed c.requires.sound.form c.refusal.result c.refusal.ensures c.steps-test.true (no-number c.steps.ctx.checker_state.step c.if-ctx.true)
+
+pub returns-in-Err-attempt_step-clause-handed : goal.returns-in-Err-attempt_step-clause-handed
+returns-in-Err-attempt_step-clause-handed g c =
+    let may : MayRead (context_state c.steps.ctx) = record { going = c.steps-test.true; counted = some-number c.steps.ctx.checker_state.step (omega arith) c.if-ctx.false } in
+    let gave = rw c.in-Ok.is at c.next_step.follows.holds-at-none in
+    handed-refused g.P.ProofProcessor.took g.P.ProofProcessor.faulted g.T.ProofTranscriptProcessor.took g.T.ProofTranscriptProcessor.faulted c.steps.invariant.handed c.requires.sound.form (gave.reads (c.steps.invariant.open_reader c.steps-test.true)) may (context_state c.attempt_step.new.ctx) (boxes_of c.attempt_step.new.ctx.processing) c.in-Err-attempt_step.fault
+    c.in-Err-attempt_step.ensures.step c.in-Err-attempt_step.ensures.handed
+
+pub returns-in-Err-clause-handed : goal.returns-in-Err-clause-handed
+returns-in-Err-clause-handed g c =
+    let may : MayRead (context_state c.steps.ctx) = record { going = c.steps-test.true; counted = some-number c.steps.ctx.checker_state.step (omega arith) c.if-ctx.false } in
+    let gave = rw c.in-Err.is at c.next_step.follows.holds-at-none in
+    handed-faulted g.P.ProofProcessor.took g.P.ProofProcessor.faulted g.T.ProofTranscriptProcessor.took g.T.ProofTranscriptProcessor.faulted c.steps.invariant.handed c.requires.sound.form c.in-Err.fault c.read_fault.result _ (gave.reads (c.steps.invariant.open_reader c.steps-test.true)) may refl c.read_fault.ensures
+
+pub returns-clause-handed : goal.returns-clause-handed
+returns-clause-handed g c =
+    handed-closes g.P.ProofProcessor.took g.P.ProofProcessor.faulted g.T.ProofTranscriptProcessor.took g.T.ProofTranscriptProcessor.faulted c.steps.invariant.handed c.requires.sound.form c.process_unit_conflicts.result (context_state c.process_unit_conflicts.new.ctx) (boxes_of c.process_unit_conflicts.new.ctx.processing) c.steps-test.false
+    c.process_unit_conflicts.ensures.answer c.process_unit_conflicts.ensures.handed

@@ -1,7 +1,9 @@
 use Rattle.std.proofs.Common.{◌≡◌, ◌-◌, ◌^◌, false}
 use Rattle.proof_bytes.specs.NextStep.{bytes_left, format_of, has_ended}
 use Rattle.varisat_checker.specs.Context.{IsKept, context_state}
+use Rattle.varisat_checker.specs.Handed.{boxes_of}
 use Rattle.varisat_checker.proofs.ProofRuns.{SoFarRun}
+use Rattle.varisat_checker.proofs.RunHanded.{RunHanded}
 use Rattle.varisat_checker.proofs.proof.check_proof.Given as goal
 
 abbrev pub invariant-steps : goal.invariant-steps
@@ -9,6 +11,7 @@ invariant-steps g l = record {
   open_reader : l.ctx.checker_state.ended ≡ false → has_ended l.reader ≡ false;
   so_far : SoFarRun (g.R.Read.remaining l.fn.proof) (bytes_left g.R.Read.remaining l.reader) (context_state l.fn.ctx) (context_state l.ctx) (format_of l.reader);
   kept : IsKept l.ctx;
+  handed : RunHanded g.P.ProofProcessor.took g.T.ProofTranscriptProcessor.took (g.R.Read.remaining l.fn.proof) (bytes_left g.R.Read.remaining l.reader) (context_state l.fn.ctx) (context_state l.ctx) (format_of l.reader) (boxes_of l.fn.ctx.processing) (boxes_of l.ctx.processing);
 }
 
 abbrev pub decreases-steps : goal.decreases-steps

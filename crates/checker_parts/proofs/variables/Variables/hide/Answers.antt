@@ -1,38 +1,54 @@
-use Rattle.std.proofs.Common.{◌∙◌, ◌<◌, ℕ, Some, ap, sym, refl, subst}
+use Rattle.std.proofs.Common.{◌∙◌, ◌<◌, ℕ, List, None, Some, ap, arith, false, length, refl, set, sym}
+use Rattle.std.proofs.lemmas.List.{length-set}
 use Rattle.sat_formula.specs.Vars.{indexes_of}
-use Rattle.checker_parts.specs.declared.variables.Variables.TheInside.{Inside}
-use Rattle.checker_parts.proofs.Marks.{IsUnmarked, hidden_list, length_from_view, marked_hidden, name-in_range, unmarked_name, unmarked_nothing}
+use Rattle.checker_rules.specs.State.{Known, hide}
+use Rattle.checker_rules.specs.Transcript.{known_at}
+use Rattle.checker_parts.specs.Variables.{known_by}
+use Rattle.checker_parts.proofs.Columns.{columns_hidden, known_by-hidden, length-known_by, within}
+use Rattle.checker_parts.proofs.Marks.{marked_same, marked_unnamed, name-in_range}
 use Rattle.checker_parts.proofs.variables.Variables.hide.Goals as goal
-use Rattle.checker_parts.proofs.variables.Variables.hide.Goals.{in-Some, in_default}
-
-unmarked : (c : goal.After-self-2-1) → IsUnmarked c.self.inside.entries.items c.match-index.self-inside.entries.items (indexes_of c.index.result.now.user_var)
-unmarked c = elim c.match-index.branch [
-  | in-Some w ↦
-      let es = c.self.inside.entries.items in
-      let within = length_from_view es c.args.self.now _ _ c.self.view_is c.index-index.ensures.value c.requires in
-      let named = ap indexes_of w.in-Some.is ∙ ap (λ (n : ℕ). Some n) (sym w.index-in-Some.ensures.value) in
-      let valid = name-in_range es c.index-index.result w.index-in-Some.result c.index.result.now c.self.invariant within c.index.ensures named in
-      subst (λ (s : Inside). IsUnmarked es s.entries.items (indexes_of c.index.result.now.user_var)) (sym w.self-inside-is)
-      (unmarked_name es w.index-in-Some.result c.index-index.result w.index_mut.result.now _ c.index.result.now c.self.invariant valid within w.index_mut.ensures.value refl refl c.index.ensures named)
-  | in_default w ↦
-      let es = c.self.inside.entries.items in
-      subst (λ (s : Inside). IsUnmarked es s.entries.items (indexes_of c.index.result.now.user_var)) (sym w.self-inside-is)
-      (subst (λ o. IsUnmarked es es (indexes_of o)) (sym w.in_default.is) (unmarked_nothing es))
-]
 
 pub index_mut-requires : goal.index_mut-requires
-index_mut-requires c =
-    let es = c.self.inside.entries.items in
-    subst (λ n. c.index-in-Some.result < n) (sym c.self.inside.entries.ok.0)
-    (name-in_range es c.index-index.result c.index-in-Some.result c.index.result.now c.self.invariant
-    (length_from_view es c.args.self.now _ _ c.self.view_is c.index-index.ensures.value c.requires) c.index.ensures
-    (ap indexes_of c.in-Some.is ∙ ap (λ (n : ℕ). Some n) (sym c.index-in-Some.ensures.value)))
+index_mut-requires c = omega (arith, within _ _ _ _ _ _ c.self.invariant c.self.view_is c.index-index.ensures.value c.requires, c.self.inside.names.ok.0)
+
+pub index_mut-requires-2 : goal.index_mut-requires-2
+index_mut-requires-2 c = omega (arith, within _ _ _ _ _ _ c.self.invariant c.self.view_is c.index-index.ensures.value c.requires, c.self.invariant.modes, c.self.inside.modes.ok.0)
+
+pub index_mut-requires-in-Some : goal.index_mut-requires-in-Some
+index_mut-requires-in-Some c =
+    let ns = c.self.inside.names.items in
+    let ms = c.self.inside.modes.items in
+    let place : c.index-index.result < length (known_by ns ms) = omega (arith, within ns ms _ _ _ _ c.self.invariant c.self.view_is c.index-index.ensures.value c.requires, length-known_by ns ms c.self.invariant.modes) in
+    let named = ap (λ (ks : List Known). (known_at ks c.index-index.result).name) c.self.view_is ∙ sym c.name-name.ensures ∙ ap indexes_of c.in-Some.is ∙ ap (λ (n : ℕ). Some n) (sym c.index.ensures.value) in
+    omega (arith, name-in_range (known_by ns ms) c.self.inside.taken.items c.index-index.result c.index.result c.self.invariant.marked place named, c.self.inside.taken.ok.0)
 
 pub invariant_of-self : goal.invariant_of-self
 invariant_of-self c =
-    let es = c.self.inside.entries.items in
-    marked_hidden es c.match-index.self-inside.entries.items c.index-index.result c.index.result.now c.index_mut-entry.result.now _ c.self.invariant
-    (length_from_view es c.args.self.now _ _ c.self.view_is c.index-index.ensures.value c.requires) c.index.ensures (unmarked c) c.index_mut-entry.ensures.value refl refl
+    let ns = c.self.inside.names.items in
+    let ms = c.self.inside.modes.items in
+    let ts = c.self.inside.taken.items in
+    let place : c.index-index.result < length (known_by ns ms) = omega (arith, within ns ms _ _ _ _ c.self.invariant c.self.view_is c.index-index.ensures.value c.requires, length-known_by ns ms c.self.invariant.modes) in
+    let named = ap (λ (ks : List Known). (known_at ks c.index-index.result).name) c.self.view_is ∙ sym c.name-name.ensures ∙ ap indexes_of c.in-Some.is ∙ ap (λ (n : ℕ). Some n) (sym c.index.ensures.value) in
+    columns_hidden ns ms ts _ _ _ refl c.self.invariant (length-set ts c.index.result false)
+    (marked_unnamed (known_by ns ms) ts c.index-index.result c.index.result (record { name = None; mode = hide }) c.self.invariant.marked place
+    (name-in_range (known_by ns ms) ts c.index-index.result c.index.result c.self.invariant.marked place named) named refl)
 
-pub returns : goal.returns
-returns c = hidden_list _ c.args.self.now _ _ _ ((unmarked c).same ∙ c.self.view_is) c.index-index.ensures.value
+pub invariant_of-self-in_default : goal.invariant_of-self-in_default
+invariant_of-self-in_default c =
+    let ns = c.self.inside.names.items in
+    let ms = c.self.inside.modes.items in
+    let ts = c.self.inside.taken.items in
+    let place : c.index-index.result < length (known_by ns ms) = omega (arith, within ns ms _ _ _ _ c.self.invariant c.self.view_is c.index-index.ensures.value c.requires, length-known_by ns ms c.self.invariant.modes) in
+    columns_hidden ns ms ts ts _ _ refl c.self.invariant refl
+    (marked_same (known_by ns ms) ts c.index-index.result (record { name = None; mode = hide }) c.self.invariant.marked place
+    (sym (ap (λ (ks : List Known). (known_at ks c.index-index.result).name) c.self.view_is ∙ sym c.name-name.ensures ∙ ap indexes_of c.in_default.is)))
+
+pub returns-in-Some : goal.returns-in-Some
+returns-in-Some c =
+    let gone : Known = record { name = None; mode = hide } in
+    known_by-hidden _ _ c.index-index.result 4294967295 refl c.self.invariant.modes ∙ ap (λ ks. set ks c.index-index.result gone) c.self.view_is ∙ ap (λ n. set c.args.self.now n gone) c.index-index.ensures.value
+
+pub returns-in_default : goal.returns-in_default
+returns-in_default c =
+    let gone : Known = record { name = None; mode = hide } in
+    known_by-hidden _ _ c.index-index.result 4294967295 refl c.self.invariant.modes ∙ ap (λ ks. set ks c.index-index.result gone) c.self.view_is ∙ ap (λ n. set c.args.self.now n gone) c.index-index.ensures.value

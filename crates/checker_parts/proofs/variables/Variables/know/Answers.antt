@@ -1,31 +1,49 @@
-use Rattle.std.proofs.Common.{◌≡◌, ◌∙◌, ◌-◌, ◌++◌, ◌<◌, ℕ, List, length, replicate, take, ap, arith, sym, subst}
-use Rattle.std.proofs.lemmas.List.{take_all}
+use Rattle.std.proofs.Common.{◌≡◌, ◌∙◌, ◌-◌, ◌++◌, ◌<◌, ℕ, false, length, replicate, refl, ap, arith, sym}
 use Rattle.checker_rules.specs.KnownVars.{new_known}
-use Rattle.checker_rules.specs.State.{Known}
-use Rattle.checker_parts.specs.Variables.{IsMarked, known_list, new_entry}
-use Rattle.checker_parts.specs.declared.variables.Entry.{Entry}
-use Rattle.checker_parts.proofs.Marks.{known_list-more, length-known_list, marked_more}
+use Rattle.checker_parts.specs.declared.variables.SamplingMode.TheVariants.{Sample}
+use Rattle.checker_parts.proofs.Columns.{columns_grown, grown, known_by-grown, length_by_view, no_room}
 use Rattle.checker_parts.proofs.variables.Variables.know.Goals as goal
 
--- what the growth leaves
-grown : (es new : List Entry) (len n : ℕ) → len ≡ length es → new ≡ take n es ++ replicate (n - len) new_entry → len < n → new ≡ es ++ replicate (n - length es) new_entry
-grown es new len n same e h =
-    e ∙ ap (λ (xs : List Entry). xs ++ replicate (n - len) new_entry) (take_all n es (omega arith)) ∙ ap (λ k. es ++ replicate (n - k) new_entry) same
+pub invariant_of-self-in_err-resize-2 : goal.invariant_of-self-in_err-resize-2
+invariant_of-self-in_err-resize-2 c =
+    let long = length_by_view _ _ _ c.self.invariant.modes c.self.view_is in
+    no_room _ _ _ _ _ (c.reserve-then-len-count.ensures.len ∙ c.self.inside.modes.ok.0 ∙ c.self.invariant.modes ∙ sym long) c.len-then-len-count.ensures c.in_ok-reserve-2.ensures.ok c.in_err-resize-2.ensures.full
 
-room : (es : List Entry) (ks : List Known) (len n : ℕ) → known_list es ≡ ks → len ≡ length es → length ks < n → len < n
-room es ks len n view same h = let long = ap (λ (ks : List Known). length ks) view in omega (arith, length-known_list es)
+pub returns-in_err-resize-2-clause-err : goal.returns-in_err-resize-2-clause-err
+returns-in_err-resize-2-clause-err c =
+    let long = length_by_view _ _ _ c.self.invariant.modes c.self.view_is in
+    no_room _ _ _ _ _ (c.reserve-then-len-count.ensures.len ∙ c.self.inside.modes.ok.0 ∙ c.self.invariant.modes ∙ sym long) c.len-then-len-count.ensures c.in_ok-reserve-2.ensures.ok c.in_err-resize-2.ensures.full
 
-pub invariant_of-self : goal.invariant_of-self
-invariant_of-self c =
-    let es = c.self.inside.entries.items in
-    let less = room es c.args.self.now _ c.args.count c.self.view_is c.self.inside.entries.ok.0 (subst (λ n. n < c.args.count) c.len.ensures c.if-len-count.true) in
-    subst IsMarked (sym (grown es c.resize.new.self.items _ c.args.count c.self.inside.entries.ok.0 c.in_ok-resize.ensures.items less)) (marked_more es _ c.self.invariant)
+pub invariant_of-self-in_err-resize-3 : goal.invariant_of-self-in_err-resize-3
+invariant_of-self-in_err-resize-3 c =
+    let long = length_by_view _ _ _ c.self.invariant.modes c.self.view_is in
+    no_room _ _ _ _ _ (c.reserve-then-len-count-2.ensures.len ∙ c.self.inside.taken.ok.0 ∙ c.self.invariant.taken ∙ sym long) c.len-then-len-count.ensures c.in_ok-reserve-3.ensures.ok c.in_err-resize-3.ensures.full
 
-pub returns-in_ok-resize-clause-ok : goal.returns-in_ok-resize-clause-ok
-returns-in_ok-resize-clause-ok c =
-    let es = c.self.inside.entries.items in
-    let less = room es c.args.self.now _ c.args.count c.self.view_is c.self.inside.entries.ok.0 (subst (λ n. n < c.args.count) c.len.ensures c.if-len-count.true) in
-    ap known_list (grown es c.resize.new.self.items _ c.args.count c.self.inside.entries.ok.0 c.in_ok-resize.ensures.items less)
-    ∙ known_list-more es (c.args.count - length es)
-    ∙ ap (λ n. known_list es ++ replicate (c.args.count - n) new_known) (sym (length-known_list es))
-    ∙ ap (λ (ks : List Known). ks ++ replicate (c.args.count - length ks) new_known) c.self.view_is
+pub returns-in_err-resize-3-clause-err : goal.returns-in_err-resize-3-clause-err
+returns-in_err-resize-3-clause-err c =
+    let long = length_by_view _ _ _ c.self.invariant.modes c.self.view_is in
+    no_room _ _ _ _ _ (c.reserve-then-len-count-2.ensures.len ∙ c.self.inside.taken.ok.0 ∙ c.self.invariant.taken ∙ sym long) c.len-then-len-count.ensures c.in_ok-reserve-3.ensures.ok c.in_err-resize-3.ensures.full
+
+below : (c : goal.In_ok-resize-3) → length c.self.inside.names.items < c.args.count
+below c = omega (arith, c.if-len-count.true, c.len.ensures, length_by_view _ _ _ c.self.invariant.modes c.self.view_is)
+
+abbrev more : goal.In_ok-resize-3 → ℕ
+more c = c.args.count - length c.self.inside.names.items
+
+names : (c : goal.In_ok-resize-3) → c.resize.new.self.items ≡ c.self.inside.names.items ++ replicate (more c) 4294967295
+names c = grown _ _ _ _ _ _ _ refl c.reserve.ensures.items c.reserve.new.self.ok.0 c.in_ok-resize.ensures.items (below c)
+
+modes : (c : goal.In_ok-resize-3) → c.resize-then-len-count.new.self.items ≡ c.self.inside.modes.items ++ replicate (more c) Sample
+modes c = grown _ _ _ _ _ _ _ c.self.invariant.modes c.reserve-then-len-count.ensures.items c.reserve-then-len-count.new.self.ok.0 c.in_ok-resize-2.ensures.items (below c)
+
+taken : (c : goal.In_ok-resize-3) → c.resize-then-len-count-2.new.self.items ≡ c.self.inside.taken.items ++ replicate (more c) false
+taken c = grown _ _ _ _ _ _ _ c.self.invariant.taken c.reserve-then-len-count-2.ensures.items c.reserve-then-len-count-2.new.self.ok.0 c.in_ok-resize-3.ensures.items (below c)
+
+pub invariant_of-self-in-Continue-branch-6 : goal.invariant_of-self-in-Continue-branch-6
+invariant_of-self-in-Continue-branch-6 c = columns_grown _ _ _ _ _ _ 4294967295 (more c) refl c.self.invariant (names c) (modes c) (taken c)
+
+pub returns-in_ok-resize-3-clause-ok : goal.returns-in_ok-resize-3-clause-ok
+returns-in_ok-resize-3-clause-ok c =
+    known_by-grown _ _ _ _ 4294967295 (more c) refl c.self.invariant.modes (names c) (modes c)
+    ∙ ap (λ ks. ks ++ replicate (more c) new_known) c.self.view_is
+    ∙ ap (λ n. c.args.self.now ++ replicate (c.args.count - n) new_known) (sym (length_by_view _ _ _ c.self.invariant.modes c.self.view_is))

@@ -1,11 +1,17 @@
-use Rattle.std.proofs.Common.{refl}
-use Rattle.checker_parts.proofs.Marks.{length_from_view, marked_mode, mode_list}
+use Rattle.std.proofs.Common.{◌∙◌, ℕ, List, ap, arith, set}
+use Rattle.checker_rules.specs.State.{Known}
+use Rattle.checker_rules.specs.Transcript.{known_at}
+use Rattle.checker_parts.specs.Variables.{mode_of}
+use Rattle.checker_parts.proofs.Columns.{columns_mode, known_by-mode, within}
 use Rattle.checker_parts.proofs.variables.Variables.set_mode.Goals as goal
 
+pub index_mut-requires : goal.index_mut-requires
+index_mut-requires c = omega (arith, within _ _ _ _ _ _ c.self.invariant c.self.view_is c.index.ensures.value c.requires, c.self.invariant.modes, c.self.inside.modes.ok.0)
+
 pub invariant_of-self : goal.invariant_of-self
-invariant_of-self c =
-    let within = length_from_view c.self.inside.entries.items c.args.self.now _ _ c.self.view_is c.index.ensures.value c.requires in
-    marked_mode c.self.inside.entries.items c.index.result c.index_mut.result.now _ c.self.invariant within c.index_mut.ensures.value refl refl
+invariant_of-self c = columns_mode _ _ _ _ _ c.self.invariant (within _ _ _ _ _ _ c.self.invariant c.self.view_is c.index.ensures.value c.requires)
 
 pub returns : goal.returns
-returns c = mode_list c.self.inside.entries.items c.args.self.now _ _ c.index_mut.result.now c.args.sampling_mode c.self.view_is c.index.ensures.value c.requires c.index_mut.ensures.value
+returns c =
+    let written = λ (ks : List Known) (i : ℕ). set ks i (record { name = (known_at ks i).name; mode = mode_of c.args.sampling_mode }) in
+    known_by-mode _ _ c.index.result c.args.sampling_mode c.self.invariant.modes ∙ ap (λ ks. written ks c.index.result) c.self.view_is ∙ ap (λ i. written c.args.self.now i) c.index.ensures.value

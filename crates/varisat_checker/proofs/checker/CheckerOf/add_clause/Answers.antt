@@ -1,7 +1,9 @@
-use Rattle.std.proofs.Common.{◌∙◌, sym}
+use Rattle.std.proofs.Common.{◌∙◌, refl, sym}
+use Rattle.checker_rules.specs.Calls.{adds}
 use Rattle.checker_parts.proofs.Headlines.{covers_fold-step, sets_fold-step}
 use Rattle.varisat_checker.specs.Context.{context_state}
 use Rattle.varisat_checker.specs.Shown.{state}
+use Rattle.varisat_checker.proofs.CertifiedLemmas.{certifies-call}
 use Rattle.varisat_checker.proofs.FailingLemmas.{went-on}
 use Rattle.varisat_checker.proofs.checker.CheckerOf.add_clause.Goals as goal
 
@@ -16,3 +18,10 @@ unfolding state
 returns-else-fails-clause-covers g c = λ running before covered.
     covers_fold-step (context_state c.args.self.now.ctx) _ before c.add_clause-answer.result (context_state c.add_clause-answer.new.ctx) covered
     (went-on c.add_clause-answer.result _ _ (sym c.fails.ensures ∙ c.if-fails.false) c.add_clause-answer.ensures.step)
+
+pub returns-else-fails-clause-certified : goal.returns-else-fails-clause-certified
+unfolding state
+returns-else-fails-clause-certified g c = λ running.
+    let s = context_state c.args.self.now.ctx in
+    let u = context_state c.add_clause-answer.new.ctx in
+    certifies-call c.add_clause-answer.result s u u (adds c.args.clause.now) (c.args.self.now.kept running).sound.form c.add_clause-answer.ensures.step (λ on. refl)

@@ -1,7 +1,10 @@
-use Rattle.std.proofs.Common.{◌∙◌, sym}
+use Rattle.std.proofs.Common.{◌∙◌, refl, sym}
+use Rattle.std.proofs.lemmas.Bool.{true≢false}
+use Rattle.checker_rules.specs.Calls.{closes, fail}
 use Rattle.checker_parts.proofs.Headlines.{covers_fold-closing, sets_fold-closing}
 use Rattle.varisat_checker.specs.Context.{context_state}
 use Rattle.varisat_checker.specs.Shown.{state}
+use Rattle.varisat_checker.proofs.CertifiedLemmas.{certifies-call}
 use Rattle.varisat_checker.proofs.FailingLemmas.{went-on}
 use Rattle.varisat_checker.proofs.checker.CheckerOfSelfChecker.self_check_delayed_steps.Goals as goal
 
@@ -16,3 +19,18 @@ unfolding state
 returns-else-fails-clause-covers g c = λ running before covered.
     covers_fold-closing (context_state c.args.self.now.ctx) before c.process_unit_conflicts-answer.result (context_state c.process_unit_conflicts-answer.new.ctx) covered
     (went-on c.process_unit_conflicts-answer.result _ _ (sym c.fails.ensures ∙ c.if-fails.false) c.process_unit_conflicts-answer.ensures.answer)
+
+pub returns-then-fails-clause-certified : goal.returns-then-fails-clause-certified
+unfolding state
+returns-then-fails-clause-certified g c = λ running.
+    let s = context_state c.args.self.now.ctx in
+    let u = context_state c.process_unit_conflicts-answer.new.ctx in
+    certifies-call c.process_unit_conflicts-answer.result s u (fail u) closes (c.args.self.now.kept running).sound.form c.process_unit_conflicts-answer.ensures.answer
+    (λ on. absurd (true≢false (sym (sym c.fails.ensures ∙ c.if-fails.true) ∙ on)))
+
+pub returns-else-fails-clause-certified : goal.returns-else-fails-clause-certified
+unfolding state
+returns-else-fails-clause-certified g c = λ running.
+    let s = context_state c.args.self.now.ctx in
+    let u = context_state c.process_unit_conflicts-answer.new.ctx in
+    certifies-call c.process_unit_conflicts-answer.result s u u closes (c.args.self.now.kept running).sound.form c.process_unit_conflicts-answer.ensures.answer (λ on. refl)

@@ -1,6 +1,9 @@
-use Rattle.std.proofs.Common.{map, sym, subst, arith}
+use Rattle.std.proofs.Common.{◌≡◌, ℕ, List, length, map, sym, subst, arith}
 use Rattle.checker_rules.specs.Buckets.{remaining}
+use Rattle.checker_rules.specs.State.{Stored}
 use Rattle.checker_rules.specs.Store.{lower}
+use Rattle.varisat_checker.specs.declared.clauses.Clauses.{Clauses}
+use Rattle.varisat_checker.specs.Counts.{AreCounts}
 use Rattle.varisat_checker.specs.Delete.{Deletes}
 use Rattle.varisat_checker.specs.Lowered.{IsMissing}
 use Rattle.varisat_checker.specs.StateOf.{state_of}
@@ -10,6 +13,11 @@ use Rattle.varisat_checker.proofs.DeletedLemmas.{both_rest, delete-no_copy, dele
 use Rattle.varisat_checker.proofs.EditLemmas.{stored_list-is}
 use Rattle.varisat_checker.proofs.LongLemmas.{long_is}
 use Rattle.varisat_checker.proofs.clauses.delete.delete_clause.Goals as goal
+
+-- the counts are those of what is left
+counts_after : (cs taken after : Clauses) (es rest : List Stored) → after.unit_clauses ≡ cs.unit_clauses → after.lit_counts ≡ taken.lit_counts → es ≡ rest → AreCounts taken.lit_counts (length cs.unit_clauses) rest → AreCounts after.lit_counts (length after.unit_clauses) es
+counts_after cs taken after es rest units counts same a = subst (AreCounts after.lit_counts (length after.unit_clauses)) (sym same)
+    (subst (λ us. AreCounts after.lit_counts (length us) rest) (sym units) (subst (λ (n : List ℕ). AreCounts n (length cs.unit_clauses) rest) (sym counts) a))
 
 pub collect_garbage-requires : goal.collect_garbage-requires
 collect_garbage-requires c =
@@ -27,7 +35,9 @@ pub returns-in_ok-collect_garbage-in-Ok-clause-store : goal.returns-in_ok-collec
 returns-in_ok-collect_garbage-in-Ok-clause-store c =
     let h = c.args.hasher.now in let cs = c.args.clauses.now in let taken = c.take_copy.new.clauses in let after = c.collect_garbage.new.clauses in
     let p = c.in-Ok.ensures in let q = c.in_ok-collect_garbage-in-Ok.ensures in
-    store-rest h cs after (stored_list taken) q.filed q.garbage (both_rest cs taken after p.rest q.rest) c.requires
+    store-rest h cs after (stored_list taken) q.filed q.garbage (both_rest cs taken after p.rest q.rest)
+    (counts_after cs taken after (stored_list taken) (remaining (map (lower c.args.redundant c.args.lits.now) (stored_list cs))) (both_rest cs taken after p.rest q.rest).units q.counts (stored_list-is h taken (remaining (map (lower c.args.redundant c.args.lits.now) (stored_list cs))) p.filed) p.counts)
+    c.requires.store
 
 pub returns-in-Err-Clause-clause-answer : goal.returns-in-Err-Clause-clause-answer
 returns-in-Err-Clause-clause-answer c st known =
@@ -38,7 +48,7 @@ returns-in-Err-Clause-clause-answer c st known =
 pub returns-in-Err-Clause-clause-store : goal.returns-in-Err-Clause-clause-store
 returns-in-Err-Clause-clause-store c =
     let h = c.args.hasher.now in let cs = c.args.clauses.now in let p = c.in-Err-Clause.ensures in
-    store-unchanged h cs c.take_copy.new.clauses p.still_filed p.others c.requires
+    store-unchanged h cs c.take_copy.new.clauses p.still_filed p.others c.requires.store
 
 pub returns-in-Err-Copy-clause-answer : goal.returns-in-Err-Copy-clause-answer
 returns-in-Err-Copy-clause-answer c st known =
@@ -49,4 +59,4 @@ returns-in-Err-Copy-clause-answer c st known =
 pub returns-in-Err-Copy-clause-store : goal.returns-in-Err-Copy-clause-store
 returns-in-Err-Copy-clause-store c =
     let h = c.args.hasher.now in let cs = c.args.clauses.now in let p = c.in-Err-Copy.ensures in
-    store-unchanged h cs c.take_copy.new.clauses p.still_filed p.others c.requires
+    store-unchanged h cs c.take_copy.new.clauses p.still_filed p.others c.requires.store

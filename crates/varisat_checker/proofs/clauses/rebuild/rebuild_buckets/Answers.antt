@@ -1,4 +1,4 @@
-use Rattle.std.proofs.Common.{◌≡◌, ◌<◌, ◌≤◌, ℕ, List, map, All, sym, ap, ◌∙◌, subst}
+use Rattle.std.proofs.Common.{◌≡◌, ◌<◌, ◌≤◌, ℕ, List, All, sym, subst}
 use Rattle.checker_rules.specs.Buckets.{of_hash}
 use Rattle.checker_rules.specs.State.{Stored}
 use Rattle.varisat_checker.specs.declared.clauses.Clause.{Clause}
@@ -8,7 +8,7 @@ use Rattle.varisat_checker.specs.Lits.{IsWithin}
 use Rattle.varisat_checker.specs.declared.hash.ClauseHasher.{ClauseHasher}
 use Rattle.varisat_checker.specs.Store.{Files}
 use Rattle.varisat_checker.specs.StateOf.{hash_of}
-use Rattle.varisat_checker.specs.View.{stored_in, stored_list, stored_of}
+use Rattle.varisat_checker.specs.View.{stored_in, stored_list}
 use Rattle.varisat_checker.proofs.EditLemmas.{stored_list-is}
 use Rattle.varisat_checker.proofs.MoveLemmas.{rebuilt_by}
 use Rattle.varisat_checker.proofs.clauses.rebuild.rebuild_buckets.Goals as goal

@@ -1,14 +1,21 @@
-use Rattle.std.proofs.Common.{◌≡◌, ◌+◌, ◌≤◌, ◌∷◌, ◌++◌, [], ℕ, length, take, ap, ◌∙◌, subst, arith}
+use Rattle.std.proofs.Common.{◌≡◌, ◌+◌, ◌*◌, ◌≤◌, ◌∷◌, ◌++◌, List, [], ℕ, length, take, sym, ap, ◌∙◌, subst, arith}
+use Rattle.checker_rules.specs.Canonical.{var_bound}
 use Rattle.checker_rules.specs.State.{Stored}
 use Rattle.checker_rules.specs.Store.{new_stored}
 use Rattle.varisat_checker.specs.declared.clauses.Clause.{Clause}
 use Rattle.varisat_checker.specs.declared.clauses.Clauses.{Clauses}
 use Rattle.varisat_checker.specs.declared.clauses.StoreClauseResult.TheVariants.{New}
 use Rattle.varisat_checker.specs.Buckets.{clauses_at, first_copy_of}
+use Rattle.varisat_checker.specs.Counts.{HoldOneMore}
 use Rattle.varisat_checker.specs.Lits.{IsWithin, buffer_used}
 use Rattle.varisat_checker.specs.View.{stored_at, stored_of}
 use Rattle.varisat_checker.proofs.BufferLemmas.{stored_in-others, stored_in-pushed, within-pushed}
 use Rattle.varisat_checker.proofs.clauses.store.push_new.Goals as goal
+
+pub raise-requires-clause-known : goal.raise-requires-clause-known
+raise-requires-clause-known c =
+    let same : ◌≡◌ {A = List ℕ} c.take_id.new.self.lit_counts c.args.clauses.now.lit_counts = ap (λ (y : Clauses). y.lit_counts) c.in-Some.ensures.taken in
+    subst (λ (counts : List ℕ). 2 * var_bound c.args.lits.now ≤ length counts) (sym same) c.requires.known
 
 pub returns : goal.returns
 returns c =
@@ -17,6 +24,7 @@ returns c =
     let e = c.in_ok-kept.ensures in let p = c.in_ok-push_clause.ensures in
     let same_buffer : x.literal_buffer.items ≡ old = ap (λ (y : Clauses). y.literal_buffer.items) c.in-Some.ensures.taken in
     let same_buckets : x.buckets ≡ m = ap (λ (y : Clauses). y.buckets) c.in-Some.ensures.taken in
+    let same_counts : ◌≡◌ {A = List ℕ} x.lit_counts cs.lit_counts = ap (λ (y : Clauses). y.lit_counts) c.in-Some.ensures.taken in
     let kept : take (length old) new ≡ old = subst (λ b. take (length b) new ≡ b) same_buffer e.kept in
     let longer : length old ≤ length new = let q = ap length same_buffer in omega (arith, e.buffer, q) in
     let d = first_copy_of r c.in-Some.id c.in_ok-kept.kept in
@@ -33,6 +41,8 @@ returns c =
         used = e.buffer ∙ ap (λ b. length b + buffer_used c.in_ok-kept.kept) same_buffer ∙ ap (λ k. length old + k) (e.used c.requires.long);
         next = ap (λ (y : Clauses). y.next_clause_id) c.in-Some.ensures.taken;
         garbage = ap (λ (y : Clauses). y.garbage_size) c.in-Some.ensures.taken;
+        held = subst (λ (counts : List ℕ). HoldOneMore c.args.lits.now counts c.raise.new.self) same_counts c.in_ok-raise.ensures.held;
+        counted = c.in_ok-raise.ensures.known ∙ ap length same_counts;
         units = ap (λ (y : Clauses). y.unit_clauses) c.in-Some.ensures.taken;
         conflict = ap (λ (y : Clauses). y.unit_conflict) c.in-Some.ensures.taken;
       },

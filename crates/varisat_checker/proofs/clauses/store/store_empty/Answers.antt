@@ -18,4 +18,4 @@ returns-clause-answer c h known redundant kept =
 pub returns-clause-store : goal.returns-clause-store
 returns-clause-store c h kept =
     let cs = c.args.clauses.now in
-    subst (IsStore h) (sym c.in-Some.ensures.taken) (is_store-units h cs cs.unit_clauses cs.unit_conflict (cs.next_clause_id + 1) (omega arith) kept.units kept)
+    subst (IsStore h) (sym c.in-Some.ensures.taken) (is_store-units h cs cs.unit_clauses cs.unit_conflict (cs.next_clause_id + 1) (omega arith) kept.units refl kept)

@@ -1,4 +1,4 @@
-use Rattle.std.proofs.Common.{◌≡◌, ◌<◌, ◌≤◌, Bool, true, false, ℕ, List, Some, map, sym, ap, ◌∙◌, subst}
+use Rattle.std.proofs.Common.{◌≡◌, ◌<◌, ◌≤◌, Bool, true, false, ℕ, List, Some, length, map, sym, ap, ◌∙◌, subst, arith}
 use Rattle.checker_rules.specs.Store.{count_limit, count_of, is_stored, raise}
 use Rattle.checker_rules.specs.WellFormed.{are_apart}
 use Rattle.varisat_checker.specs.declared.clauses.Clauses.{Clauses}
@@ -11,17 +11,21 @@ use Rattle.varisat_checker.specs.Store.{AnswersPush, AnswersStore, IsStore, Stor
 use Rattle.varisat_checker.specs.View.{stored_in, stored_list}
 use Rattle.varisat_checker.proofs.EditLemmas.{files-raised, files-same, is_store-by, stored_list-is}
 use Rattle.varisat_checker.proofs.FoundLemmas.{raise-absent}
+use Rattle.varisat_checker.proofs.HeldEdits.{counts-raised}
 use Rattle.varisat_checker.proofs.LongLemmas.{absent_from, answers-pushed, is_store-answered, long-full, long-stands, state_of-buckets}
 use Rattle.varisat_checker.proofs.StoreLemmas.{are_apart-bucket, count_of-bucket, found_in-bucket, read}
 use Rattle.varisat_checker.proofs.clauses.store.store_long.Goals as goal
 
 raised_store : (h : ClauseHasher) (cs : Clauses) (m : Buckets) (r : Bool) (c : List ℕ) → IsStore h cs → IsRaised cs.literal_buffer.items (hash_of h c) r c cs.buckets m → IsStore h (record cs { buckets = m })
-raised_store h cs m r c s p = is_store-by h (record cs { buckets = m }) (map (raise r c) (stored_list cs)) (files-raised h cs (stored_list cs) m r c s.filed p) s.garbage s.units
+raised_store h cs m r c s p = is_store-by h (record cs { buckets = m }) (map (raise r c) (stored_list cs)) (files-raised h cs (stored_list cs) m r c s.filed p) s.garbage s.units (counts-raised cs.lit_counts (length cs.unit_clauses) r c (stored_list cs) s.counts)
 
 pub raise_clause-requires-clause-apart : goal.raise_clause-requires-clause-apart
 raise_clause-requires-clause-apart c =
     let h = c.args.hasher.now in let cs = c.args.clauses.now in
     read (λ b k. are_apart (stored_in b cs.buckets k) ≡ true) _ _ _ _ (sym c.as_slice-buffer.ensures.value) (sym c.clause_hash-hash.ensures) (are_apart-bucket h cs (stored_list cs) c.requires.store.filed (hash_of h c.args.lits.now))
+
+pub push_new-requires-clause-known : goal.push_new-requires-clause-known
+push_new-requires-clause-known c = omega (arith, c.requires.known, c.requires.store.counts.known)
 
 pub returns-in-Ok-Some-clause-answer : goal.returns-in-Ok-Some-clause-answer
 returns-in-Ok-Some-clause-answer c st known =
@@ -70,4 +74,4 @@ returns-in-Err-clause-answer c st known =
 pub returns-in-Err-clause-store : goal.returns-in-Err-clause-store
 returns-in-Err-clause-store c =
     let h = c.args.hasher.now in let cs = c.args.clauses.now in let m = c.raise_clause.new.buckets in let s = c.requires.store in
-    is_store-by h (record cs { buckets = m }) (stored_list cs) (files-same h cs (stored_list cs) m s.filed c.in-Err.ensures.unchanged) s.garbage s.units
+    is_store-by h (record cs { buckets = m }) (stored_list cs) (files-same h cs (stored_list cs) m s.filed c.in-Err.ensures.unchanged) s.garbage s.units s.counts

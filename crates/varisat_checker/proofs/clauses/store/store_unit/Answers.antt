@@ -1,22 +1,16 @@
-use Rattle.std.proofs.Common.{◌≡◌, ◌+◌, ◌/◌, [], ◌∷◌, Bool, true, false, not, List, set, slice_set, Option, Some, None, Result, Ok, Err, OnOk, refl, sym, ap, ◌∙◌, subst, arith}
+use Rattle.std.proofs.Common.{◌≡◌, ◌+◌, ◌/◌, [], ◌∷◌, Bool, true, false, not, set, slice_set, Some, None, Result, Ok, Err, OnOk, refl, sym, ap, ◌∙◌, subst, arith}
 use Rattle.std.specs.Bool.{beq}
-use Rattle.std.specs.Option.{option_map}
+use Rattle.std.proofs.lemmas.List.{length-set}
 use Rattle.std.proofs.lemmas.Result.{on_err_weaker, on_ok_weaker}
 use Rattle.checker_rules.specs.Clauses.{is_negative, var_of}
 use Rattle.checker_rules.specs.State.{State, makes_true, same_bool, unit_of}
 use Rattle.varisat_checker.specs.declared.clauses.StoreClauseResult.TheVariants.{Duplicate}
-use Rattle.varisat_checker.specs.declared.clauses.units.UnitClause.{UnitClause}
-use Rattle.varisat_checker.specs.StateOf.{id_of_unit, state_of, stored_unit, stored_units}
+use Rattle.varisat_checker.specs.StateOf.{id_of_unit, state_of, stored_unit}
 use Rattle.varisat_checker.specs.Store.{IsStore, Stores, is_stored_unit, unit_for}
-use Rattle.varisat_checker.specs.Units.{unit_at}
 use Rattle.varisat_checker.specs.View.{stored_list}
 use Rattle.varisat_checker.proofs.AnswerLemmas.{answers-new, either_way, unit-conflict, unit-new, unit-stands}
-use Rattle.varisat_checker.proofs.StoreLemmas.{few-short, is_store-units, list_all-set, stored_units-set, unit_of-stored_units}
+use Rattle.varisat_checker.proofs.StoreLemmas.{few-short, is_store-units, list_all-set, stored_units-set, unit_is}
 use Rattle.varisat_checker.proofs.clauses.store.store_unit.Goals as goal
-
--- the unit of the variable as the rules see it
-unit_is : (us : List (Option UnitClause)) (o : Option UnitClause) (i v : _) → o ≡ unit_at us i → i ≡ v → unit_of (stored_units us) v ≡ option_map stored_unit o
-unit_is us o i v h e = unit_of-stored_units us v ∙ ap (λ k. option_map stored_unit (unit_at us k)) (sym e) ∙ ap (option_map stored_unit) (sym h)
 
 -- equality of truth values
 same_is : (a b d e : Bool) → beq a b ≡ d → b ≡ e → same_bool a e ≡ d
@@ -42,7 +36,7 @@ returns-in-None-clause-answer c h known redundant kept =
 pub returns-in-None-clause-store : goal.returns-in-None-clause-store
 returns-in-None-clause-store c h kept =
     let cs = c.args.clauses.now in let l = c.args.lit in let res = c.put_unit.result in
-    let next = is_store-units h cs (slice_set cs.unit_clauses (l / 2) (Some (unit_for l cs.next_clause_id))) cs.unit_conflict (cs.next_clause_id + 1) (omega arith) (list_all-set is_stored_unit cs.unit_clauses (l / 2) (Some (unit_for l cs.next_clause_id)) refl kept.units) kept in
+    let next = is_store-units h cs (slice_set cs.unit_clauses (l / 2) (Some (unit_for l cs.next_clause_id))) cs.unit_conflict (cs.next_clause_id + 1) (omega arith) (list_all-set is_stored_unit cs.unit_clauses (l / 2) (Some (unit_for l cs.next_clause_id)) refl kept.units) (length-set cs.unit_clauses (l / 2) (Some (unit_for l cs.next_clause_id))) kept in
     either_way res (on_ok_weaker res (λ q. subst (IsStore h) (sym q) next) c.put_unit.ensures.stored) (on_err_weaker res (λ q. subst (IsStore h) (sym q) kept) c.put_unit.ensures.unchanged)
 
 pub returns-then-unit-is_positive-clause-answer : goal.returns-then-unit-is_positive-clause-answer
@@ -68,5 +62,5 @@ returns-else-unit-is_positive-clause-answer c h known redundant kept =
 pub returns-else-unit-is_positive-clause-store : goal.returns-else-unit-is_positive-clause-store
 returns-else-unit-is_positive-clause-store c h kept =
     let cs = c.args.clauses.now in let res = c.put_conflict.result in
-    let next = is_store-units h cs cs.unit_clauses (Some (c.global_id-stored.result, cs.next_clause_id)) (cs.next_clause_id + 1) (omega arith) kept.units kept in
+    let next = is_store-units h cs cs.unit_clauses (Some (c.global_id-stored.result, cs.next_clause_id)) (cs.next_clause_id + 1) (omega arith) kept.units refl kept in
     either_way res (on_ok_weaker res (λ q. subst (IsStore h) (sym q) next) c.put_conflict.ensures.stored) (on_err_weaker res (λ q. subst (IsStore h) (sym q.0) kept) c.put_conflict.ensures.unchanged)

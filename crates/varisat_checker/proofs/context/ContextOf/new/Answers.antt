@@ -1,7 +1,3 @@
-use Rattle.std.proofs.Common.{[], sym, subst, ap, ◌∙◌}
-use Rattle.checker_rules.specs.Steps.{new_state}
-use Rattle.varisat_checker.specs.Kept.{Kept}
-use Rattle.varisat_checker.specs.StateOf.{state_of}
 use Rattle.varisat_checker.proofs.NewLemmas.{kept-new, state_of-new}
 use Rattle.varisat_checker.proofs.context.ContextOf.new.Goals as goal
 

@@ -1,4 +1,4 @@
-use Rattle.std.proofs.Common.{◌≡◌, ℕ, List, Option, None, sym, ap, ◌∙◌, subst, refl}
+use Rattle.std.proofs.Common.{ℕ, List, sym, ap, ◌∙◌, subst, refl}
 use Rattle.checker_rules.specs.Check.{ready}
 use Rattle.checker_rules.specs.Outcome.{Outcome, at_check_failed, no_clause_for_hash}
 use Rattle.checker_parts.specs.declared.error.CheckCause.TheVariants.{AtCheckFailed, NoClauseForHash}
@@ -6,7 +6,7 @@ use Rattle.varisat_checker.specs.declared.rup.Answer.{Answer}
 use Rattle.varisat_checker.specs.CheckLaw.{AnswersCheck}
 use Rattle.varisat_checker.specs.Rup.{AreAllKnown}
 use Rattle.varisat_checker.specs.StateOf.{state_of}
-use Rattle.varisat_checker.proofs.ReadyLemmas.{check-failed, check-no_clause, check-passed, ready-answers, ready-form, ready-known, same-units}
+use Rattle.varisat_checker.proofs.ReadyLemmas.{check-failed, check-no_clause, check-passed, ready-answers, ready-form, ready-known, ready-trace, same-units}
 use Rattle.varisat_checker.proofs.RefusalLemmas.{answers-refusal}
 use Rattle.varisat_checker.proofs.rup.check.check_clause_with_hashes.Goals as goal
 
@@ -23,6 +23,11 @@ returns-in-Passed-clause-answer c =
     let passes = subst (λ (a : Answer). AnswersCheck (ready s c.args.lits.now) c.args.lits.now c.args.hashes.now a) c.in-Passed.is (ready-answers c.args.state.now c.make_ready.new.hasher c.make_ready.new.clauses c.make_ready.new.variables c.as_slice.result.now c.args.lits.now c.args.hashes.now c.in-Ok-check_clause.answer s c.in-Ok.ensures.store c.requires.kept.sound c.in-Ok.ensures.state c.requires.no_tautology c.as_slice.ensures.value c.in-Ok-check_clause.ensures.answer) in
     let o = check-passed s c.args.lits.now c.args.hashes.now passes in
     (ap (λ (x : Outcome). x.refused) o, same-units c.args.state.now c.make_ready.new.hasher c.make_ready.new.clauses c.make_ready.new.variables c.check_clause.new.units (ready s c.args.lits.now) c.in-Ok-check_clause.ensures.units c.in-Ok.ensures.state ∙ sym (ap (λ (x : Outcome). x.after) o))
+
+pub returns-in-Passed-clause-trace : goal.returns-in-Passed-clause-trace
+returns-in-Passed-clause-trace c = λ traced.
+    let s = state_of c.args.state.now c.args.hasher.now c.args.clauses.now c.args.variables.now in
+    ready-trace c.args.state.now c.make_ready.new.hasher c.make_ready.new.clauses c.make_ready.new.variables c.as_slice.result.now c.args.lits.now c.args.hashes.now c.args.rup.now.trace_ids.items c.check_clause.new.rup.trace_ids.items c.in-Ok-check_clause.answer c.args.traced s c.in-Ok.ensures.store c.in-Ok.ensures.state c.as_slice.ensures.value c.in-Passed.is traced c.in-Ok-check_clause.ensures.trace_ids
 
 pub returns-in-NoClauseForHash-clause-answer : goal.returns-in-NoClauseForHash-clause-answer
 returns-in-NoClauseForHash-clause-answer c =

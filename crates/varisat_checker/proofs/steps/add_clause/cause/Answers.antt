@@ -1,4 +1,4 @@
-use Rattle.std.proofs.Common.{◌≡◌, ℕ, ◌<◌, ◌^◌, false, sym, ◌∙◌, subst, arith, ap}
+use Rattle.std.proofs.Common.{sym, ◌∙◌, arith}
 use Rattle.varisat_checker.specs.StateOf.{state_of}
 use Rattle.varisat_checker.proofs.AddClauseLemmas.{cause-copies, cause-ids, cause-none, cause-sampling, id-left}
 use Rattle.varisat_checker.proofs.steps.add_clause.cause.Goals as goal

@@ -1,16 +1,21 @@
-use Rattle.std.proofs.Common.{◌≡◌, ℕ, List, None, Some, Err, true, false, sym, ap, ◌∙◌, subst, refl}
-use Rattle.checker_rules.specs.Canonical.{canonical}
-use Rattle.checker_rules.specs.Check.{check}
-use Rattle.checker_rules.specs.Clauses.{is_tautology}
-use Rattle.checker_rules.specs.Outcome.{Outcome, accept, tautology}
+use Rattle.std.proofs.Common.{◌≡◌, ℕ, Err, sym, ap, ◌∙◌, refl, Ok}
+use Rattle.checker_rules.specs.Clauses.{is_canonical}
+use Rattle.checker_rules.specs.Outcome.{Outcome, tautology}
 use Rattle.checker_rules.specs.Step.{at_clause}
 use Rattle.checker_rules.specs.Steps.{step}
-use Rattle.checker_parts.specs.Answers.{AnswersParts}
+use Rattle.checker_rules.proofs.Entries.{canonical-is}
+use Rattle.std.proofs.lemmas.Result.{err_from_is_err_and, on_ok_weaker}
+use Rattle.checker_rules.specs.Emits.{Emits}
 use Rattle.checker_parts.specs.declared.error.CheckCause.TheVariants.{Tautology}
-use Rattle.varisat_checker.specs.Derived.{stored_after}
+use Rattle.varisat_checker.specs.Derived.{derived, derived_steps}
+use Rattle.varisat_checker.specs.Handed.{boxes_of}
 use Rattle.varisat_checker.specs.StateOf.{state_of}
-use Rattle.varisat_checker.proofs.AtClauseLemmas.{at-passed, at-refused, at-tautology}
-use Rattle.varisat_checker.proofs.RefusalLemmas.{answers-part, answers-refusal, kept-answer}
+use Rattle.varisat_checker.specs.Store.{IsStore}
+use Rattle.varisat_checker.proofs.AtClauseLemmas.{at-refused, at-steps, at-stored, at-tautology, kept_as_previous}
+use Rattle.varisat_checker.proofs.EmissionLemmas.{handed-refused, unless-failed}
+use Rattle.varisat_checker.proofs.EmittedSteps.{handed-traced}
+use Rattle.varisat_checker.proofs.FaultLemmas.{answers-as, handed-as, handed-unless-memory, unless-as}
+use Rattle.varisat_checker.proofs.RefusalLemmas.{answers-part, answers-refusal, answers-unless-memory, kept-answer}
 use Rattle.varisat_checker.proofs.steps.at_clause.at_clause.Goals as goal
 
 pub returns-then-tautology-clause-step : goal.returns-then-tautology-clause-step
@@ -20,35 +25,87 @@ returns-then-tautology-clause-step g c =
     let o = at-tautology s c.args.redundant c.args.lits.now c.args.hashes.now (sym c.in-Ok.ensures.tautology ∙ c.if-tautology.true) in
     answers-refusal c.refusal.result ctx.checker_state.step Tautology tautology _ _ c.refusal.ensures refl (ap (λ (x : Outcome). x.refused) o) (sym (ap (λ (x : Outcome). x.after) o)) refl
 
-pub returns-in-Ok-checked-clause-step : goal.returns-in-Ok-checked-clause-step
-returns-in-Ok-checked-clause-step g c =
-    let ctx = c.args.ctx.now in
+pub returns-then-tautology-clause-handed : goal.returns-then-tautology-clause-handed
+returns-then-tautology-clause-handed g c =
+    let ctx = c.args.ctx.now in let P = g.P.ProofProcessor in let T = g.T.ProofTranscriptProcessor in
     let s = state_of ctx.checker_state ctx.clause_hasher ctx.clauses ctx.variables in
-    let list = c.as_slice-clause.ensures.value ∙ c.in-Ok.ensures.items in
-    let t = state_of c.store_derived.new.state c.check_clause_with_hashes-checked.new.hasher c.store_derived.new.clauses c.check_clause_with_hashes-checked.new.variables in
-    let passed = subst (λ (x : List ℕ). (check s x c.args.hashes.now accept).refused ≡ None) list c.in-Ok-checked.ensures.answer.0 in
-    let o = at-passed s c.args.redundant c.args.lits.now c.args.hashes.now (sym c.in-Ok.ensures.tautology ∙ c.if-tautology.false) passed in
-    let here = ap (stored_after c.args.redundant c.as_slice-clause.result.now) c.in-Ok-checked.ensures.answer.1 ∙ ap (λ (x : List ℕ). stored_after c.args.redundant x (check s x c.args.hashes.now accept).after) list ∙ sym o in
-    subst (λ (x : Outcome). AnswersParts c.store_derived.result x t) here (c.store_derived.ensures.answer c.check_clause_with_hashes-checked.new.variables)
+    handed-refused P.took P.faulted T.took T.faulted s s (at_clause c.args.redundant c.args.lits.now c.args.hashes.now) c.refusal.result ctx.checker_state.step Tautology (boxes_of ctx.processing) c.refusal.ensures (returns-then-tautology-clause-step g c) refl
 
-pub returns-in-Ok-checked-clause-kept : goal.returns-in-Ok-checked-clause-kept
-returns-in-Ok-checked-clause-kept g c =
-    let ctx = c.args.ctx.now in
-    kept-answer c.store_derived.result ctx.checker_state c.store_derived.new.state ctx.clause_hasher c.check_clause_with_hashes-checked.new.hasher ctx.clauses c.store_derived.new.clauses ctx.variables c.check_clause_with_hashes-checked.new.variables
-    (at_clause c.args.redundant c.args.lits.now c.args.hashes.now) c.requires (returns-in-Ok-checked-clause-step g c) c.store_derived.ensures.store
-
-pub returns-in-Err-clause-step : goal.returns-in-Err-clause-step
-returns-in-Err-clause-step g c =
-    let ctx = c.args.ctx.now in
+pub returns-in_err-id-clause-step : goal.returns-in_err-id-clause-step
+returns-in_err-id-clause-step g c =
+    let ctx = c.args.ctx.now in let new = c.derive.new in let clause = c.as_slice-clause.result.now in
     let s = state_of ctx.checker_state ctx.clause_hasher ctx.clauses ctx.variables in
-    let list = c.as_slice-clause.ensures.value ∙ c.in-Ok.ensures.items in
-    let t = state_of ctx.checker_state c.check_clause_with_hashes-checked.new.hasher c.check_clause_with_hashes-checked.new.clauses c.check_clause_with_hashes-checked.new.variables in
-    answers-part c.in-Err.fault (check s (canonical c.args.lits.now) c.args.hashes.now accept) (step s (at_clause c.args.redundant c.args.lits.now c.args.hashes.now)) t
-    (λ cause refused. at-refused s c.args.redundant c.args.lits.now c.args.hashes.now cause (sym c.in-Ok.ensures.tautology ∙ c.if-tautology.false) refused)
-    (subst (λ (x : List ℕ). AnswersParts {A = Unit {0}} (Err c.in-Err.fault) (check s x c.args.hashes.now accept) t) list c.in-Err.ensures.answer)
+    let t = state_of new.state new.hasher new.clauses new.variables in
+    let o = derived s c.args.redundant clause c.args.hashes.now in
+    let q = err_from_is_err_and c.from_residual.result c.from_residual.ensures.1 in
+    rw (q.1, q.2) (answers-part c.in_err-id.field-0.0 o (step s (at_clause c.args.redundant c.args.lits.now c.args.hashes.now)) t
+    (at-refused s c.args.redundant c.args.lits.now c.args.hashes.now clause (c.as_slice-clause.ensures.value ∙ c.in-Ok.ensures.items) (sym c.in-Ok.ensures.tautology ∙ c.if-tautology.false))
+    (answers-as ℕ (Unit {0}) c.in_err-id.field-0.0 o t c.in_err-id.ensures.answer))
 
-pub returns-in-Err-clause-kept : goal.returns-in-Err-clause-kept
-returns-in-Err-clause-kept g c =
-    let ctx = c.args.ctx.now in
-    kept-answer {A = Unit {0}} (Err c.in-Err.fault) ctx.checker_state ctx.checker_state ctx.clause_hasher c.check_clause_with_hashes-checked.new.hasher ctx.clauses c.check_clause_with_hashes-checked.new.clauses ctx.variables c.check_clause_with_hashes-checked.new.variables
-    (at_clause c.args.redundant c.args.lits.now c.args.hashes.now) c.requires (returns-in-Err-clause-step g c) c.in-Err.ensures.store
+pub returns-in_err-id-clause-kept : goal.returns-in_err-id-clause-kept
+returns-in_err-id-clause-kept g c =
+    let ctx = c.args.ctx.now in let new = c.derive.new in
+    let q = err_from_is_err_and c.from_residual.result c.from_residual.ensures.1 in
+    kept-answer c.from_residual.result ctx.checker_state new.state ctx.clause_hasher new.hasher ctx.clauses new.clauses ctx.variables new.variables
+    (at_clause c.args.redundant c.args.lits.now c.args.hashes.now) c.requires (returns-in_err-id-clause-step g c)
+    (rw (q.1, q.2) (unless-as ℕ (Unit {0}) c.in_err-id.field-0.0 (IsStore new.hasher new.clauses) c.in_err-id.ensures.store))
+
+pub returns-in_err-id-clause-handed : goal.returns-in_err-id-clause-handed
+returns-in_err-id-clause-handed g c =
+    let ctx = c.args.ctx.now in let new = c.derive.new in let clause = c.as_slice-clause.result.now in let P = g.P.ProofProcessor in let T = g.T.ProofTranscriptProcessor in
+    let s = state_of ctx.checker_state ctx.clause_hasher ctx.clauses ctx.variables in let t = at_clause c.args.redundant c.args.lits.now c.args.hashes.now in
+    let xs = derived_steps s c.args.redundant clause c.args.hashes.now in
+    let here = at-steps s c.args.redundant c.args.lits.now c.args.hashes.now clause (c.as_slice-clause.ensures.value ∙ c.in-Ok.ensures.items) (sym c.in-Ok.ensures.tautology ∙ c.if-tautology.false) in
+    let q = err_from_is_err_and c.from_residual.result c.from_residual.ensures.1 in
+    rw (q.1, q.2) (handed-traced P.took P.faulted T.took T.faulted {A = Unit {0}} (Err c.in_err-id.field-0.0) s t xs (boxes_of ctx.processing) (boxes_of new.processing) c.requires.sound.form here
+    (handed-as P.took P.faulted T.took T.faulted ℕ (Unit {0}) c.in_err-id.field-0.0 (λ es. es ≡ xs) (boxes_of ctx.processing) (boxes_of new.processing) c.in_err-id.ensures.handed))
+
+pub returns-then-redundant-clause-step : goal.returns-then-redundant-clause-step
+returns-then-redundant-clause-step g c =
+    let ctx = c.args.ctx.now in let new = c.derive.new in let clause = c.as_slice-clause.result.now in
+    let s = state_of ctx.checker_state ctx.clause_hasher ctx.clauses ctx.variables in
+    let t = state_of new.state new.hasher new.clauses new.variables in
+    at-stored s c.args.redundant c.args.lits.now c.args.hashes.now clause (c.as_slice-clause.ensures.value ∙ c.in-Ok.ensures.items) (sym c.in-Ok.ensures.tautology ∙ c.if-tautology.false) t t c.in_ok-id.id c.in_ok-id.ensures.answer c.in_ok-id.ensures.id
+    (ap (λ b. kept_as_previous b clause c.in_ok-id.id t) (sym c.if-redundant.true))
+
+pub returns-then-redundant-clause-kept : goal.returns-then-redundant-clause-kept
+returns-then-redundant-clause-kept g c =
+    let ctx = c.args.ctx.now in let new = c.derive.new in
+    kept-answer {A = Unit {0}} (Ok tt) ctx.checker_state new.state ctx.clause_hasher new.hasher ctx.clauses new.clauses ctx.variables new.variables
+    (at_clause c.args.redundant c.args.lits.now c.args.hashes.now) c.requires (returns-then-redundant-clause-step g c) c.in_ok-id.ensures.store
+
+pub returns-then-redundant-clause-handed : goal.returns-then-redundant-clause-handed
+returns-then-redundant-clause-handed g c =
+    let ctx = c.args.ctx.now in let new = c.derive.new in let clause = c.as_slice-clause.result.now in let P = g.P.ProofProcessor in let T = g.T.ProofTranscriptProcessor in
+    let s = state_of ctx.checker_state ctx.clause_hasher ctx.clauses ctx.variables in let t = at_clause c.args.redundant c.args.lits.now c.args.hashes.now in
+    let here = at-steps s c.args.redundant c.args.lits.now c.args.hashes.now clause (c.as_slice-clause.ensures.value ∙ c.in-Ok.ensures.items) (sym c.in-Ok.ensures.tautology ∙ c.if-tautology.false) in
+    handed-traced P.took P.faulted T.took T.faulted {A = ℕ} (Ok c.in_ok-id.id) s t (derived_steps s c.args.redundant clause c.args.hashes.now) (boxes_of ctx.processing) (boxes_of new.processing) c.requires.sound.form here c.in_ok-id.ensures.handed
+
+pub returns-clause-step : goal.returns-clause-step
+returns-clause-step g c =
+    let ctx = c.args.ctx.now in let new = c.derive.new in let clause = c.as_slice-clause.result.now in
+    let s = state_of ctx.checker_state ctx.clause_hasher ctx.clauses ctx.variables in
+    let t = state_of new.state new.hasher new.clauses new.variables in
+    let u = state_of c.set_previous.new.state new.hasher new.clauses new.variables in
+    answers-unless-memory c.set_previous.result (step s (at_clause c.args.redundant c.args.lits.now c.args.hashes.now)) u
+    (on_ok_weaker c.set_previous.result (λ kept. at-stored s c.args.redundant c.args.lits.now c.args.hashes.now clause (c.as_slice-clause.ensures.value ∙ c.in-Ok.ensures.items) (sym c.in-Ok.ensures.tautology ∙ c.if-tautology.false) t u c.in_ok-id.id c.in_ok-id.ensures.answer c.in_ok-id.ensures.id
+    (kept new.hasher new.clauses new.variables ∙ ap (λ b. kept_as_previous b clause c.in_ok-id.id t) (sym c.if-redundant.false))) c.set_previous.ensures.state)
+    c.set_previous.ensures.memory
+
+pub returns-clause-kept : goal.returns-clause-kept
+returns-clause-kept g c =
+    let ctx = c.args.ctx.now in let new = c.derive.new in
+    kept-answer c.set_previous.result ctx.checker_state c.set_previous.new.state ctx.clause_hasher new.hasher ctx.clauses new.clauses ctx.variables new.variables
+    (at_clause c.args.redundant c.args.lits.now c.args.hashes.now) c.requires (returns-clause-step g c)
+    (unless-failed c.set_previous.result c.in_ok-id.ensures.store)
+
+pub returns-clause-handed : goal.returns-clause-handed
+returns-clause-handed g c =
+    let ctx = c.args.ctx.now in let new = c.derive.new in let clause = c.as_slice-clause.result.now in let P = g.P.ProofProcessor in let T = g.T.ProofTranscriptProcessor in
+    let s = state_of ctx.checker_state ctx.clause_hasher ctx.clauses ctx.variables in let t = at_clause c.args.redundant c.args.lits.now c.args.hashes.now in
+    let here = at-steps s c.args.redundant c.args.lits.now c.args.hashes.now clause (c.as_slice-clause.ensures.value ∙ c.in-Ok.ensures.items) (sym c.in-Ok.ensures.tautology ∙ c.if-tautology.false) in
+    handed-unless-memory P.took P.faulted T.took T.faulted c.set_previous.result (Emits s t) (boxes_of ctx.processing) (boxes_of new.processing) c.set_previous.ensures.memory
+    (handed-traced P.took P.faulted T.took T.faulted {A = ℕ} (Ok c.in_ok-id.id) s t (derived_steps s c.args.redundant clause c.args.hashes.now) (boxes_of ctx.processing) (boxes_of new.processing) c.requires.sound.form here c.in_ok-id.ensures.handed)
+
+pub derive-requires-clause-canonical : goal.derive-requires-clause-canonical
+derive-requires-clause-canonical g c = ap is_canonical (c.as_slice-clause.ensures.value ∙ c.in-Ok.ensures.items) ∙ canonical-is c.args.lits.now

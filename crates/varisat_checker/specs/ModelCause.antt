@@ -1,0 +1,54 @@
+-- Why a list of literals is no model. Its literals are marked, by their codes.
+--     is_marked marks l, HasPlaces marks known      whether a literal is marked; a place for each literal of a known variable
+--     lit_cause s listed l      why a literal can't be listed beside those of a set
+--     list_cause s m      why a list is refused where `unsat` is not recorded
+--     IsJudged r cause      the answer of the code names that cause
+use Rattle.std.specs.Prelude.{ℕ, ◌≡◌, ◌<◌, ◌^◌, Bool, false, cond, not, slice_index_or, List, [], length, Option, Some, None, Result, Ok, Err}
+use Rattle.std.specs.List.{list_all, list_any}
+use Rattle.checker_rules.specs.Canonical.{is_subset}
+use Rattle.checker_rules.specs.Clauses.{negate, var_of}
+use Rattle.checker_rules.specs.KnownVars.{is_known}
+use Rattle.checker_rules.specs.Model.{has_some, is_false_by_unit, model_cause}
+use Rattle.checker_rules.specs.Outcome.{Cause, model_against_itself, model_against_unit, model_misses_assumption, model_misses_clause, unknown_var}
+use Rattle.checker_rules.specs.State.{Known, State, Stored}
+use Rattle.checker_parts.specs.Causes.{cause_of}
+use Rattle.checker_parts.specs.declared.error.CheckCause.{CheckCause}
+
+-- whether the literal is marked
+abbrev pub is_marked : List Bool → ℕ → Bool
+is_marked marks l = slice_index_or marks l false
+
+-- there is a place for each literal of a known variable
+abbrev pub HasPlaces : List Bool → List Known → Type 0
+HasPlaces marks known = (l : ℕ) → l < 2 ^ 29 → var_of l < length known → l < length marks
+
+-- whether a literal of the clause is in the set
+abbrev pub is_met : (ℕ → Bool) → Stored → Bool
+is_met listed e = list_any listed e.lits
+
+-- the first of two causes that is there
+abbrev pub first_cause : Option Cause → Option Cause → Option Cause
+first_cause None later = later
+first_cause (Some cause) later = Some cause
+
+-- why a literal can't be listed beside those of the set
+abbrev pub lit_cause : State → (ℕ → Bool) → ℕ → Option Cause
+lit_cause s listed l =
+    cond (not (is_known s (var_of l))) (Some unknown_var)
+    (cond (is_false_by_unit s.units l) (Some model_against_unit)
+    (cond (listed (negate l)) (Some model_against_itself) None))
+
+-- what the list misses
+abbrev pub missing_cause : State → List ℕ → Option Cause
+missing_cause s m =
+    cond (not (is_subset s.assumed m)) (Some model_misses_assumption)
+    (cond (not (list_all (λ e. has_some e.lits m) s.clauses)) (Some model_misses_clause) None)
+
+-- why the list is refused where `unsat` is not recorded
+abbrev pub list_cause : State → List ℕ → Option Cause
+list_cause s m = first_cause (model_cause s [] m) (missing_cause s m)
+
+-- no cause applies, or the code names the one that does
+abbrev pub IsJudged : {A : Type 0} → Result A CheckCause → Option Cause → Type 0
+IsJudged (Ok done) cause = cause ≡ None
+IsJudged (Err msg) cause = cause ≡ Some (cause_of msg)

@@ -1,0 +1,15 @@
+-- Answers of parts that hand nothing on.
+use Rattle.std.specs.Prelude.{Result, Ok, Err}
+use Rattle.checker_parts.specs.declared.error.CheckerError.{CheckerError}
+use Rattle.checker_parts.specs.declared.error.CheckerError.TheVariants.{ProofIncomplete, IoError, ParseError, CheckFailed, ProofProcessorError, OutOfMemory, Failed}
+
+-- no processor answered a fault
+abbrev pub IsQuiet : {A : Type 0} → Result A CheckerError → Type 0
+IsQuiet (Ok done) = Unit {0}
+IsQuiet (Err (CheckFailed number cause debug_step)) = Unit {0}
+IsQuiet (Err (ProofIncomplete number)) = Unit {0}
+IsQuiet (Err (IoError number cause)) = Unit {0}
+IsQuiet (Err (ParseError number cause)) = Unit {0}
+IsQuiet (Err (ProofProcessorError cause)) = ⊥
+IsQuiet (Err OutOfMemory) = Unit {0}
+IsQuiet (Err Failed) = Unit {0}
