@@ -1,44 +1,41 @@
-//! Answers of the checker's calls that can be compared.
-use checker_parts::error::{CheckCause, CheckerError, DimacsError};
-use proof_bytes::MalformedStep;
-use sat_formula::DimacsKind;
-use std::io::ErrorKind;
+//! Answers of the checker's calls as text.
+use checker_parts::error::{CheckerError, DimacsError};
+use std::alloc::{AllocError, Global};
 
-/// What a call answers.
-#[derive(Clone, Copy, Debug, PartialEq, Eq)]
-pub enum Answer {
-    Done,
-    // Of a proof: with the number of the step.
-    Incomplete(u64),
-    Unread(u64, ErrorKind),
-    Malformed(u64, MalformedStep),
-    Refused(u64, CheckCause),
-    // Of a formula's text: with the number of the line.
-    UnreadText(ErrorKind),
-    MalformedText(u64, DimacsKind),
-    ProcessorFault,
-    OutOfMemory,
-    Failed,
-}
-
-pub fn seen(answer: Result<(), CheckerError>) -> Answer {
+/// The text of an answer: `Ok`, or the name of the fault, with the number of the step where it has one, and the cause.
+pub fn answer(alloc: Global, answer: Result<(), CheckerError>) -> Result<String, AllocError> {
     match answer {
-        Ok(()) => Answer::Done,
-        Err(CheckerError::ProofIncomplete { step }) => Answer::Incomplete(step),
-        Err(CheckerError::IoError { step, cause }) => Answer::Unread(step, cause.kind()),
-        Err(CheckerError::ParseError { step, cause }) => Answer::Malformed(step, cause),
-        Err(CheckerError::CheckFailed { step, msg, .. }) => Answer::Refused(step, msg),
-        Err(CheckerError::ProofProcessorError { .. }) => Answer::ProcessorFault,
-        Err(CheckerError::OutOfMemory) => Answer::OutOfMemory,
-        Err(CheckerError::Failed) => Answer::Failed,
+        Ok(()) => format!(in alloc; "Ok"),
+        Err(fault) => fault_text(alloc, fault),
     }
 }
 
-pub fn seen_text(answer: Result<(), DimacsError>) -> Answer {
+fn fault_text(alloc: Global, fault: CheckerError) -> Result<String, AllocError> {
+    match fault {
+        CheckerError::ProofIncomplete { step } => format!(in alloc; "ProofIncomplete {step}"),
+        CheckerError::IoError { step, cause } => {
+            format!(in alloc; "IoError {step} {:?}", cause.kind())
+        }
+        CheckerError::ParseError { step, cause } => {
+            format!(in alloc; "ParseError {step} {cause:?}")
+        }
+        CheckerError::CheckFailed { step, msg, .. } => {
+            format!(in alloc; "CheckFailed {step} {msg:?}")
+        }
+        CheckerError::ProofProcessorError { .. } => format!(in alloc; "ProofProcessorError"),
+        CheckerError::OutOfMemory => format!(in alloc; "OutOfMemory"),
+        CheckerError::Failed => format!(in alloc; "Failed"),
+    }
+}
+
+/// The text of an answer to a formula's text: a malformed one has the number of its line.
+pub fn text_answer(alloc: Global, answer: Result<(), DimacsError>) -> Result<String, AllocError> {
     match answer {
-        Ok(()) => Answer::Done,
-        Err(DimacsError::Read(cause)) => Answer::UnreadText(cause.kind()),
-        Err(DimacsError::Malformed { line, kind }) => Answer::MalformedText(line, kind),
-        Err(DimacsError::Checker(fault)) => seen(Err(fault)),
+        Ok(()) => format!(in alloc; "Ok"),
+        Err(DimacsError::Read(cause)) => format!(in alloc; "Read {:?}", cause.kind()),
+        Err(DimacsError::Malformed { line, kind }) => {
+            format!(in alloc; "Malformed {line} {kind:?}")
+        }
+        Err(DimacsError::Checker(fault)) => fault_text(alloc, fault),
     }
 }

@@ -11,6 +11,28 @@ pub struct Cuts<'a> {
     kind: ErrorKind,
 }
 
+impl Cuts<'_> {
+    /// So many bytes a read.
+    pub fn of_size(text: &[u8], size: usize) -> Cuts<'_> {
+        Cuts {
+            rest: text,
+            size,
+            failing: 0,
+            kind: ErrorKind::Other,
+        }
+    }
+
+    /// One byte a read, and the read of this number, counted from 1, fails.
+    pub fn failing_at(text: &[u8], failing: u32, kind: ErrorKind) -> Cuts<'_> {
+        Cuts {
+            rest: text,
+            size: 1,
+            failing,
+            kind,
+        }
+    }
+}
+
 impl Read for Cuts<'_> {
     fn read(&mut self, buf: &mut [u8]) -> io::Result<usize> {
         if self.failing == 1 {
@@ -22,35 +44,5 @@ impl Read for Cuts<'_> {
         buf[..count].copy_from_slice(&self.rest[..count]);
         self.rest = &self.rest[count..];
         Ok(count)
-    }
-}
-
-/// All bytes that a read has room for.
-pub fn whole(text: &[u8]) -> Cuts<'_> {
-    Cuts {
-        rest: text,
-        size: usize::MAX,
-        failing: 0,
-        kind: ErrorKind::Other,
-    }
-}
-
-/// One byte a read.
-pub fn bytewise(text: &[u8]) -> Cuts<'_> {
-    Cuts {
-        rest: text,
-        size: 1,
-        failing: 0,
-        kind: ErrorKind::Other,
-    }
-}
-
-/// One byte a read, and the read of this number, counted from 1, fails.
-pub fn failing_at(text: &[u8], failing: u32, kind: ErrorKind) -> Cuts<'_> {
-    Cuts {
-        rest: text,
-        size: 1,
-        failing,
-        kind,
     }
 }

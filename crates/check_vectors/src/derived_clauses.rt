@@ -1,248 +1,227 @@
-//! Derived clauses, one by one.
-use crate::answers::Answer::{Done, Refused};
-use crate::runs::Call::{Add, Close, Derive, DeriveRedundant, End};
-use crate::runs::{BOTH, NEITHER, ONE_NOT_TWO, PAIRS, TWO_NOT_ONE, play};
-use checker_parts::error::CheckCause::{AtCheckFailed, NoClauseForHash, Tautology};
+//! Derived clauses: what they are checked by, their ids and their propagations.
+use crate::script::agrees;
 use std::test::Fail;
 
-// The hash of [2, 3].
-const TWO_OR_THREE: u64 = 0x4C71_0C8D_01AB_1856;
-
-// The hash of [2, -3].
-const TWO_NOT_THREE: u64 = 0xEFB9_9574_8661_9C41;
-
-#[test]
-fn derived_empty_clause_is_recorded(rt: HostRuntime) -> Result<(), Fail> {
-    play(
-        &rt,
-        rt.alloc(),
-        &PAIRS,
-        &[
-            (Derive(&[1], &[BOTH, ONE_NOT_TWO]), Done, (false, 4)),
-            (Derive(&[], &[TWO_NOT_ONE, NEITHER]), Done, (true, 4)),
-        ],
-    )
-}
-
-#[test]
-fn refusals_are_numbered_by_steps(rt: HostRuntime) -> Result<(), Fail> {
-    play(
-        &rt,
-        rt.alloc(),
-        &[&[1, 2]],
-        &[
-            (
-                Derive(&[1, 2], &[7]),
-                Refused(1, NoClauseForHash),
-                (false, 1),
-            ),
-            (Derive(&[-1], &[]), Refused(2, AtCheckFailed), (false, 1)),
-            (Derive(&[1, 2], &[BOTH, 7]), Done, (false, 1)),
-            (Derive(&[3], &[]), Refused(4, AtCheckFailed), (false, 1)),
-        ],
-    )
-}
-
-#[test]
-fn clause_made_true_by_a_unit_needs_no_hash(rt: HostRuntime) -> Result<(), Fail> {
-    play(
-        &rt,
-        rt.alloc(),
-        &[&[1]],
-        &[
-            (DeriveRedundant(&[1, 2], &[7]), Done, (false, 1)),
-            // It is stored: its hash names it.
-            (DeriveRedundant(&[2, 1], &[BOTH]), Done, (false, 1)),
-        ],
-    )
-}
-
-#[test]
-fn derived_clauses_are_stored(rt: HostRuntime) -> Result<(), Fail> {
-    let resolvent = [BOTH, TWO_NOT_ONE];
-    for derived in [
-        Derive(&[3, 2], &resolvent),
-        DeriveRedundant(&[3, 2], &resolvent),
-    ] {
-        play(
-            &rt,
-            rt.alloc(),
-            &[&[1, 2], &[-1, 2]],
-            &[
-                (
-                    Derive(&[-2, 3], &[TWO_OR_THREE]),
-                    Refused(1, NoClauseForHash),
-                    (false, 2),
-                ),
-                (derived, Done, (false, 2)),
-                (Derive(&[2, 3], &[TWO_OR_THREE]), Done, (false, 2)),
-            ],
-        )?;
-    }
-    Ok(())
-}
+const DERIVED_CLAUSES: &str = "
+new
+given 1 2
+given 1 -2
+given -1 2
+given -1 -2
+at irr 1 : A B
+> + AtClause 4 irr [1] (0 1)
+at irr : C D
+> + AtClause 5 irr [] (4 2 3)
+> ~ Unsat
+unsat
+> true
+inputs
+> 4
+# Refusals are numbered by the steps.
+new
+given 1 2
+at irr 1 2 : 7
+> CheckFailed 1 NoClauseForHash
+at irr -1
+> CheckFailed 2 AtCheckFailed
+at irr 1 2 : A 7
+at irr 3
+> CheckFailed 4 AtCheckFailed
+at irr 1 2 -1 : A
+> CheckFailed 5 Tautology
+# A unit that makes the clause true is its one propagation.
+new
+given 1
+at red 1 2 : 7
+> + AtClause 1 red [1 2] (0)
+# It is stored: its hash names it.
+at red 2 1 : A
+# What is derived is stored, whatever its kind.
+new
+given 1 2
+given -1 2
+at irr -2 3 : 4C710C8D01AB1856
+> CheckFailed 1 NoClauseForHash
+at irr 3 2 : A C
+> + AtClause 2 irr [2 3] (0 1)
+at irr 2 3 : 4C710C8D01AB1856
+new
+given 1 2
+given -1 2
+at red 3 2 : A C
+> + AtClause 2 red [2 3] (0 1)
+at red 2 3 : 4C710C8D01AB1856
+";
 
 #[test]
-fn tautology_is_refused(rt: HostRuntime) -> Result<(), Fail> {
-    play(
-        &rt,
-        rt.alloc(),
-        &[&[1]],
-        &[(Derive(&[1, 2, -1], &[]), Refused(1, Tautology), (false, 1))],
-    )
+fn derived_clauses(rt: HostRuntime) -> Result<(), Fail> {
+    agrees(&rt, rt.alloc(), DERIVED_CLAUSES)
 }
 
-// Values taken for a check are put back: a later check starts without them.
+const DERIVED_UNITS_AND_EMPTY_CLAUSES: &str = "
+# Units have no redundant mark: opposite ones are a conflict.
+new
+given 1 2
+given 1 -2
+given -1 2
+given -1 -2
+at red 1 : A B
+> + AtClause 4 red [1] (0 1)
+at red -1 : C D
+> + AtClause 5 red [-1] (2 3)
+unsat
+> true
+# The empty clause is not found by its record: it is derived anew each time.
+new
+given
+at irr
+> CheckFailed 1 AtCheckFailed
+new
+given 1
+given -1 2
+given -2 -1
+units 2:C
+> + AtClause 3 irr [2] (0 1)
+at irr : D
+> + AtClause 4 irr [] (0 3 2)
+> ~ Unsat
+at irr : D
+> + AtClause 5 irr [] (0 3 2)
+> ~ Unsat
+# Of listed units those before the refused one stay, and were told.
+new
+given 1
+given -1 2
+units 2:C 3:7
+> + AtClause 2 irr [2] (0 1)
+> CheckFailed 1 NoClauseForHash
+at irr 2
+add 3
+> + AddClause 3 [3]
+> ~ AddClause [3]
+";
+
 #[test]
-fn refused_check_leaves_no_values(rt: HostRuntime) -> Result<(), Fail> {
-    play(
-        &rt,
-        rt.alloc(),
-        &[&[1, 2], &[1, -2]],
-        &[
-            (Derive(&[1], &[BOTH]), Refused(1, AtCheckFailed), (false, 2)),
-            (
-                Derive(&[1], &[ONE_NOT_TWO, 7]),
-                Refused(2, NoClauseForHash),
-                (false, 2),
-            ),
-            // With 1 false or 2 true left behind, one of these would pass.
-            (Derive(&[2], &[BOTH]), Refused(3, AtCheckFailed), (false, 2)),
-            (Derive(&[-1], &[]), Refused(4, AtCheckFailed), (false, 2)),
-            (Derive(&[-2], &[]), Refused(5, AtCheckFailed), (false, 2)),
-            (Derive(&[1], &[BOTH, ONE_NOT_TWO]), Done, (false, 2)),
-        ],
-    )
+fn derived_units_and_empty_clauses(rt: HostRuntime) -> Result<(), Fail> {
+    agrees(&rt, rt.alloc(), DERIVED_UNITS_AND_EMPTY_CLAUSES)
 }
+
+const WALKS: &str = "
+# The walk goes through the hashes in the order in which they are named, once.
+new
+given -1 2
+given -2 3
+given -3 4
+at irr -1 4 : C Y Z
+> + AtClause 3 irr [-1 4] (0 1 2)
+new
+given -1 2
+given -2 3
+given -3 4
+at irr -1 4 : C Z Y
+> + AtClause 3 irr [-1 4] (0 2 1)
+# The middle clause has two free literals when it is met first.
+new
+given -1 2
+given -2 3
+given -3 4
+at irr -1 4 : Y C Z
+> CheckFailed 1 AtCheckFailed
+at irr -1 4 : Y C Z Y
+> + AtClause 3 irr [-1 4] (0 2 1)
+# The walk ends with the falsified clause: no hash after it is looked at.
+new
+given 1 2
+given 1 -2
+given -1 2
+given -1 -2
+at irr 1 : A B 7
+> + AtClause 4 irr [1] (0 1)
+at irr -2 : 7 C D
+> CheckFailed 2 NoClauseForHash
+";
 
 #[test]
-fn passed_check_leaves_no_values(rt: HostRuntime) -> Result<(), Fail> {
-    play(
-        &rt,
-        rt.alloc(),
-        &[&[1, 2], &[1, -2]],
-        &[
-            (Derive(&[1, 3], &[BOTH, ONE_NOT_TWO]), Done, (false, 2)),
-            (Derive(&[2], &[]), Refused(2, AtCheckFailed), (false, 2)),
-            (Derive(&[-2], &[]), Refused(3, AtCheckFailed), (false, 2)),
-            (Derive(&[3], &[]), Refused(4, AtCheckFailed), (false, 2)),
-            (Derive(&[-3], &[]), Refused(5, AtCheckFailed), (false, 2)),
-            (Derive(&[-1], &[]), Refused(6, AtCheckFailed), (false, 2)),
-        ],
-    )
+fn walks(rt: HostRuntime) -> Result<(), Fail> {
+    agrees(&rt, rt.alloc(), WALKS)
 }
 
-// The walk ends with the falsified clause: no hash after it is looked at.
-#[test]
-fn hash_without_clause_after_the_conflict(rt: HostRuntime) -> Result<(), Fail> {
-    play(
-        &rt,
-        rt.alloc(),
-        &PAIRS,
-        &[
-            (Derive(&[1], &[BOTH, ONE_NOT_TWO, 7]), Done, (false, 4)),
-            (
-                Derive(&[-2], &[7, TWO_NOT_ONE, NEITHER]),
-                Refused(2, NoClauseForHash),
-                (false, 4),
-            ),
-        ],
-    )
-}
+const UNITS_MET_ON_THE_WAY: &str = "
+# A unit that a clause meets false is listed, also beside free literals.
+new
+given 1
+given -1 6 7
+given 2 3
+given 2 -3
+at irr 2 : A8A9B560906FE1DC 4C710C8D01AB1856 EFB9957486619C41
+> + AtClause 4 irr [2] (0 2 3)
+# And before a true literal.
+new
+given 1
+given -1 8
+given 8
+given 2 3
+given 2 -3
+at irr 2 : 197133948BC9BD11 4C710C8D01AB1856 EFB9957486619C41
+> + AtClause 5 irr [2] (0 3 4)
+# After the first true literal no unit is looked at.
+new
+given -8
+given 1
+given 1 8
+given 2 3
+given 2 -3
+at irr 2 : BB09B85D0A17392E 4C710C8D01AB1856 EFB9957486619C41
+> + AtClause 5 irr [2] (3 4)
+# The unit of a variable of the checked clause is not listed.
+new
+given -2
+given 1
+given -1 2
+at irr 2 : C
+> + AtClause 3 irr [2] (1 2)
+";
 
-// The empty clause is not found by its record: it is derived anew each time.
-#[test]
-fn empty_clause_again(rt: HostRuntime) -> Result<(), Fail> {
-    let alloc = rt.alloc();
-    play(
-        &rt,
-        alloc,
-        &[&[]],
-        &[(Derive(&[], &[]), Refused(1, AtCheckFailed), (true, 1))],
-    )?;
-    play(
-        &rt,
-        alloc,
-        &[&[1], &[-1, 2], &[-2, -1]],
-        &[
-            (Derive(&[2], &[TWO_NOT_ONE]), Done, (false, 3)),
-            (Derive(&[], &[NEITHER]), Done, (true, 3)),
-            (Derive(&[], &[NEITHER]), Done, (true, 3)),
-        ],
-    )
-}
-
-// Units that the walk meets beside free or true literals change no answer.
 #[test]
 fn units_met_on_the_way(rt: HostRuntime) -> Result<(), Fail> {
-    let beside_free: [&[i64]; 4] = [&[1], &[-1, 6, 7], &[2, 3], &[2, -3]];
-    let before_true: [&[i64]; 5] = [&[1], &[-1, 8], &[8], &[2, 3], &[2, -3]];
-    let after_true: [&[i64]; 5] = [&[-8], &[1], &[1, 8], &[2, 3], &[2, -3]];
-    let rows: [(&[&[i64]], u64, u64); 3] = [
-        (&beside_free, 0xA8A9_B560_906F_E1DC, 4),
-        (&before_true, 0x1971_3394_8BC9_BD11, 5),
-        (&after_true, 0xBB09_B85D_0A17_392E, 5),
-    ];
-    for (clauses, hash, count) in rows {
-        play(
-            &rt,
-            rt.alloc(),
-            clauses,
-            &[(
-                Derive(&[2], &[hash, TWO_OR_THREE, TWO_NOT_THREE]),
-                Done,
-                (false, count),
-            )],
-        )?;
-    }
-    Ok(())
+    agrees(&rt, rt.alloc(), UNITS_MET_ON_THE_WAY)
 }
 
-#[test]
-fn unit_against_the_checked_clause(rt: HostRuntime) -> Result<(), Fail> {
-    play(
-        &rt,
-        rt.alloc(),
-        &[&[-2], &[1], &[-1, 2]],
-        &[
-            (Derive(&[2], &[TWO_NOT_ONE]), Done, (true, 3)),
-            (Close, Done, (true, 3)),
-        ],
-    )
-}
+const CHECKS_LEAVE_NO_VALUES: &str = "
+# With 1 false or 2 true left behind, a later one would pass.
+new
+given 1 2
+given 1 -2
+at irr 1 : A
+> CheckFailed 1 AtCheckFailed
+at irr 1 : B 7
+> CheckFailed 2 NoClauseForHash
+at irr 2 : A
+> CheckFailed 3 AtCheckFailed
+at irr -1
+> CheckFailed 4 AtCheckFailed
+at irr -2
+> CheckFailed 5 AtCheckFailed
+at irr 1 : A B
+> + AtClause 2 irr [1] (0 1)
+new
+given 1 2
+given 1 -2
+at irr 1 3 : A B
+> + AtClause 2 irr [1 3] (0 1)
+at irr 2
+> CheckFailed 2 AtCheckFailed
+at irr -2
+> CheckFailed 3 AtCheckFailed
+at irr 3
+> CheckFailed 4 AtCheckFailed
+at irr -3
+> CheckFailed 5 AtCheckFailed
+at irr -1
+> CheckFailed 6 AtCheckFailed
+";
 
 #[test]
-fn redundant_unit_is_a_unit(rt: HostRuntime) -> Result<(), Fail> {
-    play(
-        &rt,
-        rt.alloc(),
-        &PAIRS,
-        &[
-            (
-                DeriveRedundant(&[1], &[BOTH, ONE_NOT_TWO]),
-                Done,
-                (false, 4),
-            ),
-            (
-                DeriveRedundant(&[-1], &[TWO_NOT_ONE, NEITHER]),
-                Done,
-                (true, 4),
-            ),
-        ],
-    )
-}
-
-#[test]
-fn steps_after_the_end(rt: HostRuntime) -> Result<(), Fail> {
-    play(
-        &rt,
-        rt.alloc(),
-        &[],
-        &[
-            (End, Done, (false, 0)),
-            (Add(&[1]), Done, (false, 1)),
-            (Derive(&[1], &[]), Done, (false, 1)),
-            (Derive(&[2], &[]), Refused(3, AtCheckFailed), (false, 1)),
-        ],
-    )
+fn checks_leave_no_values(rt: HostRuntime) -> Result<(), Fail> {
+    agrees(&rt, rt.alloc(), CHECKS_LEAVE_NO_VALUES)
 }

@@ -2,8 +2,8 @@
 ghost use Rattle.std.specs.Prelude.{OnOk};
 ghost use Rattle.varisat_checker.specs.Context.{IsKept};
 
-use crate::cuts::failing_at;
-use crate::runs::lits;
+use crate::calls::lits;
+use crate::cuts::Cuts;
 use checker_parts::error::{CheckCause, CheckerError};
 use log::sink::Discard;
 use proof_bytes::ProofStep;
@@ -41,7 +41,7 @@ enum Seen {
     Refused(u64, CheckCause, bool),
 }
 
-fn add(alloc: Global, ctx: &mut Context, numbers: &[i64]) -> Result<Seen, Fail>
+fn add(alloc: Global, ctx: &mut Context, numbers: &str) -> Result<Seen, Fail>
     requires { IsKept ctx.old }
     ensures { OnOk result (IsKept ctx.new) }
 {
@@ -77,7 +77,7 @@ fn attempt(alloc: Global, ctx: &mut Context, step: &ProofStep) -> Result<Seen, F
 }
 
 // Derives a clause without hashes.
-fn derive(alloc: Global, ctx: &mut Context, numbers: &[i64]) -> Result<Seen, Fail>
+fn derive(alloc: Global, ctx: &mut Context, numbers: &str) -> Result<Seen, Fail>
     requires { IsKept ctx.old }
     ensures { OnOk result (IsKept ctx.new) }
 {
@@ -128,16 +128,16 @@ fn prove<R: Read + Drop>(alloc: Global, ctx: &mut Context, proof: R) -> Result<S
 fn last_id(rt: HostRuntime) -> Result<(), Fail> {
     let alloc = rt.alloc();
     let mut ctx = with_ids_from(alloc, u64::MAX - 1);
-    assert_eq!(rt; add(alloc, &mut ctx, &[1])?, Seen::Done);
+    assert_eq!(rt; add(alloc, &mut ctx, "1")?, Seen::Done);
     assert_eq!(rt; ctx.clauses.next_clause_id, u64::MAX);
     let unseen = Seen::Refused(0, CheckCause::IdsExhausted, false);
-    assert_eq!(rt; add(alloc, &mut ctx, &[2])?, unseen);
-    assert_eq!(rt; add(alloc, &mut ctx, &[1])?, unseen);
+    assert_eq!(rt; add(alloc, &mut ctx, "2")?, unseen);
+    assert_eq!(rt; add(alloc, &mut ctx, "1")?, unseen);
     assert_eq!(rt; ctx.checker_state.input_clauses, 1);
     // A unit that stands needs none.
-    assert_eq!(rt; derive(alloc, &mut ctx, &[1])?, Seen::Done);
+    assert_eq!(rt; derive(alloc, &mut ctx, "1")?, Seen::Done);
     assert_eq!(rt;
-        derive(alloc, &mut ctx, &[1, 2])?,
+        derive(alloc, &mut ctx, "1 2")?,
         Seen::Refused(2, CheckCause::IdsExhausted, true)
     );
     assert_eq!(rt; ctx.clauses.next_clause_id, u64::MAX);
@@ -148,8 +148,8 @@ fn last_id(rt: HostRuntime) -> Result<(), Fail> {
 fn no_id_for_the_closing_conflict(rt: HostRuntime) -> Result<(), Fail> {
     let alloc = rt.alloc();
     let mut ctx = with_ids_from(alloc, u64::MAX - 2);
-    assert_eq!(rt; add(alloc, &mut ctx, &[1])?, Seen::Done);
-    assert_eq!(rt; add(alloc, &mut ctx, &[-1])?, Seen::Done);
+    assert_eq!(rt; add(alloc, &mut ctx, "1")?, Seen::Done);
+    assert_eq!(rt; add(alloc, &mut ctx, "-1")?, Seen::Done);
     assert_eq!(rt;
         ctx.clauses.unit_conflict,
         Some((u64::MAX - 2, u64::MAX - 1))
@@ -179,7 +179,7 @@ fn last_step_number(rt: HostRuntime) -> Result<(), Fail> {
     // The end was accepted: nothing is left to count.
     assert_eq!(rt; prove(alloc, &mut ctx, b"".as_slice())?, Seen::Done);
     // Input clauses are not counted.
-    assert_eq!(rt; add(alloc, &mut ctx, &[1])?, Seen::Done);
+    assert_eq!(rt; add(alloc, &mut ctx, "1")?, Seen::Done);
     Ok(())
 }
 
@@ -187,7 +187,7 @@ fn last_step_number(rt: HostRuntime) -> Result<(), Fail> {
 fn nothing_is_read_without_a_step_number(rt: HostRuntime) -> Result<(), Fail> {
     let alloc = rt.alloc();
     let mut ctx = after_steps(alloc, u64::MAX);
-    let unread = failing_at(b"\x0D", 1, ErrorKind::Other);
+    let unread = Cuts::failing_at(b"\x0D", 1, ErrorKind::Other);
     let refused = Seen::Refused(u64::MAX, CheckCause::StepsExhausted, false);
     assert_eq!(rt; prove(alloc, &mut ctx, unread)?, refused);
     assert!(rt; !ctx.checker_state.ended);

@@ -1,92 +1,116 @@
-//! Reads of a proof that fail, and reads that are not made.
-use crate::answers::Answer::{Done, Incomplete, Refused, Unread};
-use crate::cuts::{failing_at, whole};
-use crate::runs::Call::{Derive, End, Prove};
-use crate::runs::play;
-use checker_parts::error::CheckCause::AtCheckFailed;
+//! Reads that fail, and reads that are not made.
+use crate::calls::{make, prove, read};
+use crate::cuts::Cuts;
+use std::alloc::Global;
 use std::io::ErrorKind;
+use std::process::Abort;
 use std::test::Fail;
+use varisat_checker::Checker;
 
-// Two opposite units and the end, whose steps end at 3, 6 and 7 bytes.
-const TWO_UNITS: [u8; 7] = [0x05, 0x01, 0x00, 0x05, 0x01, 0x01, 0x0D];
-
-// The read that fails, the steps that have ended before it, and the input clauses after the whole proof.
-const FAILING: [(u32, u64, u64); 7] = [
-    (1, 0, 2),
-    (2, 0, 2),
-    (3, 0, 2),
-    (4, 1, 3),
-    (5, 1, 3),
-    (6, 1, 3),
-    (7, 2, 2),
+const KINDS: [ErrorKind; 3] = [
+    ErrorKind::UnexpectedEof,
+    ErrorKind::Interrupted,
+    ErrorKind::Other,
 ];
 
+// Two opposite units and the end, whose steps end at 3, 6 and 7 bytes.
+const PROOF: &[u8] = b"\x05\x01\x00\x05\x01\x01\x0D";
+
+// By one byte a read, of which one fails: so many steps stand then. The checker goes on with the number after the failing step's.
+fn proof_with_failing_read(
+    rt: &impl Abort,
+    alloc: Global,
+    failing: u32,
+    kind: ErrorKind,
+    steps: u64,
+) -> Result<(), Fail> {
+    let mut checker = Checker::new(alloc);
+    assert_eq!(rt;
+        prove(alloc, &mut checker, Cuts::failing_at(PROOF, failing, kind))?,
+        format!(in alloc; "IoError {} {kind:?}", steps.saturating_add(1))?
+    );
+    assert_eq!(rt; checker.input_clauses(), steps, "{failing}");
+    assert_eq!(rt;
+        prove(alloc, &mut checker, Cuts::of_size(b"", 1))?,
+        format!(in alloc; "ProofIncomplete {}", steps.saturating_add(2))?
+    );
+    assert_eq!(rt;
+        prove(alloc, &mut checker, Cuts::of_size(PROOF, 1))?.as_str(),
+        "Ok"
+    );
+    assert!(rt; checker.unsat());
+    Ok(())
+}
+
 #[test]
-fn failing_reads(rt: HostRuntime) -> Result<(), Fail> {
-    for kind in [
-        ErrorKind::UnexpectedEof,
-        ErrorKind::Interrupted,
-        ErrorKind::Other,
-    ] {
-        for (failing, steps, clauses) in FAILING {
-            let recorded = (steps == 2, steps);
-            play(
-                &rt,
-                rt.alloc(),
-                &[],
-                &[
-                    (
-                        Prove(failing_at(&TWO_UNITS, failing, kind)),
-                        Unread(steps.saturating_add(1), kind),
-                        recorded,
-                    ),
-                    // The checker goes on, with the number after the failing step's.
-                    (
-                        Prove(whole(b"")),
-                        Incomplete(steps.saturating_add(2)),
-                        recorded,
-                    ),
-                    (Prove(whole(&TWO_UNITS)), Done, (true, clauses)),
-                ],
-            )?;
+fn proofs(rt: HostRuntime) -> Result<(), Fail> {
+    for kind in KINDS {
+        for failing in 1..8 {
+            let steps = match failing {
+                1..4 => 0,
+                4..7 => 1,
+                _ => 2,
+            };
+            proof_with_failing_read(&rt, rt.alloc(), failing, kind, steps)?;
         }
     }
     Ok(())
 }
 
-#[test]
-fn nothing_is_read_past_the_end(rt: HostRuntime) -> Result<(), Fail> {
-    let ended = failing_at(&TWO_UNITS, 8, ErrorKind::Other);
-    let unread = failing_at(b"\x05\x01\x02\x0E", 1, ErrorKind::Other);
-    play(
-        &rt,
-        rt.alloc(),
-        &[],
-        &[
-            (Prove(ended), Done, (true, 2)),
-            // Once the end was accepted, no further proof is read, and no step counted.
-            (Prove(unread), Done, (true, 2)),
-            (Prove(whole(b"\x0E")), Done, (true, 2)),
-            (Derive(&[3], &[]), Refused(4, AtCheckFailed), (true, 2)),
-        ],
-    )
+// Two opposite units, whose clauses end at 4 and 9 bytes.
+const TEXT: &[u8] = b"1 0\n-1 0\n";
+
+// By one byte a read, of which one fails: so many clauses stand then. The checker goes on with the whole text.
+fn text_with_failing_read(
+    rt: &impl Abort,
+    alloc: Global,
+    failing: u32,
+    kind: ErrorKind,
+    clauses: u64,
+) -> Result<(), Fail> {
+    let mut checker = Checker::new(alloc);
+    assert_eq!(rt;
+        read(alloc, &mut checker, Cuts::failing_at(TEXT, failing, kind))?,
+        format!(in alloc; "Read {kind:?}")?
+    );
+    assert_eq!(rt; checker.input_clauses(), clauses, "{failing}");
+    assert_eq!(rt;
+        read(alloc, &mut checker, Cuts::of_size(TEXT, 1))?.as_str(),
+        "Ok"
+    );
+    assert!(rt; checker.unsat());
+    Ok(())
 }
 
-// The end counts as accepted where it was handed in as a step.
 #[test]
-fn end_as_a_step(rt: HostRuntime) -> Result<(), Fail> {
-    play(
-        &rt,
-        rt.alloc(),
-        &[&[1]],
-        &[
-            (End, Done, (false, 1)),
-            (
-                Prove(failing_at(b"", 1, ErrorKind::Other)),
-                Done,
-                (false, 1),
-            ),
-            (Prove(whole(b"\x05\x00")), Done, (false, 1)),
-        ],
-    )
+fn texts(rt: HostRuntime) -> Result<(), Fail> {
+    for kind in KINDS {
+        for failing in 1..11 {
+            let clauses = match failing {
+                1..5 => 0,
+                5..10 => 1,
+                _ => 2,
+            };
+            text_with_failing_read(&rt, rt.alloc(), failing, kind, clauses)?;
+        }
+    }
+    Ok(())
+}
+
+// Nothing is read after the end: neither past it, nor once it was accepted, also where it was handed in as a step.
+#[test]
+fn no_read_after_the_end(rt: HostRuntime) -> Result<(), Fail> {
+    let alloc = rt.alloc();
+    let mut checker = Checker::new(alloc);
+    let past = Cuts::failing_at(TEXT, 11, ErrorKind::Other);
+    assert_eq!(rt; read(alloc, &mut checker, past)?.as_str(), "Ok");
+    let past = Cuts::failing_at(PROOF, 8, ErrorKind::Other);
+    assert_eq!(rt; prove(alloc, &mut checker, past)?.as_str(), "Ok");
+    let ended = Cuts::failing_at(b"\x0E", 1, ErrorKind::Other);
+    assert_eq!(rt; prove(alloc, &mut checker, ended)?.as_str(), "Ok");
+    let mut checker = Checker::new(alloc);
+    assert_eq!(rt; make(alloc, &mut checker, "end", 1)?.as_str(), "Ok");
+    let ended = Cuts::failing_at(b"", 1, ErrorKind::Other);
+    assert_eq!(rt; prove(alloc, &mut checker, ended)?.as_str(), "Ok");
+    Ok(())
 }

@@ -1,6 +1,7 @@
 //! The texts of what the calls answer in place of Ok.
-use crate::cuts::failing_at;
-use crate::runs::{lits, with};
+use crate::calls::{lits, var};
+use crate::cuts::Cuts;
+use crate::script::given;
 use checker_parts::error::CheckerError;
 use proof_bytes::ProofStep;
 use std::alloc::Global;
@@ -88,11 +89,11 @@ fn failed_reads(rt: HostRuntime) -> Result<(), Fail> {
         let cause = io::Error::from(kind).to_string(alloc)?;
         let proof = format!(in alloc; "step 2: Error reading proof file: {cause}")?;
         assert_eq!(rt;
-            of_proof(alloc, failing_at(b"\x05\x00\x0D", 3, kind))?,
+            of_proof(alloc, Cuts::failing_at(b"\x05\x00\x0D", 3, kind))?,
             proof
         );
         let text = format!(in alloc; "error reading formula: {cause}")?;
-        assert_eq!(rt; of_text(alloc, failing_at(b"1 0\n", 3, kind))?, text);
+        assert_eq!(rt; of_text(alloc, Cuts::failing_at(b"1 0\n", 3, kind))?, text);
     }
     Ok(())
 }
@@ -109,8 +110,9 @@ fn step_text_len(answer: Result<(), CheckerError>) -> Option<usize> {
 #[test]
 fn refused_steps_are_shown(rt: HostRuntime) -> Result<(), Fail> {
     let alloc = rt.alloc();
-    let mut checker = with(alloc, &[&[1, 2]])?;
-    let clause = lits(alloc, &[1])?;
+    let mut checker = Checker::new(alloc);
+    given(alloc, &mut checker, "1 2")?;
+    let clause = lits(alloc, "1")?;
     let step = ProofStep::AtClause {
         redundant: false,
         clause: &clause,
@@ -121,5 +123,27 @@ fn refused_steps_are_shown(rt: HostRuntime) -> Result<(), Fail> {
     let bytes = b"\x06\x00\x01\x00\x01\x07".as_slice();
     let read = step_text_len(checker.check_proof(&log::sink::Discard, bytes));
     assert_eq!(rt; read.ok_or("accepted")?, handed_in);
+    Ok(())
+}
+
+// Refused user names and assumptions show none.
+#[test]
+fn refused_names_and_assumptions_are_not_shown(rt: HostRuntime) -> Result<(), Fail> {
+    let alloc = rt.alloc();
+    let mut checker = Checker::new(alloc);
+    given(alloc, &mut checker, "1")?;
+    let var = var("1")?;
+    let unnamed = ProofStep::UserVarName {
+        global: var,
+        user: None,
+    };
+    assert_eq!(rt; step_text_len(checker.self_check_step(unnamed)), Some(0));
+    let witness = ProofStep::ChangeSamplingMode { var, sample: false };
+    assert!(rt; checker.self_check_step(witness).is_ok());
+    let assumptions = lits(alloc, "1")?;
+    let assumed = ProofStep::Assumptions {
+        assumptions: &assumptions,
+    };
+    assert_eq!(rt; step_text_len(checker.self_check_step(assumed)), Some(0));
     Ok(())
 }

@@ -1,84 +1,94 @@
 //! Input clauses, and conflicts among units.
-use crate::answers::Answer::Done;
-use crate::runs::Call::{Add, Close, Derive, End};
-use crate::runs::{NEITHER, PAIRS, play};
+use crate::script::agrees;
 use std::test::Fail;
 
-#[test]
-fn empty_clause_is_recorded(rt: HostRuntime) -> Result<(), Fail> {
-    play(
-        &rt,
-        rt.alloc(),
-        &[],
-        &[
-            (Add(&[]), Done, (true, 1)),
-            (Add(&[3]), Done, (true, 1)),
-            (Close, Done, (true, 1)),
-        ],
-    )
-}
+const INPUT_CLAUSES: &str = "
+# Once the empty clause stands, nothing more is told.
+new
+add
+> + AddClause 0 []
+> ~ AddClause []
+add 3
+delayed
+unsat
+> true
+inputs
+> 1
+# A clause that stands already.
+new
+add 1 2
+> + AddClause 0 [1 2]
+> ~ AddClause [1 2]
+add 2 1 1
+> + DuplicatedClause 1 same 0 [1 2]
+> ~ AddClause [1 2]
+# A tautology.
+new
+add 1 -1
+> + TautologicalClause 0 [1 -1]
+> ~ AddClause [1 -1]
+add 2 3
+> + AddClause 1 [2 3]
+> ~ AddClause [2 3]
+# A hidden variable is in no clause, whatever else the clause is.
+new
+mode 1 witness
+add 1 -1
+> CheckFailed 1 NotSampling
+";
 
 #[test]
-fn repeated_clause_counts_again(rt: HostRuntime) -> Result<(), Fail> {
-    play(
-        &rt,
-        rt.alloc(),
-        &[],
-        &[
-            (Add(&[1, 2]), Done, (false, 1)),
-            (Add(&[2, 1, 1]), Done, (false, 2)),
-        ],
-    )
+fn input_clauses(rt: HostRuntime) -> Result<(), Fail> {
+    agrees(&rt, rt.alloc(), INPUT_CLAUSES)
 }
 
-#[test]
-fn tautology_counts(rt: HostRuntime) -> Result<(), Fail> {
-    play(
-        &rt,
-        rt.alloc(),
-        &[],
-        &[
-            (Add(&[1, -1]), Done, (false, 1)),
-            (Add(&[2, 3]), Done, (false, 2)),
-        ],
-    )
-}
+const CONFLICTS_OF_UNITS: &str = "
+# Each time, the conflict is closed anew.
+new
+add 1
+> + AddClause 0 [1]
+> ~ AddClause [1]
+add -1
+> + AddClause 1 [-1]
+> ~ AddClause [-1]
+delayed
+> + AtClause 2 irr [] (0 1)
+> ~ Unsat
+delayed
+> + AtClause 3 irr [] (0 1)
+> ~ Unsat
+unsat
+> true
+inputs
+> 2
+# A later conflict takes the place of the first.
+new
+given 1
+given 2
+given -1 -2
+add -1
+> + AddClause 3 [-1]
+> ~ AddClause [-1]
+at irr -2 : D
+> + AtClause 4 irr [-2] (0 2)
+delayed
+> + AtClause 5 irr [] (1 4)
+> ~ Unsat
+# Clauses that can't be satisfied together are no conflict by themselves.
+new
+given 1 2
+given 1 -2
+given -1 2
+given -1 -2
+delayed
+end
+unsat
+> false
+inputs
+> 4
+";
 
 #[test]
-fn opposite_units_are_recorded(rt: HostRuntime) -> Result<(), Fail> {
-    play(
-        &rt,
-        rt.alloc(),
-        &[],
-        &[
-            (Add(&[1]), Done, (false, 1)),
-            (Add(&[-1]), Done, (true, 2)),
-            (Close, Done, (true, 2)),
-            (Close, Done, (true, 2)),
-        ],
-    )
-}
-
-#[test]
-fn clauses_alone_record_nothing(rt: HostRuntime) -> Result<(), Fail> {
-    play(
-        &rt,
-        rt.alloc(),
-        &PAIRS,
-        &[(Close, Done, (false, 4)), (End, Done, (false, 4))],
-    )
-}
-
-#[test]
-fn later_conflict_is_taken(rt: HostRuntime) -> Result<(), Fail> {
-    play(
-        &rt,
-        rt.alloc(),
-        &[&[1], &[2], &[-1, -2]],
-        &[
-            (Add(&[-1]), Done, (true, 4)),
-            (Derive(&[-2], &[NEITHER]), Done, (true, 4)),
-            (Close, Done, (true, 4)),
-        ],
-    )
+fn conflicts_of_units(rt: HostRuntime) -> Result<(), Fail> {
+    agrees(&rt, rt.alloc(), CONFLICTS_OF_UNITS)
 }

@@ -1,5 +1,5 @@
 //! The lines that go to the log.
-use crate::cuts::failing_at;
+use crate::cuts::Cuts;
 use log::sink::Memory;
 use std::alloc::Global;
 use std::io::{ErrorKind, Read};
@@ -24,7 +24,7 @@ fn is_told(memory: Memory, line: Option<&str>) -> bool {
 }
 
 #[test]
-fn formula_is_told(rt: HostRuntime) -> Result<(), Fail> {
+fn formulas_are_told(rt: HostRuntime) -> Result<(), Fail> {
     let text = b"p cnf 9 9\n1 -2 0\n2 0\n".as_slice();
     let told = Some(" Parsed formula with 2 variables and 2 clauses");
     assert!(rt; tells(rt.alloc(), text, told));
@@ -38,7 +38,13 @@ fn formula_is_told(rt: HostRuntime) -> Result<(), Fail> {
 #[test]
 fn faulty_formula_is_not_told(rt: HostRuntime) -> Result<(), Fail> {
     assert!(rt; tells(rt.alloc(), b"1 0\n2 x 0".as_slice(), None));
-    assert!(rt; tells(rt.alloc(), failing_at(b"1 0\n", 5, ErrorKind::Other), None));
+    assert!(rt;
+        tells(
+            rt.alloc(),
+            Cuts::failing_at(b"1 0\n", 5, ErrorKind::Other),
+            None
+        )
+    );
     Ok(())
 }
 

@@ -3,6 +3,7 @@ pub mod Boxes
 pub mod Causes
 pub mod CheckedSteps
 pub mod Errors
+pub mod Memory
 pub mod Models
 pub mod Names
 pub mod Subsets

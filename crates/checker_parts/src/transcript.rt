@@ -1,8 +1,9 @@
 //! Transcript steps of checked steps.
-ghost use Rattle.std.specs.Prelude.{◌≡◌, IfOk, IfErr, OnOk, Ok};
+ghost use Rattle.std.specs.Prelude.{◌≡◌, IfOk, IfErr, OnOk, Ok, false};
 ghost use Rattle.sat_formula.specs.Vars.{index_of};
 ghost use Rattle.checker_rules.specs.Transcript.{hides, image_of, image_user_var, known_at, mapped};
 ghost use Rattle.checker_parts.specs.CheckedSteps.{step_of, transcripts_of, user_var_of};
+ghost use Rattle.checker_parts.specs.Memory.{NeedsNoMemory, lists_literals};
 ghost use Rattle.checker_parts.specs.declared.error.CheckerError.TheVariants.{OutOfMemory};
 
 use crate::error::CheckerError;
@@ -36,6 +37,7 @@ impl Transcript {
     ) -> Result<Option<ProofTranscriptStep<'_>>, CheckerError>
         ensures ok { IfOk result (λ told. transcripts_of told ≡ image_of names.entry.0.now (step_of step.now)) }
         ensures err { IfErr result (λ e. e ≡ OutOfMemory) }
+        ensures memory { lists_literals (step_of step.now) ≡ false → NeedsNoMemory result }
     {
         let told = match step {
             CheckedProofStep::UserVar { var, user_var } => match user_var {

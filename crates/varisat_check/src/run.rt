@@ -6,32 +6,36 @@ ghost use Rattle.checker_rules.specs.Headline.{holds};
 ghost use Rattle.checker_rules.specs.Step.{Step};
 ghost use Rattle.checker_parts.specs.Answers.{IsCovered};
 ghost use Rattle.varisat_checker.specs.Failing.{RecordsFailure};
+ghost use Rattle.varisat_checker.specs.ProofHanded.{ProofHanded};
 ghost use Rattle.varisat_checker.specs.ProofRun.{ProofRun};
-ghost use Rattle.varisat_checker.specs.Shown.{state};
+ghost use Rattle.varisat_checker.specs.Shown.{boxes, state};
 ghost use Rattle.varisat_check.specs.Runs.{CheckRun, IsFailedRun, IsRefuted, IsRefusedRun, OnProof};
 ghost use Rattle.varisat_check.specs.Verdicts.{shown_line, verdict_of};
 ghost use Rattle.varisat_check.specs.declared.verdict.Verdict.TheVariants.{Unsatisfiable};
 
 use crate::fault::RunFault;
 use crate::verdict::Verdict;
+use checker_parts::processor::{ProofProcessor, ProofTranscriptProcessor};
 use log::Log;
 use std::alloc::Global;
 use std::io;
 use std::io::{Read, Write};
 use varisat_checker::Checker;
+use varisat_checker::checker::CheckerOf;
 
 /// Checks a proof with a checker that has its formula, and writes the verdict's line.
 ///
 /// Nothing is written unless the whole proof is accepted. The checker stays in the state that `check_proof` leaves.
-pub fn run_proof<L: Log, R: Read + Drop, W: Write>(
+pub fn run_proof<L: Log, R: Read + Drop, W: Write, P: ProofProcessor, T: ProofTranscriptProcessor>(
     rt: &L,
-    checker: &mut Checker,
+    checker: &mut CheckerOf<P, T>,
     proof: R,
     out: &mut W,
 ) -> Result<Verdict, RunFault>
     ensures failed { (state checker.old).failed ≡ true → IsFailedRun result × (checker.new ≡ checker.old) }
     ensures run { (state checker.old).failed ≡ false → OnProof (λ answer. ProofRun (R.remaining proof) (state checker.old) answer (state checker.new)) result }
     ensures records { OnProof (λ answer. RecordsFailure answer (state checker.new)) result }
+    ensures handed { (state checker.old).failed ≡ false → OnProof (λ answer. ProofHanded (R.remaining proof) (state checker.old) answer (state checker.new) P.took P.faulted T.took T.faulted (boxes checker.old) (boxes checker.new)) result }
     ensures verdict { IfOk result (λ verdict. verdict ≡ verdict_of (shown_inputs (state checker.old)) (state checker.new)) }
     ensures line { IfOk result (λ verdict. Appends (W.contents out.old) (W.contents out.new) (shown_line verdict)) }
     ensures silent { IsRefusedRun result → out.new ≡ out.old }
@@ -71,7 +75,10 @@ pub fn run_check<L: Log, F: Read + Drop, P: Read + Drop, W: Write>(
 }
 
 /// The verdict of a checker that accepted a proof, and whose count of input clauses was this before it.
-fn verdict_after(checker: &Checker, inputs: u64) -> Verdict
+fn verdict_after<P: ProofProcessor, T: ProofTranscriptProcessor>(
+    checker: &CheckerOf<P, T>,
+    inputs: u64,
+) -> Verdict
     requires { shown_unsat (state checker.now) ≡ true → inputs ≤ shown_inputs (state checker.now) }
     ensures { result ≡ verdict_of inputs (state checker.now) }
 {

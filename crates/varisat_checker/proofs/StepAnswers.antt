@@ -1,5 +1,5 @@
 -- Steps counted and not, and the closing conflict.
-use Rattle.std.proofs.Common.{◌≡◌, ℕ, ◌<◌, ◌-◌, ◌^◌, true, false, ltb, Option, None, Some, Result, Ok, Err, refl, sym, ap, ◌∙◌, subst, arith, is_some}
+use Rattle.std.proofs.Common.{◌≡◌, ℕ, ◌<◌, ◌≤◌, ◌-◌, ◌^◌, true, false, ltb, Option, None, Some, Result, Ok, Err, refl, sym, ap, ◌∙◌, subst, arith, is_some}
 use Rattle.checker_rules.specs.Calls.{attempt, closing_conflict, count_step, step_limit}
 use Rattle.checker_rules.specs.Outcome.{Cause, Outcome, accept, ids_exhausted, refuse, steps_exhausted}
 use Rattle.checker_rules.specs.State.{State}
@@ -56,6 +56,10 @@ no-number n e = ap (ltb n) (step_limit-is ∙ sym e) ∙ same n
 
 pub some-number : (n : ℕ) → n < 2 ^ 64 → (n ≡ 2 ^ 64 - 1 → ⊥) → ltb n step_limit ≡ true
 some-number n fits e = let h : n < 2 ^ 64 - 1 = omega (arith, fits, e) in ap (ltb n) step_limit-is ∙ less n (2 ^ 64 - 1) h
+
+pub not-exhausted : (n : ℕ) → n < 2 ^ 64 → (n ≡ 2 ^ 64 - 1 → ⊥) → step_limit ≤ n → ⊥
+unfolding step_limit
+not-exhausted n fits some none = some (omega (arith, fits, none))
 
 pub exhausted-answers : (e : CheckerError) (s : State) (t : Step) → RefusesWith s.steps StepsExhausted e → ltb s.steps step_limit ≡ false → AnswersParts {A = Unit {0}} (Err e) (attempt s t) s
 exhausted-answers e s t h none =

@@ -14,6 +14,7 @@ pub mod Failing
 pub mod Found
 pub mod Growth
 pub mod Handed
+pub mod Idle
 pub mod InputCause
 pub mod Justified
 pub mod Kept

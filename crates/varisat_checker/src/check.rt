@@ -1,13 +1,16 @@
 //! How steps and proofs are checked.
-ghost use Rattle.std.specs.Prelude.{◌≡◌};
+ghost use Rattle.std.specs.Prelude.{◌≡◌, ◌≤◌, true, false};
 ghost use Rattle.checker_rules.specs.CallEmissions.{EmitsCall};
-ghost use Rattle.checker_rules.specs.Calls.{attempt, checks, closes, closing_conflict};
+ghost use Rattle.checker_rules.specs.Calls.{attempt, checks, closes, closing_conflict, step_limit};
 ghost use Rattle.checker_rules.specs.Emits.{Emits};
 ghost use Rattle.checker_rules.specs.Steps as rules;
 ghost use Rattle.checker_parts.specs.Answers.{AnswersParts, UnlessFailed};
+ghost use Rattle.checker_parts.specs.Memory.{NeedsNoMemory};
 ghost use Rattle.proof_bytes.specs.NextStep.{view};
 ghost use Rattle.varisat_checker.specs.Context.{IsKept, context_state};
+ghost use Rattle.varisat_checker.specs.Failing.{has_failed};
 ghost use Rattle.varisat_checker.specs.Handed.{Handed, boxes_of};
+ghost use Rattle.varisat_checker.specs.Idle.{is_idle};
 ghost use Rattle.varisat_checker.specs.Refusal.{IsSameFault};
 
 use crate::context::ContextOf;
@@ -40,6 +43,7 @@ pub fn check_step<P: ProofProcessor, T: ProofTranscriptProcessor>(
     ensures step { AnswersParts result (rules.step (context_state ctx.old) (view step.now)) (context_state ctx.new) }
     ensures kept { UnlessFailed result (IsKept ctx.new) }
     ensures handed { Handed result (Emits (context_state ctx.old) (view step.now)) P.took P.faulted T.took T.faulted (boxes_of ctx.old.processing) (boxes_of ctx.new.processing) }
+    ensures idle { is_idle (context_state ctx.old).unsat (view step.now) ≡ true → has_failed result ≡ false }
 {
     match step {
         ProofStep::SolverVarName { global, solver } => solver_var_name(ctx, *global, *solver),
@@ -80,6 +84,8 @@ pub fn attempt_step<P: ProofProcessor, T: ProofTranscriptProcessor>(
     ensures step { AnswersParts result (attempt (context_state ctx.old) (view step.now)) (context_state ctx.new) }
     ensures kept { UnlessFailed result (IsKept ctx.new) }
     ensures handed { Handed result (EmitsCall (context_state ctx.old) (checks (view step.now))) P.took P.faulted T.took T.faulted (boxes_of ctx.old.processing) (boxes_of ctx.new.processing) }
+    ensures idle { is_idle (context_state ctx.old).unsat (view step.now) ≡ true → has_failed result ≡ false }
+    ensures exhausted { step_limit ≤ (context_state ctx.old).steps → has_failed result ≡ false }
 {
     if ctx.checker_state.step == u64::MAX {
         return Err(refusal(alloc, &ctx.checker_state, CheckCause::StepsExhausted));
@@ -100,6 +106,7 @@ pub fn process_unit_conflicts<P: ProofProcessor, T: ProofTranscriptProcessor>(
     ensures answer { AnswersParts result (closing_conflict (context_state ctx.old)) (context_state ctx.new) }
     ensures kept { UnlessFailed result (IsKept ctx.new) }
     ensures handed { Handed result (EmitsCall (context_state ctx.old) closes) P.took P.faulted T.took T.faulted (boxes_of ctx.old.processing) (boxes_of ctx.new.processing) }
+    ensures memory { NeedsNoMemory result }
 {
     let Some((stored, refuting)) = ctx.clauses.unit_conflict else {
         return Ok(());

@@ -30,14 +30,15 @@ pub type Checker = CheckerOf<Box<dyn ProofProcessor>, Box<dyn ProofTranscriptPro
 
 #[tactic(auto, unfolding(crate::specs::Shown::state, crate::specs::Shown::boxes))]
 impl<P: ProofProcessor, T: ProofTranscriptProcessor> CheckerOf<P, T> {
-    ghost use Rattle.std.specs.Prelude.{◌≡◌, ◌++◌, ◌∷◌, [], true, false, List, map, Err, IfErr, OnErr, OnOk, ◌*◌, ◌≤◌};
+    ghost use Rattle.std.specs.Prelude.{◌≡◌, ◌++◌, ◌∷◌, [], true, false, List, map, Ok, Err, IfErr, OnErr, OnOk, ◌*◌, ◌≤◌};
     ghost use Rattle.checker_rules.specs.AddFormula.{add_clauses, added};
     ghost use Rattle.checker_rules.specs.CallEmissions.{EmitsCall, EmitsCalls};
-    ghost use Rattle.checker_rules.specs.Calls.{adds, shown_inputs, shown_unsat};
+    ghost use Rattle.checker_rules.specs.Calls.{adds, shown_inputs, shown_unsat, step_limit};
     ghost use Rattle.checker_rules.specs.Step as rules;
     ghost use Rattle.checker_rules.specs.Steps.{new_state, step};
     ghost use Rattle.checker_parts.specs.declared.error.CheckerError.TheVariants.{Failed, OutOfMemory};
     ghost use Rattle.checker_parts.specs.Answers.{AnswersStep, CoversFold, IsCovered, IsFold, SetsFold, UnlessFailed};
+    ghost use Rattle.checker_parts.specs.Memory.{NeedsNoMemory};
     ghost use Rattle.varisat_checker.specs.Certified.{Certifies};
     ghost use Rattle.varisat_checker.specs.Failing.{IsFailed, IsTextFailed, RecordsFailure};
     ghost use Rattle.varisat_checker.specs.Handed.{Handed};
@@ -61,6 +62,8 @@ impl<P: ProofProcessor, T: ProofTranscriptProcessor> CheckerOf<P, T> {
     }
 
     /// Adds an input clause. It is refused where a variable of it has been sampled away, and where no id is left.
+    ///
+    /// Where unsatisfiability is recorded the answer is Ok, and the checker stays as it was.
     pub fn add_clause(&mut self, clause: &[Lit]) -> Result<(), CheckerError>
         ensures failed { (state self.old).failed ≡ true → IsFailed result × (self.new ≡ self.old) }
         ensures step { (state self.old).failed ≡ false → AnswersStep result (step (state self.old) (rules.add_clause clause.now)) (state self.new) }
@@ -68,6 +71,7 @@ impl<P: ProofProcessor, T: ProofTranscriptProcessor> CheckerOf<P, T> {
         ensures covers { (state self.old).failed ≡ false → (before : List rules.Step) → IsCovered before (state self.old) → CoversFold result before (rules.add_clause clause.now) (state self.new) }
         ensures handed { (state self.old).failed ≡ false → Handed result (EmitsCall (state self.old) (adds clause.now)) P.took P.faulted T.took T.faulted (boxes self.old) (boxes self.new) }
         ensures certified { (state self.old).failed ≡ false → Certifies result (EmitsCall (state self.old) (adds clause.now)) (state self.old) (state self.new) }
+        ensures after_unsat { (state self.old).failed ≡ false → (state self.old).unsat ≡ true → (result ≡ Ok tt) × (self.new ≡ self.old) }
     {
         if self.ctx.checker_state.failed {
             return Err(CheckerError::Failed);
@@ -146,7 +150,7 @@ impl<P: ProofProcessor, T: ProofTranscriptProcessor> CheckerOf<P, T> {
     /// Checks the steps of a proof up to `End`, and then the closing conflict.
     ///
     /// Where `End` was accepted before, nothing is read. Each call begins a new text, which is read as it goes. Every 100000 steps
-    /// one line goes to the log.
+    /// one line goes to the log. Where nothing is read, no memory is wanted.
     pub fn check_proof<L: Log, R: Read + Drop>(
         &mut self,
         rt: &L,
@@ -156,6 +160,8 @@ impl<P: ProofProcessor, T: ProofTranscriptProcessor> CheckerOf<P, T> {
         ensures run { (state self.old).failed ≡ false → ProofRun (R.remaining proof) (state self.old) result (state self.new) }
         ensures records { RecordsFailure result (state self.new) }
         ensures handed { (state self.old).failed ≡ false → ProofHanded (R.remaining proof) (state self.old) result (state self.new) P.took P.faulted T.took T.faulted (boxes self.old) (boxes self.new) }
+        ensures ended { (state self.old).ended ≡ true → NeedsNoMemory result }
+        ensures exhausted { step_limit ≤ (state self.old).steps → NeedsNoMemory result }
     {
         if self.ctx.checker_state.failed {
             return Err(CheckerError::Failed);

@@ -5,6 +5,7 @@ ghost use Rattle.std.specs.Prelude.{false};
 ghost use Rattle.sat_formula.specs.Vars.{index_of};
 ghost use Rattle.checker_rules.specs.CheckedSteps.{checked_add_clause, checked_assumptions, checked_at_clause, checked_delete_at_clause, checked_delete_clause, checked_delete_rat_clause, checked_duplicated_clause, checked_failed_assumptions, checked_make_irredundant, checked_model, checked_tautological_clause, checked_user_var};
 ghost use Rattle.checker_parts.specs.CheckedSteps.{user_vars_of};
+ghost use Rattle.checker_parts.specs.Memory.{NeedsNoMemory};
 ghost use Rattle.varisat_checker.specs.Handed.{Hands, boxes_of};
 
 use crate::processing::ProcessingOf;
@@ -61,7 +62,7 @@ pub(crate) fn emit_tautological_clause<P: ProofProcessor, T: ProofTranscriptProc
     processing.step(&step, CheckerData(variables))
 }
 
-/// Hands on a derived clause.
+/// Hands on a derived clause. Takes no memory.
 pub(crate) fn emit_at_clause<P: ProofProcessor, T: ProofTranscriptProcessor>(
     processing: &mut ProcessingOf<P, T>,
     variables: &Variables,
@@ -70,7 +71,8 @@ pub(crate) fn emit_at_clause<P: ProofProcessor, T: ProofTranscriptProcessor>(
     clause: &[Lit],
     propagations: &[u64],
 ) -> Result<(), CheckerError>
-    ensures { Hands result (record { step = checked_at_clause id redundant clause.now propagations.now; names = variables.now }) P.took P.faulted T.took T.faulted (boxes_of processing.old) (boxes_of processing.new) }
+    ensures hands { Hands result (record { step = checked_at_clause id redundant clause.now propagations.now; names = variables.now }) P.took P.faulted T.took T.faulted (boxes_of processing.old) (boxes_of processing.new) }
+    ensures memory { NeedsNoMemory result }
 {
     let _propagations = ResolutionPropagations {};
     let step = CheckedProofStep::AtClause {

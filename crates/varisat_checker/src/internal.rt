@@ -1,14 +1,16 @@
 //! Steps checked one by one, as a solver's own tests do.
-ghost use Rattle.std.specs.Prelude.{◌≡◌, true, false, List, OnOk};
+ghost use Rattle.std.specs.Prelude.{◌≡◌, ◌≤◌, true, false, List, OnOk};
 ghost use Rattle.checker_rules.specs.CallEmissions.{EmitsCall};
-ghost use Rattle.checker_rules.specs.Calls.{attempt, checks, closes, closing_conflict};
+ghost use Rattle.checker_rules.specs.Calls.{attempt, checks, closes, closing_conflict, step_limit};
 ghost use Rattle.checker_rules.specs.State.{State};
 ghost use Rattle.checker_rules.specs.Step as rules;
 ghost use Rattle.checker_parts.specs.Answers.{AnswersStep, CoversFold, IsCovered, IsFold, SetsFold, UnlessFailed};
+ghost use Rattle.checker_parts.specs.Memory.{NeedsNoMemory};
 ghost use Rattle.checker_parts.specs.Models.{Proves, Refutes};
 ghost use Rattle.proof_bytes.specs.NextStep.{view};
 ghost use Rattle.varisat_checker.specs.Certified.{Certifies};
-ghost use Rattle.varisat_checker.specs.Failing.{IsFailed};
+ghost use Rattle.varisat_checker.specs.Failing.{IsFailed, has_failed};
+ghost use Rattle.varisat_checker.specs.Idle.{is_idle};
 
 use checker_parts::error::CheckerError;
 use proof_bytes::ProofStep;
@@ -26,6 +28,8 @@ pub trait SelfChecker {
     ghost hands: { Result (Unit {0}) CheckerError → (List ShownStep → Type 0) → Self → Self → Type 0 };
 
     /// Counts a step and checks it.
+    ///
+    /// No memory is wanted for `End`, for an input clause where unsatisfiability is recorded, and where no step number is left.
     fn self_check_step(&mut self, step: ProofStep) -> Result<(), CheckerError>
         ensures failed { (shown self.old).failed ≡ true → IsFailed result × (self.new ≡ self.old) }
         ensures step { (shown self.old).failed ≡ false → AnswersStep result (attempt (shown self.old) (view step.entry)) (shown self.new) }
@@ -34,14 +38,19 @@ pub trait SelfChecker {
         ensures proves { (shown self.old).failed ≡ false → (before : List rules.Step) → IsFold before (shown self.old) → OnOk result (Proves (view step.entry) before (shown self.old)) }
         ensures refutes { (shown self.old).failed ≡ false → (before : List rules.Step) → IsCovered before (shown self.old) → OnOk result (Refutes (view step.entry) before) }
         ensures handed { (shown self.old).failed ≡ false → hands result (EmitsCall (shown self.old) (checks (view step.entry))) self.old self.new }
-        ensures certified { (shown self.old).failed ≡ false → Certifies result (EmitsCall (shown self.old) (checks (view step.entry))) (shown self.old) (shown self.new) };
+        ensures certified { (shown self.old).failed ≡ false → Certifies result (EmitsCall (shown self.old) (checks (view step.entry))) (shown self.old) (shown self.new) }
+        ensures idle { (shown self.old).failed ≡ false → is_idle (shown self.old).unsat (view step.entry) ≡ true → has_failed result ≡ false }
+        ensures exhausted { (shown self.old).failed ≡ false → step_limit ≤ (shown self.old).steps → has_failed result ≡ false };
 
     /// The closing conflict, as at the end of a proof: where a unit conflict is recorded an id is taken for it. Nothing is counted.
+    ///
+    /// No memory is wanted.
     fn self_check_delayed_steps(&mut self) -> Result<(), CheckerError>
         ensures failed { (shown self.old).failed ≡ true → IsFailed result × (self.new ≡ self.old) }
         ensures closing { (shown self.old).failed ≡ false → AnswersStep result (closing_conflict (shown self.old)) (shown self.new) }
         ensures headline { (shown self.old).failed ≡ false → (before : List rules.Step) → IsFold before (shown self.old) → UnlessFailed result (IsFold before (shown self.new)) }
         ensures covers { (shown self.old).failed ≡ false → (before : List rules.Step) → IsCovered before (shown self.old) → UnlessFailed result (IsCovered before (shown self.new)) }
         ensures handed { (shown self.old).failed ≡ false → hands result (EmitsCall (shown self.old) closes) self.old self.new }
-        ensures certified { (shown self.old).failed ≡ false → Certifies result (EmitsCall (shown self.old) closes) (shown self.old) (shown self.new) };
+        ensures certified { (shown self.old).failed ≡ false → Certifies result (EmitsCall (shown self.old) closes) (shown self.old) (shown self.new) }
+        ensures memory { NeedsNoMemory result };
 }

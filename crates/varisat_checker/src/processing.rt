@@ -1,8 +1,9 @@
 //! The processors and transcripts that checked steps are handed to.
-ghost use Rattle.std.specs.Prelude.{◌≡◌, [], IfErr, OnOk};
+ghost use Rattle.std.specs.Prelude.{◌≡◌, [], IfErr, OnOk, false};
 ghost use Rattle.checker_rules.specs.Ran.{AllTook, OneFaulted};
-ghost use Rattle.checker_parts.specs.CheckedSteps.{told, transcript_of};
+ghost use Rattle.checker_parts.specs.CheckedSteps.{step_of, told, transcript_of};
 ghost use Rattle.checker_parts.specs.Errors.{IsFaultOrMemory};
+ghost use Rattle.checker_parts.specs.Memory.{NeedsNoMemory, lists_literals};
 ghost use Rattle.varisat_checker.specs.Handed.{Hands, boxes_of};
 
 use checker_parts::error::CheckerError;
@@ -38,7 +39,8 @@ impl<P: ProofProcessor, T: ProofTranscriptProcessor> ProcessingOf<P, T> {
     ///
     /// Where memory was refused, nothing is known of what the boxes took.
     pub fn step(&mut self, step: &CheckedProofStep, names: CheckerData) -> Result<(), CheckerError>
-        ensures { Hands result (told step.now names.entry.0.now) P.took P.faulted T.took T.faulted (boxes_of self.old) (boxes_of self.new) }
+        ensures hands { Hands result (told step.now names.entry.0.now) P.took P.faulted T.took T.faulted (boxes_of self.old) (boxes_of self.new) }
+        ensures memory { lists_literals (step_of step.now) ≡ false → NeedsNoMemory result }
     {
         tell(&mut self.processors, step, names)?;
         if self.transcript_processors.is_empty() {

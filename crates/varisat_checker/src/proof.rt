@@ -1,6 +1,8 @@
 //! How a proof is checked.
-ghost use Rattle.std.specs.Prelude.{◌≡◌, ℕ};
+ghost use Rattle.std.specs.Prelude.{◌≡◌, ◌≤◌, ℕ, true};
+ghost use Rattle.checker_rules.specs.Calls.{step_limit};
 ghost use Rattle.checker_parts.specs.Answers.{UnlessFailed};
+ghost use Rattle.checker_parts.specs.Memory.{NeedsNoMemory};
 ghost use Rattle.varisat_checker.specs.Context.{IsKept, context_state};
 ghost use Rattle.varisat_checker.specs.Handed.{boxes_of};
 ghost use Rattle.varisat_checker.specs.ProofHanded.{ProofHanded};
@@ -33,6 +35,8 @@ pub fn check_proof<P: ProofProcessor, T: ProofTranscriptProcessor, L: Log, R: Re
     ensures run { ProofRun (R.remaining proof) (context_state ctx.old) result (context_state ctx.new) }
     ensures kept { UnlessFailed result (IsKept ctx.new) }
     ensures handed { ProofHanded (R.remaining proof) (context_state ctx.old) result (context_state ctx.new) P.took P.faulted T.took T.faulted (boxes_of ctx.old.processing) (boxes_of ctx.new.processing) }
+    ensures ended { (context_state ctx.old).ended ≡ true → NeedsNoMemory result }
+    ensures exhausted { step_limit ≤ (context_state ctx.old).steps → NeedsNoMemory result }
 {
     let mut reader = StepReader::new(alloc, proof);
     'steps: while !ctx.checker_state.ended {

@@ -1,5 +1,5 @@
 //! Input clauses.
-ghost use Rattle.std.specs.Prelude.{◌≡◌, ◌≤◌, List, None, OnOk, length, true, ◌+◌, ◌<◌, IfOk};
+ghost use Rattle.std.specs.Prelude.{◌≡◌, ◌≤◌, List, None, Ok, OnOk, length, true, ◌+◌, ◌<◌, IfOk};
 ghost use Rattle.std.specs.Option.{option_map};
 ghost use Rattle.checker_rules.specs.AddClause.{store_input};
 ghost use Rattle.checker_rules.specs.Canonical.{var_bound};
@@ -49,6 +49,7 @@ pub fn add_clause<P: ProofProcessor, T: ProofTranscriptProcessor>(
     ensures step { AnswersParts result (step (context_state ctx.old) (rules.add_clause lits.now)) (context_state ctx.new) }
     ensures kept { UnlessFailed result (IsKept ctx.new) }
     ensures handed { Handed result (Emits (context_state ctx.old) (rules.add_clause lits.now)) P.took P.faulted T.took T.faulted (boxes_of ctx.old.processing) (boxes_of ctx.new.processing) }
+    ensures after_unsat { (context_state ctx.old).unsat ≡ true → (result ≡ Ok tt) × (ctx.new ≡ ctx.old) }
 {
     if ctx.checker_state.unsat {
         return Ok(());

@@ -10,7 +10,7 @@ use Rattle.varisat_checker.specs.StateOf.{state_of}
 use Rattle.varisat_checker.proofs.EmissionLemmas.{handed-none, handed-same}
 use Rattle.varisat_checker.proofs.EmittedSteps.{emits-counted, emits-exhausted}
 use Rattle.varisat_checker.proofs.HandingLemmas.{handed-weaker}
-use Rattle.varisat_checker.proofs.StepAnswers.{counted-answers, exhausted-answers, no-number, same-parts, some-number}
+use Rattle.varisat_checker.proofs.StepAnswers.{counted-answers, exhausted-answers, no-number, not-exhausted, same-parts, some-number}
 use Rattle.varisat_checker.proofs.check.attempt_step.Goals as goal
 
 pub returns-then-ctx-clause-step : goal.returns-then-ctx-clause-step
@@ -52,3 +52,6 @@ returns-in-Err-clause-handed g c =
     handed-same g.P.ProofProcessor.took g.P.ProofProcessor.faulted g.T.ProofTranscriptProcessor.took g.T.ProofTranscriptProcessor.faulted (EmitsCall s (checks (view c.args.step.now))) c.in-Err.fault c.with_step.result (boxes_of ctx.processing) (boxes_of c.check_step.new.ctx.processing) c.with_step.ensures
     (handed-weaker g.P.ProofProcessor.took g.P.ProofProcessor.faulted g.T.ProofTranscriptProcessor.took g.T.ProofTranscriptProcessor.faulted {A = Unit {0}} (Emits (count_step s) (view c.args.step.now)) (EmitsCall s (checks (view c.args.step.now))) (boxes_of ctx.processing) (boxes_of c.check_step.new.ctx.processing) (Err c.in-Err.fault)
     (λ es h. emits-counted s (view c.args.step.now) es (some-number ctx.checker_state.step (omega arith) c.if-ctx.false) h) c.in-Err.ensures.handed)
+
+pub returns-in-Err-clause-exhausted : goal.returns-in-Err-clause-exhausted
+returns-in-Err-clause-exhausted g c = λ none. absurd (not-exhausted c.args.ctx.now.checker_state.step (omega arith) c.if-ctx.false none)

@@ -40,7 +40,7 @@ pub returns-in-Some-take_id-clause-answer : goal.returns-in-Some-take_id-clause-
 returns-in-Some-take_id-clause-answer g c =
     let ctx = c.args.ctx.now in
     let o = closing-taken (state_of ctx.checker_state ctx.clause_hasher ctx.clauses ctx.variables) (some-is ctx.clauses.unit_conflict (c.in-Some.stored, c.in-Some.refuting) c.in-Some.is) c.in-Some-take_id.ensures.id.0 in
-    answers-hands g.P.ProofProcessor.took g.P.ProofProcessor.faulted g.T.ProofTranscriptProcessor.took g.T.ProofTranscriptProcessor.faulted _ _ _ c.emit_at_clause.result _ _ c.emit_at_clause.ensures (
+    answers-hands g.P.ProofProcessor.took g.P.ProofProcessor.faulted g.T.ProofTranscriptProcessor.took g.T.ProofTranscriptProcessor.faulted _ _ _ c.emit_at_clause.result _ _ c.emit_at_clause.ensures.hands (
       ap (λ (x : Outcome). x.refused) o,
       ap (λ (cs : Clauses). state_of ctx.checker_state ctx.clause_hasher cs ctx.variables) c.in-Some-take_id.ensures.taken ∙ sym (ap (λ (x : Outcome). x.after) o),
     )
@@ -64,7 +64,7 @@ returns-in-Some-take_id-clause-handed g c =
     let e = shown_in s (checked_at_clause c.in-Some-take_id.id false [] (c.in-Some.stored ∷ c.in-Some.refuting ∷ [])) in
     handed-one g.P.ProofProcessor.took g.P.ProofProcessor.faulted g.T.ProofTranscriptProcessor.took g.T.ProofTranscriptProcessor.faulted (EmitsCall s closes) e (boxes_of ctx.processing) (boxes_of c.emit_at_clause.new.processing) c.emit_at_clause.result
     (emits-closed s c.in-Some-take_id.id c.in-Some.stored c.in-Some.refuting c.in-Some.is c.in-Some-take_id.ensures.id.0 c.in-Some-take_id.ensures.id.1)
-    c.emit_at_clause.ensures
+    c.emit_at_clause.ensures.hands
 
 pub returns-in-None-clause-handed : goal.returns-in-None-clause-handed
 returns-in-None-clause-handed g c =

@@ -1,4 +1,5 @@
-use Rattle.std.proofs.Common.{◌≡◌, ℕ, ◌+◌, ◌-◌, ◌<◌, ◌^◌, refl, ap, ◌∙◌, arith}
+use Rattle.std.proofs.Common.{◌≡◌, ℕ, ◌+◌, ◌-◌, ◌<◌, ◌^◌, refl, sym, ap, ◌∙◌, arith}
+use Rattle.std.proofs.lemmas.Bool.{true≢false}
 use Rattle.checker_rules.specs.State.{State}
 use Rattle.proof_bytes.specs.NextStep.{view}
 use Rattle.proof_bytes.proofs.TextRuns.{MayRead, reader_open}
@@ -7,7 +8,7 @@ use Rattle.varisat_checker.specs.Handed.{boxes_of}
 use Rattle.varisat_checker.proofs.CountLemmas.{attempt-steps}
 use Rattle.varisat_checker.proofs.ProofRuns.{run-begins, run-closes, run-exhausted, run-faulted, run-goes, run-refused}
 use Rattle.varisat_checker.proofs.RunHanded.{handed-begins, handed-closes, handed-exhausted, handed-faulted, handed-goes, handed-refused}
-use Rattle.varisat_checker.proofs.StepAnswers.{no-number, some-number}
+use Rattle.varisat_checker.proofs.StepAnswers.{no-number, not-exhausted, some-number}
 use Rattle.varisat_checker.proofs.proof.check_proof.Goals as goal
 
 pub steps-init : goal.steps-init
@@ -16,6 +17,8 @@ steps-init g c = record {
   so_far = run-begins _ _ _ _ c.new-reader.ensures.bytes c.new-reader.ensures.format;
   kept = c.requires;
   handed = handed-begins g.P.ProofProcessor.took g.P.ProofProcessor.faulted g.T.ProofTranscriptProcessor.took g.T.ProofTranscriptProcessor.faulted _ _ _ _ _ c.new-reader.ensures.bytes c.new-reader.ensures.format;
+  ended = λ e. e;
+  exhausted = λ none. none;
 }
 
 pub returns-then-ctx-clause-run : goal.returns-then-ctx-clause-run
@@ -57,6 +60,8 @@ steps-preserved g c =
       so_far = run-goes u c.steps.invariant.so_far c.steps.invariant.kept.sound.good (gave.reads (c.steps.invariant.open_reader c.steps-test.true)) may h;
       kept = c.in_default.ensures.kept;
       handed = handed-goes g.P.ProofProcessor.took g.P.ProofProcessor.faulted g.T.ProofTranscriptProcessor.took g.T.ProofTranscriptProcessor.faulted c.steps.invariant.handed u (boxes_of c.attempt_step.new.ctx.processing) (gave.reads (c.steps.invariant.open_reader c.steps-test.true)) may h (rw c.in_default.is at c.attempt_step.ensures.handed);
+      ended = λ e. absurd (true≢false (sym (c.steps.invariant.ended e) ∙ c.steps-test.true));
+      exhausted = λ none. absurd (not-exhausted c.steps.ctx.checker_state.step (omega arith) c.if-ctx.false (c.steps.invariant.exhausted none));
     }
 
 pub returns-clause-run : goal.returns-clause-run
@@ -83,3 +88,6 @@ pub returns-clause-handed : goal.returns-clause-handed
 returns-clause-handed g c =
     handed-closes g.P.ProofProcessor.took g.P.ProofProcessor.faulted g.T.ProofTranscriptProcessor.took g.T.ProofTranscriptProcessor.faulted c.steps.invariant.handed c.requires.sound.form c.process_unit_conflicts.result (context_state c.process_unit_conflicts.new.ctx) (boxes_of c.process_unit_conflicts.new.ctx.processing) c.steps-test.false
     c.process_unit_conflicts.ensures.answer c.process_unit_conflicts.ensures.handed
+
+pub returns-in-Err-clause-exhausted : goal.returns-in-Err-clause-exhausted
+returns-in-Err-clause-exhausted g c = λ none. absurd (not-exhausted c.steps.ctx.checker_state.step (omega arith) c.if-ctx.false (c.steps.invariant.exhausted none))

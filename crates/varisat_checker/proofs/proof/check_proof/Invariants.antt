@@ -1,4 +1,5 @@
-use Rattle.std.proofs.Common.{◌≡◌, ◌-◌, ◌^◌, false}
+use Rattle.std.proofs.Common.{◌≡◌, ◌≤◌, ◌-◌, ◌^◌, true, false}
+use Rattle.checker_rules.specs.Calls.{step_limit}
 use Rattle.proof_bytes.specs.NextStep.{bytes_left, format_of, has_ended}
 use Rattle.varisat_checker.specs.Context.{IsKept, context_state}
 use Rattle.varisat_checker.specs.Handed.{boxes_of}
@@ -12,6 +13,8 @@ invariant-steps g l = record {
   so_far : SoFarRun (g.R.Read.remaining l.fn.proof) (bytes_left g.R.Read.remaining l.reader) (context_state l.fn.ctx) (context_state l.ctx) (format_of l.reader);
   kept : IsKept l.ctx;
   handed : RunHanded g.P.ProofProcessor.took g.T.ProofTranscriptProcessor.took (g.R.Read.remaining l.fn.proof) (bytes_left g.R.Read.remaining l.reader) (context_state l.fn.ctx) (context_state l.ctx) (format_of l.reader) (boxes_of l.fn.ctx.processing) (boxes_of l.ctx.processing);
+  ended : l.fn.ctx.checker_state.ended ≡ true → l.ctx.checker_state.ended ≡ true;
+  exhausted : step_limit ≤ l.fn.ctx.checker_state.step → step_limit ≤ l.ctx.checker_state.step;
 }
 
 abbrev pub decreases-steps : goal.decreases-steps

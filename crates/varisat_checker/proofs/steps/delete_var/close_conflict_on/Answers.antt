@@ -30,4 +30,4 @@ returns-clause-handed g c h =
     let some = conflict-some (unit_of s.units x) s.conflict q c.in-Some.ensures in let id = c.in-Some-take_id.ensures.id in
     handed-one g.P.ProofProcessor.took g.P.ProofProcessor.faulted g.T.ProofTranscriptProcessor.took g.T.ProofTranscriptProcessor.faulted (λ (es : List ShownStep). es ≡ emits_close x s)
     (shown_in s (checked_at_clause c.in-Some-take_id.id false [] (q.0 ∷ q.1 ∷ []))) (boxes_of c.args.processing.now) (boxes_of c.emit_at_clause.new.processing) c.emit_at_clause.result
-    (ap (λ n. shown_in s (checked_at_clause n false [] (q.0 ∷ q.1 ∷ [])) ∷ []) id.1 ∙ sym (emits-taken x s q some.0 some.1 id.0)) c.emit_at_clause.ensures
+    (ap (λ n. shown_in s (checked_at_clause n false [] (q.0 ∷ q.1 ∷ [])) ∷ []) id.1 ∙ sym (emits-taken x s q some.0 some.1 id.0)) c.emit_at_clause.ensures.hands

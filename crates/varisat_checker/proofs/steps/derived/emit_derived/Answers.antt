@@ -14,7 +14,7 @@ returns-in-New g c = λ ids seen.
     let shown : List ℕ → ShownStep = λ x. record { step = checked_at_clause a.id a.redundant a.clause.now x; names = a.variables.now } in
     subst (λ (x : StoreClauseResult). HandsAll c.emit_at_clause.result (stored_steps x a.variables.now a.id a.redundant a.clause.now ids) P.took P.faulted T.took T.faulted old new) (sym c.in-New.is)
     (all-one P.took P.faulted T.took T.faulted (shown ids) old new c.emit_at_clause.result
-    (hands-seen P.took P.faulted T.took T.faulted c.emit_at_clause.result shown ids a.propagations.now old new seen (image-at_clause a.variables.now a.id a.redundant a.clause.now ids a.propagations.now) c.emit_at_clause.ensures))
+    (hands-seen P.took P.faulted T.took T.faulted c.emit_at_clause.result shown ids a.propagations.now old new seen (image-at_clause a.variables.now a.id a.redundant a.clause.now ids a.propagations.now) c.emit_at_clause.ensures.hands))
 
 pub returns-in-NewlyIrredundant : goal.returns-in-NewlyIrredundant
 returns-in-NewlyIrredundant g c = λ ids seen.
