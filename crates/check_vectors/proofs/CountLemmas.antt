@@ -24,9 +24,8 @@ use Rattle.checker_parts.specs.Boxes.{InBox}
 use Rattle.checker_parts.specs.declared.error.CheckerError.{CheckerError}
 use Rattle.checker_parts.specs.declared.error.CheckerError.TheVariants.{OutOfMemory}
 use Rattle.proof_bytes.specs.Texts.{next_of, start_of}
-use Rattle.varisat_checker.specs.Handed.{Boxes, HandsWhole}
-use Rattle.varisat_checker.specs.ProofHanded.{ProofHanded}
-use Rattle.varisat_checker.specs.ProofRun.{EndsProof, ProofRun}
+use Rattle.checker_steps.specs.Handed.{Boxes, HandsWhole}
+use Rattle.varisat_checker.specs.ProofRun.{ProofAnswer, ProofRun}
 use Rattle.varisat_checker.proofs.CountLemmas.{add-failed}
 use Rattle.check_vectors.specs.Counts.{Grows, IsCount, IsRefused}
 
@@ -44,14 +43,14 @@ adding-failed s (c ∷ cs) =
 -- what the calls for a formula and a proof emit is what IsCount counts
 is-count : {B C : Type 0} (took faulted : B → ShownStep → B → Type 0) (took_image faulted_image : C → TranscriptStep → C → Type 0) (formula : List (List ℕ)) (known : Option (List ℕ)) (mid last : Boxes B C) (t u : State) (es : List ShownStep) →
     AnswersStep {A = Unit {0}} (Ok tt) (add_clauses new_state formula) t → EmitsCalls new_state (map adds (added new_state formula)) es →
-    (run : ProofHanded {A = Unit {0}} known t (Ok tt) u took faulted took_image faulted_image mid last) → IsCount known formula (length (es ++ run.handed.0))
+    (run : ProofRun {A = Unit {0}} known t (Ok tt) u took faulted took_image faulted_image mid last) → IsCount known formula (length (es ++ run.handed.0))
 is-count took faulted took_image faulted_image formula known mid last t u es answer emitted run = record {
   accepted = answer.0;
   of_clauses = es;
   clauses_emit = subst (λ cs. EmitsCalls new_state (map adds cs) es) (formulas_are_fold.accepted new_state formula answer.0) emitted;
   steps = run.steps;
   last = u;
-  run = record { text = run.text; is_text = run.is_text; runs = subst (λ r. Runs next_of r (start_of run.text) run.steps None u) answer.1 run.runs };
+  run = record { text = run.text; is_text = run.answered.is_text; runs = subst (λ r. Runs next_of r (start_of run.text) run.steps None u) answer.1 run.answered.ends };
   of_proof = run.handed.0;
   proof_emits = subst (λ r. EmitsRun next_of r (start_of run.text) run.steps run.handed.0) answer.1 run.handed.1;
   count = length-append es run.handed.0;
@@ -95,7 +94,7 @@ pub told : {V A C : Type 0} {F : V → Type 0} (took faulted : (v : V) → F v �
     (formula : List (List ℕ)) (known : Option (List ℕ)) (old : DynBox V A F) (none first mid last : Boxes (DynBox V A F) C) (r s t u : State) →
     Grows (took old.vtable) (shown old.vtable) → r ≡ new_state → none.processors ≡ [] → s ≡ r → first ≡ record none { processors = none.processors ++ old ∷ [] } →
     (s.failed ≡ false → AnswersStep {A = Unit {0}} (Ok tt) (add_clauses s formula) t) → (s.failed ≡ false → HandsWhole (EmitsCalls s (map adds (added s formula))) (λ b. InBox b (took b.vtable)) took_image first mid) →
-    (t.failed ≡ false → ProofHanded {A = Unit {0}} known t (Ok tt) u (λ b. InBox b (took b.vtable)) (λ b. InBox b (faulted b.vtable)) took_image faulted_image mid last) →
+    (t.failed ≡ false → ProofRun {A = Unit {0}} known t (Ok tt) u (λ b. InBox b (took b.vtable)) (λ b. InBox b (faulted b.vtable)) took_image faulted_image mid last) →
     Told shown old formula known last.processors
 told took faulted shown took_image faulted_image formula known old none first mid last r s t u grows new empty same registered answers hands runs =
     let fresh : s ≡ new_state = same ∙ new in
@@ -143,9 +142,10 @@ formula-refused known formula e r s t new same answers =
     inl (t, subst (λ x. AnswersStep {A = Unit {0}} (Err e) (add_clauses x formula) t) fresh (answers (ap (λ (x : State). x.failed) fresh)))
 
 -- a refused proof
-pub proof-refused : (known : Option (List ℕ)) (formula : List (List ℕ)) (e : CheckerError) (r s t u : State) → r ≡ new_state → s ≡ r → (s.failed ≡ false → AnswersStep {A = Unit {0}} (Ok tt) (add_clauses s formula) t) → (t.failed ≡ false → ProofRun {A = Unit {0}} known t (Err e) u) → IsRefused known formula e
+pub proof-refused : {B C : Type 0} {took faulted : B → ShownStep → B → Type 0} {took_image faulted_image : C → TranscriptStep → C → Type 0} {mid last : Boxes B C} (known : Option (List ℕ)) (formula : List (List ℕ)) (e : CheckerError) (r s t u : State) → r ≡ new_state → s ≡ r
+    → (s.failed ≡ false → AnswersStep {A = Unit {0}} (Ok tt) (add_clauses s formula) t) → (t.failed ≡ false → ProofRun {A = Unit {0}} known t (Err e) u took faulted took_image faulted_image mid last) → IsRefused known formula e
 proof-refused known formula e r s t u new same answers runs =
     let fresh : s ≡ new_state = same ∙ new in
     let answer = subst (λ x. AnswersStep {A = Unit {0}} (Ok tt) (add_clauses x formula) t) fresh (answers (ap (λ (x : State). x.failed) fresh)) in
     let run = runs (ap (λ (x : State). x.failed) answer.1 ∙ adding-failed new_state formula) in
-    inr (answer.0, run.steps, u, subst (λ x. EndsProof {A = Unit {0}} known x run.steps (Err e) u) answer.1 run.ends)
+    inr (answer.0, run.text, run.steps, u, subst (λ x. ProofAnswer {A = Unit {0}} known x run.text run.steps (Err e) u) answer.1 run.answered)

@@ -16,7 +16,7 @@ use Rattle.proof_bytes.specs.TextRuns.{RunsOver}
 use Rattle.proof_bytes.specs.Texts.{next_of, start_of}
 use Rattle.checker_parts.specs.Answers.{AnswersStep}
 use Rattle.checker_parts.specs.declared.error.CheckerError.{CheckerError}
-use Rattle.varisat_checker.specs.ProofRun.{EndsProof}
+use Rattle.varisat_checker.specs.ProofRun.{ProofAnswer}
 
 -- each step that is taken makes what is shown longer by one byte
 abbrev pub Grows : {B : Type 0} → (took : B → ShownStep → B → Type 0) (shown : B → List ℕ) → Type 0
@@ -49,7 +49,7 @@ RefusesClauses clauses e = (last : State) × AnswersStep {A = Unit {0}} (Err e) 
 -- a new checker accepts all the clauses, and then refuses the proof so
 abbrev pub RefusesProof : Option (List ℕ) → List (List ℕ) → CheckerError → Type 0
 RefusesProof known clauses e =
-    ((add_clauses new_state clauses).refused ≡ None) × (steps : List Step) × (last : State) × EndsProof {A = Unit {0}} known (filled clauses) steps (Err e) last
+    ((add_clauses new_state clauses).refused ≡ None) × (text : List ℕ) × (steps : List Step) × (last : State) × ProofAnswer {A = Unit {0}} known (filled clauses) text steps (Err e) last
 
 -- either is refused so; nothing is said where memory was refused or a processor answered a fault
 abbrev pub IsRefused : Option (List ℕ) → List (List ℕ) → CheckerError → Type 0

@@ -1,2 +1,5 @@
+pub mod HintRunLemmas
+pub mod LratLemmas
+pub mod ReadFormulaLemmas
 pub mod Unfailed
 pub mod VerdictLemmas

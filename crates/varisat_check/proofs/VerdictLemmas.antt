@@ -1,27 +1,30 @@
 -- What an accepted proof and its verdict say.
 --     more_inputs      a proof takes no input clause away
 --     refuted_before      a verdict of unsatisfiability refutes what held before the proof
---     refuted_text      and the formula, where the checker was new
-use Rattle.std.proofs.Common.{◌≡◌, ◌≤◌, ℕ, Bool, true, false, not, List, [], ◌++◌, map, Option, None, Result, Ok, Err, refl, sym, ap, ◌∙◌, subst, arith}
+--     refuted_clauses      and the formula, where the checker was new
+--     whole_run, refuted_text      the run over both texts, and what it says of a text whose bytes are known
+use Rattle.std.proofs.Common.{◌≡◌, ◌≤◌, ℕ, Bool, true, false, not, List, [], map, Option, Some, None, Result, Ok, Err, refl, sym, ap, ◌∙◌, subst, arith}
 use Rattle.std.specs.Prelude.{◌==◌, ◌-◌, if◌then◌else◌, IfOk}
 use Rattle.std.proofs.lemmas.Bool.{and_parts, eqb-true}
-use Rattle.checker_rules.specs.AddFormula.{add_clauses, added}
 use Rattle.checker_rules.specs.Calls.{shown_inputs, shown_unsat}
+use Rattle.checker_rules.specs.CheckedSteps.{ShownStep}
 use Rattle.checker_rules.specs.Clauses.{all_true}
 use Rattle.checker_rules.specs.Headline.{holds}
 use Rattle.checker_rules.specs.State.{State}
 use Rattle.checker_rules.specs.Step.{Step, add_clause}
 use Rattle.checker_rules.specs.Steps.{new_state}
+use Rattle.checker_rules.specs.Transcript.{TranscriptStep}
 use Rattle.checker_rules.proofs.AddedClauses.{formulas_are_fold, members}
 use Rattle.checker_rules.proofs.Refuting.{counted_run, runs_refute}
 use Rattle.proof_bytes.specs.Reading.{Fault}
 use Rattle.proof_bytes.specs.Texts.{Place, next_of, start_of}
 use Rattle.checker_parts.specs.Answers.{IsCovered}
-use Rattle.checker_parts.specs.declared.error.CheckerError.{CheckerError}
-use Rattle.varisat_checker.specs.ProofRun.{ProofRun}
-use Rattle.varisat_checker.specs.TextRun.{TextRun}
-use Rattle.varisat_checker.specs.Failing.{IsFailed}
-use Rattle.varisat_check.specs.Runs.{CheckRun, IsRefuted, OnProof}
+use Rattle.checker_parts.specs.declared.error.DimacsError.{DimacsError}
+use Rattle.checker_steps.specs.Handed.{Boxes}
+use Rattle.varisat_checker.specs.ProofRun.{ProofAnswer, ProofRun}
+use Rattle.varisat_checker.specs.TextRun.{EndsText, TextAnswer, TextRun, outcome_of}
+use Rattle.checker_steps.specs.Failing.{IsFailed}
+use Rattle.varisat_check.specs.Runs.{CheckRun, IsRefuted, OnProof, RefusedText}
 use Rattle.varisat_check.specs.declared.fault.RunFault.{RunFault}
 use Rattle.varisat_check.specs.declared.fault.RunFault.TheVariants.{Formula, Proof, Write}
 use Rattle.varisat_check.specs.Verdicts.{verdict_of}
@@ -33,8 +36,12 @@ abbrev Known : Type 0
 Known = Option (List ℕ)
 
 -- the checker accepted the proof
-abbrev Accepts : Known → State → State → Type 0
-Accepts known s t = ProofRun {A = Unit {0}} known s (Ok tt) t
+abbrev Accepts : Known → List ℕ → List Step → State → State → Type 0
+Accepts known text steps s t = ProofAnswer {A = Unit {0}} known s text steps (Ok tt) t
+
+-- it took the formula's text
+abbrev Adds : Known → List (List ℕ) → State → Type 0
+Adds known clauses t = TextAnswer {A = Unit {0}} known new_state clauses (Ok tt) t
 
 not_true : (b : Bool) → not b ≡ true → b ≡ false
 not_true true h = absurd (cc)
@@ -46,9 +53,9 @@ alive s h = rw h refl
 records : (t : State) → shown_unsat t ≡ true → (t.unsat ≡ true) × (t.failed ≡ false)
 records t h = let parts = and_parts t.unsat (not t.failed) h in (parts.0, not_true t.failed parts.1)
 
-pub more_inputs : (known : Known) (s t : State) → Accepts known s t → s.failed ≡ false → shown_unsat t ≡ true → shown_inputs s ≤ shown_inputs t
-more_inputs known s t run lives h =
-    let more = counted_run Place Fault next_of s (start_of run.ends.text) run.steps None t run.ends.runs in
+pub more_inputs : {known : Known} {text : List ℕ} {steps : List Step} (s t : State) → Accepts known text steps s t → s.failed ≡ false → shown_unsat t ≡ true → shown_inputs s ≤ shown_inputs t
+more_inputs {text = text} {steps = steps} s t run lives h =
+    let more = counted_run Place Fault next_of s (start_of text) steps None t run.ends in
     let before = alive s lives in
     let after = alive t (records t h).1 in
     omega arith
@@ -58,24 +65,25 @@ verdict_parts true true n h = (refl, refl)
 verdict_parts true false n h = absurd (cc)
 verdict_parts false e n h = absurd (cc)
 
-pub refuted_before : (known : Known) (s t : State) (before : List Step) → Accepts known s t → s.failed ≡ false → verdict_of (shown_inputs s) t ≡ Unsatisfiable
+pub refuted_before : {known : Known} {text : List ℕ} {steps : List Step} (s t : State) (before : List Step) → Accepts known text steps s t → s.failed ≡ false → verdict_of (shown_inputs s) t ≡ Unsatisfiable
     → IsCovered before s → (a : ℕ → Bool) → holds before a ≡ false
-refuted_before known s t before run lives v covered a =
+refuted_before {text = text} {steps = steps} s t before run lives v covered a =
     let parts = verdict_parts (shown_unsat t) (shown_inputs t == shown_inputs s) (shown_inputs t - shown_inputs s) v in
     let recorded = records t parts.0 in
     let same : shown_inputs t ≡ shown_inputs s = eqb-true _ _ parts.1 in
-    runs_refute Place Fault next_of (holds before) s (start_of run.ends.text) run.steps None t covered run.ends.runs recorded.0
+    runs_refute Place Fault next_of (holds before) s (start_of text) steps None t covered run.ends recorded.0
     (sym (alive t recorded.1) ∙ same ∙ alive s lives) a
 
-pub lives_on : (known : Known) (s : State) → TextRun {A = Unit {0}} known new_state (Ok tt) s → s.failed ≡ false
-lives_on known s text = ap (λ (r : State). r.failed) text.answer.1 ∙ failed-add_clauses new_state text.clauses
+-- a new checker with the whole formula has not failed
+pub lives_on : {known : Known} {clauses : List (List ℕ)} (s : State) → Adds known clauses s → s.failed ≡ false
+lives_on {clauses = clauses} s text = ap (λ (r : State). r.failed) text.answer.1 ∙ failed-add_clauses new_state clauses
 
--- a new checker with the whole formula: its clauses are the steps before the proof
-pub refuted_text : (cnf : Known) (s : State) → TextRun {A = Unit {0}} cnf new_state (Ok tt) s → ((before : List Step) → IsCovered before s → (a : ℕ → Bool) → holds before a ≡ false) → IsRefuted cnf
-refuted_text cnf s text refuted = (text.clauses, text.text, λ a. sym (members text.clauses a) ∙ refuted (map add_clause text.clauses) covered a)
+-- its clauses are the steps before the proof
+refuted_clauses : {known : Known} {clauses : List (List ℕ)} (s : State) → Adds known clauses s → ((before : List Step) → IsCovered before s → (a : ℕ → Bool) → holds before a ≡ false) → (a : ℕ → Bool) → all_true a clauses ≡ false
+refuted_clauses {known} {clauses} s text refuted a = sym (members clauses a) ∙ refuted (map add_clause clauses) covered a
   where
-    covered : IsCovered (map add_clause text.clauses) s
-    covered = subst (λ l. IsCovered (map add_clause l) s) (formulas_are_fold.accepted new_state text.clauses text.answer.0) (text.covers [] (λ b m. refl))
+    covered : IsCovered (map add_clause clauses) s
+    covered = subst (λ l. IsCovered (map add_clause l) s) (formulas_are_fold.accepted new_state clauses text.answer.0) (text.covers [] (λ b m. refl))
 
 -- a checker that answered Ok had not failed before
 pub not_failed : {K : Type 0} (b : Bool) (x : Unit {0}) → (b ≡ true → IsFailed {A = Unit {0}} (Ok x) × K) → b ≡ false
@@ -87,13 +95,32 @@ pub verdict_told : (v : Verdict) (n : ℕ) (s t : State) → ◌≡◌ {A = Resu
 verdict_told v n s t h e k = let same : v ≡ Unsatisfiable = cc in sym (ap (λ m. verdict_of m t) k) ∙ sym e ∙ same
 
 -- a new checker that was handed the formula
-pub text_added : (cnf : Known) (s t : State) → s ≡ new_state → (s.failed ≡ false → TextRun {A = Unit {0}} cnf s (Ok tt) t) → TextRun {A = Unit {0}} cnf new_state (Ok tt) t
-text_added cnf s t e h = subst (λ r. TextRun {A = Unit {0}} cnf r (Ok tt) t) e (h (ap (λ (r : State). r.failed) e))
+abbrev pub AddsText : Known → State → Type 0
+AddsText known t = (clauses : List (List ℕ)) × Adds known clauses t
+
+pub text_added : {P T : Type 0} {took faulted : P → ShownStep → P → Type 0} {took_image faulted_image : T → TranscriptStep → T → Type 0} {old new : Boxes P T} (cnf : Known) (s t : State) → s ≡ new_state
+    → (s.failed ≡ false → TextRun {A = Unit {0}} cnf s (Ok tt) t took faulted took_image faulted_image old new) → AddsText cnf t
+text_added cnf s t e h = let run = h (ap (λ (r : State). r.failed) e) in (run.clauses, subst (λ r. TextAnswer {A = Unit {0}} cnf r run.clauses (Ok tt) t) e run.answered)
+
+-- and did not take all of it
+pub text_refused : {P T : Type 0} {took faulted : P → ShownStep → P → Type 0} {took_image faulted_image : T → TranscriptStep → T → Type 0} {old new : Boxes P T} (cnf : Known) (e : DimacsError) (s t : State) → s ≡ new_state
+    → (s.failed ≡ false → TextRun {A = Unit {0}} cnf s (Err e) t took faulted took_image faulted_image old new) → RefusedText cnf e
+text_refused cnf e s t same h = let run = h (ap (λ (r : State). r.failed) same) in (run.clauses, t, subst (λ r. TextAnswer {A = Unit {0}} cnf r run.clauses (Err e) t) same run.answered)
 
 -- the proof's run behind a whole formula
-pub whole_run : (cnf proof : Known) (s t : State) (r : Result Verdict RunFault) → TextRun {A = Unit {0}} cnf new_state (Ok tt) s
-    → OnProof (λ answer. ProofRun proof s answer t) r → IfOk r (λ v. v ≡ verdict_of (shown_inputs s) t) → CheckRun cnf proof r
-whole_run cnf proof s t (Ok v) text run told = record { formula = s; left = t; adds = text; runs = run; verdict = told }
-whole_run cnf proof s t (Err (Write cause)) text run told = record { formula = s; left = t; adds = text; runs = run; verdict = told }
-whole_run cnf proof s t (Err (Proof e)) text run told = record { formula = s; left = t; adds = text; runs = run; verdict = told }
-whole_run cnf proof s t (Err (Formula e)) text run told = absurd run
+pub whole_run : {P T : Type 0} (took faulted : P → ShownStep → P → Type 0) (took_image faulted_image : T → TranscriptStep → T → Type 0) (old new : Boxes P T) (cnf proof : Known) (s t : State) (r : Result Verdict RunFault) → AddsText cnf s
+    → OnProof (λ answer. ProofRun proof s answer t took faulted took_image faulted_image old new) r → IfOk r (λ v. v ≡ verdict_of (shown_inputs s) t)
+    → (r ≡ Ok Unsatisfiable → (before : List Step) → IsCovered before s → (a : ℕ → Bool) → holds before a ≡ false) → CheckRun cnf proof r
+whole_run took faulted took_image faulted_image old new cnf proof s t (Ok v) text run told refuted =
+    record { clauses = text.0; formula = s; adds = text.1; text = run.text; steps = run.steps; left = t; runs = run.answered; verdict = told; refutes = λ h. refuted_clauses s text.1 (refuted h) }
+whole_run took faulted took_image faulted_image old new cnf proof s t (Err (Write cause)) text run told refuted =
+    record { clauses = text.0; formula = s; adds = text.1; text = run.text; steps = run.steps; left = t; runs = run.answered; verdict = told; refutes = λ h. refuted_clauses s text.1 (refuted h) }
+whole_run took faulted took_image faulted_image old new cnf proof s t (Err (Proof e)) text run told refuted =
+    record { clauses = text.0; formula = s; adds = text.1; text = run.text; steps = run.steps; left = t; runs = run.answered; verdict = told; refutes = λ h. refuted_clauses s text.1 (refuted h) }
+whole_run took faulted took_image faulted_image old new cnf proof s t (Err (Formula e)) text run told refuted = absurd run
+
+-- of a text whose bytes are known
+pub refuted_text : (cnf : Known) (bytes : List ℕ) (s : State) → cnf ≡ Some bytes → AddsText cnf s → ((before : List Step) → IsCovered before s → (a : ℕ → Bool) → holds before a ≡ false) → IsRefuted bytes
+refuted_text cnf bytes s known text refuted =
+    let whole = subst (λ k. EndsText {A = Unit {0}} (outcome_of k) text.0 (Ok tt)) known text.1.text in
+    (text.0, whole, refuted_clauses s text.1 refuted)

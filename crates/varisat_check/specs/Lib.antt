@@ -1,2 +1,5 @@
+pub mod HintRuns
+pub mod LratRuns
+pub mod ReadFormula
 pub mod Runs
 pub mod Verdicts

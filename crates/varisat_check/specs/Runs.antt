@@ -1,24 +1,27 @@
 -- Runs over a formula and a proof.
 --     OnProof P r      P of what the checker answered to the proof
 --     IsFailedRun r, IsRefusedRun r      the checker had failed before; the formula or the proof was refused
---     AddedRun cnf proof r      the proof was run where the formula was added whole
+--     AddedRun cnf proof r      the proof was run where the formula was added whole; what the verdict says of the clauses that were added
 --     CheckRun cnf proof r      the run over both texts
---     IsRefuted cnf      no assignment satisfies the clauses of the text
+--     IsRefuted text      no assignment satisfies the clauses of the text
 use Rattle.std.specs.Prelude.{◌≡◌, ℕ, Bool, false, List, Option, Result, Ok, Err, IfOk}
 use Rattle.checker_rules.specs.Calls.{shown_inputs}
 use Rattle.checker_rules.specs.Clauses.{all_true}
 use Rattle.checker_rules.specs.State.{State}
 use Rattle.checker_rules.specs.Steps.{new_state}
+use Rattle.checker_rules.specs.Step.{Step}
+use Rattle.sat_formula.specs.Lines.{outcome_of}
 use Rattle.sat_formula.specs.Outcome.{Ended}
-use Rattle.sat_formula.specs.Whole.{IsOutcome}
 use Rattle.checker_parts.specs.declared.error.CheckerError.{CheckerError}
 use Rattle.checker_parts.specs.declared.error.CheckerError.TheVariants.{Failed}
-use Rattle.varisat_checker.specs.ProofRun.{ProofRun}
-use Rattle.varisat_checker.specs.TextRun.{TextRun, outcome_of}
+use Rattle.checker_parts.specs.declared.error.DimacsError.{DimacsError}
+use Rattle.varisat_checker.specs.ProofRun.{ProofAnswer}
+use Rattle.varisat_checker.specs.TextRun.{TextAnswer}
 use Rattle.varisat_check.specs.Verdicts.{verdict_of}
 use Rattle.varisat_check.specs.declared.fault.RunFault.{RunFault}
 use Rattle.varisat_check.specs.declared.fault.RunFault.TheVariants.{Formula, Proof, Write}
 use Rattle.varisat_check.specs.declared.verdict.Verdict.{Verdict}
+use Rattle.varisat_check.specs.declared.verdict.Verdict.TheVariants.{Unsatisfiable}
 
 -- the checker answered Ok where there is a verdict, written or not
 abbrev pub OnProof : (Result (Unit {0}) CheckerError → Type 0) → Result Verdict RunFault → Type 0
@@ -38,21 +41,30 @@ IsRefusedRun (Err (Write cause)) = ⊥
 IsRefusedRun (Err (Proof e)) = Unit {0}
 IsRefusedRun (Err (Formula e)) = Unit {0}
 
--- a new checker took the whole formula, and then ran the proof; the verdict is by what it recorded
+-- a new checker took all clauses of the formula's text, and then ran the proof; the verdict is by what it recorded, and where it is
+-- `Unsatisfiable`, no assignment makes these clauses true
 pub record AddedRun (cnf proof : Option (List ℕ)) (r : Result Verdict RunFault) : Type 0 where
+  pub clauses : List (List ℕ)
   pub formula : State
+  pub adds : TextAnswer {A = Unit {0}} cnf new_state clauses (Ok tt) formula
+  pub text : List ℕ
+  pub steps : List Step
   pub left : State
-  pub adds : TextRun {A = Unit {0}} cnf new_state (Ok tt) formula
-  pub runs : OnProof (λ answer. ProofRun proof formula answer left) r
+  pub runs : OnProof (λ answer. ProofAnswer proof formula text steps answer left) r
   pub verdict : IfOk r (λ v. v ≡ verdict_of (shown_inputs formula) left)
+  pub refutes : r ≡ Ok Unsatisfiable → (a : ℕ → Bool) → all_true a clauses ≡ false
+
+-- a new checker did not take all clauses of the formula's text
+abbrev pub RefusedText : Option (List ℕ) → DimacsError → Type 0
+RefusedText cnf e = (clauses : List (List ℕ)) × (left : State) × TextAnswer {A = Unit {0}} cnf new_state clauses (Err e) left
 
 -- a formula that was not added whole is answered, and else the proof's run
 abbrev pub CheckRun : Option (List ℕ) → Option (List ℕ) → Result Verdict RunFault → Type 0
 CheckRun cnf proof (Ok verdict) = AddedRun cnf proof (Ok verdict)
 CheckRun cnf proof (Err (Write cause)) = AddedRun cnf proof (Err (Write cause))
 CheckRun cnf proof (Err (Proof e)) = AddedRun cnf proof (Err (Proof e))
-CheckRun cnf proof (Err (Formula e)) = (left : State) × TextRun {A = Unit {0}} cnf new_state (Err e) left
+CheckRun cnf proof (Err (Formula e)) = RefusedText cnf e
 
--- no assignment makes all clauses of the text true, which has no fault
-abbrev pub IsRefuted : Option (List ℕ) → Type 0
-IsRefuted cnf = (clauses : List (List ℕ)) × IsOutcome (outcome_of cnf) (clauses, Ended) × ((a : ℕ → Bool) → all_true a clauses ≡ false)
+-- the text has no fault, and no assignment makes all its clauses true
+abbrev pub IsRefuted : List ℕ → Type 0
+IsRefuted text = (clauses : List (List ℕ)) × (outcome_of text ≡ (clauses, Ended)) × ((a : ℕ → Bool) → all_true a clauses ≡ false)

@@ -1,12 +1,11 @@
 //! Runs: a proof is checked, and its verdict is written.
-ghost use Rattle.std.specs.Prelude.{◌≡◌, ◌≤◌, ℕ, Bool, true, false, List, OnErr, IfOk, Ok, Err};
+ghost use Rattle.std.specs.Prelude.{◌≡◌, ◌≤◌, ℕ, Bool, true, false, List, OnErr, IfOk, Ok, Err, Some};
 ghost use Rattle.std.specs.Io.KnownBytes.{Appends};
 ghost use Rattle.checker_rules.specs.Calls.{shown_inputs, shown_unsat};
 ghost use Rattle.checker_rules.specs.Headline.{holds};
 ghost use Rattle.checker_rules.specs.Step.{Step};
 ghost use Rattle.checker_parts.specs.Answers.{IsCovered};
-ghost use Rattle.varisat_checker.specs.Failing.{RecordsFailure};
-ghost use Rattle.varisat_checker.specs.ProofHanded.{ProofHanded};
+ghost use Rattle.checker_steps.specs.Failing.{RecordsFailure};
 ghost use Rattle.varisat_checker.specs.ProofRun.{ProofRun};
 ghost use Rattle.varisat_checker.specs.Shown.{boxes, state};
 ghost use Rattle.varisat_check.specs.Runs.{CheckRun, IsFailedRun, IsRefuted, IsRefusedRun, OnProof};
@@ -33,9 +32,10 @@ pub fn run_proof<L: Log, R: Read + Drop, W: Write, P: ProofProcessor, T: ProofTr
     out: &mut W,
 ) -> Result<Verdict, RunFault>
     ensures failed { (state checker.old).failed ≡ true → IsFailedRun result × (checker.new ≡ checker.old) }
-    ensures run { (state checker.old).failed ≡ false → OnProof (λ answer. ProofRun (R.remaining proof) (state checker.old) answer (state checker.new)) result }
+    ensures run { (state checker.old).failed ≡ false → OnProof (λ answer.
+        ProofRun (R.remaining proof) (state checker.old) answer (state checker.new)
+        P.took P.faulted T.took T.faulted (boxes checker.old) (boxes checker.new)) result }
     ensures records { OnProof (λ answer. RecordsFailure answer (state checker.new)) result }
-    ensures handed { (state checker.old).failed ≡ false → OnProof (λ answer. ProofHanded (R.remaining proof) (state checker.old) answer (state checker.new) P.took P.faulted T.took T.faulted (boxes checker.old) (boxes checker.new)) result }
     ensures verdict { IfOk result (λ verdict. verdict ≡ verdict_of (shown_inputs (state checker.old)) (state checker.new)) }
     ensures line { IfOk result (λ verdict. Appends (W.contents out.old) (W.contents out.new) (shown_line verdict)) }
     ensures silent { IsRefusedRun result → out.new ≡ out.old }
@@ -65,7 +65,8 @@ pub fn run_check<L: Log, F: Read + Drop, P: Read + Drop, W: Write>(
     ensures run { CheckRun (F.remaining cnf) (P.remaining proof) result }
     ensures line { IfOk result (λ verdict. Appends (W.contents out.old) (W.contents out.new) (shown_line verdict)) }
     ensures silent { IsRefusedRun result → out.new ≡ out.old }
-    ensures refutes { result ≡ Ok Unsatisfiable → IsRefuted (F.remaining cnf) }
+    ensures refutes { (text : List ℕ) → F.remaining cnf ≡ Some text →
+        result ≡ Ok Unsatisfiable → IsRefuted text }
 {
     let mut checker = Checker::new(alloc);
     if let Err(fault) = checker.add_dimacs_cnf(rt, cnf) {
@@ -75,7 +76,7 @@ pub fn run_check<L: Log, F: Read + Drop, P: Read + Drop, W: Write>(
 }
 
 /// The verdict of a checker that accepted a proof, and whose count of input clauses was this before it.
-fn verdict_after<P: ProofProcessor, T: ProofTranscriptProcessor>(
+pub(crate) fn verdict_after<P: ProofProcessor, T: ProofTranscriptProcessor>(
     checker: &CheckerOf<P, T>,
     inputs: u64,
 ) -> Verdict
@@ -92,7 +93,7 @@ fn verdict_after<P: ProofProcessor, T: ProofTranscriptProcessor>(
 }
 
 /// Writes a verdict's line whole, also out of a writer's buffer.
-fn write_line<W: Write>(out: &mut W, verdict: Verdict) -> io::Result<()>
+pub(crate) fn write_line<W: Write>(out: &mut W, verdict: Verdict) -> io::Result<()>
     ensures { IfOk result (λ done. Appends (W.contents out.old) (W.contents out.new) (shown_line verdict)) }
 {
     writeln!(out, "{verdict}")?;

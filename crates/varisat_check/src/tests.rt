@@ -14,6 +14,10 @@ use std::process::Abort;
 use std::test::Fail;
 use varisat_checker::Checker;
 
+mod formula;
+mod hints;
+mod lrat;
+
 // Four clauses, one against each pair of values of two variables.
 const FOUR: &str = "1 2 0 1 -2 0 -1 2 0 -1 -2 0";
 
@@ -24,6 +28,14 @@ const HASHES: [u64; 4] = [
     0x66D7_FE5A_834B_8C15,
     0xC49F_749D_03BD_087E,
 ];
+
+// A proof from the four clauses at width 1: first the unit 1, and then the empty clause.
+const WIDTH_1: [u8; 16] = [
+    0x09, 0x01, 0x06, 0x00, 0x01, 0x00, 0x02, 0x01, 0x00, 0x06, 0x00, 0x00, 0x02, 0x00, 0x01, 0x0D,
+];
+
+// By the number of bytes that stand of it, the step at which it is incomplete.
+const FIRST_MISSING: [u64; 16] = [1, 1, 2, 2, 2, 2, 2, 2, 2, 3, 3, 3, 3, 3, 3, 4];
 
 // Gives these bytes one a read, and after them a fault if there is one.
 #[derive(Drop)]
@@ -214,25 +226,22 @@ fn four_clauses_however_cut(rt: HostRuntime) -> Result<(), Fail> {
     let alloc = rt.alloc();
     let cnf = FOUR.as_bytes();
     let proof = proof_of_four(alloc)?;
-    check(&rt, alloc, cnf, proof.as_slice(), SHOWN)?;
-    check(&rt, alloc, byte_by_byte(cnf), byte_by_byte(&proof), SHOWN)
+    for proof in [proof.as_slice(), WIDTH_1.as_slice()] {
+        check(&rt, alloc, cnf, proof, SHOWN)?;
+        check(&rt, alloc, byte_by_byte(cnf), byte_by_byte(proof), SHOWN)?;
+    }
+    Ok(())
 }
 
 #[test]
 fn no_beginning_of_a_proof_will_do(rt: HostRuntime) -> Result<(), Fail> {
     let alloc = rt.alloc();
-    let proof = proof_of_four(alloc)?;
-    for len in 0..proof.len() {
-        let mut out = Vec::new(alloc);
-        let answer = run_check(&Discard, alloc, FOUR.as_bytes(), &proof[..len], &mut out);
-        assert!(rt;
-            matches!(
-                &answer,
-                Err(RunFault::Proof(CheckerError::ProofIncomplete { .. }))
-            ),
-            "{len}"
-        );
-        assert_eq!(rt; (out.len(), exit_status(&answer)), (0, 1), "{len}");
+    let cnf = FOUR.as_bytes();
+    for (len, step) in FIRST_MISSING.iter().enumerate() {
+        let proof = &WIDTH_1[..len];
+        let text = format!(in alloc; "step {step}: Unexpected end of proof file")?;
+        check(&rt, alloc, cnf, proof, refused(&text))?;
+        check(&rt, alloc, cnf, byte_by_byte(proof), refused(&text))?;
     }
     Ok(())
 }

@@ -1,15 +1,17 @@
-//! The command `varisat_check CNF PROOF`: checks a proof against a formula, and says in one line what it shows.
+//! The command `varisat_check CNF PROOF [LRAT]`: checks a proof against a formula, and says in one line what it shows.
 //!
+//! With a third file the checked steps are written to it as lines of hints.
 //! Without arguments it checks a small fixed example.
 #![tactic(auto)]
 
 use log::sink::Console;
 use log::{LevelFilter, Logged};
 use sat_formula::Lit;
+use sat_hints::LratWriter;
 use std::fs::File;
 use std::process::ExitCode;
 use std::{env, io};
-use varisat_check::{RunFault, Verdict, exit_status, run_check, run_proof};
+use varisat_check::{RunFault, Verdict, exit_status, read_formula, run_check, run_lrat, run_proof};
 use varisat_checker::Checker;
 
 /// The exit status of a call that can't be run.
@@ -30,11 +32,14 @@ fn status_of_call(rt: &HostRuntime) -> u8 {
             return NOT_RUN;
         }
     };
-    match (words.next(), words.next(), words.next()) {
-        (None, _, _) => check_example(rt),
-        (Some(cnf), Some(proof), None) => check_files(rt, cnf.as_str(), proof.as_str()),
+    match (words.next(), words.next(), words.next(), words.next()) {
+        (None, _, _, _) => check_example(rt),
+        (Some(cnf), Some(proof), None, _) => check_files(rt, cnf.as_str(), proof.as_str()),
+        (Some(cnf), Some(proof), Some(lrat), None) => {
+            write_hints(rt, cnf.as_str(), proof.as_str(), lrat.as_str())
+        }
         _ => {
-            let _ = eprintln!(rt; "usage: varisat_check CNF PROOF");
+            let _ = eprintln!(rt; "usage: varisat_check CNF PROOF [LRAT]");
             NOT_RUN
         }
     }
@@ -51,6 +56,36 @@ fn check_files(rt: &HostRuntime, cnf_name: &str, proof_name: &str) -> u8 {
     let log = Logged::new(rt, LevelFilter::Warn, Console(rt));
     let outcome = run_check(&log, rt.alloc(), cnf, proof, &mut io::writer(rt));
     report(rt, &outcome)
+}
+
+/// The third file is made once both others are open, and before anything is read.
+fn write_hints(rt: &HostRuntime, cnf_name: &str, proof_name: &str, lrat_name: &str) -> u8 {
+    let Some(cnf) = open(rt, cnf_name) else {
+        return NOT_RUN;
+    };
+    let Some(proof) = open(rt, proof_name) else {
+        return NOT_RUN;
+    };
+    let Ok(mut lrat) = File::create(rt, lrat_name) else {
+        let _ = eprintln!(rt; "cannot open {lrat_name}");
+        return NOT_RUN;
+    };
+    let outcome = hints_of(rt, cnf, proof, &mut lrat);
+    report(rt, &outcome)
+}
+
+fn hints_of(
+    rt: &HostRuntime,
+    cnf: File,
+    proof: File,
+    lrat: &mut File,
+) -> Result<Verdict, RunFault> {
+    let formula = read_formula(rt.alloc(), cnf)?;
+    let writer = LratWriter::new(rt.alloc(), formula.len() as u64);
+    let log = Logged::new(rt, LevelFilter::Warn, Console(rt));
+    let out = &mut io::writer(rt);
+    let (verdict, _) = run_lrat(&log, rt.alloc(), &formula, writer, proof, out, lrat)?;
+    Ok(verdict)
 }
 
 /// A variable that has to be true and false, and a proof that has nothing to add.

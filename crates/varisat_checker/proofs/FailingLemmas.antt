@@ -5,7 +5,7 @@ use Rattle.checker_rules.specs.State.{State}
 use Rattle.checker_parts.specs.Answers.{AnswersParts, AnswersStep, UnlessFailed}
 use Rattle.checker_parts.specs.declared.error.CheckerError.{CheckerError}
 use Rattle.checker_parts.specs.declared.error.CheckerError.TheVariants.{ProofIncomplete, IoError, ParseError, CheckFailed, ProofProcessorError, OutOfMemory, Failed}
-use Rattle.varisat_checker.specs.Failing.{has_failed}
+use Rattle.checker_steps.specs.Failing.{has_failed}
 
 abbrev Answer : Type 0
 Answer = Result (Unit {0}) CheckerError

@@ -19,9 +19,9 @@ use Rattle.checker_parts.specs.Answers.{AnswersStep, IsRefusal}
 use Rattle.checker_parts.specs.Causes.{cause_of}
 use Rattle.checker_parts.specs.declared.error.CheckerError.{CheckerError}
 use Rattle.checker_parts.specs.declared.error.CheckerError.TheVariants.{ProofIncomplete, IoError, ParseError, CheckFailed, ProofProcessorError, OutOfMemory, Failed}
-use Rattle.varisat_checker.specs.Handed.{Boxes, Handed, HandsBeginning, HandsWhole}
+use Rattle.checker_steps.specs.Handed.{Boxes, Handed, HandsBeginning, HandsWhole}
+use Rattle.checker_steps.proofs.HandingLemmas.{handed-second, ran-append, ran-none}
 use Rattle.varisat_checker.proofs.AddedSoFar.{AddedOf, AddedSoFar, added-more, added-none}
-use Rattle.varisat_checker.proofs.HandingLemmas.{handed-second, ran-append, ran-none}
 
 -- some list is emitted by each clause
 one-emission : (s : State) (c : List ℕ) → (es : List ShownStep) × Emits s (add_clause c) es

@@ -1,4 +1,7 @@
--- What the loop over the clauses of a text hands on.
+-- What the loop over the clauses of a text reads, adds and hands on.
+--     ReadHanded      the clauses given so far, and what was handed on of them
+--     handed-nothing, handed-more      the loop's start, and a turn of it
+--     handed-stops, handed-ends, handed-fault      how it ends
 use Rattle.std.proofs.Common.{◌≡◌, ℕ, Bool, true, false, List, [], ◌∷◌, ◌++◌, map, Option, None, Result, Ok, Err, sym, ◌∙◌, subst}
 use Rattle.checker_rules.specs.AddFormula.{add_clauses, added}
 use Rattle.checker_rules.specs.CallEmissions.{EmitsCall, EmitsCalls}
@@ -10,6 +13,7 @@ use Rattle.checker_rules.specs.State.{State}
 use Rattle.checker_rules.specs.Step.{add_clause}
 use Rattle.checker_rules.specs.Steps.{step}
 use Rattle.checker_rules.specs.Transcript.{TranscriptStep}
+use Rattle.checker_rules.specs.Sound.{Sound}
 use Rattle.checker_rules.specs.WellFormed.{WellFormed}
 use Rattle.sat_formula.specs.declared.dimacs.DimacsReader.{DimacsReader}
 use Rattle.sat_formula.specs.declared.fault.DimacsFault.{DimacsFault}
@@ -21,14 +25,13 @@ use Rattle.checker_parts.specs.declared.error.CheckerError.{CheckerError}
 use Rattle.checker_parts.specs.declared.error.CheckerError.TheVariants.{OutOfMemory}
 use Rattle.checker_parts.specs.declared.error.DimacsError.{DimacsError}
 use Rattle.checker_parts.specs.declared.error.DimacsError.TheVariants.{Read, Malformed, Checker}
-use Rattle.varisat_checker.specs.Handed.{Boxes, Handed, HandsWhole}
+use Rattle.checker_steps.specs.Handed.{Boxes, Handed, HandsWhole}
 use Rattle.varisat_checker.specs.TextFault.{IsTextFault}
-use Rattle.varisat_checker.specs.TextHanded.{HandedText, TextHanded}
-use Rattle.varisat_checker.specs.TextRun.{EndsText, outcome_of}
+use Rattle.varisat_checker.specs.TextRun.{EndsText, HandedText, TextRun, outcome_of}
 use Rattle.varisat_checker.proofs.AddedSoFar.{added-all, added-more, added-none, added-stops}
 use Rattle.varisat_checker.proofs.CertifiedLemmas.{certifies-adds}
 use Rattle.varisat_checker.proofs.HandedAdds.{adds-all, adds-more, adds-none, adds-stop}
-use Rattle.varisat_checker.proofs.ReadSoFar.{Answers, ReadSoFar, ends-with, given-more, given-none}
+use Rattle.varisat_checker.proofs.ReadSoFar.{Answers, ReadSoFar, ends-with, given-more, given-none, text-answer}
 
 -- the clauses that the reader gave, and what was handed on of them
 pub record ReadHanded {R P T : Type 0} (remaining : R → Option (List ℕ)) (took : P → ShownStep → P → Type 0) (took_image : T → TranscriptStep → T → Type 0) (s : State) (first reader : DimacsReader R) (u : State) (old new : Boxes P T) : Type 0 where
@@ -56,54 +59,55 @@ module _ {R P T : Type 0} (remaining : R → Option (List ℕ)) (took faulted : 
       handed = adds-more took faulted took_image faulted_image s u p.reading.clauses clause old now later p.reading.so_far p.handed k;
     }
 
-    module _ (known : Option (List ℕ)) (same : outcome_left remaining first ≡ outcome_of known) (form : WellFormed s) where
+    module _ (known : Option (List ℕ)) (same : outcome_left remaining first ≡ outcome_of known) (sound : Sound s) where
       -- a clause that was refused, or that a box faulted at
       pub handed-stops : (more : Bool) → more ≡ true → Answers remaining mid new clause (Ok more) → (e : CheckerError) (w : State) (later : Boxes P T) → AnswersStep {A = Unit {0}} (Err e) (step u (add_clause clause)) w
-          → Handed {A = Unit {0}} (Err e) (EmitsCall u (adds clause)) took faulted took_image faulted_image now later → TextHanded {A = Unit {0}} known s (Err (Checker e)) w took faulted took_image faulted_image old later
+          → Handed {A = Unit {0}} (Err e) (EmitsCall u (adds clause)) took faulted took_image faulted_image now later → TextRun {A = Unit {0}} known s (Err (Checker e)) w took faulted took_image faulted_image old later
       handed-stops more is h e w later a k =
           let clauses = p.reading.clauses ++ clause ∷ [] in
           let stops = added-stops clause [] e w p.reading.so_far a in
           record {
             clauses = clauses;
-            text = ends-with p.reading new clause known same clauses (Err (Checker e)) (BeginsWith-given remaining first new clauses (given-more p.reading new clause more is h));
-            answer = stops;
+            answered = text-answer known s clauses (Err (Checker e)) w sound.good
+                (ends-with p.reading new clause known same clauses (Err (Checker e)) (BeginsWith-given remaining first new clauses (given-more p.reading new clause more is h)))
+                stops;
             handed = adds-stop took faulted took_image faulted_image s u w p.reading.clauses [] clause e old now later p.reading.so_far p.handed a k;
-            certified = certifies-text s w clauses (Err (Checker e)) form stops;
+            certified = certifies-text s w clauses (Err (Checker e)) sound.form stops;
           }
 
       whole : HandsWhole (EmitsCalls s (map adds (added s p.reading.clauses))) took took_image old now
       whole = adds-all took faulted took_image faulted_image s u p.reading.clauses old now p.reading.so_far p.handed
 
       -- the end of the text
-      pub handed-ends : (more : Bool) → more ≡ false → Answers remaining mid new clause (Ok more) → TextHanded {A = Unit {0}} known s (Ok tt) u took faulted took_image faulted_image old now
+      pub handed-ends : (more : Bool) → more ≡ false → Answers remaining mid new clause (Ok more) → TextRun {A = Unit {0}} known s (Ok tt) u took faulted took_image faulted_image old now
       handed-ends more e h =
           let k : Answers remaining mid new clause (Ok false) = subst (λ (b : Bool). Answers remaining mid new clause (Ok b)) e h in
           record {
             clauses = p.reading.clauses;
-            text = ends-with p.reading new clause known same p.reading.clauses (Ok tt) (IsOutcome-ended remaining first mid new p.reading.clauses clause p.reading.given k.1);
-            answer = added-all p.reading.so_far;
+            answered = text-answer known s p.reading.clauses (Ok tt) u sound.good
+                (ends-with p.reading new clause known same p.reading.clauses (Ok tt) (IsOutcome-ended remaining first mid new p.reading.clauses clause p.reading.given k.1))
+                (added-all p.reading.so_far);
             handed = whole;
-            certified = certifies-text s u p.reading.clauses (Ok tt) form (added-all p.reading.so_far);
+            certified = certifies-text s u p.reading.clauses (Ok tt) sound.form (added-all p.reading.so_far);
           }
 
       -- its fault
-      pub handed-fault : (fault : DimacsFault) → Answers remaining mid new clause (Err fault) → (e : DimacsError) (w : State) → IsTextFault fault u e w → TextHanded {A = Unit {0}} known s (Err e) w took faulted took_image faulted_image old now
+      pub handed-fault : (fault : DimacsFault) → Answers remaining mid new clause (Err fault) → (e : DimacsError) (w : State) → IsTextFault fault u e w → TextRun {A = Unit {0}} known s (Err e) w took faulted took_image faulted_image old now
       handed-fault fault h e w is = by fault is (FailsAfter-given remaining first mid new p.reading.clauses clause p.reading.given fault h.0 h.1)
         where
           accepted : w ≡ u → ((add_clauses s p.reading.clauses).refused ≡ None) × (w ≡ (add_clauses s p.reading.clauses).after)
           accepted at = let a = added-all p.reading.so_far in (a.0, at ∙ a.1)
 
           ended : (x : DimacsError) → EndsText {A = Unit {0}} (outcome_left remaining first) p.reading.clauses (Err x) → AnswersText {A = Unit {0}} (Err x) (add_clauses s p.reading.clauses) w
-              → HandedText {A = Unit {0}} (Err x) (EmitsCalls s (map adds (added s p.reading.clauses))) took faulted took_image faulted_image old now → TextHanded {A = Unit {0}} known s (Err x) w took faulted took_image faulted_image old now
+              → HandedText {A = Unit {0}} (Err x) (EmitsCalls s (map adds (added s p.reading.clauses))) took faulted took_image faulted_image old now → TextRun {A = Unit {0}} known s (Err x) w took faulted took_image faulted_image old now
           ended x text a handed = record {
             clauses = p.reading.clauses;
-            text = ends-with p.reading new clause known same p.reading.clauses (Err x) text;
-            answer = a;
+            answered = text-answer known s p.reading.clauses (Err x) w sound.good (ends-with p.reading new clause known same p.reading.clauses (Err x) text) a;
             handed = handed;
-            certified = certifies-text s w p.reading.clauses (Err x) form a;
+            certified = certifies-text s w p.reading.clauses (Err x) sound.form a;
           }
 
-          by : (f : DimacsFault) → IsTextFault f u e w → FailsAfter (outcome_left remaining first) p.reading.clauses f → TextHanded {A = Unit {0}} known s (Err e) w took faulted took_image faulted_image old now
-          by (faults.Read cause) is k = subst (λ (x : DimacsError). TextHanded {A = Unit {0}} known s (Err x) w took faulted took_image faulted_image old now) (sym is.0) (ended (Read cause) k (accepted is.1) whole)
-          by (faults.Malformed line kind) is k = subst (λ (x : DimacsError). TextHanded {A = Unit {0}} known s (Err x) w took faulted took_image faulted_image old now) (sym is.0) (ended (Malformed line kind) k (accepted is.1) whole)
-          by faults.OutOfMemory is k = subst (λ (x : DimacsError). TextHanded {A = Unit {0}} known s (Err x) w took faulted took_image faulted_image old now) (sym is.0) (ended (Checker OutOfMemory) k is.1 tt)
+          by : (f : DimacsFault) → IsTextFault f u e w → FailsAfter (outcome_left remaining first) p.reading.clauses f → TextRun {A = Unit {0}} known s (Err e) w took faulted took_image faulted_image old now
+          by (faults.Read cause) is k = subst (λ (x : DimacsError). TextRun {A = Unit {0}} known s (Err x) w took faulted took_image faulted_image old now) (sym is.0) (ended (Read cause) k (accepted is.1) whole)
+          by (faults.Malformed line kind) is k = subst (λ (x : DimacsError). TextRun {A = Unit {0}} known s (Err x) w took faulted took_image faulted_image old now) (sym is.0) (ended (Malformed line kind) k (accepted is.1) whole)
+          by faults.OutOfMemory is k = subst (λ (x : DimacsError). TextRun {A = Unit {0}} known s (Err x) w took faulted took_image faulted_image old now) (sym is.0) (ended (Checker OutOfMemory) k is.1 tt)

@@ -1,5 +1,5 @@
--- What the loop over the steps of a proof hands on.
---     RunHanded      the steps accepted so far, and what was handed on of them
+-- What the loop over the steps of a proof reads, accepts and hands on.
+--     RunHanded      the steps accepted so far, the fold over them, and what was handed on of them
 --     handed-begins, handed-goes      the loop's start, and a turn of it
 --     handed-exhausted, handed-refused, handed-faulted, handed-closes      how it ends
 use Rattle.std.proofs.Common.{◌≡◌, ◌⊎◌, ℕ, Bool, true, false, cond, ltb, List, [], ◌∷◌, ◌++◌, map, Option, Some, None, Result, Ok, Err, refl, sym, ap, ◌∙◌, subst, inl, inr, append-nil, append_assoc}
@@ -7,6 +7,7 @@ use Rattle.std.proofs.KnownBytes.{Consumes-trans}
 use Rattle.checker_rules.specs.CallEmissions.{EmitsCall, EmitsCalls}
 use Rattle.checker_rules.specs.Calls.{Call, answer_of, attempt, calls_after, checks, closes, closing_conflict, count_step, step_limit}
 use Rattle.checker_rules.specs.CheckedSteps.{ShownStep}
+use Rattle.checker_rules.specs.Headline.{Good}
 use Rattle.checker_rules.specs.Outcome.{Cause, steps_exhausted}
 use Rattle.checker_rules.specs.Run.{Runs, Stop, as_answer, move}
 use Rattle.checker_rules.specs.RunEmissions.{EmitsRun, last_calls, read_calls}
@@ -31,11 +32,12 @@ use Rattle.checker_parts.specs.Causes.{cause_of}
 use Rattle.checker_parts.specs.declared.error.CheckCause.TheVariants.{StepsExhausted}
 use Rattle.checker_parts.specs.declared.error.CheckerError.{CheckerError}
 use Rattle.checker_parts.specs.declared.error.CheckerError.TheVariants.{ProofIncomplete, IoError, ParseError, CheckFailed, ProofProcessorError, OutOfMemory, Failed}
-use Rattle.varisat_checker.specs.Handed.{Boxes, Handed, HandsBeginning, HandsWhole, RanOver}
-use Rattle.varisat_checker.specs.ProofHanded.{EmitsProof, IsReadText, ProofHanded, RunsSo}
+use Rattle.checker_steps.specs.Handed.{Boxes, Handed, HandsBeginning, HandsWhole, RanOver}
+use Rattle.varisat_checker.specs.ProofRun.{EmitsProof, EndsProof, IsReadText, ProofRun}
 use Rattle.varisat_checker.specs.ReadFault.{IsReadFault}
-use Rattle.varisat_checker.specs.Refusal.{RefusesWith}
-use Rattle.varisat_checker.proofs.HandingLemmas.{beginning-second, ran-append, ran-none}
+use Rattle.clause_store.specs.Refusal.{RefusesWith}
+use Rattle.checker_steps.proofs.HandingLemmas.{beginning-second, ran-append, ran-none}
+use Rattle.varisat_checker.proofs.ProofRuns.{AnswerSets, SoFarSets, sets-begin, sets-close, sets-counted, sets-go, sets-refused, sets-stand}
 use Rattle.varisat_checker.proofs.RunMachines.{certifies-proof}
 
 abbrev Known : Type 0
@@ -87,22 +89,23 @@ last-read t place found may e = last-open t place may.going ∙ ap (λ (b : Bool
 
 -- ---- the loop
 
--- the steps that were accepted, and what was handed on of them
+-- the steps that were accepted, the fold over them, and what was handed on of them
 pub record RunHanded {P T : Type 0} (took : P → ShownStep → P → Type 0) (took_image : T → TranscriptStep → T → Type 0) (known bytes : Known) (s t : State) (format : Format) (old new : Boxes P T) : Type 0 where
   pub steps : List Step
   pub reads : SoFar known bytes s steps t format
+  pub sets : SoFarSets s steps t
   pub after : calls_after s (map checks steps) ≡ t
   pub handed : HandsWhole (EmitsCalls s (map checks steps)) took took_image old new
 
--- the error names this cause
-abbrev IsNamed : CheckerError → Cause → Type 0
-IsNamed (CheckFailed number msg debug_step) cause = cause_of msg ≡ cause
-IsNamed (ProofIncomplete number) cause = ⊥
-IsNamed (IoError number read) cause = ⊥
-IsNamed (ParseError number kind) cause = ⊥
-IsNamed (ProofProcessorError fault) cause = ⊥
-IsNamed OutOfMemory cause = ⊥
-IsNamed Failed cause = ⊥
+-- the error names this cause, at this step
+abbrev IsNamed : CheckerError → ℕ → Cause → Type 0
+IsNamed (CheckFailed number msg debug_step) at cause = (number ≡ at) × (cause_of msg ≡ cause)
+IsNamed (ProofIncomplete number) at cause = ⊥
+IsNamed (IoError number read) at cause = ⊥
+IsNamed (ParseError number kind) at cause = ⊥
+IsNamed (ProofProcessorError fault) at cause = ⊥
+IsNamed OutOfMemory at cause = ⊥
+IsNamed Failed at cause = ⊥
 
 abbrev ends-with : Answer → State → (Step × Place) ⊎ Stop Fault
 ends-with answer u = inr (answer, u)
@@ -115,7 +118,13 @@ record LastAt (s : State) (steps : List Step) (t : State) (text : List ℕ) (cal
 
 module _ {P T : Type 0} (took faulted : P → ShownStep → P → Type 0) (took_image faulted_image : T → TranscriptStep → T → Type 0) where
   pub handed-begins : (known bytes : Known) (s : State) (format : Format) (old : Boxes P T) → bytes ≡ known → format ≡ formats.Start → RunHanded took took_image known bytes s s format old old
-  handed-begins known bytes s format old e starts = record { steps = []; reads = nothing_yet known bytes s format e starts; after = refl; handed = ([], refl, ran-none took faulted took_image faulted_image old) }
+  handed-begins known bytes s format old e starts = record {
+    steps = [];
+    reads = nothing_yet known bytes s format e starts;
+    sets = sets-begin s;
+    after = refl;
+    handed = ([], refl, ran-none took faulted took_image faulted_image old);
+  }
 
   module _ {known now : Known} {s t : State} {format : Format} {old mid : Boxes P T} (p : RunHanded took took_image known now s t format old mid) where
     -- after the steps so far, a call
@@ -124,12 +133,13 @@ module _ {P T : Type 0} (took faulted : P → ShownStep → P → Type 0) (took_
         (emissions_join Place Fault).calls s (map checks p.steps) (call ∷ []) p.handed.0 es p.handed.1 (subst (λ (u : State). EmitsCalls u (call ∷ []) es) (sym p.after) (emits-one t call es h))
 
     -- a turn of the loop
-    pub handed-goes : {new : Known} {next : Format} {step : Step} (u : State) (later : Boxes P T) → Leads now new (next_at format) (λ more. Ok ((next, step), more)) → MayRead t → AnswersParts {A = Unit {0}} (Ok tt) (attempt t step) u
+    pub handed-goes : {new : Known} {next : Format} {step : Step} (u : State) (later : Boxes P T) → Leads now new (next_at format) (λ more. Ok ((next, step), more)) → MayRead t → Good t → AnswersParts {A = Unit {0}} (Ok tt) (attempt t step) u
         → HandsWhole (EmitsCall t (checks step)) took took_image mid later → RunHanded took took_image known new s u next old later
-    handed-goes {new} {next} {step} u later leads may h k =
+    handed-goes {new} {next} {step} u later leads may good h k =
         record {
           steps = p.steps ++ step ∷ [];
           reads = one_more u p.reads leads may h.0 h.1;
+          sets = sets-go p.sets step u good h;
           after = ap (calls_after s) (map-append p.steps (step ∷ [])) ∙ after-append s (map checks p.steps) (checks step) ∙ ap (λ (w : State). (attempt w step).after) p.after ∙ sym h.1;
           handed = (
             p.handed.0 ++ k.0,
@@ -161,25 +171,31 @@ module _ {P T : Type 0} (took faulted : P → ShownStep → P → Type 0) (took_
         beginning-second took faulted took_image faulted_image (EmitsCall t call) (EmitsRun next_of s (start_of text) p.steps) p.handed.0 old mid new p.handed.2 (λ es emits. last-emits text there call es goes last emits) h
 
     module _ (form : WellFormed s) where
-      proof-handed : (r : Call-answer) (u : State) (new : Boxes P T) (text : List ℕ) → IsReadText r known text → RunsSo r text s p.steps u → Handed r (EmitsProof r s text p.steps) took faulted took_image faulted_image old new
-          → ProofHanded known s r u took faulted took_image faulted_image old new
-      proof-handed r u new text is_text runs handed = record { text = text; steps = p.steps; is_text = is_text; runs = runs; handed = handed; certified = certifies-proof r s u text p.steps form runs }
+      proof-run : (r : Call-answer) (u : State) (new : Boxes P T) (text : List ℕ) → AnswerSets s p.steps r u → IsReadText r known text → EndsProof r text s p.steps u → Handed r (EmitsProof r s text p.steps) took faulted took_image faulted_image old new
+          → ProofRun known s r u took faulted took_image faulted_image old new
+      proof-run r u new text sets is_text ends handed = record {
+        text = text;
+        steps = p.steps;
+        answered = record { is_text = is_text; ends = ends; folds = sets.folds; covers = sets.covers; proves = sets.proves; refutes = sets.refutes };
+        handed = handed;
+        certified = certifies-proof r s u text p.steps form ends;
+      }
 
       -- want of memory
-      out-of-memory : (u : State) (new : Boxes P T) → ProofHanded {A = Unit {0}} known s (Err OutOfMemory) u took faulted took_image faulted_image old new
-      out-of-memory u new = proof-handed (Err OutOfMemory) u new p.reads.taken (some_taken known now p.reads.taken p.reads.bytes p.reads.consumed) tt tt
+      out-of-memory : (u : State) (new : Boxes P T) → AnswerSets s p.steps (Err OutOfMemory) u → ProofRun {A = Unit {0}} known s (Err OutOfMemory) u took faulted took_image faulted_image old new
+      out-of-memory u new sets = proof-run (Err OutOfMemory) u new p.reads.taken sets (some_taken known now p.reads.taken p.reads.bytes p.reads.consumed) tt tt
 
       -- a refusal by the rules
-      refuses : (e : CheckerError) (cause : Cause) (u : State) (new : Boxes P T) (text : List ℕ) → IsNamed e cause → IsTextOf known text → Runs next_of s (start_of text) p.steps (Some (inl cause)) u
-          → HandsWhole (EmitsRun next_of s (start_of text) p.steps) took took_image old new → ProofHanded {A = Unit {0}} known s (Err e) u took faulted took_image faulted_image old new
-      refuses (CheckFailed number msg debug_step) cause u new text named is_text runs h =
-          proof-handed (Err (CheckFailed number msg debug_step)) u new text is_text (subst (λ (x : Cause). Runs next_of s (start_of text) p.steps (Some (inl x)) u) (sym named) runs) h
-      refuses (ProofIncomplete number) cause u new text named is_text runs h = absurd named
-      refuses (IoError number read) cause u new text named is_text runs h = absurd named
-      refuses (ParseError number kind) cause u new text named is_text runs h = absurd named
-      refuses (ProofProcessorError fault) cause u new text named is_text runs h = absurd named
-      refuses OutOfMemory cause u new text named is_text runs h = absurd named
-      refuses Failed cause u new text named is_text runs h = absurd named
+      refuses : (e : CheckerError) (cause : Cause) (u : State) (new : Boxes P T) (text : List ℕ) → AnswerSets s p.steps (Err e) u → IsNamed e u.steps cause → IsTextOf known text → Runs next_of s (start_of text) p.steps (Some (inl cause)) u
+          → HandsWhole (EmitsRun next_of s (start_of text) p.steps) took took_image old new → ProofRun {A = Unit {0}} known s (Err e) u took faulted took_image faulted_image old new
+      refuses (CheckFailed number msg debug_step) cause u new text sets named is_text runs h =
+          proof-run (Err (CheckFailed number msg debug_step)) u new text sets is_text (named.0, subst (λ (x : Cause). Runs next_of s (start_of text) p.steps (Some (inl x)) u) (sym named.1) runs) h
+      refuses (ProofIncomplete number) cause u new text sets named is_text runs h = absurd named
+      refuses (IoError number read) cause u new text sets named is_text runs h = absurd named
+      refuses (ParseError number kind) cause u new text sets named is_text runs h = absurd named
+      refuses (ProofProcessorError fault) cause u new text sets named is_text runs h = absurd named
+      refuses OutOfMemory cause u new text sets named is_text runs h = absurd named
+      refuses Failed cause u new text sets named is_text runs h = absurd named
 
       -- whatever comes next, this call is the last
       last-here : (calls : List Call) → ((there : Place) → last_calls next_of t there ≡ calls) → (text : List ℕ) × IsTextOf known text × LastAt s p.steps t text calls
@@ -190,13 +206,13 @@ module _ {P T : Type 0} (took faulted : P → ShownStep → P → Type 0) (took_
       runs-here answer u text calls k moved = run_ends s (start_of text) p.steps t k.there answer u k.goes (moved k.there)
 
       -- no step number was left
-      pub handed-exhausted : (e : CheckerError) → RefusesWith t.steps StepsExhausted e → t.ended ≡ false → ltb t.steps step_limit ≡ false → ProofHanded {A = Unit {0}} known s (Err e) t took faulted took_image faulted_image old mid
+      pub handed-exhausted : (e : CheckerError) → RefusesWith t.steps StepsExhausted e → t.ended ≡ false → ltb t.steps step_limit ≡ false → ProofRun {A = Unit {0}} known s (Err e) t took faulted took_image faulted_image old mid
       handed-exhausted e h going none =
           let k = last-here [] (λ there. last-exhausted t there going none) in
-          refuses e steps_exhausted t mid k.0 (names e h) k.1 (runs-here (Some (inl steps_exhausted)) t k.0 [] k.2 (λ there. move_exhausted t there going none)) (ends-silent k.0 k.2.there k.2.goes k.2.last)
+          refuses e steps_exhausted t mid k.0 (sets-stand p.sets (Err e)) (names e h) k.1 (runs-here (Some (inl steps_exhausted)) t k.0 [] k.2 (λ there. move_exhausted t there going none)) (ends-silent k.0 k.2.there k.2.goes k.2.last)
         where
-          names : (e : CheckerError) → RefusesWith t.steps StepsExhausted e → IsNamed e steps_exhausted
-          names (CheckFailed number msg debug_step) h = ap cause_of h.1
+          names : (e : CheckerError) → RefusesWith t.steps StepsExhausted e → IsNamed e t.steps steps_exhausted
+          names (CheckFailed number msg debug_step) h = (h.0, ap cause_of h.1)
           names (ProofIncomplete number) h = absurd h
           names (IoError number read) h = absurd h
           names (ParseError number kind) h = absurd h
@@ -205,8 +221,8 @@ module _ {P T : Type 0} (took faulted : P → ShownStep → P → Type 0) (took_
           names Failed h = absurd h
 
       -- `End` was accepted, now or before
-      pub handed-closes : (r : Call-answer) (u : State) (new : Boxes P T) → t.ended ≡ true → AnswersParts r (closing_conflict t) u → Handed r (EmitsCall t closes) took faulted took_image faulted_image mid new → ProofHanded known s r u took faulted took_image faulted_image old new
-      handed-closes r u new ended h k = by r h k
+      pub handed-closes : (r : Call-answer) (u : State) (new : Boxes P T) → Good t → t.ended ≡ true → AnswersParts r (closing_conflict t) u → Handed r (EmitsCall t closes) took faulted took_image faulted_image mid new → ProofRun known s r u took faulted took_image faulted_image old new
+      handed-closes r u new good ended h k = by r (sets-close p.sets r u good h) h k
         where
           moved : (x : Option Cause) → (closing_conflict t).refused ≡ x → u ≡ (closing_conflict t).after → (there : Place) → move next_of t there ≡ inr (as_answer x, u)
           moved x refused leaves there = move_closed t there ended ∙ ap (λ (c : Option Cause). ends-with (as_answer c) (closing_conflict t).after) refused ∙ ap (ends-with (as_answer x)) (sym leaves)
@@ -214,16 +230,16 @@ module _ {P T : Type 0} (took faulted : P → ShownStep → P → Type 0) (took_
           found : (text : List ℕ) × IsTextOf known text × LastAt s p.steps t text (closes ∷ [])
           found = last-here (closes ∷ []) (λ there. last-ended t there ended)
 
-          by : (r : Call-answer) → AnswersParts r (closing_conflict t) u → Handed r (EmitsCall t closes) took faulted took_image faulted_image mid new → ProofHanded known s r u took faulted took_image faulted_image old new
-          by (Ok done) h k = proof-handed (Ok done) u new found.0 found.1 (runs-here None u found.0 (closes ∷ []) found.2 (moved None h.0 h.1)) (ends-whole found.0 found.2.there closes new found.2.goes found.2.last k)
-          by (Err (CheckFailed number msg debug_step)) h k =
-              proof-handed (Err (CheckFailed number msg debug_step)) u new found.0 found.1 (runs-here (Some (inl (cause_of msg))) u found.0 (closes ∷ []) found.2 (moved (Some (cause_of msg)) h.0 h.1)) (ends-whole found.0 found.2.there closes new found.2.goes found.2.last k)
-          by (Err (ProofIncomplete number)) h k = absurd h
-          by (Err (IoError number read)) h k = absurd h
-          by (Err (ParseError number kind)) h k = absurd h
-          by (Err (ProofProcessorError fault)) h k = proof-handed (Err (ProofProcessorError fault)) u new found.0 found.1 tt (ends-fault found.0 found.2.there closes new found.2.goes found.2.last k)
-          by (Err OutOfMemory) h k = out-of-memory u new
-          by (Err Failed) h k = absurd h
+          by : (r : Call-answer) → AnswerSets s p.steps r u → AnswersParts r (closing_conflict t) u → Handed r (EmitsCall t closes) took faulted took_image faulted_image mid new → ProofRun known s r u took faulted took_image faulted_image old new
+          by (Ok done) sets h k = proof-run (Ok done) u new found.0 sets found.1 (runs-here None u found.0 (closes ∷ []) found.2 (moved None h.0 h.1)) (ends-whole found.0 found.2.there closes new found.2.goes found.2.last k)
+          by (Err (CheckFailed number msg debug_step)) sets h k =
+              proof-run (Err (CheckFailed number msg debug_step)) u new found.0 sets found.1 (h.2, runs-here (Some (inl (cause_of msg))) u found.0 (closes ∷ []) found.2 (moved (Some (cause_of msg)) h.0 h.1)) (ends-whole found.0 found.2.there closes new found.2.goes found.2.last k)
+          by (Err (ProofIncomplete number)) sets h k = absurd h
+          by (Err (IoError number read)) sets h k = absurd h
+          by (Err (ParseError number kind)) sets h k = absurd h
+          by (Err (ProofProcessorError fault)) sets h k = proof-run (Err (ProofProcessorError fault)) u new found.0 sets found.1 tt (ends-fault found.0 found.2.there closes new found.2.goes found.2.last k)
+          by (Err OutOfMemory) sets h k = out-of-memory u new sets
+          by (Err Failed) sets h k = absurd h
 
       module _ {later : Known} {next : Format} {step : Step} (leads : Leads now later (next_at format) (λ more. Ok ((next, step), more))) (may : MayRead t) where
         abbrev stand : List ℕ → Place
@@ -241,29 +257,32 @@ module _ {P T : Type 0} (took faulted : P → ShownStep → P → Type 0) (took_
 
         module _ (u : State) (new : Boxes P T) where
           -- the step that was read is refused, or a box answered a fault at it
-          pub handed-refused : (e : CheckerError) → AnswersParts {A = Unit {0}} (Err e) (attempt t step) u → Handed {A = Unit {0}} (Err e) (EmitsCall t (checks step)) took faulted took_image faulted_image mid new → ProofHanded {A = Unit {0}} known s (Err e) u took faulted took_image faulted_image old new
-          handed-refused (CheckFailed number msg debug_step) h k =
+          pub handed-refused : (e : CheckerError) → Good t → AnswersParts {A = Unit {0}} (Err e) (attempt t step) u → Handed {A = Unit {0}} (Err e) (EmitsCall t (checks step)) took faulted took_image faulted_image mid new → ProofRun {A = Unit {0}} known s (Err e) u took faulted took_image faulted_image old new
+          handed-refused (CheckFailed number msg debug_step) good h k =
               let found = over-step (λ text. Runs next_of s (start_of text) p.steps (Some (inl (cause_of msg))) u × LastAt s p.steps t text (checks step ∷ [])) (λ more. (
                 run_ends s (start_of ((p.reads.taken ++ leads.taken) ++ more)) p.steps t (stand more) (Some (inl (cause_of msg))) u (goes-on more)
                     (move_step t (stand more) (next, more) step (Some (cause_of msg)) may (leads.same more) h.0 ∙ ap (ends-with (Some (inl (cause_of msg)))) (sym h.1)),
                 record { there = stand more; goes = goes-on more; last = last-step more },
               )) in
-              proof-handed (Err (CheckFailed number msg debug_step)) u new found.0 found.1 found.2.0 (ends-whole found.0 found.2.1.there (checks step) new found.2.1.goes found.2.1.last k)
-          handed-refused (ProofIncomplete number) h k = absurd h
-          handed-refused (IoError number read) h k = absurd h
-          handed-refused (ParseError number kind) h k = absurd h
-          handed-refused (ProofProcessorError fault) h k =
+              proof-run (Err (CheckFailed number msg debug_step)) u new found.0 (sets-refused p.sets step (CheckFailed number msg debug_step) u good h) found.1 (h.2, found.2.0) (ends-whole found.0 found.2.1.there (checks step) new found.2.1.goes found.2.1.last k)
+          handed-refused (ProofIncomplete number) good h k = absurd h
+          handed-refused (IoError number read) good h k = absurd h
+          handed-refused (ParseError number kind) good h k = absurd h
+          handed-refused (ProofProcessorError fault) good h k =
               let found = over-step (λ text. LastAt s p.steps t text (checks step ∷ [])) (λ more. record { there = stand more; goes = goes-on more; last = last-step more }) in
-              proof-handed (Err (ProofProcessorError fault)) u new found.0 found.1 tt (ends-fault found.0 found.2.there (checks step) new found.2.goes found.2.last k)
-          handed-refused OutOfMemory h k = out-of-memory u new
-          handed-refused Failed h k = absurd h
+              proof-run (Err (ProofProcessorError fault)) u new found.0 (sets-refused p.sets step (ProofProcessorError fault) u good h) found.1 tt (ends-fault found.0 found.2.there (checks step) new found.2.goes found.2.last k)
+          handed-refused OutOfMemory good h k = out-of-memory u new (sets-refused p.sets step OutOfMemory u good h)
+          handed-refused Failed good h k = absurd h
 
       -- no step was read
-      pub handed-faulted : {later : Known} (fault : ProofFault) (e : CheckerError) (u : State) → Faults now later (stop_of fault) (next_at format) → MayRead t → u ≡ count_step t → IsReadFault u.steps fault e → ProofHanded {A = Unit {0}} known s (Err e) u took faulted took_image faulted_image old mid
+      pub handed-faulted : {later : Known} (fault : ProofFault) (e : CheckerError) (u : State) → Faults now later (stop_of fault) (next_at format) → MayRead t → u ≡ count_step t → IsReadFault u.steps fault e → ProofRun {A = Unit {0}} known s (Err e) u took faulted took_image faulted_image old mid
       handed-faulted {later} fault e u q may counted is = by fault q is
         where
           Whole : CheckerError → Type 0
-          Whole x = ProofHanded {A = Unit {0}} known s (Err x) u took faulted took_image faulted_image old mid
+          Whole x = ProofRun {A = Unit {0}} known s (Err x) u took faulted took_image faulted_image old mid
+
+          sets : (x : CheckerError) → AnswerSets s p.steps (Err x) u
+          sets x = sets-counted p.sets (Err x) u counted
 
           moved : (f : Fault) (there : Place) → next_at there.0 there.1 ≡ Err f → move next_of t there ≡ inr (Some (inr f), u)
           moved f there h = move_fault t there f may h ∙ ap (ends-with (Some (inr f))) (sym counted)
@@ -278,17 +297,17 @@ module _ {P T : Type 0} (took faulted : P → ShownStep → P → Type 0) (took_
           by faults.End q is =
               let k = runs Short (p.reads.taken ++ q.taken) q.taken (p.reads.goes q.taken) q.is_fault.0 in
               subst (λ (x : CheckerError). Whole x) (sym is)
-              (proof-handed (Err (ProofIncomplete u.steps)) u mid (p.reads.taken ++ q.taken)
-              (all_taken known later (p.reads.taken ++ q.taken) (bytes_on p.reads.taken q.taken p.reads.bytes q.bytes) (Consumes-trans known now later p.reads.taken q.taken p.reads.consumed q.consumed) q.is_fault.1) k.0 k.1)
+              (proof-run (Err (ProofIncomplete u.steps)) u mid (p.reads.taken ++ q.taken) (sets (ProofIncomplete u.steps))
+              (all_taken known later (p.reads.taken ++ q.taken) (bytes_on p.reads.taken q.taken p.reads.bytes q.bytes) (Consumes-trans known now later p.reads.taken q.taken p.reads.consumed q.consumed) q.is_fault.1) (refl, k.0) k.1)
           by (faults.Read cause) q is =
               let k = runs Short (p.reads.taken ++ q.taken) q.taken (p.reads.goes q.taken) q.is_fault in
               subst (λ (x : CheckerError). Whole x) (sym is)
-              (proof-handed (Err (IoError u.steps cause)) u mid (p.reads.taken ++ q.taken)
-              (some_taken known later (p.reads.taken ++ q.taken) (bytes_on p.reads.taken q.taken p.reads.bytes q.bytes) (Consumes-trans known now later p.reads.taken q.taken p.reads.consumed q.consumed)) k.0 k.1)
+              (proof-run (Err (IoError u.steps cause)) u mid (p.reads.taken ++ q.taken) (sets (IoError u.steps cause))
+              (some_taken known later (p.reads.taken ++ q.taken) (bytes_on p.reads.taken q.taken p.reads.bytes q.bytes) (Consumes-trans known now later p.reads.taken q.taken p.reads.consumed q.consumed)) (refl, k.0) k.1)
           by (faults.Malformed kind) q is =
               let found = of_text (λ text. Runs next_of s (start_of text) p.steps (Some (inr (Wrong kind))) u × HandsWhole (EmitsRun next_of s (start_of text) p.steps) took took_image old mid) known later (p.reads.taken ++ q.taken)
               (bytes_on p.reads.taken q.taken p.reads.bytes q.bytes) (Consumes-trans known now later p.reads.taken q.taken p.reads.consumed q.consumed)
               (λ more. runs (Wrong kind) ((p.reads.taken ++ q.taken) ++ more) (q.taken ++ more)
               (subst (λ (text : List ℕ). RunsTo s (start_of text) p.steps t (format, q.taken ++ more)) (sym (append_assoc p.reads.taken q.taken more)) (p.reads.goes (q.taken ++ more))) (q.is_fault more)) in
-              subst (λ (x : CheckerError). Whole x) (sym is) (proof-handed (Err (ParseError u.steps kind)) u mid found.0 found.1 found.2.0 found.2.1)
-          by faults.OutOfMemory q is = subst (λ (x : CheckerError). Whole x) (sym is) (out-of-memory u mid)
+              subst (λ (x : CheckerError). Whole x) (sym is) (proof-run (Err (ParseError u.steps kind)) u mid found.0 (sets (ParseError u.steps kind)) found.1 (refl, found.2.0) found.2.1)
+          by faults.OutOfMemory q is = subst (λ (x : CheckerError). Whole x) (sym is) (out-of-memory u mid (sets OutOfMemory))

@@ -18,7 +18,7 @@ use Rattle.proof_bytes.specs.Texts.{Place, next_of, start_of}
 use Rattle.checker_parts.specs.declared.error.CheckerError.{CheckerError}
 use Rattle.checker_parts.specs.declared.error.CheckerError.TheVariants.{ProofIncomplete, IoError, ParseError, CheckFailed, ProofProcessorError, OutOfMemory, Failed}
 use Rattle.varisat_checker.specs.Certified.{Certifies}
-use Rattle.varisat_checker.specs.ProofHanded.{EmitsProof, RunsSo}
+use Rattle.varisat_checker.specs.ProofRun.{EmitsProof, EndsProof}
 
 -- what a run emits is what some calls emit
 run-calls : (s : State) (here : Place) (steps : List Step) (es : List ShownStep) → EmitsRun next_of s here steps es → (calls : List Call) × EmitsCalls s calls es
@@ -33,12 +33,12 @@ whole : (s t : State) (text : List ℕ) (steps : List Step) (answer : Answer) �
 whole s t text steps answer form runs m es tied emits = let k = runs_run_machine Place Fault next_of m s (start_of text) steps answer t es tied form runs emits in (k.0, k.1)
 
 -- what a run over a text emits, by its answer
-pub certifies-proof : (r : Result (Unit {0}) CheckerError) (s t : State) (text : List ℕ) (steps : List Step) → WellFormed s → RunsSo r text s steps t → Certifies r (EmitsProof r s text steps) s t
+pub certifies-proof : (r : Result (Unit {0}) CheckerError) (s t : State) (text : List ℕ) (steps : List Step) → WellFormed s → EndsProof r text s steps t → Certifies r (EmitsProof r s text steps) s t
 certifies-proof (Ok done) s t text steps form runs m es tied emits = whole s t text steps None form runs m es tied emits
-certifies-proof (Err (CheckFailed number msg debug_step)) s t text steps form runs m es tied emits = whole s t text steps _ form runs m es tied emits
-certifies-proof (Err (ProofIncomplete number)) s t text steps form runs m es tied emits = whole s t text steps _ form runs m es tied emits
-certifies-proof (Err (IoError number cause)) s t text steps form runs m es tied emits = whole s t text steps _ form runs m es tied emits
-certifies-proof (Err (ParseError number kind)) s t text steps form runs m es tied emits = whole s t text steps _ form runs m es tied emits
+certifies-proof (Err (CheckFailed number msg debug_step)) s t text steps form runs m es tied emits = whole s t text steps _ form runs.1 m es tied emits
+certifies-proof (Err (ProofIncomplete number)) s t text steps form runs m es tied emits = whole s t text steps _ form runs.1 m es tied emits
+certifies-proof (Err (IoError number cause)) s t text steps form runs m es tied emits = whole s t text steps _ form runs.1 m es tied emits
+certifies-proof (Err (ParseError number kind)) s t text steps form runs m es tied emits = whole s t text steps _ form runs.1 m es tied emits
 certifies-proof (Err (ProofProcessorError cause)) s t text steps form runs m es tied emits = (emitted-run m s (start_of text) steps es form tied emits, tt)
 certifies-proof (Err OutOfMemory) s t text steps form runs m es tied emits = (emitted-run m s (start_of text) steps es form tied emits, tt)
 certifies-proof (Err Failed) s t text steps form runs m es tied emits = absurd runs

@@ -2,9 +2,9 @@
 use Rattle.std.specs.Prelude.{ℕ, cond, length}
 use Rattle.checker_rules.specs.LiveLiterals.{live_literals}
 use Rattle.checker_rules.specs.State.{State}
+use Rattle.checker_steps.specs.Context.{context_state}
+use Rattle.checker_steps.specs.Handed.{Boxes, boxes_of}
 use Rattle.varisat_checker.specs.declared.checker.CheckerOf.{CheckerOf}
-use Rattle.varisat_checker.specs.Context.{context_state}
-use Rattle.varisat_checker.specs.Handed.{Boxes, boxes_of}
 
 -- the state of a checker
 unfoldable pub state : {P T : Type 0} → CheckerOf P T → State

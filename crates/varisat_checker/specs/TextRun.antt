@@ -1,17 +1,26 @@
 -- The clauses of a DIMACS text, added one after the other.
 --     EndsText known clauses r      these clauses of the text were given when the call answered r
---     TextRun known s r u      they were added to s, and what follows for the satisfying set
+--     HandedText r E .. old new      what the boxes took, by the answer
+--     TextAnswer known s clauses r u      the answer for adding these clauses of the text to s, and what follows for the satisfying set
+--     TextRun known s r u .. old new      some clauses were added so, and of the same clauses, what was handed on
 use Rattle.std.specs.Prelude.{ℕ, List, ◌++◌, map, Option, Result, Ok, Err}
 use Rattle.std.specs.Option.{option_map}
 use Rattle.checker_rules.specs.AddFormula.{add_clauses, added}
+use Rattle.checker_rules.specs.CallEmissions.{EmitsCalls}
+use Rattle.checker_rules.specs.Calls.{adds}
+use Rattle.checker_rules.specs.CheckedSteps.{ShownStep, hint_steps}
+use Rattle.checker_rules.specs.HintRun.{IsRun, machine_after}
+use Rattle.checker_rules.specs.Machine.{IsTied, Machine}
 use Rattle.checker_rules.specs.State.{State}
 use Rattle.checker_rules.specs.Step.{Step, add_clause}
+use Rattle.checker_rules.specs.Transcript.{TranscriptStep}
 use Rattle.sat_formula.specs.Outcome as dimacs
 use Rattle.sat_formula.specs.Lines as lines
 use Rattle.sat_formula.specs.Whole.{BeginsWith, IsOutcome}
 use Rattle.checker_parts.specs.Answers.{AnswersText, IsCovered, IsFold, UnlessTextFailed}
 use Rattle.checker_parts.specs.declared.error.DimacsError.{DimacsError}
 use Rattle.checker_parts.specs.declared.error.DimacsError.TheVariants.{Read, Malformed, Checker}
+use Rattle.checker_steps.specs.Handed.{Boxes, Handed, HandsWhole}
 
 -- what a text of these bytes holds, where they are known
 abbrev pub outcome_of : Option (List ℕ) → Option dimacs.Outcome
@@ -24,11 +33,24 @@ EndsText known clauses (Err (Read cause)) = BeginsWith known clauses
 EndsText known clauses (Err (Malformed line kind)) = IsOutcome known (clauses, dimacs.Faulty line kind)
 EndsText known clauses (Err (Checker e)) = BeginsWith known clauses
 
--- the answer and the state left are those of adding the clauses of a text with these bytes; for every list of steps that led to the set before,
+-- all that is emitted, unless a box answered a fault or the checker gave up
+abbrev pub HandedText : {A P T : Type 0} → Result A DimacsError → (List ShownStep → Type 0) → (took faulted : P → ShownStep → P → Type 0) → (took_image faulted_image : T → TranscriptStep → T → Type 0) → Boxes P T → Boxes P T → Type 0
+HandedText (Ok done) E took faulted took_image faulted_image old new = HandsWhole E took took_image old new
+HandedText (Err (Read cause)) E took faulted took_image faulted_image old new = HandsWhole E took took_image old new
+HandedText (Err (Malformed line kind)) E took faulted took_image faulted_image old new = HandsWhole E took took_image old new
+HandedText {A = A} (Err (Checker e)) E took faulted took_image faulted_image old new = Handed {A = A} (Err e) E took faulted took_image faulted_image old new
+
+-- the answer and the state left are those of adding these clauses, which a text with these bytes gave; for every list of steps that led to the set before,
 -- the set left is the fold over that list and the accepted clauses
-pub record TextRun {A : Type 0} (known : Option (List ℕ)) (s : State) (r : Result A DimacsError) (u : State) : Type 0 where
-  pub clauses : List (List ℕ)
+pub record TextAnswer {A : Type 0} (known : Option (List ℕ)) (s : State) (clauses : List (List ℕ)) (r : Result A DimacsError) (u : State) : Type 0 where
   pub text : EndsText (outcome_of known) clauses r
   pub answer : AnswersText r (add_clauses s clauses) u
   pub folds : (before : List Step) → IsFold before s → UnlessTextFailed r (IsFold (before ++ map add_clause (added s clauses)) u)
   pub covers : (before : List Step) → IsCovered before s → UnlessTextFailed r (IsCovered (before ++ map add_clause (added s clauses)) u)
+
+-- the clauses of the text that were given, with the answer for adding them; what the boxes took of them; and that it is a run of the hint machine
+pub record TextRun {A P T : Type 0} (known : Option (List ℕ)) (s : State) (r : Result A DimacsError) (u : State) (took faulted : P → ShownStep → P → Type 0) (took_image faulted_image : T → TranscriptStep → T → Type 0) (old new : Boxes P T) : Type 0 where
+  pub clauses : List (List ℕ)
+  pub answered : TextAnswer known s clauses r u
+  pub handed : HandedText r (EmitsCalls s (map adds (added s clauses))) took faulted took_image faulted_image old new
+  pub certified : (m : Machine) (es : List ShownStep) → IsTied m s → EmitsCalls s (map adds (added s clauses)) es → IsRun m (hint_steps es) × UnlessTextFailed r (IsTied (machine_after m (hint_steps es)) u)

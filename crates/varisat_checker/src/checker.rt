@@ -1,16 +1,16 @@
 //! The checker.
 ghost use Rattle.std.specs.Prelude.{◌≡◌, false};
-ghost use Rattle.varisat_checker.specs.Context.{IsKept};
-ghost use Rattle.varisat_checker.specs.Failing.{has_failed};
+ghost use Rattle.checker_steps.specs.Context.{IsKept};
+ghost use Rattle.checker_steps.specs.Failing.{has_failed};
 
-use crate::check::{attempt_step, process_unit_conflicts};
-use crate::context::ContextOf;
 use crate::internal::SelfChecker;
-use crate::processing::ProcessingOf;
 use crate::proof;
-use crate::steps::add_clause;
 use checker_parts::error::{CheckerError, DimacsError};
 use checker_parts::processor::{ProofProcessor, ProofTranscriptProcessor};
+use checker_steps::check::{attempt_step, process_unit_conflicts};
+use checker_steps::context::ContextOf;
+use checker_steps::processing::ProcessingOf;
+use checker_steps::steps::add_clause;
 use log::{Log, info};
 use proof_bytes::ProofStep;
 use sat_formula::{CnfFormula, DimacsFault, DimacsReader, Lit};
@@ -39,14 +39,12 @@ impl<P: ProofProcessor, T: ProofTranscriptProcessor> CheckerOf<P, T> {
     ghost use Rattle.checker_parts.specs.declared.error.CheckerError.TheVariants.{Failed, OutOfMemory};
     ghost use Rattle.checker_parts.specs.Answers.{AnswersStep, CoversFold, IsCovered, IsFold, SetsFold, UnlessFailed};
     ghost use Rattle.checker_parts.specs.Memory.{NeedsNoMemory};
+    ghost use Rattle.checker_steps.specs.Failing.{IsFailed, IsTextFailed, RecordsFailure};
+    ghost use Rattle.checker_steps.specs.Handed.{Handed};
     ghost use Rattle.varisat_checker.specs.Certified.{Certifies};
-    ghost use Rattle.varisat_checker.specs.Failing.{IsFailed, IsTextFailed, RecordsFailure};
-    ghost use Rattle.varisat_checker.specs.Handed.{Handed};
-    ghost use Rattle.varisat_checker.specs.ProofHanded.{ProofHanded};
     ghost use Rattle.varisat_checker.specs.ProofRun.{ProofRun};
     ghost use Rattle.varisat_checker.specs.Shown.{boxes, state, buffer_length, shown_literals};
     ghost use Rattle.varisat_checker.specs.TextFault.{IsTextFault};
-    ghost use Rattle.varisat_checker.specs.TextHanded.{TextHanded};
     ghost use Rattle.varisat_checker.specs.TextRun.{TextRun};
 
     /// A checker with nothing stored. Takes no memory.
@@ -110,8 +108,9 @@ impl<P: ProofProcessor, T: ProofTranscriptProcessor> CheckerOf<P, T> {
         input: R,
     ) -> Result<(), DimacsError>
         ensures failed { (state self.old).failed ≡ true → IsTextFailed result × (self.new ≡ self.old) }
-        ensures text { (state self.old).failed ≡ false → TextRun (R.remaining input) (state self.old) result (state self.new) }
-        ensures handed { (state self.old).failed ≡ false → TextHanded (R.remaining input) (state self.old) result (state self.new) P.took P.faulted T.took T.faulted (boxes self.old) (boxes self.new) }
+        ensures text { (state self.old).failed ≡ false →
+            TextRun (R.remaining input) (state self.old) result (state self.new)
+            P.took P.faulted T.took T.faulted (boxes self.old) (boxes self.new) }
     {
         if self.ctx.checker_state.failed {
             return Err(DimacsError::Checker(CheckerError::Failed));
@@ -157,9 +156,10 @@ impl<P: ProofProcessor, T: ProofTranscriptProcessor> CheckerOf<P, T> {
         proof: R,
     ) -> Result<(), CheckerError>
         ensures failed { (state self.old).failed ≡ true → IsFailed result × (self.new ≡ self.old) }
-        ensures run { (state self.old).failed ≡ false → ProofRun (R.remaining proof) (state self.old) result (state self.new) }
+        ensures run { (state self.old).failed ≡ false →
+            ProofRun (R.remaining proof) (state self.old) result (state self.new)
+            P.took P.faulted T.took T.faulted (boxes self.old) (boxes self.new) }
         ensures records { RecordsFailure result (state self.new) }
-        ensures handed { (state self.old).failed ≡ false → ProofHanded (R.remaining proof) (state self.old) result (state self.new) P.took P.faulted T.took T.faulted (boxes self.old) (boxes self.new) }
         ensures ended { (state self.old).ended ≡ true → NeedsNoMemory result }
         ensures exhausted { step_limit ≤ (state self.old).steps → NeedsNoMemory result }
     {
@@ -260,7 +260,7 @@ impl<P: ProofProcessor, T: ProofTranscriptProcessor> CheckerOf<P, T> {
 
 #[tactic(auto, unfolding(crate::specs::Shown::state, crate::specs::Shown::boxes))]
 impl<P: ProofProcessor, T: ProofTranscriptProcessor> SelfChecker for CheckerOf<P, T> {
-    ghost use Rattle.varisat_checker.specs.Handed.{Handed};
+    ghost use Rattle.checker_steps.specs.Handed.{Handed};
     ghost use Rattle.varisat_checker.specs.Shown.{boxes, state};
 
     ghost shown = { λ c. state c };

@@ -8,9 +8,9 @@ ghost use Rattle.checker_parts.specs.Answers.{AnswersStep, CoversFold, IsCovered
 ghost use Rattle.checker_parts.specs.Memory.{NeedsNoMemory};
 ghost use Rattle.checker_parts.specs.Models.{Proves, Refutes};
 ghost use Rattle.proof_bytes.specs.NextStep.{view};
+ghost use Rattle.checker_steps.specs.Failing.{IsFailed, has_failed};
+ghost use Rattle.checker_steps.specs.Idle.{is_idle};
 ghost use Rattle.varisat_checker.specs.Certified.{Certifies};
-ghost use Rattle.varisat_checker.specs.Failing.{IsFailed, has_failed};
-ghost use Rattle.varisat_checker.specs.Idle.{is_idle};
 
 use checker_parts::error::CheckerError;
 use proof_bytes::ProofStep;

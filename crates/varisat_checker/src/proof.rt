@@ -3,17 +3,16 @@ ghost use Rattle.std.specs.Prelude.{◌≡◌, ◌≤◌, ℕ, true};
 ghost use Rattle.checker_rules.specs.Calls.{step_limit};
 ghost use Rattle.checker_parts.specs.Answers.{UnlessFailed};
 ghost use Rattle.checker_parts.specs.Memory.{NeedsNoMemory};
-ghost use Rattle.varisat_checker.specs.Context.{IsKept, context_state};
-ghost use Rattle.varisat_checker.specs.Handed.{boxes_of};
-ghost use Rattle.varisat_checker.specs.ProofHanded.{ProofHanded};
+ghost use Rattle.checker_steps.specs.Context.{IsKept, context_state};
+ghost use Rattle.checker_steps.specs.Handed.{boxes_of};
 ghost use Rattle.varisat_checker.specs.ProofRun.{ProofRun};
 ghost use Rattle.varisat_checker.specs.ReadFault.{IsReadFault};
 
-use crate::check::{attempt_step, process_unit_conflicts};
-use crate::context::ContextOf;
-use crate::refusal::refusal;
 use checker_parts::error::{CheckCause, CheckerError};
 use checker_parts::processor::{ProofProcessor, ProofTranscriptProcessor};
+use checker_steps::check::{attempt_step, process_unit_conflicts};
+use checker_steps::context::ContextOf;
+use clause_store::refusal::refusal;
 use log::{Log, info};
 use proof_bytes::{ProofFault, StepReader};
 use std::alloc::Global;
@@ -32,9 +31,9 @@ pub fn check_proof<P: ProofProcessor, T: ProofTranscriptProcessor, L: Log, R: Re
     proof: R,
 ) -> Result<(), CheckerError>
     requires { IsKept ctx.old }
-    ensures run { ProofRun (R.remaining proof) (context_state ctx.old) result (context_state ctx.new) }
+    ensures run { ProofRun (R.remaining proof) (context_state ctx.old) result (context_state ctx.new)
+        P.took P.faulted T.took T.faulted (boxes_of ctx.old.processing) (boxes_of ctx.new.processing) }
     ensures kept { UnlessFailed result (IsKept ctx.new) }
-    ensures handed { ProofHanded (R.remaining proof) (context_state ctx.old) result (context_state ctx.new) P.took P.faulted T.took T.faulted (boxes_of ctx.old.processing) (boxes_of ctx.new.processing) }
     ensures ended { (context_state ctx.old).ended ≡ true → NeedsNoMemory result }
     ensures exhausted { step_limit ≤ (context_state ctx.old).steps → NeedsNoMemory result }
 {

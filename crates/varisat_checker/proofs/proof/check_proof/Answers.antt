@@ -3,40 +3,21 @@ use Rattle.std.proofs.lemmas.Bool.{true≢false}
 use Rattle.checker_rules.specs.State.{State}
 use Rattle.proof_bytes.specs.NextStep.{view}
 use Rattle.proof_bytes.proofs.TextRuns.{MayRead, reader_open}
-use Rattle.varisat_checker.specs.Context.{context_state}
-use Rattle.varisat_checker.specs.Handed.{boxes_of}
+use Rattle.checker_steps.specs.Context.{context_state}
+use Rattle.checker_steps.specs.Handed.{boxes_of}
+use Rattle.checker_steps.proofs.StepAnswers.{no-number, not-exhausted, some-number}
 use Rattle.varisat_checker.proofs.CountLemmas.{attempt-steps}
-use Rattle.varisat_checker.proofs.ProofRuns.{run-begins, run-closes, run-exhausted, run-faulted, run-goes, run-refused}
 use Rattle.varisat_checker.proofs.RunHanded.{handed-begins, handed-closes, handed-exhausted, handed-faulted, handed-goes, handed-refused}
-use Rattle.varisat_checker.proofs.StepAnswers.{no-number, not-exhausted, some-number}
 use Rattle.varisat_checker.proofs.proof.check_proof.Goals as goal
 
 pub steps-init : goal.steps-init
 steps-init g c = record {
   open_reader = λ going. c.new-reader.ensures.ended;
-  so_far = run-begins _ _ _ _ c.new-reader.ensures.bytes c.new-reader.ensures.format;
   kept = c.requires;
-  handed = handed-begins g.P.ProofProcessor.took g.P.ProofProcessor.faulted g.T.ProofTranscriptProcessor.took g.T.ProofTranscriptProcessor.faulted _ _ _ _ _ c.new-reader.ensures.bytes c.new-reader.ensures.format;
+  so_far = handed-begins g.P.ProofProcessor.took g.P.ProofProcessor.faulted g.T.ProofTranscriptProcessor.took g.T.ProofTranscriptProcessor.faulted _ _ _ _ _ c.new-reader.ensures.bytes c.new-reader.ensures.format;
   ended = λ e. e;
   exhausted = λ none. none;
 }
-
-pub returns-then-ctx-clause-run : goal.returns-then-ctx-clause-run
-returns-then-ctx-clause-run g c = run-exhausted c.steps.invariant.so_far c.refusal.result c.refusal.ensures c.steps-test.true (no-number c.steps.ctx.checker_state.step c.if-ctx.true)
-
-pub returns-in-Err-attempt_step-clause-run : goal.returns-in-Err-attempt_step-clause-run
-returns-in-Err-attempt_step-clause-run g c =
-    let t = context_state c.steps.ctx in
-    let may : MayRead t = record { going = c.steps-test.true; counted = some-number c.steps.ctx.checker_state.step (omega arith) c.if-ctx.false } in
-    let gave = rw c.in-Ok.is at c.next_step.follows.holds-at-none in
-    run-refused c.steps.invariant.so_far (gave.reads (c.steps.invariant.open_reader c.steps-test.true)) may (context_state c.attempt_step.new.ctx) c.in-Err-attempt_step.fault c.steps.invariant.kept.sound.good c.in-Err-attempt_step.ensures.step
-
-pub returns-in-Err-clause-run : goal.returns-in-Err-clause-run
-returns-in-Err-clause-run g c =
-    let t = context_state c.steps.ctx in
-    let may : MayRead t = record { going = c.steps-test.true; counted = some-number c.steps.ctx.checker_state.step (omega arith) c.if-ctx.false } in
-    let gave = rw c.in-Err.is at c.next_step.follows.holds-at-none in
-    run-faulted c.steps.invariant.so_far c.in-Err.fault c.read_fault.result _ (gave.reads (c.steps.invariant.open_reader c.steps-test.true)) may refl c.read_fault.ensures
 
 fewer-left : (a b : ℕ) → a < 2 ^ 64 → (a ≡ 2 ^ 64 - 1 → ⊥) → b ≡ a + 1 → 2 ^ 64 - 1 - b < 2 ^ 64 - 1 - a
 fewer-left a b fits some e = omega (arith, fits, some, e)
@@ -57,36 +38,32 @@ steps-preserved g c =
     let h = rw c.in_default.is at c.attempt_step.ensures.step in
     record {
       open_reader = λ still. reader_open _ (view c.in-Ok.step) gave.ended may h.1 still;
-      so_far = run-goes u c.steps.invariant.so_far c.steps.invariant.kept.sound.good (gave.reads (c.steps.invariant.open_reader c.steps-test.true)) may h;
       kept = c.in_default.ensures.kept;
-      handed = handed-goes g.P.ProofProcessor.took g.P.ProofProcessor.faulted g.T.ProofTranscriptProcessor.took g.T.ProofTranscriptProcessor.faulted c.steps.invariant.handed u (boxes_of c.attempt_step.new.ctx.processing) (gave.reads (c.steps.invariant.open_reader c.steps-test.true)) may h (rw c.in_default.is at c.attempt_step.ensures.handed);
+      so_far = handed-goes g.P.ProofProcessor.took g.P.ProofProcessor.faulted g.T.ProofTranscriptProcessor.took g.T.ProofTranscriptProcessor.faulted c.steps.invariant.so_far u (boxes_of c.attempt_step.new.ctx.processing) (gave.reads (c.steps.invariant.open_reader c.steps-test.true)) may c.steps.invariant.kept.sound.good h (rw c.in_default.is at c.attempt_step.ensures.handed);
       ended = λ e. absurd (true≢false (sym (c.steps.invariant.ended e) ∙ c.steps-test.true));
       exhausted = λ none. absurd (not-exhausted c.steps.ctx.checker_state.step (omega arith) c.if-ctx.false (c.steps.invariant.exhausted none));
     }
 
-pub returns-clause-run : goal.returns-clause-run
-returns-clause-run g c = run-closes c.steps.invariant.so_far c.process_unit_conflicts.result (context_state c.process_unit_conflicts.new.ctx) c.steps.invariant.kept.sound.good c.steps-test.false c.process_unit_conflicts.ensures.answer
+pub returns-then-ctx-clause-run : goal.returns-then-ctx-clause-run
+returns-then-ctx-clause-run g c =
+    handed-exhausted g.P.ProofProcessor.took g.P.ProofProcessor.faulted g.T.ProofTranscriptProcessor.took g.T.ProofTranscriptProcessor.faulted c.steps.invariant.so_far c.requires.sound.form c.refusal.result c.refusal.ensures c.steps-test.true (no-number c.steps.ctx.checker_state.step c.if-ctx.true)
 
-pub returns-then-ctx-clause-handed : goal.returns-then-ctx-clause-handed
-returns-then-ctx-clause-handed g c =
-    handed-exhausted g.P.ProofProcessor.took g.P.ProofProcessor.faulted g.T.ProofTranscriptProcessor.took g.T.ProofTranscriptProcessor.faulted c.steps.invariant.handed c.requires.sound.form c.refusal.result c.refusal.ensures c.steps-test.true (no-number c.steps.ctx.checker_state.step c.if-ctx.true)
-
-pub returns-in-Err-attempt_step-clause-handed : goal.returns-in-Err-attempt_step-clause-handed
-returns-in-Err-attempt_step-clause-handed g c =
+pub returns-in-Err-attempt_step-clause-run : goal.returns-in-Err-attempt_step-clause-run
+returns-in-Err-attempt_step-clause-run g c =
     let may : MayRead (context_state c.steps.ctx) = record { going = c.steps-test.true; counted = some-number c.steps.ctx.checker_state.step (omega arith) c.if-ctx.false } in
     let gave = rw c.in-Ok.is at c.next_step.follows.holds-at-none in
-    handed-refused g.P.ProofProcessor.took g.P.ProofProcessor.faulted g.T.ProofTranscriptProcessor.took g.T.ProofTranscriptProcessor.faulted c.steps.invariant.handed c.requires.sound.form (gave.reads (c.steps.invariant.open_reader c.steps-test.true)) may (context_state c.attempt_step.new.ctx) (boxes_of c.attempt_step.new.ctx.processing) c.in-Err-attempt_step.fault
+    handed-refused g.P.ProofProcessor.took g.P.ProofProcessor.faulted g.T.ProofTranscriptProcessor.took g.T.ProofTranscriptProcessor.faulted c.steps.invariant.so_far c.requires.sound.form (gave.reads (c.steps.invariant.open_reader c.steps-test.true)) may (context_state c.attempt_step.new.ctx) (boxes_of c.attempt_step.new.ctx.processing) c.in-Err-attempt_step.fault c.steps.invariant.kept.sound.good
     c.in-Err-attempt_step.ensures.step c.in-Err-attempt_step.ensures.handed
 
-pub returns-in-Err-clause-handed : goal.returns-in-Err-clause-handed
-returns-in-Err-clause-handed g c =
+pub returns-in-Err-clause-run : goal.returns-in-Err-clause-run
+returns-in-Err-clause-run g c =
     let may : MayRead (context_state c.steps.ctx) = record { going = c.steps-test.true; counted = some-number c.steps.ctx.checker_state.step (omega arith) c.if-ctx.false } in
     let gave = rw c.in-Err.is at c.next_step.follows.holds-at-none in
-    handed-faulted g.P.ProofProcessor.took g.P.ProofProcessor.faulted g.T.ProofTranscriptProcessor.took g.T.ProofTranscriptProcessor.faulted c.steps.invariant.handed c.requires.sound.form c.in-Err.fault c.read_fault.result _ (gave.reads (c.steps.invariant.open_reader c.steps-test.true)) may refl c.read_fault.ensures
+    handed-faulted g.P.ProofProcessor.took g.P.ProofProcessor.faulted g.T.ProofTranscriptProcessor.took g.T.ProofTranscriptProcessor.faulted c.steps.invariant.so_far c.requires.sound.form c.in-Err.fault c.read_fault.result _ (gave.reads (c.steps.invariant.open_reader c.steps-test.true)) may refl c.read_fault.ensures
 
-pub returns-clause-handed : goal.returns-clause-handed
-returns-clause-handed g c =
-    handed-closes g.P.ProofProcessor.took g.P.ProofProcessor.faulted g.T.ProofTranscriptProcessor.took g.T.ProofTranscriptProcessor.faulted c.steps.invariant.handed c.requires.sound.form c.process_unit_conflicts.result (context_state c.process_unit_conflicts.new.ctx) (boxes_of c.process_unit_conflicts.new.ctx.processing) c.steps-test.false
+pub returns-clause-run : goal.returns-clause-run
+returns-clause-run g c =
+    handed-closes g.P.ProofProcessor.took g.P.ProofProcessor.faulted g.T.ProofTranscriptProcessor.took g.T.ProofTranscriptProcessor.faulted c.steps.invariant.so_far c.requires.sound.form c.process_unit_conflicts.result (context_state c.process_unit_conflicts.new.ctx) (boxes_of c.process_unit_conflicts.new.ctx.processing) c.steps.invariant.kept.sound.good c.steps-test.false
     c.process_unit_conflicts.ensures.answer c.process_unit_conflicts.ensures.handed
 
 pub returns-in-Err-clause-exhausted : goal.returns-in-Err-clause-exhausted

@@ -1,7 +1,7 @@
 use Rattle.std.proofs.Common.{◌∙◌, refl, sym}
 use Rattle.checker_rules.specs.Calls.{adds}
 use Rattle.checker_parts.proofs.Headlines.{covers_fold-step, sets_fold-step}
-use Rattle.varisat_checker.specs.Context.{context_state}
+use Rattle.checker_steps.specs.Context.{context_state}
 use Rattle.varisat_checker.specs.Shown.{state}
 use Rattle.varisat_checker.proofs.CertifiedLemmas.{certifies-call}
 use Rattle.varisat_checker.proofs.FailingLemmas.{went-on}

@@ -1,6 +1,6 @@
 use Rattle.std.proofs.Common.{Ok}
 use Rattle.std.proofs.lemmas.Result.{err_from_is_err_and}
-use Rattle.varisat_checker.specs.Context.{context_state}
+use Rattle.checker_steps.specs.Context.{context_state}
 use Rattle.varisat_checker.specs.Shown.{boxes, state}
 use Rattle.varisat_checker.proofs.AddedSoFar.{covers-added, of-all, of-stops, sets-added}
 use Rattle.varisat_checker.proofs.CertifiedLemmas.{certifies-adds}

@@ -2,7 +2,7 @@ use Rattle.std.proofs.Common.{◌∙◌, refl, sym}
 use Rattle.std.proofs.lemmas.Bool.{true≢false}
 use Rattle.checker_rules.specs.Calls.{closes, fail}
 use Rattle.checker_parts.proofs.Headlines.{covers_fold-closing, sets_fold-closing}
-use Rattle.varisat_checker.specs.Context.{context_state}
+use Rattle.checker_steps.specs.Context.{context_state}
 use Rattle.varisat_checker.specs.Shown.{state}
 use Rattle.varisat_checker.proofs.CertifiedLemmas.{certifies-call}
 use Rattle.varisat_checker.proofs.FailingLemmas.{went-on}

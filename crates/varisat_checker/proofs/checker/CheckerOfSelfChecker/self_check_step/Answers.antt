@@ -3,7 +3,7 @@ use Rattle.std.proofs.lemmas.Bool.{true≢false}
 use Rattle.checker_rules.specs.Calls.{checks, fail}
 use Rattle.proof_bytes.specs.NextStep.{view}
 use Rattle.checker_parts.proofs.Headlines.{covers_fold-attempt, sets_fold-attempt}
-use Rattle.varisat_checker.specs.Context.{context_state}
+use Rattle.checker_steps.specs.Context.{context_state}
 use Rattle.varisat_checker.specs.Shown.{state}
 use Rattle.varisat_checker.proofs.CertifiedLemmas.{certifies-call}
 use Rattle.varisat_checker.proofs.FailingLemmas.{went-on}

@@ -1,0 +1,75 @@
+-- Judging the literals of a model one after the other, those before being marked.
+use Rattle.std.proofs.Common.{◌≡◌, ℕ, ◌<◌, Bool, true, false, cond, not, ◌||◌, eqb, ltb, List, [], ◌∷◌, Option, None, Some, refl, sym, ap, ◌∙◌, arith}
+use Rattle.checker_rules.specs.Clauses.{add_lit, has, negate, var_of}
+use Rattle.checker_rules.specs.KnownVars.{is_known}
+use Rattle.checker_rules.specs.Model.{is_false_by_unit, model_cause}
+use Rattle.checker_rules.specs.Outcome.{Cause, model_against_itself, model_against_unit, unknown_var}
+use Rattle.checker_rules.specs.State.{State}
+use Rattle.checker_steps.specs.ModelCause.{first_cause, lit_cause}
+
+pub less : (n m : ℕ) → n < m → ltb n m ≡ true
+less n m h = grind (arith, h)
+
+-- one literal
+pub lit-against_unit : (s : State) (f : ℕ → Bool) (l : ℕ) → is_known s (var_of l) ≡ true → is_false_by_unit s.units l ≡ true → lit_cause s f l ≡ Some model_against_unit
+lit-against_unit s f l known false_by = rw (known, false_by) refl
+
+pub lit-against_itself : (s : State) (f : ℕ → Bool) (l : ℕ) → is_known s (var_of l) ≡ true → is_false_by_unit s.units l ≡ false → f (negate l) ≡ true → lit_cause s f l ≡ Some model_against_itself
+lit-against_itself s f l known false_by opposite = rw (known, false_by, opposite) refl
+
+pub lit-none : (s : State) (f : ℕ → Bool) (l : ℕ) → is_known s (var_of l) ≡ true → is_false_by_unit s.units l ≡ false → f (negate l) ≡ false → lit_cause s f l ≡ None
+lit-none s f l known false_by opposite = rw (known, false_by, opposite) refl
+
+-- the first cause among the literals, those of a set being listed
+abbrev pub causes_from : State → (ℕ → Bool) → List ℕ → Option Cause
+causes_from s f [] = None
+causes_from s f (l ∷ ls) = first_cause (lit_cause s f l) (causes_from s (add_lit l f) ls)
+
+chain : (a b d : Bool) (x y z : Cause) (later : Option Cause) → first_cause (cond a (Some x) (cond b (Some y) (cond d (Some z) None))) later ≡ cond a (Some x) (cond b (Some y) (cond d (Some z) later))
+chain true b d x y z later = refl
+chain false true d x y z later = refl
+chain false false true x y z later = refl
+chain false false false x y z later = refl
+
+pub causes_from-listed : (s : State) (earlier ls : List ℕ) → causes_from s (λ k. has k earlier) ls ≡ model_cause s earlier ls
+causes_from-listed s earlier [] = refl
+causes_from-listed s earlier (l ∷ ls) =
+    chain (not (is_known s (var_of l))) (is_false_by_unit s.units l) (has (negate l) earlier) unknown_var model_against_unit model_against_itself (causes_from s (λ k. has k (l ∷ earlier)) ls)
+    ∙ ap (λ later. cond (not (is_known s (var_of l))) (Some unknown_var) (cond (is_false_by_unit s.units l) (Some model_against_unit) (cond (has (negate l) earlier) (Some model_against_itself) later))) (causes_from-listed s (l ∷ earlier) ls)
+
+pub causes_from-none : (s : State) (f : ℕ → Bool) (ls : List ℕ) → ((k : ℕ) → f k ≡ false) → causes_from s f ls ≡ model_cause s [] ls
+causes_from-none s f ls none = ap (λ g. causes_from s g ls) (same f none) ∙ causes_from-listed s [] ls
+  where
+    same : (f : ℕ → Bool) → ((k : ℕ) → f k ≡ false) → f ≡ (λ k. has k [])
+    same f none = λ i k. none k i
+
+-- one literal after those of a set
+pub causes_from-goes : (s : State) (f g : ℕ → Bool) (l : ℕ) (ls : List ℕ) → lit_cause s f l ≡ None → g ≡ add_lit l f → causes_from s g ls ≡ causes_from s f (l ∷ ls)
+causes_from-goes s f g l ls none marked = ap (λ h. causes_from s h ls) marked ∙ sym (ap (λ c. first_cause c (causes_from s (add_lit l f) ls)) none)
+
+pub first-is : (cause : Cause) (found later : Option Cause) → found ≡ Some cause → first_cause found later ≡ Some cause
+first-is cause found later h = ap (λ o. first_cause o later) h
+
+-- a literal that is refused is the first one
+pub cause-first : (cause : Cause) (s : State) (f : ℕ → Bool) (l : ℕ) (ls : List ℕ) (found : Option Cause) → causes_from s f (l ∷ ls) ≡ found → lit_cause s f l ≡ Some cause → found ≡ Some cause
+cause-first cause s f l ls found e h = sym e ∙ first-is cause (lit_cause s f l) (causes_from s (add_lit l f) ls) h
+
+-- what is marked, and what is still to be
+pub marked-none : (f : ℕ → Bool) (ls : List ℕ) (k : ℕ) → ((k : ℕ) → f k ≡ false) → (f k || has k ls) ≡ has k ls
+marked-none f ls k none = ap (λ b. b || has k ls) (none k)
+
+or-turn : (a m r : Bool) → ((a || m) || r) ≡ (m || (a || r))
+or-turn true true r = refl
+or-turn true false r = refl
+or-turn false true r = refl
+or-turn false false r = refl
+
+or-none : (b : Bool) → (b || false) ≡ b
+or-none true = refl
+or-none false = refl
+
+pub marked-turn : (f g : ℕ → Bool) (l : ℕ) (ls : List ℕ) (k : ℕ) → g ≡ add_lit l f → (g k || has k ls) ≡ (f k || has k (l ∷ ls))
+marked-turn f g l ls k marked = ap (λ h. h k || has k ls) marked ∙ or-turn (eqb k l) (f k) (has k ls)
+
+pub marked-all : (f : ℕ → Bool) (whole ls : List ℕ) (k : ℕ) → ls ≡ [] → (f k || has k ls) ≡ has k whole → f k ≡ has k whole
+marked-all f whole ls k done h = sym (or-none (f k)) ∙ ap (λ xs. f k || has k xs) (sym done) ∙ h

@@ -1,0 +1,72 @@
+-- The walk over all buckets, by which every stored clause is tested.
+use Rattle.std.proofs.Common.{◌≡◌, ℕ, ◌+◌, Bool, true, false, not, ◌&&◌, ◌||◌, List, [], ◌∷◌, ◌++◌, length, map, All, nat_eq, refl, sym, ap, ◌∙◌, subst, arith, length-append}
+use Rattle.std.proofs.Math.ListN.{get_or-append}
+use Rattle.std.specs.List.{flat_map, list_all, list_any}
+use Rattle.std.specs.HashMap.{IsUnique, values}
+use Rattle.std.proofs.lemmas.List.{get_or-append-add}
+use Rattle.std.proofs.lemmas.List.Folds.{list_all-append, list_all-map}
+use Rattle.std.proofs.lemmas.List.Sorted.{list_any-IsPermutation}
+use Rattle.checker_rules.specs.State.{Stored}
+use Rattle.smallvec.specs.SmallVec.{SmallVec}
+use Rattle.clause_store.specs.declared.clauses.Clause.{Clause}
+use Rattle.clause_store.specs.declared.clauses.Clauses.{Clauses}
+use Rattle.clause_store.specs.declared.hash.ClauseHasher.{ClauseHasher}
+use Rattle.clause_store.specs.Lits.{IsWithin}
+use Rattle.clause_store.specs.Store.{Files}
+use Rattle.clause_store.specs.View.{stored_of}
+use Rattle.clause_store.proofs.GatheredLemmas.{in_other_order}
+use Rattle.checker_steps.specs.ModelCause.{is_met}
+
+-- the clauses of buckets, one after the other
+abbrev pub clauses_in : List (SmallVec Clause) → List Clause
+clauses_in bs = flat_map (λ b. b.items) bs
+
+-- they lie in the buffer
+abbrev pub AllWithin : List ℕ → List (SmallVec Clause) → Type 0
+AllWithin buffer bs = All (λ c. IsWithin c.lits buffer) (clauses_in bs)
+
+-- whether some literal of each is in the set
+abbrev pub all_met : (ℕ → Bool) → List ℕ → List (SmallVec Clause) → Bool
+all_met listed buffer bs = list_all (λ c. is_met listed (stored_of buffer c)) (clauses_in bs)
+
+all-left : (P : Clause → Type 0) (xs ys : List Clause) → All P (xs ++ ys) → All P xs
+all-left P xs ys h k d less = subst P (get_or-append xs ys d k less) (h k d (omega (arith, less, length-append xs ys)))
+
+all-right : (P : Clause → Type 0) (xs ys : List Clause) → All P (xs ++ ys) → All P ys
+all-right P xs ys h k d less = subst P (get_or-append-add xs ys k d) (h (length xs + k) d (omega (arith, less, length-append xs ys)))
+
+-- the first bucket
+module _ (listed : ℕ → Bool) (buffer : List ℕ) (bs : List (SmallVec Clause)) (b : SmallVec Clause) (rest : List (SmallVec Clause)) (first : bs ≡ b ∷ rest) where
+  within : AllWithin buffer bs → All (λ c. IsWithin c.lits buffer) (b.items ++ clauses_in rest)
+  within h = subst (AllWithin buffer) first h
+
+  pub within-first : AllWithin buffer bs → All (λ c. IsWithin c.lits buffer) b.items
+  within-first h = all-left (λ c. IsWithin c.lits buffer) b.items (clauses_in rest) (within h)
+
+  pub within-rest : AllWithin buffer bs → AllWithin buffer rest
+  within-rest h = all-right (λ c. IsWithin c.lits buffer) b.items (clauses_in rest) (within h)
+
+  met : all_met listed buffer bs ≡ (list_all (λ c. is_met listed (stored_of buffer c)) b.items && all_met listed buffer rest)
+  met = ap (all_met listed buffer) first ∙ list_all-append (λ c. is_met listed (stored_of buffer c)) b.items (clauses_in rest)
+
+  pub met-rest : list_all (λ c. is_met listed (stored_of buffer c)) b.items ≡ true → all_met listed buffer rest ≡ all_met listed buffer bs
+  met-rest h = sym (met ∙ ap (λ a. a && all_met listed buffer rest) h)
+
+  pub met-not : list_all (λ c. is_met listed (stored_of buffer c)) b.items ≡ false → all_met listed buffer bs ≡ false
+  met-not h = met ∙ ap (λ a. a && all_met listed buffer rest) h
+
+-- all buckets
+all-any : (p : Stored → Bool) (es : List Stored) → list_all p es ≡ not (list_any (λ e. not (p e)) es)
+all-any p [] = refl
+all-any p (e ∷ es) = by (p e) (all-any p es)
+  where
+    by : (b : Bool) → list_all p es ≡ not (list_any (λ e. not (p e)) es) → (b && list_all p es) ≡ not (not b || list_any (λ e. not (p e)) es)
+    by true h = h
+    by false h = refl
+
+pub met-stored : (h : ClauseHasher) (cs : Clauses) (es : List Stored) → Files h cs es → IsUnique nat_eq cs.buckets → (listed : ℕ → Bool) → all_met listed cs.literal_buffer.items (values cs.buckets) ≡ list_all (is_met listed) es
+met-stored h cs es f unique listed =
+    let p = is_met listed in
+    let walked = map (stored_of cs.literal_buffer.items) (clauses_in (values cs.buckets)) in
+    sym (list_all-map p (stored_of cs.literal_buffer.items) (clauses_in (values cs.buckets)))
+    ∙ all-any p walked ∙ sym (ap not (list_any-IsPermutation (λ e. not (p e)) es walked (in_other_order h cs es f unique))) ∙ sym (all-any p es)

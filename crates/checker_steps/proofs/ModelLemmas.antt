@@ -1,0 +1,45 @@
+-- The step of a model, by its cause.
+use Rattle.std.proofs.Common.{◌≡◌, ℕ, Bool, true, false, cond, not, List, [], ◌∷◌, Option, None, Some, refl, sym, ap, ◌∙◌, subst}
+use Rattle.std.specs.List.{list_all}
+use Rattle.checker_rules.specs.Canonical.{is_subset}
+use Rattle.checker_rules.specs.CheckedSteps.{checked_model, shown_in}
+use Rattle.checker_rules.specs.Emits.{Emits, EmitsBy}
+use Rattle.checker_rules.specs.Model.{has_some, model_cause, model_whole}
+use Rattle.checker_rules.specs.Outcome.{Cause, Outcome, accept, and_then_by, model_after_unsat, model_misses_assumption, model_misses_clause, refuse}
+use Rattle.checker_rules.specs.State.{State}
+use Rattle.checker_rules.specs.Step.{model}
+use Rattle.checker_rules.specs.Steps.{step}
+use Rattle.checker_rules.proofs.StepKinds.{step-model}
+use Rattle.checker_steps.specs.ModelCause.{first_cause, list_cause, missing_cause}
+
+-- the step
+abbrev by_cause : Option Cause → State → Outcome
+by_cause None s = accept s
+by_cause (Some cause) s = refuse cause s
+
+whole-by : (a b : Bool) (x y : Cause) (s : State) → cond a (refuse x s) (cond b (refuse y s) (accept s)) ≡ by_cause (cond a (Some x) (cond b (Some y) None)) s
+whole-by true b x y s = refl
+whole-by false true x y s = refl
+whole-by false false x y s = refl
+
+list-by : (o : Option Cause) (s : State) (m : List ℕ) → and_then_by o s (λ r. model_whole r m) ≡ by_cause (first_cause o (missing_cause s m)) s
+list-by None s m = whole-by (not (is_subset s.assumed m)) (not (list_all (λ e. has_some e.lits m) s.clauses)) model_misses_assumption model_misses_clause s
+list-by (Some cause) s m = refl
+
+model-by : (s : State) (m : List ℕ) → s.unsat ≡ false → step s (model m) ≡ by_cause (list_cause s m) s
+model-by s m live =
+    step-model s m ∙ ap (λ b. cond b (refuse model_after_unsat s) (and_then_by (model_cause s [] m) s (λ r. model_whole r m))) live
+    ∙ list-by (model_cause s [] m) s m
+
+pub model-unsat : (s : State) (m : List ℕ) → s.unsat ≡ true → step s (model m) ≡ refuse model_after_unsat s
+model-unsat s m h = step-model s m ∙ ap (λ b. cond b (refuse model_after_unsat s) (and_then_by (model_cause s [] m) s (λ r. model_whole r m))) h
+
+pub model-accepts : (s : State) (m : List ℕ) → s.unsat ≡ false → list_cause s m ≡ None → step s (model m) ≡ accept s
+model-accepts s m live e = model-by s m live ∙ ap (λ o. by_cause o s) e
+
+pub model-refuses : (s : State) (m : List ℕ) (cause : Cause) → s.unsat ≡ false → list_cause s m ≡ Some cause → step s (model m) ≡ refuse cause s
+model-refuses s m cause live h = model-by s m live ∙ ap (λ o. by_cause o s) h
+
+-- a model that is accepted emits itself
+pub model-emits : (s : State) (m : List ℕ) → step s (model m) ≡ accept s → Emits s (model m) (shown_in s (checked_model m) ∷ [])
+model-emits s m is = subst (λ x. EmitsBy x s (model m) (shown_in s (checked_model m) ∷ [])) (sym (ap (λ (o : Outcome). o.refused) is)) refl

@@ -1,0 +1,7 @@
+use Rattle.checker_parts.specs.CheckedSteps.{transcript_of}
+use Rattle.checker_steps.proofs.PassedLemmas.{Passed}
+use Rattle.checker_steps.proofs.processing.tell_image.Given as goal
+
+abbrev pub invariant-loop-transcript : goal.invariant-loop-transcript
+invariant-loop-transcript g l =
+    Passed (λ old new. g.T.ProofTranscriptProcessor.took old (transcript_of l.image) new) l.transcript-index l.initial.transcripts l.transcripts

@@ -1,0 +1,13 @@
+pub mod Added
+pub mod Context
+pub mod DeletedVar
+pub mod DeletionSteps
+pub mod Derived
+pub mod FailedCore
+pub mod Failing
+pub mod Handed
+pub mod Idle
+pub mod InputCause
+pub mod Justified
+pub mod ModelCause
+pub mod Naming

@@ -1,0 +1,58 @@
+//! The parts of a checker.
+use crate::processing::ProcessingOf;
+use checker_parts::processor::{ProofProcessor, ProofTranscriptProcessor};
+use checker_parts::variables::Variables;
+use clause_store::clauses::Clauses;
+use clause_store::hash::ClauseHasher;
+use clause_store::rup::RupCheck;
+use clause_store::state::CheckerState;
+use sat_formula::Lit;
+use std::alloc::Global;
+
+/// Lists that are kept from one step to the next for their memory.
+#[derive(Drop)]
+pub struct TmpData {
+    /// The canonical form of the clause of the present step.
+    pub tmp: Vec<Lit>,
+}
+
+/// The parts of a checker.
+#[derive(Drop)]
+pub struct ContextOf<P, T> {
+    pub checker_state: CheckerState,
+    pub clause_hasher: ClauseHasher,
+    pub clauses: Clauses,
+    pub processing: ProcessingOf<P, T>,
+    pub rup_check: RupCheck,
+    pub tmp_data: TmpData,
+    pub variables: Variables,
+}
+
+/// The parts of a checker whose processors are boxes.
+pub type Context = ContextOf<Box<dyn ProofProcessor>, Box<dyn ProofTranscriptProcessor>>;
+
+impl<P: ProofProcessor, T: ProofTranscriptProcessor> ContextOf<P, T> {
+    ghost use Rattle.std.specs.Prelude.{◌≡◌, []};
+    ghost use Rattle.checker_rules.specs.Steps.{new_state};
+    ghost use Rattle.checker_steps.specs.Context.{IsKept, context_state};
+
+    /// The parts of a checker with nothing stored. Takes no memory.
+    pub fn new(alloc: Global) -> ContextOf<P, T>
+        ensures state { context_state result ≡ new_state }
+        ensures kept { IsKept result }
+        ensures processors { result.processing.processors.items ≡ [] }
+        ensures transcripts { result.processing.transcript_processors.items ≡ [] }
+    {
+        ContextOf {
+            checker_state: CheckerState::new(alloc),
+            clause_hasher: ClauseHasher::new(alloc),
+            clauses: Clauses::new(alloc),
+            processing: ProcessingOf::new(alloc),
+            rup_check: RupCheck::new(alloc),
+            tmp_data: TmpData {
+                tmp: Vec::new(alloc),
+            },
+            variables: Variables::new(alloc),
+        }
+    }
+}

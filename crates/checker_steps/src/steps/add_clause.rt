@@ -1,0 +1,220 @@
+//! Input clauses.
+ghost use Rattle.std.specs.Prelude.{◌≡◌, ◌≤◌, List, None, Ok, OnOk, length, true, ◌+◌, ◌<◌, IfOk};
+ghost use Rattle.std.specs.Option.{option_map};
+ghost use Rattle.checker_rules.specs.AddClause.{store_input};
+ghost use Rattle.checker_rules.specs.Canonical.{var_bound};
+ghost use Rattle.checker_rules.specs.Clauses.{is_canonical, is_tautology};
+ghost use Rattle.checker_rules.specs.Emits.{Emits, emits_input};
+ghost use Rattle.checker_rules.specs.KnownVars.{know_clause};
+ghost use Rattle.checker_rules.specs.State.{Known};
+ghost use Rattle.checker_rules.specs.Step as rules;
+ghost use Rattle.checker_rules.specs.Steps.{step};
+ghost use Rattle.checker_rules.specs.Store.{id_limit};
+ghost use Rattle.checker_parts.specs.Answers.{AnswersParts, UnlessFailed};
+ghost use Rattle.clause_store.specs.Kept.{Kept};
+ghost use Rattle.clause_store.specs.StateOf.{state_of};
+ghost use Rattle.clause_store.specs.Store.{IsStore};
+ghost use Rattle.clause_store.specs.declared.state.CheckerState.{CheckerState};
+ghost use Rattle.checker_steps.specs.Added.{emitted_of};
+ghost use Rattle.checker_steps.specs.Context.{IsKept, context_state};
+ghost use Rattle.checker_steps.specs.Handed.{Handed, HandsAll, boxes_of};
+ghost use Rattle.checker_steps.specs.InputCause.{IsInputCause, HasRoom, taken};
+ghost use Rattle.checker_steps.specs.declared.steps.add_clause.Added.TheVariants.{Duplicate};
+
+use crate::context::ContextOf;
+use crate::emit::{
+    emit_add_clause, emit_duplicated_clause, emit_make_irredundant, emit_tautological_clause,
+};
+use crate::processing::ProcessingOf;
+use crate::variables::some_not_sampling;
+use checker_parts::error::{CheckCause, CheckerError};
+use checker_parts::processor::{ProofProcessor, ProofTranscriptProcessor};
+use checker_parts::sorted_lits::copy_canonical;
+use checker_parts::variables::Variables;
+use clause_store::clauses::store::{StoreFault, copies, store_clause};
+use clause_store::clauses::{Clauses, StoreClauseResult};
+use clause_store::hash::ClauseHasher;
+use clause_store::refusal::refusal;
+use clause_store::state::CheckerState;
+use clause_store::variables::{ensure_vars, var_bound};
+use sat_formula::Lit;
+use std::alloc::{AllocError, Global};
+
+/// Adds an input clause.
+pub fn add_clause<P: ProofProcessor, T: ProofTranscriptProcessor>(
+    alloc: Global,
+    ctx: &mut ContextOf<P, T>,
+    lits: &[Lit],
+) -> Result<(), CheckerError>
+    requires { IsKept ctx.old }
+    ensures step { AnswersParts result (step (context_state ctx.old) (rules.add_clause lits.now)) (context_state ctx.new) }
+    ensures kept { UnlessFailed result (IsKept ctx.new) }
+    ensures handed { Handed result (Emits (context_state ctx.old) (rules.add_clause lits.now)) P.took P.faulted T.took T.faulted (boxes_of ctx.old.processing) (boxes_of ctx.new.processing) }
+    ensures after_unsat { (context_state ctx.old).unsat ≡ true → (result ≡ Ok tt) × (ctx.new ≡ ctx.old) }
+{
+    if ctx.checker_state.unsat {
+        return Ok(());
+    }
+    let Ok(tautology) = copy_canonical(&mut ctx.tmp_data.tmp, lits) else {
+        return Err(CheckerError::OutOfMemory);
+    };
+    let clause = ctx.tmp_data.tmp.as_slice();
+    if let Some(msg) = cause(&ctx.clause_hasher, &ctx.clauses, &ctx.variables, clause) {
+        return Err(refusal(alloc, &ctx.checker_state, msg));
+    }
+    let taken = take_clause(
+        alloc,
+        &mut ctx.checker_state,
+        &ctx.clause_hasher,
+        &mut ctx.clauses,
+        &mut ctx.variables,
+        clause,
+        tautology,
+    );
+    match taken {
+        Ok(added) => emit_added(&mut ctx.processing, &ctx.variables, clause, added),
+        Err(_) => Err(CheckerError::OutOfMemory),
+    }
+}
+
+/// What became of an input clause, with the id that it took.
+#[derive(Clone, Copy)]
+enum Added {
+    Tautology {
+        id: u64,
+    },
+    New {
+        id: u64,
+    },
+    /// It stood already, under another id.
+    Duplicate {
+        id: u64,
+        same_as_id: u64,
+        newly_irredundant: bool,
+    },
+}
+
+/// Hands on what became of an input clause.
+fn emit_added<P: ProofProcessor, T: ProofTranscriptProcessor>(
+    processing: &mut ProcessingOf<P, T>,
+    variables: &Variables,
+    clause: &[Lit],
+    added: Added,
+) -> Result<(), CheckerError>
+    ensures { HandsAll result (emitted_of added clause.now variables.now) P.took P.faulted T.took T.faulted (boxes_of processing.old) (boxes_of processing.new) }
+{
+    match added {
+        Added::Tautology { id } => emit_tautological_clause(processing, variables, id, clause),
+        Added::New { id } => emit_add_clause(processing, variables, id, clause),
+        Added::Duplicate {
+            id,
+            same_as_id,
+            newly_irredundant,
+        } => {
+            if newly_irredundant {
+                emit_make_irredundant(processing, variables, same_as_id, clause)?;
+            }
+            emit_duplicated_clause(processing, variables, id, same_as_id, clause)
+        }
+    }
+}
+
+/// Why a canonical input clause can't be added.
+fn cause(
+    hasher: &ClauseHasher,
+    clauses: &Clauses,
+    variables: &Variables,
+    clause: &[Lit],
+) -> Option<CheckCause>
+    requires { IsStore hasher.now clauses.now }
+    ensures { (st : CheckerState) → IsInputCause result (state_of st hasher.now clauses.now variables.now) clause.now }
+{
+    if some_not_sampling(variables, clause) {
+        return Some(CheckCause::NotSampling);
+    }
+    if clauses.next_clause_id == u64::MAX {
+        return Some(CheckCause::IdsExhausted);
+    }
+    if copies(hasher, clauses, clause, false) == u32::MAX {
+        return Some(CheckCause::CountExhausted);
+    }
+    None
+}
+
+/// Makes the variables known and stores the clause.
+fn take_clause(
+    alloc: Global,
+    state: &mut CheckerState,
+    hasher: &ClauseHasher,
+    clauses: &mut Clauses,
+    variables: &mut Variables,
+    clause: &[Lit],
+    tautology: bool,
+) -> Result<Added, AllocError>
+    requires kept { Kept state.old hasher.now clauses.old variables.old }
+    requires room { HasRoom (state_of state.old hasher.now clauses.old variables.old) clause.now }
+    requires canonical { is_canonical clause.now ≡ true }
+    requires tautology { tautology ≡ is_tautology clause.now }
+    ensures state { OnOk result (state_of state.new hasher.now clauses.new variables.new ≡ taken (state_of state.old hasher.now clauses.old variables.old) clause.now) }
+    ensures store { OnOk result (IsStore hasher.now clauses.new) }
+    ensures emitted { IfOk result (λ added. emitted_of added clause.now variables.new ≡ emits_input clause.now (know_clause clause.now (state_of state.old hasher.now clauses.old variables.old))) }
+{
+    ensure_vars(clauses, variables, var_bound(clause))?;
+    let added = store_input_clause(alloc, state, hasher, clauses, clause, tautology)?;
+    state.input_clauses += 1;
+    Ok(added)
+}
+
+/// Stores an input clause of known variables. A tautology and a clause that stands already take an id of their own.
+fn store_input_clause(
+    alloc: Global,
+    state: &mut CheckerState,
+    hasher: &ClauseHasher,
+    clauses: &mut Clauses,
+    clause: &[Lit],
+    tautology: bool,
+) -> Result<Added, AllocError>
+    requires store { IsStore hasher.now clauses.old }
+    requires room { (known : List Known) → HasRoom (state_of state.old hasher.now clauses.old known) clause.now }
+    requires known { var_bound clause.now ≤ length clauses.old.unit_clauses }
+    requires canonical { is_canonical clause.now ≡ true }
+    requires tautology { tautology ≡ is_tautology clause.now }
+    ensures state { OnOk result ((known : List Known) → state_of state.new hasher.now clauses.new known ≡ store_input clause.now (state_of state.old hasher.now clauses.old known)) }
+    ensures store { OnOk result (IsStore hasher.now clauses.new) }
+    ensures inputs { OnOk result (state.new.input_clauses ≡ state.old.input_clauses) }
+    ensures emitted { IfOk result (λ added. (known : List Known) → emitted_of added clause.now known ≡ emits_input clause.now (state_of state.old hasher.now clauses.old known)) }
+{
+    if tautology {
+        let id = clauses.next_clause_id;
+        clauses.next_clause_id += 1;
+        return Ok(Added::Tautology { id });
+    }
+    match store_clause(alloc, state, hasher, clauses, clause, false) {
+        Ok((stored_id, result)) => {
+            match result {
+                StoreClauseResult::New => Ok(Added::New { id: stored_id }),
+                StoreClauseResult::Duplicate => Ok(repeated(clauses, stored_id, false)),
+                StoreClauseResult::NewlyIrredundant => Ok(repeated(clauses, stored_id, true)),
+            }
+        }
+        Err(StoreFault::OutOfMemory) => Err(AllocError),
+        Err(StoreFault::IdsExhausted) => unreachable!("an id is left"),
+        Err(StoreFault::CountExhausted) => unreachable!("a copy can be counted"),
+    }
+}
+
+/// An id of its own for a clause that stood already.
+#[tactic(auto, unfolding(checker_rules::specs::Store::id_limit))]
+fn repeated(clauses: &mut Clauses, same_as_id: u64, newly_irredundant: bool) -> Added
+    requires { clauses.old.next_clause_id < id_limit }
+    ensures answer { result ≡ Duplicate clauses.old.next_clause_id same_as_id newly_irredundant }
+    ensures taken { clauses.new ≡ record clauses.old { next_clause_id = clauses.old.next_clause_id + 1 } }
+{
+    let id = clauses.next_clause_id;
+    clauses.next_clause_id += 1;
+    Added::Duplicate {
+        id,
+        same_as_id,
+        newly_irredundant,
+    }
+}

@@ -1,0 +1,171 @@
+//! Deletions of clauses.
+ghost use Rattle.std.specs.Prelude.{◌≡◌, IsTrue, List, cond, true};
+ghost use Rattle.checker_rules.specs.Clauses.{is_canonical};
+ghost use Rattle.checker_rules.specs.Emits.{Emits};
+ghost use Rattle.checker_rules.specs.State.{Known};
+ghost use Rattle.checker_rules.specs.Step as rules;
+ghost use Rattle.checker_rules.specs.Steps.{step};
+ghost use Rattle.checker_rules.specs.WellFormed.{is_previous_canonical};
+ghost use Rattle.checker_parts.specs.Answers.{AnswersParts, UnlessFailed};
+ghost use Rattle.checker_parts.specs.declared.error.CheckCause.TheVariants.{DeleteIrredundantIsRedundant, DeleteRedundantIsIrredundant};
+ghost use Rattle.proof_bytes.specs.NextStep.{why};
+ghost use Rattle.clause_store.specs.Delete.{IsDeleteError};
+ghost use Rattle.clause_store.specs.StateOf.{state_of};
+ghost use Rattle.clause_store.specs.Trace.{AreStored};
+ghost use Rattle.clause_store.specs.declared.hash.ClauseHasher.{ClauseHasher};
+ghost use Rattle.checker_steps.specs.Context.{IsKept, context_state};
+ghost use Rattle.checker_steps.specs.DeletionSteps.{deletion_steps};
+ghost use Rattle.checker_steps.specs.Handed.{Handed, HandsAll, boxes_of};
+ghost use Rattle.checker_steps.specs.Justified.{AnswersJustified, previous_of, subsuming_id};
+
+use crate::context::ContextOf;
+use crate::emit::{emit_delete_at_clause, emit_delete_clause};
+use crate::processing::ProcessingOf;
+use checker_parts::error::{CheckCause, CheckerError};
+use checker_parts::processor::{ProofProcessor, ProofTranscriptProcessor};
+use checker_parts::sorted_lits::{copy_canonical, is_subset};
+use checker_parts::variables::Variables;
+use clause_store::clauses::delete::{self, DeleteFault};
+use clause_store::clauses::{Clauses, DeleteClauseResult};
+use clause_store::refusal::refusal;
+use clause_store::state::CheckerState;
+use proof_bytes::DeleteClauseProof;
+use sat_formula::Lit;
+use std::alloc::Global;
+
+/// Deletes one copy of a clause. A justification that passes makes the previous clause forgotten, also where the step is then refused.
+pub fn delete_clause<P: ProofProcessor, T: ProofTranscriptProcessor>(
+    alloc: Global,
+    ctx: &mut ContextOf<P, T>,
+    proof: DeleteClauseProof,
+    lits: &[Lit],
+) -> Result<(), CheckerError>
+    requires { IsKept ctx.old }
+    ensures step { AnswersParts result (step (context_state ctx.old) (rules.delete_clause (why proof) lits.now)) (context_state ctx.new) }
+    ensures kept { UnlessFailed result (IsKept ctx.new) }
+    ensures handed { Handed result (Emits (context_state ctx.old) (rules.delete_clause (why proof) lits.now)) P.took P.faulted T.took T.faulted (boxes_of ctx.old.processing) (boxes_of ctx.new.processing) }
+{
+    let Ok(tautology) = copy_canonical(&mut ctx.tmp_data.tmp, lits) else {
+        return Err(CheckerError::OutOfMemory);
+    };
+    if tautology {
+        return Err(refusal(alloc, &ctx.checker_state, CheckCause::Tautology));
+    }
+    let clause = ctx.tmp_data.tmp.as_slice();
+    let implying = match justify(&ctx.checker_state, &ctx.clauses, clause, proof) {
+        Ok(id) => id,
+        Err(msg) => return Err(refusal(alloc, &ctx.checker_state, msg)),
+    };
+    let redundant = implying.is_none();
+    ctx.checker_state.previous_id = None;
+    let deleted = delete::delete_clause(
+        alloc,
+        &ctx.clause_hasher,
+        &mut ctx.clauses,
+        clause,
+        redundant,
+    );
+    match deleted {
+        Ok((id, did)) => emit_deletion(
+            &mut ctx.processing,
+            &ctx.variables,
+            id,
+            clause,
+            did,
+            implying,
+        ),
+        Err(fault) => Err(delete_error(alloc, &ctx.checker_state, fault, redundant)),
+    }
+}
+
+/// The id of the clause that implies the canonical one that is to go. A redundant one needs none.
+fn justify(
+    state: &CheckerState,
+    clauses: &Clauses,
+    clause: &[Lit],
+    proof: DeleteClauseProof,
+) -> Result<Option<u64>, CheckCause>
+    requires stored { AreStored clauses.now.unit_clauses }
+    requires previous { is_previous_canonical (previous_of state.now) ≡ true }
+    requires clause { IsTrue (is_canonical clause.now) }
+    ensures { (h : ClauseHasher) (known : List Known) → AnswersJustified result (why proof) clause.now (state_of state.now h clauses.now known) }
+{
+    match proof {
+        DeleteClauseProof::Redundant => Ok(None),
+        DeleteClauseProof::Satisfied => match clauses.unit_clauses.true_unit_id(clause) {
+            Some(id) => Ok(Some(id)),
+            None => Err(CheckCause::NotSatisfied),
+        },
+        DeleteClauseProof::Simplified => match subsuming_id(state, clause) {
+            Some(id) => Ok(Some(id)),
+            None => Err(CheckCause::NotSubsumed),
+        },
+    }
+}
+
+/// The id of the previous clause, where it is a proper subset of the canonical one.
+fn subsuming_id(state: &CheckerState, clause: &[Lit]) -> Option<u64>
+    requires previous { is_previous_canonical (previous_of state.now) ≡ true }
+    requires clause { IsTrue (is_canonical clause.now) }
+    ensures { result ≡ subsuming_id (previous_of state.now) clause.now }
+{
+    let id = state.previous_id?;
+    if is_subset(&state.previous_lits, clause, true) {
+        Some(id)
+    } else {
+        None
+    }
+}
+
+/// The error for a copy that was not deleted.
+fn delete_error(
+    alloc: Global,
+    state: &CheckerState,
+    fault: DeleteFault,
+    redundant: bool,
+) -> CheckerError
+    ensures { IsDeleteError fault redundant state.now.step result }
+{
+    match fault {
+        DeleteFault::OutOfMemory => CheckerError::OutOfMemory,
+        DeleteFault::UnitOrEmpty => refusal(alloc, state, CheckCause::DeleteUnitOrEmpty),
+        DeleteFault::Unknown => refusal(alloc, state, CheckCause::DeleteUnknown),
+        DeleteFault::NoCopy => refusal(alloc, state, no_copy(redundant)),
+    }
+}
+
+/// Why no copy of the kind of a stored clause was deleted.
+fn no_copy(redundant: bool) -> CheckCause
+    ensures { result ≡ cond redundant DeleteRedundantIsIrredundant DeleteIrredundantIsRedundant }
+{
+    if redundant {
+        CheckCause::DeleteRedundantIsIrredundant
+    } else {
+        CheckCause::DeleteIrredundantIsRedundant
+    }
+}
+
+/// Hands on what the deletion of a copy did to the clause: whether it is gone, or redundant from now on.
+fn emit_deletion<P: ProofProcessor, T: ProofTranscriptProcessor>(
+    processing: &mut ProcessingOf<P, T>,
+    variables: &Variables,
+    id: u64,
+    clause: &[Lit],
+    did: DeleteClauseResult,
+    implying: Option<u64>,
+) -> Result<(), CheckerError>
+    ensures { HandsAll result (deletion_steps variables.now implying did id clause.now) P.took P.faulted T.took T.faulted (boxes_of processing.old) (boxes_of processing.new) }
+{
+    match (implying, did) {
+        (None, DeleteClauseResult::Removed) => {
+            emit_delete_clause(processing, variables, id, clause)
+        }
+        (Some(implying), DeleteClauseResult::Removed) => {
+            emit_delete_at_clause(processing, variables, id, false, clause, &[implying])
+        }
+        (Some(implying), DeleteClauseResult::NewlyRedundant) => {
+            emit_delete_at_clause(processing, variables, id, true, clause, &[implying])
+        }
+        _ => Ok(()),
+    }
+}

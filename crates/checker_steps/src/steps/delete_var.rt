@@ -1,0 +1,163 @@
+//! Variables that are deleted.
+ghost use Rattle.std.specs.Prelude.{◌≡◌, ◌<◌, ℕ, List, None, IsOk, length};
+ghost use Rattle.std.specs.List.{list_any};
+ghost use Rattle.checker_rules.specs.DeleteVar.{forget_var, free_var, holds_var};
+ghost use Rattle.checker_rules.specs.Emits.{Emits};
+ghost use Rattle.checker_rules.specs.State.{Known, Stored, unit_of};
+ghost use Rattle.checker_rules.specs.Step as rules;
+ghost use Rattle.checker_rules.specs.Steps.{step};
+ghost use Rattle.checker_rules.specs.Transcript.{known_at};
+ghost use Rattle.sat_formula.specs.Vars.{index_of};
+ghost use Rattle.checker_parts.specs.Answers.{AnswersParts, UnlessFailed, UnlessGivenUp};
+ghost use Rattle.clause_store.specs.Counts.{AreCounts};
+ghost use Rattle.clause_store.specs.StateOf.{state_of, stored_units};
+ghost use Rattle.clause_store.specs.Store.{IsStore};
+ghost use Rattle.clause_store.specs.declared.clauses.Clauses.{Clauses};
+ghost use Rattle.clause_store.specs.declared.hash.ClauseHasher.{ClauseHasher};
+ghost use Rattle.clause_store.specs.declared.state.CheckerState.{CheckerState};
+ghost use Rattle.checker_steps.specs.Context.{IsKept, context_state};
+ghost use Rattle.checker_steps.specs.DeletedVar.{close_on, conflict_on, emits_close, emits_dropped};
+ghost use Rattle.checker_steps.specs.Handed.{Handed, boxes_of};
+
+use crate::context::ContextOf;
+use crate::emit::{emit_at_clause, emit_delete_rat_clause};
+use crate::processing::ProcessingOf;
+use crate::variables::ensure_var;
+use checker_parts::error::{CheckCause, CheckerError};
+use checker_parts::processor::{ProofProcessor, ProofTranscriptProcessor};
+use checker_parts::variables::{SamplingMode, Variables};
+use clause_store::clauses::Clauses;
+use clause_store::clauses::counts::LitCounts;
+use clause_store::clauses::store::global_id;
+use clause_store::refusal::refusal;
+use clause_store::state::CheckerState;
+use sat_formula::{Lit, Var};
+use std::alloc::Global;
+
+/// Deletes an unnamed variable that no clause of two or more literals holds: its unit goes, and it is as a new variable is.
+///
+/// A conflict on its unit is closed first. A previous clause with the variable is forgotten.
+pub fn delete_var<P: ProofProcessor, T: ProofTranscriptProcessor>(
+    alloc: Global,
+    ctx: &mut ContextOf<P, T>,
+    var: Var,
+) -> Result<(), CheckerError>
+    requires { IsKept ctx.old }
+    ensures step { AnswersParts result (step (context_state ctx.old) (rules.delete_var (index_of var))) (context_state ctx.new) }
+    ensures kept { UnlessFailed result (IsKept ctx.new) }
+    ensures handed { Handed result (Emits (context_state ctx.old) (rules.delete_var (index_of var))) P.took P.faulted T.took T.faulted (boxes_of ctx.old.processing) (boxes_of ctx.new.processing) }
+{
+    ensure_var(&mut ctx.clauses, &mut ctx.variables, var)?;
+    if ctx.variables.get(var).user_var.is_some() {
+        return Err(refusal(alloc, &ctx.checker_state, CheckCause::DeletedVarNamed));
+    }
+    if is_held(&ctx.clauses.lit_counts, var) {
+        return Err(refusal(alloc, &ctx.checker_state, CheckCause::DeletedVarHasClauses));
+    }
+    close_conflict_on(
+        alloc,
+        &ctx.checker_state,
+        &mut ctx.clauses,
+        &ctx.variables,
+        &mut ctx.processing,
+        var,
+    )?;
+    emit_unit(&mut ctx.processing, &ctx.clauses, &ctx.variables, var)?;
+    free_var(
+        &mut ctx.checker_state,
+        &mut ctx.clauses,
+        &mut ctx.variables,
+        var,
+    );
+    Ok(())
+}
+
+/// Whether a stored clause of two or more literals holds the variable.
+fn is_held(counts: &LitCounts, var: Var) -> bool
+    ensures { (n : ℕ) (es : List Stored) → AreCounts counts.now n es → result ≡ list_any (λ e. holds_var (index_of var) e.lits) es }
+{
+    counts.get(var.lit(true)).clause_count > 0 || counts.get(var.lit(false)).clause_count > 0
+}
+
+/// Closes a conflict on the variable's unit: an id is taken for it, and it is forgotten.
+fn close_conflict_on<P: ProofProcessor, T: ProofTranscriptProcessor>(
+    alloc: Global,
+    state: &CheckerState,
+    clauses: &mut Clauses,
+    variables: &Variables,
+    processing: &mut ProcessingOf<P, T>,
+    var: Var,
+) -> Result<(), CheckerError>
+    ensures answer { (h : ClauseHasher) → AnswersParts result (close_on (index_of var) (state_of state.now h clauses.old variables.now)) (state_of state.now h clauses.new variables.now) }
+    ensures store { (h : ClauseHasher) → IsStore h clauses.old → IsStore h clauses.new }
+    ensures units { clauses.new.unit_clauses ≡ clauses.old.unit_clauses }
+    ensures handed { (h : ClauseHasher) → Handed result (λ es. es ≡ emits_close (index_of var) (state_of state.now h clauses.old variables.now)) P.took P.faulted T.took T.faulted (boxes_of processing.old) (boxes_of processing.new) }
+{
+    let Some((unit, negation)) = conflict_on(clauses, var) else {
+        return Ok(());
+    };
+    let Some(id) = clauses.take_id() else {
+        return Err(refusal(alloc, state, CheckCause::IdsExhausted));
+    };
+    clauses.unit_conflict = None;
+    emit_at_clause(processing, variables, id, false, &[], &[unit, negation])
+}
+
+/// The recorded conflict, where it is with the variable's unit.
+fn conflict_on(clauses: &Clauses, var: Var) -> Option<(u64, u64)>
+    ensures { result ≡ conflict_on (unit_of (stored_units clauses.now.unit_clauses) (index_of var)) clauses.now.unit_conflict }
+{
+    let conflict = clauses.unit_conflict?;
+    let unit = clauses.unit_clauses.get(var.index())?;
+    if global_id(&unit) == conflict.0 {
+        Some(conflict)
+    } else {
+        None
+    }
+}
+
+/// Hands on the unit of the variable, where it has one, as a clause that goes.
+fn emit_unit<P: ProofProcessor, T: ProofTranscriptProcessor>(
+    processing: &mut ProcessingOf<P, T>,
+    clauses: &Clauses,
+    variables: &Variables,
+    var: Var,
+) -> Result<(), CheckerError>
+    ensures not_refused { UnlessGivenUp result (IsOk result) }
+    ensures handed { (st : CheckerState) (h : ClauseHasher) → Handed result (λ es. es ≡ emits_dropped (index_of var) (state_of st h clauses.now variables.now)) P.took P.faulted T.took T.faulted (boxes_of processing.old) (boxes_of processing.new) }
+{
+    let Some(unit) = clauses.unit_clauses.get(var.index()) else {
+        return Ok(());
+    };
+    let pivot = var.lit(unit.value);
+    emit_delete_rat_clause(processing, variables, global_id(&unit), &[pivot], pivot)
+}
+
+/// Drops the unit of a known and unnamed variable. It is in mode `Sample` then, and a previous clause with it is forgotten.
+fn free_var(state: &mut CheckerState, clauses: &mut Clauses, variables: &mut Variables, var: Var)
+    requires place { index_of var < length clauses.old.unit_clauses }
+    requires known { index_of var < length variables.old }
+    requires unnamed { (known_at variables.old (index_of var)).name ≡ None }
+    ensures state { (h : ClauseHasher) → state_of state.new h clauses.new variables.new ≡ free_var (index_of var) (state_of state.old h clauses.old variables.old) }
+    ensures store { (h : ClauseHasher) → IsStore h clauses.old → IsStore h clauses.new }
+{
+    clauses.unit_clauses.set(var.index(), None);
+    variables.set_mode(var, SamplingMode::Sample);
+    forget_previous_with(state, var);
+}
+
+/// Forgets a previous clause that holds the variable.
+fn forget_previous_with(state: &mut CheckerState, var: Var)
+    ensures { (h : ClauseHasher) (cs : Clauses) (known : List Known) → state_of state.new h cs known ≡ record (state_of state.old h cs known) { previous = forget_var (index_of var) (state_of state.old h cs known).previous } }
+{
+    if holds_var(&state.previous_lits, var) {
+        state.previous_id = None;
+    }
+}
+
+/// Whether a literal of the variable is in the clause.
+fn holds_var(lits: &[Lit], var: Var) -> bool
+    ensures { result ≡ holds_var (index_of var) lits.now }
+{
+    lits.iter().any(|lit| lit.index() == var.index())
+}

@@ -1,0 +1,175 @@
+//! Models.
+ghost use Rattle.std.specs.Prelude.{◌≡◌, ℕ, All, IfOk, OnOk, [], false};
+ghost use Rattle.std.specs.List.{list_all, list_any};
+ghost use Rattle.checker_rules.specs.Clauses.{add_lit, has};
+ghost use Rattle.checker_rules.specs.Emits.{Emits};
+ghost use Rattle.checker_rules.specs.Model.{model_cause};
+ghost use Rattle.checker_rules.specs.Step as rules;
+ghost use Rattle.checker_rules.specs.Steps.{step};
+ghost use Rattle.checker_parts.specs.Answers.{AnswersParts, UnlessFailed};
+ghost use Rattle.clause_store.specs.Lits.{IsWithin};
+ghost use Rattle.clause_store.specs.StateOf.{state_of};
+ghost use Rattle.clause_store.specs.Store.{Files};
+ghost use Rattle.clause_store.specs.View.{stored_list, stored_of};
+ghost use Rattle.clause_store.specs.declared.hash.ClauseHasher.{ClauseHasher};
+ghost use Rattle.clause_store.specs.declared.state.CheckerState.{CheckerState};
+ghost use Rattle.checker_steps.specs.Context.{IsKept, context_state};
+ghost use Rattle.checker_steps.specs.Handed.{Handed, boxes_of};
+ghost use Rattle.checker_steps.specs.ModelCause.{HasPlaces, IsJudged, is_met, is_marked, list_cause, lit_cause};
+
+use crate::context::ContextOf;
+use crate::emit::emit_model;
+use checker_parts::error::{CheckCause, CheckerError};
+use checker_parts::processor::{ProofProcessor, ProofTranscriptProcessor};
+use checker_parts::variables::Variables;
+use clause_store::clauses::{Clause, Clauses};
+use clause_store::refusal::refusal;
+use clause_store::state::CheckerState;
+use sat_formula::Lit;
+use std::alloc::{AllocError, Global};
+
+/// Checks a model: its literals go together and with the units, and it has every assumption and a literal of each stored clause.
+pub fn model<P: ProofProcessor, T: ProofTranscriptProcessor>(
+    alloc: Global,
+    ctx: &mut ContextOf<P, T>,
+    assignment: &[Lit],
+) -> Result<(), CheckerError>
+    requires { IsKept ctx.old }
+    ensures step { AnswersParts result (step (context_state ctx.old) (rules.model assignment.now)) (context_state ctx.new) }
+    ensures kept { UnlessFailed result (IsKept ctx.new) }
+    ensures handed { Handed result (Emits (context_state ctx.old) (rules.model assignment.now)) P.took P.faulted T.took T.faulted (boxes_of ctx.old.processing) (boxes_of ctx.new.processing) }
+{
+    if ctx.checker_state.unsat {
+        return Err(refusal(alloc, &ctx.checker_state, CheckCause::ModelAfterUnsat));
+    }
+    let Ok(mut marks) = no_marks(alloc, &ctx.variables) else {
+        return Err(CheckerError::OutOfMemory);
+    };
+    let judged = judge(
+        &ctx.checker_state,
+        &ctx.clauses,
+        &ctx.variables,
+        assignment,
+        &mut marks,
+    );
+    match judged {
+        Ok(()) => emit_model(&mut ctx.processing, &ctx.variables, assignment),
+        Err(msg) => Err(refusal(alloc, &ctx.checker_state, msg)),
+    }
+}
+
+/// A mark for each literal of a known variable, by its code. None is set.
+fn no_marks(alloc: Global, variables: &Variables) -> Result<Vec<bool>, AllocError>
+    ensures places { IfOk result (λ marks. HasPlaces marks.items variables.now) }
+    ensures unset { IfOk result (λ marks. (l : ℕ) → is_marked marks.items l ≡ false) }
+{
+    vec![in alloc; false; variables.len().saturating_mul(2)]
+}
+
+/// Why the list is no model, where unsatisfiability is not recorded. Its literals are marked.
+fn judge(
+    state: &CheckerState,
+    clauses: &Clauses,
+    variables: &Variables,
+    assignment: &[Lit],
+    marks: &mut [bool],
+) -> Result<(), CheckCause>
+    requires filed { (h : ClauseHasher) × Files h clauses.now (stored_list clauses.now) }
+    requires places { HasPlaces marks.old variables.now }
+    requires unset { (l : ℕ) → is_marked marks.old l ≡ false }
+    ensures { (h : ClauseHasher) → IsJudged result (list_cause (state_of state.now h clauses.now variables.now) assignment.now) }
+{
+    mark_literals(clauses, variables, assignment, marks)?;
+    if !are_marked(marks, &state.assumptions) {
+        return Err(CheckCause::ModelMissesAssumption);
+    }
+    if !meets_clauses(marks, clauses) {
+        return Err(CheckCause::ModelMissesClause);
+    }
+    Ok(())
+}
+
+/// Marks the literals of a list, up to the first that can't be in a model with those before it.
+fn mark_literals(
+    clauses: &Clauses,
+    variables: &Variables,
+    assignment: &[Lit],
+    marks: &mut [bool],
+) -> Result<(), CheckCause>
+    requires places { HasPlaces marks.old variables.now }
+    requires unset { (l : ℕ) → is_marked marks.old l ≡ false }
+    ensures cause { (st : CheckerState) (h : ClauseHasher) → IsJudged result (model_cause (state_of st h clauses.now variables.now) [] assignment.now) }
+    ensures marked { OnOk result ((l : ℕ) → is_marked marks.new l ≡ has l assignment.now) }
+{
+    for lit in assignment {
+        mark_literal(clauses, variables, *lit, marks)?;
+    }
+    Ok(())
+}
+
+/// Marks a literal, unless it can't be in a model with the marked ones.
+fn mark_literal(
+    clauses: &Clauses,
+    variables: &Variables,
+    lit: Lit,
+    marks: &mut [bool],
+) -> Result<(), CheckCause>
+    requires { HasPlaces marks.old variables.now }
+    ensures cause { (st : CheckerState) (h : ClauseHasher) → IsJudged result (lit_cause (state_of st h clauses.now variables.now) (is_marked marks.old) lit) }
+    ensures marked { OnOk result (is_marked marks.new ≡ add_lit lit (is_marked marks.old)) }
+{
+    if lit.index() >= variables.len() {
+        return Err(CheckCause::UnknownVar);
+    }
+    if clauses.unit_clauses.is_false(lit) {
+        return Err(CheckCause::ModelAgainstUnit);
+    }
+    if is_marked(marks, !lit) {
+        return Err(CheckCause::ModelAgainstItself);
+    }
+    marks[lit.code()] = true;
+    Ok(())
+}
+
+fn is_marked(marks: &[bool], lit: Lit) -> bool
+    ensures { result ≡ is_marked marks.now lit }
+{
+    marks.get(lit.code()).copied().unwrap_or(false)
+}
+
+/// Whether every literal is marked.
+fn are_marked(marks: &[bool], lits: &[Lit]) -> bool
+    ensures { result ≡ list_all (is_marked marks.now) lits.now }
+{
+    lits.iter().all(|lit| is_marked(marks, *lit))
+}
+
+/// Whether some literal is marked.
+fn meets(marks: &[bool], lits: &[Lit]) -> bool
+    ensures { result ≡ list_any (is_marked marks.now) lits.now }
+{
+    lits.iter().any(|lit| is_marked(marks, *lit))
+}
+
+/// Whether some literal of each clause of a bucket is marked.
+fn meets_bucket(marks: &[bool], bucket: &[Clause], buffer: &[Lit]) -> bool
+    requires { All (λ c. IsWithin c.lits buffer.now) bucket.now }
+    ensures { result ≡ list_all (λ c. is_met (is_marked marks.now) (stored_of buffer.now c)) bucket.now }
+{
+    bucket
+        .iter()
+        .all(|clause| meets(marks, clause.lits.slice(buffer)))
+}
+
+/// Whether some literal of each stored clause of two or more is marked.
+fn meets_clauses(marks: &[bool], clauses: &Clauses) -> bool
+    requires { (h : ClauseHasher) × Files h clauses.now (stored_list clauses.now) }
+    ensures { result ≡ list_all (is_met (is_marked marks.now)) (stored_list clauses.now) }
+{
+    for bucket in clauses.buckets.values() {
+        if !meets_bucket(marks, bucket.as_slice(), &clauses.literal_buffer) {
+            return false;
+        }
+    }
+    true
+}

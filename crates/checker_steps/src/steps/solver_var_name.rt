@@ -1,0 +1,30 @@
+//! The solver's names of variables.
+ghost use Rattle.checker_rules.specs.Emits.{Emits};
+ghost use Rattle.checker_rules.specs.Step as rules;
+ghost use Rattle.checker_rules.specs.Steps.{step};
+ghost use Rattle.checker_parts.specs.Answers.{AnswersParts, UnlessFailed};
+ghost use Rattle.sat_formula.specs.Vars.{index_of, indexes_of};
+ghost use Rattle.checker_steps.specs.Context.{IsKept, context_state};
+ghost use Rattle.checker_steps.specs.Handed.{Handed, boxes_of};
+
+use crate::context::ContextOf;
+use checker_parts::error::CheckerError;
+use checker_parts::processor::{ProofProcessor, ProofTranscriptProcessor};
+use sat_formula::Var;
+
+/// Notes a name of a variable, or that its name goes. Hashes show it from the next renaming on.
+pub fn solver_var_name<P: ProofProcessor, T: ProofTranscriptProcessor>(
+    ctx: &mut ContextOf<P, T>,
+    global: Var,
+    solver: Option<Var>,
+) -> Result<(), CheckerError>
+    requires { IsKept ctx.old }
+    ensures step { AnswersParts result (step (context_state ctx.old) (rules.solver_var_name (index_of global) (indexes_of solver))) (context_state ctx.new) }
+    ensures kept { UnlessFailed result (IsKept ctx.new) }
+    ensures handed { Handed result (Emits (context_state ctx.old) (rules.solver_var_name (index_of global) (indexes_of solver))) P.took P.faulted T.took T.faulted (boxes_of ctx.old.processing) (boxes_of ctx.new.processing) }
+{
+    match ctx.clause_hasher.pending.push((global, solver)) {
+        Ok(()) => Ok(()),
+        Err(_) => Err(CheckerError::OutOfMemory),
+    }
+}

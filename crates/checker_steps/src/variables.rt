@@ -1,0 +1,159 @@
+//! The known variables: making them known to every part, and their user names.
+ghost use Rattle.std.specs.Prelude.{◌≡◌, length, suc, Err, None, Some, OnErr, OnOk};
+ghost use Rattle.checker_rules.specs.Emits.{Emits};
+ghost use Rattle.checker_rules.specs.KnownVars.{is_sample, some_not_sampling};
+ghost use Rattle.checker_rules.specs.Step as rules;
+ghost use Rattle.checker_rules.specs.Steps.{step};
+ghost use Rattle.checker_parts.specs.Answers.{AnswersParts, UnlessFailed};
+ghost use Rattle.checker_parts.specs.CheckedSteps.{samples};
+ghost use Rattle.checker_parts.specs.Variables.{mode_of};
+ghost use Rattle.checker_parts.specs.declared.error.CheckerError.TheVariants.{OutOfMemory};
+ghost use Rattle.sat_formula.specs.Vars.{index_of};
+ghost use Rattle.clause_store.specs.StateOf.{state_of};
+ghost use Rattle.clause_store.specs.declared.clauses.Clauses.{Clauses};
+ghost use Rattle.clause_store.specs.declared.hash.ClauseHasher.{ClauseHasher};
+ghost use Rattle.clause_store.specs.declared.state.CheckerState.{CheckerState};
+ghost use Rattle.clause_store.specs.Growth.{KnowsVars};
+ghost use Rattle.clause_store.specs.Store.{IsStore};
+ghost use Rattle.checker_steps.specs.Handed.{Handed, boxes_of};
+ghost use Rattle.checker_steps.specs.Naming.{IsNamingCause, sampling_var};
+
+use crate::emit::emit_user_var;
+use crate::processing::ProcessingOf;
+use checker_parts::error::{CheckCause, CheckerError};
+use checker_parts::processor::{ProofProcessor, ProofTranscriptProcessor};
+use checker_parts::step::{CheckedSamplingMode, CheckedUserVar};
+pub use checker_parts::variables::{LitData, SamplingMode, VarData, Variables};
+use clause_store::clauses::Clauses;
+use clause_store::refusal::refusal;
+use clause_store::state::CheckerState;
+pub use clause_store::variables::ensure_vars;
+use sat_formula::{Lit, Var};
+use std::alloc::Global;
+
+/// Whether some known variable of the literals is not in mode `Sample`.
+pub(crate) fn some_not_sampling(variables: &Variables, lits: &[Lit]) -> bool
+    ensures { (st : CheckerState) (h : ClauseHasher) (cs : Clauses) → result ≡ some_not_sampling (state_of st h cs variables.now) lits.now }
+{
+    for lit in lits {
+        if variables.get(lit.var()).sampling_mode != SamplingMode::Sample {
+            return true;
+        }
+    }
+    false
+}
+
+/// Makes a variable known, and those before it, new ones unnamed and in mode `Sample`.
+pub fn ensure_var(
+    clauses: &mut Clauses,
+    variables: &mut Variables,
+    var: Var,
+) -> Result<(), CheckerError>
+    requires { length clauses.old.unit_clauses ≡ length variables.old }
+    ensures known { OnOk result (KnowsVars (suc (index_of var)) clauses.old variables.old clauses.new variables.new) }
+    ensures memory { OnErr result (result ≡ Err OutOfMemory) }
+{
+    match ensure_vars(clauses, variables, var.index() + 1) {
+        Ok(()) => Ok(()),
+        Err(_) => Err(CheckerError::OutOfMemory),
+    }
+}
+
+/// Makes a variable known as `ensure_var` does, unless it is known and in another mode than `Sample`.
+pub fn ensure_sampling_var(
+    alloc: Global,
+    state: &CheckerState,
+    clauses: &mut Clauses,
+    variables: &mut Variables,
+    var: Var,
+) -> Result<(), CheckerError>
+    requires { length clauses.old.unit_clauses ≡ length variables.old }
+    ensures answer { (h : ClauseHasher) → AnswersParts result (sampling_var (index_of var) (state_of state.now h clauses.old variables.old)) (state_of state.now h clauses.new variables.new) }
+    ensures store { (h : ClauseHasher) → IsStore h clauses.old → UnlessFailed result (IsStore h clauses.new) }
+    ensures known { UnlessFailed result (length clauses.new.unit_clauses ≡ length variables.new) }
+{
+    if variables.get(var).sampling_mode != SamplingMode::Sample {
+        return Err(refusal(alloc, state, CheckCause::NotSampling));
+    }
+    ensure_var(clauses, variables, var)
+}
+
+/// Gives a variable a user name, and hands that on with the names after it.
+pub fn add_user_mapping<P: ProofProcessor, T: ProofTranscriptProcessor>(
+    alloc: Global,
+    state: &CheckerState,
+    clauses: &mut Clauses,
+    variables: &mut Variables,
+    processing: &mut ProcessingOf<P, T>,
+    global: Var,
+    user_var: Var,
+) -> Result<(), CheckerError>
+    requires { length clauses.old.unit_clauses ≡ length variables.old }
+    ensures step { (h : ClauseHasher) → AnswersParts result (step (state_of state.now h clauses.old variables.old) (rules.user_var_name (index_of global) (Some (index_of user_var)))) (state_of state.now h clauses.new variables.new) }
+    ensures store { (h : ClauseHasher) → IsStore h clauses.old → UnlessFailed result (IsStore h clauses.new) }
+    ensures known { UnlessFailed result (length clauses.new.unit_clauses ≡ length variables.new) }
+    ensures handed { (h : ClauseHasher) → Handed result (Emits (state_of state.now h clauses.old variables.old) (rules.user_var_name (index_of global) (Some (index_of user_var)))) P.took P.faulted T.took T.faulted (boxes_of processing.old) (boxes_of processing.new) }
+{
+    ensure_var(clauses, variables, global)?;
+    if let Some(msg) = naming_cause(variables, global, user_var) {
+        return Err(refusal(alloc, state, msg));
+    }
+    let named = CheckedUserVar {
+        user_var,
+        sampling_mode: shown_mode(variables.get(global).sampling_mode),
+        new_var: true,
+    };
+    variables.set_name(global, user_var);
+    emit_user_var(processing, variables, global, Some(named))
+}
+
+/// Takes the user name from a variable and hides it. That is handed on with the names before it.
+pub fn remove_user_mapping<P: ProofProcessor, T: ProofTranscriptProcessor>(
+    alloc: Global,
+    state: &CheckerState,
+    clauses: &mut Clauses,
+    variables: &mut Variables,
+    processing: &mut ProcessingOf<P, T>,
+    global: Var,
+) -> Result<(), CheckerError>
+    requires { length clauses.old.unit_clauses ≡ length variables.old }
+    ensures step { (h : ClauseHasher) → AnswersParts result (step (state_of state.now h clauses.old variables.old) (rules.user_var_name (index_of global) None)) (state_of state.now h clauses.new variables.new) }
+    ensures store { (h : ClauseHasher) → IsStore h clauses.old → UnlessFailed result (IsStore h clauses.new) }
+    ensures known { UnlessFailed result (length clauses.new.unit_clauses ≡ length variables.new) }
+    ensures handed { (h : ClauseHasher) → Handed result (Emits (state_of state.now h clauses.old variables.old) (rules.user_var_name (index_of global) None)) P.took P.faulted T.took T.faulted (boxes_of processing.old) (boxes_of processing.new) }
+{
+    ensure_var(clauses, variables, global)?;
+    if variables.get(global).user_var.is_none() {
+        return Err(refusal(alloc, state, CheckCause::NoNameToRemove));
+    }
+    emit_user_var(processing, variables, global, None)?;
+    variables.hide(global);
+    Ok(())
+}
+
+/// Why a known variable can't be given a user name.
+fn naming_cause(variables: &Variables, global: Var, user_var: Var) -> Option<CheckCause>
+    ensures { IsNamingCause result variables.now (index_of global) (index_of user_var) }
+{
+    let data = variables.get(global);
+    if user_var.index() >= variables.len() || variables.is_taken(user_var) {
+        return Some(CheckCause::UserNameTaken);
+    }
+    if data.sampling_mode == SamplingMode::Hide {
+        return Some(CheckCause::StillHidden);
+    }
+    if data.user_var.is_some() {
+        return Some(CheckCause::NameInUse);
+    }
+    None
+}
+
+/// The mode of a variable as it is shown beside the variable's user name. A hidden variable has none.
+pub(crate) fn shown_mode(mode: SamplingMode) -> CheckedSamplingMode
+    ensures { samples result ≡ is_sample (mode_of mode) }
+{
+    match mode {
+        SamplingMode::Sample => CheckedSamplingMode::Sample,
+        SamplingMode::Witness | SamplingMode::Hide => CheckedSamplingMode::Witness,
+    }
+}

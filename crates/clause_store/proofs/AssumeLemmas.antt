@@ -1,0 +1,103 @@
+-- Taking the literals of a clause as false.
+use Rattle.std.proofs.Common.{◌≡◌, ℕ, zero, suc, ◌+◌, ◌<◌, ◌≤◌, Bool, true, false, not, ◌&&◌, ◌||◌, eqb, List, [], ◌∷◌, ◌++◌, length, take, set, get_or, Option, None, Some, ⊎_elim, refl, sym, ap, ◌∙◌, subst, arith, inl, inr}
+use Rattle.std.specs.List.{list_any}
+use Rattle.std.proofs.lemmas.Bool.{both_ways, cases_eq, eq-eqb, eqb-true, false_from_ne_true, false≢true, ne_eqb, or_cases, or_from, or_left, or_right}
+use Rattle.std.proofs.lemmas.List.{take_all, take_more}
+use Rattle.std.proofs.lemmas.List.Folds.{list_any-append, list_any_at}
+use Rattle.checker_rules.specs.Canonical.{var_bound}
+use Rattle.checker_rules.specs.Clauses.{has, is_negative, is_tautology, negate, var_of}
+use Rattle.checker_rules.specs.DeleteVar.{holds_var}
+use Rattle.checker_rules.specs.Hints.{negated_set, unlisted_at}
+use Rattle.checker_rules.specs.State.{StoredUnit, lit_by_unit, some_true_unit, start_set}
+use Rattle.checker_rules.proofs.Chains.{negate-negate}
+use Rattle.checker_rules.proofs.Models.{negative_negate}
+use Rattle.checker_rules.proofs.Traces.{var-negate}
+use Rattle.checker_rules.proofs.Walks.{any_at, any_from}
+use Rattle.clause_store.specs.declared.clauses.units.UnitClause.{UnitClause}
+use Rattle.clause_store.specs.Rup.{true_lits}
+use Rattle.clause_store.specs.StateOf.{stored_units}
+use Rattle.clause_store.specs.Units.{number_of}
+use Rattle.clause_store.specs.Trace.{AreStored, unlisted_lits}
+use Rattle.clause_store.proofs.TraceLemmas.{unlisted_lits-at_rest, unlisted_lits-set}
+use Rattle.clause_store.proofs.UnitsLemmas.{true_lits-set}
+
+-- a literal of the list has a known variable
+pub known-at : (c : List ℕ) (i m n : ℕ) → var_bound c ≤ n → i < length c → m ≡ get_or c i m → var_of m < n
+known-at [] i m n h less is = absurd (omega (arith, less))
+known-at (l ∷ ls) zero m n h less is = rw is (omega arith)
+known-at (l ∷ ls) (suc i) m n h less is = known-at ls i m n (omega arith) (omega arith) is
+
+-- no element passes where none does
+pub none-at : (p : ℕ → Bool) (c : List ℕ) (i m : ℕ) → i < length c → m ≡ get_or c i m → list_any p c ≡ false → p m ≡ false
+none-at p c i m less is h = false_from_ne_true (p m) (λ e. both_ways (list_any p c) h (list_any_at p c i m less (ap p (sym is) ∙ e)))
+
+has-take : (c : List ℕ) (i l : ℕ) → has l (take i c) ≡ true → has l c ≡ true
+has-take [] i l h = subst (λ xs. has l xs ≡ true) (take_all i [] (omega arith)) h
+has-take (m ∷ ms) zero l h = absurd (false≢true h)
+has-take (m ∷ ms) (suc i) l h = elim (or_cases (eqb l m) (has l (take i ms)) h) [
+  | inl here ↦ or_left (eqb l m) (has l ms) here
+  | inr later ↦ or_right (eqb l m) (has l ms) (has-take ms i l later)
+]
+
+-- a literal that is to be taken as false is not true by the earlier ones
+pub start_set-free : (us : List (Option StoredUnit)) (c : List ℕ) (i m : ℕ) → i < length c → m ≡ get_or c i m → some_true_unit us c ≡ false → is_tautology c ≡ false → start_set us (take i c) m ≡ false
+start_set-free us c i m less is free apart =
+    or_from (lit_by_unit us m) (negated_set (take i c) m) (none-at (lit_by_unit us) c i m less is free) (false_from_ne_true (negated_set (take i c) m) (λ e.
+    let k = any_at (λ l. eqb m (negate l)) (take i c) e in
+    let here : has m c ≡ true = list_any_at (eqb m) c i m less (ap (eqb m) (sym is) ∙ eq-eqb m m refl) in
+    both_ways (is_tautology c) apart (any_from (λ l. has (negate l) c) c k.0 (has-take c i k.0 k.1) (ap (λ x. has x c) (sym (eqb-true m (negate k.0) k.2)) ∙ here))))
+
+-- one literal more is taken as false
+pub assume-step : (us vs : List (Option UnitClause)) (ss : List (Option StoredUnit)) (c : List ℕ) (i m : ℕ) (u : UnitClause) → i < length c → m ≡ get_or c i m → var_of m < length us → u.value ≡ is_negative m
+    → vs ≡ set us (var_of m) (Some u) → some_true_unit ss c ≡ false → is_tautology c ≡ false → ((k : ℕ) → true_lits us k ≡ start_set ss (take i c) k) → (k : ℕ) → true_lits vs k ≡ start_set ss (take (i + 1) c) k
+assume-step us vs ss c i m u less is known v e free apart same k =
+    let p : ℕ → Bool = λ l. eqb k (negate l) in
+    let added = true_lits-set us (negate m) u (rw var-negate known) (v ∙ sym (ap not (negative_negate m) ∙ not_not (is_negative m))) (ap (true_lits us) (negate-negate m) ∙ same m ∙ start_set-free ss c i m less is free apart) in
+    let cut : take (i + 1) c ≡ take i c ++ m ∷ [] = take_more c i m less ∙ ap (λ x. take i c ++ x ∷ []) (sym is) in
+    ap (λ ws. true_lits ws k) e ∙ ap (λ v. true_lits (set us v (Some u)) k) (sym (var-negate m)) ∙ ap (λ (s : ℕ → Bool). s k) added
+    ∙ ap (λ b. p m || b) (same k) ∙ move (p m) (lit_by_unit ss k) (list_any p (take i c))
+    ∙ sym (ap (λ ls. lit_by_unit ss k || list_any p ls) cut ∙ ap (λ b. lit_by_unit ss k || b) (list_any-append p (take i c) (m ∷ [])))
+  where
+    not_not : (b : Bool) → not (not b) ≡ b
+    not_not true = refl
+    not_not false = refl
+
+    move : (x a b : Bool) → (x || (a || b)) ≡ (a || (b || (x || false)))
+    move true true b = refl
+    move true false true = refl
+    move true false false = refl
+    move false true b = refl
+    move false false true = refl
+    move false false false = refl
+
+pub assume-all : (ss : List (Option StoredUnit)) (vs : List (Option UnitClause)) (c : List ℕ) (i : ℕ) → length c ≤ i → ((k : ℕ) → true_lits vs k ≡ start_set ss (take i c) k) → true_lits vs ≡ start_set ss c
+assume-all ss vs c i over h = λ j k. point k j
+  where
+    point : (k : ℕ) → true_lits vs k ≡ start_set ss c k
+    point k = h k ∙ ap (λ ls. start_set ss ls k) (take_all i c over)
+
+-- the stored units of variables that are not in the clause stay unlisted
+pub unlisted-step : (us vs ws : List (Option UnitClause)) (c : List ℕ) (i m : ℕ) (u : UnitClause) → i < length c → m ≡ get_or c i m → var_of m < length us → number_of u.id ≡ None → vs ≡ set us (var_of m) (Some u)
+    → ((k : ℕ) → unlisted_lits us k ≡ (unlisted_lits ws k && not (holds_var (var_of k) (take i c)))) → (k : ℕ) → unlisted_lits vs k ≡ (unlisted_lits ws k && not (holds_var (var_of k) (take (i + 1) c)))
+unlisted-step us vs ws c i m u less is known new e same k =
+    let p : ℕ → Bool = λ l. eqb (var_of l) (var_of k) in
+    let cut : take (i + 1) c ≡ take i c ++ m ∷ [] = take_more c i m less ∙ ap (λ x. take i c ++ x ∷ []) (sym is) in
+    ap (λ ws. unlisted_lits ws k) e ∙ unlisted_lits-set us (var_of m) k u known new ∙ ap (λ b. b && not (eqb (var_of k) (var_of m))) (same k)
+    ∙ ap (λ b. (unlisted_lits ws k && not (list_any p (take i c))) && not b) (eqb_comm (var_of k) (var_of m))
+    ∙ move (unlisted_lits ws k) (list_any p (take i c)) (p m)
+    ∙ sym (ap (λ ls. unlisted_lits ws k && not (list_any p ls)) cut ∙ ap (λ b. unlisted_lits ws k && not b) (list_any-append p (take i c) (m ∷ [])))
+  where
+    eqb_comm : (a b : ℕ) → eqb a b ≡ eqb b a
+    eqb_comm a b = ⊎_elim {C = eqb a b ≡ eqb b a} (λ (h : a ≡ b). eq-eqb a b h ∙ sym (eq-eqb b a (sym h))) (λ (h : a ≡ b → ⊥). ne_eqb a b h ∙ sym (ne_eqb b a (λ g. h (sym g)))) (cases_eq a b)
+
+    move : (g a b : Bool) → ((g && not a) && not b) ≡ (g && not (a || (b || false)))
+    move true true b = refl
+    move true false true = refl
+    move true false false = refl
+    move false a b = refl
+
+pub unlisted-all : (us vs : List (Option UnitClause)) (c : List ℕ) (i : ℕ) → AreStored us → length c ≤ i → ((k : ℕ) → unlisted_lits vs k ≡ (unlisted_lits us k && not (holds_var (var_of k) (take i c)))) → unlisted_lits vs ≡ unlisted_at (stored_units us) c
+unlisted-all us vs c i stored over h = λ j k. point k j
+  where
+    point : (k : ℕ) → unlisted_lits vs k ≡ unlisted_at (stored_units us) c k
+    point k = h k ∙ ap (λ ls. unlisted_lits us k && not (holds_var (var_of k) ls)) (take_all i c over) ∙ ap (λ b. b && not (holds_var (var_of k) c)) (unlisted_lits-at_rest us k stored)

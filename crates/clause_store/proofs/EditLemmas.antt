@@ -1,0 +1,129 @@
+-- The store after an edit of one bucket.
+use Rattle.std.proofs.Common.{◌≡◌, ℕ, ◌+◌, ◌*◌, ◌≤◌, Bool, true, false, cond, not, ◌&&◌, eqb, List, [], ◌∷◌, ◌++◌, append-nil, length, map, All, refl, sym, ap, ◌∙◌, subst, arith, ⊎_elim, eq-eqb}
+use Rattle.std.specs.List.{list_all}
+use Rattle.std.proofs.lemmas.Bool.{and_from, and_parts, cases_eq, not-true}
+use Rattle.std.proofs.lemmas.List.Folds.{list_all-append}
+use Rattle.std.proofs.lemmas.Bool.Decides.{nat_tests}
+use Rattle.checker_rules.specs.Buckets.{of_hash}
+use Rattle.checker_rules.specs.Canonical.{same_list}
+use Rattle.checker_rules.specs.DeleteClause.{is_short}
+use Rattle.checker_rules.specs.State.{Stored}
+use Rattle.checker_rules.specs.Store.{is_gone, is_stored, new_stored, raise}
+use Rattle.checker_rules.specs.WellFormed.{ids_rise}
+use Rattle.checker_rules.proofs.Buckets.{buckets_serve}
+use Rattle.checker_rules.proofs.Entries.{apart_map, apart_push, raise_id, rise_map, rise_push}
+use Rattle.checker_rules.proofs.Orders.{live_literals_add}
+use Rattle.checker_rules.proofs.Sets.{raise-lits}
+use Rattle.clause_store.specs.declared.clauses.Clauses.{Clauses}
+use Rattle.clause_store.specs.declared.hash.ClauseHasher.{ClauseHasher}
+use Rattle.clause_store.specs.Buckets.{AreWithin, Buckets, clauses_at}
+use Rattle.clause_store.specs.Counts.{AreCounts}
+use Rattle.clause_store.specs.Edits.{IsPushed, IsRaised}
+use Rattle.clause_store.specs.Lits.{IsWithin}
+use Rattle.clause_store.specs.StateOf.{hash_of}
+use Rattle.clause_store.specs.Store.{Files, IsStore, is_stored_unit, is_whole}
+use Rattle.clause_store.specs.View.{stored_at, stored_in, stored_list, stored_of}
+use Rattle.clause_store.proofs.HeldEdits.{counts-pushed}
+use Rattle.clause_store.proofs.ViewLemmas.{above_from, list_is}
+
+-- buckets that hold a list by rising ids
+pub stored_list-is : (h : ClauseHasher) (cs : Clauses) (es : List Stored) → Files h cs es → stored_list cs ≡ es
+stored_list-is h cs es f = list_is cs.literal_buffer.items cs.buckets (hash_of h) es (above_from 0 cs.next_clause_id es f.rise) f.bucketed
+
+pub is_store-by : (h : ClauseHasher) (cs : Clauses) (es : List Stored) → Files h cs es → 2 * cs.garbage_size ≤ length cs.literal_buffer.items → list_all is_stored_unit cs.unit_clauses ≡ true
+    → AreCounts cs.lit_counts (length cs.unit_clauses) es → IsStore h cs
+is_store-by h cs es f garbage units counts =
+    let same = sym (stored_list-is h cs es f) in record { filed = subst (Files h cs) same f; garbage = garbage; units = units; counts = subst (AreCounts cs.lit_counts (length cs.unit_clauses)) same counts }
+
+-- a change in one bucket
+pub here_or_there : (k n : ℕ) (xs ys : List Stored) → (k ≡ n → xs ≡ ys) → ((k ≡ n → ⊥) → xs ≡ ys) → xs ≡ ys
+here_or_there k n xs ys here there = ⊎_elim {C = xs ≡ ys} here there (cases_eq k n)
+
+pub not_equal : (a b : ℕ) → (b ≡ a → ⊥) → eqb a b ≡ false
+not_equal a b e = grind (arith, nat_tests)
+
+pub within_others : (buffer : List ℕ) (m n : Buckets) (hash : ℕ) → AreWithin buffer m → All (λ d. IsWithin d.lits buffer) (clauses_at n hash) → ((k : ℕ) → (k ≡ hash → ⊥) → clauses_at n k ≡ clauses_at m k) → AreWithin buffer n
+within_others buffer m n hash all here others k =
+    ⊎_elim {C = All (λ d. IsWithin d.lits buffer) (clauses_at n k)}
+    (λ e. subst (λ x. All (λ d. IsWithin d.lits buffer) (clauses_at n x)) (sym e) here)
+    (λ ne. subst (All (λ d. IsWithin d.lits buffer)) (sym (others k ne)) (all k)) (cases_eq k hash)
+
+-- a copy more is counted
+one_more : (n : ℕ) → eqb (n + 1) 0 ≡ false
+one_more n = grind (arith, nat_tests)
+
+gone_raised : (r b : Bool) (e : Stored) → is_gone e ≡ false → is_gone (cond b (cond r (record e { redundant = e.redundant + 1 }) (record e { irredundant = e.irredundant + 1 })) e) ≡ false
+gone_raised r false e h = h
+gone_raised true true e h = ap (λ b. eqb e.irredundant 0 && b) (one_more e.redundant) ∙ none (eqb e.irredundant 0)
+  where
+    none : (b : Bool) → (b && false) ≡ false
+    none true = refl
+    none false = refl
+gone_raised false true e h = ap (λ b. b && eqb e.redundant 0) (one_more e.irredundant)
+
+whole-raise : (r : Bool) (c : List ℕ) (es : List Stored) → list_all is_whole es ≡ true → list_all is_whole (map (raise r c) es) ≡ true
+whole-raise r c [] h = refl
+whole-raise r c (e ∷ es) h =
+    let p = and_parts (is_whole e) (list_all is_whole es) h in let q = and_parts (not (is_short e.lits)) (not (is_gone e)) p.0 in
+    and_from _ _ (and_from _ _ (ap (λ ls. not (is_short ls)) (raise-lits r c e) ∙ q.0) (ap not (gone_raised r (same_list e.lits c) e (not-true (is_gone e) q.1)))) (whole-raise r c es p.1)
+
+pub files-raised : (h : ClauseHasher) (cs : Clauses) (es : List Stored) (m : Buckets) (r : Bool) (c : List ℕ) → Files h cs es → IsRaised cs.literal_buffer.items (hash_of h c) r c cs.buckets m → Files h (record cs { buckets = m }) (map (raise r c) es)
+files-raised h cs es m r c f p = record {
+  some_bits = f.some_bits;
+  bits = f.bits;
+  within = within_others cs.literal_buffer.items cs.buckets m (hash_of h c) f.within p.within p.others;
+  bucketed = λ k.
+      let serve = (buckets_serve (hash_of h) es).raised k r c in
+      here_or_there k (hash_of h c) _ _
+      (λ e. ap (stored_in cs.literal_buffer.items m) e ∙ p.here ∙ ap (map (raise r c)) (f.bucketed (hash_of h c)) ∙ ap (λ n. map (raise r c) (of_hash (hash_of h) n es)) (sym e)
+      ∙ ap (λ b. cond b (map (raise r c) (of_hash (hash_of h) k es)) (of_hash (hash_of h) k es)) (sym (eq-eqb (hash_of h c) k (sym e))) ∙ sym serve)
+      (λ ne. ap (map (stored_of cs.literal_buffer.items)) (p.others k ne) ∙ f.bucketed k
+      ∙ ap (λ b. cond b (map (raise r c) (of_hash (hash_of h) k es)) (of_hash (hash_of h) k es)) (sym (not_equal (hash_of h c) k ne)) ∙ sym serve);
+  rise = rise_map (raise r c) (raise_id r c) 0 es cs.next_clause_id ∙ f.rise;
+  apart = apart_map (raise r c) (raise-lits r c) es ∙ f.apart;
+  whole = whole-raise r c es f.whole;
+  used = f.used ∙ ap (λ n. n + cs.garbage_size) (sym (live_literals_add.raised r c es));
+}
+
+-- a clause more is stored
+whole-push : (es : List Stored) (r : Bool) (c : List ℕ) (id : ℕ) → list_all is_whole es ≡ true → is_short c ≡ false → list_all is_whole (es ++ new_stored r c id ∷ []) ≡ true
+whole-push es r c id all long =
+    list_all-append is_whole es (new_stored r c id ∷ []) ∙ ap (λ b. b && (is_whole (new_stored r c id) && true)) all
+    ∙ (elim r as (λ r. ((not (is_short c) && not (eqb (cond r 0 1) 0 && eqb (cond r 1 0) 0)) && true) ≡ true) [ true ↦ ap (λ b. (not b && true) && true) long | false ↦ ap (λ b. (not b && true) && true) long ])
+
+pub files-pushed : (h : ClauseHasher) (cs cs' : Clauses) (es : List Stored) (r : Bool) (c : List ℕ) → Files h cs es → IsPushed (hash_of h c) (new_stored r c cs.next_clause_id) cs cs' → is_stored c es ≡ false → is_short c ≡ false → Files h cs' (es ++ new_stored r c cs.next_clause_id ∷ [])
+files-pushed h cs cs' es r c f p new long = let e = new_stored r c cs.next_clause_id in record {
+  some_bits = f.some_bits;
+  bits = f.bits;
+  within = p.within;
+  bucketed = λ k.
+      let serve = (buckets_serve (hash_of h) es).push k e in
+      here_or_there k (hash_of h c) _ _
+      (λ q. ap (stored_at cs') q ∙ p.here ∙ ap (λ xs. xs ++ e ∷ []) (f.bucketed (hash_of h c)) ∙ ap (λ n. of_hash (hash_of h) n es ++ e ∷ []) (sym q)
+      ∙ ap (λ b. of_hash (hash_of h) k es ++ cond b (e ∷ []) []) (sym (eq-eqb (hash_of h c) k (sym q))) ∙ sym serve)
+      (λ ne. p.others k ne ∙ f.bucketed k ∙ sym (append-nil (of_hash (hash_of h) k es))
+      ∙ ap (λ b. of_hash (hash_of h) k es ++ cond b (e ∷ []) []) (sym (not_equal (hash_of h c) k ne)) ∙ sym serve);
+  rise = subst (λ n. ids_rise 0 (es ++ e ∷ []) n ≡ true) (sym p.next) (rise_push 0 es r c cs.next_clause_id f.rise);
+  apart = apart_push es e f.apart new;
+  whole = whole-push es r c cs.next_clause_id f.whole long;
+  used = let live = live_literals_add.pushed es e in let old = f.used in omega (arith, p.used, p.garbage, live, old);
+}
+
+pub is_store-pushed : (h : ClauseHasher) (cs cs' : Clauses) (r : Bool) (c : List ℕ) → IsStore h cs → IsPushed (hash_of h c) (new_stored r c cs.next_clause_id) cs cs' → is_stored c (stored_list cs) ≡ false → is_short c ≡ false → IsStore h cs'
+is_store-pushed h cs cs' r c s p new long =
+    is_store-by h cs' (stored_list cs ++ new_stored r c cs.next_clause_id ∷ []) (files-pushed h cs cs' (stored_list cs) r c s.filed p new long) (omega (arith, p.used, p.garbage, s.garbage))
+    (subst (λ us. list_all is_stored_unit us ≡ true) (sym p.units) s.units)
+    (subst (λ us. AreCounts cs'.lit_counts (length us) (stored_list cs ++ new_stored r c cs.next_clause_id ∷ [])) (sym p.units) (counts-pushed cs.lit_counts cs'.lit_counts (length cs.unit_clauses) (stored_list cs) (new_stored r c cs.next_clause_id) s.counts p.held p.counted))
+
+-- nothing is changed
+pub files-same : (h : ClauseHasher) (cs : Clauses) (es : List Stored) (m : Buckets) → Files h cs es → ((k : ℕ) → clauses_at m k ≡ clauses_at cs.buckets k) → Files h (record cs { buckets = m }) es
+files-same h cs es m f same = record {
+  some_bits = f.some_bits;
+  bits = f.bits;
+  within = λ k. subst (All (λ d. IsWithin d.lits cs.literal_buffer.items)) (sym (same k)) (f.within k);
+  bucketed = λ k. ap (map (stored_of cs.literal_buffer.items)) (same k) ∙ f.bucketed k;
+  rise = f.rise;
+  apart = f.apart;
+  whole = f.whole;
+  used = f.used;
+}

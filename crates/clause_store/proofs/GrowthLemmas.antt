@@ -1,0 +1,74 @@
+-- Variables made known.
+use Rattle.std.proofs.Common.{◌≤◌, ◌≡◌, ℕ, zero, suc, ◌+◌, ◌-◌, ◌*◌, true, List, [], ◌∷◌, ◌++◌, length, map, replicate, Option, None, refl, sym, ap, ◌∙◌, subst, arith, length-append}
+use Rattle.std.specs.List.{list_all}
+use Rattle.std.specs.Option.{option_map}
+use Rattle.std.proofs.lemmas.Grind.{common_steps}
+use Rattle.std.proofs.lemmas.Bool.{and_from, and_parts}
+use Rattle.std.proofs.lemmas.List.{length-map, length-replicate, map-append}
+use Rattle.checker_rules.specs.KnownVars.{new_known}
+use Rattle.checker_rules.specs.State.{Known}
+use Rattle.clause_store.specs.declared.clauses.Clauses.{Clauses}
+use Rattle.clause_store.specs.declared.clauses.units.UnitClause.{UnitClause}
+use Rattle.clause_store.specs.declared.hash.ClauseHasher.{ClauseHasher}
+use Rattle.clause_store.specs.Counts.{AreCounts}
+use Rattle.clause_store.specs.Growth.{KnowsVars}
+use Rattle.clause_store.specs.Store.{Files, IsStore, is_stored_unit}
+use Rattle.clause_store.specs.View.{stored_list}
+use Rattle.clause_store.specs.StateOf.{state_of, stored_unit, stored_units}
+use Rattle.clause_store.proofs.HeldEdits.{counts-known}
+
+map-free : (n : ℕ) → map (option_map stored_unit) (replicate n None) ≡ replicate n None
+map-free zero = refl
+map-free (suc n) = ap (λ xs. None ∷ xs) (map-free n)
+
+free-units : (us : List (Option UnitClause)) (n : ℕ) → stored_units (us ++ replicate n None) ≡ stored_units us ++ replicate n None
+free-units us n = map-append (option_map stored_unit) us (replicate n None) ∙ ap (λ xs. stored_units us ++ xs) (map-free n)
+
+grown-units : (us : List (Option UnitClause)) (count : ℕ) → stored_units (us ++ replicate (count - length us) None) ≡ stored_units us ++ replicate (count - length (stored_units us)) None
+grown-units us count = free-units us (count - length us) ∙ ap (λ n. stored_units us ++ replicate (count - n) None) (sym (length-map us (option_map stored_unit)))
+
+pub knows_vars : (count : ℕ) (cs : Clauses) (known : List Known) (us : List (Option UnitClause)) (counts : List ℕ) (known' : List Known) → length cs.unit_clauses ≡ length known
+    → us ≡ cs.unit_clauses ++ replicate (count - length cs.unit_clauses) None → counts ≡ cs.lit_counts ++ replicate (2 * count - length cs.lit_counts) 0 → known' ≡ known ++ replicate (count - length known) new_known
+    → KnowsVars count cs known (record cs { unit_clauses = us; lit_counts = counts }) known'
+knows_vars count cs known us counts known' same grown counted more = record {
+  state = λ st h. rw (grown, more) (ap (λ xs. record (state_of st h cs known) { units = xs; known = known ++ replicate (count - length known) new_known }) (grown-units cs.unit_clauses count));
+  others = refl;
+  units = grown;
+  counts = counted;
+  names = more;
+  same = rw (grown, more) (grind (arith, common_steps, same));
+  enough = rw grown (grind (arith, common_steps));
+}
+
+all-free : (n : ℕ) → list_all is_stored_unit (replicate n None) ≡ true
+all-free zero = refl
+all-free (suc n) = all-free n
+
+all-more : (us : List (Option UnitClause)) (n : ℕ) → list_all is_stored_unit us ≡ true → list_all is_stored_unit (us ++ replicate n None) ≡ true
+all-more [] n h = all-free n
+all-more (u ∷ us) n h = let p = and_parts (is_stored_unit u) (list_all is_stored_unit us) h in and_from (is_stored_unit u) (list_all is_stored_unit (us ++ replicate n None)) p.0 (all-more us n p.1)
+
+in_order : (h : ClauseHasher) (cs : Clauses) (us : List (Option UnitClause)) (counts : List ℕ) → IsStore h cs → list_all is_stored_unit us ≡ true → AreCounts counts (length us) (stored_list cs) → IsStore h (record cs { unit_clauses = us; lit_counts = counts })
+in_order h cs us counts k all counted =
+    let filed : Files h (record cs { unit_clauses = us; lit_counts = counts }) (stored_list cs) = record {
+      some_bits = k.filed.some_bits;
+      bits = k.filed.bits;
+      within = k.filed.within;
+      bucketed = k.filed.bucketed;
+      rise = k.filed.rise;
+      apart = k.filed.apart;
+      whole = k.filed.whole;
+      used = k.filed.used;
+    } in
+    record { filed = filed; garbage = k.garbage; units = all; counts = counted }
+
+-- variables made known leave the store in order
+pub is_store-known : (count : ℕ) (h : ClauseHasher) (cs cs' : Clauses) (known known' : List Known) → KnowsVars count cs known cs' known' → IsStore h cs → IsStore h cs'
+is_store-known count h cs cs' known known' grown k =
+    let all = subst (λ (us : List (Option UnitClause)). list_all is_stored_unit us ≡ true) (sym grown.units) (all-more cs.unit_clauses (count - length cs.unit_clauses) k.units) in
+    let long = ap length grown.units ∙ length-append cs.unit_clauses (replicate (count - length cs.unit_clauses) None) ∙ ap (λ n. length cs.unit_clauses + n) (length-replicate (count - length cs.unit_clauses) None) in
+    subst (IsStore h) (sym grown.others) (in_order h cs cs'.unit_clauses cs'.lit_counts k all (counts-known cs.lit_counts cs'.lit_counts (length cs.unit_clauses) (length cs'.unit_clauses) count (stored_list cs) k.counts grown.counts long))
+
+-- so many names are known
+pub names-enough : (count : ℕ) (cs cs' : Clauses) (known known' : List Known) → KnowsVars count cs known cs' known' → count ≤ length known'
+names-enough count cs cs' known known' grown = rw grown.names (grind (arith, common_steps))

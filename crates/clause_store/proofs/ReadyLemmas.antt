@@ -1,0 +1,83 @@
+-- The state in which a clause is checked, and the outcome of the check.
+use Rattle.std.proofs.Common.{◌≡◌, ℕ, Bool, true, false, cond, List, length, Option, refl, sym, ap, ◌∙◌, subst}
+use Rattle.std.specs.Option.{option_map}
+use Rattle.std.proofs.lemmas.List.{length-map}
+use Rattle.checker_rules.specs.Check.{apply_if_named, apply_pending, check, ready, some_pending_name}
+use Rattle.checker_rules.specs.Clauses.{is_tautology}
+use Rattle.checker_rules.specs.Outcome.{accept, at_check_failed, no_clause_for_hash, refuse}
+use Rattle.checker_rules.specs.Passes.{none_empty}
+use Rattle.checker_rules.specs.Sound.{Sound}
+use Rattle.checker_rules.specs.State.{Known, State, StoredUnit, buckets, clause_passes}
+use Rattle.checker_rules.specs.Traced.{check_trace}
+use Rattle.checker_rules.specs.WellFormed.{WellFormed}
+use Rattle.checker_rules.proofs.StepForms.{form-ready}
+use Rattle.clause_store.specs.declared.clauses.Clauses.{Clauses}
+use Rattle.clause_store.specs.declared.clauses.units.UnitClause.{UnitClause}
+use Rattle.clause_store.specs.declared.hash.ClauseHasher.{ClauseHasher}
+use Rattle.clause_store.specs.declared.state.CheckerState.{CheckerState}
+use Rattle.clause_store.specs.declared.rup.Answer.{Answer}
+use Rattle.clause_store.specs.declared.rup.Answer.TheVariants.{Passed}
+use Rattle.clause_store.specs.CheckLaw.{AnswersCheck}
+use Rattle.clause_store.specs.Rup.{AreAllKnown, check_answer, clause_answer, named_buckets}
+use Rattle.clause_store.specs.StateOf.{state_of, stored_unit, stored_units}
+use Rattle.clause_store.specs.Store.{IsStore}
+use Rattle.clause_store.specs.Trace.{clause_trace, last_trace, named_clauses}
+use Rattle.clause_store.proofs.CheckLemmas.{check_is_by_rules}
+
+-- names change no unit
+pub pending-units : (s : State) → (apply_if_named s).units ≡ s.units
+pending-units s = elim (some_pending_name s) as (λ b. (cond b (apply_pending s) s).units ≡ s.units) [ true ↦ refl | false ↦ refl ]
+
+length-stored : (us : List (Option UnitClause)) → length (stored_units us) ≡ length us
+length-stored us = length-map us (option_map stored_unit)
+
+-- the units and the variables are as many after names were applied
+pub pending-length : (st : CheckerState) (h h' : ClauseHasher) (cs cs' : Clauses) (known : List Known) → WellFormed (state_of st h cs known) → state_of st h' cs' known ≡ apply_if_named (state_of st h cs known) → length cs'.unit_clauses ≡ length known
+pending-length st h h' cs cs' known form e =
+    let s = state_of st h cs known in
+    let same : stored_units cs'.unit_clauses ≡ stored_units cs.unit_clauses = ap (λ (x : State). x.units) e ∙ pending-units s in
+    sym (length-stored cs'.unit_clauses) ∙ ap (λ (us : List (Option StoredUnit)). length us) same ∙ form.same_known
+
+-- the form of the state in which the clause is checked
+pub ready-form : (s t : State) (c : List ℕ) → Sound s → t ≡ ready s c → WellFormed t
+ready-form s t c k e = subst WellFormed (sym e) (form-ready s c k.form)
+
+-- there the variables of the stored clauses are known
+pub ready-known : (st : CheckerState) (h : ClauseHasher) (cs : Clauses) (known : List Known) → IsStore h cs → WellFormed (state_of st h cs known) → AreAllKnown cs.unit_clauses cs.literal_buffer.items cs.buckets
+ready-known st h cs known store form = check_is_by_rules.all_known st h cs known store.filed.bucketed form
+
+-- the outcome by what was found
+pub check-passed : (s : State) (c hs : List ℕ) → clause_passes (ready s c) c hs ≡ true → check s c hs accept ≡ accept (ready s c)
+check-passed s c hs e =
+    let r = ready s c in
+    ap (λ b. cond b (accept r) (cond (none_empty (buckets r hs)) (refuse at_check_failed r) (refuse no_clause_for_hash r))) e
+
+pub check-no_clause : (s : State) (c hs : List ℕ) → clause_passes (ready s c) c hs ≡ false → none_empty (buckets (ready s c) hs) ≡ false → check s c hs accept ≡ refuse no_clause_for_hash (ready s c)
+check-no_clause s c hs e n =
+    let r = ready s c in
+    ap (λ b. cond b (accept r) (cond (none_empty (buckets r hs)) (refuse at_check_failed r) (refuse no_clause_for_hash r))) e ∙ ap (λ b. cond b (refuse at_check_failed r) (refuse no_clause_for_hash r)) n
+
+pub check-failed : (s : State) (c hs : List ℕ) → clause_passes (ready s c) c hs ≡ false → none_empty (buckets (ready s c) hs) ≡ true → check s c hs accept ≡ refuse at_check_failed (ready s c)
+check-failed s c hs e n =
+    let r = ready s c in
+    ap (λ b. cond b (accept r) (cond (none_empty (buckets r hs)) (refuse at_check_failed r) (refuse no_clause_for_hash r))) e ∙ ap (λ b. cond b (refuse at_check_failed r) (refuse no_clause_for_hash r)) n
+
+-- what the check found, in the state in which the clause is checked
+pub ready-answers : (st : CheckerState) (h : ClauseHasher) (cs : Clauses) (known : List Known) (buffer c hs : List ℕ) (a : Answer) (s : State) → IsStore h cs → Sound s → state_of st h cs known ≡ ready s c → is_tautology c ≡ false
+    → buffer ≡ cs.literal_buffer.items → check_answer a ≡ clause_answer (stored_units cs.unit_clauses) c (named_buckets buffer cs.buckets hs) → AnswersCheck (ready s c) c hs a
+ready-answers st h cs known buffer c hs a s store sound here apart whole e =
+    let is = subst (λ (b : List ℕ). check_answer a ≡ clause_answer (stored_units cs.unit_clauses) c (named_buckets b cs.buckets hs)) whole e in
+    subst (λ (r : State). AnswersCheck r c hs a) here (check_is_by_rules.answers st h cs known c hs a store.filed.bucketed (ready-form s (state_of st h cs known) c sound here) apart is)
+
+-- the state with the units of before
+pub same-units : (st : CheckerState) (h : ClauseHasher) (cs : Clauses) (known : List Known) (us : List (Option UnitClause)) (t : State) → us ≡ cs.unit_clauses → state_of st h cs known ≡ t → state_of st h (record cs { unit_clauses = us }) known ≡ t
+same-units st h cs known us t e here = ap (λ (us : List (Option UnitClause)). state_of st h (record cs { unit_clauses = us }) known) e ∙ here
+
+-- the ids that a traced check leaves where it passes
+pub ready-trace : (st : CheckerState) (h : ClauseHasher) (cs : Clauses) (known : List Known) (buffer c hs before now : List ℕ) (a : Answer) (traced : Bool) (s : State) → IsStore h cs → state_of st h cs known ≡ ready s c → buffer ≡ cs.literal_buffer.items
+    → a ≡ Passed → traced ≡ true → now ≡ last_trace traced a (clause_trace (stored_units cs.unit_clauses) c (named_clauses buffer cs.buckets hs)) before → now ≡ check_trace (ready s c) c hs
+ready-trace st h cs known buffer c hs before now a traced s store here whole passed on e =
+    let ids = clause_trace (stored_units cs.unit_clauses) c (named_clauses buffer cs.buckets hs) in
+    e ∙ ap (λ (x : Answer). last_trace traced x ids before) passed ∙ ap (λ b. cond b ids before) on
+    ∙ ap (λ (b : List ℕ). clause_trace (stored_units cs.unit_clauses) c (named_clauses b cs.buckets hs)) whole
+    ∙ check_is_by_rules.trace st h cs known c hs store.filed.bucketed ∙ ap (λ (r : State). check_trace r c hs) here

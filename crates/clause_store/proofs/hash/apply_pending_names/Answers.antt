@@ -1,0 +1,28 @@
+use Rattle.std.proofs.Common.{◌≡◌, ◌||◌, cond, List, [], ◌∷◌, Option, Some, None, is_some, map, refl, sym, ap, ◌∙◌}
+use Rattle.std.specs.List.{list_any}
+use Rattle.std.proofs.lemmas.Result.{on_ok_weaker}
+use Rattle.checker_rules.specs.Check.{apply_pending}
+use Rattle.sat_formula.specs.declared.lit.Var.{Var}
+use Rattle.sat_formula.specs.Vars.{indexes_of}
+use Rattle.clause_store.specs.Names.{indexes}
+use Rattle.clause_store.specs.StateOf.{state_of}
+use Rattle.clause_store.proofs.hash.apply_pending_names.Goals as goal
+
+is_some-indexes_of : (o : Option Var) → is_some (indexes_of o) ≡ is_some o
+is_some-indexes_of None = refl
+is_some-indexes_of (Some v) = refl
+
+list_any-indexes : (ps : List (Var × Option Var)) → list_any (λ p. is_some p.1) (map indexes ps) ≡ list_any (λ p. is_some p.1) ps
+list_any-indexes [] = refl
+list_any-indexes (p ∷ ps) = ap (λ b. b || list_any (λ p. is_some p.1) (map indexes ps)) (is_some-indexes_of p.1) ∙ ap (λ b. is_some p.1 || b) (list_any-indexes ps)
+
+pub returns-then-some_name_pending-clause-state : goal.returns-then-some_name_pending-clause-state
+returns-then-some_name_pending-clause-state c =
+    on_ok_weaker c.rehash.result (λ after st known.
+    let s = state_of st c.args.hasher.now c.args.clauses.now known in
+    after st known ∙ sym (ap (λ b. cond b (apply_pending s) s) (list_any-indexes c.args.hasher.now.pending.items ∙ sym c.some_name_pending.ensures ∙ c.if-some_name_pending.true))) c.rehash.ensures.state
+
+pub returns-else-some_name_pending-clause-state : goal.returns-else-some_name_pending-clause-state
+returns-else-some_name_pending-clause-state c st known =
+    let s = state_of st c.args.hasher.now c.args.clauses.now known in
+    sym (ap (λ b. cond b (apply_pending s) s) (list_any-indexes c.args.hasher.now.pending.items ∙ sym c.some_name_pending.ensures ∙ c.if-some_name_pending.false))

@@ -1,0 +1,16 @@
+use Rattle.std.proofs.Common.{sym, ap, refl, ◌∙◌}
+use Rattle.clause_store.specs.Rup.{true_lits}
+use Rattle.clause_store.specs.Trace.{looked}
+use Rattle.clause_store.specs.Units.{stored_id, unit_at}
+use Rattle.clause_store.proofs.TraceLemmas.{looked-listed, true_lits-renamed}
+use Rattle.clause_store.proofs.rup.trace.list_unit.Goals as goal
+
+pub returns-in_ok-overwrite-clause-listed : goal.returns-in_ok-overwrite-clause-listed
+returns-in_ok-overwrite-clause-listed c = λ rest.
+    let us = c.args.units.now in
+    let found = sym (c.stored_id.ensures ∙ ap (λ v. stored_id (unit_at us v)) c.index.ensures.value) ∙ c.in-Some.is in
+    looked-listed c.args.trace.now.items us c.overwrite.new.units c.args.lit c.in-Some.id _ rest c.requires.known c.requires.is_false found c.is_negative.ensures refl c.in_ok-overwrite.ensures.ok
+    ∙ ap (λ ids. looked ids c.overwrite.new.units rest) (sym c.in_ok-push.ensures.items)
+
+pub returns-in_ok-overwrite-clause-true_lits : goal.returns-in_ok-overwrite-clause-true_lits
+returns-in_ok-overwrite-clause-true_lits c = ap true_lits c.in_ok-overwrite.ensures.ok ∙ true_lits-renamed _ c.args.lit _ c.requires.known c.requires.is_false c.is_negative.ensures

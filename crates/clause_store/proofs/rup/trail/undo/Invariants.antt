@@ -1,0 +1,12 @@
+use Rattle.std.proofs.Common.{◌≡◌, length}
+use Rattle.clause_store.specs.Trail.{IsTrailFor, undone}
+use Rattle.clause_store.proofs.rup.trail.undo.Given as goal
+
+abbrev pub invariant-loop-lit : goal.invariant-loop-lit
+invariant-loop-lit l = record {
+  same : undone l.units l.trail.items ≡ undone l.initial.units l.initial.trail.items;
+  known : IsTrailFor l.units l.trail.items;
+}
+
+abbrev pub decreases-loop-lit : goal.decreases-loop-lit
+decreases-loop-lit l = length l.trail.items

@@ -1,0 +1,47 @@
+-- The stored clauses by their hashes.
+use Rattle.std.specs.Prelude.{ℕ, ◌+◌, nat_eq, eqb, Bool, cond, List, [], Option, None, Some, All}
+use Rattle.std.specs.HashMap.{HashMap, get}
+use Rattle.std.specs.declared.hash.FoldHasher.{FoldHasher}
+use Rattle.std.specs.declared.hash.BuildHasherDefault.{BuildHasherDefault}
+use Rattle.smallvec.specs.SmallVec.{SmallVec}
+use Rattle.clause_store.specs.declared.clauses.Clause.{Clause}
+use Rattle.clause_store.specs.declared.clauses.lits.ClauseLits.{ClauseLits}
+use Rattle.checker_rules.specs.Canonical.{same_list}
+use Rattle.clause_store.specs.Lits.{IsWithin, lits_of}
+
+-- a map from hashes to buckets
+abbrev pub Buckets : Type 0
+Buckets = HashMap ℕ (SmallVec Clause) (BuildHasherDefault FoldHasher)
+
+-- the clauses of a bucket that may be missing
+abbrev pub bucket_items : Option (SmallVec Clause) → List Clause
+bucket_items None = []
+bucket_items (Some b) = b.items
+
+-- the clauses with a hash, in order
+abbrev pub clauses_at : Buckets → ℕ → List Clause
+clauses_at m h = bucket_items (get nat_eq m h)
+
+-- the literals of every clause lie in the buffer
+abbrev pub AreWithin : List ℕ → Buckets → Type 0
+AreWithin buffer m = (k : ℕ) → All (λ c. IsWithin c.lits buffer) (clauses_at m k)
+
+-- whether the clause has these literals
+abbrev pub is_of : List ℕ → List ℕ → Clause → Bool
+is_of buffer lits c = same_list (lits_of c.lits buffer) lits
+
+-- how many copies of a kind
+abbrev pub copies_of : Bool → Clause → ℕ
+copies_of redundant c = cond redundant c.redundant c.irredundant
+
+-- the clause with one copy more
+abbrev pub raised : Bool → Clause → Clause
+raised redundant c = cond redundant (record c { redundant = c.redundant + 1 }) (record c { irredundant = c.irredundant + 1 })
+
+-- a clause with one copy
+abbrev pub first_copy_of : Bool → ℕ → ClauseLits → Clause
+first_copy_of redundant id ls = record { id = id; irredundant = cond redundant 0 1; redundant = cond redundant 1 0; lits = ls }
+
+-- whether the clause has this hash
+abbrev pub has_hash : (List ℕ → ℕ) → List ℕ → ℕ → Clause → Bool
+has_hash h buffer k c = eqb (h (lits_of c.lits buffer)) k

@@ -1,0 +1,111 @@
+//! The stored clauses and units.
+ghost use Rattle.std.specs.Prelude.{◌≡◌, ◌+◌, ◌<◌, ◌≤◌, [], None, OnSome, IfNone};
+ghost use Rattle.std.specs.Option.{SomeIff};
+ghost use Rattle.checker_rules.specs.Store.{id_limit};
+
+pub mod buckets;
+pub mod collect;
+pub mod counts;
+pub mod delete;
+pub mod lits;
+pub mod lower;
+pub mod rebuild;
+pub mod store;
+pub mod units;
+
+use crate::clauses::buckets::Buckets;
+use crate::clauses::counts::LitCounts;
+use crate::clauses::lits::ClauseLits;
+use crate::clauses::units::Units;
+use sat_formula::Lit;
+use std::alloc::Global;
+use std::collections::HashMap;
+
+/// A clause of two or more literals, with the number of its copies of either kind.
+#[derive(Clone, Copy)]
+pub struct Clause {
+    pub id: u64,
+    pub irredundant: u32,
+    pub redundant: u32,
+    pub lits: ClauseLits,
+}
+
+// What fills an unused place of a bucket.
+impl Default for Clause {
+    fn default() -> Clause {
+        Clause {
+            id: 0,
+            irredundant: 0,
+            redundant: 0,
+            lits: ClauseLits::Long { start: 0, len: 0 },
+        }
+    }
+}
+
+/// What storing a clause did.
+#[derive(Clone, Copy, PartialEq, Eq)]
+pub enum StoreClauseResult {
+    /// It was not stored before.
+    New,
+    /// It was stored already in the same kind, or as an irredundant clause.
+    Duplicate,
+    /// It was stored as a redundant clause only, and is irredundant now.
+    NewlyIrredundant,
+}
+
+/// What deleting a copy of a clause did.
+#[derive(Clone, Copy, PartialEq, Eq)]
+pub enum DeleteClauseResult {
+    /// The clause is still stored in that kind, or a redundant copy of several went.
+    Unchanged,
+    /// Its last irredundant copy went, and redundant ones remain.
+    NewlyRedundant,
+    /// Its last copy went.
+    Removed,
+}
+
+/// The stored clauses and units.
+#[derive(Drop)]
+pub struct Clauses {
+    pub next_clause_id: u64,
+    pub literal_buffer: Vec<Lit>,
+    pub garbage_size: usize,
+    pub buckets: Buckets,
+    pub lit_counts: LitCounts,
+    pub unit_clauses: Units,
+    pub unit_conflict: Option<(u64, u64)>,
+}
+
+impl Clauses {
+    ghost use Rattle.clause_store.specs.declared.hash.ClauseHasher.{ClauseHasher};
+    ghost use Rattle.clause_store.specs.NewParts.{IsEmptyStore};
+    ghost use Rattle.clause_store.specs.Store.{IsStore};
+
+    /// Nothing is stored.
+    pub fn new(alloc: Global) -> Clauses
+        ensures { IsEmptyStore result }
+    {
+        Clauses {
+            next_clause_id: 0,
+            literal_buffer: Vec::new(alloc),
+            garbage_size: 0,
+            buckets: HashMap::new(alloc),
+            lit_counts: LitCounts::new(alloc),
+            unit_clauses: Units::new(alloc),
+            unit_conflict: None,
+        }
+    }
+
+    /// Takes the next id. None where none is left.
+    #[tactic(auto, unfolding(checker_rules::specs::Store::id_limit))]
+    pub fn take_id(&mut self) -> Option<u64>
+        ensures id { SomeIff result (self.old.next_clause_id < id_limit) self.old.next_clause_id }
+        ensures taken { OnSome result (self.new ≡ record self.old { next_clause_id = self.old.next_clause_id + 1 }) }
+        ensures unchanged { IfNone result (self.new ≡ self.old) }
+        ensures store { (h : ClauseHasher) → IsStore h self.old → IsStore h self.new }
+    {
+        let id = self.next_clause_id;
+        self.next_clause_id = id.checked_add(1)?;
+        Some(id)
+    }
+}

@@ -1,0 +1,158 @@
+//! The hash of a clause under the solver's names for its variables.
+ghost use Rattle.std.specs.Prelude.{◌≡◌, ◌<◌, ◌≤◌, ◌/◌, [], ℕ, List, None, IfOk, OnOk, false, is_some, map};
+ghost use Rattle.std.specs.List.{list_any};
+ghost use Rattle.checker_rules.specs.Check.{apply_if_named, apply_name, apply_names, apply_pending};
+ghost use Rattle.checker_rules.specs.State.{Known, named_hash};
+ghost use Rattle.sat_formula.specs.Vars.{indexes_of};
+ghost use Rattle.clause_store.specs.StateOf.{state_of};
+ghost use Rattle.clause_store.specs.Store.{IsStore};
+ghost use Rattle.clause_store.specs.Names.{indexes, names_of};
+
+use crate::clauses::Clauses;
+use crate::clauses::rebuild::rebuild_buckets;
+use crate::state::CheckerState;
+use proof_bytes::hash::{ClauseHash, lit_code_hash, lit_hash};
+use sat_formula::lit::{Lit, Var};
+use std::alloc::{AllocError, Global};
+use std::collections::HashMap;
+
+/// The applied and the pending solver names, and the width of hashes in bits.
+#[derive(Drop)]
+pub struct ClauseHasher {
+    pub hash_bits: u32,
+    /// The name of a variable, by the variable's index.
+    pub solver_names: HashMap<usize, Var>,
+    /// Names, and removals where there is None, in the order in which they came.
+    pub pending: Vec<(Var, Option<Var>)>,
+}
+
+impl ClauseHasher {
+    ghost use Rattle.clause_store.specs.StateOf.{applied_of, hash_of, pending_of};
+
+    /// Hashes of 64 bits, and no names.
+    pub fn new(alloc: Global) -> ClauseHasher
+        ensures bits { result.hash_bits ≡ 64 }
+        ensures names { applied_of result ≡ (λ v. None) }
+        ensures pending { pending_of result ≡ [] }
+    {
+        ClauseHasher {
+            hash_bits: 64,
+            solver_names: HashMap::new(alloc),
+            pending: Vec::new(alloc),
+        }
+    }
+
+    /// The hash of a clause.
+    pub fn clause_hash(&self, lits: &[Lit]) -> ClauseHash
+        requires some_bits { 0 < self.now.hash_bits }
+        requires bits { self.now.hash_bits ≤ 64 }
+        ensures { result ≡ hash_of self.now lits.now }
+    {
+        let mut hash = 0;
+        for lit in lits {
+            hash ^= self.named_lit_hash(*lit);
+        }
+        hash >> (64 - self.hash_bits)
+    }
+
+    /// Whether one of the pending entries is a name.
+    fn some_name_pending(&self) -> bool
+        ensures { result ≡ list_any (λ p. is_some p.1) self.now.pending.items }
+    {
+        self.pending.iter().any(|entry| entry.1.is_some())
+    }
+
+    /// The hash of a literal by the applied name of its variable.
+    fn named_lit_hash(&self, lit: Lit) -> ClauseHash
+        ensures { result ≡ named_hash (applied_of self.now (lit / 2)) lit }
+    {
+        match self.name_of(lit.index()) {
+            Some(name) => lit_hash(name.lit(lit.is_positive())),
+            None => lit_code_hash(lit.code() + 2 * Var::MAX_COUNT),
+        }
+    }
+
+    /// The applied name of the variable of this index.
+    fn name_of(&self, index: usize) -> Option<Var>
+        ensures { indexes_of result ≡ applied_of self.now index }
+    {
+        // Most proofs apply no name, and then no key need be hashed.
+        if self.solver_names.is_empty() {
+            return None;
+        }
+        self.solver_names.get(&index).copied()
+    }
+}
+
+/// Sets the width, applies the pending names and removals, and puts every clause into the bucket of its hash.
+/// Where no hash changes no clause is moved. After an error the parts are of no use.
+pub fn rehash(
+    alloc: Global,
+    hasher: &mut ClauseHasher,
+    clauses: &mut Clauses,
+    bits: u32,
+) -> Result<(), AllocError>
+    requires some_bits { 0 < bits }
+    requires bits { bits ≤ 64 }
+    requires store { IsStore hasher.old clauses.old }
+    ensures state { OnOk result ((st : CheckerState) (known : List Known) → state_of st hasher.new clauses.new known ≡ apply_pending (record (state_of st hasher.old clauses.old known) { width = bits })) }
+    ensures store { OnOk result (IsStore hasher.new clauses.new) }
+{
+    let renamed = apply_names(&mut hasher.solver_names, &hasher.pending)?;
+    hasher.pending.clear();
+    if !renamed && hasher.hash_bits == bits {
+        return Ok(());
+    }
+    hasher.hash_bits = bits;
+    rebuild_buckets(alloc, hasher, clauses)
+}
+
+/// Applies the pending names and removals if one of them is a name.
+/// After an error the parts are of no use.
+pub fn apply_pending_names(
+    alloc: Global,
+    hasher: &mut ClauseHasher,
+    clauses: &mut Clauses,
+) -> Result<(), AllocError>
+    requires { IsStore hasher.old clauses.old }
+    ensures state { OnOk result ((st : CheckerState) (known : List Known) → state_of st hasher.new clauses.new known ≡ apply_if_named (state_of st hasher.old clauses.old known)) }
+    ensures store { OnOk result (IsStore hasher.new clauses.new) }
+{
+    if hasher.some_name_pending() {
+        let bits = hasher.hash_bits;
+        rehash(alloc, hasher, clauses, bits)
+    } else {
+        Ok(())
+    }
+}
+
+/// Applies names and removals in order, and answers whether one of them changed a name.
+fn apply_names(
+    names: &mut HashMap<usize, Var>,
+    pending: &[(Var, Option<Var>)],
+) -> Result<bool, AllocError>
+    ensures applied { OnOk result (names_of names.new ≡ apply_names (names_of names.old) (map indexes pending.now)) }
+    ensures changed { IfOk result (λ changed. changed ≡ false → names_of names.new ≡ names_of names.old) }
+{
+    let mut changed = false;
+    for (var, name) in pending {
+        changed |= apply_name(names, var.index(), *name)?;
+    }
+    Ok(changed)
+}
+
+/// Names a variable, or takes its name away, and answers whether that changed its name.
+fn apply_name(
+    names: &mut HashMap<usize, Var>,
+    index: usize,
+    name: Option<Var>,
+) -> Result<bool, AllocError>
+    ensures applied { OnOk result (names_of names.new ≡ apply_name (names_of names.old) (index, indexes_of name)) }
+    ensures changed { IfOk result (λ changed. changed ≡ false → names_of names.new ≡ names_of names.old) }
+{
+    let old = match name {
+        Some(name) => names.insert(index, name)?,
+        None => names.remove(&index),
+    };
+    Ok(old != name)
+}

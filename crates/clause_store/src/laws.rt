@@ -1,0 +1,13 @@
+//! Laws over the definitions alone. Each function does nothing: its clause is the law.
+ghost use Rattle.clause_store.specs.CheckLaw.{CheckIsByRules};
+ghost use Rattle.clause_store.specs.View.{ListIs};
+
+/// The buckets determine the list of the stored clauses.
+pub fn list_is()
+    ensures { ListIs }
+{}
+
+/// The check of a clause over the parts answers by the rules.
+pub fn check_is_by_rules()
+    ensures { CheckIsByRules }
+{}

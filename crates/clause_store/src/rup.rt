@@ -1,0 +1,159 @@
+//! The propagation check.
+pub mod check;
+mod propagation;
+mod status;
+mod trace;
+mod trail;
+mod walk;
+
+ghost use Rattle.std.specs.Prelude.{◌≡◌, [], false, length, IfOk, IsTrue};
+ghost use Rattle.checker_rules.specs.Clauses.{is_tautology};
+ghost use Rattle.checker_rules.specs.Passes as rules;
+ghost use Rattle.checker_rules.specs.State.{some_true_unit, start_set};
+ghost use Rattle.checker_rules.specs.Traced.{ids_of};
+ghost use Rattle.clause_store.specs.Buckets.{AreWithin};
+ghost use Rattle.clause_store.specs.Rup.{AreAllKnown, check_answer, clause_answer, named_buckets};
+ghost use Rattle.clause_store.specs.StateOf.{stored_units};
+ghost use Rattle.clause_store.specs.Trace.{AreStored, clause_trace, named_clauses, open_trace, last_trace};
+ghost use Rattle.clause_store.specs.Trail.{IsTrailFor, IsUndoable};
+ghost use Rattle.clause_store.specs.Units.{AreKnown};
+
+use crate::clauses::buckets::Buckets;
+use crate::clauses::units::Units;
+use crate::rup::propagation::Propagation;
+use crate::rup::trail::{assume_false, undo};
+use crate::rup::walk::walk_buckets;
+use proof_bytes::hash::ClauseHash;
+use sat_formula::lit::Lit;
+use std::alloc::{AllocError, Global};
+use std::mem::swap;
+
+/// What the check of a clause found.
+#[derive(Clone, Copy, PartialEq, Eq, Debug)]
+pub enum Answer {
+    /// The clause follows.
+    Passed,
+    /// A hash without a stored clause was met.
+    NoClauseForHash,
+    /// The named clauses do not show that it follows.
+    Failed,
+}
+
+/// What a check uses, kept from one to the next for its memory.
+#[derive(Drop)]
+pub struct RupCheck {
+    propagation: Propagation,
+    /// The ids of what the last check used that was traced and passed.
+    pub trace_ids: Vec<u64>,
+    ghost at_rest: { propagation.trail.items ≡ [] },
+}
+
+impl RupCheck {
+    pub fn new(alloc: Global) -> RupCheck
+        ensures { result.trace_ids.items ≡ [] }
+    {
+        RupCheck {
+            propagation: Propagation::new(alloc),
+            trace_ids: Vec::new(alloc),
+        }
+    }
+}
+
+/// Whether a clause follows by propagation from the clauses that the hashes name, in the order named.
+///
+/// A clause with a literal that is true already passes whatever the hashes are. Only a traced check
+/// that passes changes `trace_ids`; out of memory, nothing is said of them.
+pub fn check_clause(
+    rup: &mut RupCheck,
+    units: &mut Units,
+    buckets: &Buckets,
+    buffer: &[Lit],
+    lits: &[Lit],
+    hashes: &[ClauseHash],
+    traced: bool,
+) -> Result<Answer, AllocError>
+    requires within { AreWithin buffer.now buckets.now }
+    requires known { AreKnown units.old lits.now }
+    requires all_known { AreAllKnown units.old buffer.now buckets.now }
+    requires stored { AreStored units.old }
+    requires no_tautology { is_tautology lits.now ≡ false }
+    ensures answer { let named = named_buckets buffer.now buckets.now hashes.now in
+        IfOk result (λ a. check_answer a ≡ clause_answer (stored_units units.old) lits.now named) }
+    ensures units { units.new ≡ units.old }
+    ensures trace_ids { let named = named_clauses buffer.now buckets.now hashes.now in
+        let ids = clause_trace (stored_units units.old) lits.now named in
+        IfOk result (λ a.
+        rup.new.trace_ids.items ≡ last_trace traced a ids rup.old.trace_ids.items) }
+{
+    if let Some(id) = units.true_unit_id(lits) {
+        if traced {
+            rup.trace_ids.clear();
+            rup.trace_ids.push(id)?;
+        }
+        return Ok(Answer::Passed);
+    }
+    check_open_clause(rup, units, buckets, buffer, lits, hashes, traced)
+}
+
+/// The same for a clause without a true literal.
+fn check_open_clause(
+    rup: &mut RupCheck,
+    units: &mut Units,
+    buckets: &Buckets,
+    buffer: &[Lit],
+    lits: &[Lit],
+    hashes: &[ClauseHash],
+    traced: bool,
+) -> Result<Answer, AllocError>
+    requires within { AreWithin buffer.now buckets.now }
+    requires known { AreKnown units.old lits.now }
+    requires all_known { AreAllKnown units.old buffer.now buckets.now }
+    requires stored { AreStored units.old }
+    requires free { some_true_unit (stored_units units.old) lits.now ≡ false }
+    requires no_tautology { is_tautology lits.now ≡ false }
+    ensures answer { let named = named_buckets buffer.now buckets.now hashes.now in
+        IfOk result (λ a. check_answer a
+        ≡ rules.walk_buckets (start_set (stored_units units.old) lits.now) named) }
+    ensures units { units.new ≡ units.old }
+    ensures trace_ids { let named = named_clauses buffer.now buckets.now hashes.now in
+        let ids = ids_of (open_trace (stored_units units.old) lits.now named) in
+        IfOk result (λ a.
+        rup.new.trace_ids.items ≡ last_trace traced a ids rup.old.trace_ids.items) }
+{
+    rup.propagation.begin(traced);
+    let answer = walk_negated(units, &mut rup.propagation, buckets, buffer, lits, hashes);
+    undo(units, &mut rup.propagation.trail);
+    if let (true, Ok(Answer::Passed)) = (traced, &answer) {
+        swap(&mut rup.propagation.trace, &mut rup.trace_ids);
+    }
+    answer
+}
+
+/// The walk with the literals taken as false, whose values stay.
+fn walk_negated(
+    units: &mut Units,
+    run: &mut Propagation,
+    buckets: &Buckets,
+    buffer: &[Lit],
+    lits: &[Lit],
+    hashes: &[ClauseHash],
+) -> Result<Answer, AllocError>
+    requires within { AreWithin buffer.now buckets.now }
+    requires known { AreKnown units.old lits.now }
+    requires all_known { AreAllKnown units.old buffer.now buckets.now }
+    requires stored { AreStored units.old }
+    requires free { some_true_unit (stored_units units.old) lits.now ≡ false }
+    requires no_tautology { is_tautology lits.now ≡ false }
+    requires trail { IsTrailFor units.old run.old.trail.items }
+    requires trace { run.old.trace.items ≡ [] }
+    ensures answer { let named = named_buckets buffer.now buckets.now hashes.now in
+        IfOk result (λ a. check_answer a
+        ≡ rules.walk_buckets (start_set (stored_units units.old) lits.now) named) }
+    ensures listed { let named = named_clauses buffer.now buckets.now hashes.now in
+        IsTrue run.old.traced → IfOk result (λ a. a ≡ Answer.Passed →
+        run.new.trace.items ≡ ids_of (open_trace (stored_units units.old) lits.now named)) }
+    ensures undoable { IsUndoable units.old run.old.trail.items units.new run.new.trail.items }
+{
+    assume_false(units, &mut run.trail, lits)?;
+    walk_buckets(units, run, buckets, buffer, hashes)
+}

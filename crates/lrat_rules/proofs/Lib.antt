@@ -1,0 +1,11 @@
+pub mod Propagating
+pub mod Flipping
+pub mod Stepping
+pub mod Running
+pub mod Mapping
+pub mod Refusing
+pub mod Counting
+pub mod Tabling
+pub mod Admitting
+pub mod LratRowsFacts
+pub mod FurtherLratRowsFacts

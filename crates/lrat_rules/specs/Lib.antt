@@ -1,0 +1,12 @@
+pub mod Lines
+pub mod Stores
+pub mod Propagation
+pub mod Groups
+pub mod Causes
+pub mod Refusals
+pub mod Laws
+pub mod Maps
+pub mod Counts
+pub mod Tables
+pub mod LratRows
+pub mod FurtherLratRows

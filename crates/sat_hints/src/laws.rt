@@ -1,0 +1,36 @@
+//! Laws of the text of hint lines. Each function does nothing: its clause is the law.
+ghost use Rattle.sat_hints.specs.OneAnswer.{AnswerIsOne};
+ghost use Rattle.sat_hints.specs.WrittenRuns.{WriterIsAccepted, WriterShowsRun};
+ghost use Rattle.sat_hints.specs.WrittenText.{WrittenIsRead};
+ghost use Rattle.sat_hints.specs.WrittenTexts.{TextIsAccepted, TextIsRead};
+
+/// The text that is written of a line is read as that line.
+pub fn written_is_read()
+    ensures { WrittenIsRead }
+{}
+
+/// What is written of several lines is read as those lines.
+pub fn text_is_read()
+    ensures { TextIsRead }
+{}
+
+/// A checker that holds the formula accepts what a writer writes of a run without a fault.
+pub fn text_is_accepted()
+    ensures { TextIsAccepted }
+{}
+
+/// A new writer that takes steps in turn answers no fault, and has written their lines.
+pub fn writer_shows_run()
+    ensures { WriterShowsRun }
+{}
+
+/// A checker that holds the formula accepts what a new writer wrote of a run, and answers true
+/// exactly where a step derives the empty clause.
+pub fn writer_is_accepted()
+    ensures { WriterIsAccepted }
+{}
+
+/// A text that is accepted leads to one answer, and is never refused.
+pub fn answer_is_one()
+    ensures { AnswerIsOne }
+{}

@@ -1,0 +1,3 @@
+//! Worked texts.
+mod checker;
+mod lines;

@@ -1,0 +1,224 @@
+//! A writer of lines of hints: a processor of checked steps.
+ghost use Rattle.std.specs.Prelude.{◌≡◌, ◌+◌, ◌++◌, ◌∷◌, ℕ, suc, List, [], None, map, decimal, IfErr, IfOk, OnErr, OnOk};
+ghost use Rattle.checker_parts.specs.CheckedSteps.{step_of};
+ghost use Rattle.checker_rules.specs.HintLines.{adds_clause, deletes_clauses};
+ghost use Rattle.checker_rules.specs.HintRun.{puts_derived, puts_input, removes};
+ghost use Rattle.checker_rules.specs.WrittenLines.{new_writer, number_of, writer_fault};
+ghost use Rattle.sat_hints.specs.WrittenText.{words_after_space, lines_text};
+ghost use Rattle.sat_hints.specs.Writing.{IsFault, Wrote, WroteLine, WroteNothing, fitting, hints_fault, step_fault, writer_of, written};
+
+#[cfg(test)]
+mod tests;
+
+use crate::fault::WriterFault;
+use crate::text::{push_literals, push_number};
+use checker_parts::processor::{CheckerData, ProofProcessor};
+use checker_parts::step::CheckedProofStep;
+use sat_formula::lit::Lit;
+use std::alloc::{AllocError, Global};
+use std::collections::HashSet;
+
+/// Writes the steps that it is told as lines of hints in the LRAT format.
+///
+/// The clauses of the formula have the numbers from 1 on, in their order; the number of any other
+/// clause comes after all that were announced. So a writer is told all input clauses first, and as
+/// many as were announced at most. `output` is the text written so far. After a fault it is as
+/// before.
+#[derive(Drop)]
+pub struct LratWriter {
+    alloc: Global,
+    /// So many clauses the formula has.
+    announced: u64,
+    /// The ids of the input clauses that were told.
+    inputs: HashSet<u64>,
+    /// So many input clauses were told.
+    told: u64,
+    /// Whether a derived clause was told.
+    derived: bool,
+    /// The number of the last line that adds a clause.
+    last: u64,
+    text: Vec<u8>,
+}
+
+impl LratWriter {
+    /// A writer for a formula of so many clauses.
+    pub fn new(alloc: Global, clauses: u64) -> LratWriter
+        ensures writer { writer_of result ≡ new_writer clauses }
+        ensures text { written result ≡ [] }
+    {
+        LratWriter {
+            alloc,
+            announced: clauses,
+            inputs: HashSet::new(alloc),
+            told: 0,
+            derived: false,
+            last: clauses,
+            text: Vec::new(alloc),
+        }
+    }
+
+    /// Writes the line of a step, where it has one. After a fault the writer is as it was.
+    pub fn write_step(&mut self, step: &CheckedProofStep) -> Result<(), WriterFault>
+        ensures ok { OnOk result (Wrote self.old (step_of step.now) self.new) }
+        ensures err { OnErr result (WroteNothing self.old self.new) }
+        ensures fault { IfErr result (λ fault. IsFault fault (step_fault (writer_of self.old) (step_of step.now))) }
+    {
+        match step {
+            CheckedProofStep::AddClause { id, .. }
+            | CheckedProofStep::DuplicatedClause { id, .. }
+            | CheckedProofStep::TautologicalClause { id, .. } => self.note_input(*id),
+            CheckedProofStep::AtClause {
+                id,
+                clause,
+                propagations,
+                ..
+            } => self.write_addition(*id, clause, propagations),
+            CheckedProofStep::DeleteClause { id, .. }
+            | CheckedProofStep::DeleteRatClause { id, .. }
+            | CheckedProofStep::DeleteAtClause {
+                id,
+                keep_as_redundant: false,
+                ..
+            } => self.write_deletion(*id),
+            _ => Ok(()),
+        }
+    }
+
+    /// Keeps the id of an input clause.
+    fn note_input(&mut self, id: u64) -> Result<(), WriterFault>
+        ensures ok { OnOk result ((c : List ℕ) → WroteLine self.old (puts_input id c) self.new) }
+        ensures err { OnErr result (WroteNothing self.old self.new) }
+        ensures fault { IfErr result (λ fault. IsFault fault (writer_fault (writer_of self.old) (puts_input id []))) }
+    {
+        if self.derived {
+            return Err(WriterFault::InputAfterDerived);
+        }
+        if self.told >= self.announced {
+            return Err(WriterFault::TooManyInputs);
+        }
+        if id == u64::MAX {
+            return Err(WriterFault::NumberOutOfRange);
+        }
+        self.inputs.insert(id)?;
+        self.told += 1;
+        Ok(())
+    }
+
+    /// Writes the line of a derived clause.
+    fn write_addition(
+        &mut self,
+        id: u64,
+        clause: &[Lit],
+        propagations: &[u64],
+    ) -> Result<(), WriterFault>
+        ensures ok { OnOk result (WroteLine self.old (puts_derived id clause.now propagations.now) self.new) }
+        ensures err { OnErr result (WroteNothing self.old self.new) }
+        ensures fault { IfErr result (λ fault. IsFault fault (writer_fault (writer_of self.old) (puts_derived id clause.now propagations.now))) }
+    {
+        let number = self.later_number(id).ok_or(WriterFault::NumberOutOfRange)?;
+        let line = self.addition(number, clause, propagations)?;
+        self.text.extend_from_slice(&line)?;
+        self.derived = true;
+        self.last = number;
+        Ok(())
+    }
+
+    /// Writes the line by which a clause goes.
+    fn write_deletion(&mut self, id: u64) -> Result<(), WriterFault>
+        ensures ok { OnOk result (WroteLine self.old (removes id) self.new) }
+        ensures err { OnErr result (WroteNothing self.old self.new) }
+        ensures fault { IfErr result (λ fault. IsFault fault (writer_fault (writer_of self.old) (removes id))) }
+    {
+        let number = self.number(id).ok_or(WriterFault::NumberOutOfRange)?;
+        let line = self.deletion(number)?;
+        self.text.extend_from_slice(&line)?;
+        Ok(())
+    }
+
+    /// The line that adds a clause under its number.
+    fn addition(
+        &self,
+        number: u64,
+        clause: &[Lit],
+        propagations: &[u64],
+    ) -> Result<Vec<u8>, WriterFault>
+        ensures line { IfOk result (λ line. line.items ≡ lines_text (adds_clause number clause.now (map (number_of (writer_of self.now)) propagations.now) ∷ [])) }
+        ensures fit { OnOk result (hints_fault (writer_of self.now) propagations.now ≡ None) }
+        ensures fault { IfErr result (λ fault. IsFault fault (hints_fault (writer_of self.now) propagations.now)) }
+    {
+        let mut line = Vec::new(self.alloc);
+        push_number(&mut line, number)?;
+        push_literals(&mut line, clause)?;
+        line.extend_from_slice(b" 0")?;
+        self.push_hints(&mut line, propagations)?;
+        line.extend_from_slice(b" 0\n")?;
+        Ok(line)
+    }
+
+    /// The line that deletes the clause of a number.
+    fn deletion(&self, number: u64) -> Result<Vec<u8>, AllocError>
+        ensures { IfOk result (λ line. line.items ≡ lines_text (deletes_clauses self.now.last (number ∷ []) ∷ [])) }
+    {
+        let mut line = Vec::new(self.alloc);
+        push_number(&mut line, self.last)?;
+        line.extend_from_slice(b" d ")?;
+        push_number(&mut line, number)?;
+        line.extend_from_slice(b" 0\n")?;
+        Ok(line)
+    }
+
+    /// Appends the number of each id after a space.
+    fn push_hints(&self, line: &mut Vec<u8>, ids: &[u64]) -> Result<(), WriterFault>
+        ensures line { OnOk result (line.new.items ≡ line.old.items ++ words_after_space (map decimal (map (number_of (writer_of self.now)) ids.now))) }
+        ensures fit { OnOk result (hints_fault (writer_of self.now) ids.now ≡ None) }
+        ensures fault { IfErr result (λ fault. IsFault fault (hints_fault (writer_of self.now) ids.now)) }
+    {
+        for id in ids {
+            let number = self.number(*id).ok_or(WriterFault::NumberOutOfRange)?;
+            line.push(b' ')?;
+            push_number(line, number)?;
+        }
+        Ok(())
+    }
+
+    /// The number of an id, where it is below 2^64.
+    fn number(&self, id: u64) -> Option<u64>
+        ensures { result ≡ fitting (number_of (writer_of self.now) id) }
+    {
+        if self.inputs.contains(&id) {
+            id.checked_add(1)
+        } else {
+            self.later_number(id)
+        }
+    }
+
+    /// The number of a clause that is no input clause.
+    fn later_number(&self, id: u64) -> Option<u64>
+        ensures { result ≡ fitting (self.now.announced + suc id) }
+    {
+        self.announced.checked_add(id)?.checked_add(1)
+    }
+}
+
+impl ProofProcessor for LratWriter {
+    ghost use Rattle.sat_hints.specs.Writing.{Wrote, WroteNothing, written};
+
+    ghost took = { λ old e new. Wrote old e.step new };
+
+    ghost faulted = { λ old e new. WroteNothing old new };
+
+    ghost shown = { λ writer. written writer };
+
+    fn process_step(
+        &mut self,
+        step: &CheckedProofStep,
+        _names: CheckerData,
+    ) -> Result<(), anyhow::Error> {
+        self.write_step(step)?;
+        Ok(())
+    }
+
+    fn output(&self) -> &[u8] {
+        &self.text
+    }
+}

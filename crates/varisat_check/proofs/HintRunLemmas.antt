@@ -1,0 +1,38 @@
+-- A text of hints that is checked over a formula, by what the calls of the run ensure.
+--     gives_text      the whole text was read
+--     verified_hints      all its lines were accepted, and one adds the empty clause
+use Rattle.std.proofs.Common.{◌≡◌, ℕ, Bool, true, false, List, [], ◌++◌, Option, Some, None, refl, sym, ap, ◌∙◌}
+use Rattle.std.specs.Prelude.{if◌then◌else◌, IfSome}
+use Rattle.checker_rules.specs.Clauses.{all_true}
+use Rattle.checker_rules.specs.HintLines.{Listed, listing}
+use Rattle.sat_hints.specs.Checked.{Accepts}
+use Rattle.varisat_check.specs.HintRuns.{AcceptsHints, GivesText}
+use Rattle.varisat_check.specs.declared.hints.HintVerdict.{HintVerdict}
+use Rattle.varisat_check.specs.declared.hints.HintVerdict.TheVariants.{NotVerified, Verified}
+
+abbrev Known : Type 0
+Known = Option (List ℕ)
+
+-- into a list that was empty
+pub gives_text : (known : Known) (before after : List ℕ) → before ≡ [] → IfSome known (λ bytes. after ≡ before ++ bytes) → GivesText known after
+gives_text None before after empty h = h
+gives_text (Some bytes) before after empty h = h ∙ ap (λ (l : List ℕ). l ++ bytes) empty
+
+abbrev verdict_by : Bool → HintVerdict
+verdict_by answer = if answer then Verified else NotVerified
+
+never_true : (b : Bool) → (b ≡ true → ⊥) → b ≡ false
+never_true true h = absurd (h refl)
+never_true false h = refl
+
+-- all its lines were accepted, and the answer was true
+pub verified_hints : {K : Listed → Type 0} (known : Known) (formula : List (List ℕ)) (text : List ℕ) (answer : Bool) → answer ≡ true → GivesText known text → ((k : Listed) × Accepts (listing formula) text k × K k × (answer ≡ k.added_empty))
+    → (answer ≡ true → (a : ℕ → Bool) → all_true a formula ≡ true → ⊥) → AcceptsHints known formula Verified
+verified_hints known formula text answer is gives found refuted = record {
+  text = text;
+  gives = gives;
+  held = found.0;
+  accepts = found.1;
+  verdict_is = ap verdict_by (sym is ∙ found.3);
+  refutes = λ h a. never_true (all_true a formula) (refuted is a);
+}

@@ -1,0 +1,42 @@
+//! Formulas read whole from DIMACS text.
+ghost use Rattle.std.specs.Prelude.{◌≡◌};
+ghost use Rattle.varisat_check.specs.ReadFormula.{ReadsFormula, fault_of};
+
+use crate::fault::RunFault;
+use checker_parts::error::{CheckerError, DimacsError};
+use sat_formula::{CnfFormula, DimacsFault, DimacsReader};
+use std::alloc::Global;
+use std::io::Read;
+
+/// Reads a formula as DIMACS text, the whole of it, or answers the first fault.
+///
+/// A failed read and want of memory are answered where they come. On a fault the clauses before it are dropped.
+pub fn read_formula<F: Read + Drop>(alloc: Global, cnf: F) -> Result<CnfFormula, RunFault>
+    ensures { ReadsFormula (F.remaining cnf) result }
+{
+    let mut reader = DimacsReader::new(alloc, cnf);
+    let mut clause = Vec::new(alloc);
+    let mut formula = CnfFormula::new(alloc);
+    'clauses: loop {
+        match reader.next_clause(&mut clause) {
+            Ok(true) => {}
+            Ok(false) => break,
+            Err(fault) => return Err(text_fault(fault)),
+        }
+        if formula.add_clause(&clause).is_err() {
+            return Err(text_fault(DimacsFault::OutOfMemory));
+        }
+    }
+    Ok(formula)
+}
+
+/// The answer for a fault of a formula's text.
+fn text_fault(fault: DimacsFault) -> RunFault
+    ensures { result ≡ fault_of fault }
+{
+    RunFault::Formula(match fault {
+        DimacsFault::Read(cause) => DimacsError::Read(cause),
+        DimacsFault::Malformed { line, kind } => DimacsError::Malformed { line, kind },
+        DimacsFault::OutOfMemory => DimacsError::Checker(CheckerError::OutOfMemory),
+    })
+}

@@ -1,7 +1,0 @@
-use Rattle.std.proofs.Common.{◌∙◌, ap}
-use Rattle.checker_rules.specs.Canonical.{same_list}
-use Rattle.varisat_checker.proofs.SameListLemmas.{same_list-bytes_eq}
-use Rattle.varisat_checker.proofs.clauses.buckets.has_lits.Goals as goal
-
-pub returns : goal.returns
-returns c = c.eq.ensures ∙ same_list-bytes_eq c.slice.result.now c.args.lits.now ∙ ap (λ xs. same_list xs c.args.lits.now) c.slice.ensures

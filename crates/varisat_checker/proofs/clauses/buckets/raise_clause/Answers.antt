@@ -1,6 +1,0 @@
-use Rattle.std.proofs.Common.{rules}
-use Rattle.varisat_checker.proofs.BucketLemmas.{count_limit-some}
-use Rattle.varisat_checker.proofs.clauses.buckets.raise_clause.Goals as goal
-
-pub returns-in-None-clause-room : goal.returns-in-None-clause-room
-returns-in-None-clause-room c = search (rules, count_limit-some)

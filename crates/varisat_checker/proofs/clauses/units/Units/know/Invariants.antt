@@ -1,6 +1,0 @@
-use Rattle.std.proofs.Common.{◌≡◌, ◌++◌, None}
-use Rattle.std.specs.Prelude.{replicate}
-use Rattle.varisat_checker.proofs.clauses.units.Units.know.Given as goal
-
-abbrev pub invariant-vars : goal.invariant-vars
-invariant-vars l = l.self ≡ l.initial.self ++ replicate l.counter None

@@ -1,7 +1,0 @@
-use Rattle.checker_parts.specs.CheckedSteps.{transcript_of}
-use Rattle.varisat_checker.proofs.PassedLemmas.{Passed}
-use Rattle.varisat_checker.proofs.processing.tell_image.Given as goal
-
-abbrev pub invariant-loop-transcript : goal.invariant-loop-transcript
-invariant-loop-transcript g l =
-    Passed (λ old new. g.T.ProofTranscriptProcessor.took old (transcript_of l.image) new) l.transcript-index l.initial.transcripts l.transcripts
