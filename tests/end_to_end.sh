@@ -127,6 +127,28 @@ expect hints 0 's UNSATISFIABLE' '' par10.cnf par10.whole.proof hints.lrat
 expect hints_of_a_refused_proof 1 '' 'step 1: Unexpected end of proof file' unit.cnf nothing.proof hints.lrat
 expect missing_formula 2 '' 'cannot open absent.cnf' absent.cnf absent.proof
 expect missing_proof 2 '' 'cannot open absent.proof' malformed.cnf absent.proof
+# odd formulas: a CR is a blank; a byte order mark, a NUL byte and compressed text are no numbers
+four=(1\ 2 1\ -2 -1\ 2 -1\ -2)
+printf 'p cnf 2 4\r\n' > "$work/files/cr_lf.cnf"
+printf '%s 0\r\n' "${four[@]}" >> "$work/files/cr_lf.cnf"
+printf '\x09\x01\x06\x00\x01\x00\x02\x01\x00\x06\x00\x00\x02\x00\x01\x0d' > "$work/files/four.proof"
+printf '\xef\xbb\xbf1 0\n' > "$work/files/byte_order_mark.cnf"
+printf '1 0\n\x00\n-1 0\n' > "$work/files/nul.cnf"
+printf '1 0\n-1 0\n' | gzip -n > "$work/files/compressed.cnf"
+expect cr_lf 0 's UNSATISFIABLE' '' cr_lf.cnf four.proof
+expect byte_order_mark 1 '' 'line 1: bad number' byte_order_mark.cnf end.proof
+expect nul_byte 1 '' 'line 2: bad number' nul.cnf end.proof
+expect compressed 1 '' 'line 1: bad number' compressed.cnf end.proof
+expect empty_formula 3 's NOT SHOWN' '' nothing.proof end.proof
+expect folder 1 '' 'error reading formula: Is a directory (os error 21)' / end.proof
+# odd proofs
+expect empty_proof 1 '' 'step 1: Unexpected end of proof file' cr_lf.cnf nothing.proof
+expect byte_order_mark_in_proof 1 '' 'step 1: Could not parse proof step: unknown step tag' unit.cnf byte_order_mark.cnf
+expect compressed_proof 1 '' 'step 1: Could not parse proof step: unknown step tag' unit.cnf compressed.cnf
+expect nul_bytes_in_proof 1 '' 'step 1: Could not parse proof step: unknown step tag' unit.cnf /dev/zero
+expect text_as_proof 1 '' 'step 1: Could not parse proof step: unknown step tag' unit.cnf unit.cnf
+expect folder_as_proof 1 '' 'step 1: Error reading proof file: Is a directory (os error 21)' unit.cnf /
+expect folder_for_hints 2 '' 'cannot open /' unit.cnf end.proof /
 run_cases varisat_check_main
 compare
 
@@ -176,5 +198,133 @@ expect three_arguments 2 '' 'usage: hint_check CNF LRAT' unit.cnf par10.lrat par
 expect missing_formula 2 '' 'cannot open absent.cnf' absent.cnf absent.lrat
 expect missing_hints 2 '' 'cannot open absent.lrat' malformed.cnf absent.lrat
 run_cases hint_check_main
+compare
+
+# LRAT proofs: what the writer of hints wrote of each proof, and a solver's
+begin
+for proof in "${proofs[@]}"; do
+  expect "$proof" 0 's VERIFIED UNSAT' '' "${proof%%_*}.cnf" "$proof.lrat"
+done
+
+# turned NAME KIND STATUS OUTPUT ERRORS SCRIPT: a run on the solver's proof, changed by a script of sed
+turned() {
+  sed "$6" "$work/files/$1.lrat" > "$work/files/$1.$2.lrat"
+  expect "$1_$2" "$3" "$4" "$5" "$1.cnf" "$1.$2.lrat"
+}
+
+# proves NAME LINE: the solver's proof is verified, and so it is with changes that do no harm; with others it is refused.
+# LINE is the first with a hint to the clause of line 1
+proves() {
+  local name=$1 line=$2 first last unknown='no clause has the id of a hint'
+  first=$(sed 's/ .*//;q' "$work/files/$name.lrat")
+  last=$(wc -l < "$work/files/$name.lrat")
+  expect "$name" 0 's VERIFIED UNSAT' '' "$name.cnf" "$name.lrat"
+  # without the first hint, and with the literal true, a clause has two literals that are not false
+  turned "$name" hint_dropped 1 '' 'proof: line 1: clause of a hint is not unit' '1s/ 0 [0-9]*/ 0/'
+  turned "$name" literal_negated 1 '' 'proof: line 1: clause of a hint is not unit' '1{s/ / -/;s/--//}'
+  turned "$name" line_dropped 1 '' "proof: line $((line - 1)): $unknown" 1d
+  turned "$name" clause_deleted 1 '' "proof: line $((line + 1)): $unknown" "1a 1 d $first 0"
+  turned "$name" line_doubled 1 '' 'proof: line 2: id is taken' 1p
+  # the hints before the last one make literals true, and falsify no clause
+  turned "$name" last_hint_dropped 1 '' "proof: line $last: hints end without a conflict" '$s/ [0-9]* 0$/ 0/'
+  turned "$name" last_line_dropped 3 's NOT VERIFIED' '' '$d'
+  # hints after the conflict are not followed, and nothing is read after the empty clause
+  turned "$name" hints_more 0 's VERIFIED UNSAT' '' '1s/0$/999999 0/'
+  turned "$name" lines_more 0 's VERIFIED UNSAT' '' '$a x'
+  # a clause that is kept does no harm where no id comes again and no line is judged by groups
+  turned "$name" no_deletions 0 's VERIFIED UNSAT' '' '/ d /d'
+  head -n 1 "$work/files/$name.lrat" | head -c -3 > "$work/files/$name.half.lrat"
+  expect "${name}_half_a_line" 1 '' 'proof: line 1: unfinished line' "$name.cnf" "$name.half.lrat"
+}
+
+proves par10 2
+proves board6 8
+proves grid5 2
+# no line has a hint to the clause of line 107, and its own hints do not ask whether 22 is false
+turned par10 other_line_dropped 0 's VERIFIED UNSAT' '' 107d
+turned par10 other_literal_negated 0 's VERIFIED UNSAT' '' '107s/ 22 / -22 /'
+
+# groups NAME STATUS OUTPUT ERRORS LINE..: a run on a clause against each pair of values of two variables, and these lines
+groups() {
+  local name=groups_$1 status=$2 output=$3 errors=$4
+  shift 4
+  printf '%s\n' "$@" > "$work/files/$name.lrat"
+  expect "$name" "$status" "$output" "$errors" four.cnf "$name.lrat"
+}
+
+printf 'p cnf 2 4\n1 2 0\n1 -2 0\n-1 2 0\n-1 -2 0\n' > "$work/files/four.cnf"
+pivot=' for a clause with the negation of the first literal'
+groups met 0 's VERIFIED UNSAT' '' '5 3 1 0 0' '6 -3 -1 0 -5 0' '7 1 0 1 2 0' '8 0 7 3 4 0'
+groups none 1 '' 'proof: line 2: hints end without a conflict' '5 3 1 0 0' '6 -3 -1 0 0'
+groups missing 1 '' "proof: line 2: no group$pivot" '5 3 1 0 0' '6 -3 -1 0 -1 0'
+groups of_the_last_literal 1 '' "proof: line 2: no group$pivot" '5 3 1 0 0' '6 -1 -3 0 -5 0'
+groups failing 1 '' 'proof: line 2: hints of a group end without a conflict' '5 3 0 0' '6 -3 -1 0 -5 0'
+# what holds the negation is deleted, so no group is needed, and one that is there is not read
+groups of_no_clause 0 's VERIFIED UNSAT' '' '5 3 1 0 0' '5 d 5 0' '6 -3 -1 0 -5 9 0' '7 1 0 1 2 0' '8 0 7 3 4 0'
+
+# files that are no LRAT text: nothing, binary LRAT, DRAT text, compressed text, a formula, a byte order mark
+printf 'a\x0a\x02\x00\x02\x04\x00' > "$work/files/binary.lrat"
+printf '1 0\nd 1 2 0\n0\n' > "$work/files/drat.lrat"
+printf '5 1 0 1 2 0\n' | gzip -n > "$work/files/compressed.lrat"
+printf '\xef\xbb\xbf5 1 0 1 2 0\n' > "$work/files/mark.lrat"
+expect nothing 3 's NOT VERIFIED' '' four.cnf nothing.proof
+for file in binary.lrat drat.lrat compressed.lrat four.cnf mark.lrat malformed.lrat; do
+  expect "read_${file%.*}" 1 '' 'proof: line 1: malformed line' four.cnf "$file"
+done
+expect swapped 1 '' 'formula: line 24: bad number' par10.lrat par10.cnf
+expect malformed_formula 1 '' 'formula: line 2: bad number' malformed.cnf par10.lrat
+# reads that fail: a folder, and a file of the system's
+expect folder 1 '' 'formula: error reading formula: Is a directory (os error 21)' / par10.lrat
+expect folder_as_proof 1 '' 'proof: error reading proof: Is a directory (os error 21)' four.cnf /
+expect unreadable_proof 1 '' 'proof: error reading proof: Input/output error (os error 5)' four.cnf /proc/self/mem
+expect no_arguments 0 's VERIFIED UNSAT' ''
+expect one_argument 2 '' 'usage: lrat_check CNF LRAT' four.cnf
+expect three_arguments 2 '' 'usage: lrat_check CNF LRAT' four.cnf par10.lrat par10.lrat
+expect missing_formula 2 '' 'cannot open absent.cnf' absent.cnf absent.lrat
+expect missing_proof 2 '' 'cannot open absent.lrat' malformed.cnf absent.lrat
+run_cases lrat_check_main
+compare
+
+# LRAT text as proof bytes, of which each proof is checked again: the text of other programs, and the hints of each proof.
+# converts NAME CNF LRAT [ARGUMENT..]: the text is converted whole
+converts() {
+  local name=$1 cnf=$2 lrat=$3
+  shift 3
+  expect "$name" 0 '' '' "$cnf" "$lrat" "$work/files/$name.converted" "$@"
+}
+
+begin
+lrats=("${proofs[@]}" par10 board6)
+for lrat in "${lrats[@]}"; do
+  converts "$lrat" "${lrat%%_*}.cnf" "$lrat.lrat"
+done
+converts narrow par10.cnf par10.lrat --width 20
+: > "$work/files/nothing.lrat"
+printf 'c a clause that is only redundant\n2 2 0 -1 0\n' > "$work/files/redundant.lrat"
+printf '2 1 0 7 0\n' > "$work/files/unknown.lrat"
+expect open 3 '' '' unit.cnf nothing.lrat "$work/files/open.converted"
+expect redundant 1 '' "proof: line 2: RAT steps can't be converted" unit.cnf redundant.lrat "$work/files/refused"
+expect unknown 1 '' 'proof: line 1: no clause has the id of a hint' unit.cnf unknown.lrat "$work/files/refused"
+expect malformed_formula 1 '' 'formula: line 2: bad number' malformed.cnf par10.lrat "$work/files/refused"
+expect malformed_proof 1 '' 'proof: line 1: malformed line' unit.cnf malformed.lrat "$work/files/refused"
+for words in '' 'unit.cnf' 'unit.cnf nothing.lrat' 'unit.cnf nothing.lrat refused --width' 'unit.cnf nothing.lrat refused --width 0' \
+  'unit.cnf nothing.lrat refused --width 65' 'unit.cnf nothing.lrat refused --width x' 'unit.cnf nothing.lrat refused --bits 9' \
+  'unit.cnf nothing.lrat refused --width 9 9'; do
+  read -ra arguments <<< "$words"
+  expect "usage_of_${#names[@]}" 2 '' 'usage: lrat_to_proof CNF LRAT PROOF [--width N]' "${arguments[@]}"
+done
+expect missing_formula 2 '' 'cannot open absent.cnf' absent.cnf absent.lrat refused
+expect missing_proof 2 '' 'cannot open absent.lrat' unit.cnf absent.lrat refused
+expect missing_folder 2 '' 'cannot open absent/proof' unit.cnf nothing.lrat absent/proof
+run_cases lrat_to_proof_main
+compare
+
+begin
+for lrat in "${lrats[@]}"; do
+  expect "$lrat" 0 's UNSATISFIABLE' '' "${lrat%%_*}.cnf" "$lrat.converted"
+done
+expect narrow 0 's UNSATISFIABLE' '' par10.cnf narrow.converted
+expect open 3 's NOT SHOWN' '' unit.cnf open.converted
+run_cases varisat_check_main
 compare
 exit "$wrong"

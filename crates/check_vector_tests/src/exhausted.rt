@@ -1,6 +1,6 @@
 //! Ids and step numbers at their ends.
 ghost use Rattle.std.specs.Prelude.{OnOk};
-ghost use Rattle.checker_steps.specs.Context.{IsKept};
+ghost use Rattle.checker_steps.specs.Context.{ContextInvariant};
 
 use crate::calls::lits;
 use crate::cuts::Cuts;
@@ -18,7 +18,7 @@ use varisat_checker::steps::add_clause::add_clause;
 
 // New parts whose next id is this.
 fn with_ids_from(alloc: Global, next: u64) -> Context
-    ensures { IsKept result }
+    ensures { ContextInvariant result }
 {
     let mut ctx = Context::new(alloc);
     ctx.clauses.next_clause_id = next;
@@ -27,7 +27,7 @@ fn with_ids_from(alloc: Global, next: u64) -> Context
 
 // New parts that counted so many steps.
 fn after_steps(alloc: Global, steps: u64) -> Context
-    ensures { IsKept result }
+    ensures { ContextInvariant result }
 {
     let mut ctx = Context::new(alloc);
     ctx.checker_state.step = steps;
@@ -43,8 +43,8 @@ enum Seen {
 }
 
 fn add(alloc: Global, ctx: &mut Context, numbers: &str) -> Result<Seen, Fail>
-    requires { IsKept ctx.old }
-    ensures { OnOk result (IsKept ctx.new) }
+    requires { ContextInvariant ctx.old }
+    ensures { OnOk result (ContextInvariant ctx.new) }
 {
     let clause = lits(alloc, numbers)?;
     match add_clause(alloc, ctx, &clause) {
@@ -61,8 +61,8 @@ fn add(alloc: Global, ctx: &mut Context, numbers: &str) -> Result<Seen, Fail>
 }
 
 fn attempt(alloc: Global, ctx: &mut Context, step: &ProofStep) -> Result<Seen, Fail>
-    requires { IsKept ctx.old }
-    ensures { OnOk result (IsKept ctx.new) }
+    requires { ContextInvariant ctx.old }
+    ensures { OnOk result (ContextInvariant ctx.new) }
 {
     match attempt_step(alloc, ctx, step) {
         Ok(()) => Ok(Seen::Done),
@@ -79,8 +79,8 @@ fn attempt(alloc: Global, ctx: &mut Context, step: &ProofStep) -> Result<Seen, F
 
 // Derives a clause without hashes.
 fn derive(alloc: Global, ctx: &mut Context, numbers: &str) -> Result<Seen, Fail>
-    requires { IsKept ctx.old }
-    ensures { OnOk result (IsKept ctx.new) }
+    requires { ContextInvariant ctx.old }
+    ensures { OnOk result (ContextInvariant ctx.new) }
 {
     let clause = lits(alloc, numbers)?;
     let step = ProofStep::AtClause {
@@ -92,8 +92,8 @@ fn derive(alloc: Global, ctx: &mut Context, numbers: &str) -> Result<Seen, Fail>
 }
 
 fn close(alloc: Global, ctx: &mut Context) -> Result<Seen, Fail>
-    requires { IsKept ctx.old }
-    ensures { OnOk result (IsKept ctx.new) }
+    requires { ContextInvariant ctx.old }
+    ensures { OnOk result (ContextInvariant ctx.new) }
 {
     match process_unit_conflicts(alloc, ctx) {
         Ok(()) => Ok(Seen::Done),
@@ -109,8 +109,8 @@ fn close(alloc: Global, ctx: &mut Context) -> Result<Seen, Fail>
 }
 
 fn prove<R: Read + Drop>(alloc: Global, ctx: &mut Context, proof: R) -> Result<Seen, Fail>
-    requires { IsKept ctx.old }
-    ensures { OnOk result (IsKept ctx.new) }
+    requires { ContextInvariant ctx.old }
+    ensures { OnOk result (ContextInvariant ctx.new) }
 {
     match check_proof(&Discard, alloc, ctx, proof) {
         Ok(()) => Ok(Seen::Done),
@@ -132,7 +132,7 @@ fn last_id(rt: HostRuntime) -> Result<(), Fail> {
 }
 
 fn takes_last_id(rt: &impl Abort, alloc: Global, ctx: &mut Context) -> Result<(), Fail>
-    requires { IsKept ctx.old }
+    requires { ContextInvariant ctx.old }
 {
     let added = add(alloc, ctx, "1")?;
     assert_eq!(rt; added, Seen::Done);
@@ -159,7 +159,7 @@ fn no_id_for_the_closing_conflict(rt: HostRuntime) -> Result<(), Fail> {
 }
 
 fn closes_without_id(rt: &impl Abort, alloc: Global, ctx: &mut Context) -> Result<(), Fail>
-    requires { IsKept ctx.old }
+    requires { ContextInvariant ctx.old }
 {
     let first = add(alloc, ctx, "1")?;
     assert_eq!(rt; first, Seen::Done);
@@ -185,7 +185,7 @@ fn last_step_number(rt: HostRuntime) -> Result<(), Fail> {
 }
 
 fn takes_last_step_number(rt: &impl Abort, alloc: Global, ctx: &mut Context) -> Result<(), Fail>
-    requires { IsKept ctx.old }
+    requires { ContextInvariant ctx.old }
 {
     let first = attempt(alloc, ctx, &ProofStep::End)?;
     assert_eq!(rt; first, Seen::Done);
@@ -221,7 +221,7 @@ fn lacks_step_number<R: Read + Drop>(
     ctx: &mut Context,
     proof: R,
 ) -> Result<(), Fail>
-    requires { IsKept ctx.old }
+    requires { ContextInvariant ctx.old }
 {
     let proved = prove(alloc, ctx, proof)?;
     assert_eq!(rt;

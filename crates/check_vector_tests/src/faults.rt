@@ -307,7 +307,7 @@ fn hands_back_processor(
             assert_eq!(rt; handed_back.output(), b"|".as_slice());
             Ok(())
         }
-        _ => Err("not handed back".into()),
+        _ => Err("not delivered back".into()),
     }
 }
 
@@ -321,7 +321,7 @@ fn hands_back_transcript(
             assert_eq!(rt; handed_back.output(), b"|".as_slice());
             Ok(())
         }
-        _ => Err("not handed back".into()),
+        _ => Err("not delivered back".into()),
     }
 }
 

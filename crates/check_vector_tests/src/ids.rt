@@ -1,6 +1,6 @@
 //! Ids and hashes, as the parts of a checker show them.
 ghost use Rattle.std.specs.Prelude.{◌≡◌, OnOk};
-ghost use Rattle.checker_steps.specs.Context.{IsKept};
+ghost use Rattle.checker_steps.specs.Context.{ContextInvariant};
 
 use crate::calls::{hash, hashes, lits};
 use proof_bytes::ProofStep;
@@ -15,8 +15,8 @@ use varisat_checker::steps::add_clause::add_clause;
 
 // Adds an input clause, and answers the next id.
 fn add(alloc: Global, ctx: &mut Context, numbers: &str) -> Result<u64, Fail>
-    requires { IsKept ctx.old }
-    ensures { OnOk result (IsKept ctx.new) }
+    requires { ContextInvariant ctx.old }
+    ensures { OnOk result (ContextInvariant ctx.new) }
 {
     let clause = lits(alloc, numbers)?;
     match add_clause(alloc, ctx, &clause) {
@@ -27,8 +27,8 @@ fn add(alloc: Global, ctx: &mut Context, numbers: &str) -> Result<u64, Fail>
 
 // Derives an irredundant clause, and answers the next id.
 fn derive(alloc: Global, ctx: &mut Context, numbers: &str, names: &str) -> Result<u64, Fail>
-    requires { IsKept ctx.old }
-    ensures { OnOk result (IsKept ctx.new) }
+    requires { ContextInvariant ctx.old }
+    ensures { OnOk result (ContextInvariant ctx.new) }
 {
     let clause = lits(alloc, numbers)?;
     let propagation_hashes = hashes(alloc, names)?;
@@ -50,7 +50,7 @@ fn each_input_clause_takes_an_id(rt: HostRuntime) -> Result<(), Fail> {
 }
 
 fn takes_ids(rt: &impl Abort, alloc: Global, ctx: &mut Context) -> Result<(), Fail>
-    requires { IsKept ctx.old }
+    requires { ContextInvariant ctx.old }
 {
     let clause = lits(alloc, "1 2")?;
     let next = add(alloc, ctx, "1 2")?;
@@ -74,7 +74,7 @@ fn derived_clause_that_stands(rt: HostRuntime) -> Result<(), Fail> {
 }
 
 fn derives_what_stands(rt: &impl Abort, alloc: Global, ctx: &mut Context) -> Result<(), Fail>
-    requires { IsKept ctx.old }
+    requires { ContextInvariant ctx.old }
 {
     let next = add(alloc, ctx, "1 2 3")?;
     assert_eq!(rt; next, 1);

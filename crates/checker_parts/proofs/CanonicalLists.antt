@@ -74,7 +74,7 @@ canonical_by_members (x ∷ xs) (y ∷ ys) h k same =
       | false ↦ λ f g. g
     ] refl (s ∙ ap (λ n. eqb z n || has z ys) (sym e))
 
-canonical_from : (src c : List ℕ) → is_canonical c ≡ true → ((x : ℕ) → has x c ≡ has x src) → c ≡ canonical src
+pub canonical_from : (src c : List ℕ) → is_canonical c ≡ true → ((x : ℕ) → has x c ≡ has x src) → c ≡ canonical src
 canonical_from src c h same = canonical_by_members c (canonical src) h (canonical-is src) (λ x. same x ∙ sym (has-canonical x src))
 
 -- two neighbours share a variable
@@ -167,5 +167,7 @@ pub sorted-canonical : (src sorted : List ℕ) → IsPermutation src sorted → 
 sorted-canonical src sorted p s = canonical_from src (dedup eqb sorted)
     (canonical_from_sorted (dedup eqb sorted) (sorted_from_strictly_increasing (dedup eqb sorted) (IsStrictlyIncreasing-dedup sorted s)))
     (λ x. bool_ext (has x (dedup eqb sorted)) (has x src)
-    (λ h. list_any-from_Contains nat_eq_equiv x src (Contains-permutation sorted src x (IsPermutation-sym src sorted p) (Contains-from_dedup eqb sorted x (Contains-from_any eqb-true x (dedup eqb sorted) h))))
+    (λ h. list_any-from_Contains nat_eq_equiv x src
+    (Contains-permutation sorted src x (IsPermutation-sym src sorted p)
+    (Contains-from_dedup eqb sorted x (Contains-from_any eqb-true x (dedup eqb sorted) h))))
     (λ h. list_any-from_Contains nat_eq_equiv x (dedup eqb sorted) (Contains-dedup_nat sorted x (Contains-permutation src sorted x p (Contains-from_any eqb-true x src h)))))

@@ -75,7 +75,8 @@ length_by_view ns ms ks h view = sym (ap (λ (ks : List Known). length ks) view)
 pub within : (ns : List ℕ) (ms : List SamplingMode) (ts : List Bool) (ks : List Known) (i v : ℕ) → AreColumns ns ms ts → known_by ns ms ≡ ks → i ≡ v → v < length ks → i < length ns
 within ns ms ts ks i v h view at less = omega (arith, length_by_view ns ms ks h.modes view)
 
-pub mode-read : (ns : List ℕ) (ms : List SamplingMode) (ks : List Known) (i : ℕ) (m : SamplingMode) → length ms ≡ length ns → known_by ns ms ≡ ks → i < length ms → m ≡ get_or ms i m → mode_of m ≡ (known_at ks i).mode
+pub mode-read : (ns : List ℕ) (ms : List SamplingMode) (ks : List Known) (i : ℕ) (m : SamplingMode) → length ms ≡ length ns →
+    known_by ns ms ≡ ks → i < length ms → m ≡ get_or ms i m → mode_of m ≡ (known_at ks i).mode
 mode-read ns ms ks i m h view less read =
     ap mode_of read ∙ sym (ap (λ (k : Known). k.mode) (known_at-known_by ns ms i 0 m h (omega (arith, h)))) ∙ ap (λ (ks : List Known). (known_at ks i).mode) view
 
@@ -91,10 +92,12 @@ columns_mode ns ms ts i m h less = record {
 }
 
 -- a variable is hidden, and its name goes
-pub known_by-hidden : (ns : List ℕ) (ms : List SamplingMode) (i n : ℕ) → name_of n ≡ None → length ms ≡ length ns → known_by (set ns i n) (set ms i Hide) ≡ set (known_by ns ms) i (record { name = None; mode = hide })
+pub known_by-hidden : (ns : List ℕ) (ms : List SamplingMode) (i n : ℕ) → name_of n ≡ None → length ms ≡ length ns →
+    known_by (set ns i n) (set ms i Hide) ≡ set (known_by ns ms) i (record { name = None; mode = hide })
 known_by-hidden ns ms i n none h = known_by-both ns ms i n Hide h ∙ ap (λ o. set (known_by ns ms) i (record { name = o; mode = hide })) none
 
-pub columns_hidden : (ns : List ℕ) (ms : List SamplingMode) (ts ts' : List Bool) (i n : ℕ) → name_of n ≡ None → AreColumns ns ms ts → length ts' ≡ length ts → IsMarked (set (known_by ns ms) i (record { name = None; mode = hide })) ts'
+pub columns_hidden : (ns : List ℕ) (ms : List SamplingMode) (ts ts' : List Bool) (i n : ℕ) → name_of n ≡ None → AreColumns ns ms ts →
+    length ts' ≡ length ts → IsMarked (set (known_by ns ms) i (record { name = None; mode = hide })) ts'
     → AreColumns (set ns i n) (set ms i Hide) ts'
 columns_hidden ns ms ts ts' i n none h long marked = record {
   modes = length-set ms i Hide ∙ h.modes ∙ sym (length-set ns i n);
@@ -103,10 +106,12 @@ columns_hidden ns ms ts ts' i n none h long marked = record {
 }
 
 -- the columns grow
-pub known_by-grown : (ns ns' : List ℕ) (ms ms' : List SamplingMode) (n k : ℕ) → name_of n ≡ None → length ms ≡ length ns → ns' ≡ ns ++ replicate k n → ms' ≡ ms ++ replicate k Sample → known_by ns' ms' ≡ known_by ns ms ++ replicate k new_known
+pub known_by-grown : (ns ns' : List ℕ) (ms ms' : List SamplingMode) (n k : ℕ) → name_of n ≡ None → length ms ≡ length ns →
+    ns' ≡ ns ++ replicate k n → ms' ≡ ms ++ replicate k Sample → known_by ns' ms' ≡ known_by ns ms ++ replicate k new_known
 known_by-grown ns ns' ms ms' n k none h names modes = ap (λ ns. known_by ns ms') names ∙ ap (λ ms. known_by (ns ++ replicate k n) ms) modes ∙ known_by-more ns ms n k none h
 
-pub columns_grown : (ns ns' : List ℕ) (ms ms' : List SamplingMode) (ts ts' : List Bool) (n k : ℕ) → name_of n ≡ None → AreColumns ns ms ts → ns' ≡ ns ++ replicate k n → ms' ≡ ms ++ replicate k Sample → ts' ≡ ts ++ replicate k false → AreColumns ns' ms' ts'
+pub columns_grown : (ns ns' : List ℕ) (ms ms' : List SamplingMode) (ts ts' : List Bool) (n k : ℕ) → name_of n ≡ None → AreColumns ns ms ts →
+    ns' ≡ ns ++ replicate k n → ms' ≡ ms ++ replicate k Sample → ts' ≡ ts ++ replicate k false → AreColumns ns' ms' ts'
 columns_grown ns ns' ms ms' ts ts' n k none h names modes taken = rw (names, modes, taken) (record {
   modes = length-append ms (replicate k Sample) ∙ omega (arith, h.modes, length-replicate k Sample, length-replicate k n) ∙ sym (length-append ns (replicate k n));
   taken = length-append ts (replicate k false) ∙ omega (arith, h.taken, length-replicate k false, length-replicate k n) ∙ sym (length-append ns (replicate k n));
@@ -114,7 +119,8 @@ columns_grown ns ns' ms ms' ts ts' n k none h names modes taken = rw (names, mod
 })
 
 -- a column grows to n elements where it had m
-pub grown : {X : Type 0} (old mid new : List X) (len m n : ℕ) (x : X) → length old ≡ m → mid ≡ old → len ≡ length mid → new ≡ take n mid ++ replicate (n - len) x → m < n → new ≡ old ++ replicate (n - m) x
+pub grown : {X : Type 0} (old mid new : List X) (len m n : ℕ) (x : X) → length old ≡ m → mid ≡ old → len ≡ length mid →
+    new ≡ take n mid ++ replicate (n - len) x → m < n → new ≡ old ++ replicate (n - m) x
 grown {X} old mid new len m n x long same at is less =
     let size = ap (λ (xs : List X). length xs) same in
     is ∙ ap (λ (xs : List X). xs ++ replicate (n - len) x) (take_all n mid (omega arith) ∙ same) ∙ ap (λ k. old ++ replicate (n - k) x) (at ∙ size ∙ long)

@@ -2,7 +2,7 @@
 use Rattle.std.proofs.Common.{◌≡◌, ◌⊎◌, ℕ, Bool, List, [], ◌∷◌, ◌++◌, Option, Some, None, Result, Ok, Err, sym, ap, ◌∙◌, subst, inl, inr}
 use Rattle.checker_rules.specs.Calls.{attempt, closing_conflict}
 use Rattle.checker_rules.specs.Covers.{Covers, CoversAfter}
-use Rattle.checker_rules.specs.Headline.{Good, SetAfter, changed, holds}
+use Rattle.checker_rules.specs.Headline.{EntailsRedundant, SetAfter, changed, holds}
 use Rattle.checker_rules.specs.Outcome.{Cause, Outcome, and_then_by, refuse}
 use Rattle.checker_rules.specs.Run.{Runs}
 use Rattle.checker_rules.specs.State.{State, sat}
@@ -35,7 +35,8 @@ fold-last : (ts : List Step) (t : Step) (p : (ℕ → Bool) → Bool) (s : State
 fold-last ts t p s f h a = h a ∙ changed_same t p (holds ts) f a ∙ sym (holds_last ts t a)
 
 -- one step, from what its outcome does to the set
-pub sets_fold : (s : State) (t : Step) (o : Outcome) → SetAfter (sat s) t o.refused o.after → (ts : List Step) → IsFold ts s → (r : Result (Unit {0}) CheckerError) (u : State) → AnswersStep r o u → SetsFold r ts t u
+pub sets_fold : (s : State) (t : Step) (o : Outcome) → SetAfter (sat s) t o.refused o.after → (ts : List Step) → IsFold ts s →
+    (r : Result (Unit {0}) CheckerError) (u : State) → AnswersStep r o u → SetsFold r ts t u
 sets_fold s t o k ts f (Ok x) u h = fold-last ts t (sat s) u f (λ a. ap (λ w. sat w a) h.1 ∙ accepted o.refused h.0 k a)
   where
     accepted : (x : Option Cause) → x ≡ None → SetAfter (sat s) t x o.after → (a : ℕ → Bool) → sat o.after a ≡ changed t (sat s) a
@@ -72,14 +73,14 @@ covers_fold t o ts k (Err OutOfMemory) u h = tt
 covers_fold t o ts k (Err Failed) u h = tt
 
 -- `check_step` and `add_clause`
-pub sets_fold-step : (s : State) (t : Step) (ts : List Step) (r : Result (Unit {0}) CheckerError) (u : State) → Good s → IsFold ts s → AnswersStep r (step s t) u → SetsFold r ts t u
+pub sets_fold-step : (s : State) (t : Step) (ts : List Step) (r : Result (Unit {0}) CheckerError) (u : State) → EntailsRedundant s → IsFold ts s → AnswersStep r (step s t) u → SetsFold r ts t u
 sets_fold-step s t ts r u g f h = sets_fold s t (step s t) (step_keeps s t g).1 ts f r u h
 
 pub covers_fold-step : (s : State) (t : Step) (ts : List Step) (r : Result (Unit {0}) CheckerError) (u : State) → IsCovered ts s → AnswersStep r (step s t) u → CoversFold r ts t u
 covers_fold-step s t ts r u k h = covers_fold t (step s t) ts (steps_cover (holds ts) s t k) r u h
 
 -- a proof step, counted
-pub sets_fold-attempt : (s : State) (t : Step) (ts : List Step) (r : Result (Unit {0}) CheckerError) (u : State) → Good s → IsFold ts s → AnswersStep r (attempt s t) u → SetsFold r ts t u
+pub sets_fold-attempt : (s : State) (t : Step) (ts : List Step) (r : Result (Unit {0}) CheckerError) (u : State) → EntailsRedundant s → IsFold ts s → AnswersStep r (attempt s t) u → SetsFold r ts t u
 sets_fold-attempt s t ts r u g f h = sets_fold s t (attempt s t) (keeps_attempt s t g).1 ts f r u h
 
 pub covers_fold-attempt : (s : State) (t : Step) (ts : List Step) (r : Result (Unit {0}) CheckerError) (u : State) → IsCovered ts s → AnswersStep r (attempt s t) u → CoversFold r ts t u
@@ -97,14 +98,15 @@ unless_failed P o k (Err OutOfMemory) u h = tt
 unless_failed P o k (Err Failed) u h = tt
 
 -- a closing conflict
-pub sets_fold-closing : (s : State) (ts : List Step) (r : Result (Unit {0}) CheckerError) (u : State) → Good s → IsFold ts s → AnswersStep r (closing_conflict s) u → UnlessFailed r (IsFold ts u)
+pub sets_fold-closing : (s : State) (ts : List Step) (r : Result (Unit {0}) CheckerError) (u : State) → EntailsRedundant s → IsFold ts s →
+    AnswersStep r (closing_conflict s) u → UnlessFailed r (IsFold ts u)
 sets_fold-closing s ts r u g f h = unless_failed (IsFold ts) (closing_conflict s) (λ a. (close_keeps s g).1 a ∙ f a) r u h
 
 pub covers_fold-closing : (s : State) (ts : List Step) (r : Result (Unit {0}) CheckerError) (u : State) → IsCovered ts s → AnswersStep r (closing_conflict s) u → UnlessFailed r (IsCovered ts u)
 covers_fold-closing s ts r u k h = unless_failed (IsCovered ts) (closing_conflict s) (covers_close (holds ts) s k) r u h
 
 -- a list of steps
-set-all : (s : State) (before ts : List Step) → Good s → IsFold before s → IsFold (before ++ first_accepted s ts) (all_steps s ts).after
+set-all : (s : State) (before ts : List Step) → EntailsRedundant s → IsFold before s → IsFold (before ++ first_accepted s ts) (all_steps s ts).after
 set-all s before [] g f = λ a. f a ∙ ap (λ l. holds l a) (sym (append_none before))
 set-all s before (t ∷ ts) g f = go (step s t).refused (step_keeps s t g).1 (λ h. set-all (step s t).after (before ++ t ∷ []) ts (step_keeps s t g).0 h)
   where
@@ -129,27 +131,33 @@ covers-all s before (t ∷ ts) k = go (step s t).refused (steps_cover (holds bef
         (λ a. ap (λ l. holds l a) (append_step before t (first_accepted rest ts))) (on (covers-last before t rest k))
     go (Some c) k on = covers_same (holds before) (holds (before ++ [])) rest (λ a. ap (λ l. holds l a) (sym (append_none before))) k
 
-pub sets_fold-all : (s : State) (before ts : List Step) (r : Result (Unit {0}) CheckerError) (u : State) → Good s → IsFold before s → AnswersStep r (all_steps s ts) u → UnlessFailed r (IsFold (before ++ first_accepted s ts) u)
+pub sets_fold-all : (s : State) (before ts : List Step) (r : Result (Unit {0}) CheckerError) (u : State) → EntailsRedundant s →
+    IsFold before s → AnswersStep r (all_steps s ts) u → UnlessFailed r (IsFold (before ++ first_accepted s ts) u)
 sets_fold-all s before ts r u g f h = unless_failed (IsFold (before ++ first_accepted s ts)) (all_steps s ts) (set-all s before ts g f) r u h
 
-pub covers_fold-all : (s : State) (before ts : List Step) (r : Result (Unit {0}) CheckerError) (u : State) → IsCovered before s → AnswersStep r (all_steps s ts) u → UnlessFailed r (IsCovered (before ++ first_accepted s ts) u)
+pub covers_fold-all : (s : State) (before ts : List Step) (r : Result (Unit {0}) CheckerError) (u : State) → IsCovered before s →
+    AnswersStep r (all_steps s ts) u → UnlessFailed r (IsCovered (before ++ first_accepted s ts) u)
 covers_fold-all s before ts r u k h = unless_failed (IsCovered (before ++ first_accepted s ts)) (all_steps s ts) (covers-all s before ts k) r u h
 
 -- the clauses of a text
-pub sets_text : {P : Type 0} (o : Outcome) (u : State) → ((r : Result (Unit {0}) CheckerError) → AnswersStep r o u → UnlessFailed r P) → (r : Result (Unit {0}) DimacsError) → AnswersText r o u → UnlessTextFailed r P
+pub sets_text : {P : Type 0} (o : Outcome) (u : State) → ((r : Result (Unit {0}) CheckerError) → AnswersStep r o u → UnlessFailed r P) →
+    (r : Result (Unit {0}) DimacsError) → AnswersText r o u → UnlessTextFailed r P
 sets_text o u k (Ok x) h = k ok_answer h
 sets_text o u k (Err (Read cause)) h = k ok_answer h
 sets_text o u k (Err (Malformed line kind)) h = k ok_answer h
 sets_text o u k (Err (Checker e)) h = k (err_answer e) h
 
-pub sets_fold-text : (s : State) (before ts : List Step) (r : Result (Unit {0}) DimacsError) (u : State) → Good s → IsFold before s → AnswersText r (all_steps s ts) u → UnlessTextFailed r (IsFold (before ++ first_accepted s ts) u)
+pub sets_fold-text : (s : State) (before ts : List Step) (r : Result (Unit {0}) DimacsError) (u : State) → EntailsRedundant s →
+    IsFold before s → AnswersText r (all_steps s ts) u → UnlessTextFailed r (IsFold (before ++ first_accepted s ts) u)
 sets_fold-text s before ts r u g f h = sets_text (all_steps s ts) u (λ r h. sets_fold-all s before ts r u g f h) r h
 
-pub covers_fold-text : (s : State) (before ts : List Step) (r : Result (Unit {0}) DimacsError) (u : State) → IsCovered before s → AnswersText r (all_steps s ts) u → UnlessTextFailed r (IsCovered (before ++ first_accepted s ts) u)
+pub covers_fold-text : (s : State) (before ts : List Step) (r : Result (Unit {0}) DimacsError) (u : State) → IsCovered before s →
+    AnswersText r (all_steps s ts) u → UnlessTextFailed r (IsCovered (before ++ first_accepted s ts) u)
 covers_fold-text s before ts r u k h = sets_text (all_steps s ts) u (λ r h. covers_fold-all s before ts r u k h) r h
 
 -- a run
-pub ends : {X : Type 0} (P : List Step → State → Type 0) (next : X → (Step × X) ⊎ Fault) (s : State) (x : X) → ((ts : List Step) (answer : Option (Cause ⊎ Fault)) (u : State) → Runs next s x ts answer u → P ts u)
+pub ends : {X : Type 0} (P : List Step → State → Type 0) (next : X → (Step × X) ⊎ Fault) (s : State) (x : X) →
+    ((ts : List Step) (answer : Option (Cause ⊎ Fault)) (u : State) → Runs next s x ts answer u → P ts u)
     → (r : Result (Unit {0}) CheckerError) (ts : List Step) (u : State) → EndsRun r next s x ts u → UnlessFailed r (P ts u)
 ends P next s x k (Ok done) ts u h = k ts None u h
 ends P next s x k (Err (CheckFailed number cause debug_step)) ts u h = k ts (Some (inl (cause_of cause))) u h.1
@@ -160,7 +168,7 @@ ends P next s x k (Err (ProofProcessorError cause)) ts u h = tt
 ends P next s x k (Err OutOfMemory) ts u h = tt
 ends P next s x k (Err Failed) ts u h = tt
 
-pub sets_fold-run : {X : Type 0} (next : X → (Step × X) ⊎ Fault) (s : State) (x : X) (before : List Step) → Good s → IsFold before s
+pub sets_fold-run : {X : Type 0} (next : X → (Step × X) ⊎ Fault) (s : State) (x : X) (before : List Step) → EntailsRedundant s → IsFold before s
     → (r : Result (Unit {0}) CheckerError) (ts : List Step) (u : State) → EndsRun r next s x ts u → UnlessFailed r (IsFold (before ++ ts) u)
 sets_fold-run {X} next s x before g f r ts u h = ends (λ ts u. IsFold (before ++ ts) u) next s x (λ ts answer u run. (runs_are_fold X Fault next s x before ts answer u g f run).1) r ts u h
 
@@ -175,11 +183,13 @@ all_steps-accepted s t ts h = ap (λ x. and_then_by x (step s t).after (λ r. al
 pub all_steps-refused : (s : State) (t : Step) (ts : List Step) (cause : Cause) → (step s t).refused ≡ Some cause → all_steps s (t ∷ ts) ≡ refuse cause (step s t).after
 all_steps-refused s t ts cause h = ap (λ x. and_then_by x (step s t).after (λ r. all_steps r ts)) h
 
-pub answers_on : (s : State) (t : Step) (ts : List Step) (u : State) → AnswersStep ok_answer (step s t) u → (r : Result (Unit {0}) CheckerError) (w : State) → AnswersStep r (all_steps u ts) w → AnswersStep r (all_steps s (t ∷ ts)) w
+pub answers_on : (s : State) (t : Step) (ts : List Step) (u : State) → AnswersStep ok_answer (step s t) u →
+    (r : Result (Unit {0}) CheckerError) (w : State) → AnswersStep r (all_steps u ts) w → AnswersStep r (all_steps s (t ∷ ts)) w
 answers_on s t ts u k r w h = subst (λ o. AnswersStep r o w) (ap (λ v. all_steps v ts) k.1 ∙ sym (all_steps-accepted s t ts k.0)) h
 
 pub answers_stop : (s : State) (t : Step) (ts : List Step) (e : CheckerError) (u : State) → AnswersStep (err_answer e) (step s t) u → AnswersStep (err_answer e) (all_steps s (t ∷ ts)) u
-answers_stop s t ts (CheckFailed number cause debug_step) u h = let e = all_steps-refused s t ts (cause_of cause) h.0 in (ap (λ (o : Outcome). o.refused) e, h.1 ∙ ap (λ (o : Outcome). o.after) (sym e), h.2)
+answers_stop s t ts (CheckFailed number cause debug_step) u h = let e = all_steps-refused s t ts (cause_of cause) h.0 in
+    (ap (λ (o : Outcome). o.refused) e, h.1 ∙ ap (λ (o : Outcome). o.after) (sym e), h.2)
 answers_stop s t ts (ProofIncomplete number) u h = h
 answers_stop s t ts (IoError number cause) u h = h
 answers_stop s t ts (ParseError number cause) u h = h

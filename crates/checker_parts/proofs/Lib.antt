@@ -4,4 +4,5 @@ pub mod Headlines
 pub mod InBoxes
 pub mod Marks
 pub mod Proving
+pub mod Rising
 pub mod SubsetWalks

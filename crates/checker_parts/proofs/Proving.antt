@@ -4,7 +4,7 @@ use Rattle.std.proofs.lemmas.Bool.{and_from, and_parts, or_right}
 use Rattle.checker_rules.specs.Calls.{attempt, count_step, step_limit}
 use Rattle.checker_rules.specs.Clauses.{clause_true}
 use Rattle.checker_rules.specs.Covers.{all_sat}
-use Rattle.checker_rules.specs.Headline.{Good}
+use Rattle.checker_rules.specs.Headline.{EntailsRedundant}
 use Rattle.checker_rules.specs.Outcome.{refuse, steps_exhausted}
 use Rattle.checker_rules.specs.State.{State, Stored, irredundant_true, sat, stored_true, units_true}
 use Rattle.checker_rules.specs.Step.{Step, add_clause, assumptions, at_clause, change_hash_bits, change_sampling_mode, delete_clause, delete_var, end_proof, failed_assumptions, model, solver_var_name, unit_clauses, user_var_name}
@@ -14,7 +14,7 @@ use Rattle.checker_parts.specs.Answers.{IsCovered, IsFold}
 use Rattle.checker_parts.specs.Models.{Proves, Refutes, RunProves, RunRefutes, attempted}
 
 -- a step that is accepted
-step_proves : (s : State) (t : Step) (ts : List Step) → Good s → IsFold ts s → (step s t).refused ≡ None → Proves t ts s
+step_proves : (s : State) (t : Step) (ts : List Step) → EntailsRedundant s → IsFold ts s → (step s t).refused ≡ None → Proves t ts s
 step_proves s (model m) ts g f h =
     let k = models_are_members s m h in
     record { members = λ a e. sym (f a) ∙ k.members a e; one = k.one }
@@ -47,7 +47,7 @@ proves-uncounted (change_hash_bits n) ts s h = tt
 proves-uncounted (assumptions c) ts s h = tt
 proves-uncounted end_proof ts s h = tt
 
-pub attempt_proves : (s : State) (t : Step) (ts : List Step) → Good s → IsFold ts s → (attempt s t).refused ≡ None → Proves t ts s
+pub attempt_proves : (s : State) (t : Step) (ts : List Step) → EntailsRedundant s → IsFold ts s → (attempt s t).refused ≡ None → Proves t ts s
 unfolding attempt sat
 attempt_proves s t ts g f h = proves-uncounted t ts s (counted (ltb s.steps step_limit) h)
   where
@@ -69,7 +69,7 @@ sat-all s a h =
     let q = and_parts (stored_true a s.clauses) (units_true a s.units) p.1 in
     and_from (not s.unsat) (irredundant_true a s.clauses && units_true a s.units) p.0 (and_from (irredundant_true a s.clauses) (units_true a s.units) (irredundant-stored a s.clauses q.0) q.1)
 
-step_refutes : (s : State) (t : Step) (ts : List Step) → Good s → IsCovered ts s → (step s t).refused ≡ None → Refutes t ts
+step_refutes : (s : State) (t : Step) (ts : List Step) → EntailsRedundant s → IsCovered ts s → (step s t).refused ≡ None → Refutes t ts
 step_refutes s (failed_assumptions c hs) ts g covered h = λ a member all. cores_fail s c hs g h a (sat-all s a (covered a member)) all
 step_refutes s (model m) ts g covered h = tt
 step_refutes s (solver_var_name x v) ts g covered h = tt
@@ -84,7 +84,7 @@ step_refutes s (change_hash_bits n) ts g covered h = tt
 step_refutes s (assumptions c) ts g covered h = tt
 step_refutes s end_proof ts g covered h = tt
 
-pub attempt_refutes : (s : State) (t : Step) (ts : List Step) → Good s → IsCovered ts s → (attempt s t).refused ≡ None → Refutes t ts
+pub attempt_refutes : (s : State) (t : Step) (ts : List Step) → EntailsRedundant s → IsCovered ts s → (attempt s t).refused ≡ None → Refutes t ts
 unfolding attempt
 attempt_refutes s t ts g covered h = counted (ltb s.steps step_limit) h
   where

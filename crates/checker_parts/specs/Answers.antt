@@ -62,12 +62,17 @@ AnswersText (Err (Malformed line kind)) o s = (o.refused ≡ None) × (s ≡ o.a
 AnswersText {A = A} (Err (Checker e)) o s = AnswersStep {A = A} (Err e) o s
 
 -- Ok after `End`; else the first refusal, the end of the text, its first fault, or a read's fault where the text then ends; a call may fail the checker here too
-abbrev pub EndsRun : {A X : Type 0} → Result A CheckerError → (X → (Step × X) ⊎ Fault) → State → X → List Step → State → Type 0
+abbrev pub EndsRun : {A X : Type 0} → Result A CheckerError → (X → (Step × X) ⊎ Fault) → State → X →
+    List Step → State → Type 0
 EndsRun (Ok done) next s x ts r = Runs next s x ts None r
-EndsRun (Err (CheckFailed number cause debug_step)) next s x ts r = (number ≡ r.steps) × Runs next s x ts (Some (inl (cause_of cause))) r
-EndsRun (Err (ProofIncomplete number)) next s x ts r = (number ≡ r.steps) × Runs next s x ts (Some (inr Short)) r
-EndsRun (Err (IoError number cause)) next s x ts r = (number ≡ r.steps) × Runs next s x ts (Some (inr Short)) r
-EndsRun (Err (ParseError number cause)) next s x ts r = (number ≡ r.steps) × Runs next s x ts (Some (inr (Wrong cause))) r
+EndsRun (Err (CheckFailed number cause debug_step)) next s x ts r =
+    (number ≡ r.steps) × Runs next s x ts (Some (inl (cause_of cause))) r
+EndsRun (Err (ProofIncomplete number)) next s x ts r =
+    (number ≡ r.steps) × Runs next s x ts (Some (inr Short)) r
+EndsRun (Err (IoError number cause)) next s x ts r =
+    (number ≡ r.steps) × Runs next s x ts (Some (inr Short)) r
+EndsRun (Err (ParseError number cause)) next s x ts r =
+    (number ≡ r.steps) × Runs next s x ts (Some (inr (Wrong cause))) r
 EndsRun (Err (ProofProcessorError cause)) next s x ts r = r.failed ≡ true
 EndsRun (Err OutOfMemory) next s x ts r = r.failed ≡ true
 EndsRun (Err Failed) next s x ts r = ⊥

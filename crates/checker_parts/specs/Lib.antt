@@ -6,5 +6,6 @@ pub mod Errors
 pub mod Memory
 pub mod Models
 pub mod Names
+pub mod RisingVars
 pub mod Subsets
 pub mod Variables

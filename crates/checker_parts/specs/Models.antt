@@ -11,9 +11,10 @@ use Rattle.checker_rules.specs.State.{State, StoredUnit}
 use Rattle.checker_rules.specs.Step.{Step, add_clause, assumptions, at_clause, change_hash_bits, change_sampling_mode, delete_clause, delete_var, end_proof, failed_assumptions, model, solver_var_name, unit_clauses, user_var_name}
 
 -- the model with the units extends only to members, and to one
-pub record ModelProves (m : List ℕ) (ts : List Step) (units : List (Option StoredUnit)) : Type 0 where
-  pub members : (a : ℕ → Bool) → Extends a m units → holds ts a ≡ true
-  pub one : (a : ℕ → Bool) × Extends a m units
+pub record ModelProves (m : List ℕ) (ts : List Step) (units : List (Option StoredUnit)) : Type 0
+  where
+    pub members : (a : ℕ → Bool) → Extends a m units → holds ts a ≡ true
+    pub one : (a : ℕ → Bool) × Extends a m units
 
 -- no member makes all literals of the core true
 abbrev pub CoreFails : List ℕ → List Step → Type 0
@@ -43,7 +44,8 @@ attempted s (t ∷ ts) = attempted (attempt s t).after ts
 -- each of the steps proves so much in the state in which it is attempted
 abbrev pub RunProves : List Step → State → List Step → Type 0
 RunProves before s [] = Unit {0}
-RunProves before s (t ∷ ts) = Proves t before s × RunProves (before ++ t ∷ []) (attempt s t).after ts
+RunProves before s (t ∷ ts) = Proves t before s
+    × RunProves (before ++ t ∷ []) (attempt s t).after ts
 
 -- by the kind of step
 abbrev pub Refutes : Step → List Step → Type 0

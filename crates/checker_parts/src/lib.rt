@@ -5,7 +5,5 @@ pub mod error;
 pub mod processor;
 pub mod sorted_lits;
 pub mod step;
-#[cfg(test)]
-mod tests;
 pub mod transcript;
 pub mod variables;

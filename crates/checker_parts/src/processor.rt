@@ -35,14 +35,14 @@ impl<'a> CheckerData<'a> {
 /// Takes each step of a checked proof.
 pub trait ProofProcessor: Drop {
     ghost use Rattle.std.specs.Prelude.{◌≡◌, ℕ, List, OnOk, OnErr};
-    ghost use Rattle.checker_rules.specs.CheckedSteps.{ShownStep};
+    ghost use Rattle.checker_rules.specs.CheckedSteps.{NamedStep};
     ghost use Rattle.checker_parts.specs.CheckedSteps.{told};
 
     /// What holds of the old value, the step with its names, and the new value where the answer is Ok.
-    ghost took: { Self → ShownStep → Self → Type 0 };
+    ghost took: { Self → NamedStep → Self → Type 0 };
 
     /// The same where the answer is a fault.
-    ghost faulted: { Self → ShownStep → Self → Type 0 };
+    ghost faulted: { Self → NamedStep → Self → Type 0 };
 
     /// What `output` gives.
     ghost shown: { Self → List ℕ };
@@ -54,7 +54,8 @@ pub trait ProofProcessor: Drop {
         names: CheckerData,
     ) -> Result<(), anyhow::Error>
         ensures took { OnOk result (took self.old (told step.now names.entry.0.now) self.new) }
-        ensures faulted { OnErr result (faulted self.old (told step.now names.entry.0.now) self.new) };
+        ensures faulted { OnErr result
+            (faulted self.old (told step.now names.entry.0.now) self.new) };
 
     /// What the processor has to show, as bytes.
     fn output(&self) -> &[u8]

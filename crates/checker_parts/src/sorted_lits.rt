@@ -3,6 +3,7 @@ ghost use Rattle.std.specs.Prelude.{◌≡◌, IsTrue, OnOk, IfOk, OnErr, []};
 ghost use Rattle.checker_rules.specs.Canonical.{canonical};
 ghost use Rattle.checker_rules.specs.Clauses.{is_canonical, is_tautology};
 ghost use Rattle.checker_parts.specs.Subsets.{is_subset_by};
+ghost use Rattle.checker_parts.specs.RisingVars.{has_rising_vars};
 
 use sat_formula::lit::Lit;
 use std::alloc::AllocError;
@@ -19,9 +20,28 @@ pub fn copy_canonical(target: &mut Vec<Lit>, src: &[Lit]) -> Result<bool, AllocE
 {
     target.clear();
     target.extend_from_slice(src)?;
+    if has_rising_vars(src) {
+        return Ok(false);
+    }
     target.sort_unstable();
     target.dedup();
     Ok(has_opposites(target.as_slice()))
+}
+
+// Whether the variables rise from literal to literal. Such a list is canonical, and no tautology.
+fn has_rising_vars(lits: &[Lit]) -> bool
+    ensures { result ≡ has_rising_vars lits.now }
+{
+    let mut rest = lits;
+    while let Some((first, others)) = rest.split_first() {
+        if let Some(second) = others.first() {
+            if first.index() >= second.index() {
+                return false;
+            }
+        }
+        rest = others;
+    }
+    true
 }
 
 // Opposite literals of a canonical list are neighbours: their codes differ by 1.

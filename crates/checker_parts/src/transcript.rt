@@ -35,7 +35,8 @@ impl Transcript {
         step: &CheckedProofStep,
         names: CheckerData,
     ) -> Result<Option<ProofTranscriptStep<'_>>, CheckerError>
-        ensures ok { IfOk result (λ told. transcripts_of told ≡ image_of names.entry.0.now (step_of step.now)) }
+        ensures ok { IfOk result (λ told. transcripts_of told ≡
+            image_of names.entry.0.now (step_of step.now)) }
         ensures err { IfErr result (λ e. e ≡ OutOfMemory) }
         ensures memory { lists_literals (step_of step.now) ≡ false → NeedsNoMemory result }
     {

@@ -134,7 +134,8 @@ impl Variables {
 
     /// Makes the first `count` variables known, new ones unnamed and in mode `Sample`.
     pub fn know(&mut self, count: usize) -> Result<(), AllocError>
-        ensures ok { OnOk result (self.new ≡ self.old ++ replicate (count - length self.old) new_known) }
+        ensures ok { OnOk result (self.new ≡
+            self.old ++ replicate (count - length self.old) new_known) }
         ensures err { OnErr result (self.new ≡ self.old) }
     {
         if self.len() < count {
@@ -155,7 +156,11 @@ impl Variables {
         requires unnamed { (known_at self.old (index_of var)).name ≡ None }
         requires in_range { index_of user_var < length self.old }
         requires not_taken { is_taken self.old (index_of user_var) ≡ false }
-        ensures { self.new ≡ set self.old (index_of var) (record { name = Some (index_of user_var); mode = (known_at self.old (index_of var)).mode }) }
+        ensures { self.new ≡ set self.old (index_of var)
+            (record {
+              name = Some (index_of user_var);
+              mode = (known_at self.old (index_of var)).mode;
+            }) }
     {
         let name = user_var.index();
         self.taken[name] = true;
@@ -178,7 +183,11 @@ impl Variables {
 
     pub fn set_mode(&mut self, var: Var, sampling_mode: SamplingMode)
         requires { index_of var < length self.old }
-        ensures { self.new ≡ set self.old (index_of var) (record { name = (known_at self.old (index_of var)).name; mode = mode_of sampling_mode }) }
+        ensures { self.new ≡ set self.old (index_of var)
+            (record {
+              name = (known_at self.old (index_of var)).name;
+              mode = mode_of sampling_mode;
+            }) }
     {
         self.modes[var.index()] = sampling_mode;
     }

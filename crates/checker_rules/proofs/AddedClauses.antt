@@ -7,7 +7,7 @@ use Rattle.checker_rules.specs.Calls.{adds, calls_after}
 use Rattle.checker_rules.specs.Canonical.{canonical}
 use Rattle.checker_rules.specs.Clauses.{all_true, clause_true}
 use Rattle.checker_rules.specs.Covers.{Covers, CoversAfter}
-use Rattle.checker_rules.specs.Headline.{Good, SetAfter, changed, holds}
+use Rattle.checker_rules.specs.Headline.{EntailsRedundant, SetAfter, changed, holds}
 use Rattle.checker_rules.specs.KnownVars.{know_clause, some_not_sampling}
 use Rattle.checker_rules.specs.Outcome.{Cause, Outcome, accept, and_then, and_then_by}
 use Rattle.checker_rules.specs.Sound.{Sound}
@@ -24,12 +24,14 @@ use Rattle.checker_rules.proofs.WholeRuns.{covers_same}
 abbrev Next : List (List ℕ) → State → Outcome
 Next cs r = add_clauses r cs
 
-fold : (s : State) (before : List Step) (cs : List (List ℕ)) → Good s → ((a : ℕ → Bool) → sat s a ≡ holds before a) → (a : ℕ → Bool) → sat (add_clauses s cs).after a ≡ holds (before ++ map add_clause (added s cs)) a
+fold : (s : State) (before : List Step) (cs : List (List ℕ)) → EntailsRedundant s → ((a : ℕ → Bool) → sat s a ≡ holds before a) →
+    (a : ℕ → Bool) → sat (add_clauses s cs).after a ≡ holds (before ++ map add_clause (added s cs)) a
 fold s before [] g h a = h a ∙ ap (λ l. holds l a) (sym (append_none before))
 fold s before (c ∷ cs) g h a =
     let k = step_keeps s (add_clause c) g in
     let r = (step s (add_clause c)).after in
-    let set = elim (step s (add_clause c)).refused as (λ x. SetAfter (sat s) (add_clause c) x r → sat (and_then_by x r (Next cs)).after a ≡ holds (before ++ map add_clause (added_by x c (added r cs))) a) [
+    let set = elim (step s (add_clause c)).refused as (λ x. SetAfter (sat s) (add_clause c) x r →
+    sat (and_then_by x r (Next cs)).after a ≡ holds (before ++ map add_clause (added_by x c (added r cs))) a) [
       | None ↦ λ e. fold r (before ++ add_clause c ∷ []) cs k.0 (λ b. e b ∙ changed_same (add_clause c) (sat s) (holds before) h b ∙ sym (holds_last before (add_clause c) b)) a
           ∙ ap (λ l. holds l a) (append_step before (add_clause c) (map add_clause (added r cs)))
       | Some cause ↦ λ e. e a ∙ h a ∙ ap (λ l. holds l a) (sym (append_none before))
@@ -41,8 +43,10 @@ covers s before [] h = covers_same (holds before) (holds (before ++ [])) s (λ a
 covers s before (c ∷ cs) h =
     let r = (step s (add_clause c)).after in
     let later = map add_clause (added r cs) in
-    let covered = elim (step s (add_clause c)).refused as (λ x. CoversAfter (holds before) (add_clause c) x r → Covers (holds (before ++ map add_clause (added_by x c (added r cs)))) (and_then_by x r (Next cs)).after) [
-      | None ↦ λ k. covers_same (holds ((before ++ add_clause c ∷ []) ++ later)) (holds (before ++ (add_clause c ∷ later))) (add_clauses r cs).after (λ a. ap (λ l. holds l a) (append_step before (add_clause c) later))
+    let covered = elim (step s (add_clause c)).refused as (λ x. CoversAfter (holds before) (add_clause c) x r →
+    Covers (holds (before ++ map add_clause (added_by x c (added r cs)))) (and_then_by x r (Next cs)).after) [
+      | None ↦ λ k. covers_same (holds ((before ++ add_clause c ∷ []) ++ later)) (holds (before ++ (add_clause c ∷ later)))
+          (add_clauses r cs).after (λ a. ap (λ l. holds l a) (append_step before (add_clause c) later))
           (covers r (before ++ add_clause c ∷ []) cs (covers_same (changed (add_clause c) (holds before)) (holds (before ++ add_clause c ∷ [])) r (λ a. sym (holds_last before (add_clause c) a)) k))
       | Some cause ↦ λ k. covers_same (holds before) (holds (before ++ [])) r (λ a. ap (λ l. holds l a) (sym (append_none before))) k
     ] in
@@ -87,7 +91,9 @@ refused_stays s c =
 state : (s : State) (cs : List (List ℕ)) → (add_clauses s cs).after ≡ calls_after s (map adds (added s cs))
 state s [] = refl
 state s (c ∷ cs) =
-    let same = elim (step s (add_clause c)).refused as (λ x. (step s (add_clause c)).refused ≡ x → (and_then_by x (step s (add_clause c)).after (Next cs)).after ≡ calls_after s (map adds (added_by x c (added (step s (add_clause c)).after cs)))) [
+    let same = elim (step s (add_clause c)).refused as (λ x. (step s (add_clause c)).refused ≡ x →
+    (and_then_by x (step s (add_clause c)).after (Next cs)).after ≡
+    calls_after s (map adds (added_by x c (added (step s (add_clause c)).after cs)))) [
       | None ↦ λ e. state (step s (add_clause c)).after cs
       | Some cause ↦ λ e. refused_stays s c cause e
     ] in
@@ -118,16 +124,18 @@ formulas_are_fold = record { fold = fold; covers = covers; sound = sound; accept
 -- in two parts
 outcome : (s : State) (cs ds : List (List ℕ)) → add_clauses s (cs ++ ds) ≡ and_then (add_clauses s cs) (Next ds)
 outcome s [] ds = refl
-outcome s (c ∷ cs) ds = elim (step s (add_clause c)).refused as (λ x. and_then_by x (step s (add_clause c)).after (Next (cs ++ ds)) ≡ and_then (and_then_by x (step s (add_clause c)).after (Next cs)) (Next ds)) [
-  | None ↦ outcome (step s (add_clause c)).after cs ds
-  | Some cause ↦ refl
-]
+outcome s (c ∷ cs) ds = elim (step s (add_clause c)).refused as (λ x. and_then_by x (step s (add_clause c)).after (Next (cs ++ ds)) ≡
+    and_then (and_then_by x (step s (add_clause c)).after (Next cs)) (Next ds)) [
+      | None ↦ outcome (step s (add_clause c)).after cs ds
+      | Some cause ↦ refl
+    ]
 
 clauses : (s : State) (cs ds : List (List ℕ)) → (add_clauses s cs).refused ≡ None → added s (cs ++ ds) ≡ cs ++ added (add_clauses s cs).after ds
 clauses s [] ds h = refl
 clauses s (c ∷ cs) ds h =
     let r = (step s (add_clause c)).after in
-    let joined = elim (step s (add_clause c)).refused as (λ x. (and_then_by x r (Next cs)).refused ≡ None → added_by x c (added r (cs ++ ds)) ≡ c ∷ (cs ++ added (and_then_by x r (Next cs)).after ds)) [
+    let joined = elim (step s (add_clause c)).refused as (λ x. (and_then_by x r (Next cs)).refused ≡ None →
+    added_by x c (added r (cs ++ ds)) ≡ c ∷ (cs ++ added (and_then_by x r (Next cs)).after ds)) [
       | None ↦ λ k. ap (λ l. c ∷ l) (clauses r cs ds k)
       | Some cause ↦ λ k. absurd (some_apart cause k)
     ] in

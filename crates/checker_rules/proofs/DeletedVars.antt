@@ -3,13 +3,13 @@ use Rattle.std.proofs.Common.{◌≡◌, ℕ, suc, Bool, true, false, cond, ltb,
 use Rattle.std.specs.List.{list_any}
 use Rattle.std.proofs.lemmas.Bool.{true≢false}
 use Rattle.checker_rules.specs.Calls.{close_by, closing_conflict}
-use Rattle.checker_rules.specs.CheckedSteps.{ShownStep, checked_at_clause, hint_step, hint_steps, shown_in}
+use Rattle.checker_rules.specs.CheckedSteps.{NamedStep, checked_at_clause, hint_step, hint_steps, named_in}
 use Rattle.checker_rules.specs.DeleteVar.{close_conflict, drop_unit, free_var, holds_var, is_conflict_on, is_unit_with, step_delete_var}
 use Rattle.checker_rules.specs.Emits.{ClosingsRun, emits_closing, emits_delete_var, emits_unit}
 use Rattle.checker_rules.specs.HintRun.{HintStep, IsRun, machine_after}
 use Rattle.checker_rules.specs.Hints.{IsUnitNamed, unit_lit}
 use Rattle.checker_rules.specs.KnownVars.{know, known_of}
-use Rattle.checker_rules.specs.Machine.{ConflictNamed, IsTied, Machine}
+use Rattle.checker_rules.specs.Machine.{ConflictNamed, Mirrors, Machine}
 use Rattle.checker_rules.specs.Outcome.{Outcome, accept, refuse}
 use Rattle.checker_rules.specs.State.{State, StoredUnit, unit_of}
 use Rattle.checker_rules.specs.Store.{id_limit, take_id}
@@ -21,7 +21,7 @@ use Rattle.checker_rules.proofs.Ties.{freed, freed_none, only_id}
 use Rattle.checker_rules.proofs.Units.{unit_at, unit_is}
 use Rattle.checker_rules.specs.Outcome as causes
 
-pub hints-append : (xs ys : List ShownStep) → hint_steps (xs ++ ys) ≡ hint_steps xs ++ hint_steps ys
+pub hints-append : (xs ys : List NamedStep) → hint_steps (xs ++ ys) ≡ hint_steps xs ++ hint_steps ys
 hints-append [] ys = refl
 hints-append (x ∷ xs) ys = ap (λ r. hint_step x.step ++ r) (hints-append xs ys) ∙ assoc (hint_step x.step) (hint_steps xs) (hint_steps ys)
   where
@@ -29,8 +29,8 @@ hints-append (x ∷ xs) ys = ap (λ r. hint_step x.step ++ r) (hints-append xs y
     assoc [] b c = refl
     assoc (x ∷ a) b c = ap (λ r. x ∷ r) (assoc a b c)
 
-abbrev pub RunTo : Machine → List ShownStep → State → Type 0
-RunTo m es s = IsRun m (hint_steps es) × IsTied (machine_after m (hint_steps es)) s
+abbrev pub RunTo : Machine → List NamedStep → State → Type 0
+RunTo m es s = IsRun m (hint_steps es) × Mirrors (machine_after m (hint_steps es)) s
 
 -- the closing conflict
 pub closings_run : ClosingsRun
@@ -44,29 +44,33 @@ closings_run m s t w = go s.conflict t.conflict_named w.conflict_on_unit
         at : (v : ℕ) × (is_unit_with p.0 (unit_of s.units v) ≡ true)
         at = unit_at p.0 s.units k
 
-        cond_emits : (b : Bool) → (u : StoredUnit) × (unit_of s.units at.0 ≡ Some u) × (u.id ≡ p.0) → RunTo m (cond b (shown_in s (checked_at_clause s.next false [] (p.0 ∷ p.1 ∷ [])) ∷ []) []) (cond b (accept (take_id s)) (refuse causes.ids_exhausted s)).after
+        cond_emits : (b : Bool) → (u : StoredUnit) × (unit_of s.units at.0 ≡ Some u) × (u.id ≡ p.0) →
+            RunTo m (cond b (named_in s (checked_at_clause s.next false [] (p.0 ∷ p.1 ∷ [])) ∷ []) [])
+            (cond b (accept (take_id s)) (refuse causes.ids_exhausted s)).after
         cond_emits true f =
             let first : m.named p.0 ≡ Some (unit_lit at.0 f.0.value ∷ []) = ap m.named (sym f.2) ∙ subst (IsUnitNamed m.named at.0) f.1 (t.units_named at.0) in
             (((t.above_next, (exact_lists m.named).closing (unit_lit at.0 f.0.value) p.0 p.1 first (n.1 at.0 f.0 f.1 f.2)), tt), only_id m s [] t)
         cond_emits false f = (tt, t)
 
 -- the unit of a variable goes
-run_unit_gone : (m : Machine) (s : State) (x : ℕ) → IsTied m s → WellFormed s → RunTo m (emits_unit s x (unit_of s.units x)) (free_var x s)
+run_unit_gone : (m : Machine) (s : State) (x : ℕ) → Mirrors m s → WellFormed s → RunTo m (emits_unit s x (unit_of s.units x)) (free_var x s)
 run_unit_gone m s x t w = go (unit_of s.units x) refl
   where
     go : (u : Option StoredUnit) → unit_of s.units x ≡ u → RunTo m (emits_unit s x u) (free_var x s)
     go None e = (tt, freed_none m s x t e)
     go (Some u) e = ((tt, tt), freed m s x u t w e)
 
-two_runs : (m : Machine) (xs ys : List ShownStep) (r : State) → IsRun m (hint_steps xs) → RunTo (machine_after m (hint_steps xs)) ys r → RunTo m (xs ++ ys) r
-two_runs m xs ys r h k = subst (λ z. IsRun m z × IsTied (machine_after m z) r) (sym (hints-append xs ys))
-    (run-append m (hint_steps xs) (hint_steps ys) h k.0, subst (λ z. IsTied z r) (sym (after-append m (hint_steps xs) (hint_steps ys))) k.1)
+two_runs : (m : Machine) (xs ys : List NamedStep) (r : State) → IsRun m (hint_steps xs) → RunTo (machine_after m (hint_steps xs)) ys r → RunTo m (xs ++ ys) r
+two_runs m xs ys r h k = subst (λ z. IsRun m z × Mirrors (machine_after m z) r) (sym (hints-append xs ys))
+    (run-append m (hint_steps xs) (hint_steps ys) h k.0, subst (λ z. Mirrors z r) (sym (after-append m (hint_steps xs) (hint_steps ys))) k.1)
 
-forgotten : (m : Machine) (s : State) → IsTied m s → IsTied m (record s { conflict = None })
+forgotten : (m : Machine) (s : State) → Mirrors m s → Mirrors m (record s { conflict = None })
 forgotten m s t = record { clauses_named = t.clauses_named; units_named = t.units_named; previous_named = t.previous_named; conflict_named = tt; ids_below = t.ids_below; above_next = t.above_next }
 
 -- the conflict is closed, and then the unit goes
-run_closed : (m : Machine) (s : State) (x : ℕ) → IsTied m s → WellFormed s → ltb s.next id_limit ≡ true → is_conflict_on (unit_of s.units x) s.conflict ≡ true → RunTo m (emits_closing s s.conflict ++ emits_unit s x (unit_of s.units x)) (free_var x (close_conflict s))
+run_closed : (m : Machine) (s : State) (x : ℕ) → Mirrors m s → WellFormed s → ltb s.next id_limit ≡ true →
+    is_conflict_on (unit_of s.units x) s.conflict ≡ true →
+    RunTo m (emits_closing s s.conflict ++ emits_unit s x (unit_of s.units x)) (free_var x (close_conflict s))
 unfolding closing_conflict
 run_closed m s x t w room on = go s.conflict refl on
   where
@@ -75,15 +79,19 @@ run_closed m s x t w room on = go s.conflict refl on
     go (Some pair) e k =
         let close : RunTo m (emits_closing s (Some pair)) (close_by (Some pair) s).after = subst (λ c. RunTo m (emits_closing s c) (close_by c s).after) e (closings_run m s t w) in
         let after = machine_after m (hint_steps (emits_closing s (Some pair))) in
-        let taken : IsTied after (take_id s) = subst (λ b. IsTied after (cond b (accept (take_id s)) (refuse causes.ids_exhausted s)).after) room close.1 in
+        let taken : Mirrors after (take_id s) = subst (λ b. Mirrors after (cond b (accept (take_id s)) (refuse causes.ids_exhausted s)).after) room close.1 in
         two_runs m (emits_closing s (Some pair)) (emits_unit s x (unit_of s.units x)) (free_var x (close_conflict s)) close.0
         (run_unit_gone after (close_conflict s) x (forgotten after (take_id s) taken) (form-close_conflict s w))
 
-run_drop : (m : Machine) (s : State) (x : ℕ) → IsTied m s → WellFormed s → (drop_unit x s).refused ≡ None → RunTo m (emits_delete_var s x) (drop_unit x s).after
+run_drop : (m : Machine) (s : State) (x : ℕ) → Mirrors m s → WellFormed s → (drop_unit x s).refused ≡ None → RunTo m (emits_delete_var s x) (drop_unit x s).after
 run_drop m s x t w h = go (is_conflict_on (unit_of s.units x) s.conflict) refl h
   where
-    go : (b : Bool) → is_conflict_on (unit_of s.units x) s.conflict ≡ b → (cond b (cond (ltb s.next id_limit) (accept (free_var x (close_conflict s))) (refuse causes.ids_exhausted s)) (accept (free_var x s))).refused ≡ None
-        → RunTo m (cond b (emits_closing s s.conflict) [] ++ emits_unit s x (unit_of s.units x)) (cond b (cond (ltb s.next id_limit) (accept (free_var x (close_conflict s))) (refuse causes.ids_exhausted s)) (accept (free_var x s))).after
+    go : (b : Bool) → is_conflict_on (unit_of s.units x) s.conflict ≡ b →
+        (cond b (cond (ltb s.next id_limit) (accept (free_var x (close_conflict s))) (refuse causes.ids_exhausted s))
+        (accept (free_var x s))).refused ≡ None
+        → RunTo m (cond b (emits_closing s s.conflict) [] ++ emits_unit s x (unit_of s.units x))
+        (cond b (cond (ltb s.next id_limit) (accept (free_var x (close_conflict s))) (refuse causes.ids_exhausted s))
+        (accept (free_var x s))).after
     go false e k = run_unit_gone m s x t w
     go true e k = room (ltb s.next id_limit) refl k
       where
@@ -92,7 +100,7 @@ run_drop m s x t w h = go (is_conflict_on (unit_of s.units x) s.conflict) refl h
         room true l k = run_closed m s x t w l e
         room false l k = absurd (cc)
 
-pub run_delete_var : (m : Machine) (s : State) (x : ℕ) → IsTied m s → WellFormed s → (step_delete_var s x).refused ≡ None → RunTo m (emits_delete_var (know (suc x) s) x) (step_delete_var s x).after
+pub run_delete_var : (m : Machine) (s : State) (x : ℕ) → Mirrors m s → WellFormed s → (step_delete_var s x).refused ≡ None → RunTo m (emits_delete_var (know (suc x) s) x) (step_delete_var s x).after
 run_delete_var m s x t w h =
     let r = know (suc x) s in
     let p = accepted_cond (is_some (known_of r x).name) causes.deleted_var_named r _ h in

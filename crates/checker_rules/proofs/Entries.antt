@@ -38,7 +38,9 @@ insert-canonical l (m ∷ c) h =
       | true ↦ λ e. and_from (list_all (ltb l) (m ∷ c)) _ (and_from (ltb l m) (list_all (ltb l) c) e (all_above l m c (ltb-true l m e) q.0)) h
       | false ↦ λ e. elim (eqb l m) as (λ b. eqb l m ≡ b → is_canonical (cond b (m ∷ c) (m ∷ insert_lit l c)) ≡ true) [
         | true ↦ λ d. h
-        | false ↦ λ d. and_from (list_all (ltb m) (insert_lit l c)) _ (all-insert (ltb m) l c (lt-ltb m l (let a = ltb-false l m e in let b = eqb-false l m d in omega arith)) q.0) (insert-canonical l c q.1)
+        | false ↦ λ d. and_from (list_all (ltb m) (insert_lit l c)) _
+            (all-insert (ltb m) l c (lt-ltb m l (let a = ltb-false l m e in let b = eqb-false l m d in omega arith)) q.0)
+            (insert-canonical l c q.1)
       ] refl
     ] refl
 
@@ -80,7 +82,8 @@ stored_map f same c (e ∷ es) = ap (λ x. same_list x c || is_stored c (map f e
 
 pub apart_map : (f : Stored → Stored) → ((e : Stored) → (f e).lits ≡ e.lits) → (es : List Stored) → are_apart (map f es) ≡ are_apart es
 apart_map f same [] = refl
-apart_map f same (e ∷ es) = ap (λ x. not x && are_apart (map f es)) (stored_map f same (f e).lits es ∙ ap (λ x. is_stored x es) (same e)) ∙ ap (λ x. not (is_stored e.lits es) && x) (apart_map f same es)
+apart_map f same (e ∷ es) = ap (λ x. not x && are_apart (map f es)) (stored_map f same (f e).lits es ∙ ap (λ x. is_stored x es) (same e)) ∙
+    ap (λ x. not (is_stored e.lits es) && x) (apart_map f same es)
 
 pub stored_filter : (p : Stored → Bool) (c : List ℕ) (es : List Stored) → is_stored c es ≡ false → is_stored c (filter p es) ≡ false
 stored_filter p c [] h = h
@@ -118,10 +121,13 @@ fine_more n k (e ∷ es) h f =
     let c = and_parts (not (is_short e.lits)) _ b.1 in
     let d = and_parts (not (is_gone e)) (leb (var_bound e.lits) n) c.1 in
     and_from (is_fine k e) (list_all (is_fine k) es)
-    (and_from (is_canonical e.lits) _ a.0 (and_from (not (is_tautology e.lits)) _ b.0 (and_from (not (is_short e.lits)) _ c.0 (and_from (not (is_gone e)) _ d.0 (le-leb (var_bound e.lits) k (let w = leb-true (var_bound e.lits) n d.1 in omega arith))))))
+    (and_from (is_canonical e.lits) _ a.0 (and_from (not (is_tautology e.lits)) _ b.0
+    (and_from (not (is_short e.lits)) _ c.0 (and_from (not (is_gone e)) _ d.0
+    (le-leb (var_bound e.lits) k (let w = leb-true (var_bound e.lits) n d.1 in omega arith))))))
     (fine_more n k es h q.1)
 
-pub fine_but : (n : ℕ) (e : Stored) (l : List ℕ) (g : Bool) → l ≡ e.lits → g ≡ false → is_fine n e ≡ true → (is_canonical l && (not (is_tautology l) && (not (is_short l) && (not g && leb (var_bound l) n)))) ≡ true
+pub fine_but : (n : ℕ) (e : Stored) (l : List ℕ) (g : Bool) → l ≡ e.lits → g ≡ false → is_fine n e ≡ true →
+    (is_canonical l && (not (is_tautology l) && (not (is_short l) && (not g && leb (var_bound l) n)))) ≡ true
 fine_but n e l g same f h =
     let a = and_parts (is_canonical e.lits) _ h in
     let b = and_parts (not (is_tautology e.lits)) _ a.1 in
@@ -161,7 +167,9 @@ fine_raise n r c (e ∷ es) h = let q = and_parts (is_fine n e) (list_all (is_fi
 pub fine_delete : (n : ℕ) (r : Bool) (c : List ℕ) (es : List Stored) → list_all (is_fine n) es ≡ true → list_all (is_fine n) (filter (λ e. not (is_gone e)) (map (lower r c) es)) ≡ true
 fine_delete n r c [] h = refl
 fine_delete n r c (e ∷ es) h = let q = and_parts (is_fine n e) (list_all (is_fine n) es) h in
-    elim (is_gone (lower r c e)) as (λ b. is_gone (lower r c e) ≡ b → list_all (is_fine n) (cond (not b) (lower r c e ∷ filter (λ e. not (is_gone e)) (map (lower r c) es)) (filter (λ e. not (is_gone e)) (map (lower r c) es))) ≡ true) [
+    elim (is_gone (lower r c e)) as (λ b. is_gone (lower r c e) ≡ b →
+    list_all (is_fine n) (cond (not b) (lower r c e ∷ filter (λ e. not (is_gone e)) (map (lower r c) es))
+    (filter (λ e. not (is_gone e)) (map (lower r c) es))) ≡ true) [
       | true ↦ λ g. fine_delete n r c es q.1
       | false ↦ λ g. and_from (is_fine n (lower r c e)) _ (fine_but n e (lower r c e).lits (is_gone (lower r c e)) (lower-lits r c e) g q.0) (fine_delete n r c es q.1)
     ] refl

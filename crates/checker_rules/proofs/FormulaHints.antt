@@ -6,7 +6,7 @@ use Rattle.checker_rules.specs.AddFormula.{added, added_by}
 use Rattle.checker_rules.specs.CallEmissions.{EmitsCalls}
 use Rattle.checker_rules.specs.Calls.{adds}
 use Rattle.checker_rules.specs.Canonical.{canonical}
-use Rattle.checker_rules.specs.CheckedSteps.{ShownStep, hint_steps}
+use Rattle.checker_rules.specs.CheckedSteps.{NamedStep, hint_steps}
 use Rattle.checker_rules.specs.Emits.{Emits, EmitsAccepted, EmitsBy, emits_input}
 use Rattle.checker_rules.specs.FormulaEmissions.{FormulasEmit, input_steps}
 use Rattle.checker_rules.specs.Headline.{run}
@@ -54,10 +54,12 @@ adds_one s list =
 
 stays_unsat : (s : State) (c : List ℕ) → s.unsat ≡ true → step s (add_clause c) ≡ accept s
 unfolding step
-stays_unsat s list u = ap (λ b. cond b (accept s) (cond (some_not_sampling s (canonical list)) (refuse causes.not_sampling s) (counters false (canonical list) true s (λ r. accept (take_input (store_input (canonical list) (know_clause (canonical list) r))))))) u
+stays_unsat s list u = ap (λ b. cond b (accept s)
+    (cond (some_not_sampling s (canonical list)) (refuse causes.not_sampling s)
+    (counters false (canonical list) true s (λ r. accept (take_input (store_input (canonical list) (know_clause (canonical list) r))))))) u
 
 -- nothing more once `unsat` is recorded
-silent : (s : State) (cs : List (List ℕ)) (es : List ShownStep) → s.unsat ≡ true → EmitsCalls s (map adds cs) es → hint_steps es ≡ []
+silent : (s : State) (cs : List (List ℕ)) (es : List NamedStep) → s.unsat ≡ true → EmitsCalls s (map adds cs) es → hint_steps es ≡ []
 silent s [] es u em = ap hint_steps em
 silent s (c ∷ cs) es u em =
     let same = stays_unsat s c u in
@@ -65,16 +67,16 @@ silent s (c ∷ cs) es u em =
     ap hint_steps em.4 ∙ hints-append em.0 em.1 ∙ ap (λ l. l ++ hint_steps em.1) first
     ∙ silent (step s (add_clause c)).after cs em.1 (ap (λ o. o.after.unsat) same ∙ u) em.3
   where
-    emitted : (xs : List ShownStep) → EmitsAccepted s (add_clause c) xs → hint_steps xs ≡ []
+    emitted : (xs : List NamedStep) → EmitsAccepted s (add_clause c) xs → hint_steps xs ≡ []
     emitted xs h = ap hint_steps h ∙ ap (λ b. hint_steps (cond b [] (emits_input (canonical c) (know_clause (canonical c) s)))) u
 
-one_input : (s : State) (c : List ℕ) (xs : List ShownStep) → s.unsat ≡ false → EmitsAccepted s (add_clause c) xs → hint_steps xs ≡ puts_input s.next (canonical c) ∷ []
+one_input : (s : State) (c : List ℕ) (xs : List NamedStep) → s.unsat ≡ false → EmitsAccepted s (add_clause c) xs → hint_steps xs ≡ puts_input s.next (canonical c) ∷ []
 one_input s c xs u h = ap hint_steps h ∙ add_hints s (canonical c) ∙ ap (λ b. cond b [] (puts_input s.next (canonical c) ∷ [])) u
 
-emits_of : (s : State) (c : List ℕ) (xs : List ShownStep) → (step s (add_clause c)).refused ≡ None → Emits s (add_clause c) xs → EmitsAccepted s (add_clause c) xs
+emits_of : (s : State) (c : List ℕ) (xs : List NamedStep) → (step s (add_clause c)).refused ≡ None → Emits s (add_clause c) xs → EmitsAccepted s (add_clause c) xs
 emits_of s c xs h em = subst (λ x. EmitsBy x s (add_clause c) xs) h em
 
-abbrev InputSteps : State → List (List ℕ) → List ShownStep → Type 0
+abbrev InputSteps : State → List (List ℕ) → List NamedStep → Type 0
 InputSteps s cs es = (n : ℕ) × (hint_steps es ≡ input_steps s.next (take n cs))
 
 pub formulas_emit : FormulasEmit

@@ -75,7 +75,8 @@ admits f s (i ∷ j ∷ ids) h = next (λ l. admits f (add_lit l s) (j ∷ ids))
     Rest : Type 0
     Rest = (l : ℕ) → hints_cause f (add_lit l s) (j ∷ ids) ≡ None → (cs : List (List ℕ)) × NamedBy f (j ∷ ids) cs × IsChain (add_lit l s) cs
 
-    goes : Rest → (c : List ℕ) → f i ≡ Some c → (o : Option ℕ) → unit_among s c c ≡ o → go_on o (λ l. hints_cause f (add_lit l s) (j ∷ ids)) ≡ None → (cs : List (List ℕ)) × NamedBy f (i ∷ j ∷ ids) cs × IsChain s cs
+    goes : Rest → (c : List ℕ) → f i ≡ Some c → (o : Option ℕ) → unit_among s c c ≡ o →
+        go_on o (λ l. hints_cause f (add_lit l s) (j ∷ ids)) ≡ None → (cs : List (List ℕ)) × NamedBy f (i ∷ j ∷ ids) cs × IsChain s cs
     goes after c e None k g = absurd (refused not_unit g)
     goes after c e (Some l) k g =
         let rest = after l g in

@@ -39,7 +39,9 @@ takes_unit l s = go (unit_of s.units (var_of l))
 pub takes_new : (c : List ℕ) (r : Bool) (s : State) → stands c s ≡ false → Takes s.inputs (s.next + 1) (store c r s)
 takes_new [] r s h = (refl, refl)
 takes_new (l ∷ []) r s h = takes_unit l s h
-takes_new (l ∷ k ∷ ls) r s h = subst (λ b. Takes s.inputs (s.next + 1) (cond b (record s { clauses = map (raise r (l ∷ k ∷ ls)) s.clauses }) (record s { clauses = s.clauses ++ new_stored r (l ∷ k ∷ ls) s.next ∷ []; next = s.next + 1 }))) (sym h) (refl, refl)
+takes_new (l ∷ k ∷ ls) r s h = subst (λ b. Takes s.inputs (s.next + 1)
+    (cond b (record s { clauses = map (raise r (l ∷ k ∷ ls)) s.clauses })
+    (record s { clauses = s.clauses ++ new_stored r (l ∷ k ∷ ls) s.next ∷ []; next = s.next + 1 }))) (sym h) (refl, refl)
 
 pub takes_none : (c : List ℕ) (r : Bool) (s : State) → stands c s ≡ true → Takes s.inputs s.next (store c r s)
 takes_none [] r s h = absurd (false≢true h)
@@ -48,7 +50,9 @@ takes_none (l ∷ []) r s h = go (unit_of s.units (var_of l)) h
     go : (u : Option StoredUnit) → makes_true u l ≡ true → Takes s.inputs s.next (store_unit l u s)
     go None k = absurd (false≢true k)
     go (Some u) k = subst (λ b. Takes s.inputs s.next (cond b s (record s { unsat = true; conflict = Some (u.id, s.next); next = s.next + 1 }))) (sym k) (refl, refl)
-takes_none (l ∷ k ∷ ls) r s h = subst (λ b. Takes s.inputs s.next (cond b (record s { clauses = map (raise r (l ∷ k ∷ ls)) s.clauses }) (record s { clauses = s.clauses ++ new_stored r (l ∷ k ∷ ls) s.next ∷ []; next = s.next + 1 }))) (sym h) (refl, refl)
+takes_none (l ∷ k ∷ ls) r s h = subst (λ b. Takes s.inputs s.next
+    (cond b (record s { clauses = map (raise r (l ∷ k ∷ ls)) s.clauses })
+    (record s { clauses = s.clauses ++ new_stored r (l ∷ k ∷ ls) s.next ∷ []; next = s.next + 1 }))) (sym h) (refl, refl)
 
 pub takes_input : (c : List ℕ) (s : State) → Takes s.inputs (s.next + 1) (store_input c s)
 takes_input c s = cond_both (is_tautology c) _ _ (Takes s.inputs (s.next + 1)) (λ e. (refl, refl))
@@ -84,7 +88,8 @@ same-counters r c takes s next k = cond_both (takes && not (ltb s.next id_limit)
 same-at : (s : State) (r : Bool) (c hs : List ℕ) → Same s (step_at_clause s r c hs)
 same-at s r c hs = cond_both (is_tautology (canonical c)) _ _ (Same s) (λ e. refl)
     (λ e. same-check s (canonical c) hs (λ q. counters r (canonical c) (not (stands (canonical c) q)) q (λ k. accept (store_derived (canonical c) r k)))
-    (same-counters r (canonical c) (not (stands (canonical c) (ready s (canonical c)))) (ready s (canonical c)) (λ k. accept (store_derived (canonical c) r k)) (same-derived (canonical c) r (ready s (canonical c)))))
+    (same-counters r (canonical c) (not (stands (canonical c) (ready s (canonical c)))) (ready s (canonical c))
+    (λ k. accept (store_derived (canonical c) r k)) (same-derived (canonical c) r (ready s (canonical c)))))
 
 same-unit : (s : State) (p : ℕ × ℕ) → Same s (step_unit s p)
 same-unit s p = same-check s (p.0 ∷ []) (p.1 ∷ []) (λ r. counters false (p.0 ∷ []) (not (stands (p.0 ∷ []) r)) r (λ q. accept (store (p.0 ∷ []) false q)))
@@ -98,7 +103,9 @@ same-units s (p ∷ ps) = elim (step_unit s p).refused as (λ x. Same s (and_the
 ]
 
 same-justified : (r : Bool) (c : List ℕ) (s : State) → Same s (delete_justified r c s)
-same-justified r c s = cond_both (is_short c) _ _ (Same s) (λ e. refl) (λ e. cond_both (not (is_stored c s.clauses)) _ _ (Same s) (λ d. refl) (λ d. cond_both (eqb (count_of r c s.clauses) 0) _ _ (Same s) (λ k. refl) (λ k. refl)))
+same-justified r c s = cond_both (is_short c) _ _ (Same s) (λ e. refl)
+    (λ e. cond_both (not (is_stored c s.clauses)) _ _ (Same s) (λ d. refl)
+    (λ d. cond_both (eqb (count_of r c s.clauses) 0) _ _ (Same s) (λ k. refl) (λ k. refl)))
 
 same-deletion : (s : State) (j : Justification) (c : List ℕ) → Same s (justified j c s)
 same-deletion s by_redundant c = same-justified true c (forget s)
@@ -118,7 +125,8 @@ same-name s x (Some u) =
     (λ e. cond_both (is_hide (known_of (know (suc x) s) x).mode) _ _ (Same s) (λ d. refl) (λ d. cond_both (is_some (known_of (know (suc x) s) x).name) _ _ (Same s) (λ k. refl) (λ k. refl)))
 
 same-mode : (s : State) (x : ℕ) (b : Bool) → Same s (step_change_sampling_mode s x b)
-same-mode s x b = cond_both (mode_is (known_of (know (suc x) s) x).mode b) _ _ (Same s) (λ e. refl) (λ e. cond_both (b && is_none (known_of (know (suc x) s) x).name) _ _ (Same s) (λ d. refl) (λ d. refl))
+same-mode s x b = cond_both (mode_is (known_of (know (suc x) s) x).mode b) _ _ (Same s) (λ e. refl)
+    (λ e. cond_both (b && is_none (known_of (know (suc x) s) x).name) _ _ (Same s) (λ d. refl) (λ d. refl))
 
 same-core : (s : State) (c hs : List ℕ) → Same s (step_failed_assumptions s c hs)
 same-core s c hs = cond_both (not (is_subset (canonical c) s.assumed)) _ _ (Same s) (λ e. refl)

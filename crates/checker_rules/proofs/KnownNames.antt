@@ -34,7 +34,9 @@ among-set u (x ∷ ks) (suc v) k h other =
 
 other_way : (a b : Option ℕ) (ks : List Known) → is_name_among b (record { name = a; mode = sample } ∷ ks) ≡ false → (u : ℕ) → a ≡ Some u → option_is b u ≡ false
 other_way a None ks h u e = refl
-other_way a (Some w) ks h u e = false_from_ne_true (eqb w u) (λ y. true≢false (sym (eq-eqb u w (sym (eqb-true w u y))) ∙ sym (ap (λ o. option_is o w) e) ∙ (or_parts (option_is a w) (name_among w ks) h).0))
+other_way a (Some w) ks h u e = false_from_ne_true (eqb w u)
+    (λ y. true≢false (sym (eq-eqb u w (sym (eqb-true w u y))) ∙ sym (ap (λ o. option_is o w) e) ∙
+    (or_parts (option_is a w) (name_among w ks) h).0))
 
 pub names-set : (ks : List Known) (v : ℕ) (k : Known) → is_name_among k.name ks ≡ false → names_apart ks ≡ true → names_apart (set ks v k) ≡ true
 names-set [] v k free h = refl

@@ -57,7 +57,9 @@ module _ (X F : Type 0) where
   -- back over one accepted step that adds no input clause
   back : (p : (ℕ → Bool) → Bool) (s : State) (t : Step) → s.unsat ≡ false → (step (count_step s) t).refused ≡ None → (step (count_step s) t).after.inputs ≡ s.inputs
       → ((a : ℕ → Bool) → changed t p a ≡ false) → (a : ℕ → Bool) → p a ≡ false
-  back p s (add_clause c) u h same e a = absurd (more ((counts-add (count_step s) c).1 u (sym (ap (λ (o : Outcome). o.refused) (step-add_clause (count_step s) c)) ∙ h)) (ap (λ (o : Outcome). o.after.inputs) (sym (step-add_clause (count_step s) c)) ∙ same))
+  back p s (add_clause c) u h same e a = absurd
+      (more ((counts-add (count_step s) c).1 u (sym (ap (λ (o : Outcome). o.refused) (step-add_clause (count_step s) c)) ∙ h))
+      (ap (λ (o : Outcome). o.after.inputs) (sym (step-add_clause (count_step s) c)) ∙ same))
     where
       more : (step_add_clause (count_step s) c).after.inputs ≡ suc s.inputs → (step_add_clause (count_step s) c).after.inputs ≡ s.inputs → ⊥
       more f g = omega arith

@@ -2,10 +2,10 @@
 use Rattle.std.proofs.Common.{◌≡◌, ◌⊎◌, Bool, true, false, cond, ltb, List, [], ◌∷◌, ◌++◌, map, Option, Some, None, refl, sym, ap, ◌∙◌, subst, inl, inr}
 use Rattle.checker_rules.specs.CallEmissions.{EmitsCalls}
 use Rattle.checker_rules.specs.Calls.{Call, answer_of, attempt, calls_after, checks, closes, closing_conflict, step_limit}
-use Rattle.checker_rules.specs.CheckedSteps.{ShownStep, hint_steps}
+use Rattle.checker_rules.specs.CheckedSteps.{NamedStep, hint_steps}
 use Rattle.checker_rules.specs.Headline.{run}
 use Rattle.checker_rules.specs.HintRun.{IsRun, machine_after}
-use Rattle.checker_rules.specs.Machine.{IsTied, Machine}
+use Rattle.checker_rules.specs.Machine.{Mirrors, Machine}
 use Rattle.checker_rules.specs.Outcome.{Cause, steps_exhausted}
 use Rattle.checker_rules.specs.Reaching.{MovesAre, Reaches, RunsJoin}
 use Rattle.checker_rules.specs.Run.{Runs, Stop, after_attempt, after_read, as_answer, move}
@@ -17,17 +17,19 @@ use Rattle.checker_rules.proofs.CallRuns.{calls_run_machine}
 use Rattle.checker_rules.proofs.DeletedVars.{hints-append}
 use Rattle.checker_rules.proofs.Emissions.{after-append, run-append}
 
-assoc : (xs ys zs : List ShownStep) → (xs ++ ys) ++ zs ≡ xs ++ (ys ++ zs)
+assoc : (xs ys zs : List NamedStep) → (xs ++ ys) ++ zs ≡ xs ++ (ys ++ zs)
 assoc [] ys zs = refl
 assoc (x ∷ xs) ys zs = ap (λ r. x ∷ r) (assoc xs ys zs)
 
 module _ (X F : Type 0) where
   -- one move
   move-ended : (next : X → (Step × X) ⊎ F) (s : State) (x : X) → s.ended ≡ true → move next s x ≡ inr (as_answer (closing_conflict s).refused, (closing_conflict s).after)
-  move-ended next s x e = ap (λ b. cond b (inr (as_answer (closing_conflict s).refused, (closing_conflict s).after)) (cond (ltb s.steps step_limit) (after_read s (next x)) (inr (Some (inl steps_exhausted), s)))) e
+  move-ended next s x e = ap (λ b. cond b (inr (as_answer (closing_conflict s).refused, (closing_conflict s).after))
+      (cond (ltb s.steps step_limit) (after_read s (next x)) (inr (Some (inl steps_exhausted), s)))) e
 
   move-open : (next : X → (Step × X) ⊎ F) (s : State) (x : X) → s.ended ≡ false → move next s x ≡ cond (ltb s.steps step_limit) (after_read s (next x)) (inr (Some (inl steps_exhausted), s))
-  move-open next s x e = ap (λ b. cond b (inr (as_answer (closing_conflict s).refused, (closing_conflict s).after)) (cond (ltb s.steps step_limit) (after_read s (next x)) (inr (Some (inl steps_exhausted), s)))) e
+  move-open next s x e = ap (λ b. cond b (inr (as_answer (closing_conflict s).refused, (closing_conflict s).after))
+      (cond (ltb s.steps step_limit) (after_read s (next x)) (inr (Some (inl steps_exhausted), s)))) e
 
   move-exhausted : (next : X → (Step × X) ⊎ F) (s : State) (x : X) → s.ended ≡ false → ltb s.steps step_limit ≡ false → move next s x ≡ inr (Some (inl steps_exhausted), s)
   move-exhausted next s x e h = move-open next s x e ∙ ap (λ b. cond b (after_read s (next x)) (inr (Some (inl steps_exhausted), s))) h
@@ -71,7 +73,7 @@ module _ (X F : Type 0) where
   }
 
   -- what parts emit
-  calls : (s : State) (first second : List Call) (xs ys : List ShownStep) → EmitsCalls s first xs → EmitsCalls (calls_after s first) second ys → EmitsCalls s (first ++ second) (xs ++ ys)
+  calls : (s : State) (first second : List Call) (xs ys : List NamedStep) → EmitsCalls s first xs → EmitsCalls (calls_after s first) second ys → EmitsCalls s (first ++ second) (xs ++ ys)
   calls s [] second xs ys h k = subst (λ l. EmitsCalls s second (l ++ ys)) (sym h) k
   calls s (call ∷ first) second xs ys h k = (
     h.0,
@@ -81,7 +83,7 @@ module _ (X F : Type 0) where
     ap (λ l. l ++ ys) h.4 ∙ assoc h.0 h.1 ys,
   )
 
-  emits_ends : (next : X → (Step × X) ⊎ F) (s : State) (x : X) (ts : List Step) (r : State) (y : X) (us : List Step) (xs ys : List ShownStep) →
+  emits_ends : (next : X → (Step × X) ⊎ F) (s : State) (x : X) (ts : List Step) (r : State) (y : X) (us : List Step) (xs ys : List NamedStep) →
       Reaches next s x ts r y → EmitsCalls s (map checks ts) xs → EmitsRun next r y us ys → EmitsRun next s x (ts ++ us) (xs ++ ys)
   emits_ends next s x [] r y us xs ys h e k = subst (λ l. EmitsRun next s x us (l ++ ys)) (sym e) (subst (λ v. EmitsRun next v x us ys) (sym h.0) (subst (λ v. EmitsRun next r v us ys) (sym h.1) k))
   emits_ends next s x (t ∷ ts) r y us xs ys h e k = (
@@ -98,15 +100,15 @@ module _ (X F : Type 0) where
   emissions_join = record { calls = calls; ends = emits_ends }
 
   -- a run of the hint machine
-  abbrev Kept : Machine → List ShownStep → State → Type 0
-  Kept m es s = IsRun m (hint_steps es) × IsTied (machine_after m (hint_steps es)) s × WellFormed s
+  abbrev Kept : Machine → List NamedStep → State → Type 0
+  Kept m es s = IsRun m (hint_steps es) × Mirrors (machine_after m (hint_steps es)) s × WellFormed s
 
-  abbrev MoveKept : Machine → List ShownStep → (Step × X) ⊎ Stop F → Type 0
+  abbrev MoveKept : Machine → List NamedStep → (Step × X) ⊎ Stop F → Type 0
   MoveKept m es (inl p) = Unit {0}
   MoveKept m es (inr p) = Kept m es p.1
 
   -- the last move, over its cases
-  last_kept : (next : X → (Step × X) ⊎ F) (m : Machine) (s : State) (x : X) (es : List ShownStep) → IsTied m s → WellFormed s → EmitsCalls s (last_calls next s x) es → MoveKept m es (move next s x)
+  last_kept : (next : X → (Step × X) ⊎ F) (m : Machine) (s : State) (x : X) (es : List NamedStep) → Mirrors m s → WellFormed s → EmitsCalls s (last_calls next s x) es → MoveKept m es (move next s x)
   last_kept next m s x es t w = by_end s.ended
     where
       silent : es ≡ [] → Kept m es s
@@ -125,7 +127,8 @@ module _ (X F : Type 0) where
       by_count false em = silent em
 
       by_end : (b : Bool) → EmitsCalls s (cond b (closes ∷ []) (cond (ltb s.steps step_limit) (read_calls (next x)) [])) es
-          → MoveKept m es (cond b (inr (as_answer (closing_conflict s).refused, (closing_conflict s).after)) (cond (ltb s.steps step_limit) (after_read s (next x)) (inr (Some (inl steps_exhausted), s))))
+          → MoveKept m es (cond b (inr (as_answer (closing_conflict s).refused, (closing_conflict s).after))
+          (cond (ltb s.steps step_limit) (after_read s (next x)) (inr (Some (inl steps_exhausted), s))))
       by_end true em = calls_run_machine m s (closes ∷ []) es t w em
       by_end false em = by_count (ltb s.steps step_limit) em
 
@@ -135,13 +138,13 @@ module _ (X F : Type 0) where
       let k = calls_run_machine m s (checks u ∷ []) em.2 t w (em.2, [], em.4, refl, sym (none_more em.2)) in
       let q = runs_run_machine next (machine_after m (hint_steps em.2)) (attempt s u).after run.0 us answer r em.3 k.1 k.2 run.2 (subst (λ y. EmitsRun next (attempt s u).after y us em.3) same em.5) in
       subst (λ l. Kept m l r) (sym em.6)
-      (subst (λ z. IsRun m z × IsTied (machine_after m z) r × WellFormed r) (sym (hints-append em.2 em.3)) (
+      (subst (λ z. IsRun m z × Mirrors (machine_after m z) r × WellFormed r) (sym (hints-append em.2 em.3)) (
         run-append m (hint_steps em.2) (hint_steps em.3) k.0 q.0,
-        subst (λ z. IsTied z r) (sym (after-append m (hint_steps em.2) (hint_steps em.3))) q.1,
+        subst (λ z. Mirrors z r) (sym (after-append m (hint_steps em.2) (hint_steps em.3))) q.1,
         q.2,
       ))
     where
-      none_more : (xs : List ShownStep) → xs ++ [] ≡ xs
+      none_more : (xs : List NamedStep) → xs ++ [] ≡ xs
       none_more [] = refl
       none_more (x ∷ xs) = ap (λ l. x ∷ l) (none_more xs)
 

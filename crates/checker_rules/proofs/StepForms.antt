@@ -64,7 +64,9 @@ form-then o next k f = elim o.refused as (λ x. W (and_then_by x o.after next)) 
 
 form-unit_clauses : (s : State) (us : List (ℕ × ℕ)) → WellFormed s → W (step_unit_clauses s us)
 form-unit_clauses s [] w = w
-form-unit_clauses s (p ∷ ps) w = form-then (check s (p.0 ∷ []) (p.1 ∷ []) (λ r. counters false (p.0 ∷ []) (not (stands (p.0 ∷ []) r)) r (λ q. accept (store (p.0 ∷ []) false q)))) (λ r. step_unit_clauses r ps)
+form-unit_clauses s (p ∷ ps) w = form-then
+    (check s (p.0 ∷ []) (p.1 ∷ []) (λ r. counters false (p.0 ∷ []) (not (stands (p.0 ∷ []) r)) r (λ q. accept (store (p.0 ∷ []) false q))))
+    (λ r. step_unit_clauses r ps)
     (form-check s (p.0 ∷ []) (p.1 ∷ []) (λ r. counters false (p.0 ∷ []) (not (stands (p.0 ∷ []) r)) r (λ q. accept (store (p.0 ∷ []) false q))) w
     (form-counters false (p.0 ∷ []) (not (stands (p.0 ∷ []) (ready s (p.0 ∷ [])))) (ready s (p.0 ∷ [])) (λ q. accept (store (p.0 ∷ []) false q)) (form-ready s (p.0 ∷ []) w)
     (form-store_unit p.0 (ready s (p.0 ∷ [])) (form-ready s (p.0 ∷ []) w))))
@@ -87,17 +89,22 @@ form-model s m w = cond_both s.unsat _ _ W (λ e. w) (λ e. elim (model_cause s 
 ])
 
 form-user_name : (s : State) (x : ℕ) (u : Option ℕ) → WellFormed s → W (step_user_var_name s x u)
-form-user_name s x None w = cond_both (is_none (known_of (know (suc x) s) x).name) _ _ W (λ e. form-know (suc x) s w) (λ e. form-set_known (suc x) x (record { name = None; mode = hide }) s (names-set (know (suc x) s).known x (record { name = None; mode = hide }) refl (form-know (suc x) s w).names) w)
+form-user_name s x None w = cond_both (is_none (known_of (know (suc x) s) x).name) _ _ W (λ e. form-know (suc x) s w)
+    (λ e. form-set_known (suc x) x (record { name = None; mode = hide }) s
+    (names-set (know (suc x) s).known x (record { name = None; mode = hide }) refl (form-know (suc x) s w).names) w)
 form-user_name s x (Some u) w =
     cond_both (not (is_known (know (suc x) s) u) || name_taken (know (suc x) s) u) _ _ W (λ e. form-know (suc x) s w)
     (λ e. cond_both (is_hide (known_of (know (suc x) s) x).mode) _ _ W (λ d. form-know (suc x) s w)
-    (λ d. cond_both (is_some (known_of (know (suc x) s) x).name) _ _ W (λ k. form-know (suc x) s w) (λ k. form-set_known (suc x) x (record { name = Some u; mode = (known_of (know (suc x) s) x).mode }) s
-    (names-set (know (suc x) s).known x (record { name = Some u; mode = (known_of (know (suc x) s) x).mode }) (or_parts (not (is_known (know (suc x) s) u)) (name_taken (know (suc x) s) u) e).1 (form-know (suc x) s w).names) w)))
+    (λ d. cond_both (is_some (known_of (know (suc x) s) x).name) _ _ W (λ k. form-know (suc x) s w)
+    (λ k. form-set_known (suc x) x (record { name = Some u; mode = (known_of (know (suc x) s) x).mode }) s
+    (names-set (know (suc x) s).known x (record { name = Some u; mode = (known_of (know (suc x) s) x).mode })
+    (or_parts (not (is_known (know (suc x) s) u)) (name_taken (know (suc x) s) u) e).1 (form-know (suc x) s w).names) w)))
 
 form-mode : (s : State) (x : ℕ) (b : Bool) → WellFormed s → W (step_change_sampling_mode s x b)
 form-mode s x b w =
     cond_both (mode_is (known_of (know (suc x) s) x).mode b) _ _ W (λ e. form-know (suc x) s w)
-    (λ e. cond_both (b && is_none (known_of (know (suc x) s) x).name) _ _ W (λ d. form-know (suc x) s w) (λ d. form-set_known (suc x) x (record { name = (known_of (know (suc x) s) x).name; mode = cond b sample witness }) s
+    (λ e. cond_both (b && is_none (known_of (know (suc x) s) x).name) _ _ W (λ d. form-know (suc x) s w)
+    (λ d. form-set_known (suc x) x (record { name = (known_of (know (suc x) s) x).name; mode = cond b sample witness }) s
     (names-same (know (suc x) s).known x (record { name = (known_of (know (suc x) s) x).name; mode = cond b sample witness }) refl (form-know (suc x) s w).names) w))
 
 form-failed : (s : State) (c hs : List ℕ) → WellFormed s → W (step_failed_assumptions s c hs)
@@ -127,12 +134,38 @@ form-delete_var s x w =
 form-hash_bits : (s : State) (n : ℕ) → WellFormed s → W (step_change_hash_bits s n)
 form-hash_bits s n w = cond_both (eqb n 0 || ltb 64 n) _ _ W (λ e. w)
     (λ e. let p = or_parts (eqb n 0) (ltb 64 n) e in let a = eqb-false n 0 p.0 in let b = ltb-false 64 n p.1 in
-    record { fine = w.fine; rise = w.rise; apart = w.apart; same_known = w.same_known; unit_ids = w.unit_ids; conflict_on_unit = w.conflict_on_unit; inputs_counted = w.inputs_counted; some_width = omega arith; width_fits = omega arith; names = w.names; assumed_canonical = w.assumed_canonical; previous_canonical = w.previous_canonical })
+    record {
+      fine = w.fine;
+      rise = w.rise;
+      apart = w.apart;
+      same_known = w.same_known;
+      unit_ids = w.unit_ids;
+      conflict_on_unit = w.conflict_on_unit;
+      inputs_counted = w.inputs_counted;
+      some_width = omega arith;
+      width_fits = omega arith;
+      names = w.names;
+      assumed_canonical = w.assumed_canonical;
+      previous_canonical = w.previous_canonical;
+    })
 
 form-assumptions : (s : State) (c : List ℕ) → WellFormed s → W (step_assumptions s c)
 form-assumptions s c h = cond_both (some_not_sampling s (canonical c)) _ _ W (λ e. h)
     (λ e. let w = form-know (var_bound (canonical c)) s h in
-    record { fine = w.fine; rise = w.rise; apart = w.apart; same_known = w.same_known; unit_ids = w.unit_ids; conflict_on_unit = w.conflict_on_unit; inputs_counted = w.inputs_counted; some_width = w.some_width; width_fits = w.width_fits; names = w.names; assumed_canonical = canonical-is c; previous_canonical = w.previous_canonical })
+    record {
+      fine = w.fine;
+      rise = w.rise;
+      apart = w.apart;
+      same_known = w.same_known;
+      unit_ids = w.unit_ids;
+      conflict_on_unit = w.conflict_on_unit;
+      inputs_counted = w.inputs_counted;
+      some_width = w.some_width;
+      width_fits = w.width_fits;
+      names = w.names;
+      assumed_canonical = canonical-is c;
+      previous_canonical = w.previous_canonical;
+    })
 
 form-add_clause : (s : State) (list : List ℕ) → WellFormed s → W (step_add_clause s list)
 form-add_clause s list w =
@@ -161,7 +194,20 @@ steps_keep_form s (failed_assumptions c hs) w = form-failed s c hs w
 steps_keep_form s end_proof w = w
 
 pub new_form : WellFormed new_state
-new_form = record { fine = refl; rise = refl; apart = refl; same_known = refl; unit_ids = λ v. refl; conflict_on_unit = refl; inputs_counted = omega arith; some_width = omega arith; width_fits = omega arith; names = refl; assumed_canonical = refl; previous_canonical = refl }
+new_form = record {
+  fine = refl;
+  rise = refl;
+  apart = refl;
+  same_known = refl;
+  unit_ids = λ v. refl;
+  conflict_on_unit = refl;
+  inputs_counted = omega arith;
+  some_width = omega arith;
+  width_fits = omega arith;
+  names = refl;
+  assumed_canonical = refl;
+  previous_canonical = refl;
+}
 
 pub form-close : (s : State) → WellFormed s → WellFormed (closing_conflict s).after
 unfolding closing_conflict

@@ -18,7 +18,8 @@ pub below_later : (n : ℕ) (u : Option StoredUnit) → is_unit_below n u ≡ tr
 below_later n None h = refl
 below_later n (Some u) h = lt-ltb u.id (n + 1) (let k = ltb-true u.id n h in omega arith)
 
-pub below_set : (us : List (Option StoredUnit)) (n x : ℕ) (u : Option StoredUnit) → ((v : ℕ) → is_unit_below n (unit_of us v) ≡ true) → is_unit_below n u ≡ true → (v : ℕ) → is_unit_below n (unit_of (set us x u) v) ≡ true
+pub below_set : (us : List (Option StoredUnit)) (n x : ℕ) (u : Option StoredUnit) → ((v : ℕ) → is_unit_below n (unit_of us v) ≡ true) →
+    is_unit_below n u ≡ true → (v : ℕ) → is_unit_below n (unit_of (set us x u) v) ≡ true
 below_set us n x u h k v = elim (get_set us x u v) [
   | inl e ↦ ap (is_unit_below n) e.1 ∙ k
   | inr e ↦ ap (is_unit_below n) e ∙ h v
@@ -45,7 +46,8 @@ unit_kept id us x w off h = let r = unit_at id us h in elim (get_set us x w r.0)
 ]
 
 -- the conflict goes on standing: a unit set off it, more variables known, a conflict recorded
-pub stands_set : (us : List (Option StoredUnit)) (x : ℕ) (w : Option StoredUnit) (conflict : Option (ℕ × ℕ)) → is_conflict_on (unit_of us x) conflict ≡ false → conflict_stands us conflict ≡ true → conflict_stands (set us x w) conflict ≡ true
+pub stands_set : (us : List (Option StoredUnit)) (x : ℕ) (w : Option StoredUnit) (conflict : Option (ℕ × ℕ)) →
+    is_conflict_on (unit_of us x) conflict ≡ false → conflict_stands us conflict ≡ true → conflict_stands (set us x w) conflict ≡ true
 stands_set us x w None off h = refl
 stands_set us x w (Some pair) off h = unit_kept pair.0 us x w off h
 

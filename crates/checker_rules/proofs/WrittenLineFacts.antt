@@ -168,7 +168,8 @@ matches_put n k w m h i c ids r low =
     below j d true x e = let p = eqb-true j i x in omega arith
     below j d false x e = let p = r.below j d e in omega arith
 
-    names : number n k i ≡ w.announced + suc i → (j : ℕ) (d : List ℕ) (b : Bool) → eqb j i ≡ b → cond b (Some c) (m.named j) ≡ Some d → Matched (put_id (w.announced + suc i) c h.machine).named (number n k j) d
+    names : number n k i ≡ w.announced + suc i → (j : ℕ) (d : List ℕ) (b : Bool) → eqb j i ≡ b → cond b (Some c) (m.named j) ≡ Some d →
+        Matched (put_id (w.announced + suc i) c h.machine).named (number n k j) d
     names here j d true x e =
         let at : eqb (number n k j) (w.announced + suc i) ≡ true = rw (eqb-true j i x) (rw here (grind arith)) in
         (c, rw at refl, subst (λ y. Same y c) (some-same c d e) (same_itself c))
@@ -279,11 +280,13 @@ matches_input n j w m h y r exact stands low = record {
         (old.0, ap h.machine.named number_kept ∙ old.1, old.2)
 
 -- the input clauses, and then the steps after them
-inputs_follow : (n : ℕ) (es : List HintStep) (ys : List (List ℕ)) (j : ℕ) (w : Writer) (m : Machine) (h : Listed) → Matches n j w m h → m.above ≡ j → StandFrom h.machine.named (suc j) ys → j + length ys ≤ n →
+inputs_follow : (n : ℕ) (es : List HintStep) (ys : List (List ℕ)) (j : ℕ) (w : Writer) (m : Machine) (h : Listed) → Matches n j w m h →
+    m.above ≡ j → StandFrom h.machine.named (suc j) ys → j + length ys ≤ n →
     no_input es ≡ true → IsRun m (input_steps j ys ++ es) → (l : Listed) × Follows h (lines_of w (input_steps j ys ++ es)) l
 inputs_follow n es [] j w m h r exact stands few q g = steps_follow n j es w m h r q g
 inputs_follow n es (y ∷ ys) j w m h r exact stands few q g =
-    inputs_follow n es ys (j + 1) _ _ h (matches_input n j w m h y r exact stands.0 (omega arith)) (omega arith) (subst (λ x. StandFrom h.machine.named x ys) (omega arith) stands.1) (omega arith) q g.1
+    inputs_follow n es ys (j + 1) _ _ h (matches_input n j w m h y r exact stands.0 (omega arith)) (omega arith)
+    (subst (λ x. StandFrom h.machine.named x ys) (omega arith) stands.1) (omega arith) q g.1
 
 -- nothing told, and the whole formula listed
 matches_new : (cs : List (List ℕ)) → Matches (length cs) 0 (new_writer (length cs)) empty_machine (listing cs)

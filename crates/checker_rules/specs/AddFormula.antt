@@ -7,7 +7,7 @@ use Rattle.std.specs.Prelude.{◌≡◌, ℕ, Bool, List, [], ◌∷◌, ◌++�
 use Rattle.checker_rules.specs.Calls.{adds, calls_after}
 use Rattle.checker_rules.specs.Clauses.{all_true}
 use Rattle.checker_rules.specs.Covers.{Covers}
-use Rattle.checker_rules.specs.Headline.{Good, holds}
+use Rattle.checker_rules.specs.Headline.{EntailsRedundant, holds}
 use Rattle.checker_rules.specs.Outcome.{Cause, Outcome, accept, and_then}
 use Rattle.checker_rules.specs.Sound.{Sound}
 use Rattle.checker_rules.specs.State.{State, sat}
@@ -27,20 +27,28 @@ added_by (Some cause) c cs = []
 -- the clauses before the first that is refused
 abbrev pub added : State → List (List ℕ) → List (List ℕ)
 added s [] = []
-added s (c ∷ cs) = added_by (step s (add_clause c)).refused c (added (step s (add_clause c)).after cs)
+added s (c ∷ cs) = added_by (step s (add_clause c)).refused c
+    (added (step s (add_clause c)).after cs)
 
 -- the satisfying set is the fold over the steps before and the accepted clauses; the state is the one before the refused clause
 pub record FormulasAreFold : Type 0 where
-  pub fold : (s : State) (before : List Step) (cs : List (List ℕ)) → Good s → ((a : ℕ → Bool) → sat s a ≡ holds before a) →
-      (a : ℕ → Bool) → sat (add_clauses s cs).after a ≡ holds (before ++ map add_clause (added s cs)) a
-  pub covers : (s : State) (before : List Step) (cs : List (List ℕ)) → Covers (holds before) s → Covers (holds (before ++ map add_clause (added s cs))) (add_clauses s cs).after
+  pub fold : (s : State) (before : List Step) (cs : List (List ℕ)) → EntailsRedundant s →
+      ((a : ℕ → Bool) → sat s a ≡ holds before a) →
+      (a : ℕ → Bool) → sat (add_clauses s cs).after a ≡
+      holds (before ++ map add_clause (added s cs)) a
+  pub covers : (s : State) (before : List Step) (cs : List (List ℕ)) → Covers (holds before) s →
+      Covers (holds (before ++ map add_clause (added s cs))) (add_clauses s cs).after
   pub sound : (s : State) (cs : List (List ℕ)) → Sound s → Sound (add_clauses s cs).after
-  pub accepted : (s : State) (cs : List (List ℕ)) → (add_clauses s cs).refused ≡ None → added s cs ≡ cs
-  pub state : (s : State) (cs : List (List ℕ)) → (add_clauses s cs).after ≡ calls_after s (map adds (added s cs))
+  pub accepted : (s : State) (cs : List (List ℕ)) → (add_clauses s cs).refused ≡ None →
+      added s cs ≡ cs
+  pub state : (s : State) (cs : List (List ℕ)) →
+      (add_clauses s cs).after ≡ calls_after s (map adds (added s cs))
   -- the fold over the clauses alone
   pub members : (cs : List (List ℕ)) (a : ℕ → Bool) → holds (map add_clause cs) a ≡ all_true a cs
 
 -- the first part whole, and then the second
 pub record FormulasJoin : Type 0 where
-  pub outcome : (s : State) (cs ds : List (List ℕ)) → add_clauses s (cs ++ ds) ≡ and_then (add_clauses s cs) (λ r. add_clauses r ds)
-  pub clauses : (s : State) (cs ds : List (List ℕ)) → (add_clauses s cs).refused ≡ None → added s (cs ++ ds) ≡ cs ++ added (add_clauses s cs).after ds
+  pub outcome : (s : State) (cs ds : List (List ℕ)) →
+      add_clauses s (cs ++ ds) ≡ and_then (add_clauses s cs) (λ r. add_clauses r ds)
+  pub clauses : (s : State) (cs ds : List (List ℕ)) → (add_clauses s cs).refused ≡ None →
+      added s (cs ++ ds) ≡ cs ++ added (add_clauses s cs).after ds

@@ -23,4 +23,5 @@ CoversAfter p t (Some cause) r = Covers p r
 
 -- each step keeps it, for any set of members
 abbrev pub StepsCover : Type 0
-StepsCover = (p : (ℕ → Bool) → Bool) (s : State) (t : Step) → Covers p s → CoversAfter p t (step s t).refused (step s t).after
+StepsCover = (p : (ℕ → Bool) → Bool) (s : State) (t : Step) → Covers p s →
+    CoversAfter p t (step s t).refused (step s t).after

@@ -6,7 +6,7 @@ use Rattle.checker_rules.specs.AddFormula.{added}
 use Rattle.checker_rules.specs.CallEmissions.{EmitsCalls}
 use Rattle.checker_rules.specs.Calls.{adds}
 use Rattle.checker_rules.specs.Canonical.{canonical}
-use Rattle.checker_rules.specs.CheckedSteps.{ShownStep, hint_steps}
+use Rattle.checker_rules.specs.CheckedSteps.{NamedStep, hint_steps}
 use Rattle.checker_rules.specs.HintRun.{HintStep, puts_input}
 use Rattle.checker_rules.specs.State.{State}
 
@@ -17,4 +17,6 @@ input_steps id (c ∷ cs) = puts_input id (canonical c) ∷ input_steps (id + 1)
 
 -- a beginning, since nothing more is emitted once `unsat` is recorded, nor from a refused clause on
 abbrev pub FormulasEmit : Type 0
-FormulasEmit = (s : State) (cs : List (List ℕ)) (es : List ShownStep) → EmitsCalls s (map adds (added s cs)) es → (n : ℕ) × (hint_steps es ≡ input_steps s.next (take n cs))
+FormulasEmit = (s : State) (cs : List (List ℕ)) (es : List NamedStep) →
+    EmitsCalls s (map adds (added s cs)) es →
+    (n : ℕ) × (hint_steps es ≡ input_steps s.next (take n cs))

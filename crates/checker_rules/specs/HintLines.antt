@@ -6,7 +6,7 @@
 --     line_cause h x, after_line h x      the refusal of a line, and what is held after an accepted one
 --     Follows h xs k      the lines are accepted in turn from h, and lead to k
 --     listing cs      a formula's clauses under 1, 2 and so on
-use Rattle.std.specs.Prelude.{◌≡◌, ℕ, suc, Bool, true, false, cond, ◌||◌, ltb, List, [], ◌∷◌, Option, Some, None}
+use Rattle.std.specs.Prelude.{◌≡◌, ℕ, suc, Bool, true, false, if◌then◌else◌, ◌||◌, nat_lt, List, [], ◌∷◌, Option, Some, None}
 use Rattle.checker_rules.specs.Clauses.{add_lit, all_true, is_falsified, is_unit_on}
 use Rattle.checker_rules.specs.Hints.{IsAdmitted, negated_set}
 use Rattle.checker_rules.specs.Machine.{Machine, drop_id, put_id}
@@ -23,12 +23,12 @@ pub data HintCause : Type 0 where
 -- the first literal of the second list on which the clause is unit
 abbrev pub unit_among : (ℕ → Bool) → List ℕ → List ℕ → Option ℕ
 unit_among s c [] = None
-unit_among s c (l ∷ ls) = cond (is_unit_on s c l) (Some l) (unit_among s c ls)
+unit_among s c (l ∷ ls) = if is_unit_on s c l then Some l else unit_among s c ls
 
 -- the last hint: its clause is falsified
 abbrev pub last_cause : (ℕ → Bool) → Option (List ℕ) → Option HintCause
 last_cause s None = Some unknown_id
-last_cause s (Some c) = cond (is_falsified s c) None (Some no_conflict)
+last_cause s (Some c) = if is_falsified s c then None else Some no_conflict
 
 -- a clause that is unit, or not, and the hints after it
 abbrev pub go_on : Option ℕ → (ℕ → Option HintCause) → Option HintCause
@@ -36,7 +36,8 @@ go_on None rest = Some not_unit
 go_on (Some l) rest = rest l
 
 -- a hint before the last: its clause is unit, and its literal is true for those after it
-abbrev pub next_cause : (ℕ → Bool) → Option (List ℕ) → ((ℕ → Bool) → Option HintCause) → Option HintCause
+abbrev pub next_cause : (ℕ → Bool) → Option (List ℕ) → ((ℕ → Bool) → Option HintCause) →
+    Option HintCause
 next_cause s None rest = Some unknown_id
 next_cause s (Some c) rest = go_on (unit_among s c c) (λ l. rest (add_lit l s))
 
@@ -65,7 +66,9 @@ is_empty (l ∷ ls) = false
 
 -- an id must be greater than all before it, and then the hints are tried
 abbrev pub line_cause : Listed → HintLine → Option HintCause
-line_cause h (adds_clause id c hints) = cond (ltb id h.machine.above) (Some id_not_greater) (hints_cause h.machine.named (negated_set c) hints)
+line_cause h (adds_clause id c hints) =
+    if nat_lt id h.machine.above then Some id_not_greater
+    else hints_cause h.machine.named (negated_set c) hints
 line_cause h (deletes_clauses number ids) = None
 
 -- ids that go, whether they are there or not
@@ -75,7 +78,8 @@ drop_ids (i ∷ ids) m = drop_ids ids (drop_id i m)
 
 -- what is held after a line
 abbrev pub after_line : Listed → HintLine → Listed
-after_line h (adds_clause id c hints) = record { machine = put_id id c h.machine; added_empty = h.added_empty || is_empty c }
+after_line h (adds_clause id c hints) =
+    record { machine = put_id id c h.machine; added_empty = h.added_empty || is_empty c }
 after_line h (deletes_clauses number ids) = record h { machine = drop_ids ids h.machine }
 
 -- the lines are accepted in turn, and lead from one to the other
@@ -90,8 +94,12 @@ list_from i (c ∷ cs) m = list_from (suc i) cs (put_id i c m)
 
 -- a formula's clauses under 1, 2 and so on, and no line
 abbrev pub listing : List (List ℕ) → Listed
-listing cs = record { machine = list_from 1 cs (record { named = λ i. None; above = 1 }); added_empty = false }
+listing cs = record {
+  machine = list_from 1 cs (record { named = λ i. None; above = 1 });
+  added_empty = false;
+}
 
 -- where the empty clause was added, no assignment satisfies the formula
 abbrev pub HintsRefute : Type 0
-HintsRefute = (cs : List (List ℕ)) (xs : List HintLine) (k : Listed) → Follows (listing cs) xs k → k.added_empty ≡ true → (a : ℕ → Bool) → all_true a cs ≡ true → ⊥
+HintsRefute = (cs : List (List ℕ)) (xs : List HintLine) (k : Listed) → Follows (listing cs) xs k →
+    k.added_empty ≡ true → (a : ℕ → Bool) → all_true a cs ≡ true → ⊥

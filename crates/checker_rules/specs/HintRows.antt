@@ -12,7 +12,8 @@ two_clauses = put_id 4 (neg 1 ∷ []) (put_id 3 (pos 1 ∷ []) empty_machine)
 -- one fact a row
 pub record HintRows : Type 0 where
   -- [] follows from both, in either order, and from neither alone
-  pub conflict : IsRun two_clauses (puts_derived 5 [] (3 ∷ 4 ∷ []) ∷ puts_derived 6 [] (4 ∷ 3 ∷ []) ∷ [])
+  pub conflict : IsRun two_clauses
+      (puts_derived 5 [] (3 ∷ 4 ∷ []) ∷ puts_derived 6 [] (4 ∷ 3 ∷ []) ∷ [])
   pub no_conflict : MayDo two_clauses (puts_derived 5 [] (3 ∷ [])) → ⊥
   -- each clause before the last is unit, and the list ends with the falsified one
   pub not_unit : MayDo two_clauses (puts_derived 5 [] (3 ∷ 3 ∷ 4 ∷ [])) → ⊥
@@ -28,8 +29,10 @@ pub record HintRows : Type 0 where
   pub removed_clause : IsRun two_clauses (removes 3 ∷ puts_derived 5 [] (3 ∷ 4 ∷ []) ∷ []) → ⊥
   -- a deletion does not rest on its own clause, and removes it unless it is kept
   pub own_id : MayDo two_clauses (lowers 3 false (pos 1 ∷ []) (3 ∷ [])) → ⊥
-  pub lowered : IsRun two_clauses (lowers 4 false (pos 1 ∷ pos 2 ∷ []) (3 ∷ []) ∷ puts_derived 5 [] (3 ∷ 4 ∷ []) ∷ []) → ⊥
-  pub kept : IsRun two_clauses (lowers 4 true (pos 1 ∷ pos 2 ∷ []) (3 ∷ []) ∷ puts_derived 5 [] (3 ∷ 4 ∷ []) ∷ [])
+  pub lowered : IsRun two_clauses (lowers 4 false (pos 1 ∷ pos 2 ∷ []) (3 ∷ []) ∷
+      puts_derived 5 [] (3 ∷ 4 ∷ []) ∷ []) → ⊥
+  pub kept : IsRun two_clauses (lowers 4 true (pos 1 ∷ pos 2 ∷ []) (3 ∷ []) ∷
+      puts_derived 5 [] (3 ∷ 4 ∷ []) ∷ [])
   -- a core fails by its negation, or by opposite literals and no list
   pub core : MayDo two_clauses (fails_core (neg 1 ∷ pos 2 ∷ []) (3 ∷ []))
   pub true_core : MayDo two_clauses (fails_core (pos 2 ∷ []) (3 ∷ [])) → ⊥

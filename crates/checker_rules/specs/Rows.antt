@@ -45,12 +45,14 @@ answer_by (Some cause) after es = refuses cause after.steps es
 -- the answers of a list of calls, in turn
 abbrev pub answers : State → List Call → List Answer
 answers s [] = []
-answers s (call ∷ calls) = answer_by (answer_of s call).refused (answer_of s call).after (map (λ e. e.step) (traced_by s call)) ∷ answers (answer_of s call).after calls
+answers s (call ∷ calls) = answer_by (answer_of s call).refused (answer_of s call).after
+    (map (λ e. e.step) (traced_by s call)) ∷ answers (answer_of s call).after calls
 
 -- what a transcript takes of a list of calls
 abbrev pub transcribed : State → List Call → List TranscriptStep
 transcribed s [] = []
-transcribed s (call ∷ calls) = images (traced_by s call) ++ transcribed (answer_of s call).after calls
+transcribed s (call ∷ calls) = images (traced_by s call) ++
+    transcribed (answer_of s call).after calls
 
 -- the names shown with the steps that a call emits
 abbrev pub shown_names : State → Call → List (List Known)

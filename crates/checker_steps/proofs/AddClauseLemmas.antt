@@ -8,7 +8,7 @@ use Rattle.checker_rules.specs.Step.{add_clause}
 use Rattle.checker_rules.specs.Steps.{step}
 use Rattle.checker_rules.specs.Store.{count_limit, count_of, counters, id_limit}
 use Rattle.checker_rules.proofs.StepKinds.{step-add_clause}
-use Rattle.checker_steps.specs.InputCause.{HasRoom, input_cause, taken}
+use Rattle.checker_steps.specs.InputCause.{HasCapacity, input_cause, taken}
 use Rattle.checker_parts.specs.Answers.{AnswersParts}
 use Rattle.checker_parts.specs.Causes.{cause_of}
 use Rattle.checker_parts.specs.declared.error.CheckCause.{CheckCause}
@@ -21,7 +21,9 @@ abbrev pub by_cause : Option Cause → State → Outcome → Outcome
 by_cause None s o = o
 by_cause (Some cause) s o = refuse cause s
 
-pub conds-by_cause : (a b d : Bool) (x y z : Cause) (s : State) (o : Outcome) → cond a (refuse x s) (cond b (refuse y s) (cond d (refuse z s) o)) ≡ by_cause (cond a (Some x) (cond b (Some y) (cond d (Some z) None))) s o
+pub conds-by_cause : (a b d : Bool) (x y z : Cause) (s : State) (o : Outcome) →
+    cond a (refuse x s) (cond b (refuse y s) (cond d (refuse z s) o)) ≡
+    by_cause (cond a (Some x) (cond b (Some y) (cond d (Some z) None))) s o
 conds-by_cause true b d x y z s o = refl
 conds-by_cause false true d x y z s o = refl
 conds-by_cause false false true x y z s o = refl
@@ -58,7 +60,7 @@ less_from : (n m : ℕ) → leb m n ≡ false → n < m
 less_from n m h = grind (arith, h)
 
 -- where nothing refuses there is an id, and a copy can be counted
-pub add-room : (s : State) (c : List ℕ) → input_cause s c ≡ None → HasRoom s c
+pub add-room : (s : State) (c : List ℕ) → input_cause s c ≡ None → HasCapacity s c
 add-room s c e =
     let p = none-parts (some_not_sampling s c) (not (ltb s.next id_limit)) (leb count_limit (count_of false c s.clauses)) not_sampling ids_exhausted count_exhausted e in
     record { ids = below_from s.next id_limit p.1; copies = less_from (count_of false c s.clauses) count_limit p.2 }
@@ -68,7 +70,9 @@ pub cause-sampling : (s : State) (c : List ℕ) → true ≡ some_not_sampling s
 cause-sampling s c e =
     ap (λ b. cond b (Some not_sampling) (cond (not (ltb s.next id_limit)) (Some ids_exhausted) (cond (leb count_limit (count_of false c s.clauses)) (Some count_exhausted) None))) e
 
-after-sampling : (s : State) (c : List ℕ) → false ≡ some_not_sampling s c → cond (not (ltb s.next id_limit)) (Some ids_exhausted) (cond (leb count_limit (count_of false c s.clauses)) (Some count_exhausted) None) ≡ input_cause s c
+after-sampling : (s : State) (c : List ℕ) → false ≡ some_not_sampling s c →
+    cond (not (ltb s.next id_limit)) (Some ids_exhausted)
+    (cond (leb count_limit (count_of false c s.clauses)) (Some count_exhausted) None) ≡ input_cause s c
 after-sampling s c e =
     ap (λ b. cond b (Some not_sampling) (cond (not (ltb s.next id_limit)) (Some ids_exhausted) (cond (leb count_limit (count_of false c s.clauses)) (Some count_exhausted) None))) e
 
@@ -113,7 +117,8 @@ cause-copies s c e n m =
     sym (ap (λ b. cond b (Some count_exhausted) None) (no-copy (count_of false c s.clauses) count_limit (m ∙ sym count_limit-is)))
     ∙ after-ids s c e n
 
-pub cause-none : (s : State) (c : List ℕ) → false ≡ some_not_sampling s c → s.next < id_limit → count_of false c s.clauses < 2 ^ 32 → (count_of false c s.clauses ≡ 2 ^ 32 - 1 → ⊥) → input_cause s c ≡ None
+pub cause-none : (s : State) (c : List ℕ) → false ≡ some_not_sampling s c → s.next < id_limit → count_of false c s.clauses < 2 ^ 32 →
+    (count_of false c s.clauses ≡ 2 ^ 32 - 1 → ⊥) → input_cause s c ≡ None
 cause-none s c e n fits m =
     sym (after-ids s c e n) ∙ ap (λ b. cond b (Some count_exhausted) None) (some-copy (count_of false c s.clauses) count_limit (copy-left (count_of false c s.clauses) fits m))
 

@@ -4,7 +4,7 @@ use Rattle.std.specs.List.{list_any, list_all}
 use Rattle.std.proofs.lemmas.Bool.{and_parts, both_ways, eq-eqb, eqb-false, eqb-true, false_from_ne_true, lt-ltb, ltb-true, or_left, or_right}
 use Rattle.checker_rules.specs.Canonical.{canonical, insert_lit, is_subset}
 use Rattle.checker_rules.specs.Check.{check, ready}
-use Rattle.checker_rules.specs.CheckedSteps.{checked_failed_assumptions, shown_in}
+use Rattle.checker_rules.specs.CheckedSteps.{checked_failed_assumptions, named_in}
 use Rattle.checker_rules.specs.Clauses.{has, is_canonical, is_negative, is_tautology, negate, var_of}
 use Rattle.checker_rules.specs.KnownVars.{user_from_proof_var}
 use Rattle.checker_rules.specs.Outcome.{Cause, Outcome, accept, core_var_hidden, not_assumed, refuse}
@@ -49,7 +49,9 @@ apart-tail l c h = false_from_ne_true _ (λ t.
 apart-next : (l m : ℕ) (c : List ℕ) → is_tautology (l ∷ m ∷ c) ≡ false → m ≡ negate l → ⊥
 apart-next l m c h e =
     let all = l ∷ m ∷ c in
-    both_ways (is_tautology all) h (any_from (λ x. has (negate x) all) all l (or_left (eqb l l) (has l (m ∷ c)) (eq-eqb l l refl)) (or_right (eqb (negate l) l) (has (negate l) (m ∷ c)) (or_left (eqb (negate l) m) (has (negate l) c) (eq-eqb (negate l) m (sym e)))))
+    both_ways (is_tautology all) h (any_from (λ x. has (negate x) all) all l (or_left (eqb l l) (has l (m ∷ c)) (eq-eqb l l refl))
+    (or_right (eqb (negate l) l) (has (negate l) (m ∷ c))
+    (or_left (eqb (negate l) m) (has (negate l) c) (eq-eqb (negate l) m (sym e)))))
 
 -- the negations of a canonical core without opposite literals are canonical
 pub negations-canonical : (c : List ℕ) → is_canonical c ≡ true → is_tautology c ≡ false → canonical (map negate c) ≡ map negate c
@@ -59,7 +61,9 @@ negations-canonical (l ∷ m ∷ c) h t =
     let p = and_parts (list_all (ltb l) (m ∷ c)) (is_canonical (m ∷ c)) h in
     let less = ltb-true l m (and_parts (ltb l m) (list_all (ltb l) c) p.0).0 in
     ap (insert_lit (negate l)) (negations-canonical (m ∷ c) p.1 (apart-tail l (m ∷ c) t))
-    ∙ ap (λ b. cond b (negate l ∷ negate m ∷ map negate c) (cond (eqb (negate l) (negate m)) (negate m ∷ map negate c) (negate m ∷ insert_lit (negate l) (map negate c)))) (lt-ltb (negate l) (negate m) (negate-below l m less (apart-next l m c t)))
+    ∙ ap (λ b. cond b (negate l ∷ negate m ∷ map negate c)
+    (cond (eqb (negate l) (negate m)) (negate m ∷ map negate c) (negate m ∷ insert_lit (negate l) (map negate c))))
+    (lt-ltb (negate l) (negate m) (negate-below l m less (apart-next l m c t)))
 
 -- they hold no opposite literals
 pub negations-apart : (c : List ℕ) → is_canonical c ≡ true → is_tautology c ≡ false → is_tautology (map negate c) ≡ false
@@ -79,8 +83,11 @@ module _ (s : State) (ls hs c : List ℕ) (list : c ≡ canonical ls) where
   core-by : step s (failed_assumptions ls hs) ≡ by_cause (core_cause s c) s (cond (is_tautology c) (accept s) (check s (core_clause c) hs accept))
   core-by =
       step-failed_assumptions s ls hs
-      ∙ ap (λ (x : List ℕ). cond (not (is_subset x s.assumed)) (refuse not_assumed s) (cond (list_any (λ l. is_none (user_from_proof_var s (var_of l))) x) (refuse core_var_hidden s) (cond (is_tautology x) (accept s) (check s (core_clause x) hs accept)))) (sym list)
-      ∙ choose (not (is_subset c s.assumed)) (list_any (λ l. is_none (user_from_proof_var s (var_of l))) c) not_assumed core_var_hidden s (cond (is_tautology c) (accept s) (check s (core_clause c) hs accept))
+      ∙ ap (λ (x : List ℕ). cond (not (is_subset x s.assumed)) (refuse not_assumed s)
+      (cond (list_any (λ l. is_none (user_from_proof_var s (var_of l))) x) (refuse core_var_hidden s)
+      (cond (is_tautology x) (accept s) (check s (core_clause x) hs accept)))) (sym list)
+      ∙ choose (not (is_subset c s.assumed)) (list_any (λ l. is_none (user_from_proof_var s (var_of l))) c) not_assumed core_var_hidden s
+      (cond (is_tautology c) (accept s) (check s (core_clause c) hs accept))
 
   -- it is refused before its check
   pub core-refused : (cause : Cause) → core_cause s c ≡ Some cause → step s (failed_assumptions ls hs) ≡ refuse cause s
@@ -98,10 +105,10 @@ module _ (s : State) (ls hs c : List ℕ) (list : c ≡ canonical ls) where
     pub core-checked : is_tautology c ≡ false → step s (failed_assumptions ls hs) ≡ check s (core_clause c) hs accept
     core-checked e = core-allowed ∙ ap (λ b. cond b (accept s) (check s (core_clause c) hs accept)) e
 
-    pub core-opposites-steps : is_tautology c ≡ true → shown_in s (checked_failed_assumptions c []) ∷ [] ≡ traced s (failed_assumptions ls hs)
+    pub core-opposites-steps : is_tautology c ≡ true → named_in s (checked_failed_assumptions c []) ∷ [] ≡ traced s (failed_assumptions ls hs)
     core-opposites-steps e =
         let r = ready s (core_clause c) in
-        sym (ap (λ b. cond b (shown_in s (checked_failed_assumptions c []) ∷ []) (shown_in r (checked_failed_assumptions c (check_trace r (core_clause c) hs)) ∷ [])) e)
+        sym (ap (λ b. cond b (named_in s (checked_failed_assumptions c []) ∷ []) (named_in r (checked_failed_assumptions c (check_trace r (core_clause c) hs)) ∷ [])) e)
         ∙ ap (λ (x : List ℕ). traced_core s x hs) list
         ∙ sym (ap (λ (x : Option Cause). traced_when x s (failed_assumptions ls hs)) (ap (λ (o : Outcome). o.refused) (core-opposites e)))
 
@@ -113,7 +120,7 @@ module _ (s : State) (ls hs c : List ℕ) (list : c ≡ canonical ls) where
     core-traced e =
         let refused = (check s (core_clause c) hs accept).refused in
         let r = ready s (core_clause c) in
-        sym (ap (λ b. steps_unless refused (cond b (shown_in s (checked_failed_assumptions c []) ∷ []) (shown_in r (checked_failed_assumptions c (check_trace r (core_clause c) hs)) ∷ []))) e)
+        sym (ap (λ b. steps_unless refused (cond b (named_in s (checked_failed_assumptions c []) ∷ []) (named_in r (checked_failed_assumptions c (check_trace r (core_clause c) hs)) ∷ []))) e)
         ∙ same-when e refused
         ∙ ap (λ (x : Option Cause). traced_when x s (failed_assumptions ls hs)) (sym (ap (λ (o : Outcome). o.refused) (core-checked e)))
 
@@ -121,13 +128,13 @@ module _ (s : State) (ls hs c : List ℕ) (list : c ≡ canonical ls) where
 pub core-unchecked : (s : State) (c hs : List ℕ) (cause : Cause) → (check s (core_clause c) hs accept).refused ≡ Some cause → [] ≡ core_steps s c hs
 core-unchecked s c hs cause e =
     let r = ready s (core_clause c) in
-    sym (ap (λ (x : Option Cause). steps_unless x (shown_in r (checked_failed_assumptions c (check_trace r (core_clause c) hs)) ∷ [])) e)
+    sym (ap (λ (x : Option Cause). steps_unless x (named_in r (checked_failed_assumptions c (check_trace r (core_clause c) hs)) ∷ [])) e)
 
 -- the check passes, and leaves t
 pub core-told : (s t : State) (c hs : List ℕ) → ((check s (core_clause c) hs accept).refused ≡ None) × (t ≡ (check s (core_clause c) hs accept).after)
-    → shown_in t (checked_failed_assumptions c (check_trace (ready s (core_clause c)) (core_clause c) hs)) ∷ [] ≡ core_steps s c hs
+    → named_in t (checked_failed_assumptions c (check_trace (ready s (core_clause c)) (core_clause c) hs)) ∷ [] ≡ core_steps s c hs
 core-told s t c hs h =
     let r = ready s (core_clause c) in
     let step = checked_failed_assumptions c (check_trace r (core_clause c) hs) in
-    ap (λ (u : State). shown_in u step ∷ []) (h.1 ∙ check-after s (core_clause c) hs)
-    ∙ sym (ap (λ (x : Option Cause). steps_unless x (shown_in r step ∷ [])) h.0)
+    ap (λ (u : State). named_in u step ∷ []) (h.1 ∙ check-after s (core_clause c) hs)
+    ∙ sym (ap (λ (x : Option Cause). steps_unless x (named_in r step ∷ [])) h.0)

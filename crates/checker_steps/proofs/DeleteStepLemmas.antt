@@ -4,7 +4,7 @@ use Rattle.std.specs.List.{list_all}
 use Rattle.std.proofs.lemmas.Grind.{common_steps}
 use Rattle.checker_rules.specs.Buckets.{remaining}
 use Rattle.checker_rules.specs.Canonical.{canonical}
-use Rattle.checker_rules.specs.CheckedSteps.{ShownStep, checked_delete_at_clause, checked_delete_clause, shown_in}
+use Rattle.checker_rules.specs.CheckedSteps.{NamedStep, checked_delete_at_clause, checked_delete_clause, named_in}
 use Rattle.checker_rules.specs.Clauses.{is_tautology}
 use Rattle.checker_rules.specs.DeleteClause.{delete_copy, delete_justified, forget, is_short, justified}
 use Rattle.checker_rules.specs.Emits.{Emits, EmitsBy, emits_deletion, emits_lowered, previous_id}
@@ -31,9 +31,9 @@ use Rattle.clause_store.specs.Store.{is_whole}
 use Rattle.clause_store.proofs.DeleteLemmas.{is_stored-lowered}
 use Rattle.clause_store.proofs.RefusalLemmas.{answers-refusal}
 use Rattle.checker_steps.specs.DeletionSteps.{deletion_steps}
-use Rattle.checker_steps.specs.Handed.{Boxes, Handed}
+use Rattle.checker_steps.specs.Delivered.{Listeners, Delivered}
 use Rattle.checker_steps.specs.Justified.{AnswersJustified, implying_id, of_redundant}
-use Rattle.checker_steps.proofs.EmissionLemmas.{handed-refused, unless-failed}
+use Rattle.checker_steps.proofs.EmissionLemmas.{delivered-refused, unless-failed}
 
 -- a tautology is refused
 pub delete-tautology : (s : State) (j : Justification) (ls : List ℕ) → is_tautology (canonical ls) ≡ true → step s (delete_clause j ls) ≡ refuse tautology s
@@ -56,7 +56,8 @@ kind_of by_satisfied c s false e = refl
 kind_of by_simplified c s true e = cc
 kind_of by_simplified c s false e = refl
 
-pub delete-justified : (s : State) (j : Justification) (ls c : List ℕ) (id : Option ℕ) (r : Bool) → is_tautology (canonical ls) ≡ false → c ≡ canonical ls → AnswersJustified (Ok id) j c s → is_some id ≡ not r
+pub delete-justified : (s : State) (j : Justification) (ls c : List ℕ) (id : Option ℕ) (r : Bool) → is_tautology (canonical ls) ≡ false →
+    c ≡ canonical ls → AnswersJustified (Ok id) j c s → is_some id ≡ not r
     → (step s (delete_clause j ls) ≡ delete_justified r c (forget s)) × (of_redundant j ≡ r)
 delete-justified s j ls c id r apart same a some =
     let kind = kind_of j c s r (ap is_some (sym a.1) ∙ some) in
@@ -64,7 +65,8 @@ delete-justified s j ls c id r apart same a some =
 
 -- the error for a copy that was not deleted
 module _ (r : Bool) (c : List ℕ) (s t : State) (e : CheckerError) where
-  refused-with : (msg : CheckCause) (cause : Cause) → RefusesWith t.steps msg e → cause_of msg ≡ cause → (delete_justified r c s ≡ refuse cause s) × (t ≡ s) → AnswersParts {A = Unit {0}} (Err e) (delete_justified r c s) t
+  refused-with : (msg : CheckCause) (cause : Cause) → RefusesWith t.steps msg e → cause_of msg ≡ cause →
+      (delete_justified r c s ≡ refuse cause s) × (t ≡ s) → AnswersParts {A = Unit {0}} (Err e) (delete_justified r c s) t
   refused-with msg cause h named k = answers-refusal e t.steps msg cause (delete_justified r c s) t h named (ap (λ (x : Outcome). x.refused) k.0) (k.1 ∙ sym (ap (λ (x : Outcome). x.after) k.0)) refl
 
   no_copy : (r : Bool) → cause_of (cond r causes.DeleteRedundantIsIrredundant causes.DeleteIrredundantIsRedundant) ≡ cond r delete_redundant_is_irredundant delete_irredundant_is_redundant
@@ -75,20 +77,24 @@ module _ (r : Bool) (c : List ℕ) (s t : State) (e : CheckerError) where
   answers-fault OutOfMemory a h = subst (λ (x : CheckerError). AnswersParts {A = Unit {0}} (Err x) (delete_justified r c s) t) (sym h) tt
   answers-fault UnitOrEmpty a h = refused-with causes.DeleteUnitOrEmpty delete_unit_or_empty h refl a
   answers-fault Unknown a h = refused-with causes.DeleteUnknown delete_unknown h refl a
-  answers-fault NoCopy a h = refused-with (cond r causes.DeleteRedundantIsIrredundant causes.DeleteIrredundantIsRedundant) (cond r delete_redundant_is_irredundant delete_irredundant_is_redundant) h (no_copy r) a
+  answers-fault NoCopy a h = refused-with (cond r causes.DeleteRedundantIsIrredundant causes.DeleteIrredundantIsRedundant)
+      (cond r delete_redundant_is_irredundant delete_irredundant_is_redundant) h (no_copy r) a
 
 -- what holds unless memory was refused holds unless the call failed
-pub unless-fault : (P : Type 0) (f : DeleteFault) (r : Bool) (n : ℕ) (e : CheckerError) → IsDeleteError f r n e → UnlessOutOfMemory {A = ℕ × DeleteClauseResult} (Err f) P → UnlessFailed {A = Unit {0}} (Err e) P
+pub unless-fault : (P : Type 0) (f : DeleteFault) (r : Bool) (n : ℕ) (e : CheckerError) → IsDeleteError f r n e →
+    UnlessOutOfMemory {A = ℕ × DeleteClauseResult} (Err f) P → UnlessFailed {A = Unit {0}} (Err e) P
 unless-fault P OutOfMemory r n e h p = subst (λ (x : CheckerError). UnlessFailed {A = Unit {0}} (Err x) P) (sym h) tt
 unless-fault P UnitOrEmpty r n e h p = unless-failed {A = Unit {0}} (Err e) p
 unless-fault P Unknown r n e h p = unless-failed {A = Unit {0}} (Err e) p
 unless-fault P NoCopy r n e h p = unless-failed {A = Unit {0}} (Err e) p
 
--- what the deletion hands on is what the rules emit
+-- what the deletion delivers on is what the rules emit
 stored_part : (r : Bool) (c : List ℕ) (s : State) → (delete_justified r c s).refused ≡ None → (is_stored c s.clauses ≡ true) × (eqb (count_of r c s.clauses) 0 ≡ false)
 stored_part r c s h = go (is_short c) (is_stored c s.clauses) (eqb (count_of r c s.clauses) 0) h
   where
-    go : (a b d : Bool) → (cond a (refuse delete_unit_or_empty s) (cond (not b) (refuse delete_unknown s) (cond d (refuse (cond r delete_redundant_is_irredundant delete_irredundant_is_redundant) s) (accept (delete_copy r c s))))).refused ≡ None → (b ≡ true) × (d ≡ false)
+    go : (a b d : Bool) → (cond a (refuse delete_unit_or_empty s)
+        (cond (not b) (refuse delete_unknown s) (cond d (refuse (cond r delete_redundant_is_irredundant delete_irredundant_is_redundant) s)
+        (accept (delete_copy r c s))))).refused ≡ None → (b ≡ true) × (d ≡ false)
     go true b d k = cc
     go false false d k = cc
     go false true true k = cc
@@ -101,12 +107,15 @@ nothing_less : (n : ℕ) → n - 0 ≡ n
 nothing_less n = omega arith
 
 module _ (c : List ℕ) (s : State) (apart : are_apart s.clauses ≡ true) (whole : list_all is_whole s.clauses ≡ true) where
-  redundant-by : (id : ℕ) (x y : Bool) → deletion_steps s.known None (cond (x && y) Removed (cond (not true && x) NewlyRedundant Unchanged)) id c ≡ cond (not (x && y)) [] (shown_in s (checked_delete_clause id c) ∷ [])
+  redundant-by : (id : ℕ) (x y : Bool) → deletion_steps s.known None (cond (x && y) Removed (cond (not true && x) NewlyRedundant Unchanged))
+      id c ≡ cond (not (x && y)) [] (named_in s (checked_delete_clause id c) ∷ [])
   redundant-by id true true = refl
   redundant-by id true false = refl
   redundant-by id false y = refl
 
-  irredundant-by : (id n : ℕ) (x y : Bool) → deletion_steps s.known (Some n) (cond (x && y) Removed (cond (not false && x) NewlyRedundant Unchanged)) id c ≡ cond x (shown_in s (checked_delete_at_clause id (not (x && y)) c (n ∷ [])) ∷ []) []
+  irredundant-by : (id n : ℕ) (x y : Bool) →
+      deletion_steps s.known (Some n) (cond (x && y) Removed (cond (not false && x) NewlyRedundant Unchanged)) id c ≡
+      cond x (named_in s (checked_delete_at_clause id (not (x && y)) c (n ∷ [])) ∷ []) []
   irredundant-by id n true true = refl
   irredundant-by id n true false = refl
   irredundant-by id n false y = refl
@@ -116,31 +125,41 @@ module _ (c : List ℕ) (s : State) (apart : are_apart s.clauses ≡ true) (whol
       let es = s.clauses in let n = count_of false c es in let m = count_of true c es in
       let stored = (stored_part true c (forget s) (ap (λ (o : Outcome). o.refused) d.after)).0 in
       ap (λ x. deletion_steps s.known None x id c) d.result_is ∙ redundant-by id (eqb (n - 0) 0) (eqb (m - 1) 0)
-      ∙ ap (λ b. cond b [] (shown_in s (checked_delete_clause id c) ∷ [])) (sym (is_stored-lowered true c es apart whole stored))
-      ∙ ap (λ i. cond (is_stored c (remaining (map (lower true c) es))) [] (shown_in s (checked_delete_clause i c) ∷ [])) d.id_is
+      ∙ ap (λ b. cond b [] (named_in s (checked_delete_clause id c) ∷ [])) (sym (is_stored-lowered true c es apart whole stored))
+      ∙ ap (λ i. cond (is_stored c (remaining (map (lower true c) es))) [] (named_in s (checked_delete_clause i c) ∷ [])) d.id_is
 
   emits-irredundant : (id n : ℕ) (t : State) (did : DeleteClauseResult) → Deletes c false (forget s) t id did → deletion_steps s.known (Some n) did id c ≡ emits_lowered s c n
   emits-irredundant id n t did d =
       let es = s.clauses in let i = count_of false c es in let m = count_of true c es in
       let p = stored_part false c (forget s) (ap (λ (o : Outcome). o.refused) d.after) in
       ap (λ x. deletion_steps s.known (Some n) x id c) d.result_is ∙ irredundant-by id n (eqb (i - 1) 0) (eqb (m - 0) 0)
-      ∙ ap (λ b. cond (eqb (i - 1) 0) (shown_in s (checked_delete_at_clause id b c (n ∷ [])) ∷ []) []) (sym (is_stored-lowered false c es apart whole p.0))
-      ∙ ap (λ b. cond b (shown_in s (checked_delete_at_clause id (is_stored c (remaining (map (lower false c) es))) c (n ∷ [])) ∷ []) []) (one_less i p.1)
-      ∙ ap (λ k. cond (eqb i 1) (shown_in s (checked_delete_at_clause k (is_stored c (remaining (map (lower false c) es))) c (n ∷ [])) ∷ []) []) d.id_is
+      ∙ ap (λ b. cond (eqb (i - 1) 0) (named_in s (checked_delete_at_clause id b c (n ∷ [])) ∷ []) []) (sym (is_stored-lowered false c es apart whole p.0))
+      ∙ ap (λ b. cond b (named_in s (checked_delete_at_clause id (is_stored c (remaining (map (lower false c) es))) c (n ∷ [])) ∷ []) []) (one_less i p.1)
+      ∙ ap (λ k. cond (eqb i 1) (named_in s (checked_delete_at_clause k (is_stored c (remaining (map (lower false c) es))) c (n ∷ [])) ∷ []) []) d.id_is
 
-  pub emits-by : (j : Justification) (id : ℕ) (t : State) (did : DeleteClauseResult) → Deletes c (of_redundant j) (forget s) t id did → deletion_steps s.known (implying_id j c s) did id c ≡ emits_deletion s j c
+  pub emits-by : (j : Justification) (id : ℕ) (t : State) (did : DeleteClauseResult) → Deletes c (of_redundant j) (forget s) t id did →
+      deletion_steps s.known (implying_id j c s) did id c ≡ emits_deletion s j c
   emits-by by_redundant id t did d = emits-redundant id t did d
   emits-by by_satisfied id t did d = emits-irredundant id _ t did d
   emits-by by_simplified id t did d = emits-irredundant id (previous_id s.previous) t did d
 
 -- an accepted deletion emits this list alone
-pub emits-accepted : (s : State) (j : Justification) (ls : List ℕ) → (step s (delete_clause j ls)).refused ≡ None → (es : List ShownStep) → es ≡ emits_deletion s j (canonical ls) → Emits s (delete_clause j ls) es
+pub emits-accepted : (s : State) (j : Justification) (ls : List ℕ) → (step s (delete_clause j ls)).refused ≡ None → (es : List NamedStep) →
+    es ≡ emits_deletion s j (canonical ls) → Emits s (delete_clause j ls) es
 emits-accepted s j ls h es e = subst (λ (o : Option Cause). EmitsBy o s (delete_clause j ls) es) (sym h) e
 
--- a refused deletion hands nothing on
-pub handed-fault : {P T : Type 0} (took faulted : P → ShownStep → P → Type 0) (took_image faulted_image : T → TranscriptStep → T → Type 0) (s u : State) (j : Justification) (ls : List ℕ) (f : DeleteFault) (r : Bool) (e : CheckerError) (n : ℕ) (old : Boxes P T) → IsDeleteError f r n e
-    → AnswersParts {A = Unit {0}} (Err e) (step s (delete_clause j ls)) u → Handed {A = Unit {0}} (Err e) (Emits s (delete_clause j ls)) took faulted took_image faulted_image old old
-handed-fault took faulted took_image faulted_image s u j ls OutOfMemory r e n old h a = subst (λ (x : CheckerError). Handed {A = Unit {0}} (Err x) (Emits s (delete_clause j ls)) took faulted took_image faulted_image old old) (sym h) tt
-handed-fault took faulted took_image faulted_image s u j ls UnitOrEmpty r e n old h a = handed-refused took faulted took_image faulted_image s u (delete_clause j ls) e n causes.DeleteUnitOrEmpty old h a refl
-handed-fault took faulted took_image faulted_image s u j ls Unknown r e n old h a = handed-refused took faulted took_image faulted_image s u (delete_clause j ls) e n causes.DeleteUnknown old h a refl
-handed-fault took faulted took_image faulted_image s u j ls NoCopy r e n old h a = handed-refused took faulted took_image faulted_image s u (delete_clause j ls) e n (cond r causes.DeleteRedundantIsIrredundant causes.DeleteIrredundantIsRedundant) old h a refl
+-- a refused deletion delivers nothing on
+pub delivered-fault : {P T : Type 0} (took faulted : P → NamedStep → P → Type 0) (took_image faulted_image : T → TranscriptStep → T →
+    Type 0) (s u : State) (j : Justification) (ls : List ℕ) (f : DeleteFault) (r : Bool) (e : CheckerError) (n : ℕ) (old : Listeners P T) →
+    IsDeleteError f r n e
+    → AnswersParts {A = Unit {0}} (Err e) (step s (delete_clause j ls)) u → Delivered {A = Unit {0}} (Err e) (Emits s (delete_clause j ls)) took faulted took_image faulted_image old old
+delivered-fault took faulted took_image faulted_image s u j ls OutOfMemory r e n old h a =
+    subst (λ (x : CheckerError). Delivered {A = Unit {0}} (Err x) (Emits s (delete_clause j ls)) took faulted took_image faulted_image old
+    old) (sym h) tt
+delivered-fault took faulted took_image faulted_image s u j ls UnitOrEmpty r e n old h a =
+    delivered-refused took faulted took_image faulted_image s u (delete_clause j ls) e n causes.DeleteUnitOrEmpty old h a refl
+delivered-fault took faulted took_image faulted_image s u j ls Unknown r e n old h a =
+    delivered-refused took faulted took_image faulted_image s u (delete_clause j ls) e n causes.DeleteUnknown old h a refl
+delivered-fault took faulted took_image faulted_image s u j ls NoCopy r e n old h a =
+    delivered-refused took faulted took_image faulted_image s u (delete_clause j ls) e n
+    (cond r causes.DeleteRedundantIsIrredundant causes.DeleteIrredundantIsRedundant) old h a refl

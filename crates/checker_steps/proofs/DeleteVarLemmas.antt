@@ -3,7 +3,7 @@ use Rattle.std.proofs.Common.{◌≡◌, ℕ, ◌+◌, ◌*◌, ◌/◌, ◌<◌
 use Rattle.std.specs.List.{list_any}
 use Rattle.std.proofs.lemmas.Bool.{or_cases}
 use Rattle.std.proofs.lemmas.Bool.Decides.{nat_tests}
-use Rattle.checker_rules.specs.CheckedSteps.{checked_at_clause, shown_in}
+use Rattle.checker_rules.specs.CheckedSteps.{checked_at_clause, named_in}
 use Rattle.checker_rules.specs.Clauses.{has, var_of}
 use Rattle.checker_rules.specs.DeleteVar.{close_conflict, holds_var, is_conflict_on, is_unit_with}
 use Rattle.checker_rules.specs.Emits.{emits_closing}
@@ -18,7 +18,8 @@ use Rattle.checker_steps.specs.DeletedVar.{close_on, conflict_on, emits_close}
 -- a variable has two literals
 var_is : (l x : ℕ) → eqb (var_of l) x ≡ (eqb (2 * x) l || eqb (2 * x + 1) l)
 var_is l x = bool_ext _ _ (λ h. let e = eqb-true (l / 2) x h in either (eqb (2 * x) l) (eqb (2 * x + 1) l) refl refl e)
-    (λ h. ⊎_elim {C = eqb (var_of l) x ≡ true} (λ a. let e = eqb-true (2 * x) l a in eq-eqb (l / 2) x (omega (arith, e))) (λ a. let e = eqb-true (2 * x + 1) l a in eq-eqb (l / 2) x (omega (arith, e))) (or_cases (eqb (2 * x) l) (eqb (2 * x + 1) l) h))
+    (λ h. ⊎_elim {C = eqb (var_of l) x ≡ true} (λ a. let e = eqb-true (2 * x) l a in eq-eqb (l / 2) x (omega (arith, e)))
+    (λ a. let e = eqb-true (2 * x + 1) l a in eq-eqb (l / 2) x (omega (arith, e))) (or_cases (eqb (2 * x) l) (eqb (2 * x + 1) l) h))
   where
     either : (a b : Bool) → eqb (2 * x) l ≡ a → eqb (2 * x + 1) l ≡ b → l / 2 ≡ x → (a || b) ≡ true
     either true b p q e = refl
@@ -113,10 +114,13 @@ module _ (x : ℕ) (s : State) where
   pub emits-none : is_conflict_on (unit_of s.units x) s.conflict ≡ false → emits_close x s ≡ []
   emits-none none = ap (λ b. cond b (emits_closing s s.conflict) []) none
 
-  pub emits-taken : (q : ℕ × ℕ) → is_conflict_on (unit_of s.units x) s.conflict ≡ true → s.conflict ≡ Some q → s.next < id_limit → emits_close x s ≡ shown_in s (checked_at_clause s.next false [] (q.0 ∷ q.1 ∷ [])) ∷ []
+  pub emits-taken : (q : ℕ × ℕ) → is_conflict_on (unit_of s.units x) s.conflict ≡ true → s.conflict ≡ Some q → s.next < id_limit →
+      emits_close x s ≡ named_in s (checked_at_clause s.next false [] (q.0 ∷ q.1 ∷ [])) ∷ []
   emits-taken q some is room =
-      ap (λ b. cond b (emits_closing s s.conflict) []) some ∙ ap (emits_closing s) is ∙ ap (λ b. cond b (shown_in s (checked_at_clause s.next false [] (q.0 ∷ q.1 ∷ [])) ∷ []) []) (ltb-is s.next id_limit room)
+      ap (λ b. cond b (emits_closing s s.conflict) []) some ∙ ap (emits_closing s) is ∙ ap
+      (λ b. cond b (named_in s (checked_at_clause s.next false [] (q.0 ∷ q.1 ∷ [])) ∷ []) []) (ltb-is s.next id_limit room)
 
   pub emits-exhausted : (q : ℕ × ℕ) → is_conflict_on (unit_of s.units x) s.conflict ≡ true → s.conflict ≡ Some q → (s.next < id_limit → ⊥) → emits_close x s ≡ []
   emits-exhausted q some is room =
-      ap (λ b. cond b (emits_closing s s.conflict) []) some ∙ ap (emits_closing s) is ∙ ap (λ b. cond b (shown_in s (checked_at_clause s.next false [] (q.0 ∷ q.1 ∷ [])) ∷ []) []) (ltb-not s.next id_limit room)
+      ap (λ b. cond b (emits_closing s s.conflict) []) some ∙ ap (emits_closing s) is ∙ ap
+      (λ b. cond b (named_in s (checked_at_clause s.next false [] (q.0 ∷ q.1 ∷ [])) ∷ []) []) (ltb-not s.next id_limit room)

@@ -3,7 +3,7 @@ use Rattle.std.proofs.Common.{◌≡◌, ℕ, suc, Bool, true, false, cond, ltb,
 use Rattle.std.proofs.lemmas.Bool.{false≢true}
 use Rattle.std.specs.Prelude.{IsOk}
 use Rattle.std.specs.List.{list_any}
-use Rattle.checker_rules.specs.CheckedSteps.{ShownStep, checked_at_clause, checked_delete_rat_clause, shown_in}
+use Rattle.checker_rules.specs.CheckedSteps.{NamedStep, checked_at_clause, checked_delete_rat_clause, named_in}
 use Rattle.checker_rules.specs.DeleteVar.{close_conflict, drop_unit, free_var, holds_var, is_conflict_on}
 use Rattle.checker_rules.specs.Emits.{Emits, emits_closing, emits_unit}
 use Rattle.checker_rules.specs.Hints.{unit_lit}
@@ -24,9 +24,9 @@ use Rattle.checker_parts.specs.declared.variables.VarData.{VarData}
 use Rattle.sat_formula.specs.Vars.{indexes_of}
 use Rattle.sat_formula.specs.declared.lit.Var.{Var}
 use Rattle.checker_steps.specs.DeletedVar.{close_on, emits_close, emits_dropped}
-use Rattle.checker_steps.specs.Handed.{Boxes, Handed, HandsWhole}
+use Rattle.checker_steps.specs.Delivered.{Listeners, Delivered, DeliveredWhole}
 use Rattle.checker_steps.proofs.EmitLemmas.{emits-accepted, emits-refused}
-use Rattle.checker_steps.proofs.HandingLemmas.{beginning-first, handed-second}
+use Rattle.checker_steps.proofs.DeliveryLemmas.{beginning-first, delivered-second}
 
 -- the tests and what comes after them
 after_tests : State → ℕ → Outcome
@@ -36,16 +36,19 @@ drop-parts : (x : ℕ) (t : State) → drop_unit x t ≡ after_tests t x
 unfolding after_tests
 drop-parts x t = by (is_conflict_on (unit_of t.units x) t.conflict) (ltb t.next id_limit)
   where
-    by : (a b : Bool) → cond a (cond b (accept (free_var x (close_conflict t))) (refuse ids_exhausted t)) (accept (free_var x t)) ≡ and_then (cond a (cond b (accept (close_conflict t)) (refuse ids_exhausted t)) (accept t)) (λ r. accept (free_var x r))
+    by : (a b : Bool) → cond a (cond b (accept (free_var x (close_conflict t))) (refuse ids_exhausted t)) (accept (free_var x t)) ≡
+        and_then (cond a (cond b (accept (close_conflict t)) (refuse ids_exhausted t)) (accept t)) (λ r. accept (free_var x r))
     by true true = refl
     by true false = refl
     by false b = refl
 
 module _ (s t : State) (x : ℕ) (is : t ≡ know (suc x) s) where
   -- the tests in turn
-  tested : step s (delete_var x) ≡ cond (is_some (known_at t.known x).name) (refuse deleted_var_named t) (cond (list_any (λ e. holds_var x e.lits) t.clauses) (refuse deleted_var_has_clauses t) (after_tests t x))
+  tested : step s (delete_var x) ≡ cond (is_some (known_at t.known x).name) (refuse deleted_var_named t)
+      (cond (list_any (λ e. holds_var x e.lits) t.clauses) (refuse deleted_var_has_clauses t) (after_tests t x))
   tested =
-      step-delete_var s x ∙ ap (λ r. cond (is_some (known_at r.known x).name) (refuse deleted_var_named r) (cond (list_any (λ e. holds_var x e.lits) r.clauses) (refuse deleted_var_has_clauses r) (drop_unit x r))) (sym is)
+      step-delete_var s x ∙ ap (λ r. cond (is_some (known_at r.known x).name) (refuse deleted_var_named r)
+      (cond (list_any (λ e. holds_var x e.lits) r.clauses) (refuse deleted_var_has_clauses r) (drop_unit x r))) (sym is)
       ∙ ap (λ o. cond (is_some (known_at t.known x).name) (refuse deleted_var_named t) (cond (list_any (λ e. holds_var x e.lits) t.clauses) (refuse deleted_var_has_clauses t) o)) (drop-parts x t)
 
   pub delete-named : is_some (known_at t.known x).name ≡ true → step s (delete_var x) ≡ refuse deleted_var_named t
@@ -101,7 +104,8 @@ close-by x t = by (is_conflict_on (unit_of t.units x) t.conflict) t.conflict
     by true None = inr refl
     by true (Some pair) = room (ltb t.next id_limit)
       where
-        room : (b : Bool) → ((cond b (accept (close_conflict t)) (refuse ids_exhausted t)).refused ≡ None) ⊎ (cond b (shown_in t (checked_at_clause t.next false [] (pair.0 ∷ pair.1 ∷ [])) ∷ []) [] ≡ [])
+        room : (b : Bool) → ((cond b (accept (close_conflict t)) (refuse ids_exhausted t)).refused ≡ None)
+            ⊎ (cond b (named_in t (checked_at_clause t.next false [] (pair.0 ∷ pair.1 ∷ [])) ∷ []) [] ≡ [])
         room true = inl refl
         room false = inr refl
 
@@ -110,33 +114,40 @@ not_empty : {A : Type 0} (xs : List A) (y : A) (ys : List A) → xs ++ y ∷ ys 
 not_empty [] y ys e = cc
 not_empty (x ∷ xs) y ys e = cc
 
-module _ {P T : Type 0} (took faulted : P → ShownStep → P → Type 0) (took_image faulted_image : T → TranscriptStep → T → Type 0) (s t : State) (x : ℕ) (is : t ≡ know (suc x) s) (unnamed : is_some (known_at t.known x).name ≡ false) (free : list_any (λ e. holds_var x e.lits) t.clauses ≡ false) where
-  -- a closing that is refused, or handed on to a fault, ends the step
-  pub handed-unclosed : (e : CheckerError) (r : State) (old new : Boxes P T) → AnswersParts {A = Unit {0}} (Err e) (close_on x t) r → Handed {A = Unit {0}} (Err e) (λ es. es ≡ emits_close x t) took faulted took_image faulted_image old new
-      → Handed {A = Unit {0}} (Err e) (Emits s (delete_var x)) took faulted took_image faulted_image old new
-  handed-unclosed (CheckFailed number msg debug_step) r old new a h = (h.0, subst (Emits s (delete_var x)) (sym (h.1 ∙ none)) refused, h.2)
+module _ {P T : Type 0} (took faulted : P → NamedStep → P → Type 0) (took_image faulted_image : T → TranscriptStep → T → Type 0)
+    (s t : State) (x : ℕ) (is : t ≡ know (suc x) s) (unnamed : is_some (known_at t.known x).name ≡ false)
+    (free : list_any (λ e. holds_var x e.lits) t.clauses ≡ false) where
+  -- a closing that is refused, or delivered on to a fault, ends the step
+  pub delivered-unclosed : (e : CheckerError) (r : State) (old new : Listeners P T) → AnswersParts {A = Unit {0}} (Err e) (close_on x t) r →
+      Delivered {A = Unit {0}} (Err e) (λ es. es ≡ emits_close x t) took faulted took_image faulted_image old new
+      → Delivered {A = Unit {0}} (Err e) (Emits s (delete_var x)) took faulted took_image faulted_image old new
+  delivered-unclosed (CheckFailed number msg debug_step) r old new a h = (h.0, subst (Emits s (delete_var x)) (sym (h.1 ∙ none)) refused, h.2)
     where
       none : emits_close x t ≡ []
       none = ⊎_elim {C = emits_close x t ≡ []} (λ closed. absurd (cc (a.0, closed))) (λ e. e) (close-by x t)
 
       refused : Emits s (delete_var x) []
       refused = emits-refused s (delete_var x) [] (cause_of msg) (ap (λ (o : Outcome). o.refused) (delete-unclosed s t x is unnamed free (cause_of msg) a.0)) refl
-  handed-unclosed (ProofProcessorError cause) r old new a h =
+  delivered-unclosed (ProofProcessorError cause) r old new a h =
       let closed = ⊎_elim {C = (close_on x t).refused ≡ None} (λ c. c) (λ e. absurd (not_empty h.0 h.1 h.2 (h.3 ∙ e))) (close-by x t) in
       beginning-first took faulted took_image faulted_image (λ es. es ≡ emits_close x t) (Emits s (delete_var x)) (emits_dropped x t) old new
       (λ es e. subst (λ ys. Emits s (delete_var x) (ys ++ emits_dropped x t)) (sym e) (emits-closed s t x is unnamed free closed)) h
-  handed-unclosed OutOfMemory r old new a h = tt
-  handed-unclosed (ProofIncomplete number) r old new a h = absurd a
-  handed-unclosed (IoError number read) r old new a h = absurd a
-  handed-unclosed (ParseError number kind) r old new a h = absurd a
-  handed-unclosed Failed r old new a h = absurd a
+  delivered-unclosed OutOfMemory r old new a h = tt
+  delivered-unclosed (ProofIncomplete number) r old new a h = absurd a
+  delivered-unclosed (IoError number read) r old new a h = absurd a
+  delivered-unclosed (ParseError number kind) r old new a h = absurd a
+  delivered-unclosed Failed r old new a h = absurd a
 
-  -- the unit is handed on after it
-  pub handed-dropped : (res : Result (Unit {0}) CheckerError) (r : State) (old mid new : Boxes P T) → (close_on x t).refused ≡ None → r.units ≡ t.units → r.known ≡ t.known → HandsWhole (λ es. es ≡ emits_close x t) took took_image old mid
-      → UnlessGivenUp res (IsOk res) → Handed res (λ es. es ≡ emits_dropped x r) took faulted took_image faulted_image mid new → Handed res (Emits s (delete_var x)) took faulted took_image faulted_image old new
-  handed-dropped res r old mid new closed units known first fine h =
-      handed-second took faulted took_image faulted_image (λ es. es ≡ emits_dropped x r) (Emits s (delete_var x)) first.0 old mid new res first.2
-      (λ es e. subst (λ ys. Emits s (delete_var x) (ys ++ es)) (sym first.1) (subst (λ ys. Emits s (delete_var x) (emits_close x t ++ ys)) (sym (e ∙ emits_dropped-by x t r units known)) (emits-closed s t x is unnamed free closed)))
+  -- the unit is delivered on after it
+  pub delivered-dropped : (res : Result (Unit {0}) CheckerError) (r : State) (old mid new : Listeners P T) → (close_on x t).refused ≡ None →
+      r.units ≡ t.units → r.known ≡ t.known → DeliveredWhole (λ es. es ≡ emits_close x t) took took_image old mid
+      → UnlessGivenUp res (IsOk res) → Delivered res (λ es. es ≡ emits_dropped x r) took faulted took_image faulted_image mid new →
+      Delivered res (Emits s (delete_var x)) took faulted took_image faulted_image old new
+  delivered-dropped res r old mid new closed units known first fine h =
+      delivered-second took faulted took_image faulted_image (λ es. es ≡ emits_dropped x r) (Emits s (delete_var x)) first.0 old mid new res first.2
+      (λ es e. subst (λ ys. Emits s (delete_var x) (ys ++ es)) (sym first.1)
+      (subst (λ ys. Emits s (delete_var x) (emits_close x t ++ ys)) (sym (e ∙ emits_dropped-by x t r units known))
+      (emits-closed s t x is unnamed free closed)))
       (λ failed. not_failed res failed fine) h
     where
       not_failed : (res : Result (Unit {0}) CheckerError) → res ≡ Err Failed → UnlessGivenUp res (IsOk res) → ⊥

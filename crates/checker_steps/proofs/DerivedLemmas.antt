@@ -1,7 +1,7 @@
 -- A derived clause: its outcome and the steps that show it, part by part.
 use Rattle.std.proofs.Common.{◌≡◌, ℕ, Bool, true, false, cond, not, ◌&&◌, eqb, List, [], ◌∷◌, Option, None, Some, Err, refl, sym, ap, ◌∙◌, subst}
 use Rattle.checker_rules.specs.Check.{check, ready}
-use Rattle.checker_rules.specs.CheckedSteps.{ShownStep, checked_at_clause, checked_make_irredundant, shown_in}
+use Rattle.checker_rules.specs.CheckedSteps.{NamedStep, checked_at_clause, checked_make_irredundant, named_in}
 use Rattle.checker_rules.specs.Clauses.{var_of}
 use Rattle.checker_rules.specs.Emits.{emits_irredundant}
 use Rattle.checker_rules.specs.Outcome.{Cause, Outcome, accept, at_check_failed, count_exhausted, ids_exhausted, no_clause_for_hash, refuse}
@@ -16,7 +16,7 @@ use Rattle.clause_store.specs.declared.clauses.StoreClauseResult.{StoreClauseRes
 use Rattle.clause_store.specs.declared.clauses.StoreClauseResult.TheVariants.{New, Duplicate, NewlyIrredundant}
 use Rattle.clause_store.specs.declared.clauses.store.StoreFault.{StoreFault}
 use Rattle.clause_store.specs.declared.clauses.store.StoreFault.TheVariants as faults
-use Rattle.clause_store.specs.Quiet.{IsQuiet}
+use Rattle.clause_store.specs.Quiet.{NoListenerFault}
 use Rattle.clause_store.specs.Refusal.{IsStoreRefusal}
 use Rattle.clause_store.specs.Store.{AnswersStore, Stores, result_of, store_counters}
 use Rattle.clause_store.proofs.RefusalLemmas.{answers-refusal}
@@ -25,20 +25,20 @@ use Rattle.checker_steps.proofs.OutcomeLemmas.{and_then-accepted, and_then-refus
 use Rattle.checker_steps.proofs.QuietLemmas.{quiet-refusal}
 
 -- what is shown of a clause that passed its check, with these propagations
-abbrev pub steps_of : State → Bool → List ℕ → List ℕ → List ShownStep
-steps_of s redundant c ids = cond (stands c s) (emits_irredundant redundant c s) (shown_in s (checked_at_clause s.next redundant c ids) ∷ [])
+abbrev pub steps_of : State → Bool → List ℕ → List ℕ → List NamedStep
+steps_of s redundant c ids = cond (stands c s) (emits_irredundant redundant c s) (named_in s (checked_at_clause s.next redundant c ids) ∷ [])
 
 and-false : (b : Bool) → (b && false) ≡ false
 and-false true = refl
 and-false false = refl
 
 unit-is : (s : State) (redundant : Bool) (l : ℕ) (ids : List ℕ) (b : Bool) (id : ℕ) → stored_steps (cond b Duplicate New) s.known (cond b id s.next) redundant (l ∷ []) ids
-    ≡ cond b (emits_irredundant redundant (l ∷ []) s) (shown_in s (checked_at_clause s.next redundant (l ∷ []) ids) ∷ [])
-unit-is s redundant l ids true id = sym (ap (λ b. cond b (shown_in s (checked_make_irredundant (id_of (l ∷ []) s) (l ∷ [])) ∷ []) []) (and-false (not redundant)))
+    ≡ cond b (emits_irredundant redundant (l ∷ []) s) (named_in s (checked_at_clause s.next redundant (l ∷ []) ids) ∷ [])
+unit-is s redundant l ids true id = sym (ap (λ b. cond b (named_in s (checked_make_irredundant (id_of (l ∷ []) s) (l ∷ [])) ∷ []) []) (and-false (not redundant)))
 unit-is s redundant l ids false id = refl
 
 long-is : (s : State) (redundant : Bool) (c ids : List ℕ) (b raised : Bool) (id : ℕ) → stored_steps (cond b (cond raised NewlyIrredundant Duplicate) New) s.known (cond b id s.next) redundant c ids
-    ≡ cond b (cond raised (shown_in s (checked_make_irredundant (cond b id s.next) c) ∷ []) []) (shown_in s (checked_at_clause s.next redundant c ids) ∷ [])
+    ≡ cond b (cond raised (named_in s (checked_make_irredundant (cond b id s.next) c) ∷ []) []) (named_in s (checked_at_clause s.next redundant c ids) ∷ [])
 long-is s redundant c ids true true id = refl
 long-is s redundant c ids true false id = refl
 long-is s redundant c ids false raised id = refl
@@ -51,7 +51,8 @@ stored-is s redundant (l ∷ k ∷ ls) ids =
     long-is s redundant c ids (is_stored c s.clauses) (not redundant && eqb (count_of false c s.clauses) 0) (id_among c s.clauses)
 
 -- by the answer of storing it
-pub stored_steps-is : (s : State) (redundant : Bool) (c ids : List ℕ) (did : StoreClauseResult) (id : ℕ) → did ≡ result_of c redundant s → id ≡ id_of c s → stored_steps did s.known id redundant c ids ≡ steps_of s redundant c ids
+pub stored_steps-is : (s : State) (redundant : Bool) (c ids : List ℕ) (did : StoreClauseResult) (id : ℕ) → did ≡ result_of c redundant s →
+    id ≡ id_of c s → stored_steps did s.known id redundant c ids ≡ steps_of s redundant c ids
 stored_steps-is s redundant c ids did id d i =
     ap (λ (x : StoreClauseResult). stored_steps x s.known id redundant c ids) d ∙ ap (λ n. stored_steps (result_of c redundant s) s.known n redundant c ids) i ∙ stored-is s redundant c ids
 
@@ -117,18 +118,22 @@ module _ (s : State) (redundant : Bool) (c hs : List ℕ) where
           ∙ sym (ap (λ (x : Option Cause). steps_unless x (traced_derived (ready s c) redundant c hs)) (ap (λ (x : Outcome). x.refused) derived-is))
 
     -- the clause is not stored
-    pub derived-unstored : (u : State) (cause : Cause) → (store_counters c redundant t ≡ refuse cause t) × (u ≡ t) → ((derived s redundant c hs).refused ≡ Some cause) × (u ≡ (derived s redundant c hs).after)
+    pub derived-unstored : (u : State) (cause : Cause) → (store_counters c redundant t ≡ refuse cause t) × (u ≡ t) →
+        ((derived s redundant c hs).refused ≡ Some cause) × (u ≡ (derived s redundant c hs).after)
     derived-unstored u cause h =
         let e = derived-checked ∙ stored_in_kind-refused redundant c t cause h.0 in
         (ap (λ (x : Outcome). x.refused) e, h.1 ∙ sym (ap (λ (x : Outcome). x.after) e))
 
-    pub answers-unstored : (u : State) (fault : StoreFault) (e : CheckerError) → AnswersStore (Err fault) c redundant t u → IsStoreRefusal fault u.steps e → AnswersParts {A = Unit {0}} (Err e) (derived s redundant c hs) u
+    pub answers-unstored : (u : State) (fault : StoreFault) (e : CheckerError) → AnswersStore (Err fault) c redundant t u →
+        IsStoreRefusal fault u.steps e → AnswersParts {A = Unit {0}} (Err e) (derived s redundant c hs) u
     answers-unstored u faults.OutOfMemory e h k = subst (λ (x : CheckerError). AnswersParts {A = Unit {0}} (Err x) (derived s redundant c hs) u) (sym k) tt
-    answers-unstored u faults.IdsExhausted e h k = let o = derived-unstored u ids_exhausted h in answers-refusal e u.steps causes.IdsExhausted ids_exhausted (derived s redundant c hs) u k refl o.0 o.1 refl
-    answers-unstored u faults.CountExhausted e h k = let o = derived-unstored u count_exhausted h in answers-refusal e u.steps causes.CountExhausted count_exhausted (derived s redundant c hs) u k refl o.0 o.1 refl
+    answers-unstored u faults.IdsExhausted e h k = let o = derived-unstored u ids_exhausted h in
+        answers-refusal e u.steps causes.IdsExhausted ids_exhausted (derived s redundant c hs) u k refl o.0 o.1 refl
+    answers-unstored u faults.CountExhausted e h k = let o = derived-unstored u count_exhausted h in
+        answers-refusal e u.steps causes.CountExhausted count_exhausted (derived s redundant c hs) u k refl o.0 o.1 refl
 
 -- it is no fault of a processor
-pub quiet-unstored : (fault : StoreFault) (n : ℕ) (e : CheckerError) → IsStoreRefusal fault n e → IsQuiet {A = Unit {0}} (Err e)
-quiet-unstored faults.OutOfMemory n e h = subst (λ (x : CheckerError). IsQuiet {A = Unit {0}} (Err x)) (sym h) tt
+pub quiet-unstored : (fault : StoreFault) (n : ℕ) (e : CheckerError) → IsStoreRefusal fault n e → NoListenerFault {A = Unit {0}} (Err e)
+quiet-unstored faults.OutOfMemory n e h = subst (λ (x : CheckerError). NoListenerFault {A = Unit {0}} (Err x)) (sym h) tt
 quiet-unstored faults.IdsExhausted n e h = quiet-refusal e n causes.IdsExhausted h
 quiet-unstored faults.CountExhausted n e h = quiet-refusal e n causes.CountExhausted h

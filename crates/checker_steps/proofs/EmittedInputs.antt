@@ -1,7 +1,7 @@
 -- What an input clause emits, by what became of it.
 use Rattle.std.proofs.Common.{◌≡◌, ℕ, Bool, true, false, cond, eqb, List, [], ◌∷◌, ◌++◌, Option, None, refl, sym, ap, ◌∙◌, subst}
 use Rattle.checker_rules.specs.Canonical.{canonical}
-use Rattle.checker_rules.specs.CheckedSteps.{ShownStep, checked_add_clause, checked_duplicated_clause, checked_tautological_clause, shown_in}
+use Rattle.checker_rules.specs.CheckedSteps.{NamedStep, checked_add_clause, checked_duplicated_clause, checked_tautological_clause, named_in}
 use Rattle.checker_rules.specs.Clauses.{is_tautology, var_of}
 use Rattle.checker_rules.specs.Emits.{Emits, EmitsBy, emits_input, emits_irredundant, is_only_redundant}
 use Rattle.checker_rules.specs.KnownVars.{know_clause}
@@ -52,29 +52,38 @@ now-irredundant (l ∷ k ∷ ls) s h = now-by (is_stored (l ∷ k ∷ ls) s.clau
 module _ (c : List ℕ) (s : State) where
   -- a tautology
   pub emits-tautology : true ≡ is_tautology c → emitted_of (Tautology s.next) c s.known ≡ emits_input c s
-  emits-tautology e = ap (λ b. cond b (shown_in s (checked_tautological_clause s.next c) ∷ []) (cond (stands c s) (emits_irredundant false c s ++ shown_in s (checked_duplicated_clause s.next (id_of c s) c) ∷ []) (shown_in s (checked_add_clause s.next c) ∷ []))) e
+  emits-tautology e = ap (λ b. cond b (named_in s (checked_tautological_clause s.next c) ∷ [])
+      (cond (stands c s) (emits_irredundant false c s ++ named_in s (checked_duplicated_clause s.next (id_of c s) c) ∷ [])
+      (named_in s (checked_add_clause s.next c) ∷ []))) e
 
   -- a clause that is new
   pub emits-new : (id : ℕ) → false ≡ is_tautology c → stands c s ≡ false → id ≡ id_of c s → emitted_of (New id) c s.known ≡ emits_input c s
   emits-new id e h is =
-      ap (λ (i : ℕ). shown_in s (checked_add_clause i c) ∷ []) (is ∙ fresh-id c s h)
-      ∙ ap (λ b. cond b (emits_irredundant false c s ++ shown_in s (checked_duplicated_clause s.next (id_of c s) c) ∷ []) (shown_in s (checked_add_clause s.next c) ∷ [])) (sym h)
-      ∙ ap (λ b. cond b (shown_in s (checked_tautological_clause s.next c) ∷ []) (cond (stands c s) (emits_irredundant false c s ++ shown_in s (checked_duplicated_clause s.next (id_of c s) c) ∷ []) (shown_in s (checked_add_clause s.next c) ∷ []))) e
+      ap (λ (i : ℕ). named_in s (checked_add_clause i c) ∷ []) (is ∙ fresh-id c s h)
+      ∙ ap (λ b. cond b (emits_irredundant false c s ++ named_in s (checked_duplicated_clause s.next (id_of c s) c) ∷ []) (named_in s (checked_add_clause s.next c) ∷ [])) (sym h)
+      ∙ ap (λ b. cond b (named_in s (checked_tautological_clause s.next c) ∷ [])
+      (cond (stands c s) (emits_irredundant false c s ++ named_in s (checked_duplicated_clause s.next (id_of c s) c) ∷ [])
+      (named_in s (checked_add_clause s.next c) ∷ []))) e
 
   -- a clause that stands already
-  pub emits-repeated : (id same_as_id : ℕ) (newly : Bool) → false ≡ is_tautology c → stands c s ≡ true → id ≡ s.next → same_as_id ≡ id_of c s → is_only_redundant c s ≡ newly → emitted_of (Duplicate id same_as_id newly) c s.known ≡ emits_input c s
+  pub emits-repeated : (id same_as_id : ℕ) (newly : Bool) → false ≡ is_tautology c → stands c s ≡ true → id ≡ s.next →
+      same_as_id ≡ id_of c s → is_only_redundant c s ≡ newly → emitted_of (Duplicate id same_as_id newly) c s.known ≡ emits_input c s
   emits-repeated id same_as_id newly e h next is only =
       ap (λ (i : ℕ). emitted_of (Duplicate i same_as_id newly) c s.known) next
       ∙ ap (λ (i : ℕ). emitted_of (Duplicate s.next i newly) c s.known) is
       ∙ ap (λ (b : Bool). emitted_of (Duplicate s.next (id_of c s) b) c s.known) (sym only)
-      ∙ ap (λ b. cond b (emits_irredundant false c s ++ shown_in s (checked_duplicated_clause s.next (id_of c s) c) ∷ []) (shown_in s (checked_add_clause s.next c) ∷ [])) (sym h)
-      ∙ ap (λ b. cond b (shown_in s (checked_tautological_clause s.next c) ∷ []) (cond (stands c s) (emits_irredundant false c s ++ shown_in s (checked_duplicated_clause s.next (id_of c s) c) ∷ []) (shown_in s (checked_add_clause s.next c) ∷ []))) e
+      ∙ ap (λ b. cond b (emits_irredundant false c s ++ named_in s (checked_duplicated_clause s.next (id_of c s) c) ∷ []) (named_in s (checked_add_clause s.next c) ∷ [])) (sym h)
+      ∙ ap (λ b. cond b (named_in s (checked_tautological_clause s.next c) ∷ [])
+      (cond (stands c s) (emits_irredundant false c s ++ named_in s (checked_duplicated_clause s.next (id_of c s) c) ∷ [])
+      (named_in s (checked_add_clause s.next c) ∷ []))) e
 
-emits-by : (s : State) (ls : List ℕ) (x : Option Cause) (es : List ShownStep) → x ≡ None → es ≡ cond s.unsat [] (emits_input (canonical ls) (know_clause (canonical ls) s)) → EmitsBy x s (add_clause ls) es
+emits-by : (s : State) (ls : List ℕ) (x : Option Cause) (es : List NamedStep) → x ≡ None →
+    es ≡ cond s.unsat [] (emits_input (canonical ls) (know_clause (canonical ls) s)) → EmitsBy x s (add_clause ls) es
 emits-by s ls x es e h = subst (λ (y : Option Cause). EmitsBy y s (add_clause ls) es) (sym e) h
 
 -- an input clause that is accepted
-pub emits-added : (s : State) (ls : List ℕ) (es : List ShownStep) → s.unsat ≡ false → input_cause s (canonical ls) ≡ None → es ≡ emits_input (canonical ls) (know_clause (canonical ls) s) → Emits s (add_clause ls) es
+pub emits-added : (s : State) (ls : List ℕ) (es : List NamedStep) → s.unsat ≡ false → input_cause s (canonical ls) ≡ None →
+    es ≡ emits_input (canonical ls) (know_clause (canonical ls) s) → Emits s (add_clause ls) es
 emits-added s ls es live room h =
     emits-by s ls (step s (add_clause ls)).refused es (ap (λ (o : Outcome). o.refused) (add-accepts s ls live room))
     (h ∙ ap (λ b. cond b [] (emits_input (canonical ls) (know_clause (canonical ls) s))) (sym live))

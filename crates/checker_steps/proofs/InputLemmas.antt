@@ -12,8 +12,8 @@ use Rattle.clause_store.specs.declared.clauses.StoreClauseResult.{StoreClauseRes
 use Rattle.clause_store.specs.declared.clauses.StoreClauseResult.TheVariants.{New, Duplicate, NewlyIrredundant}
 use Rattle.clause_store.specs.declared.hash.ClauseHasher.{ClauseHasher}
 use Rattle.clause_store.specs.View.{stored_list}
-use Rattle.clause_store.specs.Store.{Files, IsStore, Stores, store_counters}
-use Rattle.checker_steps.specs.InputCause.{HasRoom}
+use Rattle.clause_store.specs.Store.{IsIndexed, IsStore, Stores, store_counters}
+use Rattle.checker_steps.specs.InputCause.{HasCapacity}
 
 -- an id below the limit has a next one
 pub fits-next : (n : ℕ) → n < id_limit → Fits w64 (n + 1)
@@ -27,7 +27,7 @@ fits-input i n le h = omega arith
 -- taking an id leaves the store in order
 pub is_store-next : (h : ClauseHasher) (cs : Clauses) → IsStore h cs → IsStore h (record cs { next_clause_id = cs.next_clause_id + 1 })
 is_store-next h cs k =
-    let filed : Files h (record cs { next_clause_id = cs.next_clause_id + 1 }) (stored_list cs) = record {
+    let filed : IsIndexed h (record cs { next_clause_id = cs.next_clause_id + 1 }) (stored_list cs) = record {
       some_bits = k.filed.some_bits;
       bits = k.filed.bits;
       within = k.filed.within;
@@ -52,7 +52,9 @@ input-new c s e h =
 unit-repeated : (l : ℕ) (o : Option StoredUnit) (s : State) → makes_true o l ≡ true → store_unit l o (take_id s) ≡ take_id (store_unit l o s)
 unit-repeated l None s h = absurd cc
 unit-repeated l (Some u) s h =
-    let P : Bool → Type 0 = λ b. cond b (take_id s) (record (take_id s) { unsat = true; conflict = Some (u.id, s.next + 1); next = s.next + 1 + 1 }) ≡ take_id (cond b s (record s { unsat = true; conflict = Some (u.id, s.next); next = s.next + 1 })) in
+    let P : Bool → Type 0 = λ b. cond b (take_id s)
+    (record (take_id s) { unsat = true; conflict = Some (u.id, s.next + 1); next = s.next + 1 + 1 }) ≡
+    take_id (cond b s (record s { unsat = true; conflict = Some (u.id, s.next); next = s.next + 1 })) in
     subst P (sym h) refl
 
 -- storing a clause that stands takes no id
@@ -61,7 +63,8 @@ repeated [] s h = absurd cc
 repeated (l ∷ []) s h = unit-repeated l (unit_of s.units (var_of l)) s h
 repeated (l ∷ k ∷ ls) s h =
     let c = l ∷ k ∷ ls in
-    let P : Bool → Type 0 = λ b. cond b (record (take_id s) { clauses = map (raise false c) s.clauses }) (record (take_id s) { clauses = s.clauses ++ new_stored false c (s.next + 1) ∷ []; next = s.next + 1 + 1 })
+    let P : Bool → Type 0 = λ b. cond b (record (take_id s) { clauses = map (raise false c) s.clauses })
+    (record (take_id s) { clauses = s.clauses ++ new_stored false c (s.next + 1) ∷ []; next = s.next + 1 + 1 })
     ≡ take_id (cond b (record s { clauses = map (raise false c) s.clauses }) (record s { clauses = s.clauses ++ new_stored false c s.next ∷ []; next = s.next + 1 })) in
     subst P (sym h) refl
 
@@ -97,7 +100,7 @@ below-test false n m h = refl
 limit-test : (n m : ℕ) → n < m → leb m n ≡ false
 limit-test n m h = grind (arith, h)
 
-pub counters-room : (c : List ℕ) (takes : Bool) (s : State) → HasRoom s c → counters false c takes s accept ≡ accept s
+pub counters-room : (c : List ℕ) (takes : Bool) (s : State) → HasCapacity s c → counters false c takes s accept ≡ accept s
 counters-room c takes s room =
     ap (λ b. cond b (refuse ids_exhausted s) (cond (leb count_limit (count_of false c s.clauses)) (refuse count_exhausted s) (accept s))) (below-test takes s.next id_limit room.ids)
     ∙ ap (λ b. cond b (refuse count_exhausted s) (accept s)) (limit-test (count_of false c s.clauses) count_limit room.copies)
@@ -105,20 +108,28 @@ counters-room c takes s room =
 accepts-refuses : (s : State) (cause : Cause) → accept s ≡ refuse cause s → ⊥
 accepts-refuses s cause e = let no : None ≡ Some cause = ap (λ (o : Outcome). o.refused) e in cc
 
-pub no-refusal : (c : List ℕ) (s : State) (cause : Cause) → HasRoom s c → store_counters c false s ≡ refuse cause s → ⊥
+pub no-refusal : (c : List ℕ) (s : State) (cause : Cause) → HasCapacity s c → store_counters c false s ≡ refuse cause s → ⊥
 no-refusal c s cause room e = accepts-refuses s cause (sym (counters-room c (not (stands c s)) s room) ∙ e)
 
 -- storing takes no input
 unit-inputs : (l : ℕ) (o : Option StoredUnit) (s : State) → (store_unit l o s).inputs ≡ s.inputs
 unit-inputs l None s = refl
-unit-inputs l (Some u) s = elim (makes_true (Some u) l) as (λ b. (cond b s (record s { unsat = true; conflict = Some (u.id, s.next); next = s.next + 1 })).inputs ≡ s.inputs) [ true ↦ refl | false ↦ refl ]
+unit-inputs l (Some u) s = elim (makes_true (Some u) l)
+    as (λ b. (cond b s (record s { unsat = true; conflict = Some (u.id, s.next); next = s.next + 1 })).inputs ≡ s.inputs) [
+      | true ↦ refl
+      | false ↦ refl
+    ]
 
 pub store-inputs : (c : List ℕ) (r : Bool) (s : State) → (store c r s).inputs ≡ s.inputs
 store-inputs [] r s = refl
 store-inputs (l ∷ []) r s = unit-inputs l (unit_of s.units (var_of l)) s
 store-inputs (l ∷ k ∷ ls) r s =
     let c = l ∷ k ∷ ls in
-    elim (is_stored c s.clauses) as (λ b. (cond b (record s { clauses = map (raise r c) s.clauses }) (record s { clauses = s.clauses ++ new_stored r c s.next ∷ []; next = s.next + 1 })).inputs ≡ s.inputs) [ true ↦ refl | false ↦ refl ]
+    elim (is_stored c s.clauses) as (λ b. (cond b (record s { clauses = map (raise r c) s.clauses })
+    (record s { clauses = s.clauses ++ new_stored r c s.next ∷ []; next = s.next + 1 })).inputs ≡ s.inputs) [
+      | true ↦ refl
+      | false ↦ refl
+    ]
 
 unit-next : (l : ℕ) (o : Option StoredUnit) (s : State) → makes_true o l ≡ true → (store_unit l o s).next ≡ s.next
 unit-next l None s h = absurd cc

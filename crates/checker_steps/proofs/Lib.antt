@@ -10,7 +10,7 @@ pub mod EmitLemmas
 pub mod EmittedInputs
 pub mod EmittedSteps
 pub mod FaultLemmas
-pub mod HandingLemmas
+pub mod DeliveryLemmas
 pub mod InputLemmas
 pub mod MarkLemmas
 pub mod MetLemmas

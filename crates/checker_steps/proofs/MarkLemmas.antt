@@ -35,7 +35,9 @@ pub causes_from-listed : (s : State) (earlier ls : List ℕ) → causes_from s (
 causes_from-listed s earlier [] = refl
 causes_from-listed s earlier (l ∷ ls) =
     chain (not (is_known s (var_of l))) (is_false_by_unit s.units l) (has (negate l) earlier) unknown_var model_against_unit model_against_itself (causes_from s (λ k. has k (l ∷ earlier)) ls)
-    ∙ ap (λ later. cond (not (is_known s (var_of l))) (Some unknown_var) (cond (is_false_by_unit s.units l) (Some model_against_unit) (cond (has (negate l) earlier) (Some model_against_itself) later))) (causes_from-listed s (l ∷ earlier) ls)
+    ∙ ap (λ later. cond (not (is_known s (var_of l))) (Some unknown_var)
+    (cond (is_false_by_unit s.units l) (Some model_against_unit) (cond (has (negate l) earlier) (Some model_against_itself) later)))
+    (causes_from-listed s (l ∷ earlier) ls)
 
 pub causes_from-none : (s : State) (f : ℕ → Bool) (ls : List ℕ) → ((k : ℕ) → f k ≡ false) → causes_from s f ls ≡ model_cause s [] ls
 causes_from-none s f ls none = ap (λ g. causes_from s g ls) (same f none) ∙ causes_from-listed s [] ls

@@ -12,10 +12,10 @@ use Rattle.clause_store.specs.declared.clauses.Clause.{Clause}
 use Rattle.clause_store.specs.declared.clauses.Clauses.{Clauses}
 use Rattle.clause_store.specs.declared.hash.ClauseHasher.{ClauseHasher}
 use Rattle.clause_store.specs.Lits.{IsWithin}
-use Rattle.clause_store.specs.Store.{Files}
+use Rattle.clause_store.specs.Store.{IsIndexed}
 use Rattle.clause_store.specs.View.{stored_of}
 use Rattle.clause_store.proofs.GatheredLemmas.{in_other_order}
-use Rattle.checker_steps.specs.ModelCause.{is_met}
+use Rattle.checker_steps.specs.ModelCause.{has_marked}
 
 -- the clauses of buckets, one after the other
 abbrev pub clauses_in : List (SmallVec Clause) → List Clause
@@ -27,7 +27,7 @@ AllWithin buffer bs = All (λ c. IsWithin c.lits buffer) (clauses_in bs)
 
 -- whether some literal of each is in the set
 abbrev pub all_met : (ℕ → Bool) → List ℕ → List (SmallVec Clause) → Bool
-all_met listed buffer bs = list_all (λ c. is_met listed (stored_of buffer c)) (clauses_in bs)
+all_met listed buffer bs = list_all (λ c. has_marked listed (stored_of buffer c)) (clauses_in bs)
 
 all-left : (P : Clause → Type 0) (xs ys : List Clause) → All P (xs ++ ys) → All P xs
 all-left P xs ys h k d less = subst P (get_or-append xs ys d k less) (h k d (omega (arith, less, length-append xs ys)))
@@ -46,13 +46,13 @@ module _ (listed : ℕ → Bool) (buffer : List ℕ) (bs : List (SmallVec Clause
   pub within-rest : AllWithin buffer bs → AllWithin buffer rest
   within-rest h = all-right (λ c. IsWithin c.lits buffer) b.items (clauses_in rest) (within h)
 
-  met : all_met listed buffer bs ≡ (list_all (λ c. is_met listed (stored_of buffer c)) b.items && all_met listed buffer rest)
-  met = ap (all_met listed buffer) first ∙ list_all-append (λ c. is_met listed (stored_of buffer c)) b.items (clauses_in rest)
+  met : all_met listed buffer bs ≡ (list_all (λ c. has_marked listed (stored_of buffer c)) b.items && all_met listed buffer rest)
+  met = ap (all_met listed buffer) first ∙ list_all-append (λ c. has_marked listed (stored_of buffer c)) b.items (clauses_in rest)
 
-  pub met-rest : list_all (λ c. is_met listed (stored_of buffer c)) b.items ≡ true → all_met listed buffer rest ≡ all_met listed buffer bs
+  pub met-rest : list_all (λ c. has_marked listed (stored_of buffer c)) b.items ≡ true → all_met listed buffer rest ≡ all_met listed buffer bs
   met-rest h = sym (met ∙ ap (λ a. a && all_met listed buffer rest) h)
 
-  pub met-not : list_all (λ c. is_met listed (stored_of buffer c)) b.items ≡ false → all_met listed buffer bs ≡ false
+  pub met-not : list_all (λ c. has_marked listed (stored_of buffer c)) b.items ≡ false → all_met listed buffer bs ≡ false
   met-not h = met ∙ ap (λ a. a && all_met listed buffer rest) h
 
 -- all buckets
@@ -64,9 +64,10 @@ all-any p (e ∷ es) = by (p e) (all-any p es)
     by true h = h
     by false h = refl
 
-pub met-stored : (h : ClauseHasher) (cs : Clauses) (es : List Stored) → Files h cs es → IsUnique nat_eq cs.buckets → (listed : ℕ → Bool) → all_met listed cs.literal_buffer.items (values cs.buckets) ≡ list_all (is_met listed) es
+pub met-stored : (h : ClauseHasher) (cs : Clauses) (es : List Stored) → IsIndexed h cs es → IsUnique nat_eq cs.buckets →
+    (listed : ℕ → Bool) → all_met listed cs.literal_buffer.items (values cs.buckets) ≡ list_all (has_marked listed) es
 met-stored h cs es f unique listed =
-    let p = is_met listed in
+    let p = has_marked listed in
     let walked = map (stored_of cs.literal_buffer.items) (clauses_in (values cs.buckets)) in
     sym (list_all-map p (stored_of cs.literal_buffer.items) (clauses_in (values cs.buckets)))
     ∙ all-any p walked ∙ sym (ap not (list_any-IsPermutation (λ e. not (p e)) es walked (in_other_order h cs es f unique))) ∙ sym (all-any p es)

@@ -2,7 +2,7 @@
 use Rattle.std.proofs.Common.{◌≡◌, ℕ, Bool, true, false, cond, not, List, [], ◌∷◌, Option, None, Some, refl, sym, ap, ◌∙◌, subst}
 use Rattle.std.specs.List.{list_all}
 use Rattle.checker_rules.specs.Canonical.{is_subset}
-use Rattle.checker_rules.specs.CheckedSteps.{checked_model, shown_in}
+use Rattle.checker_rules.specs.CheckedSteps.{checked_model, named_in}
 use Rattle.checker_rules.specs.Emits.{Emits, EmitsBy}
 use Rattle.checker_rules.specs.Model.{has_some, model_cause, model_whole}
 use Rattle.checker_rules.specs.Outcome.{Cause, Outcome, accept, and_then_by, model_after_unsat, model_misses_assumption, model_misses_clause, refuse}
@@ -41,5 +41,5 @@ pub model-refuses : (s : State) (m : List ℕ) (cause : Cause) → s.unsat ≡ f
 model-refuses s m cause live h = model-by s m live ∙ ap (λ o. by_cause o s) h
 
 -- a model that is accepted emits itself
-pub model-emits : (s : State) (m : List ℕ) → step s (model m) ≡ accept s → Emits s (model m) (shown_in s (checked_model m) ∷ [])
-model-emits s m is = subst (λ x. EmitsBy x s (model m) (shown_in s (checked_model m) ∷ [])) (sym (ap (λ (o : Outcome). o.refused) is)) refl
+pub model-emits : (s : State) (m : List ℕ) → step s (model m) ≡ accept s → Emits s (model m) (named_in s (checked_model m) ∷ [])
+model-emits s m is = subst (λ x. EmitsBy x s (model m) (named_in s (checked_model m) ∷ [])) (sym (ap (λ (o : Outcome). o.refused) is)) refl

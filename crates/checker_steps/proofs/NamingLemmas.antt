@@ -3,7 +3,7 @@ use Rattle.std.proofs.Common.{◌≡◌, ℕ, suc, Bool, true, false, cond, not,
 use Rattle.sat_formula.specs.declared.lit.Var.{Var}
 use Rattle.sat_formula.specs.Vars.{indexes_of}
 use Rattle.checker_rules.specs.ChangeSamplingMode.{mode_is, step_change_sampling_mode}
-use Rattle.checker_rules.specs.CheckedSteps.{ShownStep, checked_user_var, shown_in}
+use Rattle.checker_rules.specs.CheckedSteps.{NamedStep, checked_user_var, named_in}
 use Rattle.checker_rules.specs.Emits.{Emits, emits_mode}
 use Rattle.checker_rules.specs.KnownVars.{is_hide, is_known, is_sample, know, known_of, name_taken, set_known}
 use Rattle.checker_rules.specs.Outcome.{Cause, Outcome, accept, name_in_use, no_name_to_remove, refuse, sample_hidden, still_hidden, user_name_taken}
@@ -27,7 +27,8 @@ name-step : (s r : State) (x u : ℕ) → r ≡ know (suc x) s → step s (user_
 name-step s r x u e =
     let k = know (suc x) s in
     subst (λ (r : State). step s (user_var_name x (Some u)) ≡ by_cause (naming_cause r.known x u) r (accept (named x u r))) (sym e)
-    (step-user_var_name s x (Some u) ∙ conds-by_cause (not (is_known k u) || name_taken k u) (is_hide (known_of k x).mode) (is_some (known_of k x).name) user_name_taken still_hidden name_in_use k (accept (named x u k)))
+    (step-user_var_name s x (Some u) ∙ conds-by_cause (not (is_known k u) || name_taken k u) (is_hide (known_of k x).mode)
+    (is_some (known_of k x).name) user_name_taken still_hidden name_in_use k (accept (named x u k)))
 
 pub name-refused : (s r : State) (x u : ℕ) (cause : Cause) → r ≡ know (suc x) s → naming_cause r.known x u ≡ Some cause → step s (user_var_name x (Some u)) ≡ refuse cause r
 name-refused s r x u cause e h = name-step s r x u e ∙ ap (λ o. by_cause o r (accept (named x u r))) h
@@ -36,16 +37,18 @@ pub name-given : (s r : State) (x u : ℕ) → r ≡ know (suc x) s → naming_c
 name-given s r x u e h = name-step s r x u e ∙ ap (λ o. by_cause o r (accept (named x u r))) h
 
 -- a name that is given, with the names that are shown with it
-abbrev pub name_shown : ℕ → ℕ → Bool → List Known → ShownStep
+abbrev pub name_shown : ℕ → ℕ → Bool → List Known → NamedStep
 name_shown x u samples names = record { step = checked_user_var x (Some (record { user_var = u; samples = samples; new_var = true })); names = names }
 
-pub emits-name : (s r : State) (x u : ℕ) (samples : Bool) (names : List Known) → r ≡ know (suc x) s → naming_cause r.known x u ≡ None → samples ≡ is_sample (known_of r x).mode → names ≡ (named x u r).known
+pub emits-name : (s r : State) (x u : ℕ) (samples : Bool) (names : List Known) → r ≡ know (suc x) s → naming_cause r.known x u ≡ None →
+    samples ≡ is_sample (known_of r x).mode → names ≡ (named x u r).known
     → Emits s (user_var_name x (Some u)) (name_shown x u samples names ∷ [])
 emits-name s r x u samples names e h mode is =
     let o = name-given s r x u e h in
     let after = ap (λ (y : Outcome). y.after) (sym (step-user_var_name s x (Some u)) ∙ o) in
     emits-accepted s (user_var_name x (Some u)) _ (ap (λ (y : Outcome). y.refused) o)
-    (ap (λ b. name_shown x u b names ∷ []) (mode ∙ ap (λ (y : State). is_sample (known_of y x).mode) e) ∙ ap (λ ks. name_shown x u (is_sample (known_of (know (suc x) s) x).mode) ks ∷ []) (is ∙ sym (ap (λ (y : State). y.known) after)))
+    (ap (λ b. name_shown x u b names ∷ []) (mode ∙ ap (λ (y : State). is_sample (known_of y x).mode) e) ∙ ap
+    (λ ks. name_shown x u (is_sample (known_of (know (suc x) s) x).mode) ks ∷ []) (is ∙ sym (ap (λ (y : State). y.known) after)))
 
 remove-step : (s r : State) (x : ℕ) → r ≡ know (suc x) s → step s (user_var_name x None) ≡ cond (is_none (known_of r x).name) (refuse no_name_to_remove r) (accept (hidden x r))
 remove-step s r x e =
@@ -58,8 +61,8 @@ pub name-removed : (s r : State) (x : ℕ) → r ≡ know (suc x) s → is_none 
 name-removed s r x e h = remove-step s r x e ∙ ap (λ b. cond b (refuse no_name_to_remove r) (accept (hidden x r))) h
 
 -- a removal shows the names before it
-pub emits-removal : (s r : State) (x : ℕ) → r ≡ know (suc x) s → is_none (known_of r x).name ≡ false → Emits s (user_var_name x None) (shown_in r (checked_user_var x None) ∷ [])
-emits-removal s r x e h = emits-accepted s (user_var_name x None) _ (ap (λ (y : Outcome). y.refused) (name-removed s r x e h)) (ap (λ (y : State). shown_in y (checked_user_var x None) ∷ []) e)
+pub emits-removal : (s r : State) (x : ℕ) → r ≡ know (suc x) s → is_none (known_of r x).name ≡ false → Emits s (user_var_name x None) (named_in r (checked_user_var x None) ∷ [])
+emits-removal s r x e h = emits-accepted s (user_var_name x None) _ (ap (λ (y : Outcome). y.refused) (name-removed s r x e h)) (ap (λ (y : State). named_in y (checked_user_var x None) ∷ []) e)
 
 pub is_none-unnamed : (o : Option Var) → is_some o ≡ false → is_none (indexes_of o) ≡ true
 is_none-unnamed None h = refl
@@ -69,26 +72,33 @@ pub is_none-named : (o : Option Var) → is_some o ≡ true → is_none (indexes
 is_none-named None h = cc
 is_none-named (Some v) h = refl
 
-mode-choose : (a b : Bool) (cause : Cause) (r : State) (known : List Known) → cond a (accept r) (cond b (refuse cause r) (accept (record r { known = known }))) ≡ by_cause (cond a None (cond b (Some cause) None)) r (accept (record r { known = cond a r.known known }))
+mode-choose : (a b : Bool) (cause : Cause) (r : State) (known : List Known) →
+    cond a (accept r) (cond b (refuse cause r) (accept (record r { known = known }))) ≡
+    by_cause (cond a None (cond b (Some cause) None)) r (accept (record r { known = cond a r.known known }))
 mode-choose true b cause r known = refl
 mode-choose false true cause r known = refl
 mode-choose false false cause r known = refl
 
-mode-step : (s r : State) (x : ℕ) (to_sample : Bool) → r ≡ know (suc x) s → step s (change_sampling_mode x to_sample) ≡ by_cause (mode_cause r.known x to_sample) r (accept (record r { known = in_mode r.known x to_sample }))
+mode-step : (s r : State) (x : ℕ) (to_sample : Bool) → r ≡ know (suc x) s →
+    step s (change_sampling_mode x to_sample) ≡
+    by_cause (mode_cause r.known x to_sample) r (accept (record r { known = in_mode r.known x to_sample }))
 mode-step s r x to_sample e =
     let k = know (suc x) s in
     subst (λ (r : State). step s (change_sampling_mode x to_sample) ≡ by_cause (mode_cause r.known x to_sample) r (accept (record r { known = in_mode r.known x to_sample }))) (sym e)
     (step-change_sampling_mode s x to_sample
-    ∙ mode-choose (mode_is (known_of k x).mode to_sample) (to_sample && is_none (known_of k x).name) sample_hidden k (set k.known x (record { name = (known_of k x).name; mode = cond to_sample sample witness })))
+    ∙ mode-choose (mode_is (known_of k x).mode to_sample) (to_sample && is_none (known_of k x).name) sample_hidden k
+    (set k.known x (record { name = (known_of k x).name; mode = cond to_sample sample witness })))
 
-pub mode-refused : (s r : State) (x : ℕ) (to_sample : Bool) (cause : Cause) → r ≡ know (suc x) s → mode_cause r.known x to_sample ≡ Some cause → step s (change_sampling_mode x to_sample) ≡ refuse cause r
+pub mode-refused : (s r : State) (x : ℕ) (to_sample : Bool) (cause : Cause) → r ≡ know (suc x) s →
+    mode_cause r.known x to_sample ≡ Some cause → step s (change_sampling_mode x to_sample) ≡ refuse cause r
 mode-refused s r x to_sample cause e h = mode-step s r x to_sample e ∙ ap (λ o. by_cause o r (accept (record r { known = in_mode r.known x to_sample }))) h
 
-pub mode-changed : (s r : State) (x : ℕ) (to_sample : Bool) → r ≡ know (suc x) s → mode_cause r.known x to_sample ≡ None → step s (change_sampling_mode x to_sample) ≡ accept (record r { known = in_mode r.known x to_sample })
+pub mode-changed : (s r : State) (x : ℕ) (to_sample : Bool) → r ≡ know (suc x) s → mode_cause r.known x to_sample ≡ None →
+    step s (change_sampling_mode x to_sample) ≡ accept (record r { known = in_mode r.known x to_sample })
 mode-changed s r x to_sample e h = mode-step s r x to_sample e ∙ ap (λ o. by_cause o r (accept (record r { known = in_mode r.known x to_sample }))) h
 
 -- a change that is shown, or none, with the names that are shown with it
-abbrev pub change_shown : ℕ → Bool → Option ℕ → List Known → List ShownStep
+abbrev pub change_shown : ℕ → Bool → Option ℕ → List Known → List NamedStep
 change_shown x samples None names = []
 change_shown x samples (Some u) names = record { step = checked_user_var x (Some (record { user_var = u; samples = samples; new_var = false })); names = names } ∷ []
 
@@ -97,14 +107,18 @@ mode-shown true x to_sample name after = refl
 mode-shown false x to_sample None after = refl
 mode-shown false x to_sample (Some u) after = refl
 
-pub emits-change : (s r : State) (x : ℕ) (to_sample samples : Bool) (name : Option ℕ) (names : List Known) → r ≡ know (suc x) s → mode_cause r.known x to_sample ≡ None → names ≡ in_mode r.known x to_sample → name ≡ changed_name r.known x to_sample → samples ≡ to_sample
+pub emits-change : (s r : State) (x : ℕ) (to_sample samples : Bool) (name : Option ℕ) (names : List Known) → r ≡ know (suc x) s →
+    mode_cause r.known x to_sample ≡ None → names ≡ in_mode r.known x to_sample → name ≡ changed_name r.known x to_sample →
+    samples ≡ to_sample
     → Emits s (change_sampling_mode x to_sample) (change_shown x samples name names)
 emits-change s r x to_sample samples name names e h is shown same =
     let k = know (suc x) s in
     let o = mode-changed s r x to_sample e h in
     let after = ap (λ (y : Outcome). y.after) (sym (step-change_sampling_mode s x to_sample) ∙ o) in
     emits-accepted s (change_sampling_mode x to_sample) _ (ap (λ (y : Outcome). y.refused) o)
-    (ap (λ b. change_shown x b name names) same ∙ ap (λ u. change_shown x to_sample u names) (shown ∙ ap (λ (y : State). changed_name y.known x to_sample) e) ∙ ap (change_shown x to_sample (changed_name k.known x to_sample)) (is ∙ sym (ap (λ (y : State). y.known) after))
+    (ap (λ b. change_shown x b name names) same ∙ ap (λ u. change_shown x to_sample u names)
+    (shown ∙ ap (λ (y : State). changed_name y.known x to_sample) e) ∙ ap (change_shown x to_sample (changed_name k.known x to_sample))
+    (is ∙ sym (ap (λ (y : State). y.known) after))
     ∙ mode-shown (mode_is (known_of k x).mode to_sample) x to_sample (known_of k x).name (step_change_sampling_mode s x to_sample).after)
 
 pub is_sample-asked : (to_sample : Bool) → is_sample (cond to_sample sample witness) ≡ to_sample

@@ -10,10 +10,10 @@ use Rattle.clause_store.specs.declared.clauses.Clauses.{Clauses}
 use Rattle.clause_store.specs.declared.hash.ClauseHasher.{ClauseHasher}
 use Rattle.clause_store.specs.declared.state.CheckerState.{CheckerState}
 use Rattle.clause_store.specs.Buckets.{Buckets, bucket_items, clauses_at}
-use Rattle.clause_store.specs.Kept.{Kept}
+use Rattle.clause_store.specs.PartsInvariant.{PartsInvariant}
 use Rattle.clause_store.specs.NewParts.{IsEmptyStore, IsNewState}
 use Rattle.clause_store.specs.StateOf.{applied_of, pending_of, state_of}
-use Rattle.clause_store.specs.Store.{Files, IsStore}
+use Rattle.clause_store.specs.Store.{IsIndexed, IsStore}
 use Rattle.clause_store.specs.View.{by_id, list_of, stored_in, stored_list}
 
 -- no bucket holds a clause
@@ -26,15 +26,31 @@ unfolding list_of
 list_of-empty buffer m e = ap (λ es. by_id (flat_map (stored_in buffer m) (keys_of es))) e
 
 -- the parts stand for the state of a new checker
-pub state_of-new : (st : CheckerState) (h : ClauseHasher) (cs : Clauses) → IsNewState st → h.hash_bits ≡ 64 → applied_of h ≡ (λ v. None) → pending_of h ≡ [] → IsEmptyStore cs → state_of st h cs [] ≡ new_state
+pub state_of-new : (st : CheckerState) (h : ClauseHasher) (cs : Clauses) → IsNewState st → h.hash_bits ≡ 64 → applied_of h ≡ (λ v. None) →
+    pending_of h ≡ [] → IsEmptyStore cs → state_of st h cs [] ≡ new_state
 state_of-new st h cs fresh bits names pending empty =
-    rw (list_of-empty cs.literal_buffer.items cs.buckets empty.buckets, empty.units, fresh.unsat, empty.conflict, empty.next, fresh.inputs, fresh.assumptions, fresh.previous, names, pending, bits, fresh.ended, fresh.step, fresh.failed) refl
+    rw (
+      list_of-empty cs.literal_buffer.items cs.buckets empty.buckets,
+      empty.units,
+      fresh.unsat,
+      empty.conflict,
+      empty.next,
+      fresh.inputs,
+      fresh.assumptions,
+      fresh.previous,
+      names,
+      pending,
+      bits,
+      fresh.ended,
+      fresh.step,
+      fresh.failed,
+    ) refl
 
 -- the store is in order
 pub is_store-new : (h : ClauseHasher) (cs : Clauses) → h.hash_bits ≡ 64 → IsEmptyStore cs → IsStore h cs
 is_store-new h cs bits empty =
     let none = list_of-empty cs.literal_buffer.items cs.buckets empty.buckets in
-    let filed : Files h cs (stored_list cs) = record {
+    let filed : IsIndexed h cs (stored_list cs) = record {
       some_bits = rw bits (omega arith);
       bits = rw bits (omega arith);
       within = λ k. rw (clauses_at-empty cs.buckets k empty.buckets) (λ i d less. absurd (omega arith));
@@ -44,10 +60,15 @@ is_store-new h cs bits empty =
       whole = rw none refl;
       used = rw (none, empty.buffer, empty.garbage) refl;
     } in
-    record { filed = filed; garbage = rw (empty.buffer, empty.garbage) (omega arith); units = rw empty.units refl; counts = rw (none, empty.counts, empty.units) (record { known = refl; held = λ l. refl }) }
+    record {
+      filed = filed;
+      garbage = rw (empty.buffer, empty.garbage) (omega arith);
+      units = rw empty.units refl;
+      counts = rw (none, empty.counts, empty.units) (record { known = refl; held = λ l. refl });
+    }
 
 -- both
-pub kept-new : (st : CheckerState) (h : ClauseHasher) (cs : Clauses) → IsNewState st → h.hash_bits ≡ 64 → applied_of h ≡ (λ v. None) → pending_of h ≡ [] → IsEmptyStore cs → Kept st h cs []
+pub kept-new : (st : CheckerState) (h : ClauseHasher) (cs : Clauses) → IsNewState st → h.hash_bits ≡ 64 → applied_of h ≡ (λ v. None) → pending_of h ≡ [] → IsEmptyStore cs → PartsInvariant st h cs []
 kept-new st h cs fresh bits names pending empty = record {
   sound = subst Sound (sym (state_of-new st h cs fresh bits names pending empty)) sound-new_state;
   store = is_store-new h cs bits empty;

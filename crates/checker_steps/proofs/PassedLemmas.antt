@@ -1,4 +1,4 @@
--- What a walk over the boxes did so far, and of all of them.
+-- What a walk over the listeners did so far, and of all of them.
 use Rattle.std.proofs.Common.{◌≡◌, ℕ, zero, suc, ◌<◌, ◌+◌, List, [], ◌∷◌, ◌++◌, take, drop, length, slice_index_or, slice_set, refl, subst, arith, add-one, inl, inr}
 use Rattle.std.specs.List.{AllZip}
 use Rattle.checker_rules.specs.Ran.{AllTook, OneFaulted}
@@ -11,7 +11,8 @@ Passed R (suc i) (o ∷ olds) [] = ⊥
 Passed R (suc i) (o ∷ olds) (n ∷ news) = R o n × Passed R i olds news
 
 -- the item in place i passes too
-passed_suc : {B : Type 0} (R : B → B → Type 0) (i : ℕ) (olds news : List B) (d v : B) → Passed R i olds news → i < length news → R (slice_index_or news i d) v → Passed R (suc i) olds (slice_set news i v)
+passed_suc : {B : Type 0} (R : B → B → Type 0) (i : ℕ) (olds news : List B) (d v : B) → Passed R i olds news → i < length news →
+    R (slice_index_or news i d) v → Passed R (suc i) olds (slice_set news i v)
 passed_suc R zero [] [] d v p lt r = absurd (omega arith)
 passed_suc R zero [] (n ∷ news) d v p lt r = cc
 passed_suc R zero (o ∷ olds) [] d v p lt r = cc
@@ -22,7 +23,8 @@ passed_suc R (suc i) [] news d v p lt r = absurd p
 passed_suc R (suc i) (o ∷ olds) [] d v p lt r = absurd p
 passed_suc R (suc i) (o ∷ olds) (n ∷ news) d v p lt r = (p.0, passed_suc R i olds news d v p.1 (omega arith) r)
 
-pub passed_more : {B : Type 0} (R : B → B → Type 0) (i : ℕ) (olds news : List B) (d v : B) → Passed R i olds news → i < length news → R (slice_index_or news i d) v → Passed R (i + 1) olds (slice_set news i v)
+pub passed_more : {B : Type 0} (R : B → B → Type 0) (i : ℕ) (olds news : List B) (d v : B) → Passed R i olds news → i < length news →
+    R (slice_index_or news i d) v → Passed R (i + 1) olds (slice_set news i v)
 passed_more R i olds news d v p lt r = rw add-one (passed_suc R i olds news d v p lt r)
 
 -- all of them passed
@@ -36,7 +38,9 @@ passed_all R (suc i) (o ∷ olds) [] p e = absurd p
 passed_all R (suc i) (o ∷ olds) (n ∷ news) p e = (p.0, passed_all R i olds news p.1 (omega arith))
 
 -- the item in place i answers a fault
-pub passed_fault : {B E : Type 0} (took faulted : B → E → B → Type 0) (e : E) (i : ℕ) (olds news : List B) (d v : B) → Passed (λ o n. took o e n) i olds news → i < length news → faulted (slice_index_or news i d) e v → OneFaulted took faulted olds e (slice_set news i v)
+pub passed_fault : {B E : Type 0} (took faulted : B → E → B → Type 0) (e : E) (i : ℕ) (olds news : List B) (d v : B) →
+    Passed (λ o n. took o e n) i olds news → i < length news → faulted (slice_index_or news i d) e v →
+    OneFaulted took faulted olds e (slice_set news i v)
 passed_fault took faulted e zero [] [] d v p lt r = absurd (omega arith)
 passed_fault took faulted e zero [] (n ∷ news) d v p lt r = cc
 passed_fault took faulted e zero (o ∷ olds) [] d v p lt r = cc
@@ -53,10 +57,12 @@ retaken [] ys n e = rw e refl
 retaken (x ∷ xs) ys n e = rw (e, retaken xs ys (length xs) refl) refl
 
 -- what is said of a slice of a whole `Vec`, said of the `Vec`
-pub took_of_slice : {B E : Type 0} (took : B → E → B → Type 0) (e : E) (p p0 q : List B) (n : ℕ) → p ≡ p0 → length q ≡ length p → length p ≡ n → AllTook took p e q → AllTook took p0 e (take n (q ++ drop (length q) p0))
+pub took_of_slice : {B E : Type 0} (took : B → E → B → Type 0) (e : E) (p p0 q : List B) (n : ℕ) → p ≡ p0 → length q ≡ length p →
+    length p ≡ n → AllTook took p e q → AllTook took p0 e (take n (q ++ drop (length q) p0))
 took_of_slice took e p p0 q n same long all h =
     let a : n ≡ length q = cc in rw (retaken q (drop (length q) p0) n a, ← same) h
 
-pub fault_of_slice : {B E : Type 0} (took faulted : B → E → B → Type 0) (e : E) (p p0 q : List B) (n : ℕ) → p ≡ p0 → length q ≡ length p → length p ≡ n → OneFaulted took faulted p e q → OneFaulted took faulted p0 e (take n (q ++ drop (length q) p0))
+pub fault_of_slice : {B E : Type 0} (took faulted : B → E → B → Type 0) (e : E) (p p0 q : List B) (n : ℕ) → p ≡ p0 → length q ≡ length p →
+    length p ≡ n → OneFaulted took faulted p e q → OneFaulted took faulted p0 e (take n (q ++ drop (length q) p0))
 fault_of_slice took faulted e p p0 q n same long all h =
     let a : n ≡ length q = cc in rw (retaken q (drop (length q) p0) n a, ← same) h

@@ -1,6 +1,6 @@
 -- The parts of a checker together.
 use Rattle.checker_rules.specs.State.{State}
-use Rattle.clause_store.specs.Kept.{Kept}
+use Rattle.clause_store.specs.PartsInvariant.{PartsInvariant}
 use Rattle.clause_store.specs.StateOf.{state_of}
 use Rattle.checker_steps.specs.declared.context.ContextOf.{ContextOf}
 
@@ -9,5 +9,5 @@ abbrev pub context_state : {P T : Type 0} → ContextOf P T → State
 context_state c = state_of c.checker_state c.clause_hasher c.clauses c.variables
 
 -- what the parts keep between calls
-abbrev pub IsKept : {P T : Type 0} → ContextOf P T → Type 0
-IsKept c = Kept c.checker_state c.clause_hasher c.clauses c.variables
+abbrev pub ContextInvariant : {P T : Type 0} → ContextOf P T → Type 0
+ContextInvariant c = PartsInvariant c.checker_state c.clause_hasher c.clauses c.variables

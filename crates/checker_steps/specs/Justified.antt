@@ -1,5 +1,5 @@
 -- What justifies the deletion of a clause.
-use Rattle.std.specs.Prelude.{◌≡◌, ℕ, Bool, true, false, cond, List, Option, None, Some, Result, Ok, Err}
+use Rattle.std.specs.Prelude.{◌≡◌, ℕ, Bool, true, false, if◌then◌else◌, List, Option, None, Some, Result, Ok, Err}
 use Rattle.std.specs.Option.{option_map}
 use Rattle.checker_rules.specs.Clauses.{var_of}
 use Rattle.checker_rules.specs.DeleteClause.{delete_justified, forget, justified, subsumed_by}
@@ -18,7 +18,7 @@ previous_of st = option_map (λ id. (st.previous_lits.items, id)) st.previous_id
 
 -- the id of the previous clause where it is a proper subset
 abbrev pub subsuming_id : Option (List ℕ × ℕ) → List ℕ → Option ℕ
-subsuming_id previous c = cond (subsumed_by previous c) (Some (previous_id previous)) None
+subsuming_id previous c = if subsumed_by previous c then Some (previous_id previous) else None
 
 -- whether a redundant copy goes
 abbrev pub of_redundant : Justification → Bool
@@ -34,5 +34,6 @@ implying_id by_simplified c s = Some (previous_id s.previous)
 
 -- what the test of a justification answers
 abbrev pub AnswersJustified : Result (Option ℕ) CheckCause → Justification → List ℕ → State → Type 0
-AnswersJustified (Ok id) j c s = (justified j c s ≡ delete_justified (of_redundant j) c (forget s)) × (id ≡ implying_id j c s)
+AnswersJustified (Ok id) j c s = (justified j c s ≡ delete_justified (of_redundant j) c (forget s))
+    × (id ≡ implying_id j c s)
 AnswersJustified (Err cause) j c s = justified j c s ≡ refuse (cause_of cause) s

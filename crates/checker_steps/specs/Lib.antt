@@ -5,7 +5,7 @@ pub mod DeletionSteps
 pub mod Derived
 pub mod FailedCore
 pub mod Failing
-pub mod Handed
+pub mod Delivered
 pub mod Idle
 pub mod InputCause
 pub mod Justified

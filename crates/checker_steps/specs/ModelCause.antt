@@ -3,7 +3,7 @@
 --     lit_cause s listed l      why a literal can't be listed beside those of a set
 --     list_cause s m      why a list is refused where `unsat` is not recorded
 --     IsJudged r cause      the answer of the code names that cause
-use Rattle.std.specs.Prelude.{ℕ, ◌≡◌, ◌<◌, ◌^◌, Bool, false, cond, not, slice_index_or, List, [], length, Option, Some, None, Result, Ok, Err}
+use Rattle.std.specs.Prelude.{ℕ, ◌≡◌, ◌<◌, ◌^◌, Bool, false, if◌then◌else◌, not, slice_index_or, List, [], length, Option, Some, None, Result, Ok, Err}
 use Rattle.std.specs.List.{list_all, list_any}
 use Rattle.checker_rules.specs.Canonical.{is_subset}
 use Rattle.checker_rules.specs.Clauses.{negate, var_of}
@@ -23,8 +23,8 @@ abbrev pub HasPlaces : List Bool → List Known → Type 0
 HasPlaces marks known = (l : ℕ) → l < 2 ^ 29 → var_of l < length known → l < length marks
 
 -- whether a literal of the clause is in the set
-abbrev pub is_met : (ℕ → Bool) → Stored → Bool
-is_met listed e = list_any listed e.lits
+abbrev pub has_marked : (ℕ → Bool) → Stored → Bool
+has_marked listed e = list_any listed e.lits
 
 -- the first of two causes that is there
 abbrev pub first_cause : Option Cause → Option Cause → Option Cause
@@ -34,15 +34,17 @@ first_cause (Some cause) later = Some cause
 -- why a literal can't be listed beside those of the set
 abbrev pub lit_cause : State → (ℕ → Bool) → ℕ → Option Cause
 lit_cause s listed l =
-    cond (not (is_known s (var_of l))) (Some unknown_var)
-    (cond (is_false_by_unit s.units l) (Some model_against_unit)
-    (cond (listed (negate l)) (Some model_against_itself) None))
+    if not (is_known s (var_of l)) then Some unknown_var
+    else if is_false_by_unit s.units l then Some model_against_unit
+    else if listed (negate l) then Some model_against_itself
+    else None
 
 -- what the list misses
 abbrev pub missing_cause : State → List ℕ → Option Cause
 missing_cause s m =
-    cond (not (is_subset s.assumed m)) (Some model_misses_assumption)
-    (cond (not (list_all (λ e. has_some e.lits m) s.clauses)) (Some model_misses_clause) None)
+    if not (is_subset s.assumed m) then Some model_misses_assumption
+    else if not (list_all (λ e. has_some e.lits m) s.clauses) then Some model_misses_clause
+    else None
 
 -- why the list is refused where `unsat` is not recorded
 abbrev pub list_cause : State → List ℕ → Option Cause

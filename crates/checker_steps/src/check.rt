@@ -8,10 +8,10 @@ ghost use Rattle.checker_parts.specs.Answers.{AnswersParts, UnlessFailed};
 ghost use Rattle.checker_parts.specs.Memory.{NeedsNoMemory};
 ghost use Rattle.proof_bytes.specs.NextStep.{view};
 ghost use Rattle.clause_store.specs.Refusal.{IsSameFault};
-ghost use Rattle.checker_steps.specs.Context.{IsKept, context_state};
+ghost use Rattle.checker_steps.specs.Context.{ContextInvariant, context_state};
 ghost use Rattle.checker_steps.specs.Failing.{has_failed};
-ghost use Rattle.checker_steps.specs.Handed.{Handed, boxes_of};
-ghost use Rattle.checker_steps.specs.Idle.{is_idle};
+ghost use Rattle.checker_steps.specs.Delivered.{Delivered, listeners_of};
+ghost use Rattle.checker_steps.specs.Idle.{wants_no_memory};
 
 use crate::context::ContextOf;
 use crate::emit::emit_at_clause;
@@ -34,16 +34,21 @@ use proof_bytes::ProofStep;
 use std::alloc::Global;
 
 /// Checks one step. Its callers count it.
+#[inline(always)]
 pub fn check_step<P: ProofProcessor, T: ProofTranscriptProcessor>(
     alloc: Global,
     ctx: &mut ContextOf<P, T>,
     step: &ProofStep,
 ) -> Result<(), CheckerError>
-    requires { IsKept ctx.old }
-    ensures step { AnswersParts result (rules.step (context_state ctx.old) (view step.now)) (context_state ctx.new) }
-    ensures kept { UnlessFailed result (IsKept ctx.new) }
-    ensures handed { Handed result (Emits (context_state ctx.old) (view step.now)) P.took P.faulted T.took T.faulted (boxes_of ctx.old.processing) (boxes_of ctx.new.processing) }
-    ensures idle { is_idle (context_state ctx.old).unsat (view step.now) ≡ true → has_failed result ≡ false }
+    requires { ContextInvariant ctx.old }
+    ensures step { AnswersParts result (rules.step (context_state ctx.old) (view step.now))
+        (context_state ctx.new) }
+    ensures kept { UnlessFailed result (ContextInvariant ctx.new) }
+    ensures delivered { Delivered result (Emits (context_state ctx.old) (view step.now))
+        P.took P.faulted T.took T.faulted (listeners_of ctx.old.processing)
+        (listeners_of ctx.new.processing) }
+    ensures idle { wants_no_memory (context_state ctx.old).unsat (view step.now) ≡ true →
+        has_failed result ≡ false }
 {
     match step {
         ProofStep::SolverVarName { global, solver } => solver_var_name(ctx, *global, *solver),
@@ -75,16 +80,22 @@ pub fn check_step<P: ProofProcessor, T: ProofTranscriptProcessor>(
 }
 
 /// Counts a step and checks it. Where no step number is left it is refused before anything of it is looked at.
+#[inline(always)]
 pub fn attempt_step<P: ProofProcessor, T: ProofTranscriptProcessor>(
     alloc: Global,
     ctx: &mut ContextOf<P, T>,
     step: &ProofStep,
 ) -> Result<(), CheckerError>
-    requires { IsKept ctx.old }
-    ensures step { AnswersParts result (attempt (context_state ctx.old) (view step.now)) (context_state ctx.new) }
-    ensures kept { UnlessFailed result (IsKept ctx.new) }
-    ensures handed { Handed result (EmitsCall (context_state ctx.old) (checks (view step.now))) P.took P.faulted T.took T.faulted (boxes_of ctx.old.processing) (boxes_of ctx.new.processing) }
-    ensures idle { is_idle (context_state ctx.old).unsat (view step.now) ≡ true → has_failed result ≡ false }
+    requires { ContextInvariant ctx.old }
+    ensures step { AnswersParts result (attempt (context_state ctx.old) (view step.now))
+        (context_state ctx.new) }
+    ensures kept { UnlessFailed result (ContextInvariant ctx.new) }
+    ensures delivered { Delivered result
+        (EmitsCall (context_state ctx.old) (checks (view step.now)))
+        P.took P.faulted T.took T.faulted (listeners_of ctx.old.processing)
+        (listeners_of ctx.new.processing) }
+    ensures idle { wants_no_memory (context_state ctx.old).unsat (view step.now) ≡ true →
+        has_failed result ≡ false }
     ensures exhausted { step_limit ≤ (context_state ctx.old).steps → has_failed result ≡ false }
 {
     if ctx.checker_state.step == u64::MAX {
@@ -102,10 +113,13 @@ pub fn process_unit_conflicts<P: ProofProcessor, T: ProofTranscriptProcessor>(
     alloc: Global,
     ctx: &mut ContextOf<P, T>,
 ) -> Result<(), CheckerError>
-    requires { IsKept ctx.old }
-    ensures answer { AnswersParts result (closing_conflict (context_state ctx.old)) (context_state ctx.new) }
-    ensures kept { UnlessFailed result (IsKept ctx.new) }
-    ensures handed { Handed result (EmitsCall (context_state ctx.old) closes) P.took P.faulted T.took T.faulted (boxes_of ctx.old.processing) (boxes_of ctx.new.processing) }
+    requires { ContextInvariant ctx.old }
+    ensures answer { AnswersParts result (closing_conflict (context_state ctx.old))
+        (context_state ctx.new) }
+    ensures kept { UnlessFailed result (ContextInvariant ctx.new) }
+    ensures delivered { Delivered result (EmitsCall (context_state ctx.old) closes)
+        P.took P.faulted T.took T.faulted (listeners_of ctx.old.processing)
+        (listeners_of ctx.new.processing) }
     ensures memory { NeedsNoMemory result }
 {
     let Some((stored, refuting)) = ctx.clauses.unit_conflict else {
@@ -125,6 +139,7 @@ pub fn process_unit_conflicts<P: ProofProcessor, T: ProofTranscriptProcessor>(
 }
 
 /// The fault with the text of the step that it refuses, where memory for it is found.
+#[inline(always)]
 fn with_step(alloc: Global, fault: CheckerError, refused: &ProofStep) -> CheckerError
     ensures { IsSameFault fault result }
 {
@@ -139,6 +154,7 @@ fn with_step(alloc: Global, fault: CheckerError, refused: &ProofStep) -> Checker
 }
 
 /// The text of a step, or none where memory for it was refused. Refused user names and assumptions show none.
+#[inline(never)]
 fn step_text(alloc: Global, step: &ProofStep) -> String {
     if let ProofStep::UserVarName { .. } | ProofStep::Assumptions { .. } = step {
         return String::new(alloc);

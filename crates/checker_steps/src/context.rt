@@ -34,12 +34,12 @@ pub type Context = ContextOf<Box<dyn ProofProcessor>, Box<dyn ProofTranscriptPro
 impl<P: ProofProcessor, T: ProofTranscriptProcessor> ContextOf<P, T> {
     ghost use Rattle.std.specs.Prelude.{◌≡◌, []};
     ghost use Rattle.checker_rules.specs.Steps.{new_state};
-    ghost use Rattle.checker_steps.specs.Context.{IsKept, context_state};
+    ghost use Rattle.checker_steps.specs.Context.{ContextInvariant, context_state};
 
     /// The parts of a checker with nothing stored. Takes no memory.
     pub fn new(alloc: Global) -> ContextOf<P, T>
         ensures state { context_state result ≡ new_state }
-        ensures kept { IsKept result }
+        ensures kept { ContextInvariant result }
         ensures processors { result.processing.processors.items ≡ [] }
         ensures transcripts { result.processing.transcript_processors.items ≡ [] }
     {

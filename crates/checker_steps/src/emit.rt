@@ -6,7 +6,7 @@ ghost use Rattle.sat_formula.specs.Vars.{index_of};
 ghost use Rattle.checker_rules.specs.CheckedSteps.{checked_add_clause, checked_assumptions, checked_at_clause, checked_delete_at_clause, checked_delete_clause, checked_delete_rat_clause, checked_duplicated_clause, checked_failed_assumptions, checked_make_irredundant, checked_model, checked_tautological_clause, checked_user_var};
 ghost use Rattle.checker_parts.specs.CheckedSteps.{user_vars_of};
 ghost use Rattle.checker_parts.specs.Memory.{NeedsNoMemory};
-ghost use Rattle.checker_steps.specs.Handed.{Hands, boxes_of};
+ghost use Rattle.checker_steps.specs.Delivered.{DeliveredStep, listeners_of};
 
 use crate::processing::ProcessingOf;
 use checker_parts::error::CheckerError;
@@ -15,21 +15,25 @@ use checker_parts::step::{CheckedProofStep, CheckedUserVar, ResolutionPropagatio
 use checker_parts::variables::Variables;
 use sat_formula::{Lit, Var};
 
-/// Hands on an input clause that is new.
+/// Delivers an input clause that is new.
 pub(crate) fn emit_add_clause<P: ProofProcessor, T: ProofTranscriptProcessor>(
     processing: &mut ProcessingOf<P, T>,
     variables: &Variables,
     id: u64,
     clause: &[Lit],
 ) -> Result<(), CheckerError>
-    ensures { Hands result (record { step = checked_add_clause id clause.now; names = variables.now }) P.took P.faulted T.took T.faulted (boxes_of processing.old) (boxes_of processing.new) }
+    ensures { DeliveredStep result (record {
+      step = checked_add_clause id clause.now;
+      names = variables.now;
+    }) P.took P.faulted T.took T.faulted (listeners_of processing.old)
+        (listeners_of processing.new) }
 {
     let _propagations = ResolutionPropagations {};
     let step = CheckedProofStep::AddClause { id, clause };
     processing.step(&step, CheckerData(variables))
 }
 
-/// Hands on an input clause that stands already.
+/// Delivers an input clause that stands already.
 pub(crate) fn emit_duplicated_clause<P: ProofProcessor, T: ProofTranscriptProcessor>(
     processing: &mut ProcessingOf<P, T>,
     variables: &Variables,
@@ -37,7 +41,10 @@ pub(crate) fn emit_duplicated_clause<P: ProofProcessor, T: ProofTranscriptProces
     same_as_id: u64,
     clause: &[Lit],
 ) -> Result<(), CheckerError>
-    ensures { Hands result (record { step = checked_duplicated_clause id same_as_id clause.now; names = variables.now }) P.took P.faulted T.took T.faulted (boxes_of processing.old) (boxes_of processing.new) }
+    ensures { DeliveredStep result (record
+        { step = checked_duplicated_clause id same_as_id clause.now; names = variables.now })
+        P.took P.faulted T.took T.faulted (listeners_of processing.old)
+        (listeners_of processing.new) }
 {
     let _propagations = ResolutionPropagations {};
     let step = CheckedProofStep::DuplicatedClause {
@@ -48,21 +55,26 @@ pub(crate) fn emit_duplicated_clause<P: ProofProcessor, T: ProofTranscriptProces
     processing.step(&step, CheckerData(variables))
 }
 
-/// Hands on an input clause that says nothing.
+/// Delivers an input clause that says nothing.
 pub(crate) fn emit_tautological_clause<P: ProofProcessor, T: ProofTranscriptProcessor>(
     processing: &mut ProcessingOf<P, T>,
     variables: &Variables,
     id: u64,
     clause: &[Lit],
 ) -> Result<(), CheckerError>
-    ensures { Hands result (record { step = checked_tautological_clause id clause.now; names = variables.now }) P.took P.faulted T.took T.faulted (boxes_of processing.old) (boxes_of processing.new) }
+    ensures { DeliveredStep result (record {
+      step = checked_tautological_clause id clause.now;
+      names = variables.now;
+    }) P.took P.faulted T.took T.faulted (listeners_of processing.old)
+        (listeners_of processing.new) }
 {
     let _propagations = ResolutionPropagations {};
     let step = CheckedProofStep::TautologicalClause { id, clause };
     processing.step(&step, CheckerData(variables))
 }
 
-/// Hands on a derived clause. Takes no memory.
+/// Delivers a derived clause. Takes no memory.
+#[inline(always)]
 pub(crate) fn emit_at_clause<P: ProofProcessor, T: ProofTranscriptProcessor>(
     processing: &mut ProcessingOf<P, T>,
     variables: &Variables,
@@ -71,7 +83,12 @@ pub(crate) fn emit_at_clause<P: ProofProcessor, T: ProofTranscriptProcessor>(
     clause: &[Lit],
     propagations: &[u64],
 ) -> Result<(), CheckerError>
-    ensures hands { Hands result (record { step = checked_at_clause id redundant clause.now propagations.now; names = variables.now }) P.took P.faulted T.took T.faulted (boxes_of processing.old) (boxes_of processing.new) }
+    ensures delivers { DeliveredStep result
+        (record {
+          step = checked_at_clause id redundant clause.now propagations.now;
+          names = variables.now;
+        }) P.took P.faulted T.took T.faulted (listeners_of processing.old)
+        (listeners_of processing.new) }
     ensures memory { NeedsNoMemory result }
 {
     let _propagations = ResolutionPropagations {};
@@ -84,35 +101,45 @@ pub(crate) fn emit_at_clause<P: ProofProcessor, T: ProofTranscriptProcessor>(
     processing.step(&step, CheckerData(variables))
 }
 
-/// Hands on a redundant clause that becomes irredundant.
+/// Delivers a redundant clause that becomes irredundant.
 pub(crate) fn emit_make_irredundant<P: ProofProcessor, T: ProofTranscriptProcessor>(
     processing: &mut ProcessingOf<P, T>,
     variables: &Variables,
     id: u64,
     clause: &[Lit],
 ) -> Result<(), CheckerError>
-    ensures { Hands result (record { step = checked_make_irredundant id clause.now; names = variables.now }) P.took P.faulted T.took T.faulted (boxes_of processing.old) (boxes_of processing.new) }
+    ensures { DeliveredStep result (record {
+      step = checked_make_irredundant id clause.now;
+      names = variables.now;
+    }) P.took P.faulted T.took T.faulted (listeners_of processing.old)
+        (listeners_of processing.new) }
 {
     let _propagations = ResolutionPropagations {};
     let step = CheckedProofStep::MakeIrredundant { id, clause };
     processing.step(&step, CheckerData(variables))
 }
 
-/// Hands on a redundant clause that goes.
+/// Delivers a redundant clause that goes.
+#[inline(always)]
 pub(crate) fn emit_delete_clause<P: ProofProcessor, T: ProofTranscriptProcessor>(
     processing: &mut ProcessingOf<P, T>,
     variables: &Variables,
     id: u64,
     clause: &[Lit],
 ) -> Result<(), CheckerError>
-    ensures { Hands result (record { step = checked_delete_clause id clause.now; names = variables.now }) P.took P.faulted T.took T.faulted (boxes_of processing.old) (boxes_of processing.new) }
+    ensures { DeliveredStep result (record {
+      step = checked_delete_clause id clause.now;
+      names = variables.now;
+    }) P.took P.faulted T.took T.faulted (listeners_of processing.old)
+        (listeners_of processing.new) }
 {
     let _propagations = ResolutionPropagations {};
     let step = CheckedProofStep::DeleteClause { id, clause };
     processing.step(&step, CheckerData(variables))
 }
 
-/// Hands on an irredundant clause that goes or becomes redundant.
+/// Delivers an irredundant clause that goes or becomes redundant.
+#[inline(always)]
 pub(crate) fn emit_delete_at_clause<P: ProofProcessor, T: ProofTranscriptProcessor>(
     processing: &mut ProcessingOf<P, T>,
     variables: &Variables,
@@ -121,7 +148,11 @@ pub(crate) fn emit_delete_at_clause<P: ProofProcessor, T: ProofTranscriptProcess
     clause: &[Lit],
     propagations: &[u64],
 ) -> Result<(), CheckerError>
-    ensures { Hands result (record { step = checked_delete_at_clause id keep_as_redundant clause.now propagations.now; names = variables.now }) P.took P.faulted T.took T.faulted (boxes_of processing.old) (boxes_of processing.new) }
+    ensures { DeliveredStep result (record {
+      step = checked_delete_at_clause id keep_as_redundant clause.now propagations.now;
+      names = variables.now;
+    }) P.took P.faulted T.took T.faulted (listeners_of processing.old)
+        (listeners_of processing.new) }
 {
     let _propagations = ResolutionPropagations {};
     let step = CheckedProofStep::DeleteAtClause {
@@ -133,7 +164,7 @@ pub(crate) fn emit_delete_at_clause<P: ProofProcessor, T: ProofTranscriptProcess
     processing.step(&step, CheckerData(variables))
 }
 
-/// Hands on the unit of a deleted variable.
+/// Delivers the unit of a deleted variable.
 pub(crate) fn emit_delete_rat_clause<P: ProofProcessor, T: ProofTranscriptProcessor>(
     processing: &mut ProcessingOf<P, T>,
     variables: &Variables,
@@ -141,7 +172,10 @@ pub(crate) fn emit_delete_rat_clause<P: ProofProcessor, T: ProofTranscriptProces
     clause: &[Lit],
     pivot: Lit,
 ) -> Result<(), CheckerError>
-    ensures { Hands result (record { step = checked_delete_rat_clause id false clause.now pivot; names = variables.now }) P.took P.faulted T.took T.faulted (boxes_of processing.old) (boxes_of processing.new) }
+    ensures { DeliveredStep result (record
+        { step = checked_delete_rat_clause id false clause.now pivot; names = variables.now })
+        P.took P.faulted T.took T.faulted (listeners_of processing.old)
+        (listeners_of processing.new) }
 {
     let propagations = ResolutionPropagations {};
     let step = CheckedProofStep::DeleteRatClause {
@@ -154,54 +188,69 @@ pub(crate) fn emit_delete_rat_clause<P: ProofProcessor, T: ProofTranscriptProces
     processing.step(&step, CheckerData(variables))
 }
 
-/// Hands on a variable with its new user name or mode, or without a name.
+/// Delivers a variable with its new user name or mode, or without a name.
 pub(crate) fn emit_user_var<P: ProofProcessor, T: ProofTranscriptProcessor>(
     processing: &mut ProcessingOf<P, T>,
     variables: &Variables,
     var: Var,
     user_var: Option<CheckedUserVar>,
 ) -> Result<(), CheckerError>
-    ensures { Hands result (record { step = checked_user_var (index_of var) (user_vars_of user_var); names = variables.now }) P.took P.faulted T.took T.faulted (boxes_of processing.old) (boxes_of processing.new) }
+    ensures { DeliveredStep result (record
+        { step = checked_user_var (index_of var) (user_vars_of user_var); names = variables.now })
+        P.took P.faulted T.took T.faulted (listeners_of processing.old)
+        (listeners_of processing.new) }
 {
     let _propagations = ResolutionPropagations {};
     let step = CheckedProofStep::UserVar { var, user_var };
     processing.step(&step, CheckerData(variables))
 }
 
-/// Hands on a model.
+/// Delivers a model.
 pub(crate) fn emit_model<P: ProofProcessor, T: ProofTranscriptProcessor>(
     processing: &mut ProcessingOf<P, T>,
     variables: &Variables,
     assignment: &[Lit],
 ) -> Result<(), CheckerError>
-    ensures { Hands result (record { step = checked_model assignment.now; names = variables.now }) P.took P.faulted T.took T.faulted (boxes_of processing.old) (boxes_of processing.new) }
+    ensures { DeliveredStep result (record {
+      step = checked_model assignment.now;
+      names = variables.now;
+    }) P.took P.faulted T.took T.faulted (listeners_of processing.old)
+        (listeners_of processing.new) }
 {
     let _propagations = ResolutionPropagations {};
     let step = CheckedProofStep::Model { assignment };
     processing.step(&step, CheckerData(variables))
 }
 
-/// Hands on the assumptions.
+/// Delivers the assumptions.
 pub(crate) fn emit_assumptions<P: ProofProcessor, T: ProofTranscriptProcessor>(
     processing: &mut ProcessingOf<P, T>,
     variables: &Variables,
     assumptions: &[Lit],
 ) -> Result<(), CheckerError>
-    ensures { Hands result (record { step = checked_assumptions assumptions.now; names = variables.now }) P.took P.faulted T.took T.faulted (boxes_of processing.old) (boxes_of processing.new) }
+    ensures { DeliveredStep result (record {
+      step = checked_assumptions assumptions.now;
+      names = variables.now;
+    }) P.took P.faulted T.took T.faulted (listeners_of processing.old)
+        (listeners_of processing.new) }
 {
     let _propagations = ResolutionPropagations {};
     let step = CheckedProofStep::Assumptions { assumptions };
     processing.step(&step, CheckerData(variables))
 }
 
-/// Hands on a failed core.
+/// Delivers a failed core.
 pub(crate) fn emit_failed_assumptions<P: ProofProcessor, T: ProofTranscriptProcessor>(
     processing: &mut ProcessingOf<P, T>,
     variables: &Variables,
     failed_core: &[Lit],
     propagations: &[u64],
 ) -> Result<(), CheckerError>
-    ensures { Hands result (record { step = checked_failed_assumptions failed_core.now propagations.now; names = variables.now }) P.took P.faulted T.took T.faulted (boxes_of processing.old) (boxes_of processing.new) }
+    ensures { DeliveredStep result (record {
+      step = checked_failed_assumptions failed_core.now propagations.now;
+      names = variables.now;
+    }) P.took P.faulted T.took T.faulted (listeners_of processing.old)
+        (listeners_of processing.new) }
 {
     let _propagations = ResolutionPropagations {};
     let step = CheckedProofStep::FailedAssumptions {

@@ -4,7 +4,7 @@ ghost use Rattle.checker_rules.specs.Ran.{AllTook, OneFaulted};
 ghost use Rattle.checker_parts.specs.CheckedSteps.{step_of, told, transcript_of};
 ghost use Rattle.checker_parts.specs.Errors.{IsFaultOrMemory};
 ghost use Rattle.checker_parts.specs.Memory.{NeedsNoMemory, lists_literals};
-ghost use Rattle.checker_steps.specs.Handed.{Hands, boxes_of};
+ghost use Rattle.checker_steps.specs.Delivered.{DeliveredStep, listeners_of};
 
 use checker_parts::error::CheckerError;
 use checker_parts::processor::{CheckerData, ProofProcessor, ProofTranscriptProcessor};
@@ -35,11 +35,13 @@ impl<P: ProofProcessor, T: ProofTranscriptProcessor> ProcessingOf<P, T> {
         }
     }
 
-    /// Hands a step to the processors, and then its image to the transcripts, each in order of registration, up to the first fault.
+    /// Delivers a step to the processors, and then its image to the transcripts, each in order of registration, up to the first fault.
     ///
     /// Where memory was refused, nothing is known of what the boxes took.
+    #[inline(always)]
     pub fn step(&mut self, step: &CheckedProofStep, names: CheckerData) -> Result<(), CheckerError>
-        ensures hands { Hands result (told step.now names.entry.0.now) P.took P.faulted T.took T.faulted (boxes_of self.old) (boxes_of self.new) }
+        ensures delivers { DeliveredStep result (told step.now names.entry.0.now)
+            P.took P.faulted T.took T.faulted (listeners_of self.old) (listeners_of self.new) }
         ensures memory { lists_literals (step_of step.now) ≡ false → NeedsNoMemory result }
     {
         tell(&mut self.processors, step, names)?;
@@ -53,14 +55,18 @@ impl<P: ProofProcessor, T: ProofTranscriptProcessor> ProcessingOf<P, T> {
     }
 }
 
-/// Hands a step to each processor, up to the first fault.
+/// Delivers a step to each processor, up to the first fault.
+#[inline(always)]
 fn tell<P: ProofProcessor>(
     processors: &mut [P],
     step: &CheckedProofStep,
     names: CheckerData,
 ) -> Result<(), CheckerError>
-    ensures ok { OnOk result (AllTook P.took processors.old (told step.now names.entry.0.now) processors.new) }
-    ensures fault { IfErr result (λ e. IsFaultOrMemory e (OneFaulted P.took P.faulted processors.old (told step.now names.entry.0.now) processors.new) ⊥) }
+    ensures ok { OnOk result (AllTook P.took processors.old (told step.now names.entry.0.now)
+        processors.new) }
+    ensures fault { IfErr result (λ e. IsFaultOrMemory e
+        (OneFaulted P.took P.faulted processors.old (told step.now names.entry.0.now)
+        processors.new) ⊥) }
 {
     for processor in processors.iter_mut() {
         if let Err(cause) = processor.process_step(step, names) {
@@ -70,13 +76,15 @@ fn tell<P: ProofProcessor>(
     Ok(())
 }
 
-/// Hands the image of a step to each transcript, up to the first fault.
+/// Delivers the image of a step to each transcript, up to the first fault.
 fn tell_image<T: ProofTranscriptProcessor>(
     transcripts: &mut [T],
     image: &ProofTranscriptStep,
 ) -> Result<(), CheckerError>
-    ensures ok { OnOk result (AllTook T.took transcripts.old (transcript_of image.now) transcripts.new) }
-    ensures fault { IfErr result (λ e. IsFaultOrMemory e (OneFaulted T.took T.faulted transcripts.old (transcript_of image.now) transcripts.new) ⊥) }
+    ensures ok { OnOk result (AllTook T.took transcripts.old (transcript_of image.now)
+        transcripts.new) }
+    ensures fault { IfErr result (λ e. IsFaultOrMemory e
+        (OneFaulted T.took T.faulted transcripts.old (transcript_of image.now) transcripts.new) ⊥) }
 {
     for transcript in transcripts.iter_mut() {
         if let Err(cause) = transcript.process_step(image) {

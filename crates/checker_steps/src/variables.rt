@@ -15,7 +15,7 @@ ghost use Rattle.clause_store.specs.declared.hash.ClauseHasher.{ClauseHasher};
 ghost use Rattle.clause_store.specs.declared.state.CheckerState.{CheckerState};
 ghost use Rattle.clause_store.specs.Growth.{KnowsVars};
 ghost use Rattle.clause_store.specs.Store.{IsStore};
-ghost use Rattle.checker_steps.specs.Handed.{Handed, boxes_of};
+ghost use Rattle.checker_steps.specs.Delivered.{Delivered, listeners_of};
 ghost use Rattle.checker_steps.specs.Naming.{IsNamingCause, sampling_var};
 
 use crate::emit::emit_user_var;
@@ -33,7 +33,8 @@ use std::alloc::Global;
 
 /// Whether some known variable of the literals is not in mode `Sample`.
 pub(crate) fn some_not_sampling(variables: &Variables, lits: &[Lit]) -> bool
-    ensures { (st : CheckerState) (h : ClauseHasher) (cs : Clauses) → result ≡ some_not_sampling (state_of st h cs variables.now) lits.now }
+    ensures { (st : CheckerState) (h : ClauseHasher) (cs : Clauses) →
+        result ≡ some_not_sampling (state_of st h cs variables.now) lits.now }
 {
     for lit in lits {
         if variables.get(lit.var()).sampling_mode != SamplingMode::Sample {
@@ -50,7 +51,8 @@ pub fn ensure_var(
     var: Var,
 ) -> Result<(), CheckerError>
     requires { length clauses.old.unit_clauses ≡ length variables.old }
-    ensures known { OnOk result (KnowsVars (suc (index_of var)) clauses.old variables.old clauses.new variables.new) }
+    ensures known { OnOk result (KnowsVars (suc (index_of var)) clauses.old variables.old
+        clauses.new variables.new) }
     ensures memory { OnErr result (result ≡ Err OutOfMemory) }
 {
     match ensure_vars(clauses, variables, var.index() + 1) {
@@ -68,8 +70,12 @@ pub fn ensure_sampling_var(
     var: Var,
 ) -> Result<(), CheckerError>
     requires { length clauses.old.unit_clauses ≡ length variables.old }
-    ensures answer { (h : ClauseHasher) → AnswersParts result (sampling_var (index_of var) (state_of state.now h clauses.old variables.old)) (state_of state.now h clauses.new variables.new) }
-    ensures store { (h : ClauseHasher) → IsStore h clauses.old → UnlessFailed result (IsStore h clauses.new) }
+    ensures answer { (h : ClauseHasher) →
+        AnswersParts result (sampling_var (index_of var)
+        (state_of state.now h clauses.old variables.old))
+        (state_of state.now h clauses.new variables.new) }
+    ensures store { (h : ClauseHasher) → IsStore h clauses.old →
+        UnlessFailed result (IsStore h clauses.new) }
     ensures known { UnlessFailed result (length clauses.new.unit_clauses ≡ length variables.new) }
 {
     if variables.get(var).sampling_mode != SamplingMode::Sample {
@@ -89,10 +95,18 @@ pub fn add_user_mapping<P: ProofProcessor, T: ProofTranscriptProcessor>(
     user_var: Var,
 ) -> Result<(), CheckerError>
     requires { length clauses.old.unit_clauses ≡ length variables.old }
-    ensures step { (h : ClauseHasher) → AnswersParts result (step (state_of state.now h clauses.old variables.old) (rules.user_var_name (index_of global) (Some (index_of user_var)))) (state_of state.now h clauses.new variables.new) }
-    ensures store { (h : ClauseHasher) → IsStore h clauses.old → UnlessFailed result (IsStore h clauses.new) }
+    ensures step { (h : ClauseHasher) →
+        AnswersParts result (step (state_of state.now h clauses.old variables.old)
+        (rules.user_var_name (index_of global) (Some (index_of user_var))))
+        (state_of state.now h clauses.new variables.new) }
+    ensures store { (h : ClauseHasher) → IsStore h clauses.old →
+        UnlessFailed result (IsStore h clauses.new) }
     ensures known { UnlessFailed result (length clauses.new.unit_clauses ≡ length variables.new) }
-    ensures handed { (h : ClauseHasher) → Handed result (Emits (state_of state.now h clauses.old variables.old) (rules.user_var_name (index_of global) (Some (index_of user_var)))) P.took P.faulted T.took T.faulted (boxes_of processing.old) (boxes_of processing.new) }
+    ensures delivered { (h : ClauseHasher) →
+        Delivered result (Emits (state_of state.now h clauses.old variables.old)
+        (rules.user_var_name (index_of global) (Some (index_of user_var))))
+        P.took P.faulted T.took T.faulted (listeners_of processing.old)
+        (listeners_of processing.new) }
 {
     ensure_var(clauses, variables, global)?;
     if let Some(msg) = naming_cause(variables, global, user_var) {
@@ -117,10 +131,17 @@ pub fn remove_user_mapping<P: ProofProcessor, T: ProofTranscriptProcessor>(
     global: Var,
 ) -> Result<(), CheckerError>
     requires { length clauses.old.unit_clauses ≡ length variables.old }
-    ensures step { (h : ClauseHasher) → AnswersParts result (step (state_of state.now h clauses.old variables.old) (rules.user_var_name (index_of global) None)) (state_of state.now h clauses.new variables.new) }
-    ensures store { (h : ClauseHasher) → IsStore h clauses.old → UnlessFailed result (IsStore h clauses.new) }
+    ensures step { (h : ClauseHasher) →
+        AnswersParts result (step (state_of state.now h clauses.old variables.old)
+        (rules.user_var_name (index_of global) None))
+        (state_of state.now h clauses.new variables.new) }
+    ensures store { (h : ClauseHasher) → IsStore h clauses.old →
+        UnlessFailed result (IsStore h clauses.new) }
     ensures known { UnlessFailed result (length clauses.new.unit_clauses ≡ length variables.new) }
-    ensures handed { (h : ClauseHasher) → Handed result (Emits (state_of state.now h clauses.old variables.old) (rules.user_var_name (index_of global) None)) P.took P.faulted T.took T.faulted (boxes_of processing.old) (boxes_of processing.new) }
+    ensures delivered { (h : ClauseHasher) →
+        Delivered result (Emits (state_of state.now h clauses.old variables.old)
+        (rules.user_var_name (index_of global) None)) P.took P.faulted T.took T.faulted
+        (listeners_of processing.old) (listeners_of processing.new) }
 {
     ensure_var(clauses, variables, global)?;
     if variables.get(global).user_var.is_none() {

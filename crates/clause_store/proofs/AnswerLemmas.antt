@@ -18,7 +18,8 @@ use Rattle.clause_store.specs.declared.clauses.store.StoreFault.TheVariants.{Out
 use Rattle.clause_store.specs.Store.{AnswersStore, Stores, is_whole, store_counters}
 
 -- the counters
-pub counters-accept : (r : Bool) (c : List ℕ) (takes : Bool) (s : State) (next : State → Outcome) → (takes ≡ true → s.next < id_limit) → count_of r c s.clauses < count_limit → counters r c takes s next ≡ next s
+pub counters-accept : (r : Bool) (c : List ℕ) (takes : Bool) (s : State) (next : State → Outcome) → (takes ≡ true → s.next < id_limit) →
+    count_of r c s.clauses < count_limit → counters r c takes s next ≡ next s
 counters-accept r c takes s next room few =
     ap (λ b. cond b (refuse ids_exhausted s) (cond (leb count_limit (count_of r c s.clauses)) (refuse count_exhausted s) (next s))) (free takes room)
     ∙ ap (λ b. cond b (refuse count_exhausted s) (next s)) (not_more (count_of r c s.clauses) count_limit few)
@@ -35,12 +36,14 @@ counters-accept r c takes s next room few =
 
 pub counters-ids : (r : Bool) (c : List ℕ) (takes : Bool) (s : State) (next : State → Outcome) → takes ≡ true → id_limit ≤ s.next → counters r c takes s next ≡ refuse ids_exhausted s
 counters-ids r c takes s next h none =
-    ap (λ b. cond b (refuse ids_exhausted s) (cond (leb count_limit (count_of r c s.clauses)) (refuse count_exhausted s) (next s))) (ap (λ b. b && not (ltb s.next id_limit)) h ∙ more s.next id_limit none)
+    ap (λ b. cond b (refuse ids_exhausted s) (cond (leb count_limit (count_of r c s.clauses)) (refuse count_exhausted s) (next s)))
+    (ap (λ b. b && not (ltb s.next id_limit)) h ∙ more s.next id_limit none)
   where
     more : (n m : ℕ) → m ≤ n → not (ltb n m) ≡ true
     more n m h = grind (arith, nat_tests)
 
-pub counters-count : (r : Bool) (c : List ℕ) (takes : Bool) (s : State) (next : State → Outcome) → takes ≡ false → count_limit ≤ count_of r c s.clauses → counters r c takes s next ≡ refuse count_exhausted s
+pub counters-count : (r : Bool) (c : List ℕ) (takes : Bool) (s : State) (next : State → Outcome) → takes ≡ false →
+    count_limit ≤ count_of r c s.clauses → counters r c takes s next ≡ refuse count_exhausted s
 counters-count r c takes s next h many =
     ap (λ b. cond (b && not (ltb s.next id_limit)) (refuse ids_exhausted s) (cond (leb count_limit (count_of r c s.clauses)) (refuse count_exhausted s) (next s))) h
     ∙ ap (λ b. cond b (refuse count_exhausted s) (next s)) (more (count_of r c s.clauses) count_limit many)
@@ -98,7 +101,8 @@ pub answers-ids : (c : List ℕ) (r : Bool) (s : State) → stands c s ≡ false
 answers-ids c r s other none = counters-ids r c (not (stands c s)) s accept (ap not other) none
 
 -- a clause that does not stand takes an id, if one is left
-pub answers-new : (res : Result (ℕ × StoreClauseResult) StoreFault) (c : List ℕ) (r : Bool) (s t u : State) → OkIff res (s.next < id_limit) (s.next, New) → IfErr res (λ f. f ≡ IdsExhausted) → OnOk res (t ≡ u) → OnErr res (t ≡ s)
+pub answers-new : (res : Result (ℕ × StoreClauseResult) StoreFault) (c : List ℕ) (r : Bool) (s t u : State) →
+    OkIff res (s.next < id_limit) (s.next, New) → IfErr res (λ f. f ≡ IdsExhausted) → OnOk res (t ≡ u) → OnErr res (t ≡ s)
     → stands c s ≡ false → (s.next < id_limit → Stores c r s u s.next New) → AnswersStore res c r s t
 answers-new (Ok p) c r s t u h only ok err other stored =
     subst (λ x. Stores c r s x p.0 p.1) (sym ok) (subst (λ (x : ℕ × StoreClauseResult). Stores c r s u x.0 x.1) (sym h.1) (stored h.0))

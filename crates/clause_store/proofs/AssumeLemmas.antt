@@ -16,10 +16,10 @@ use Rattle.checker_rules.proofs.Walks.{any_at, any_from}
 use Rattle.clause_store.specs.declared.clauses.units.UnitClause.{UnitClause}
 use Rattle.clause_store.specs.Rup.{true_lits}
 use Rattle.clause_store.specs.StateOf.{stored_units}
-use Rattle.clause_store.specs.Units.{number_of}
+use Rattle.clause_store.specs.Units.{lit_value, number_of}
 use Rattle.clause_store.specs.Trace.{AreStored, unlisted_lits}
 use Rattle.clause_store.proofs.TraceLemmas.{unlisted_lits-at_rest, unlisted_lits-set}
-use Rattle.clause_store.proofs.UnitsLemmas.{true_lits-set}
+use Rattle.clause_store.proofs.UnitsLemmas.{falsity, true_lits-falsity, true_lits-set, true_lits-truth, truth}
 
 -- a literal of the list has a known variable
 pub known-at : (c : List ℕ) (i m n : ℕ) → var_bound c ≤ n → i < length c → m ≡ get_or c i m → var_of m < n
@@ -48,11 +48,14 @@ start_set-free us c i m less is free apart =
     both_ways (is_tautology c) apart (any_from (λ l. has (negate l) c) c k.0 (has-take c i k.0 k.1) (ap (λ x. has x c) (sym (eqb-true m (negate k.0) k.2)) ∙ here))))
 
 -- one literal more is taken as false
-pub assume-step : (us vs : List (Option UnitClause)) (ss : List (Option StoredUnit)) (c : List ℕ) (i m : ℕ) (u : UnitClause) → i < length c → m ≡ get_or c i m → var_of m < length us → u.value ≡ is_negative m
-    → vs ≡ set us (var_of m) (Some u) → some_true_unit ss c ≡ false → is_tautology c ≡ false → ((k : ℕ) → true_lits us k ≡ start_set ss (take i c) k) → (k : ℕ) → true_lits vs k ≡ start_set ss (take (i + 1) c) k
+pub assume-step : (us vs : List (Option UnitClause)) (ss : List (Option StoredUnit)) (c : List ℕ) (i m : ℕ) (u : UnitClause) →
+    i < length c → m ≡ get_or c i m → var_of m < length us → u.value ≡ is_negative m
+    → vs ≡ set us (var_of m) (Some u) → some_true_unit ss c ≡ false → is_tautology c ≡ false →
+    ((k : ℕ) → true_lits us k ≡ start_set ss (take i c) k) → (k : ℕ) → true_lits vs k ≡ start_set ss (take (i + 1) c) k
 assume-step us vs ss c i m u less is known v e free apart same k =
     let p : ℕ → Bool = λ l. eqb k (negate l) in
-    let added = true_lits-set us (negate m) u (rw var-negate known) (v ∙ sym (ap not (negative_negate m) ∙ not_not (is_negative m))) (ap (true_lits us) (negate-negate m) ∙ same m ∙ start_set-free ss c i m less is free apart) in
+    let added = true_lits-set us (negate m) u (rw var-negate known) (v ∙ sym (ap not (negative_negate m) ∙ not_not (is_negative m)))
+    (ap (true_lits us) (negate-negate m) ∙ same m ∙ start_set-free ss c i m less is free apart) in
     let cut : take (i + 1) c ≡ take i c ++ m ∷ [] = take_more c i m less ∙ ap (λ x. take i c ++ x ∷ []) (sym is) in
     ap (λ ws. true_lits ws k) e ∙ ap (λ v. true_lits (set us v (Some u)) k) (sym (var-negate m)) ∙ ap (λ (s : ℕ → Bool). s k) added
     ∙ ap (λ b. p m || b) (same k) ∙ move (p m) (lit_by_unit ss k) (list_any p (take i c))
@@ -70,15 +73,18 @@ assume-step us vs ss c i m u less is known v e free apart same k =
     move false false true = refl
     move false false false = refl
 
-pub assume-all : (ss : List (Option StoredUnit)) (vs : List (Option UnitClause)) (c : List ℕ) (i : ℕ) → length c ≤ i → ((k : ℕ) → true_lits vs k ≡ start_set ss (take i c) k) → true_lits vs ≡ start_set ss c
+pub assume-all : (ss : List (Option StoredUnit)) (vs : List (Option UnitClause)) (c : List ℕ) (i : ℕ) → length c ≤ i →
+    ((k : ℕ) → true_lits vs k ≡ start_set ss (take i c) k) → true_lits vs ≡ start_set ss c
 assume-all ss vs c i over h = λ j k. point k j
   where
     point : (k : ℕ) → true_lits vs k ≡ start_set ss c k
     point k = h k ∙ ap (λ ls. start_set ss ls k) (take_all i c over)
 
 -- the stored units of variables that are not in the clause stay unlisted
-pub unlisted-step : (us vs ws : List (Option UnitClause)) (c : List ℕ) (i m : ℕ) (u : UnitClause) → i < length c → m ≡ get_or c i m → var_of m < length us → number_of u.id ≡ None → vs ≡ set us (var_of m) (Some u)
-    → ((k : ℕ) → unlisted_lits us k ≡ (unlisted_lits ws k && not (holds_var (var_of k) (take i c)))) → (k : ℕ) → unlisted_lits vs k ≡ (unlisted_lits ws k && not (holds_var (var_of k) (take (i + 1) c)))
+pub unlisted-step : (us vs ws : List (Option UnitClause)) (c : List ℕ) (i m : ℕ) (u : UnitClause) → i < length c → m ≡ get_or c i m →
+    var_of m < length us → number_of u.id ≡ None → vs ≡ set us (var_of m) (Some u)
+    → ((k : ℕ) → unlisted_lits us k ≡ (unlisted_lits ws k && not (holds_var (var_of k) (take i c)))) → (k : ℕ) →
+    unlisted_lits vs k ≡ (unlisted_lits ws k && not (holds_var (var_of k) (take (i + 1) c)))
 unlisted-step us vs ws c i m u less is known new e same k =
     let p : ℕ → Bool = λ l. eqb (var_of l) (var_of k) in
     let cut : take (i + 1) c ≡ take i c ++ m ∷ [] = take_more c i m less ∙ ap (λ x. take i c ++ x ∷ []) (sym is) in
@@ -96,8 +102,34 @@ unlisted-step us vs ws c i m u less is known new e same k =
     move true false false = refl
     move false a b = refl
 
-pub unlisted-all : (us vs : List (Option UnitClause)) (c : List ℕ) (i : ℕ) → AreStored us → length c ≤ i → ((k : ℕ) → unlisted_lits vs k ≡ (unlisted_lits us k && not (holds_var (var_of k) (take i c)))) → unlisted_lits vs ≡ unlisted_at (stored_units us) c
+pub unlisted-all : (us vs : List (Option UnitClause)) (c : List ℕ) (i : ℕ) → AreStored us → length c ≤ i →
+    ((k : ℕ) → unlisted_lits vs k ≡ (unlisted_lits us k && not (holds_var (var_of k) (take i c)))) →
+    unlisted_lits vs ≡ unlisted_at (stored_units us) c
 unlisted-all us vs c i stored over h = λ j k. point k j
   where
     point : (k : ℕ) → unlisted_lits vs k ≡ unlisted_at (stored_units us) c k
     point k = h k ∙ ap (λ ls. unlisted_lits us k && not (holds_var (var_of k) ls)) (take_all i c over) ∙ ap (λ b. b && not (holds_var (var_of k) c)) (unlisted_lits-at_rest us k stored)
+
+-- a literal with a value is false already
+pub assume-skip : (vs : List (Option UnitClause)) (ss : List (Option StoredUnit)) (c : List ℕ) (i m : ℕ) (b : Bool) → i < length c → m ≡ get_or c i m → lit_value vs m ≡ Some b
+    → some_true_unit ss c ≡ false → is_tautology c ≡ false → ((k : ℕ) → true_lits vs k ≡ start_set ss (take i c) k) → (k : ℕ) → true_lits vs k ≡ start_set ss (take (i + 1) c) k
+assume-skip vs ss c i m b less is v free apart same k =
+    let p : ℕ → Bool = λ l. eqb k (negate l) in
+    let value : b ≡ false = sym (true_lits-truth vs m ∙ ap truth v) ∙ same m ∙ start_set-free ss c i m less is free apart in
+    let turned : true_lits vs (negate m) ≡ true = true_lits-falsity vs m ∙ ap falsity v ∙ ap not value in
+    let cut : take (i + 1) c ≡ take i c ++ m ∷ [] = take_more c i m less ∙ ap (λ x. take i c ++ x ∷ []) (sym is) in
+    absorb (p m) (true_lits vs k) (λ e. ap (true_lits vs) (eqb-true k (negate m) e) ∙ turned)
+    ∙ ap (λ b. p m || b) (same k) ∙ move (p m) (lit_by_unit ss k) (list_any p (take i c))
+    ∙ sym (ap (λ ls. lit_by_unit ss k || list_any p ls) cut ∙ ap (λ b. lit_by_unit ss k || b) (list_any-append p (take i c) (m ∷ [])))
+  where
+    absorb : (x y : Bool) → (x ≡ true → y ≡ true) → y ≡ (x || y)
+    absorb true y h = h refl
+    absorb false y h = refl
+
+    move : (x a b : Bool) → (x || (a || b)) ≡ (a || (b || (x || false)))
+    move true true b = refl
+    move true false true = refl
+    move true false false = refl
+    move false true b = refl
+    move false false true = refl
+    move false false false = refl

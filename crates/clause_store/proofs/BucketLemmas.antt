@@ -29,7 +29,9 @@ count_limit-some = omega arith
 
 pub list_any-no_position : {X : Type 0} (p : X → Bool) (xs : List X) → position p xs ≡ None → list_any p xs ≡ false
 list_any-no_position p xs h =
-    let all : length xs ≤ position_or_len p xs = elim (ltb (position_or_len p xs) (length xs)) as (λ b. ltb (position_or_len p xs) (length xs) ≡ b → cond b (Some (position_or_len p xs)) None ≡ None → length xs ≤ position_or_len p xs) [
+    let all : length xs ≤ position_or_len p xs =
+    elim (ltb (position_or_len p xs) (length xs)) as (λ b. ltb (position_or_len p xs) (length xs) ≡ b →
+    cond b (Some (position_or_len p xs)) None ≡ None → length xs ≤ position_or_len p xs) [
       | true ↦ λ t e. cc
       | false ↦ λ t e. grind (arith, t)
     ] refl h in
@@ -84,17 +86,23 @@ module _ (buffer c : List ℕ) (cs : List Clause) where
     lowered_same true = sym (ap (λ b. cond b (record (stored_of buffer d) { redundant = d.redundant - 1 }) (stored_of buffer d)) same)
     lowered_same false = sym (ap (λ b. cond b (record (stored_of buffer d) { irredundant = d.irredundant - 1 }) (stored_of buffer d)) same)
 
-    lowered_at : (r : Bool) → are_apart (map (stored_of buffer) cs) ≡ true → remaining (map (lower r c) (map (stored_of buffer) cs)) ≡ remaining (set (map (stored_of buffer) cs) i (stored_of buffer (lowered r d)))
+    lowered_at : (r : Bool) → are_apart (map (stored_of buffer) cs) ≡ true →
+        remaining (map (lower r c) (map (stored_of buffer) cs)) ≡
+        remaining (set (map (stored_of buffer) cs) i (stored_of buffer (lowered r d)))
     lowered_at r a =
         let e = stored_of buffer d in let es = map (stored_of buffer) cs in
         ap remaining (lower-at c e same r es i within stands before a ∙ ap (set es i) (sym (lowered_same r)))
 
-    pub lowered-place : (r : Bool) (left : Clause) → left ≡ lowered r d → is_gone (stored_of buffer left) ≡ false → are_apart (map (stored_of buffer) cs) ≡ true → list_all is_whole (map (stored_of buffer) cs) ≡ true → map (stored_of buffer) (set cs i left) ≡ remaining (map (lower r c) (map (stored_of buffer) cs))
+    pub lowered-place : (r : Bool) (left : Clause) → left ≡ lowered r d → is_gone (stored_of buffer left) ≡ false →
+        are_apart (map (stored_of buffer) cs) ≡ true → list_all is_whole (map (stored_of buffer) cs) ≡ true →
+        map (stored_of buffer) (set cs i left) ≡ remaining (map (lower r c) (map (stored_of buffer) cs))
     lowered-place r left e g a w =
         let es = map (stored_of buffer) cs in let x = stored_of buffer left in
         map-set (stored_of buffer) cs i left ∙ sym (lowered_at r a ∙ ap (λ y. remaining (set es i (stored_of buffer y))) (sym e) ∙ remaining-set x es i g w)
 
-    pub removed-place : (r : Bool) (left : Clause) → left ≡ lowered r d → is_gone (stored_of buffer left) ≡ true → are_apart (map (stored_of buffer) cs) ≡ true → list_all is_whole (map (stored_of buffer) cs) ≡ true → map (stored_of buffer) (take i cs ++ drop (suc i) cs) ≡ remaining (map (lower r c) (map (stored_of buffer) cs))
+    pub removed-place : (r : Bool) (left : Clause) → left ≡ lowered r d → is_gone (stored_of buffer left) ≡ true →
+        are_apart (map (stored_of buffer) cs) ≡ true → list_all is_whole (map (stored_of buffer) cs) ≡ true →
+        map (stored_of buffer) (take i cs ++ drop (suc i) cs) ≡ remaining (map (lower r c) (map (stored_of buffer) cs))
     removed-place r left e g a w =
         let es = map (stored_of buffer) cs in let x = stored_of buffer left in
         map-append (stored_of buffer) (take i cs) (drop (suc i) cs)

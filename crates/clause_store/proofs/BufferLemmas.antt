@@ -30,7 +30,8 @@ module _ (old new : List ℕ) (kept : take (length old) new ≡ old) where
   module _ (m m' : Buckets) (hash : ℕ) (d : Clause) (within : AreWithin old m) (longer : length old ≤ length new) (here : IsWithin d.lits new)
       (pushed : clauses_at m' hash ≡ clauses_at m hash ++ d ∷ []) (others : (k : ℕ) → (k ≡ hash → ⊥) → clauses_at m' k ≡ clauses_at m k) where
     pub stored_in-pushed : stored_in new m' hash ≡ stored_in old m hash ++ stored_of new d ∷ []
-    stored_in-pushed = ap (map (stored_of new)) pushed ∙ map-append (stored_of new) (clauses_at m hash) (d ∷ []) ∙ ap (λ es. es ++ stored_of new d ∷ []) (stored_of-kept (clauses_at m hash) (within hash))
+    stored_in-pushed = ap (map (stored_of new)) pushed ∙ map-append (stored_of new) (clauses_at m hash) (d ∷ []) ∙ ap
+        (λ es. es ++ stored_of new d ∷ []) (stored_of-kept (clauses_at m hash) (within hash))
 
     pub stored_in-others : (k : ℕ) → (k ≡ hash → ⊥) → stored_in new m' k ≡ stored_in old m k
     stored_in-others k ne = ap (map (stored_of new)) (others k ne) ∙ stored_of-kept (clauses_at m k) (within k)
@@ -40,5 +41,7 @@ module _ (old new : List ℕ) (kept : take (length old) new ≡ old) where
 
     pub within-pushed : AreWithin new m'
     within-pushed k = ⊎_elim {C = All (λ c. IsWithin c.lits new) (clauses_at m' k)}
-        (λ e. subst (λ n. All (λ c. IsWithin c.lits new) (clauses_at m' n)) (sym e) (subst (All (λ c. IsWithin c.lits new)) (sym pushed) (All-push (λ c. IsWithin c.lits new) (clauses_at m hash) d (still_within hash) here)))
+        (λ e. subst (λ n. All (λ c. IsWithin c.lits new) (clauses_at m' n)) (sym e)
+        (subst (All (λ c. IsWithin c.lits new)) (sym pushed)
+        (All-push (λ c. IsWithin c.lits new) (clauses_at m hash) d (still_within hash) here)))
         (λ ne. subst (All (λ c. IsWithin c.lits new)) (sym (others k ne)) (still_within k)) (cases_eq k hash)

@@ -53,23 +53,29 @@ list_all-filter p q (x ∷ xs) h =
       | false ↦ list_all-filter p q xs t.1
     ]
 
-known-fine : (us : List (Option UnitClause)) (n : ℕ) (buffer : List ℕ) (xs : List Clause) → n ≡ length us → list_all (is_fine n) (map (stored_of buffer) xs) ≡ true → All (λ c. AreKnown us (lits_of c.lits buffer)) xs
+known-fine : (us : List (Option UnitClause)) (n : ℕ) (buffer : List ℕ) (xs : List Clause) → n ≡ length us →
+    list_all (is_fine n) (map (stored_of buffer) xs) ≡ true → All (λ c. AreKnown us (lits_of c.lits buffer)) xs
 known-fine us n buffer [] e h = All-nil (λ c. AreKnown us (lits_of c.lits buffer))
 known-fine us n buffer (x ∷ xs) e h =
     let p = and_parts (is_fine n (stored_of buffer x)) _ h in
     All-cons (λ c. AreKnown us (lits_of c.lits buffer)) x xs (subst (λ k. var_bound (lits_of x.lits buffer) ≤ k) e (fine_parts n (stored_of buffer x) p.0).1) (known-fine us n buffer xs e p.1)
 
-all_known : (st : CheckerState) (h : ClauseHasher) (cs : Clauses) (known : List Known) → IsBucketed h cs → WellFormed (state_of st h cs known) → AreAllKnown cs.unit_clauses cs.literal_buffer.items cs.buckets
+all_known : (st : CheckerState) (h : ClauseHasher) (cs : Clauses) (known : List Known) → IsBucketed h cs →
+    WellFormed (state_of st h cs known) → AreAllKnown cs.unit_clauses cs.literal_buffer.items cs.buckets
 all_known st h cs known tied form k =
     known-fine cs.unit_clauses (length known) cs.literal_buffer.items (clauses_at cs.buckets k) (sym form.same_known ∙ length-map cs.unit_clauses (option_map stored_unit))
     (subst (λ es. list_all (is_fine (length known)) es ≡ true) (sym (tied k)) (list_all-filter (is_fine (length known)) _ (stored_list cs) form.fine))
 
-named-is : (st : CheckerState) (h : ClauseHasher) (cs : Clauses) (known : List Known) (hs : List ℕ) → IsBucketed h cs → named_buckets cs.literal_buffer.items cs.buckets hs ≡ buckets (state_of st h cs known) hs
+named-is : (st : CheckerState) (h : ClauseHasher) (cs : Clauses) (known : List Known) (hs : List ℕ) → IsBucketed h cs →
+    named_buckets cs.literal_buffer.items cs.buckets hs ≡ buckets (state_of st h cs known) hs
 unfolding bucket
 named-is st h cs known [] tied = refl
-named-is st h cs known (k ∷ hs) tied = ap (λ es. all_lits es ∷ named_buckets cs.literal_buffer.items cs.buckets hs) (tied k) ∙ ap (λ bs. bucket (state_of st h cs known) k ∷ bs) (named-is st h cs known hs tied)
+named-is st h cs known (k ∷ hs) tied = ap (λ es. all_lits es ∷ named_buckets cs.literal_buffer.items cs.buckets hs) (tied k) ∙ ap
+    (λ bs. bucket (state_of st h cs known) k ∷ bs) (named-is st h cs known hs tied)
 
-walk-is : (st : CheckerState) (h : ClauseHasher) (cs : Clauses) (known : List Known) (c hs : List ℕ) → IsBucketed h cs → clause_answer (stored_units cs.unit_clauses) c (named_buckets cs.literal_buffer.items cs.buckets hs) ≡ walk_check (state_of st h cs known) c hs
+walk-is : (st : CheckerState) (h : ClauseHasher) (cs : Clauses) (known : List Known) (c hs : List ℕ) → IsBucketed h cs →
+    clause_answer (stored_units cs.unit_clauses) c (named_buckets cs.literal_buffer.items cs.buckets hs) ≡
+    walk_check (state_of st h cs known) c hs
 walk-is st h cs known c hs tied = ap (clause_answer (stored_units cs.unit_clauses) c) (named-is st h cs known hs tied)
 
 answers : (s : State) (c hs : List ℕ) (a : Answer) → AllCanonical s → is_tautology c ≡ false → check_answer a ≡ walk_check s c hs → AnswersCheck s c hs a
@@ -77,10 +83,13 @@ answers s c hs Passed can apart e = (check_exact s c hs can apart).passes.0 (sym
 answers s c hs NoClauseForHash can apart e = (check_exact s c hs can apart).no_clause.0 (sym e)
 answers s c hs Failed can apart e = (check_exact s c hs can apart).failed.0 (sym e)
 
-named-walked : (st : CheckerState) (h : ClauseHasher) (cs : Clauses) (known : List Known) (hs : List ℕ) → IsBucketed h cs → named_clauses cs.literal_buffer.items cs.buckets hs ≡ walked (state_of st h cs known) hs
+named-walked : (st : CheckerState) (h : ClauseHasher) (cs : Clauses) (known : List Known) (hs : List ℕ) → IsBucketed h cs →
+    named_clauses cs.literal_buffer.items cs.buckets hs ≡ walked (state_of st h cs known) hs
 unfolding bucket_entries
 named-walked st h cs known [] tied = refl
-named-walked st h cs known (k ∷ hs) tied = ap (λ es. es ++ named_clauses cs.literal_buffer.items cs.buckets hs) (tied k) ∙ ap (λ es. bucket_entries (state_of st h cs known) k ++ es) (named-walked st h cs known hs tied)
+named-walked st h cs known (k ∷ hs) tied =
+    ap (λ es. es ++ named_clauses cs.literal_buffer.items cs.buckets hs) (tied k) ∙ ap
+    (λ es. bucket_entries (state_of st h cs known) k ++ es) (named-walked st h cs known hs tied)
 
 pub check_is_by_rules : CheckIsByRules
 check_is_by_rules = record {

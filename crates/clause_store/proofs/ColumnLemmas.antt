@@ -35,7 +35,8 @@ value-units_by (v ∷ vs) (s ∷ ss) [] i h = no_number v vs (s ∷ ss) h
 value-units_by (v ∷ vs) (s ∷ ss) (n ∷ ns) zero h = sym (known-unit_by v (id_by s n))
 value-units_by (v ∷ vs) (s ∷ ss) (n ∷ ns) (suc i) h = value-units_by vs ss ns i (tails v vs s ss n ns h)
 
-pub unit_at-units_by : (vs : List Value) (ss : List Source) (ns : List ℕ) (i : ℕ) (s : Source) (n : ℕ) → AreEven vs ss ns → i < length vs → s ≡ get_or ss i s → n ≡ get_or ns i n → unit_at (units_by vs ss ns) i ≡ unit_by (get_or vs i values.Free) (id_by s n)
+pub unit_at-units_by : (vs : List Value) (ss : List Source) (ns : List ℕ) (i : ℕ) (s : Source) (n : ℕ) → AreEven vs ss ns → i < length vs →
+    s ≡ get_or ss i s → n ≡ get_or ns i n → unit_at (units_by vs ss ns) i ≡ unit_by (get_or vs i values.Free) (id_by s n)
 unit_at-units_by [] ss ns i s n h less p q = absurd (omega (arith, less))
 unit_at-units_by (v ∷ vs) [] ns i s n h less p q = no_source v vs ns h
 unit_at-units_by (v ∷ vs) (t ∷ ss) [] i s n h less p q = no_number v vs (t ∷ ss) h
@@ -43,7 +44,8 @@ unit_at-units_by (v ∷ vs) (t ∷ ss) (m ∷ ns) zero s n h less p q = ap (λ k
 unit_at-units_by (v ∷ vs) (t ∷ ss) (m ∷ ns) (suc i) s n h less p q = unit_at-units_by vs ss ns i s n (tails v vs t ss m ns h) (omega (arith, less)) p q
 
 -- one place is written
-pub units_by-set : (vs : List Value) (ss : List Source) (ns : List ℕ) (i : ℕ) (v : Value) (s : Source) (n : ℕ) → AreEven vs ss ns → units_by (set vs i v) (set ss i s) (set ns i n) ≡ set (units_by vs ss ns) i (unit_by v (id_by s n))
+pub units_by-set : (vs : List Value) (ss : List Source) (ns : List ℕ) (i : ℕ) (v : Value) (s : Source) (n : ℕ) → AreEven vs ss ns →
+    units_by (set vs i v) (set ss i s) (set ns i n) ≡ set (units_by vs ss ns) i (unit_by v (id_by s n))
 units_by-set [] ss ns i v s n h = refl
 units_by-set (w ∷ vs) [] ns i v s n h = no_source w vs ns h
 units_by-set (w ∷ vs) (t ∷ ss) [] i v s n h = no_number w vs (t ∷ ss) h
@@ -58,7 +60,8 @@ units_by-free (w ∷ vs) (t ∷ ss) [] i h = no_number w vs (t ∷ ss) h
 units_by-free (w ∷ vs) (t ∷ ss) (m ∷ ns) zero h = refl
 units_by-free (w ∷ vs) (t ∷ ss) (m ∷ ns) (suc i) h = ap (λ us. unit_by w (id_by t m) ∷ us) (units_by-free vs ss ns i (tails w vs t ss m ns h))
 
-pub units_by-push : (vs : List Value) (ss : List Source) (ns : List ℕ) (v : Value) (s : Source) (n : ℕ) → AreEven vs ss ns → units_by (vs ++ v ∷ []) (ss ++ s ∷ []) (ns ++ n ∷ []) ≡ units_by vs ss ns ++ unit_by v (id_by s n) ∷ []
+pub units_by-push : (vs : List Value) (ss : List Source) (ns : List ℕ) (v : Value) (s : Source) (n : ℕ) → AreEven vs ss ns →
+    units_by (vs ++ v ∷ []) (ss ++ s ∷ []) (ns ++ n ∷ []) ≡ units_by vs ss ns ++ unit_by v (id_by s n) ∷ []
 units_by-push [] [] [] v s n h = refl
 units_by-push [] [] (m ∷ ns) v s n h = absurd (omega (arith, h.numbers))
 units_by-push [] (t ∷ ss) ns v s n h = absurd (omega (arith, h.sources))
@@ -90,13 +93,34 @@ is_place vs ss ns us i h e less =
     record { in_values = here; in_sources = omega (arith, h.sources, here); in_numbers = omega (arith, h.numbers, here) }
 
 -- a value is read with its id
-pub unit-read : (vs : List Value) (ss : List Source) (ns : List ℕ) (us : List (Option UnitClause)) (i : ℕ) (b : Bool) (s : Source) (n : ℕ) (id : UnitId) → AreEven vs ss ns → units_by vs ss ns ≡ us → option_map (λ (u : UnitClause). u.value) (unit_at us i) ≡ Some b → s ≡ get_or ss i s → n ≡ get_or ns i n → id ≡ id_by s n → Some (record { id = id; value = b }) ≡ unit_at us i
+pub unit-read : (vs : List Value) (ss : List Source) (ns : List ℕ) (us : List (Option UnitClause)) (i : ℕ) (b : Bool) (s : Source) (n : ℕ)
+    (id : UnitId) → AreEven vs ss ns → units_by vs ss ns ≡ us → option_map (λ (u : UnitClause). u.value) (unit_at us i) ≡ Some b →
+    s ≡ get_or ss i s → n ≡ get_or ns i n → id ≡ id_by s n → Some (record { id = id; value = b }) ≡ unit_at us i
 unit-read vs ss ns us i b s n id h e v p q is =
     let place = is_place vs ss ns us i h e (in_range us i b v) in
     let found : known (get_or vs i values.Free) ≡ Some b = value-units_by vs ss ns i h ∙ ap (λ xs. option_map (λ (u : UnitClause). u.value) (unit_at xs i)) e ∙ v in
     sym (unit_by-known (get_or vs i values.Free) b id found) ∙ ap (unit_by (get_or vs i values.Free)) is ∙ sym (unit_at-units_by vs ss ns i s n h place.in_values p q) ∙ ap (λ xs. unit_at xs i) e
 
 -- a value is written with its id
-pub unit-write : (vs : List Value) (ss : List Source) (ns : List ℕ) (us : List (Option UnitClause)) (i : ℕ) (v : Value) (s : Source) (n : ℕ) (u : UnitClause) (o : Option UnitClause) → AreEven vs ss ns → units_by vs ss ns ≡ us → known v ≡ Some u.value → id_by s n ≡ u.id → o ≡ Some u → units_by (set vs i v) (set ss i s) (set ns i n) ≡ set us i o
+pub unit-write : (vs : List Value) (ss : List Source) (ns : List ℕ) (us : List (Option UnitClause)) (i : ℕ) (v : Value) (s : Source) (n : ℕ)
+    (u : UnitClause) (o : Option UnitClause) → AreEven vs ss ns → units_by vs ss ns ≡ us → known v ≡ Some u.value → id_by s n ≡ u.id →
+    o ≡ Some u → units_by (set vs i v) (set ss i s) (set ns i n) ≡ set us i o
 unit-write vs ss ns us i v s n u o h e k id is =
     units_by-set vs ss ns i v s n h ∙ ap (λ xs. set xs i (unit_by v (id_by s n))) e ∙ ap (λ x. set us i (unit_by v x)) id ∙ ap (set us i) (unit_by-known v u.value u.id k ∙ sym is)
+
+-- a place that is there is read whatever else is given
+pub read_there : {A : Type 0} (xs : List A) (i : ℕ) (d e : A) → i < length xs → get_or xs i d ≡ get_or xs i e
+read_there [] i d e h = absurd (omega (arith, h))
+read_there (x ∷ xs) zero d e h = refl
+read_there (x ∷ xs) (suc i) d e h = read_there xs i d e (omega (arith, h))
+
+-- a value is written, and the id stays that stands there
+pub units_by-given : (vs : List Value) (ss : List Source) (ns : List ℕ) (i : ℕ) (v : Value) (b : Bool) → AreEven vs ss ns → i < length vs →
+    known v ≡ Some b → (u : UnitClause) × (u.value ≡ b) × (units_by (set vs i v) ss ns ≡ set (units_by vs ss ns) i (Some u))
+units_by-given [] ss ns i v b h less k = absurd (omega (arith, less))
+units_by-given (w ∷ vs) [] ns i v b h less k = no_source w vs ns h
+units_by-given (w ∷ vs) (t ∷ ss) [] i v b h less k = no_number w vs (t ∷ ss) h
+units_by-given (w ∷ vs) (t ∷ ss) (m ∷ ns) zero v b h less k = (record { id = id_by t m; value = b }, refl, ap (λ u. u ∷ units_by vs ss ns) (unit_by-known v b (id_by t m) k))
+units_by-given (w ∷ vs) (t ∷ ss) (m ∷ ns) (suc i) v b h less k =
+    let g = units_by-given vs ss ns i v b (tails w vs t ss m ns h) (omega (arith, less)) k in
+    (g.0, g.1, ap (λ us. unit_by w (id_by t m) ∷ us) g.2)

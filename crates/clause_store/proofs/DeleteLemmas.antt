@@ -23,7 +23,7 @@ use Rattle.clause_store.specs.declared.clauses.lower.Missing.TheVariants.{Clause
 use Rattle.clause_store.specs.Counts.{AreCounts, HoldOneMore, times_held}
 use Rattle.clause_store.specs.Lowered.{IsLeft, IsLowered, IsMissing, is_gone as is_none_left}
 use Rattle.clause_store.specs.StateOf.{hash_of}
-use Rattle.clause_store.specs.Store.{Files, is_whole}
+use Rattle.clause_store.specs.Store.{IsIndexed, is_whole}
 use Rattle.clause_store.specs.View.{stored_at, stored_in, stored_of}
 use Rattle.clause_store.proofs.EditLemmas.{here_or_there, not_equal, within_others}
 use Rattle.clause_store.proofs.FoundLemmas.{count_of-absent, lower-absent, lower-other, remaining-whole}
@@ -72,7 +72,10 @@ weight_of-lower : (w : List ℕ → ℕ) (r : Bool) (c : List ℕ) (es : List St
 weight_of-lower w r c [] a full h = cc
 weight_of-lower w r c (e ∷ es) a full h =
     let p = and_parts (not (is_stored e.lits es)) (are_apart es) a in let q = and_parts (is_whole e) (list_all is_whole es) full in let x = lower r c e in
-    elim (same_list e.lits c) as (λ b. same_list e.lits c ≡ b → w e.lits + weight_of w es ≡ weight_of w (cond (not (is_gone x)) (x ∷ remaining (map (lower r c) es)) (remaining (map (lower r c) es))) + cond (is_last r (cond b e.irredundant (count_of false c es)) (cond b e.redundant (count_of true c es))) (w c) 0) [
+    elim (same_list e.lits c) as (λ b. same_list e.lits c ≡ b →
+    w e.lits + weight_of w es ≡ weight_of w (cond (not (is_gone x)) (x ∷ remaining (map (lower r c) es))
+    (remaining (map (lower r c) es))) + cond
+    (is_last r (cond b e.irredundant (count_of false c es)) (cond b e.redundant (count_of true c es))) (w c) 0) [
       | true ↦ λ same.
           let lits = same_list-eq e.lits c same in
           let none : is_stored c es ≡ false = subst (λ d. is_stored d es ≡ false) lits (not-true (is_stored e.lits es) p.0) in
@@ -83,8 +86,13 @@ weight_of-lower w r c (e ∷ es) a full h =
       | false ↦ λ other.
           let later : is_stored c es ≡ true = sym (ap (λ b. b || is_stored c es) other) ∙ h in
           let stays : x ≡ e = lower-other r c e other in
-          subst (λ y. w e.lits + weight_of w es ≡ weight_of w (cond (not (is_gone y)) (y ∷ remaining (map (lower r c) es)) (remaining (map (lower r c) es))) + cond (is_last r (count_of false c es) (count_of true c es)) (w c) 0) (sym stays)
-          (subst (λ b. w e.lits + weight_of w es ≡ weight_of w (cond b (e ∷ remaining (map (lower r c) es)) (remaining (map (lower r c) es))) + cond (is_last r (count_of false c es) (count_of true c es)) (w c) 0) (sym (and_parts (not (is_short e.lits)) (not (is_gone e)) q.0).1)
+          subst (λ y. w e.lits + weight_of w es ≡ weight_of w
+          (cond (not (is_gone y)) (y ∷ remaining (map (lower r c) es)) (remaining (map (lower r c) es))) +
+          cond (is_last r (count_of false c es) (count_of true c es)) (w c) 0) (sym stays)
+          (subst (λ b. w e.lits + weight_of w es ≡
+          weight_of w (cond b (e ∷ remaining (map (lower r c) es)) (remaining (map (lower r c) es))) +
+          cond (is_last r (count_of false c es) (count_of true c es)) (w c) 0)
+          (sym (and_parts (not (is_short e.lits)) (not (is_gone e)) q.0).1)
           (let k = weight_of-lower w r c es p.1 q.1 later in omega (arith, k)))
     ] refl
   where
@@ -100,7 +108,9 @@ live-weight (e ∷ es) = ap (λ n. live_of e.lits + n) (live-weight es)
 pub live_literals-lower : (r : Bool) (c : List ℕ) (es : List Stored) → are_apart es ≡ true → list_all is_whole es ≡ true → is_stored c es ≡ true
     → live_literals es ≡ live_literals (remaining (map (lower r c) es)) + cond (is_last r (count_of false c es) (count_of true c es)) (live_of c) 0
 live_literals-lower r c es a full h =
-    live-weight es ∙ weight_of-lower live_of r c es a full h ∙ ap (λ n. n + cond (is_last r (count_of false c es) (count_of true c es)) (live_of c) 0) (sym (live-weight (remaining (map (lower r c) es))))
+    live-weight es ∙ weight_of-lower live_of r c es a full h ∙ ap
+    (λ n. n + cond (is_last r (count_of false c es) (count_of true c es)) (live_of c) 0)
+    (sym (live-weight (remaining (map (lower r c) es))))
 
 -- once where it is so
 abbrev one_if : Bool → ℕ
@@ -114,9 +124,12 @@ held-weight l (e ∷ es) = ap (λ n. cond (has l e.lits) 1 0 + n) (held-weight l
 pub times_held-lower : (l : ℕ) (r : Bool) (c : List ℕ) (es : List Stored) → are_apart es ≡ true → list_all is_whole es ≡ true → is_stored c es ≡ true
     → times_held l es ≡ times_held l (remaining (map (lower r c) es)) + cond (is_last r (count_of false c es) (count_of true c es)) (cond (has l c) 1 0) 0
 times_held-lower l r c es a full h =
-    held-weight l es ∙ weight_of-lower (λ ls. cond (has l ls) 1 0) r c es a full h ∙ ap (λ n. n + cond (is_last r (count_of false c es) (count_of true c es)) (cond (has l c) 1 0) 0) (sym (held-weight l (remaining (map (lower r c) es))))
+    held-weight l es ∙ weight_of-lower (λ ls. cond (has l ls) 1 0) r c es a full h ∙ ap
+    (λ n. n + cond (is_last r (count_of false c es) (count_of true c es)) (cond (has l c) 1 0) 0)
+    (sym (held-weight l (remaining (map (lower r c) es))))
 
-module _ (counts : List ℕ) (n : ℕ) (r : Bool) (c : List ℕ) (es : List Stored) (a : AreCounts counts n es) (apart : are_apart es ≡ true) (full : list_all is_whole es ≡ true) (stored : is_stored c es ≡ true) where
+module _ (counts : List ℕ) (n : ℕ) (r : Bool) (c : List ℕ) (es : List Stored) (a : AreCounts counts n es) (apart : are_apart es ≡ true)
+    (full : list_all is_whole es ≡ true) (stored : is_stored c es ≡ true) where
   -- each literal of a stored clause is held
   pub held-stored : is_last r (count_of false c es) (count_of true c es) ≡ true → (l : ℕ) → has l c ≡ true → 0 < get_or counts l 0
   held-stored last l here =
@@ -124,7 +137,8 @@ module _ (counts : List ℕ) (n : ℕ) (r : Bool) (c : List ℕ) (es : List Stor
       omega (arith, lower, all, one, a.held l)
 
   -- the last copy goes
-  pub counts-lowered : (counts' : List ℕ) → is_last r (count_of false c es) (count_of true c es) ≡ true → HoldOneMore c counts' counts → length counts' ≡ length counts → AreCounts counts' n (remaining (map (lower r c) es))
+  pub counts-lowered : (counts' : List ℕ) → is_last r (count_of false c es) (count_of true c es) ≡ true → HoldOneMore c counts' counts →
+      length counts' ≡ length counts → AreCounts counts' n (remaining (map (lower r c) es))
   counts-lowered counts' last less same = record {
     known = same ∙ a.known;
     held = λ l. let lower = times_held-lower l r c es apart full stored in let all = ap (λ b. cond b (one_if (has l c)) 0) last in omega (arith, lower, all, less l, a.held l);
@@ -138,7 +152,7 @@ module _ (counts : List ℕ) (n : ℕ) (r : Bool) (c : List ℕ) (es : List Stor
   }
 
 -- other counts of literals
-pub files-counts : (h : ClauseHasher) (cs : Clauses) (counts : List ℕ) (es : List Stored) → Files h cs es → Files h (record cs { lit_counts = counts }) es
+pub files-counts : (h : ClauseHasher) (cs : Clauses) (counts : List ℕ) (es : List Stored) → IsIndexed h cs es → IsIndexed h (record cs { lit_counts = counts }) es
 files-counts h cs counts es f = record {
   some_bits = f.some_bits;
   bits = f.bits;
@@ -151,8 +165,9 @@ files-counts h cs counts es f = record {
 }
 
 -- in one bucket
-pub files-lowered : (h : ClauseHasher) (cs : Clauses) (es : List Stored) (m : Buckets) (g : ℕ) (r : Bool) (c : List ℕ) (left : Left) → Files h cs es → IsLowered cs.literal_buffer.items (hash_of h c) r c cs.buckets m left → is_stored c es ≡ true
-    → g ≡ cs.garbage_size + cond (is_last r (count_of false c es) (count_of true c es)) (live_of c) 0 → Files h (record cs { buckets = m; garbage_size = g }) (remaining (map (lower r c) es))
+pub files-lowered : (h : ClauseHasher) (cs : Clauses) (es : List Stored) (m : Buckets) (g : ℕ) (r : Bool) (c : List ℕ) (left : Left) →
+    IsIndexed h cs es → IsLowered cs.literal_buffer.items (hash_of h c) r c cs.buckets m left → is_stored c es ≡ true
+    → g ≡ cs.garbage_size + cond (is_last r (count_of false c es) (count_of true c es)) (live_of c) 0 → IsIndexed h (record cs { buckets = m; garbage_size = g }) (remaining (map (lower r c) es))
 files-lowered h cs es m g r c left f p stored grown = record {
   some_bits = f.some_bits;
   bits = f.bits;
@@ -160,7 +175,8 @@ files-lowered h cs es m g r c left f p stored grown = record {
   bucketed = λ k.
       let serve = (buckets_serve (hash_of h) es).deleted k r c in let at = of_hash (hash_of h) k es in
       here_or_there k (hash_of h c) _ _
-      (λ e. ap (stored_in cs.literal_buffer.items m) e ∙ p.here ∙ ap (λ xs. remaining (map (lower r c) xs)) (f.bucketed (hash_of h c)) ∙ ap (λ n. remaining (map (lower r c) (of_hash (hash_of h) n es))) (sym e)
+      (λ e. ap (stored_in cs.literal_buffer.items m) e ∙ p.here ∙ ap (λ xs. remaining (map (lower r c) xs)) (f.bucketed (hash_of h c)) ∙ ap
+      (λ n. remaining (map (lower r c) (of_hash (hash_of h) n es))) (sym e)
       ∙ ap (λ b. remaining (cond b (map (lower r c) at) at)) (sym (eq-eqb (hash_of h c) k (sym e))) ∙ sym serve)
       (λ ne. ap (map (stored_of cs.literal_buffer.items)) (p.others k ne) ∙ f.bucketed k
       ∙ sym (remaining-whole at (whole-filter (λ e. eqb (hash_of h e.lits) k) es f.whole))
@@ -171,7 +187,7 @@ files-lowered h cs es m g r c left f p stored grown = record {
   used = let live = live_literals-lower r c es f.apart f.whole stored in let used = f.used in omega (arith, used, live, grown);
 }
 
-module _ (h : ClauseHasher) (cs : Clauses) (es : List Stored) (f : Files h cs es) where
+module _ (h : ClauseHasher) (cs : Clauses) (es : List Stored) (f : IsIndexed h cs es) where
   -- the clauses of a bucket are whole
   pub whole-bucket : (k : ℕ) → list_all is_whole (stored_at cs k) ≡ true
   whole-bucket k = ap (list_all is_whole) (f.bucketed k) ∙ whole-filter (λ e. eqb (hash_of h e.lits) k) es f.whole
@@ -209,7 +225,9 @@ pub is_stored-lowered : (r : Bool) (c : List ℕ) (es : List Stored) → are_apa
 is_stored-lowered r c [] a w h = cc
 is_stored-lowered r c (e ∷ es) a w h =
     let p = and_parts (not (is_stored e.lits es)) (are_apart es) a in let q = and_parts (is_whole e) (list_all is_whole es) w in let x = lower r c e in
-    elim (same_list e.lits c) as (λ b. same_list e.lits c ≡ b → is_stored c (cond (not (is_gone x)) (x ∷ remaining (map (lower r c) es)) (remaining (map (lower r c) es))) ≡ not (is_last r (cond b e.irredundant (count_of false c es)) (cond b e.redundant (count_of true c es)))) [
+    elim (same_list e.lits c) as (λ b. same_list e.lits c ≡ b →
+    is_stored c (cond (not (is_gone x)) (x ∷ remaining (map (lower r c) es)) (remaining (map (lower r c) es))) ≡
+    not (is_last r (cond b e.irredundant (count_of false c es)) (cond b e.redundant (count_of true c es)))) [
       | true ↦ λ same.
           let lits = same_list-eq e.lits c same in
           let none : is_stored c es ≡ false = subst (λ d. is_stored d es ≡ false) lits (not-true (is_stored e.lits es) p.0) in

@@ -16,7 +16,7 @@ use Rattle.clause_store.specs.Delete.{Deletes, deleted_as}
 use Rattle.clause_store.specs.Edits.{KeepsRest}
 use Rattle.clause_store.specs.Lowered.{IsLeft}
 use Rattle.clause_store.specs.StateOf.{state_of, stored_units}
-use Rattle.clause_store.specs.Store.{Files, IsStore, is_stored_unit}
+use Rattle.clause_store.specs.Store.{IsIndexed, IsStore, is_stored_unit}
 use Rattle.clause_store.specs.View.{stored_list}
 use Rattle.clause_store.proofs.DeleteLemmas.{stored_with-copy}
 use Rattle.clause_store.proofs.EditLemmas.{is_store-by, stored_list-is}
@@ -42,7 +42,8 @@ module _ (r : Bool) (c : List ℕ) (s : State) where
       ap (λ b. cond b (refuse delete_unit_or_empty s) (cond (not (is_stored c s.clauses)) (refuse delete_unknown s) stored)) long
       ∙ ap (λ b. cond (not b) (refuse delete_unknown s) stored) new
 
-  pub delete-no_copy : is_short c ≡ false → is_stored c s.clauses ≡ true → count_of r c s.clauses ≡ 0 → delete_justified r c s ≡ refuse (cond r delete_redundant_is_irredundant delete_irredundant_is_redundant) s
+  pub delete-no_copy : is_short c ≡ false → is_stored c s.clauses ≡ true → count_of r c s.clauses ≡ 0 →
+      delete_justified r c s ≡ refuse (cond r delete_redundant_is_irredundant delete_irredundant_is_redundant) s
   unfolding gone none stored
   delete-no_copy long old zero =
       ap (λ b. cond b (refuse delete_unit_or_empty s) (cond (not (is_stored c s.clauses)) (refuse delete_unknown s) stored)) long
@@ -60,7 +61,8 @@ module _ (r : Bool) (c : List ℕ) (s : State) where
       positive n h = grind (arith, common_steps)
 
 -- the state after a change of the stored clauses alone
-pub state_of-rest : (st : CheckerState) (h : ClauseHasher) (cs cs' : Clauses) (known : List Known) (es : List Stored) → KeepsRest cs cs' → stored_list cs' ≡ es → state_of st h cs' known ≡ record (state_of st h cs known) { clauses = es }
+pub state_of-rest : (st : CheckerState) (h : ClauseHasher) (cs cs' : Clauses) (known : List Known) (es : List Stored) → KeepsRest cs cs' →
+    stored_list cs' ≡ es → state_of st h cs' known ≡ record (state_of st h cs known) { clauses = es }
 state_of-rest st h cs cs' known es p same = λ i. record (state_of st h cs known) { clauses = same i; units = stored_units (p.units i); conflict = p.conflict i; next = p.next i }
 
 pub both_rest : (a b c : Clauses) → KeepsRest a b → KeepsRest b c → KeepsRest a c
@@ -75,26 +77,33 @@ rest_of-buckets cs cs' e = record {
 }
 
 -- in order after a change of the stored clauses alone
-pub store-rest : (h : ClauseHasher) (cs cs' : Clauses) (es : List Stored) → Files h cs' es → 2 * cs'.garbage_size ≤ length cs'.literal_buffer.items → KeepsRest cs cs' → AreCounts cs'.lit_counts (length cs'.unit_clauses) es → IsStore h cs → IsStore h cs'
+pub store-rest : (h : ClauseHasher) (cs cs' : Clauses) (es : List Stored) → IsIndexed h cs' es →
+    2 * cs'.garbage_size ≤ length cs'.literal_buffer.items → KeepsRest cs cs' → AreCounts cs'.lit_counts (length cs'.unit_clauses) es →
+    IsStore h cs → IsStore h cs'
 store-rest h cs cs' es f garbage rest counts s = is_store-by h cs' es f garbage (subst (λ us. list_all is_stored_unit us ≡ true) (sym rest.units) s.units) counts
 
 module _ (h : ClauseHasher) (cs : Clauses) where
   -- nothing goes
-  pub state-unchanged : (st : CheckerState) (known : List Known) (cs' : Clauses) → Files h cs' (stored_list cs) → cs' ≡ record cs { buckets = cs'.buckets } → state_of st h cs' known ≡ state_of st h cs known
+  pub state-unchanged : (st : CheckerState) (known : List Known) (cs' : Clauses) → IsIndexed h cs' (stored_list cs) →
+      cs' ≡ record cs { buckets = cs'.buckets } → state_of st h cs' known ≡ state_of st h cs known
   state-unchanged st known cs' f e = state_of-rest st h cs cs' known (stored_list cs) (rest_of-buckets cs cs' e) (stored_list-is h cs' (stored_list cs) f)
 
-  pub store-unchanged : (cs' : Clauses) → Files h cs' (stored_list cs) → cs' ≡ record cs { buckets = cs'.buckets } → IsStore h cs → IsStore h cs'
+  pub store-unchanged : (cs' : Clauses) → IsIndexed h cs' (stored_list cs) → cs' ≡ record cs { buckets = cs'.buckets } → IsStore h cs → IsStore h cs'
   store-unchanged cs' f e s =
       store-rest h cs cs' (stored_list cs) f (subst (λ (x : Clauses). 2 * x.garbage_size ≤ length x.literal_buffer.items) (sym e) s.garbage) (rest_of-buckets cs cs' e)
       (subst (λ (x : Clauses). AreCounts x.lit_counts (length x.unit_clauses) (stored_list cs)) (sym e) s.counts) s
 
   -- a copy goes, and then the garbage
-  pub deletes : (r : Bool) (c : List ℕ) → is_short c ≡ false → (st : CheckerState) (known : List Known) (taken after : Clauses) (left : Left) → IsLeft r c (stored_list cs) left → Files h taken (remaining (map (lower r c) (stored_list cs))) → KeepsRest cs taken → Files h after (stored_list taken) → KeepsRest taken after
+  pub deletes : (r : Bool) (c : List ℕ) → is_short c ≡ false →
+      (st : CheckerState) (known : List Known) (taken after : Clauses) (left : Left) → IsLeft r c (stored_list cs) left →
+      IsIndexed h taken (remaining (map (lower r c) (stored_list cs))) → KeepsRest cs taken → IsIndexed h after (stored_list taken) →
+      KeepsRest taken after
       → Deletes c r (state_of st h cs known) (state_of st h after known) left.id (deleted_as r left.irredundant left.redundant)
   deletes r c long st known taken after left p filed rest still rest' =
       let s = state_of st h cs known in let es = stored_list cs in
       let same : stored_list after ≡ remaining (map (lower r c) es) = stored_list-is h after (stored_list taken) still ∙ stored_list-is h taken (remaining (map (lower r c) es)) filed in record {
-        after = delete-copy r c s long (stored_with-copy r c es p.copy) p.copy ∙ ap accept (sym (state_of-rest st h cs after known (remaining (map (lower r c) es)) (both_rest cs taken after rest rest') same));
+        after = delete-copy r c s long (stored_with-copy r c es p.copy) p.copy ∙ ap accept
+            (sym (state_of-rest st h cs after known (remaining (map (lower r c) es)) (both_rest cs taken after rest rest') same));
         id_is = p.id;
         result_is = ap (λ n. deleted_as r n left.redundant) p.irredundant ∙ ap (deleted_as r (count_of false c es - cond r 0 1)) p.redundants;
       }

@@ -21,19 +21,25 @@ use Rattle.clause_store.specs.Counts.{AreCounts}
 use Rattle.clause_store.specs.Edits.{IsPushed, IsRaised}
 use Rattle.clause_store.specs.Lits.{IsWithin}
 use Rattle.clause_store.specs.StateOf.{hash_of}
-use Rattle.clause_store.specs.Store.{Files, IsStore, is_stored_unit, is_whole}
+use Rattle.clause_store.specs.Store.{IsIndexed, IsStore, is_stored_unit, is_whole}
 use Rattle.clause_store.specs.View.{stored_at, stored_in, stored_list, stored_of}
 use Rattle.clause_store.proofs.HeldEdits.{counts-pushed}
 use Rattle.clause_store.proofs.ViewLemmas.{above_from, list_is}
 
 -- buckets that hold a list by rising ids
-pub stored_list-is : (h : ClauseHasher) (cs : Clauses) (es : List Stored) → Files h cs es → stored_list cs ≡ es
+pub stored_list-is : (h : ClauseHasher) (cs : Clauses) (es : List Stored) → IsIndexed h cs es → stored_list cs ≡ es
 stored_list-is h cs es f = list_is cs.literal_buffer.items cs.buckets (hash_of h) es (above_from 0 cs.next_clause_id es f.rise) f.bucketed
 
-pub is_store-by : (h : ClauseHasher) (cs : Clauses) (es : List Stored) → Files h cs es → 2 * cs.garbage_size ≤ length cs.literal_buffer.items → list_all is_stored_unit cs.unit_clauses ≡ true
+pub is_store-by : (h : ClauseHasher) (cs : Clauses) (es : List Stored) → IsIndexed h cs es → 2 * cs.garbage_size ≤ length cs.literal_buffer.items → list_all is_stored_unit cs.unit_clauses ≡ true
     → AreCounts cs.lit_counts (length cs.unit_clauses) es → IsStore h cs
 is_store-by h cs es f garbage units counts =
-    let same = sym (stored_list-is h cs es f) in record { filed = subst (Files h cs) same f; garbage = garbage; units = units; counts = subst (AreCounts cs.lit_counts (length cs.unit_clauses)) same counts }
+    let same = sym (stored_list-is h cs es f) in
+    record {
+      filed = subst (IsIndexed h cs) same f;
+      garbage = garbage;
+      units = units;
+      counts = subst (AreCounts cs.lit_counts (length cs.unit_clauses)) same counts;
+    }
 
 -- a change in one bucket
 pub here_or_there : (k n : ℕ) (xs ys : List Stored) → (k ≡ n → xs ≡ ys) → ((k ≡ n → ⊥) → xs ≡ ys) → xs ≡ ys
@@ -42,7 +48,9 @@ here_or_there k n xs ys here there = ⊎_elim {C = xs ≡ ys} here there (cases_
 pub not_equal : (a b : ℕ) → (b ≡ a → ⊥) → eqb a b ≡ false
 not_equal a b e = grind (arith, nat_tests)
 
-pub within_others : (buffer : List ℕ) (m n : Buckets) (hash : ℕ) → AreWithin buffer m → All (λ d. IsWithin d.lits buffer) (clauses_at n hash) → ((k : ℕ) → (k ≡ hash → ⊥) → clauses_at n k ≡ clauses_at m k) → AreWithin buffer n
+pub within_others : (buffer : List ℕ) (m n : Buckets) (hash : ℕ) → AreWithin buffer m →
+    All (λ d. IsWithin d.lits buffer) (clauses_at n hash) → ((k : ℕ) → (k ≡ hash → ⊥) → clauses_at n k ≡ clauses_at m k) →
+    AreWithin buffer n
 within_others buffer m n hash all here others k =
     ⊎_elim {C = All (λ d. IsWithin d.lits buffer) (clauses_at n k)}
     (λ e. subst (λ x. All (λ d. IsWithin d.lits buffer) (clauses_at n x)) (sym e) here)
@@ -67,7 +75,8 @@ whole-raise r c (e ∷ es) h =
     let p = and_parts (is_whole e) (list_all is_whole es) h in let q = and_parts (not (is_short e.lits)) (not (is_gone e)) p.0 in
     and_from _ _ (and_from _ _ (ap (λ ls. not (is_short ls)) (raise-lits r c e) ∙ q.0) (ap not (gone_raised r (same_list e.lits c) e (not-true (is_gone e) q.1)))) (whole-raise r c es p.1)
 
-pub files-raised : (h : ClauseHasher) (cs : Clauses) (es : List Stored) (m : Buckets) (r : Bool) (c : List ℕ) → Files h cs es → IsRaised cs.literal_buffer.items (hash_of h c) r c cs.buckets m → Files h (record cs { buckets = m }) (map (raise r c) es)
+pub files-raised : (h : ClauseHasher) (cs : Clauses) (es : List Stored) (m : Buckets) (r : Bool) (c : List ℕ) → IsIndexed h cs es →
+    IsRaised cs.literal_buffer.items (hash_of h c) r c cs.buckets m → IsIndexed h (record cs { buckets = m }) (map (raise r c) es)
 files-raised h cs es m r c f p = record {
   some_bits = f.some_bits;
   bits = f.bits;
@@ -89,9 +98,12 @@ files-raised h cs es m r c f p = record {
 whole-push : (es : List Stored) (r : Bool) (c : List ℕ) (id : ℕ) → list_all is_whole es ≡ true → is_short c ≡ false → list_all is_whole (es ++ new_stored r c id ∷ []) ≡ true
 whole-push es r c id all long =
     list_all-append is_whole es (new_stored r c id ∷ []) ∙ ap (λ b. b && (is_whole (new_stored r c id) && true)) all
-    ∙ (elim r as (λ r. ((not (is_short c) && not (eqb (cond r 0 1) 0 && eqb (cond r 1 0) 0)) && true) ≡ true) [ true ↦ ap (λ b. (not b && true) && true) long | false ↦ ap (λ b. (not b && true) && true) long ])
+    ∙ (elim r as (λ r. ((not (is_short c) && not (eqb (cond r 0 1) 0 && eqb (cond r 1 0) 0)) && true) ≡ true)
+    [ true ↦ ap (λ b. (not b && true) && true) long | false ↦ ap (λ b. (not b && true) && true) long ])
 
-pub files-pushed : (h : ClauseHasher) (cs cs' : Clauses) (es : List Stored) (r : Bool) (c : List ℕ) → Files h cs es → IsPushed (hash_of h c) (new_stored r c cs.next_clause_id) cs cs' → is_stored c es ≡ false → is_short c ≡ false → Files h cs' (es ++ new_stored r c cs.next_clause_id ∷ [])
+pub files-pushed : (h : ClauseHasher) (cs cs' : Clauses) (es : List Stored) (r : Bool) (c : List ℕ) → IsIndexed h cs es →
+    IsPushed (hash_of h c) (new_stored r c cs.next_clause_id) cs cs' → is_stored c es ≡ false → is_short c ≡ false →
+    IsIndexed h cs' (es ++ new_stored r c cs.next_clause_id ∷ [])
 files-pushed h cs cs' es r c f p new long = let e = new_stored r c cs.next_clause_id in record {
   some_bits = f.some_bits;
   bits = f.bits;
@@ -109,14 +121,19 @@ files-pushed h cs cs' es r c f p new long = let e = new_stored r c cs.next_claus
   used = let live = live_literals_add.pushed es e in let old = f.used in omega (arith, p.used, p.garbage, live, old);
 }
 
-pub is_store-pushed : (h : ClauseHasher) (cs cs' : Clauses) (r : Bool) (c : List ℕ) → IsStore h cs → IsPushed (hash_of h c) (new_stored r c cs.next_clause_id) cs cs' → is_stored c (stored_list cs) ≡ false → is_short c ≡ false → IsStore h cs'
+pub is_store-pushed : (h : ClauseHasher) (cs cs' : Clauses) (r : Bool) (c : List ℕ) → IsStore h cs →
+    IsPushed (hash_of h c) (new_stored r c cs.next_clause_id) cs cs' → is_stored c (stored_list cs) ≡ false → is_short c ≡ false →
+    IsStore h cs'
 is_store-pushed h cs cs' r c s p new long =
     is_store-by h cs' (stored_list cs ++ new_stored r c cs.next_clause_id ∷ []) (files-pushed h cs cs' (stored_list cs) r c s.filed p new long) (omega (arith, p.used, p.garbage, s.garbage))
     (subst (λ us. list_all is_stored_unit us ≡ true) (sym p.units) s.units)
-    (subst (λ us. AreCounts cs'.lit_counts (length us) (stored_list cs ++ new_stored r c cs.next_clause_id ∷ [])) (sym p.units) (counts-pushed cs.lit_counts cs'.lit_counts (length cs.unit_clauses) (stored_list cs) (new_stored r c cs.next_clause_id) s.counts p.held p.counted))
+    (subst (λ us. AreCounts cs'.lit_counts (length us) (stored_list cs ++ new_stored r c cs.next_clause_id ∷ [])) (sym p.units)
+    (counts-pushed cs.lit_counts cs'.lit_counts (length cs.unit_clauses) (stored_list cs) (new_stored r c cs.next_clause_id) s.counts
+    p.held p.counted))
 
 -- nothing is changed
-pub files-same : (h : ClauseHasher) (cs : Clauses) (es : List Stored) (m : Buckets) → Files h cs es → ((k : ℕ) → clauses_at m k ≡ clauses_at cs.buckets k) → Files h (record cs { buckets = m }) es
+pub files-same : (h : ClauseHasher) (cs : Clauses) (es : List Stored) (m : Buckets) → IsIndexed h cs es →
+    ((k : ℕ) → clauses_at m k ≡ clauses_at cs.buckets k) → IsIndexed h (record cs { buckets = m }) es
 files-same h cs es m f same = record {
   some_bits = f.some_bits;
   bits = f.bits;

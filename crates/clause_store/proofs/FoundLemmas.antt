@@ -39,9 +39,12 @@ module _ (c : List ℕ) where
     id_among-at (x ∷ es) (suc i) w h before =
         ap (λ b. cond b x.id (id_among c es)) (before 0 (omega arith)) ∙ id_among-at es i (omega (arith, w)) h (λ k l. before (suc k) (omega (arith, l)))
 
-    pub count_of-at : (r : Bool) (es : List Stored) (i : ℕ) → i < length es → e ≡ get_or es i e → ((k : ℕ) → k < i → same_list (get_or es k e).lits c ≡ false) → count_of r c es ≡ cond r e.redundant e.irredundant
+    pub count_of-at : (r : Bool) (es : List Stored) (i : ℕ) → i < length es → e ≡ get_or es i e →
+        ((k : ℕ) → k < i → same_list (get_or es k e).lits c ≡ false) → count_of r c es ≡ cond r e.redundant e.irredundant
     count_of-at r [] i w h before = absurd (omega (arith, w))
-    count_of-at r (x ∷ es) zero w h before = ap (λ y. cond (same_list y.lits c) (cond r y.redundant y.irredundant) (count_of r c es)) (sym h) ∙ ap (λ b. cond b (cond r e.redundant e.irredundant) (count_of r c es)) same
+    count_of-at r (x ∷ es) zero w h before =
+        ap (λ y. cond (same_list y.lits c) (cond r y.redundant y.irredundant) (count_of r c es)) (sym h) ∙ ap
+        (λ b. cond b (cond r e.redundant e.irredundant) (count_of r c es)) same
     count_of-at r (x ∷ es) (suc i) w h before =
         ap (λ b. cond b (cond r x.redundant x.irredundant) (count_of r c es)) (before 0 (omega arith)) ∙ count_of-at r es i (omega (arith, w)) h (λ k l. before (suc k) (omega (arith, l)))
 
@@ -51,7 +54,8 @@ module _ (c : List ℕ) (f : Stored → Stored) (other : (e : Stored) → same_l
   change-absent [] h = refl
   change-absent (e ∷ es) h = let p = or_parts (same_list e.lits c) (is_stored c es) h in ap (λ x. x ∷ map f es) (other e p.0) ∙ ap (λ xs. e ∷ xs) (change-absent es p.1)
 
-  change-at : (e : Stored) → same_list e.lits c ≡ true → (es : List Stored) (i : ℕ) → i < length es → e ≡ get_or es i e → ((k : ℕ) → k < i → same_list (get_or es k e).lits c ≡ false) → are_apart es ≡ true → map f es ≡ set es i (f e)
+  change-at : (e : Stored) → same_list e.lits c ≡ true → (es : List Stored) (i : ℕ) → i < length es → e ≡ get_or es i e →
+      ((k : ℕ) → k < i → same_list (get_or es k e).lits c ≡ false) → are_apart es ≡ true → map f es ≡ set es i (f e)
   change-at e same [] i w h before a = absurd (omega (arith, w))
   change-at e same (x ∷ es) zero w h before a =
       let once : is_stored x.lits es ≡ false = not-true (is_stored x.lits es) (and_parts (not (is_stored x.lits es)) (are_apart es) a).0 in
@@ -70,10 +74,14 @@ raise-absent c r = change-absent c (raise r c) (raise-other r c)
 pub lower-absent : (c : List ℕ) (r : Bool) (es : List Stored) → is_stored c es ≡ false → map (lower r c) es ≡ es
 lower-absent c r = change-absent c (lower r c) (lower-other r c)
 
-pub raise-at : (c : List ℕ) (e : Stored) → same_list e.lits c ≡ true → (r : Bool) (es : List Stored) (i : ℕ) → i < length es → e ≡ get_or es i e → ((k : ℕ) → k < i → same_list (get_or es k e).lits c ≡ false) → are_apart es ≡ true → map (raise r c) es ≡ set es i (raise r c e)
+pub raise-at : (c : List ℕ) (e : Stored) → same_list e.lits c ≡ true → (r : Bool) (es : List Stored) (i : ℕ) → i < length es →
+    e ≡ get_or es i e → ((k : ℕ) → k < i → same_list (get_or es k e).lits c ≡ false) → are_apart es ≡ true →
+    map (raise r c) es ≡ set es i (raise r c e)
 raise-at c e same r = change-at c (raise r c) (raise-other r c) e same
 
-pub lower-at : (c : List ℕ) (e : Stored) → same_list e.lits c ≡ true → (r : Bool) (es : List Stored) (i : ℕ) → i < length es → e ≡ get_or es i e → ((k : ℕ) → k < i → same_list (get_or es k e).lits c ≡ false) → are_apart es ≡ true → map (lower r c) es ≡ set es i (lower r c e)
+pub lower-at : (c : List ℕ) (e : Stored) → same_list e.lits c ≡ true → (r : Bool) (es : List Stored) (i : ℕ) → i < length es →
+    e ≡ get_or es i e → ((k : ℕ) → k < i → same_list (get_or es k e).lits c ≡ false) → are_apart es ≡ true →
+    map (lower r c) es ≡ set es i (lower r c e)
 lower-at c e same r = change-at c (lower r c) (lower-other r c) e same
 
 -- the entries that are left
@@ -95,4 +103,5 @@ remaining-gone x [] i w g h = absurd (omega (arith, w))
 remaining-gone x (e ∷ es) zero w g h = ap (λ b. cond (not b) (x ∷ remaining es) (remaining es)) g ∙ remaining-whole es (and_parts (is_whole e) (list_all is_whole es) h).1
 remaining-gone x (e ∷ es) (suc i) w g h =
     let p = and_parts (is_whole e) (list_all is_whole es) h in
-    ap (λ b. cond b (e ∷ remaining (set es i x)) (remaining (set es i x))) (and_parts (not (is_short e.lits)) (not (is_gone e)) p.0).1 ∙ ap (λ xs. e ∷ xs) (remaining-gone x es i (omega (arith, w)) g p.1)
+    ap (λ b. cond b (e ∷ remaining (set es i x)) (remaining (set es i x))) (and_parts (not (is_short e.lits)) (not (is_gone e)) p.0).1 ∙ ap
+    (λ xs. e ∷ xs) (remaining-gone x es i (omega (arith, w)) g p.1)

@@ -17,7 +17,9 @@ module _ (h : List ℕ → ℕ) where
   of_hash-without k n ne [] = refl
   of_hash-without k n ne (e ∷ es) =
       let rest = of_hash-without k n ne es in
-      elim (eqb (h e.lits) k) as (λ b. eqb (h e.lits) k ≡ b → of_hash h n (cond (not b) (e ∷ filter (λ e. not (eqb (h e.lits) k)) es) (filter (λ e. not (eqb (h e.lits) k)) es)) ≡ cond (eqb (h e.lits) n) (e ∷ of_hash h n es) (of_hash h n es)) [
+      elim (eqb (h e.lits) k) as (λ b. eqb (h e.lits) k ≡ b →
+      of_hash h n (cond (not b) (e ∷ filter (λ e. not (eqb (h e.lits) k)) es) (filter (λ e. not (eqb (h e.lits) k)) es)) ≡
+      cond (eqb (h e.lits) n) (e ∷ of_hash h n es) (of_hash h n es)) [
         | true ↦ λ q. rest ∙ sym (ap (λ b. cond b (e ∷ of_hash h n es) (of_hash h n es)) (other (h e.lits) q))
         | false ↦ λ q. ap (λ xs. cond (eqb (h e.lits) n) (e ∷ xs) xs) rest
       ] refl
@@ -25,17 +27,21 @@ module _ (h : List ℕ → ℕ) where
       other : (x : ℕ) → eqb x k ≡ true → eqb x n ≡ false
       other x q = grind (arith, nat_tests, q, ne)
 
-  flat_map-without : (k : ℕ) (es : List Stored) (ks : List ℕ) → AllByRecursion (λ y. eqb k y ≡ false) ks → flat_map (λ n. of_hash h n (filter (λ e. not (eqb (h e.lits) k)) es)) ks ≡ flat_map (λ n. of_hash h n es) ks
+  flat_map-without : (k : ℕ) (es : List Stored) (ks : List ℕ) → AllByRecursion (λ y. eqb k y ≡ false) ks →
+      flat_map (λ n. of_hash h n (filter (λ e. not (eqb (h e.lits) k)) es)) ks ≡ flat_map (λ n. of_hash h n es) ks
   flat_map-without k es [] a = refl
   flat_map-without k es (n ∷ ks) a =
       ap (λ xs. xs ++ flat_map (λ n. of_hash h n (filter (λ e. not (eqb (h e.lits) k)) es)) ks) (of_hash-without k n a.0 es) ∙ ap (λ xs. of_hash h n es ++ xs) (flat_map-without k es ks a.1)
 
-  covered-without : (k : ℕ) (ks : List ℕ) (es : List Stored) → list_all (λ e. list_any (eqb (h e.lits)) (k ∷ ks)) es ≡ true → list_all (λ e. list_any (eqb (h e.lits)) ks) (filter (λ e. not (eqb (h e.lits) k)) es) ≡ true
+  covered-without : (k : ℕ) (ks : List ℕ) (es : List Stored) → list_all (λ e. list_any (eqb (h e.lits)) (k ∷ ks)) es ≡ true →
+      list_all (λ e. list_any (eqb (h e.lits)) ks) (filter (λ e. not (eqb (h e.lits) k)) es) ≡ true
   covered-without k ks [] c = refl
   covered-without k ks (e ∷ es) c =
       let p = and_parts (eqb (h e.lits) k || list_any (eqb (h e.lits)) ks) (list_all (λ e. list_any (eqb (h e.lits)) (k ∷ ks)) es) c in
       let rest = covered-without k ks es p.1 in
-      elim (eqb (h e.lits) k) as (λ b. (b || list_any (eqb (h e.lits)) ks) ≡ true → list_all (λ e. list_any (eqb (h e.lits)) ks) (cond (not b) (e ∷ filter (λ e. not (eqb (h e.lits) k)) es) (filter (λ e. not (eqb (h e.lits) k)) es)) ≡ true) [
+      elim (eqb (h e.lits) k) as (λ b. (b || list_any (eqb (h e.lits)) ks) ≡ true →
+      list_all (λ e. list_any (eqb (h e.lits)) ks)
+      (cond (not b) (e ∷ filter (λ e. not (eqb (h e.lits) k)) es) (filter (λ e. not (eqb (h e.lits) k)) es)) ≡ true) [
         | true ↦ λ q. rest
         | false ↦ λ q. and_from _ _ q rest
       ] p.0
@@ -46,7 +52,9 @@ module _ (h : List ℕ → ℕ) where
   covers [] (e ∷ es) d c = cc
   covers (k ∷ ks) es d c =
       let others = filter (λ e. not (eqb (h e.lits) k)) es in
-      let rest : IsPermutation others (flat_map (λ n. of_hash h n es) ks) = subst (IsPermutation others) (flat_map-without k es ks (IsDistinct-head eqb k ks d)) (covers ks others (IsDistinct-tail eqb k ks d) (covered-without k ks es c)) in
+      let rest : IsPermutation others (flat_map (λ n. of_hash h n es) ks) =
+      subst (IsPermutation others) (flat_map-without k es ks (IsDistinct-head eqb k ks d))
+      (covers ks others (IsDistinct-tail eqb k ks d) (covered-without k ks es c)) in
       IsPermutation-trans es (of_hash h k es ++ others) (of_hash h k es ++ flat_map (λ n. of_hash h n es) ks)
       (IsPermutation-filter_both (λ e. eqb (h e.lits) k) (λ e. not (eqb (h e.lits) k)) (λ e. refl) es)
       (IsPermutation-append_right (of_hash h k es) others (flat_map (λ n. of_hash h n es) ks) rest)
@@ -76,7 +84,11 @@ less_from n m h = cases (ltb n m) (eqb n m) refl h
 above_from_sorted : (low : ℕ) (es : List Stored) → AllByRecursion (λ y. nat_cmp low y ≡ Less) (map (λ e. e.id) es) → IsStrictlySortedBy nat_cmp (map (λ e. e.id) es) → Above (suc low) es
 above_from_sorted low [] a s = tt
 above_from_sorted low (e ∷ es) a s =
-    let l = less_from low e.id a.0 in (omega (arith, l), above_from_sorted e.id es (sorted_head nat_cmp e.id (map (λ (x : Stored). x.id) es) s) (sorted_tail nat_cmp e.id (map (λ (x : Stored). x.id) es) s))
+    let l = less_from low e.id a.0 in (
+      omega (arith, l),
+      above_from_sorted e.id es (sorted_head nat_cmp e.id (map (λ (x : Stored). x.id) es) s)
+          (sorted_tail nat_cmp e.id (map (λ (x : Stored). x.id) es) s),
+    )
 
 above_from_increasing : (es : List Stored) → IsStrictlySortedBy nat_cmp (map (λ e. e.id) es) → Above 0 es
 above_from_increasing [] s = tt
@@ -108,6 +120,8 @@ in_permutation xs ys p x i = let k = Contains-permutation xs ys x p (contains_fr
 -- a list by rising ids, and the same in another order whose ids do not fall
 pub same_from_permutation : (es xs : List Stored) → Above 0 es → IsPermutation es xs → IsNonDecreasing (map (λ e. e.id) xs) → xs ≡ es
 same_from_permutation es xs a p up =
-    let d : IsDistinct eqb (map (λ (e : Stored). e.id) xs) = IsDistinct-IsPermutation eqb eqb-comm (map (λ (e : Stored). e.id) es) (map (λ (e : Stored). e.id) xs) (IsPermutation-map (λ (e : Stored). e.id) es xs p) (distinct_from_above 0 es a) in
+    let d : IsDistinct eqb (map (λ (e : Stored). e.id) xs) =
+    IsDistinct-IsPermutation eqb eqb-comm (map (λ (e : Stored). e.id) es) (map (λ (e : Stored). e.id) xs)
+    (IsPermutation-map (λ (e : Stored). e.id) es xs p) (distinct_from_above 0 es a) in
     same_members 0 0 xs es (above_from_increasing xs (sorted_from_strictly_increasing (map (λ (e : Stored). e.id) xs) (IsStrictlyIncreasing-from_distinct (map (λ (e : Stored). e.id) xs) up d))) a
     (in_permutation xs es (IsPermutation-sym es xs p)) (in_permutation es xs p)

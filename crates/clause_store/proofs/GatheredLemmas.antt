@@ -22,7 +22,7 @@ use Rattle.clause_store.specs.declared.hash.ClauseHasher.{ClauseHasher}
 use Rattle.clause_store.specs.Buckets.{Buckets, bucket_items}
 use Rattle.clause_store.specs.Lits.{IsWithin}
 use Rattle.clause_store.specs.StateOf.{hash_of}
-use Rattle.clause_store.specs.Store.{Files}
+use Rattle.clause_store.specs.Store.{IsIndexed}
 use Rattle.clause_store.specs.View.{stored_in, stored_of}
 use Rattle.clause_store.proofs.GatherLemmas.{covers, same_from_permutation}
 use Rattle.clause_store.proofs.ViewLemmas.{In, above_from, in_filter, some_here}
@@ -37,7 +37,8 @@ all_in p (e ∷ es) f = and_from _ _ (f e (inl refl)) (all_in p es (λ x i. f x 
 
 -- the buckets by their keys
 module _ (buffer : List ℕ) (m : Buckets) where
-  flat_map-entries : (es : List (ℕ × SmallVec Clause)) → All (λ e. get nat_eq m e.0 ≡ Some e.1) es → map (stored_of buffer) (flat_map (λ b. b.items) (values_of es)) ≡ flat_map (stored_in buffer m) (keys_of es)
+  flat_map-entries : (es : List (ℕ × SmallVec Clause)) → All (λ e. get nat_eq m e.0 ≡ Some e.1) es →
+      map (stored_of buffer) (flat_map (λ b. b.items) (values_of es)) ≡ flat_map (stored_in buffer m) (keys_of es)
   flat_map-entries [] found = refl
   flat_map-entries (e ∷ es) found =
       map-append (stored_of buffer) e.1.items (flat_map (λ b. b.items) (values_of es))
@@ -55,7 +56,7 @@ ids_rise-by (x ∷ xs) up i j d le l =
     let li : i < length (x ∷ xs) = omega (arith, le, lj) in
     let a = get_or-map f (x ∷ xs) i x d li in let b = get_or-map f (x ∷ xs) j x d lj in let c = up i j x le lj in omega (arith, a, b, c)
 
-module _ (h : ClauseHasher) (cs : Clauses) (es : List Stored) (f : Files h cs es) (unique : IsUnique nat_eq cs.buckets) where
+module _ (h : ClauseHasher) (cs : Clauses) (es : List Stored) (f : IsIndexed h cs es) (unique : IsUnique nat_eq cs.buckets) where
   covered : list_all (λ e. list_any (eqb (hash_of h e.lits)) (keys cs.buckets)) es ≡ true
   covered = all_in (λ e. list_any (eqb (hash_of h e.lits)) (keys cs.buckets)) es (λ x i.
       let k = hash_of h x.lits in
@@ -64,7 +65,9 @@ module _ (h : ClauseHasher) (cs : Clauses) (es : List Stored) (f : Files h cs es
 
   pub in_other_order : IsPermutation es (map (stored_of cs.literal_buffer.items) (flat_map (λ b. b.items) (values cs.buckets)))
   in_other_order =
-      subst (IsPermutation es) (sym (flat_map-entries cs.literal_buffer.items cs.buckets cs.buckets.entries (found_all cs.literal_buffer.items cs.buckets unique) ∙ flat_map-same (stored_in cs.literal_buffer.items cs.buckets) (λ k. of_hash (hash_of h) k es) f.bucketed (keys cs.buckets)))
+      subst (IsPermutation es) (sym (flat_map-entries cs.literal_buffer.items cs.buckets cs.buckets.entries
+      (found_all cs.literal_buffer.items cs.buckets unique) ∙ flat_map-same (stored_in cs.literal_buffer.items cs.buckets)
+      (λ k. of_hash (hash_of h) k es) f.bucketed (keys cs.buckets)))
       (covers (hash_of h) (keys cs.buckets) es unique covered)
 
   -- sorted by their ids
@@ -83,7 +86,9 @@ module _ (h : ClauseHasher) (cs : Clauses) (es : List Stored) (f : Files h cs es
   all_within [] found = All-nil (λ (c : Clause). IsWithin c.lits cs.literal_buffer.items)
   all_within (e ∷ xs) found =
       let P : Clause → Type 0 = λ c. IsWithin c.lits cs.literal_buffer.items in
-      All-append P e.1.items (flat_map (λ b. b.items) (values_of xs)) (subst (λ o. All P (bucket_items o)) (found 0 e (omega arith)) (f.within e.0)) (all_within xs (λ k d l. found (suc k) d (omega (arith, l))))
+      All-append P e.1.items (flat_map (λ b. b.items) (values_of xs))
+      (subst (λ o. All P (bucket_items o)) (found 0 e (omega arith)) (f.within e.0))
+      (all_within xs (λ k d l. found (suc k) d (omega (arith, l))))
 
   pub walked_within : All (λ c. IsWithin c.lits cs.literal_buffer.items) (flat_map (λ b. b.items) (values cs.buckets))
   walked_within = all_within cs.buckets.entries (found_all cs.literal_buffer.items cs.buckets unique)

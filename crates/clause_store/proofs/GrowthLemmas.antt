@@ -12,7 +12,7 @@ use Rattle.clause_store.specs.declared.clauses.units.UnitClause.{UnitClause}
 use Rattle.clause_store.specs.declared.hash.ClauseHasher.{ClauseHasher}
 use Rattle.clause_store.specs.Counts.{AreCounts}
 use Rattle.clause_store.specs.Growth.{KnowsVars}
-use Rattle.clause_store.specs.Store.{Files, IsStore, is_stored_unit}
+use Rattle.clause_store.specs.Store.{IsIndexed, IsStore, is_stored_unit}
 use Rattle.clause_store.specs.View.{stored_list}
 use Rattle.clause_store.specs.StateOf.{state_of, stored_unit, stored_units}
 use Rattle.clause_store.proofs.HeldEdits.{counts-known}
@@ -28,7 +28,8 @@ grown-units : (us : List (Option UnitClause)) (count : ℕ) → stored_units (us
 grown-units us count = free-units us (count - length us) ∙ ap (λ n. stored_units us ++ replicate (count - n) None) (sym (length-map us (option_map stored_unit)))
 
 pub knows_vars : (count : ℕ) (cs : Clauses) (known : List Known) (us : List (Option UnitClause)) (counts : List ℕ) (known' : List Known) → length cs.unit_clauses ≡ length known
-    → us ≡ cs.unit_clauses ++ replicate (count - length cs.unit_clauses) None → counts ≡ cs.lit_counts ++ replicate (2 * count - length cs.lit_counts) 0 → known' ≡ known ++ replicate (count - length known) new_known
+    → us ≡ cs.unit_clauses ++ replicate (count - length cs.unit_clauses) None →
+    counts ≡ cs.lit_counts ++ replicate (2 * count - length cs.lit_counts) 0 → known' ≡ known ++ replicate (count - length known) new_known
     → KnowsVars count cs known (record cs { unit_clauses = us; lit_counts = counts }) known'
 knows_vars count cs known us counts known' same grown counted more = record {
   state = λ st h. rw (grown, more) (ap (λ xs. record (state_of st h cs known) { units = xs; known = known ++ replicate (count - length known) new_known }) (grown-units cs.unit_clauses count));
@@ -48,9 +49,11 @@ all-more : (us : List (Option UnitClause)) (n : ℕ) → list_all is_stored_unit
 all-more [] n h = all-free n
 all-more (u ∷ us) n h = let p = and_parts (is_stored_unit u) (list_all is_stored_unit us) h in and_from (is_stored_unit u) (list_all is_stored_unit (us ++ replicate n None)) p.0 (all-more us n p.1)
 
-in_order : (h : ClauseHasher) (cs : Clauses) (us : List (Option UnitClause)) (counts : List ℕ) → IsStore h cs → list_all is_stored_unit us ≡ true → AreCounts counts (length us) (stored_list cs) → IsStore h (record cs { unit_clauses = us; lit_counts = counts })
+in_order : (h : ClauseHasher) (cs : Clauses) (us : List (Option UnitClause)) (counts : List ℕ) → IsStore h cs →
+    list_all is_stored_unit us ≡ true → AreCounts counts (length us) (stored_list cs) →
+    IsStore h (record cs { unit_clauses = us; lit_counts = counts })
 in_order h cs us counts k all counted =
-    let filed : Files h (record cs { unit_clauses = us; lit_counts = counts }) (stored_list cs) = record {
+    let filed : IsIndexed h (record cs { unit_clauses = us; lit_counts = counts }) (stored_list cs) = record {
       some_bits = k.filed.some_bits;
       bits = k.filed.bits;
       within = k.filed.within;
@@ -66,8 +69,11 @@ in_order h cs us counts k all counted =
 pub is_store-known : (count : ℕ) (h : ClauseHasher) (cs cs' : Clauses) (known known' : List Known) → KnowsVars count cs known cs' known' → IsStore h cs → IsStore h cs'
 is_store-known count h cs cs' known known' grown k =
     let all = subst (λ (us : List (Option UnitClause)). list_all is_stored_unit us ≡ true) (sym grown.units) (all-more cs.unit_clauses (count - length cs.unit_clauses) k.units) in
-    let long = ap length grown.units ∙ length-append cs.unit_clauses (replicate (count - length cs.unit_clauses) None) ∙ ap (λ n. length cs.unit_clauses + n) (length-replicate (count - length cs.unit_clauses) None) in
-    subst (IsStore h) (sym grown.others) (in_order h cs cs'.unit_clauses cs'.lit_counts k all (counts-known cs.lit_counts cs'.lit_counts (length cs.unit_clauses) (length cs'.unit_clauses) count (stored_list cs) k.counts grown.counts long))
+    let long = ap length grown.units ∙ length-append cs.unit_clauses (replicate (count - length cs.unit_clauses) None) ∙ ap
+    (λ n. length cs.unit_clauses + n) (length-replicate (count - length cs.unit_clauses) None) in
+    subst (IsStore h) (sym grown.others) (in_order h cs cs'.unit_clauses cs'.lit_counts k all
+    (counts-known cs.lit_counts cs'.lit_counts (length cs.unit_clauses) (length cs'.unit_clauses) count
+    (stored_list cs) k.counts grown.counts long))
 
 -- so many names are known
 pub names-enough : (count : ℕ) (cs cs' : Clauses) (known known' : List Known) → KnowsVars count cs known cs' known' → count ≤ length known'

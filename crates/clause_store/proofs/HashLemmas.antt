@@ -19,7 +19,8 @@ named_hash-None m = refl
 
 module _ (names : ℕ → Option ℕ) where
   -- what comes after the first literals is still to be combined
-  pub xor_hash-from : (c : List ℕ) (i m n : ℕ) → i < length c → m ≡ get_or c i m → bit_xor (bit_xor n (named_hash (names (var_of m)) m)) (xor_hash names (drop (i + 1) c)) ≡ bit_xor n (xor_hash names (drop i c))
+  pub xor_hash-from : (c : List ℕ) (i m n : ℕ) → i < length c → m ≡ get_or c i m →
+      bit_xor (bit_xor n (named_hash (names (var_of m)) m)) (xor_hash names (drop (i + 1) c)) ≡ bit_xor n (xor_hash names (drop i c))
   unfolding xor_hash
   xor_hash-from c i m n w here =
       let rest = xor_hash names (drop (i + 1) c) in

@@ -21,7 +21,8 @@ times_held-push l (x ∷ es) e = let k = times_held-push l es e in omega (arith,
 pub counts-raised : (counts : List ℕ) (n : ℕ) (r : Bool) (c : List ℕ) (es : List Stored) → AreCounts counts n es → AreCounts counts n (map (raise r c) es)
 counts-raised counts n r c es a = record { known = a.known; held = λ l. a.held l ∙ sym (times_held-map (raise r c) (raise-lits r c) l es) }
 
-pub counts-pushed : (counts counts' : List ℕ) (n : ℕ) (es : List Stored) (e : Stored) → AreCounts counts n es → HoldOneMore e.lits counts counts' → length counts' ≡ length counts → AreCounts counts' n (es ++ e ∷ [])
+pub counts-pushed : (counts counts' : List ℕ) (n : ℕ) (es : List Stored) (e : Stored) → AreCounts counts n es →
+    HoldOneMore e.lits counts counts' → length counts' ≡ length counts → AreCounts counts' n (es ++ e ∷ [])
 counts-pushed counts counts' n es e a more same = record {
   known = same ∙ a.known;
   held = λ l. more l ∙ ap (λ k. k + cond (has l e.lits) 1 0) (a.held l) ∙ sym (times_held-push l es e);
@@ -40,8 +41,10 @@ new-none counts k l =
     zeros (x ∷ xs) k zero h = absurd (omega (arith, h))
     zeros (x ∷ xs) k (suc l) h = zeros xs k l (omega (arith, h))
 
-pub counts-known : (counts counts' : List ℕ) (n m count : ℕ) (es : List Stored) → AreCounts counts n es → counts' ≡ counts ++ replicate (2 * count - length counts) 0 → m ≡ n + (count - n) → AreCounts counts' m es
+pub counts-known : (counts counts' : List ℕ) (n m count : ℕ) (es : List Stored) → AreCounts counts n es →
+    counts' ≡ counts ++ replicate (2 * count - length counts) 0 → m ≡ n + (count - n) → AreCounts counts' m es
 counts-known counts counts' n m count es a grown more = record {
-  known = let long = ap length grown ∙ length-append counts (replicate (2 * count - length counts) 0) in let new = length-replicate {A = ℕ} (2 * count - length counts) 0 in omega (arith, long, new, a.known, more);
+  known = let long = ap length grown ∙ length-append counts (replicate (2 * count - length counts) 0) in let new =
+      length-replicate {A = ℕ} (2 * count - length counts) 0 in omega (arith, long, new, a.known, more);
   held = λ l. ap (λ (xs : List ℕ). get_or xs l 0) grown ∙ new-none counts (2 * count - length counts) l ∙ a.held l;
 }

@@ -40,7 +40,8 @@ long_is [] w = absurd (omega (arith, w))
 long_is (l ∷ []) w = absurd (omega (arith, w))
 long_is (l ∷ k ∷ ls) w = refl
 
-pub long-stands : (c : List ℕ) (r : Bool) (s : State) (id n : ℕ) → 1 < length c → Some (id, n) ≡ found_in c s.clauses → count_of r c s.clauses < count_limit → Stores c r s (record s { clauses = map (raise r c) s.clauses }) id (raised_as r n)
+pub long-stands : (c : List ℕ) (r : Bool) (s : State) (id n : ℕ) → 1 < length c → Some (id, n) ≡ found_in c s.clauses →
+    count_of r c s.clauses < count_limit → Stores c r s (record s { clauses = map (raise r c) s.clauses }) id (raised_as r n)
 long-stands [] r s id n w e few = absurd (omega (arith, w))
 long-stands (l ∷ []) r s id n w e few = absurd (omega (arith, w))
 long-stands (l ∷ k ∷ ls) r s id n w e few =
@@ -55,7 +56,8 @@ long-stands (l ∷ k ∷ ls) r s id n w e few =
       result_is = ap (λ (x : ℕ × ℕ). raised_as r x.1) p.1 ∙ sym (ap (λ b. cond b (raised_as r (count_of false c es)) New) p.0);
     }
 
-pub long-new : (c : List ℕ) (r : Bool) (s : State) → 1 < length c → is_stored c s.clauses ≡ false → s.next < id_limit → Stores c r s (record s { clauses = s.clauses ++ new_stored r c s.next ∷ []; next = s.next + 1 }) s.next New
+pub long-new : (c : List ℕ) (r : Bool) (s : State) → 1 < length c → is_stored c s.clauses ≡ false → s.next < id_limit →
+    Stores c r s (record s { clauses = s.clauses ++ new_stored r c s.next ∷ []; next = s.next + 1 }) s.next New
 long-new [] r s w new room = absurd (omega (arith, w))
 long-new (l ∷ []) r s w new room = absurd (omega (arith, w))
 long-new (l ∷ k ∷ ls) r s w new room =
@@ -84,20 +86,27 @@ long-full c r s w many = counters-count r c (not (stands c s)) s accept (ap not 
     ] refl
 
 -- the state after a count was raised
-pub state_of-buckets : (st : CheckerState) (h : ClauseHasher) (cs : Clauses) (known : List Known) (m : Buckets) (es : List Stored) → stored_list (record cs { buckets = m }) ≡ es → state_of st h (record cs { buckets = m }) known ≡ record (state_of st h cs known) { clauses = es }
+pub state_of-buckets : (st : CheckerState) (h : ClauseHasher) (cs : Clauses) (known : List Known) (m : Buckets) (es : List Stored) →
+    stored_list (record cs { buckets = m }) ≡ es →
+    state_of st h (record cs { buckets = m }) known ≡ record (state_of st h cs known) { clauses = es }
 state_of-buckets st h cs known m es e = ap (λ xs. record (state_of st h cs known) { clauses = xs }) e
 
 -- the state after a clause was pushed
-state_of-pushed : (st : CheckerState) (h : ClauseHasher) (cs cs' : Clauses) (known : List Known) (hash : ℕ) (e : Stored) (es : List Stored) → IsPushed hash e cs cs' → stored_list cs' ≡ es → state_of st h cs' known ≡ record (state_of st h cs known) { clauses = es; next = cs.next_clause_id + 1 }
+state_of-pushed : (st : CheckerState) (h : ClauseHasher) (cs cs' : Clauses) (known : List Known) (hash : ℕ) (e : Stored)
+    (es : List Stored) → IsPushed hash e cs cs' → stored_list cs' ≡ es →
+    state_of st h cs' known ≡ record (state_of st h cs known) { clauses = es; next = cs.next_clause_id + 1 }
 state_of-pushed st h cs cs' known hash e es p same = λ i. record (state_of st h cs known) { clauses = same i; units = stored_units (p.units i); conflict = p.conflict i; next = p.next i }
 
 module _ (h : ClauseHasher) (cs cs' : Clauses) (c : List ℕ) (r : Bool) (long : 1 < length c) (s : IsStore h cs) (new : is_stored c (stored_list cs) ≡ false) where
-  pub answers-pushed : (st : CheckerState) (known : List Known) (res : Result (ℕ × StoreClauseResult) StoreFault) → AnswersPush res (hash_of h c) c r cs cs' → AnswersStore res c r (state_of st h cs known) (state_of st h cs' known)
+  pub answers-pushed : (st : CheckerState) (known : List Known) (res : Result (ℕ × StoreClauseResult) StoreFault) →
+      AnswersPush res (hash_of h c) c r cs cs' → AnswersStore res c r (state_of st h cs known) (state_of st h cs' known)
   answers-pushed st known (Ok p) a =
       let before = state_of st h cs known in
       let es = stored_list cs ++ new_stored r c cs.next_clause_id ∷ [] in
       let after : State = record before { clauses = es; next = cs.next_clause_id + 1 } in
-      subst (λ t. Stores c r before t p.0 p.1) (sym (state_of-pushed st h cs cs' known (hash_of h c) (new_stored r c cs.next_clause_id) es a.2 (stored_list-is h cs' es (files-pushed h cs cs' (stored_list cs) r c s.filed a.2 new (long_is c long)))))
+      subst (λ t. Stores c r before t p.0 p.1)
+      (sym (state_of-pushed st h cs cs' known (hash_of h c) (new_stored r c cs.next_clause_id) es a.2
+      (stored_list-is h cs' es (files-pushed h cs cs' (stored_list cs) r c s.filed a.2 new (long_is c long)))))
       (subst (λ (x : ℕ × StoreClauseResult). Stores c r before after x.0 x.1) (sym a.1) (long-new c r before long new a.0))
   answers-pushed st known (Err OutOfMemory) a = tt
   answers-pushed st known (Err IdsExhausted) a = (answers-ids c r (state_of st h cs known) (long-other c (state_of st h cs known) long ∙ new) a.0, ap (λ x. state_of st h x known) a.1)

@@ -32,8 +32,10 @@ long_all buffer (c ∷ cs) h zero d l =
 long_all buffer (c ∷ cs) h (suc k) d l = long_all buffer cs (and_parts (is_whole (stored_of buffer c)) (list_all is_whole (map (stored_of buffer) cs)) h).1 k d (omega (arith, l))
 
 -- one clause more is moved
-module _ (buffer old new : List ℕ) (all moved : List Clause) (i : ℕ) (c : Clause) (ls : ClauseLits) (here : c ≡ get_or all i c) (before : i < length all) (kept : take (length old) new ≡ old) (lits : lits_of ls new ≡ lits_of c.lits buffer) where
-  pub moved-same : All (λ c. IsWithin c.lits old) moved → map (stored_of old) moved ≡ map (stored_of buffer) (take i all) → map (stored_of new) (moved ++ record c { lits = ls } ∷ []) ≡ map (stored_of buffer) (take (i + 1) all)
+module _ (buffer old new : List ℕ) (all moved : List Clause) (i : ℕ) (c : Clause) (ls : ClauseLits) (here : c ≡ get_or all i c)
+    (before : i < length all) (kept : take (length old) new ≡ old) (lits : lits_of ls new ≡ lits_of c.lits buffer) where
+  pub moved-same : All (λ c. IsWithin c.lits old) moved → map (stored_of old) moved ≡ map (stored_of buffer) (take i all) →
+      map (stored_of new) (moved ++ record c { lits = ls } ∷ []) ≡ map (stored_of buffer) (take (i + 1) all)
   moved-same within same =
       map-append (stored_of new) moved (record c { lits = ls } ∷ []) ∙ ap (λ es. es ++ stored_of new (record c { lits = ls }) ∷ []) (stored_of-kept old new kept moved within ∙ same)
       ∙ ap (λ xs. map (stored_of buffer) (take i all) ++ record (stored_of buffer c) { lits = xs } ∷ []) lits
@@ -43,12 +45,18 @@ module _ (buffer old new : List ℕ) (all moved : List Clause) (i : ℕ) (c : Cl
   pub moved-within : All (λ c. IsWithin c.lits old) moved → length old ≤ length new → IsWithin ls new → All (λ c. IsWithin c.lits new) (moved ++ record c { lits = ls } ∷ [])
   moved-within within longer inside = All-push (λ c. IsWithin c.lits new) moved (record c { lits = ls }) (λ k d l. let w = within k d l in omega (arith, w, longer)) inside
 
-  pub moved-used : length new ≡ length old + live_of (lits_of c.lits buffer) → length old ≡ live_literals (map (stored_of buffer) (take i all)) → length new ≡ live_literals (map (stored_of buffer) (take (i + 1) all))
+  pub moved-used : length new ≡ length old + live_of (lits_of c.lits buffer) →
+      length old ≡ live_literals (map (stored_of buffer) (take i all)) →
+      length new ≡ live_literals (map (stored_of buffer) (take (i + 1) all))
   moved-used grown used =
       let live = live_literals_add.pushed (map (stored_of buffer) (take i all)) (stored_of buffer c) in
       grown ∙ ap (λ n. n + live_of (lits_of c.lits buffer)) used ∙ sym live
       ∙ ap (λ x. live_literals (map (stored_of buffer) (take i all) ++ stored_of buffer x ∷ [])) here ∙ sym (ap live_literals (map_more (stored_of buffer) all i c before))
 
 -- new buckets hold the clauses by their hashes, where they were made of the same clauses
-pub rebuilt_by : (f : List ℕ → ℕ) (m : Buckets) (es : List Stored) (buffer b : List ℕ) (all xs : List Clause) → b ≡ buffer → xs ≡ all → map (stored_of buffer) all ≡ es → ((k : ℕ) → stored_in b m k ≡ of_hash f k (map (stored_of b) xs)) → (k : ℕ) → stored_in buffer m k ≡ of_hash f k es
-rebuilt_by f m es buffer b all xs p q r t k = ap (λ y. stored_in y m k) (sym p) ∙ t k ∙ ap (λ y. of_hash f k (map (stored_of y) xs)) p ∙ ap (λ ys. of_hash f k (map (stored_of buffer) ys)) q ∙ ap (of_hash f k) r
+pub rebuilt_by : (f : List ℕ → ℕ) (m : Buckets) (es : List Stored) (buffer b : List ℕ) (all xs : List Clause) → b ≡ buffer → xs ≡ all →
+    map (stored_of buffer) all ≡ es → ((k : ℕ) → stored_in b m k ≡ of_hash f k (map (stored_of b) xs)) → (k : ℕ) →
+    stored_in buffer m k ≡ of_hash f k es
+rebuilt_by f m es buffer b all xs p q r t k =
+    ap (λ y. stored_in y m k) (sym p) ∙ t k ∙ ap (λ y. of_hash f k (map (stored_of y) xs)) p ∙ ap
+    (λ ys. of_hash f k (map (stored_of buffer) ys)) q ∙ ap (of_hash f k) r

@@ -32,7 +32,9 @@ length-stored : (us : List (Option UnitClause)) → length (stored_units us) ≡
 length-stored us = length-map us (option_map stored_unit)
 
 -- the units and the variables are as many after names were applied
-pub pending-length : (st : CheckerState) (h h' : ClauseHasher) (cs cs' : Clauses) (known : List Known) → WellFormed (state_of st h cs known) → state_of st h' cs' known ≡ apply_if_named (state_of st h cs known) → length cs'.unit_clauses ≡ length known
+pub pending-length : (st : CheckerState) (h h' : ClauseHasher) (cs cs' : Clauses) (known : List Known) →
+    WellFormed (state_of st h cs known) → state_of st h' cs' known ≡ apply_if_named (state_of st h cs known) →
+    length cs'.unit_clauses ≡ length known
 pending-length st h h' cs cs' known form e =
     let s = state_of st h cs known in
     let same : stored_units cs'.unit_clauses ≡ stored_units cs.unit_clauses = ap (λ (x : State). x.units) e ∙ pending-units s in
@@ -43,7 +45,8 @@ pub ready-form : (s t : State) (c : List ℕ) → Sound s → t ≡ ready s c �
 ready-form s t c k e = subst WellFormed (sym e) (form-ready s c k.form)
 
 -- there the variables of the stored clauses are known
-pub ready-known : (st : CheckerState) (h : ClauseHasher) (cs : Clauses) (known : List Known) → IsStore h cs → WellFormed (state_of st h cs known) → AreAllKnown cs.unit_clauses cs.literal_buffer.items cs.buckets
+pub ready-known : (st : CheckerState) (h : ClauseHasher) (cs : Clauses) (known : List Known) → IsStore h cs →
+    WellFormed (state_of st h cs known) → AreAllKnown cs.unit_clauses cs.literal_buffer.items cs.buckets
 ready-known st h cs known store form = check_is_by_rules.all_known st h cs known store.filed.bucketed form
 
 -- the outcome by what was found
@@ -55,26 +58,31 @@ check-passed s c hs e =
 pub check-no_clause : (s : State) (c hs : List ℕ) → clause_passes (ready s c) c hs ≡ false → none_empty (buckets (ready s c) hs) ≡ false → check s c hs accept ≡ refuse no_clause_for_hash (ready s c)
 check-no_clause s c hs e n =
     let r = ready s c in
-    ap (λ b. cond b (accept r) (cond (none_empty (buckets r hs)) (refuse at_check_failed r) (refuse no_clause_for_hash r))) e ∙ ap (λ b. cond b (refuse at_check_failed r) (refuse no_clause_for_hash r)) n
+    ap (λ b. cond b (accept r) (cond (none_empty (buckets r hs)) (refuse at_check_failed r) (refuse no_clause_for_hash r))) e ∙ ap
+    (λ b. cond b (refuse at_check_failed r) (refuse no_clause_for_hash r)) n
 
 pub check-failed : (s : State) (c hs : List ℕ) → clause_passes (ready s c) c hs ≡ false → none_empty (buckets (ready s c) hs) ≡ true → check s c hs accept ≡ refuse at_check_failed (ready s c)
 check-failed s c hs e n =
     let r = ready s c in
-    ap (λ b. cond b (accept r) (cond (none_empty (buckets r hs)) (refuse at_check_failed r) (refuse no_clause_for_hash r))) e ∙ ap (λ b. cond b (refuse at_check_failed r) (refuse no_clause_for_hash r)) n
+    ap (λ b. cond b (accept r) (cond (none_empty (buckets r hs)) (refuse at_check_failed r) (refuse no_clause_for_hash r))) e ∙ ap
+    (λ b. cond b (refuse at_check_failed r) (refuse no_clause_for_hash r)) n
 
 -- what the check found, in the state in which the clause is checked
-pub ready-answers : (st : CheckerState) (h : ClauseHasher) (cs : Clauses) (known : List Known) (buffer c hs : List ℕ) (a : Answer) (s : State) → IsStore h cs → Sound s → state_of st h cs known ≡ ready s c → is_tautology c ≡ false
+pub ready-answers : (st : CheckerState) (h : ClauseHasher) (cs : Clauses) (known : List Known) (buffer c hs : List ℕ) (a : Answer)
+    (s : State) → IsStore h cs → Sound s → state_of st h cs known ≡ ready s c → is_tautology c ≡ false
     → buffer ≡ cs.literal_buffer.items → check_answer a ≡ clause_answer (stored_units cs.unit_clauses) c (named_buckets buffer cs.buckets hs) → AnswersCheck (ready s c) c hs a
 ready-answers st h cs known buffer c hs a s store sound here apart whole e =
     let is = subst (λ (b : List ℕ). check_answer a ≡ clause_answer (stored_units cs.unit_clauses) c (named_buckets b cs.buckets hs)) whole e in
     subst (λ (r : State). AnswersCheck r c hs a) here (check_is_by_rules.answers st h cs known c hs a store.filed.bucketed (ready-form s (state_of st h cs known) c sound here) apart is)
 
 -- the state with the units of before
-pub same-units : (st : CheckerState) (h : ClauseHasher) (cs : Clauses) (known : List Known) (us : List (Option UnitClause)) (t : State) → us ≡ cs.unit_clauses → state_of st h cs known ≡ t → state_of st h (record cs { unit_clauses = us }) known ≡ t
+pub same-units : (st : CheckerState) (h : ClauseHasher) (cs : Clauses) (known : List Known) (us : List (Option UnitClause)) (t : State) →
+    us ≡ cs.unit_clauses → state_of st h cs known ≡ t → state_of st h (record cs { unit_clauses = us }) known ≡ t
 same-units st h cs known us t e here = ap (λ (us : List (Option UnitClause)). state_of st h (record cs { unit_clauses = us }) known) e ∙ here
 
 -- the ids that a traced check leaves where it passes
-pub ready-trace : (st : CheckerState) (h : ClauseHasher) (cs : Clauses) (known : List Known) (buffer c hs before now : List ℕ) (a : Answer) (traced : Bool) (s : State) → IsStore h cs → state_of st h cs known ≡ ready s c → buffer ≡ cs.literal_buffer.items
+pub ready-trace : (st : CheckerState) (h : ClauseHasher) (cs : Clauses) (known : List Known) (buffer c hs before now : List ℕ) (a : Answer)
+    (traced : Bool) (s : State) → IsStore h cs → state_of st h cs known ≡ ready s c → buffer ≡ cs.literal_buffer.items
     → a ≡ Passed → traced ≡ true → now ≡ last_trace traced a (clause_trace (stored_units cs.unit_clauses) c (named_clauses buffer cs.buckets hs)) before → now ≡ check_trace (ready s c) c hs
 ready-trace st h cs known buffer c hs before now a traced s store here whole passed on e =
     let ids = clause_trace (stored_units cs.unit_clauses) c (named_clauses buffer cs.buckets hs) in

@@ -14,14 +14,15 @@ use Rattle.checker_parts.specs.declared.error.CheckerError.TheVariants.{ProofInc
 use Rattle.clause_store.specs.declared.clauses.Clauses.{Clauses}
 use Rattle.clause_store.specs.declared.hash.ClauseHasher.{ClauseHasher}
 use Rattle.clause_store.specs.declared.state.CheckerState.{CheckerState}
-use Rattle.clause_store.specs.Kept.{Kept}
+use Rattle.clause_store.specs.PartsInvariant.{PartsInvariant}
 use Rattle.clause_store.specs.Refusal.{RefusesWith}
 use Rattle.clause_store.specs.StateOf.{state_of}
 use Rattle.clause_store.specs.Store.{IsStore}
 use Rattle.checker_rules.proofs.SoundStates.{sound_after}
 
 -- a refusal answers an outcome that refuses with its cause
-pub answers-refusal : (e : CheckerError) (n : ℕ) (msg : CheckCause) (cause : Cause) (o : Outcome) (s : State) → RefusesWith n msg e → cause_of msg ≡ cause → o.refused ≡ Some cause → s ≡ o.after → n ≡ s.steps
+pub answers-refusal : (e : CheckerError) (n : ℕ) (msg : CheckCause) (cause : Cause) (o : Outcome) (s : State) → RefusesWith n msg e →
+    cause_of msg ≡ cause → o.refused ≡ Some cause → s ≡ o.after → n ≡ s.steps
     → AnswersParts {A = Unit {0}} (Err e) o s
 answers-refusal (CheckFailed number found debug_step) n msg cause o s h named refused after counted =
     subst (λ (x : Cause). IsRefusal x number o s) (sym (ap cause_of h.1 ∙ named)) (refused, after, h.0 ∙ counted)
@@ -43,11 +44,13 @@ answers-unless-memory (Err (ProofProcessorError fault)) o s h e = tt
 answers-unless-memory (Err OutOfMemory) o s h e = tt
 answers-unless-memory (Err Failed) o s h e = absurd cc
 
-refused-again : (cause : Cause) (number : ℕ) (o p : Outcome) (s : State) → ((cause : Cause) → o.refused ≡ Some cause → p ≡ refuse cause o.after) → IsRefusal cause number o s → IsRefusal cause number p s
+refused-again : (cause : Cause) (number : ℕ) (o p : Outcome) (s : State) →
+    ((cause : Cause) → o.refused ≡ Some cause → p ≡ refuse cause o.after) → IsRefusal cause number o s → IsRefusal cause number p s
 refused-again cause number o p s f h = let e = f cause h.0 in (ap (λ (x : Outcome). x.refused) e, h.1 ∙ sym (ap (λ (x : Outcome). x.after) e), h.2)
 
 -- the refusal of a part is that of the whole
-pub answers-part : (e : CheckerError) (o p : Outcome) (s : State) → ((cause : Cause) → o.refused ≡ Some cause → p ≡ refuse cause o.after) → AnswersParts {A = Unit {0}} (Err e) o s → AnswersParts {A = Unit {0}} (Err e) p s
+pub answers-part : (e : CheckerError) (o p : Outcome) (s : State) → ((cause : Cause) → o.refused ≡ Some cause → p ≡ refuse cause o.after) →
+    AnswersParts {A = Unit {0}} (Err e) o s → AnswersParts {A = Unit {0}} (Err e) p s
 answers-part (CheckFailed number msg debug_step) o p s f h = refused-again (cause_of msg) number o p s f h
 answers-part (ProofIncomplete number) o p s f h = absurd h
 answers-part (IoError number read) o p s f h = absurd h
@@ -79,8 +82,8 @@ unless-both (Err OutOfMemory) f p q = tt
 unless-both (Err Failed) f p q = tt
 
 -- what the parts keep, from the answer of a step
-pub kept-answer : {A : Type 0} (r : Result A CheckerError) (st st' : CheckerState) (h h' : ClauseHasher) (cs cs' : Clauses) (known known' : List Known) (t : Step) → Kept st h cs known
-    → AnswersParts r (step (state_of st h cs known) t) (state_of st' h' cs' known') → UnlessFailed r (IsStore h' cs') → UnlessFailed r (Kept st' h' cs' known')
+pub kept-answer : {A : Type 0} (r : Result A CheckerError) (st st' : CheckerState) (h h' : ClauseHasher) (cs cs' : Clauses) (known known' : List Known) (t : Step) → PartsInvariant st h cs known
+    → AnswersParts r (step (state_of st h cs known) t) (state_of st' h' cs' known') → UnlessFailed r (IsStore h' cs') → UnlessFailed r (PartsInvariant st' h' cs' known')
 kept-answer r st st' h h' cs cs' known known' t kept answers store =
     unless-both r (λ sound store. record { sound = sound; store = store })
     (sound-answer r (step (state_of st h cs known) t) (state_of st' h' cs' known') (sound_after (state_of st h cs known) t kept.sound) answers) store

@@ -1,7 +1,9 @@
 -- What follows from a clause, literal by literal.
-use Rattle.std.proofs.Common.{◌≡◌, ℕ, ◌+◌, ◌<◌, Bool, false, cond, List, ◌∷◌, length, drop, get_or, Option, None, Some, refl, sym, ap, ◌∙◌}
+use Rattle.std.proofs.Common.{◌≡◌, ℕ, zero, suc, [], arith, ◌+◌, ◌<◌, Bool, false, cond, List, ◌∷◌, length, drop, get_or, Option, None, Some, refl, sym, ap, ◌∙◌}
 use Rattle.std.specs.List.{list_any}
 use Rattle.std.proofs.lemmas.List.{drop_more}
+use Rattle.checker_rules.specs.Canonical.{var_bound}
+use Rattle.checker_rules.specs.Clauses.{var_of}
 use Rattle.checker_rules.specs.Passes.{by_count, unfalsified}
 use Rattle.clause_store.specs.declared.clauses.units.UnitClause.{UnitClause}
 use Rattle.clause_store.specs.declared.rup.status.ClauseStatus.{ClauseStatus}
@@ -28,5 +30,12 @@ pub status_from-false : (us : List (Option UnitClause)) (t : ClauseStatus) (m : 
 status_from-false us t m c h = let s = true_lits-truth us m ∙ ap truth h in let n = true_lits-falsity us m ∙ ap falsity h in rw (s, n) refl
 
 -- the first free literal
-pub status_from-free : (us : List (Option UnitClause)) (m : ℕ) (c : List ℕ) → lit_value us m ≡ None → status_from (true_lits us) statuses.Falsified (m ∷ c) ≡ status_from (true_lits us) (statuses.Unit m) c
+pub status_from-free : (us : List (Option UnitClause)) (m : ℕ) (c : List ℕ) → lit_value us m ≡ None →
+    status_from (true_lits us) statuses.Falsified (m ∷ c) ≡ status_from (true_lits us) (statuses.Unit m) c
 status_from-free us m c h = let s = true_lits-truth us m ∙ ap truth h in let n = true_lits-falsity us m ∙ ap falsity h in rw (s, n) refl
+
+-- the variable of an element is below the bound of the list
+pub below_bound : (xs : List ℕ) (i m : ℕ) → i < length xs → m ≡ get_or xs i m → var_of m < var_bound xs
+below_bound [] i m lt e = absurd (omega (arith, lt))
+below_bound (x ∷ xs) zero m lt e = let same : var_of m ≡ var_of x = ap var_of e in omega (arith, same)
+below_bound (x ∷ xs) (suc i) m lt e = let up = below_bound xs i m (omega (arith, lt)) e in omega (arith, up)

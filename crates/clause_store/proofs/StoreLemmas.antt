@@ -18,14 +18,14 @@ use Rattle.clause_store.specs.declared.hash.ClauseHasher.{ClauseHasher}
 use Rattle.clause_store.specs.Counts.{AreCounts}
 use Rattle.clause_store.specs.Found.{found_in}
 use Rattle.clause_store.specs.StateOf.{hash_of, stored_unit, stored_units}
-use Rattle.clause_store.specs.Store.{Files, IsStore, is_stored_unit}
+use Rattle.clause_store.specs.Store.{IsIndexed, IsStore, is_stored_unit}
 use Rattle.clause_store.specs.Units.{unit_at}
 use Rattle.clause_store.specs.View.{stored_at, stored_list}
 use Rattle.clause_store.proofs.AnswerLemmas.{is_stored-short}
 use Rattle.clause_store.proofs.BucketLemmas.{count_limit-some}
 use Rattle.clause_store.proofs.FoundLemmas.{count_of-absent}
 
-module _ (h : ClauseHasher) (cs : Clauses) (es : List Stored) (f : Files h cs es) where
+module _ (h : ClauseHasher) (cs : Clauses) (es : List Stored) (f : IsIndexed h cs es) where
   -- a bucket answers for all
   pub count_of-bucket : (r : Bool) (c : List ℕ) → count_of r c (stored_at cs (hash_of h c)) ≡ count_of r c es
   count_of-bucket r c = ap (count_of r c) (f.bucketed (hash_of h c)) ∙ (buckets_serve (hash_of h) es).count r c
@@ -50,7 +50,9 @@ ids_rise-more a n m [] le h = grind (arith, le, h)
 ids_rise-more a n m (e ∷ es) le h = let k = and_parts (leb a e.id) (ids_rise (suc e.id) es n) h in and_from _ _ k.0 (ids_rise-more (suc e.id) n m es le k.1)
 
 -- other units and a later id
-pub is_store-units : (h : ClauseHasher) (cs : Clauses) (us : List (Option UnitClause)) (conflict : Option (ℕ × ℕ)) (n : ℕ) → cs.next_clause_id ≤ n → list_all is_stored_unit us ≡ true → length us ≡ length cs.unit_clauses → IsStore h cs → IsStore h (record cs { unit_clauses = us; unit_conflict = conflict; next_clause_id = n })
+pub is_store-units : (h : ClauseHasher) (cs : Clauses) (us : List (Option UnitClause)) (conflict : Option (ℕ × ℕ)) (n : ℕ) →
+    cs.next_clause_id ≤ n → list_all is_stored_unit us ≡ true → length us ≡ length cs.unit_clauses → IsStore h cs →
+    IsStore h (record cs { unit_clauses = us; unit_conflict = conflict; next_clause_id = n })
 is_store-units h cs us conflict n le units long s = record {
   filed = let f = s.filed in record {
     some_bits = f.some_bits;

@@ -34,7 +34,8 @@ unlisted_lits-at_rest us m h = ap (λ b. is_some (stored_id (unit_at us (var_of 
     same (Some u) k = rw k refl
 
 -- a value that is no stored unit's overwrites one
-pub unlisted_lits-set : (us : List (Option UnitClause)) (v m : ℕ) (u : UnitClause) → v < length us → number_of u.id ≡ None → unlisted_lits (set us v (Some u)) m ≡ (unlisted_lits us m && not (eqb (var_of m) v))
+pub unlisted_lits-set : (us : List (Option UnitClause)) (v m : ℕ) (u : UnitClause) → v < length us → number_of u.id ≡ None →
+    unlisted_lits (set us v (Some u)) m ≡ (unlisted_lits us m && not (eqb (var_of m) v))
 unlisted_lits-set us v m u known new = ⊎_elim {C = unlisted_lits (set us v (Some u)) m ≡ (unlisted_lits us m && not (eqb (var_of m) v))} here apart (cases_eq (var_of m) v)
   where
     and_false : (a : Bool) → (a && false) ≡ false
@@ -52,7 +53,8 @@ unlisted_lits-set us v m u known new = ⊎_elim {C = unlisted_lits (set us v (So
     apart : (var_of m ≡ v → ⊥) → unlisted_lits (set us v (Some u)) m ≡ (unlisted_lits us m && not (eqb (var_of m) v))
     apart ne =
         let same : unit_at (set us v (Some u)) (var_of m) ≡ unit_at us (var_of m) = get_or-set_other us v (var_of m) (Some u) None ne in
-        ap (λ o. is_some (stored_id o) && true_lits (set us v (Some u)) m) same ∙ ap (λ b. is_some (stored_id (unit_at us (var_of m))) && b) (true_lits-by (set us v (Some u)) m ∙ ap (λ o. makes_true (option_map stored_unit o) m) same ∙ sym (true_lits-by us m))
+        ap (λ o. is_some (stored_id o) && true_lits (set us v (Some u)) m) same ∙ ap (λ b. is_some (stored_id (unit_at us (var_of m))) && b)
+        (true_lits-by (set us v (Some u)) m ∙ ap (λ o. makes_true (option_map stored_unit o) m) same ∙ sym (true_lits-by us m))
         ∙ and_true (unlisted_lits us m) ∙ ap (λ b. unlisted_lits us m && not b) (sym (ne_eqb (var_of m) v ne))
 
 pub keeps-set : (us : List (Option UnitClause)) (v : ℕ) (u : UnitClause) → v < length us → number_of u.id ≡ None → KeepsStored us (set us v (Some u))
@@ -68,7 +70,8 @@ keeps-then us vs ws h k v e = h v (ap (λ o. is_some (stored_id o)) (k v e) ∙ 
 pub keeps-agree : (us vs : List (Option UnitClause)) → KeepsStored us vs → AgreeOn (unlisted_lits vs) (stored_units us) (stored_units vs)
 keeps-agree us vs h k e =
     let same = h (var_of k) (and_parts (is_some (stored_id (unit_at vs (var_of k)))) (true_lits vs k) e).0 in
-    let units : unit_of (stored_units us) (var_of k) ≡ unit_of (stored_units vs) (var_of k) = unit_of-stored_units us (var_of k) ∙ ap (option_map stored_unit) same ∙ sym (unit_of-stored_units vs (var_of k)) in
+    let units : unit_of (stored_units us) (var_of k) ≡ unit_of (stored_units vs) (var_of k) =
+    unit_of-stored_units us (var_of k) ∙ ap (option_map stored_unit) same ∙ sym (unit_of-stored_units vs (var_of k)) in
     ap (λ o. record { id = unit_id o; lits = k ∷ [] }) units
 
 -- the value of the variable of a false literal
@@ -83,14 +86,16 @@ value-false (Some u) m k h = let e : same_bool u.value (not (is_negative m)) ≡
     value false false e = refl
 
 -- it is overwritten by the same with another id
-pub true_lits-renamed : (us : List (Option UnitClause)) (m : ℕ) (w : UnitClause) → var_of m < length us → lit_value us m ≡ Some false → w.value ≡ is_negative m → true_lits (set us (var_of m) (Some w)) ≡ true_lits us
+pub true_lits-renamed : (us : List (Option UnitClause)) (m : ℕ) (w : UnitClause) → var_of m < length us → lit_value us m ≡ Some false →
+    w.value ≡ is_negative m → true_lits (set us (var_of m) (Some w)) ≡ true_lits us
 true_lits-renamed us m w known found same = λ i k. point k i
   where
     point : (k : ℕ) → true_lits (set us (var_of m) (Some w)) k ≡ true_lits us k
     point k = ⊎_elim {C = true_lits (set us (var_of m) (Some w)) k ≡ true_lits us k}
         (λ (e : var_of k ≡ var_of m). true_lits-by (set us (var_of m) (Some w)) k ∙ ap (λ o. makes_true (option_map stored_unit o) k) (get_or-set_at us (var_of m) (var_of k) (Some w) None e known)
         ∙ ap (λ b. same_bool b (not (is_negative k))) same ∙ value-false (unit_at us (var_of m)) m k found ∙ sym (true_lits-by us k ∙ ap (λ v. makes_true (option_map stored_unit (unit_at us v)) k) e))
-        (λ (ne : var_of k ≡ var_of m → ⊥). true_lits-by (set us (var_of m) (Some w)) k ∙ ap (λ o. makes_true (option_map stored_unit o) k) (get_or-set_other us (var_of m) (var_of k) (Some w) None ne) ∙ sym (true_lits-by us k))
+        (λ (ne : var_of k ≡ var_of m → ⊥). true_lits-by (set us (var_of m) (Some w)) k ∙ ap (λ o. makes_true (option_map stored_unit o) k)
+        (get_or-set_other us (var_of m) (var_of k) (Some w) None ne) ∙ sym (true_lits-by us k))
         (cases_eq (var_of k) (var_of m))
 
 -- the look at a clause under values, literal by literal
@@ -98,9 +103,12 @@ pub looked-nil : (ids : List ℕ) (us : List (Option UnitClause)) → looked ids
 looked-nil ids us = ap (λ xs. (xs, unlisted_lits us)) (append-nil ids)
 
 pub looked-free : (ids : List ℕ) (us : List (Option UnitClause)) (m : ℕ) (c : List ℕ) → lit_value us m ≡ None → looked ids us (m ∷ c) ≡ looked ids us c
-looked-free ids us m c h = ap (λ v. (ids ++ item_ids v.items, v.unlisted)) (visit-free (stored_units us) (true_lits us) (unlisted_lits us) m c (true_lits-truth us m ∙ ap truth h) (true_lits-falsity us m ∙ ap falsity h))
+looked-free ids us m c h = ap (λ v. (ids ++ item_ids v.items, v.unlisted))
+    (visit-free (stored_units us) (true_lits us) (unlisted_lits us) m c (true_lits-truth us m ∙ ap truth h)
+    (true_lits-falsity us m ∙ ap falsity h))
 
-without-is : (us : List (Option UnitClause)) (m : ℕ) (w : UnitClause) → var_of m < length us → number_of w.id ≡ None → true_lits us m ≡ false → without_lit (negate m) (unlisted_lits us) ≡ unlisted_lits (set us (var_of m) (Some w))
+without-is : (us : List (Option UnitClause)) (m : ℕ) (w : UnitClause) → var_of m < length us → number_of w.id ≡ None →
+    true_lits us m ≡ false → without_lit (negate m) (unlisted_lits us) ≡ unlisted_lits (set us (var_of m) (Some w))
 without-is us m w known new free = λ i k. point k i
   where
     here : (k : ℕ) → var_of k ≡ var_of m → without_lit (negate m) (unlisted_lits us) k ≡ (unlisted_lits us k && not (eqb (var_of k) (var_of m)))
@@ -114,7 +122,8 @@ without-is us m w known new free = λ i k. point k i
     apart k ne = ap (λ b. unlisted_lits us k && not b) (ne_eqb k (negate m) (λ e. ne (ap var_of e ∙ var-negate m)) ∙ sym (ne_eqb (var_of k) (var_of m) ne))
 
     point : (k : ℕ) → without_lit (negate m) (unlisted_lits us) k ≡ unlisted_lits (set us (var_of m) (Some w)) k
-    point k = ⊎_elim {C = without_lit (negate m) (unlisted_lits us) k ≡ (unlisted_lits us k && not (eqb (var_of k) (var_of m)))} (here k) (apart k) (cases_eq (var_of k) (var_of m)) ∙ sym (unlisted_lits-set us (var_of m) k w known new)
+    point k = ⊎_elim {C = without_lit (negate m) (unlisted_lits us) k ≡ (unlisted_lits us k && not (eqb (var_of k) (var_of m)))} (here k)
+        (apart k) (cases_eq (var_of k) (var_of m)) ∙ sym (unlisted_lits-set us (var_of m) k w known new)
 
 -- the id of a stored unit
 number-is : (o : Option UnitClause) (n : ℕ) → stored_id o ≡ Some n → unit_id (option_map stored_unit o) ≡ n
@@ -130,7 +139,9 @@ pub unit_id-stored : (us : List (Option UnitClause)) (v n : ℕ) → stored_id (
 unit_id-stored us v n h = ap unit_id (unit_of-stored_units us v) ∙ number-is (unit_at us v) n h
 
 -- a stored unit that makes a literal false is listed, and its value gets another id
-pub looked-listed : (ids : List ℕ) (us vs : List (Option UnitClause)) (m n : ℕ) (w : UnitClause) (c : List ℕ) → var_of m < length us → lit_value us m ≡ Some false → stored_id (unit_at us (var_of m)) ≡ Some n → w.value ≡ is_negative m → number_of w.id ≡ None → vs ≡ set us (var_of m) (Some w) → looked ids us (m ∷ c) ≡ looked (ids ++ n ∷ []) vs c
+pub looked-listed : (ids : List ℕ) (us vs : List (Option UnitClause)) (m n : ℕ) (w : UnitClause) (c : List ℕ) → var_of m < length us →
+    lit_value us m ≡ Some false → stored_id (unit_at us (var_of m)) ≡ Some n → w.value ≡ is_negative m → number_of w.id ≡ None →
+    vs ≡ set us (var_of m) (Some w) → looked ids us (m ∷ c) ≡ looked (ids ++ n ∷ []) vs c
 looked-listed ids us vs m n w c known value found same new e =
     let ss = stored_units us in let s = true_lits us in
     let not_true : s m ≡ false = true_lits-truth us m ∙ ap truth value in

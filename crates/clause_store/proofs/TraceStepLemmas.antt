@@ -39,7 +39,8 @@ named-last : (ids ids_now : List ℕ) (xs : List Item) (x : Item) → ids ++ ite
 named-last ids ids_now xs x e = ap (λ zs. ids ++ zs) (map-append (λ (y : Item). y.id) xs (x ∷ [])) ∙ sym (append_assoc ids (item_ids xs) (x.id ∷ [])) ∙ ap (λ zs. zs ++ x.id ∷ []) e
 
 -- the trace goes on from other values with the same stored units
-goes_on : (us vs : List (Option UnitClause)) (r h : ℕ → Bool) (rest : List Stored) → KeepsStored us vs → true_lits vs ≡ r → unlisted_lits vs ≡ h → trace (stored_units us) r h rest ≡ trace (stored_units vs) (true_lits vs) (unlisted_lits vs) rest
+goes_on : (us vs : List (Option UnitClause)) (r h : ℕ → Bool) (rest : List Stored) → KeepsStored us vs → true_lits vs ≡ r →
+    unlisted_lits vs ≡ h → trace (stored_units us) r h rest ≡ trace (stored_units vs) (true_lits vs) (unlisted_lits vs) rest
 goes_on us vs r h rest kept e f =
     ap (λ t. trace (stored_units us) t h rest) (sym e) ∙ ap (λ g. trace (stored_units us) (true_lits vs) g rest) (sym f)
     ∙ trace-agree (stored_units us) (stored_units vs) (true_lits vs) (unlisted_lits vs) rest (keeps-agree us vs kept)
@@ -59,15 +60,20 @@ pub record IsLooked (ids ids_now : List ℕ) (us vs : List (Option UnitClause)) 
   pub kept : KeepsStored us vs
   pub same : true_lits vs ≡ true_lits us
 
-pub is_looked : (ids ids_now : List ℕ) (us vs : List (Option UnitClause)) (e : Stored) (t : ClauseStatus) (c : List ℕ) → c ≡ e.lits → t ≡ status_of (true_lits us) c → looked ids us c ≡ (ids_now, unlisted_lits vs) → KeepsStored us vs → true_lits vs ≡ true_lits us → IsLooked ids ids_now us vs e t
+pub is_looked : (ids ids_now : List ℕ) (us vs : List (Option UnitClause)) (e : Stored) (t : ClauseStatus) (c : List ℕ) → c ≡ e.lits →
+    t ≡ status_of (true_lits us) c → looked ids us c ≡ (ids_now, unlisted_lits vs) → KeepsStored us vs → true_lits vs ≡ true_lits us →
+    IsLooked ids ids_now us vs e t
 is_looked ids ids_now us vs e t c is status listed kept same = record { status = status ∙ ap (status_of (true_lits us)) is; listed = sym (ap (looked ids us) is) ∙ listed; kept = kept; same = same }
 
-pub lists-falsified : (ids ids_now ids_last : List ℕ) (us vs : List (Option UnitClause)) (e : Stored) → IsLooked ids ids_now us vs e statuses.Falsified → ids_last ≡ ids_now ++ e.id ∷ [] → (rest : List Stored) → ids_after ids us (e ∷ rest) ≡ Some ids_last
+pub lists-falsified : (ids ids_now ids_last : List ℕ) (us vs : List (Option UnitClause)) (e : Stored) →
+    IsLooked ids ids_now us vs e statuses.Falsified → ids_last ≡ ids_now ++ e.id ∷ [] → (rest : List Stored) →
+    ids_after ids us (e ∷ rest) ≡ Some ids_last
 unfolding with_ids
 lists-falsified ids ids_now ids_last us vs e h last rest =
     by_status ids us e rest statuses.Falsified h.status ∙ ap (λ xs. Some xs) (named-last ids ids_now (look us e.lits).items (stored_item e) (ap (λ p. p.0) h.listed) ∙ sym last)
 
-pub lists-idle : (ids ids_now : List ℕ) (us vs : List (Option UnitClause)) (e : Stored) → IsLooked ids ids_now us vs e statuses.Idle → (rest : List Stored) → ids_after ids us (e ∷ rest) ≡ ids_after ids_now vs rest
+pub lists-idle : (ids ids_now : List ℕ) (us vs : List (Option UnitClause)) (e : Stored) → IsLooked ids ids_now us vs e statuses.Idle →
+    (rest : List Stored) → ids_after ids us (e ∷ rest) ≡ ids_after ids_now vs rest
 unfolding with_ids
 lists-idle ids ids_now us vs e h rest =
     let v = look us e.lits in
@@ -76,7 +82,8 @@ lists-idle ids ids_now us vs e h rest =
     ∙ ap (with_ids ids_now) (goes_on us vs (true_lits us) v.unlisted rest h.kept h.same (sym (ap (λ p. p.1) h.listed)))
 
 -- a free literal that is made true is no stored unit's
-unlisted_lits-free : (us : List (Option UnitClause)) (m : ℕ) (w : UnitClause) → var_of m < length us → number_of w.id ≡ None → true_lits us m ≡ false → true_lits us (negate m) ≡ false → unlisted_lits (set us (var_of m) (Some w)) ≡ unlisted_lits us
+unlisted_lits-free : (us : List (Option UnitClause)) (m : ℕ) (w : UnitClause) → var_of m < length us → number_of w.id ≡ None →
+    true_lits us m ≡ false → true_lits us (negate m) ≡ false → unlisted_lits (set us (var_of m) (Some w)) ≡ unlisted_lits us
 unlisted_lits-free us m w known new free n = λ i k. point k i
   where
     none : (k : ℕ) → var_of k ≡ var_of m → unlisted_lits us k ≡ false
@@ -95,14 +102,17 @@ unlisted_lits-free us m w known new free n = λ i k. point k i
         (λ (ne : var_of k ≡ var_of m → ⊥). ap (λ b. unlisted_lits us k && not b) (ne_eqb (var_of k) (var_of m) ne) ∙ and_true (unlisted_lits us k))
         (cases_eq (var_of k) (var_of m))
 
-pub lists-unit : (ids ids_now ids_last : List ℕ) (us vs ws : List (Option UnitClause)) (e : Stored) (m : ℕ) (w : UnitClause) → AreKnown vs e.lits → IsLooked ids ids_now us vs e (statuses.Unit m) → ids_last ≡ ids_now ++ e.id ∷ []
+pub lists-unit : (ids ids_now ids_last : List ℕ) (us vs ws : List (Option UnitClause)) (e : Stored) (m : ℕ) (w : UnitClause) →
+    AreKnown vs e.lits → IsLooked ids ids_now us vs e (statuses.Unit m) → ids_last ≡ ids_now ++ e.id ∷ []
     → number_of w.id ≡ None → true_lits ws ≡ add_lit m (true_lits us) → ws ≡ set vs (var_of m) (Some w) → (rest : List Stored) → ids_after ids us (e ∷ rest) ≡ ids_after ids_last ws rest
 unfolding with_ids
 lists-unit ids ids_now ids_last us vs ws e m w known h last new added written rest =
     let v = look us e.lits in
     let free = is_free (true_lits us) e.lits m (is_unit (true_lits us) e.lits m (sym h.status)) in
     let less = known-has e.lits m (length vs) known free.member in
-    let unlisted : unlisted_lits ws ≡ v.unlisted = ap unlisted_lits written ∙ unlisted_lits-free vs m w less new (ap (λ s. s m) h.same ∙ free.not_true) (ap (λ s. s (negate m)) h.same ∙ free.not_false) ∙ sym (ap (λ p. p.1) h.listed) in
+    let unlisted : unlisted_lits ws ≡ v.unlisted =
+    ap unlisted_lits written ∙ unlisted_lits-free vs m w less new (ap (λ s. s m) h.same ∙ free.not_true)
+    (ap (λ s. s (negate m)) h.same ∙ free.not_false) ∙ sym (ap (λ p. p.1) h.listed) in
     let keeps : KeepsStored us ws = keeps-then us vs ws h.kept (subst (KeepsStored vs) (sym written) (keeps-set vs (var_of m) w less new)) in
     by_status ids us e rest (statuses.Unit m) h.status ∙ with_ids-prepend ids (v.items ++ stored_item e ∷ []) (trace (stored_units us) (add_lit m (true_lits us)) v.unlisted rest)
     ∙ ap (λ xs. with_ids xs (trace (stored_units us) (add_lit m (true_lits us)) v.unlisted rest)) (named-last ids ids_now v.items (stored_item e) (ap (λ p. p.0) h.listed) ∙ sym last)
@@ -116,11 +126,15 @@ named_clauses-drop buffer m hs i b cs less found is =
     ∙ ap (λ xs. map (stored_of buffer) xs ++ named_clauses buffer m (drop (i + 1) hs)) (sym is)
 
 -- the trace goes on after a bucket without a falsified clause
-pub lists-bucket : (ids ids_now : List ℕ) (us vs : List (Option UnitClause)) (es : List Stored) (falsified : Bool) → Lists ids us es ids_now vs falsified → falsified ≡ false → (rest : List Stored) → ids_after ids us (es ++ rest) ≡ ids_after ids_now vs rest
+pub lists-bucket : (ids ids_now : List ℕ) (us vs : List (Option UnitClause)) (es : List Stored) (falsified : Bool) →
+    Lists ids us es ids_now vs falsified → falsified ≡ false → (rest : List Stored) →
+    ids_after ids us (es ++ rest) ≡ ids_after ids_now vs rest
 lists-bucket ids ids_now us vs es falsified h e rest = h rest ∙ ap (λ b. cond b (Some ids_now) (ids_after ids_now vs rest)) e
 
 -- the trace of the walk from the values with the negated clause
-pub open_trace-is : (ids t : List ℕ) (us vs : List (Option UnitClause)) (c : List ℕ) (es : List Stored) → ids ≡ [] → KeepsStored us vs → true_lits vs ≡ start_set (stored_units us) c → unlisted_lits vs ≡ unlisted_at (stored_units us) c → ids_after ids vs es ≡ Some t → t ≡ ids_of (open_trace (stored_units us) c es)
+pub open_trace-is : (ids t : List ℕ) (us vs : List (Option UnitClause)) (c : List ℕ) (es : List Stored) → ids ≡ [] → KeepsStored us vs →
+    true_lits vs ≡ start_set (stored_units us) c → unlisted_lits vs ≡ unlisted_at (stored_units us) c → ids_after ids vs es ≡ Some t →
+    t ≡ ids_of (open_trace (stored_units us) c es)
 open_trace-is ids t us vs c es none kept start unlisted h =
     found (trace (stored_units vs) (true_lits vs) (unlisted_lits vs) es) (ap (λ xs. ids_after xs vs es) (sym none) ∙ h)
     ∙ ap ids_of (sym (goes_on us vs (start_set (stored_units us) c) (unlisted_at (stored_units us) c) es kept start unlisted))

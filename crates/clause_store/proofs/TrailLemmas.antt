@@ -1,11 +1,11 @@
 -- Putting values back.
-use Rattle.std.proofs.Common.{◌≡◌, ℕ, ◌<◌, List, [], ◌∷◌, ◌++◌, Option, None, length, set, set-set, length-set, refl, sym, ap, ◌∙◌, arith}
+use Rattle.std.proofs.Common.{◌≡◌, ℕ, suc, ◌<◌, List, [], ◌∷◌, ◌++◌, Option, None, length, set, set-set, length-set, refl, sym, ap, ◌∙◌, arith}
 use Rattle.std.proofs.lemmas.Grind.{common_steps}
 use Rattle.std.proofs.lemmas.List.{set-get_or}
 use Rattle.std.proofs.lemmas.List.Elements.{All-push}
 use Rattle.checker_rules.specs.Clauses.{var_of}
 use Rattle.clause_store.specs.declared.clauses.units.UnitClause.{UnitClause}
-use Rattle.clause_store.specs.Trail.{IsTrailFor, IsUndoable, undone}
+use Rattle.clause_store.specs.Trail.{IsTrailFor, IsUndoable, freed, undone}
 use Rattle.clause_store.specs.Units.{unit_at}
 
 -- the newest value is put back first
@@ -14,15 +14,19 @@ undone-push us [] t = refl
 undone-push us (x ∷ ts) t = ap (λ vs. set vs (var_of x.0) x.1) (undone-push us ts t)
 
 -- one value is put back
-pub undone-step : (us vs : List (Option UnitClause)) (ts rest : List (ℕ × Option UnitClause)) (t : ℕ × Option UnitClause) (i : ℕ) → ts ≡ rest ++ t ∷ [] → i ≡ var_of t.0 → undone us ts ≡ vs → undone (set us i t.1) rest ≡ vs
+pub undone-step : (us vs : List (Option UnitClause)) (ts rest : List (ℕ × Option UnitClause)) (t : ℕ × Option UnitClause) (i : ℕ) →
+    ts ≡ rest ++ t ∷ [] → i ≡ var_of t.0 → undone us ts ≡ vs → undone (set us i t.1) rest ≡ vs
 undone-step us vs ts rest t i e at same = ap (λ (k : ℕ). undone (set us k t.1) rest) at ∙ sym (undone-push us rest t) ∙ ap (undone us) (sym e) ∙ same
 
 -- the rest of a trail is for the same variables
-pub trail-rest : (us : List (Option UnitClause)) (ts rest : List (ℕ × Option UnitClause)) (t : ℕ × Option UnitClause) (i : ℕ) (u : Option UnitClause) → ts ≡ rest ++ t ∷ [] → IsTrailFor us ts → IsTrailFor (set us i u) rest
+pub trail-rest : (us : List (Option UnitClause)) (ts rest : List (ℕ × Option UnitClause)) (t : ℕ × Option UnitClause) (i : ℕ)
+    (u : Option UnitClause) → ts ≡ rest ++ t ∷ [] → IsTrailFor us ts → IsTrailFor (set us i u) rest
 trail-rest us ts rest t i u e known k d h = grind (arith, common_steps, known k d)
 
 -- a value is overwritten and kept
-pub is_undoable-overwritten : (us vs : List (Option UnitClause)) (ts now : List (ℕ × Option UnitClause)) (m i : ℕ) (old new : Option UnitClause) → i ≡ var_of m → old ≡ unit_at us i → now ≡ ts ++ (m, old) ∷ [] → vs ≡ set us i new → var_of m < length us → IsTrailFor us ts → IsUndoable us ts vs now
+pub is_undoable-overwritten : (us vs : List (Option UnitClause)) (ts now : List (ℕ × Option UnitClause)) (m i : ℕ)
+    (old new : Option UnitClause) → i ≡ var_of m → old ≡ unit_at us i → now ≡ ts ++ (m, old) ∷ [] → vs ≡ set us i new →
+    var_of m < length us → IsTrailFor us ts → IsUndoable us ts vs now
 is_undoable-overwritten us vs ts now m i old new at is e written less known = rw (written, e) (record {
   known = length-set us i new;
   undone = undone-push (set us i new) ts (m, old)
@@ -33,3 +37,12 @@ is_undoable-overwritten us vs ts now m i old new at is e written less known = rw
 -- one change after another
 pub is_undoable_then : (us vs ws : List (Option UnitClause)) (ts now last : List (ℕ × Option UnitClause)) → IsUndoable us ts vs now → IsUndoable vs now ws last → IsUndoable us ts ws last
 is_undoable_then us vs ws ts now last h k = record { known = k.known ∙ h.known; undone = k.undone ∙ h.undone; trail = k.trail }
+
+pub freed-push : (ms : List ℕ) (m : ℕ) → freed (ms ++ m ∷ []) ≡ freed ms ++ (m, None) ∷ []
+freed-push [] m = refl
+freed-push (k ∷ ms) m = ap (λ ts. (k, None) ∷ ts) (freed-push ms m)
+
+-- the variable of the newest literal is known
+pub trail-last : (us : List (Option UnitClause)) (rest : List (ℕ × Option UnitClause)) (t : ℕ × Option UnitClause) → IsTrailFor us (rest ++ t ∷ []) → var_of t.0 < length us
+trail-last us [] t known = known 0 t (omega arith)
+trail-last us (x ∷ rest) t known = trail-last us rest t (λ k d h. known (suc k) d (omega (arith, h)))

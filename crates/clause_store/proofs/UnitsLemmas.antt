@@ -66,7 +66,8 @@ absorbed s m k free e =
     (cases_eq k m)
 
 -- a literal whose negation is not true joins the true ones
-pub true_lits-set : (us : List (Option UnitClause)) (m : ℕ) (u : UnitClause) → var_of m < length us → u.value ≡ not (is_negative m) → true_lits us (negate m) ≡ false → true_lits (set us (var_of m) (Some u)) ≡ add_lit m (true_lits us)
+pub true_lits-set : (us : List (Option UnitClause)) (m : ℕ) (u : UnitClause) → var_of m < length us → u.value ≡ not (is_negative m) →
+    true_lits us (negate m) ≡ false → true_lits (set us (var_of m) (Some u)) ≡ add_lit m (true_lits us)
 true_lits-set us m u known v free = λ i k. point k i
   where
     here : (k : ℕ) → var_of k ≡ var_of m → true_lits (set us (var_of m) (Some u)) k ≡ add_lit m (true_lits us) k

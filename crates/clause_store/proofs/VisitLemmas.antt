@@ -14,7 +14,8 @@ use Rattle.clause_store.specs.Rup.{status_of}
 pub visit-true : (us : List (Option StoredUnit)) (s g : ℕ → Bool) (m : ℕ) (c : List ℕ) → s m ≡ true → visit us s g (m ∷ c) ≡ record { satisfied = true; free = []; unlisted = g; items = [] }
 visit-true us s g m c h = rw h refl
 
-pub visit-listed : (us : List (Option StoredUnit)) (s g : ℕ → Bool) (m : ℕ) (c : List ℕ) → s m ≡ false → s (negate m) ≡ true → g (negate m) ≡ true → visit us s g (m ∷ c) ≡ listing (unit_item us (negate m)) (visit us s (without_lit (negate m) g) c)
+pub visit-listed : (us : List (Option StoredUnit)) (s g : ℕ → Bool) (m : ℕ) (c : List ℕ) → s m ≡ false → s (negate m) ≡ true →
+    g (negate m) ≡ true → visit us s g (m ∷ c) ≡ listing (unit_item us (negate m)) (visit us s (without_lit (negate m) g) c)
 visit-listed us s g m c h n k = rw (h, n, k) refl
 
 pub visit-false : (us : List (Option StoredUnit)) (s g : ℕ → Bool) (m : ℕ) (c : List ℕ) → s m ≡ false → s (negate m) ≡ true → g (negate m) ≡ false → visit us s g (m ∷ c) ≡ visit us s g c
@@ -32,7 +33,9 @@ Cases P = (us : List (Option StoredUnit)) (s g : ℕ → Bool) (m : ℕ) (c : Li
   freed : s m ≡ false → s (negate m) ≡ false → P us s g c → P us s g (m ∷ c);
 }
 
-by_cases : (P : List (Option StoredUnit) → (ℕ → Bool) → (ℕ → Bool) → List ℕ → Type 0) → ((us : List (Option StoredUnit)) (s g : ℕ → Bool) → P us s g []) → Cases P → (us : List (Option StoredUnit)) (s g : ℕ → Bool) (c : List ℕ) → P us s g c
+by_cases : (P : List (Option StoredUnit) → (ℕ → Bool) → (ℕ → Bool) → List ℕ → Type 0) →
+    ((us : List (Option StoredUnit)) (s g : ℕ → Bool) → P us s g []) → Cases P →
+    (us : List (Option StoredUnit)) (s g : ℕ → Bool) (c : List ℕ) → P us s g c
 by_cases P z f us s g [] = z us s g
 by_cases P z f us s g (m ∷ c) = first (λ h. by_cases P z f us s h c) (s m) refl
   where
@@ -88,10 +91,14 @@ visit-agree vs = by_cases (λ us s g c. AgreeOn g us vs → visit us s g c ≡ v
   freed = λ h n more e. visit-free us s g m c h n ∙ ap (freeing m) (more e) ∙ sym (visit-free vs s g m c h n);
 })
 
-on_visit-agree : (v : Visit) (x : Item) (s : ℕ → Bool) (go to : (ℕ → Bool) → (ℕ → Bool) → Option (List Item)) → ((r : ℕ → Bool) → go r v.unlisted ≡ to r v.unlisted) → on_visit v x s go ≡ on_visit v x s to
+on_visit-agree : (v : Visit) (x : Item) (s : ℕ → Bool) (go to : (ℕ → Bool) → (ℕ → Bool) → Option (List Item)) →
+    ((r : ℕ → Bool) → go r v.unlisted ≡ to r v.unlisted) → on_visit v x s go ≡ on_visit v x s to
 on_visit-agree v x s go to h = by_satisfied v.satisfied v.free
   where
-    by_satisfied : (b : Bool) (ls : List ℕ) → cond b (prepend v.items (go s v.unlisted)) (by_count ls (Some (v.items ++ x ∷ [])) (λ l. prepend (v.items ++ x ∷ []) (go (add_lit l s) v.unlisted)) (prepend v.items (go s v.unlisted)))
+    by_satisfied : (b : Bool) (ls : List ℕ) →
+        cond b (prepend v.items (go s v.unlisted))
+        (by_count ls (Some (v.items ++ x ∷ [])) (λ l. prepend (v.items ++ x ∷ []) (go (add_lit l s) v.unlisted))
+        (prepend v.items (go s v.unlisted)))
         ≡ cond b (prepend v.items (to s v.unlisted)) (by_count ls (Some (v.items ++ x ∷ [])) (λ l. prepend (v.items ++ x ∷ []) (to (add_lit l s) v.unlisted)) (prepend v.items (to s v.unlisted)))
     by_satisfied true ls = ap (prepend v.items) (h s)
     by_satisfied false [] = refl
@@ -102,7 +109,8 @@ pub trace-agree : (us vs : List (Option StoredUnit)) (s g : ℕ → Bool) (es : 
 trace-agree us vs s g [] h = refl
 trace-agree us vs s g (e ∷ es) h =
     ap (λ v. on_visit v (stored_item e) s (λ r k. trace us r k es)) (visit-agree vs us s g e.lits h)
-    ∙ on_visit-agree (visit vs s g e.lits) (stored_item e) s (λ r k. trace us r k es) (λ r k. trace vs r k es) (λ r. trace-agree us vs r (visit vs s g e.lits).unlisted es (λ k y. h k (visit-unlisted vs s g e.lits k y)))
+    ∙ on_visit-agree (visit vs s g e.lits) (stored_item e) s (λ r k. trace us r k es) (λ r k. trace vs r k es)
+    (λ r. trace-agree us vs r (visit vs s g e.lits).unlisted es (λ k y. h k (visit-unlisted vs s g e.lits k y)))
 
 -- how the trace goes on after a clause, by what follows from it
 abbrev pub on_status : ClauseStatus → Visit → Item → (ℕ → Bool) → ((ℕ → Bool) → (ℕ → Bool) → Option (List Item)) → Option (List Item)
@@ -110,7 +118,8 @@ on_status statuses.Falsified v x s go = Some (v.items ++ x ∷ [])
 on_status (statuses.Unit l) v x s go = prepend (v.items ++ x ∷ []) (go (add_lit l s) v.unlisted)
 on_status statuses.Idle v x s go = prepend v.items (go s v.unlisted)
 
-pub on_visit-status : (us : List (Option StoredUnit)) (s g : ℕ → Bool) (c : List ℕ) (x : Item) (go : (ℕ → Bool) → (ℕ → Bool) → Option (List Item)) → on_visit (visit us s g c) x s go ≡ on_status (status_of s c) (visit us s g c) x s go
+pub on_visit-status : (us : List (Option StoredUnit)) (s g : ℕ → Bool) (c : List ℕ) (x : Item) (go : (ℕ → Bool) → (ℕ → Bool) →
+    Option (List Item)) → on_visit (visit us s g c) x s go ≡ on_status (status_of s c) (visit us s g c) x s go
 on_visit-status us s g c x go = by_any (list_any s c) refl
   where
     by_free : (v : Visit) (ls : List ℕ) → by_count ls (Some (v.items ++ x ∷ [])) (λ l. prepend (v.items ++ x ∷ []) (go (add_lit l s) v.unlisted)) (prepend v.items (go s v.unlisted))

@@ -1,5 +1,5 @@
 -- Steps of the walk.
-use Rattle.std.proofs.Common.{◌≡◌, ℕ, ◌<◌, ◌≤◌, Bool, true, false, not, cond, ◌&&◌, eqb, List, [], ◌∷◌, length, set, Option, Some, refl, sym, ap, ◌∙◌, arith, inl, inr}
+use Rattle.std.proofs.Common.{◌≡◌, ℕ, ◌<◌, ◌≤◌, Bool, true, false, not, cond, ◌&&◌, eqb, List, [], ◌∷◌, length, set, Option, None, Some, refl, sym, ap, ◌∙◌, arith, inl, inr}
 use Rattle.std.specs.List.{list_any, list_all}
 use Rattle.std.proofs.lemmas.Bool.{and_parts, eqb-true, false≢true, not-true, or_cases}
 use Rattle.checker_rules.specs.Canonical.{var_bound}
@@ -9,7 +9,8 @@ use Rattle.checker_rules.proofs.Walks.{unit_here}
 use Rattle.clause_store.specs.declared.clauses.units.UnitClause.{UnitClause}
 use Rattle.clause_store.specs.declared.rup.status.ClauseStatus.TheVariants as statuses
 use Rattle.clause_store.specs.Rup.{status_of, true_lits}
-use Rattle.clause_store.proofs.UnitsLemmas.{true_lits-set}
+use Rattle.clause_store.proofs.UnitsLemmas.{falsity, true_lits-falsity, true_lits-set, true_lits-truth, truth}
+use Rattle.clause_store.specs.Units.{unit_at, value_by}
 
 -- a literal of the list has a known variable
 pub known-has : (c : List ℕ) (m n : ℕ) → var_bound c ≤ n → has m c ≡ true → var_of m < n
@@ -56,10 +57,26 @@ pub unit-known : (us : List (Option UnitClause)) (c : List ℕ) (m n : ℕ) → 
 unit-known us c m n known status = known-has c m n known (is_free (true_lits us) c m (is_unit (true_lits us) c m (sym status))).member
 
 -- the literal that alone is free is made true
-pub unit-added : (us vs ws : List (Option UnitClause)) (c : List ℕ) (m : ℕ) (u : UnitClause) → var_bound c ≤ length vs → statuses.Unit m ≡ status_of (true_lits us) c → true_lits vs ≡ true_lits us → u.value ≡ not (is_negative m) → ws ≡ set vs (var_of m) (Some u) → true_lits ws ≡ add_lit m (true_lits us)
+pub unit-added : (us vs ws : List (Option UnitClause)) (c : List ℕ) (m : ℕ) (u : UnitClause) → var_bound c ≤ length vs →
+    statuses.Unit m ≡ status_of (true_lits us) c → true_lits vs ≡ true_lits us → u.value ≡ not (is_negative m) →
+    ws ≡ set vs (var_of m) (Some u) → true_lits ws ≡ add_lit m (true_lits us)
 unit-added us vs ws c m u known status same v e =
     let free = is_free (true_lits us) c m (is_unit (true_lits us) c m (sym status)) in
     ap true_lits e ∙ true_lits-set vs m u (unit-known us c m (length vs) known status) v (ap (λ s. s (negate m)) same ∙ free.not_false) ∙ ap (add_lit m) same
 
-pub unit-step : (us ws : List (Option UnitClause)) (c : List ℕ) (m : ℕ) → statuses.Unit m ≡ status_of (true_lits us) c → true_lits ws ≡ add_lit m (true_lits us) → walk (true_lits us) (c ∷ []) ≡ Some (true_lits ws)
+pub unit-step : (us ws : List (Option UnitClause)) (c : List ℕ) (m : ℕ) → statuses.Unit m ≡ status_of (true_lits us) c →
+    true_lits ws ≡ add_lit m (true_lits us) → walk (true_lits us) (c ∷ []) ≡ Some (true_lits ws)
 unit-step us ws c m status e = walk-unit (true_lits us) c m (is_unit (true_lits us) c m (sym status)) ∙ ap (λ s. Some s) (sym e)
+
+-- a literal that is neither true nor false has a variable without a value
+pub free-none : (us : List (Option UnitClause)) (m : ℕ) → true_lits us m ≡ false → true_lits us (negate m) ≡ false → unit_at us (var_of m) ≡ None
+free-none us m t f = by (unit_at us (var_of m)) (sym (true_lits-truth us m) ∙ t) (sym (true_lits-falsity us m) ∙ f)
+  where
+    by : (o : Option UnitClause) → truth (value_by o m) ≡ false → falsity (value_by o m) ≡ false → o ≡ None
+    by None t f = refl
+    by (Some u) t f = absurd (false≢true (sym f ∙ ap not t))
+
+pub unit-none : (us : List (Option UnitClause)) (c : List ℕ) (m : ℕ) → statuses.Unit m ≡ status_of (true_lits us) c → unit_at us (var_of m) ≡ None
+unit-none us c m status =
+    let free = is_free (true_lits us) c m (is_unit (true_lits us) c m (sym status)) in
+    free-none us m free.not_true free.not_false

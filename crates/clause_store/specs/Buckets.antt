@@ -1,5 +1,5 @@
 -- The stored clauses by their hashes.
-use Rattle.std.specs.Prelude.{ℕ, ◌+◌, nat_eq, eqb, Bool, cond, List, [], Option, None, Some, All}
+use Rattle.std.specs.Prelude.{ℕ, ◌+◌, nat_eq, ◌==◌, Bool, if◌then◌else◌, List, [], Option, None, Some, All}
 use Rattle.std.specs.HashMap.{HashMap, get}
 use Rattle.std.specs.declared.hash.FoldHasher.{FoldHasher}
 use Rattle.std.specs.declared.hash.BuildHasherDefault.{BuildHasherDefault}
@@ -32,16 +32,23 @@ is_of buffer lits c = same_list (lits_of c.lits buffer) lits
 
 -- how many copies of a kind
 abbrev pub copies_of : Bool → Clause → ℕ
-copies_of redundant c = cond redundant c.redundant c.irredundant
+copies_of redundant c = if redundant then c.redundant else c.irredundant
 
 -- the clause with one copy more
 abbrev pub raised : Bool → Clause → Clause
-raised redundant c = cond redundant (record c { redundant = c.redundant + 1 }) (record c { irredundant = c.irredundant + 1 })
+raised redundant c =
+    if redundant then record c { redundant = c.redundant + 1 }
+    else record c { irredundant = c.irredundant + 1 }
 
 -- a clause with one copy
 abbrev pub first_copy_of : Bool → ℕ → ClauseLits → Clause
-first_copy_of redundant id ls = record { id = id; irredundant = cond redundant 0 1; redundant = cond redundant 1 0; lits = ls }
+first_copy_of redundant id ls = record {
+  id = id;
+  irredundant = if redundant then 0 else 1;
+  redundant = if redundant then 1 else 0;
+  lits = ls;
+}
 
 -- whether the clause has this hash
 abbrev pub has_hash : (List ℕ → ℕ) → List ℕ → ℕ → Clause → Bool
-has_hash h buffer k c = eqb (h (lits_of c.lits buffer)) k
+has_hash h buffer k c = h (lits_of c.lits buffer) == k

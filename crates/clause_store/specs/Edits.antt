@@ -10,7 +10,8 @@ use Rattle.clause_store.specs.Lits.{IsWithin}
 use Rattle.clause_store.specs.View.{stored_at, stored_in}
 
 -- one copy more of a clause is counted in its bucket
-pub record IsRaised (buffer : List ℕ) (hash : ℕ) (redundant : Bool) (c : List ℕ) (m m' : Buckets) : Type 0 where
+pub record IsRaised (buffer : List ℕ) (hash : ℕ) (redundant : Bool) (c : List ℕ)
+    (m m' : Buckets) : Type 0 where
   pub here : stored_in buffer m' hash ≡ map (raise redundant c) (stored_in buffer m hash)
   pub within : All (λ d. IsWithin d.lits buffer) (clauses_at m' hash)
   pub others : (k : ℕ) → (k ≡ hash → ⊥) → clauses_at m' k ≡ clauses_at m k

@@ -5,7 +5,7 @@ pub mod Delete
 pub mod Edits
 pub mod Found
 pub mod Growth
-pub mod Kept
+pub mod PartsInvariant
 pub mod Lits
 pub mod Lowered
 pub mod Names

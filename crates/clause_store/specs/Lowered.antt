@@ -1,5 +1,5 @@
 -- Copies of clauses taken away.
-use Rattle.std.specs.Prelude.{◌≡◌, ℕ, ◌-◌, ◌<◌, ◌&&◌, eqb, Bool, true, false, cond, List, map, All}
+use Rattle.std.specs.Prelude.{◌≡◌, ℕ, ◌-◌, ◌<◌, ◌&&◌, ◌==◌, Bool, true, false, if◌then◌else◌, List, map, All}
 use Rattle.checker_rules.specs.Buckets.{remaining}
 use Rattle.checker_rules.specs.State.{Stored}
 use Rattle.checker_rules.specs.Store.{count_of, id_among, is_stored, lower}
@@ -13,7 +13,9 @@ use Rattle.clause_store.specs.View.{stored_in, stored_of}
 
 -- the clause with one copy less
 abbrev pub lowered : Bool → Clause → Clause
-lowered redundant c = cond redundant (record c { redundant = c.redundant - 1 }) (record c { irredundant = c.irredundant - 1 })
+lowered redundant c =
+    if redundant then record c { redundant = c.redundant - 1 }
+    else record c { irredundant = c.irredundant - 1 }
 
 -- its id and its counts
 abbrev pub left_of : Clause → Left
@@ -21,24 +23,28 @@ left_of c = record { id = c.id; irredundant = c.irredundant; redundant = c.redun
 
 -- whether no copy is left
 abbrev pub is_gone : Left → Bool
-is_gone left = eqb left.irredundant 0 && eqb left.redundant 0
+is_gone left = left.irredundant == 0 && left.redundant == 0
 
 -- what is left of the clause among the stored ones: its id, its counts but for one copy of the kind
 pub record IsLeft (redundant : Bool) (c : List ℕ) (es : List Stored) (left : Left) : Type 0 where
   pub copy : 0 < count_of redundant c es
   pub id : left.id ≡ id_among c es
-  pub irredundant : left.irredundant ≡ count_of false c es - cond redundant 0 1
-  pub redundants : left.redundant ≡ count_of true c es - cond redundant 1 0
+  pub irredundant : left.irredundant ≡ count_of false c es - (if redundant then 0 else 1)
+  pub redundants : left.redundant ≡ count_of true c es - (if redundant then 1 else 0)
 
 -- one copy of the clause is taken away in a bucket
-pub record IsLoweredIn (buffer : List ℕ) (redundant : Bool) (c : List ℕ) (cs cs' : List Clause) (left : Left) : Type 0 where
-  pub here : map (stored_of buffer) cs' ≡ remaining (map (lower redundant c) (map (stored_of buffer) cs))
+pub record IsLoweredIn (buffer : List ℕ) (redundant : Bool) (c : List ℕ) (cs cs' : List Clause)
+    (left : Left) : Type 0 where
+  pub here : map (stored_of buffer) cs' ≡
+      remaining (map (lower redundant c) (map (stored_of buffer) cs))
   pub within : All (λ d. IsWithin d.lits buffer) cs'
   pub is_left : IsLeft redundant c (map (stored_of buffer) cs) left
 
 -- and in the bucket of this hash
-pub record IsLowered (buffer : List ℕ) (hash : ℕ) (redundant : Bool) (c : List ℕ) (m m' : Buckets) (left : Left) : Type 0 where
-  pub here : stored_in buffer m' hash ≡ remaining (map (lower redundant c) (stored_in buffer m hash))
+pub record IsLowered (buffer : List ℕ) (hash : ℕ) (redundant : Bool) (c : List ℕ) (m m' : Buckets)
+    (left : Left) : Type 0 where
+  pub here : stored_in buffer m' hash ≡
+      remaining (map (lower redundant c) (stored_in buffer m hash))
   pub within : All (λ d. IsWithin d.lits buffer) (clauses_at m' hash)
   pub others : (k : ℕ) → (k ≡ hash → ⊥) → clauses_at m' k ≡ clauses_at m k
   pub is_left : IsLeft redundant c (stored_in buffer m hash) left

@@ -1,5 +1,5 @@
 -- What the propagation check finds, in the words of the rules.
-use Rattle.std.specs.Prelude.{◌≡◌, ℕ, Bool, cond, List, map, Option, None, Some, All}
+use Rattle.std.specs.Prelude.{◌≡◌, ℕ, Bool, if◌then◌else◌, List, map, Option, None, Some, All}
 use Rattle.std.specs.List.{list_any}
 use Rattle.checker_rules.specs.Passes.{CheckAnswer, by_count, failed, no_clause, passed, unfalsified, walk, walk_buckets}
 use Rattle.checker_rules.specs.State.{StoredUnit, all_lits, lit_by_unit, some_true_unit, start_set}
@@ -21,11 +21,15 @@ true_lits us = lit_by_unit (stored_units us)
 
 -- what the true literals make of a clause, as one step of the walk takes it
 abbrev pub status_of : (ℕ → Bool) → List ℕ → ClauseStatus
-status_of s c = cond (list_any s c) statuses.Idle (by_count (unfalsified s c) statuses.Falsified (λ l. statuses.Unit l) statuses.Idle)
+status_of s c =
+    if list_any s c then statuses.Idle
+    else by_count (unfalsified s c) statuses.Falsified (λ l. statuses.Unit l) statuses.Idle
 
 -- a walk over clauses from these values meets a falsified one, or leaves those
-abbrev pub Walks : List (Option UnitClause) → List (List ℕ) → List (Option UnitClause) → Bool → Type 0
-Walks us cs vs falsified = walk (true_lits us) cs ≡ cond falsified None (Some (true_lits vs))
+abbrev pub Walks : List (Option UnitClause) → List (List ℕ) → List (Option UnitClause) → Bool →
+    Type 0
+Walks us cs vs falsified = walk (true_lits us) cs ≡
+    (if falsified then None else Some (true_lits vs))
 
 -- the lists of literals of clauses
 abbrev pub lits_in : List ℕ → List Clause → List (List ℕ)
@@ -51,4 +55,4 @@ check_answer Failed = failed
 
 -- the answer of the check of a clause over these buckets
 abbrev pub clause_answer : List (Option StoredUnit) → List ℕ → List (List (List ℕ)) → CheckAnswer
-clause_answer us c bs = cond (some_true_unit us c) passed (walk_buckets (start_set us c) bs)
+clause_answer us c bs = if some_true_unit us c then passed else walk_buckets (start_set us c) bs

@@ -1,5 +1,5 @@
 -- What a traced check lists.
-use Rattle.std.specs.Prelude.{◌≡◌, ℕ, Bool, true, cond, ◌&&◌, List, [], ◌∷◌, ◌++◌, map, Option, None, Some, All, is_some}
+use Rattle.std.specs.Prelude.{◌≡◌, ℕ, Bool, true, if◌then◌else◌, ◌&&◌, List, [], ◌∷◌, ◌++◌, map, Option, None, Some, All, is_some}
 use Rattle.std.specs.Option.{option_map}
 use Rattle.checker_rules.specs.Clauses.{var_of}
 use Rattle.checker_rules.specs.Emits.{first_true}
@@ -31,7 +31,8 @@ unlisted_lits us m = is_some (stored_id (unit_at us (var_of m))) && true_lits us
 
 -- no stored unit's value is new
 abbrev pub KeepsStored : List (Option UnitClause) → List (Option UnitClause) → Type 0
-KeepsStored us vs = (v : ℕ) → is_some (stored_id (unit_at vs v)) ≡ true → unit_at us v ≡ unit_at vs v
+KeepsStored us vs = (v : ℕ) → is_some (stored_id (unit_at vs v)) ≡ true →
+    unit_at us v ≡ unit_at vs v
 
 -- the ids of what is listed
 abbrev pub item_ids : List Item → List ℕ
@@ -47,11 +48,14 @@ looked ids us c = (ids ++ item_ids (look us c).items, (look us c).unlisted)
 
 -- the ids that are listed after a walk that meets a falsified clause
 abbrev pub ids_after : List ℕ → List (Option UnitClause) → List Stored → Option (List ℕ)
-ids_after ids us es = option_map (λ items. ids ++ item_ids items) (trace (stored_units us) (true_lits us) (unlisted_lits us) es)
+ids_after ids us es = option_map (λ items. ids ++ item_ids items)
+    (trace (stored_units us) (true_lits us) (unlisted_lits us) es)
 
 -- a walk over clauses meets a falsified one, or goes on with these ids and values, whatever clauses follow
-abbrev pub Lists : List ℕ → List (Option UnitClause) → List Stored → List ℕ → List (Option UnitClause) → Bool → Type 0
-Lists ids us es now vs falsified = (rest : List Stored) → ids_after ids us (es ++ rest) ≡ cond falsified (Some now) (ids_after now vs rest)
+abbrev pub Lists : List ℕ → List (Option UnitClause) → List Stored → List ℕ →
+    List (Option UnitClause) → Bool → Type 0
+Lists ids us es now vs falsified = (rest : List Stored) →
+    ids_after ids us (es ++ rest) ≡ (if falsified then Some now else ids_after now vs rest)
 
 -- the clauses of the named buckets, one after the other
 abbrev pub named_clauses : List ℕ → Buckets → List ℕ → List Stored
@@ -60,7 +64,9 @@ named_clauses buffer m (h ∷ hs) = stored_in buffer m h ++ named_clauses buffer
 
 -- the id of the unit that makes the first true literal true
 abbrev pub true_unit_id : List (Option StoredUnit) → List ℕ → Option ℕ
-true_unit_id us c = cond (some_true_unit us c) (Some (unit_id (unit_of us (var_of (first_true us c))))) None
+true_unit_id us c =
+    if some_true_unit us c then Some (unit_id (unit_of us (var_of (first_true us c))))
+    else None
 
 -- the trace of the walk over these clauses with the negated clause
 abbrev pub open_trace : List (Option StoredUnit) → List ℕ → List Stored → Option (List Item)
@@ -68,10 +74,12 @@ open_trace us c es = trace us (start_set us c) (unlisted_at us c) es
 
 -- the ids that a passed check lists
 abbrev pub clause_trace : List (Option StoredUnit) → List ℕ → List Stored → List ℕ
-clause_trace us c es = cond (some_true_unit us c) (unit_id (unit_of us (var_of (first_true us c))) ∷ []) (ids_of (open_trace us c es))
+clause_trace us c es =
+    if some_true_unit us c then unit_id (unit_of us (var_of (first_true us c))) ∷ []
+    else ids_of (open_trace us c es)
 
 -- the ids that stand after a check: those of its trace where it was traced and passed
 abbrev pub last_trace : Bool → Answer → List ℕ → List ℕ → List ℕ
-last_trace traced Passed ids old = cond traced ids old
+last_trace traced Passed ids old = if traced then ids else old
 last_trace traced NoClauseForHash ids old = old
 last_trace traced Failed ids old = old

@@ -1,5 +1,5 @@
 -- The values of variables.
-use Rattle.std.specs.Prelude.{◌≡◌, ℕ, ◌≤◌, Bool, true, false, not, List, [], ◌∷◌, Option, None, Some, length, slice_index_or}
+use Rattle.std.specs.Prelude.{◌≡◌, ℕ, ◌≤◌, Bool, true, false, not, List, [], ◌∷◌, Option, None, Some, length, slice_index_or, slice_set}
 use Rattle.checker_rules.specs.Canonical.{var_bound}
 use Rattle.checker_rules.specs.Clauses.{is_negative, var_of}
 use Rattle.checker_rules.specs.State.{same_bool}
@@ -68,3 +68,7 @@ lit_value us m = value_by (unit_at us (var_of m)) m
 -- the variables of the literals are known
 abbrev pub AreKnown : List (Option UnitClause) → List ℕ → Type 0
 AreKnown us c = var_bound c ≤ length us
+
+-- the variable of this index is given this value, with some id
+abbrev pub IsGiven : List (Option UnitClause) → ℕ → Bool → List (Option UnitClause) → Type 0
+IsGiven us i b vs = (u : UnitClause) × (u.value ≡ b) × (vs ≡ slice_set us i (Some u))

@@ -1,5 +1,5 @@
 -- The list of the stored clauses, by rising ids, whatever buckets they are kept in.
-use Rattle.std.specs.Prelude.{ℕ, ◌≡◌, true, ltb, eqb, cond, List, [], ◌∷◌, map}
+use Rattle.std.specs.Prelude.{ℕ, ◌≡◌, true, nat_lt, ◌==◌, if◌then◌else◌, List, [], ◌∷◌, map}
 use Rattle.std.specs.List.{flat_map}
 use Rattle.std.specs.HashMap.{keys}
 use Rattle.checker_rules.specs.State.{Stored}
@@ -12,7 +12,12 @@ use Rattle.clause_store.specs.Buckets.{Buckets, clauses_at}
 
 -- a stored clause with its literals
 abbrev pub stored_of : List ℕ → Clause → Stored
-stored_of buffer c = record { lits = lits_of c.lits buffer; id = c.id; irredundant = c.irredundant; redundant = c.redundant }
+stored_of buffer c = record {
+  lits = lits_of c.lits buffer;
+  id = c.id;
+  irredundant = c.irredundant;
+  redundant = c.redundant;
+}
 
 -- the stored clauses with a hash, in order
 abbrev pub stored_in : List ℕ → Buckets → ℕ → List Stored
@@ -21,7 +26,10 @@ stored_in buffer m h = map (stored_of buffer) (clauses_at m h)
 -- a clause put into a list by rising ids; one whose id is there changes nothing
 abbrev pub put_by_id : Stored → List Stored → List Stored
 put_by_id x [] = x ∷ []
-put_by_id x (y ∷ ys) = cond (ltb x.id y.id) (x ∷ y ∷ ys) (cond (eqb x.id y.id) (y ∷ ys) (y ∷ put_by_id x ys))
+put_by_id x (y ∷ ys) =
+    if nat_lt x.id y.id then x ∷ y ∷ ys
+    else if x.id == y.id then y ∷ ys
+    else y ∷ put_by_id x ys
 
 -- the list by rising ids
 abbrev pub by_id : List Stored → List Stored
@@ -42,4 +50,6 @@ stored_list s = list_of s.literal_buffer.items s.buckets
 
 -- a list by rising ids whose clauses the buckets hold by their hashes is the list of the buckets
 abbrev pub ListIs : Type 0
-ListIs = (buffer : List ℕ) (m : Buckets) (h : List ℕ → ℕ) (es : List Stored) (next : ℕ) → ids_rise 0 es next ≡ true → ((k : ℕ) → stored_in buffer m k ≡ of_hash h k es) → list_of buffer m ≡ es
+ListIs = (buffer : List ℕ) (m : Buckets) (h : List ℕ → ℕ) (es : List Stored) (next : ℕ) →
+    ids_rise 0 es next ≡ true → ((k : ℕ) → stored_in buffer m k ≡ of_hash h k es) →
+    list_of buffer m ≡ es

@@ -95,7 +95,9 @@ pub fn rehash(
     requires some_bits { 0 < bits }
     requires bits { bits ≤ 64 }
     requires store { IsStore hasher.old clauses.old }
-    ensures state { OnOk result ((st : CheckerState) (known : List Known) → state_of st hasher.new clauses.new known ≡ apply_pending (record (state_of st hasher.old clauses.old known) { width = bits })) }
+    ensures state { OnOk result ((st : CheckerState) (known : List Known) →
+        state_of st hasher.new clauses.new known ≡
+        apply_pending (record (state_of st hasher.old clauses.old known) { width = bits })) }
     ensures store { OnOk result (IsStore hasher.new clauses.new) }
 {
     let renamed = apply_names(&mut hasher.solver_names, &hasher.pending)?;
@@ -115,7 +117,9 @@ pub fn apply_pending_names(
     clauses: &mut Clauses,
 ) -> Result<(), AllocError>
     requires { IsStore hasher.old clauses.old }
-    ensures state { OnOk result ((st : CheckerState) (known : List Known) → state_of st hasher.new clauses.new known ≡ apply_if_named (state_of st hasher.old clauses.old known)) }
+    ensures state { OnOk result ((st : CheckerState) (known : List Known) →
+        state_of st hasher.new clauses.new known ≡
+        apply_if_named (state_of st hasher.old clauses.old known)) }
     ensures store { OnOk result (IsStore hasher.new clauses.new) }
 {
     if hasher.some_name_pending() {
@@ -131,8 +135,10 @@ fn apply_names(
     names: &mut HashMap<usize, Var>,
     pending: &[(Var, Option<Var>)],
 ) -> Result<bool, AllocError>
-    ensures applied { OnOk result (names_of names.new ≡ apply_names (names_of names.old) (map indexes pending.now)) }
-    ensures changed { IfOk result (λ changed. changed ≡ false → names_of names.new ≡ names_of names.old) }
+    ensures applied { OnOk result (names_of names.new ≡
+        apply_names (names_of names.old) (map indexes pending.now)) }
+    ensures changed { IfOk result (λ changed. changed ≡ false →
+        names_of names.new ≡ names_of names.old) }
 {
     let mut changed = false;
     for (var, name) in pending {
@@ -147,8 +153,10 @@ fn apply_name(
     index: usize,
     name: Option<Var>,
 ) -> Result<bool, AllocError>
-    ensures applied { OnOk result (names_of names.new ≡ apply_name (names_of names.old) (index, indexes_of name)) }
-    ensures changed { IfOk result (λ changed. changed ≡ false → names_of names.new ≡ names_of names.old) }
+    ensures applied { OnOk result (names_of names.new ≡
+        apply_name (names_of names.old) (index, indexes_of name)) }
+    ensures changed { IfOk result (λ changed. changed ≡ false →
+        names_of names.new ≡ names_of names.old) }
 {
     let old = match name {
         Some(name) => names.insert(index, name)?,

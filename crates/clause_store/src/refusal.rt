@@ -6,6 +6,7 @@ use checker_parts::error::{CheckCause, CheckerError};
 use std::alloc::Global;
 
 /// A refusal at the present step, without the text of a step. Takes no memory.
+#[inline(always)]
 pub fn refusal(alloc: Global, state: &CheckerState, msg: CheckCause) -> CheckerError
     ensures { RefusesWith state.now.step msg result }
 {

@@ -4,6 +4,7 @@ mod propagation;
 mod status;
 mod trace;
 mod trail;
+mod untraced;
 mod walk;
 
 ghost use Rattle.std.specs.Prelude.{◌≡◌, [], false, length, IfOk, IsTrue};
@@ -22,6 +23,7 @@ use crate::clauses::buckets::Buckets;
 use crate::clauses::units::Units;
 use crate::rup::propagation::Propagation;
 use crate::rup::trail::{assume_false, undo};
+use crate::rup::untraced::{FreeTrail, check_untraced};
 use crate::rup::walk::walk_buckets;
 use proof_bytes::hash::ClauseHash;
 use sat_formula::lit::Lit;
@@ -43,9 +45,11 @@ pub enum Answer {
 #[derive(Drop)]
 pub struct RupCheck {
     propagation: Propagation,
+    assumed: FreeTrail,
     /// The ids of what the last check used that was traced and passed.
     pub trace_ids: Vec<u64>,
     ghost at_rest: { propagation.trail.items ≡ [] },
+    ghost none_assumed: { assumed.items ≡ [] },
 }
 
 impl RupCheck {
@@ -54,6 +58,7 @@ impl RupCheck {
     {
         RupCheck {
             propagation: Propagation::new(alloc),
+            assumed: Vec::new(alloc),
             trace_ids: Vec::new(alloc),
         }
     }
@@ -120,6 +125,9 @@ fn check_open_clause(
         IfOk result (λ a.
         rup.new.trace_ids.items ≡ last_trace traced a ids rup.old.trace_ids.items) }
 {
+    if !traced {
+        return check_untraced(units, &mut rup.assumed, buckets, buffer, lits, hashes);
+    }
     rup.propagation.begin(traced);
     let answer = walk_negated(units, &mut rup.propagation, buckets, buffer, lits, hashes);
     undo(units, &mut rup.propagation.trail);

@@ -18,7 +18,9 @@ leading_all (i ∷ ids) = ap (λ x. i ∷ x) (leading_all ids)
 
 -- nothing of a falsified clause is left
 none_left : (s : ℕ → Bool) (c : List ℕ) → is_falsified s c ≡ true → unfalsified s c ≡ []
-none_left s c h = empty (unfalsified s c) (λ m t. both_ways (s (negate m)) (not-true _ (kept_test (λ m. not (s (negate m))) c m t)) (all_at (λ m. s (negate m)) c m h (kept_in (λ m. not (s (negate m))) c m t)))
+none_left s c h = empty (unfalsified s c)
+    (λ m t. both_ways (s (negate m)) (not-true _ (kept_test (λ m. not (s (negate m))) c m t))
+    (all_at (λ m. s (negate m)) c m h (kept_in (λ m. not (s (negate m))) c m t)))
   where
     empty : (u : List ℕ) → ((m : ℕ) → has m u ≡ true → ⊥) → u ≡ []
     empty [] k = refl

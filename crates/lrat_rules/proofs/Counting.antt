@@ -1,6 +1,6 @@
 -- Clauses of distinct ids hold a literal as often as it is stored at most, and as often only where they are all that hold it.
-use Rattle.std.proofs.Common.{◌≡◌, ℕ, ◌+◌, ◌<◌, ◌≤◌, Bool, true, false, cond, not, ◌&&◌, ◌||◌, eqb, List, [], ◌∷◌, Option, Some, None, is_none, refl, sym, ap, ◌∙◌, subst, arith, eq-eqb}
-use Rattle.std.proofs.lemmas.Bool.{eqb-true, eqb-false, and_parts, and_from, false≢true, both_ways, not-true, ne_eqb, or_parts, true_from_ne_false}
+use Rattle.std.proofs.Common.{◌≡◌, ℕ, ◌+◌, ◌<◌, ◌≤◌, Bool, true, false, cond, not, ◌||◌, eqb, List, [], ◌∷◌, Option, Some, None, is_none, refl, sym, ap, ◌∙◌, subst, arith, eq-eqb}
+use Rattle.std.proofs.lemmas.Bool.{eqb-true, eqb-false, and_parts, and_from, false≢true, not-true, ne_eqb, or_parts, true_from_ne_false}
 use Rattle.checker_rules.specs.Clauses.{has}
 use Rattle.checker_rules.specs.Hints.{Item}
 use Rattle.lrat_rules.specs.Counts.{CountsCover, all_once, count_in, count_of, is_holder, uses, uses_by}
@@ -31,7 +31,9 @@ more_uses : (n d : ℕ) (st : List Item) → uses n (without_ids (d ∷ []) st) 
 more_uses n d [] = omega arith
 more_uses n d (x ∷ st) = go (more_uses n d st) (eqb d x.id) refl
   where
-    go : uses n (without_ids (d ∷ []) st) + count_in n (find st d) ≤ uses n st → (b : Bool) → eqb d x.id ≡ b → uses n (cond (not (eqb x.id d || false)) (x ∷ without_ids (d ∷ []) st) (without_ids (d ∷ []) st)) + count_in n (cond b (Some x.lits) (find st d)) ≤ count_of n x.lits + uses n st
+    go : uses n (without_ids (d ∷ []) st) + count_in n (find st d) ≤ uses n st → (b : Bool) → eqb d x.id ≡ b →
+        uses n (cond (not (eqb x.id d || false)) (x ∷ without_ids (d ∷ []) st) (without_ids (d ∷ []) st)) +
+        count_in n (cond b (Some x.lits) (find st d)) ≤ count_of n x.lits + uses n st
     go rest true e =
         let at : (eqb x.id d || false) ≡ true = ap (λ b. b || false) (eq-eqb x.id d (sym (eqb-true d x.id e))) in
         subst (λ b. uses n (cond (not b) (x ∷ without_ids (d ∷ []) st) (without_ids (d ∷ []) st)) + count_of n x.lits ≤ count_of n x.lits + uses n st) (sym at) (omega (arith, rest))
@@ -51,7 +53,9 @@ uses_without n d (x ∷ st) o = go (uses_without n d st once.1) (eqb d x.id) ref
     none None h = refl
     none (Some c) h = absurd (false≢true h)
 
-    go : uses n (without_ids (d ∷ []) st) + count_in n (find st d) ≡ uses n st → (b : Bool) → eqb d x.id ≡ b → uses n (cond (not (eqb x.id d || false)) (x ∷ without_ids (d ∷ []) st) (without_ids (d ∷ []) st)) + count_in n (cond b (Some x.lits) (find st d)) ≡ count_of n x.lits + uses n st
+    go : uses n (without_ids (d ∷ []) st) + count_in n (find st d) ≡ uses n st → (b : Bool) → eqb d x.id ≡ b →
+        uses n (cond (not (eqb x.id d || false)) (x ∷ without_ids (d ∷ []) st) (without_ids (d ∷ []) st)) +
+        count_in n (cond b (Some x.lits) (find st d)) ≡ count_of n x.lits + uses n st
     go rest true e =
         let at : (eqb x.id d || false) ≡ true = ap (λ b. b || false) (eq-eqb x.id d (sym (eqb-true d x.id e))) in
         let gone : count_in n (find st d) ≡ 0 = none (find st d) (ap (λ k. is_none (find st k)) (eqb-true d x.id e) ∙ once.0) in

@@ -1,5 +1,5 @@
 -- A clause that is redundant by its pivot: the flipped assignment makes all stored clauses true, and the clause.
-use Rattle.std.proofs.Common.{◌≡◌, ℕ, ◌+◌, ◌-◌, ◌%◌, Bool, true, false, cond, not, eqb, List, [], ◌∷◌, Option, Some, None, refl, sym, ap, ◌∙◌, subst, arith, eq-eqb, inl, inr}
+use Rattle.std.proofs.Common.{◌≡◌, ℕ, Bool, true, false, cond, not, eqb, List, [], ◌∷◌, Option, Some, None, refl, sym, ap, ◌∙◌, subst, inl, inr}
 use Rattle.std.specs.List.{list_any, list_all}
 use Rattle.std.proofs.lemmas.Bool.{eqb-true, eqb-false, and_parts, and_from, or_cases, or_left, false≢true, both_ways, not-true, false_from_ne_true, true_from_ne_false, or_parts}
 use Rattle.checker_rules.specs.Clauses.{Agrees, all_true, clause_true, flip, has, is_negative, lit_true, negate, var_of}
@@ -57,14 +57,16 @@ rest_true st a s rest (Some is) m ag h = elim (or_cases (list_any s rest) (is_co
   | inr y ↦ true_from_ne_false (clause_true a rest) (λ f. sound_is_open a (propagate (find st) (add_negated rest s) is) (propagate_sound st a (add_negated rest s) is m (agrees_add a s rest f ag)) y)
 ]
 
-met_stays : (st : List Item) (a s : ℕ → Bool) (p : ℕ) (gs : List Group) (x : Item) → IsModel a st → Agrees a s → lit_true a p ≡ false → is_met st s (negate p) gs x ≡ true → clause_true a x.lits ≡ true → clause_true (flip a (var_of p)) x.lits ≡ true
+met_stays : (st : List Item) (a s : ℕ → Bool) (p : ℕ) (gs : List Group) (x : Item) → IsModel a st → Agrees a s → lit_true a p ≡ false →
+    is_met st s (negate p) gs x ≡ true → clause_true a x.lits ≡ true → clause_true (flip a (var_of p)) x.lits ≡ true
 met_stays st a s p gs x m ag f h t = rest_stays a p x.lits f (elim (or_cases (not (has (negate p) x.lits)) (rest_met (find st) s (without (negate p) x.lits) (group_for x.id gs)) h) [
   | inl none ↦ without_none a (negate p) x.lits (not-true _ none) t
   | inr met ↦ rest_true st a s (without (negate p) x.lits) (group_for x.id gs) m ag met
 ])
 
 -- all of a part of the store
-all_stay : (st : List Item) (a s : ℕ → Bool) (p : ℕ) (gs : List Group) → IsModel a st → Agrees a s → lit_true a p ≡ false → (su : List Item) → list_all (is_met st s (negate p) gs) su ≡ true → IsModel a su → IsModel (flip a (var_of p)) su
+all_stay : (st : List Item) (a s : ℕ → Bool) (p : ℕ) (gs : List Group) → IsModel a st → Agrees a s → lit_true a p ≡ false →
+    (su : List Item) → list_all (is_met st s (negate p) gs) su ≡ true → IsModel a su → IsModel (flip a (var_of p)) su
 all_stay st a s p gs m ag f [] h t = refl
 all_stay st a s p gs m ag f (x ∷ su) h t =
     let met = and_parts (is_met st s (negate p) gs x) (list_all (is_met st s (negate p) gs) su) h in
@@ -76,7 +78,8 @@ ends_open a conflict test so h = absurd so
 ends_open a (open_at s) test so h = (s, so, h)
 ends_open a (stuck k) test so h = absurd (false≢true h)
 
-pub rat_flips : (st : List Item) (c : List ℕ) (hs : List Hint) → by_rat st c hs ≡ true → (a : ℕ → Bool) → IsModel a st → clause_true a c ≡ false → (clause_true (flip_pivot a c) c ≡ true) × IsModel (flip_pivot a c) st
+pub rat_flips : (st : List Item) (c : List ℕ) (hs : List Hint) → by_rat st c hs ≡ true → (a : ℕ → Bool) → IsModel a st →
+    clause_true a c ≡ false → (clause_true (flip_pivot a c) c ≡ true) × IsModel (flip_pivot a c) st
 rat_flips st c hs h a m f =
     let s = ends_open a (led st c hs) (λ s. all_met st s c (groups hs)) (led_sound st a c hs m f) h in
     go c s.0 s.1 s.2 f

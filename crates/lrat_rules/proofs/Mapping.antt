@@ -30,20 +30,21 @@ found_left [] is k = both (has k is) None
     both : (b : Bool) (o : Option (List ℕ)) → o ≡ cond b o o
     both true o = refl
     both false o = refl
-found_left (x ∷ st) is k = elim (has x.id is) as (λ b. has x.id is ≡ b → find (cond (not b) (x ∷ without_ids is st) (without_ids is st)) k ≡ cond (has k is) None (cond (eqb k x.id) (Some x.lits) (find st k))) [
-  | true ↦ λ h. elim (eqb k x.id) as (λ b. eqb k x.id ≡ b → find (without_ids is st) k ≡ cond (has k is) None (cond b (Some x.lits) (find st k))) [
-    | true ↦ λ e.
-        let y : has k is ≡ true = subst (λ i. has i is ≡ true) (sym (eqb-true k x.id e)) h in
-        found_left st is k ∙ ap (λ b. cond b None (find st k)) y ∙ sym (ap (λ b. cond b None (Some x.lits)) y)
-    | false ↦ λ e. found_left st is k
-  ] refl
-  | false ↦ λ h. elim (eqb k x.id) as (λ b. eqb k x.id ≡ b → cond b (Some x.lits) (find (without_ids is st) k) ≡ cond (has k is) None (cond b (Some x.lits) (find st k))) [
-    | true ↦ λ e.
-        let y : has k is ≡ false = subst (λ i. has i is ≡ false) (sym (eqb-true k x.id e)) h in
-        sym (ap (λ b. cond b None (Some x.lits)) y)
-    | false ↦ λ e. found_left st is k
-  ] refl
-] refl
+found_left (x ∷ st) is k = elim (has x.id is) as (λ b. has x.id is ≡ b →
+    find (cond (not b) (x ∷ without_ids is st) (without_ids is st)) k ≡ cond (has k is) None (cond (eqb k x.id) (Some x.lits) (find st k))) [
+      | true ↦ λ h. elim (eqb k x.id) as (λ b. eqb k x.id ≡ b → find (without_ids is st) k ≡ cond (has k is) None (cond b (Some x.lits) (find st k))) [
+        | true ↦ λ e.
+            let y : has k is ≡ true = subst (λ i. has i is ≡ true) (sym (eqb-true k x.id e)) h in
+            found_left st is k ∙ ap (λ b. cond b None (find st k)) y ∙ sym (ap (λ b. cond b None (Some x.lits)) y)
+        | false ↦ λ e. found_left st is k
+      ] refl
+      | false ↦ λ h. elim (eqb k x.id) as (λ b. eqb k x.id ≡ b → cond b (Some x.lits) (find (without_ids is st) k) ≡ cond (has k is) None (cond b (Some x.lits) (find st k))) [
+        | true ↦ λ e.
+            let y : has k is ≡ false = subst (λ i. has i is ≡ false) (sym (eqb-true k x.id e)) h in
+            sym (ap (λ b. cond b None (Some x.lits)) y)
+        | false ↦ λ e. found_left st is k
+      ] refl
+    ] refl
 
 -- no id stands twice
 pub below_none : (k n : ℕ) (cs : List (List ℕ)) → k < n → find (numbered n cs) k ≡ None
@@ -64,7 +65,8 @@ left_once is (x ∷ st) h =
     let p = and_parts (is_none (find st x.id)) (ids_once st) h in
     elim (has x.id is) as (λ b. ids_once (cond (not b) (x ∷ without_ids is st) (without_ids is st)) ≡ true) [
       | true ↦ left_once is st p.1
-      | false ↦ and_from (is_none (find (without_ids is st) x.id)) (ids_once (without_ids is st)) (ap is_none (found_left st is x.id) ∙ none_left (has x.id is) (find st x.id) p.0) (left_once is st p.1)
+      | false ↦ and_from (is_none (find (without_ids is st) x.id)) (ids_once (without_ids is st))
+          (ap is_none (found_left st is x.id) ∙ none_left (has x.id is) (find st x.id) p.0) (left_once is st p.1)
     ]
 
 step_once : (st su : List Item) (l : Line) → step st l ≡ Some su → ids_once st ≡ true → ids_once su ≡ true
@@ -221,7 +223,8 @@ end_same (open_at s) t u h = h s
 end_same (stuck k) t u h = refl
 
 rat_same : (st su : List Item) → SameMap st su → ids_once st ≡ true → ids_once su ≡ true → (c : List ℕ) (hs : List Hint) → by_rat st c hs ≡ by_rat su c hs
-rat_same st su e o q c hs = ap (λ d. at_end d (λ s. all_met st s c (groups hs))) (led_same st su e c hs) ∙ end_same (led su c hs) (λ s. all_met st s c (groups hs)) (λ s. all_met su s c (groups hs)) (λ s. all_met_same st su e o q s c (groups hs))
+rat_same st su e o q c hs = ap (λ d. at_end d (λ s. all_met st s c (groups hs))) (led_same st su e c hs) ∙ end_same (led su c hs)
+    (λ s. all_met st s c (groups hs)) (λ s. all_met su s c (groups hs)) (λ s. all_met_same st su e o q s c (groups hs))
 
 none_same : (o q : Option (List ℕ)) → SameNamed o q → is_none o ≡ is_none q
 none_same None None h = refl
@@ -243,14 +246,16 @@ stored_same st su e i c d h k = elim (eqb k i) as (λ b. SameNamed (cond b (Some
 ]
 
 left_map : (st su : List Item) → SameMap st su → (is : List ℕ) → SameMap (without_ids is st) (without_ids is su)
-left_map st su e is k = subst (λ o. SameNamed o (find (without_ids is su) k)) (sym (found_left st is k)) (subst (λ o. SameNamed (cond (has k is) None (find st k)) o) (sym (found_left su is k)) (go (has k is)))
+left_map st su e is k = subst (λ o. SameNamed o (find (without_ids is su) k)) (sym (found_left st is k))
+    (subst (λ o. SameNamed (cond (has k is) None (find st k)) o) (sym (found_left su is k)) (go (has k is)))
   where
     go : (b : Bool) → SameNamed (cond b None (find st k)) (cond b None (find su k))
     go true = tt
     go false = e k
 
 step_same : (st su : List Item) → SameMap st su → ids_once st ≡ true → ids_once su ≡ true → (l : Line) → SameStep (step st l) (step su l)
-step_same st su e o q (adds i c hs) = subst (λ b. SameStep (step st (adds i c hs)) (cond b (Some (record { id = i; lits = c } ∷ su)) None)) (add_same st su e o q i c hs) (go (accepts st (adds i c hs)))
+step_same st su e o q (adds i c hs) = subst (λ b. SameStep (step st (adds i c hs)) (cond b (Some (record { id = i; lits = c } ∷ su)) None))
+    (add_same st su e o q i c hs) (go (accepts st (adds i c hs)))
   where
     go : (b : Bool) → SameStep (cond b (Some (record { id = i; lits = c } ∷ st)) None) (cond b (Some (record { id = i; lits = c } ∷ su)) None)
     go true = stored_same st su e i c c (λ l. refl)

@@ -49,7 +49,8 @@ one_true a l ls same t = elim (or_cases (lit_true a l) (clause_true a ls) t) [
   | inr later ↦ let m = any_at (lit_true a) ls later in subst (λ x. lit_true a x ≡ true) (sym (eqb-true l m.0 (all_at (eqb l) ls m.0 same m.1))) m.2
 ]
 
-left_sound : (s a : ℕ → Bool) (go : (ℕ → Bool) → Ending) → Agrees a s → ((r : ℕ → Bool) → Agrees a r → Sound a (go r)) → (u : List ℕ) → clause_true a u ≡ true → Sound a (by_left u conflict (λ l. go (add_lit l s)))
+left_sound : (s a : ℕ → Bool) (go : (ℕ → Bool) → Ending) → Agrees a s → ((r : ℕ → Bool) → Agrees a r → Sound a (go r)) → (u : List ℕ) →
+    clause_true a u ≡ true → Sound a (by_left u conflict (λ l. go (add_lit l s)))
 left_sound s a go ag k [] t = false≢true t
 left_sound s a go ag k (l ∷ ls) t = cond_both (list_all (eqb l) ls) (go (add_lit l s)) (stuck not_unit) (Sound a) (λ e. k (add_lit l s) (agrees_more s a l ag (one_true a l ls e t))) (λ e. tt)
 

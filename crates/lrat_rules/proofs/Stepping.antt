@@ -11,10 +11,12 @@ use Rattle.lrat_rules.proofs.Propagating.{rup_sound}
 
 -- an accepted addition
 pub added : (st su : List Item) (i : ℕ) (c : List ℕ) (hs : List Hint) → step st (adds i c hs) ≡ Some su → (accepts st (adds i c hs) ≡ true) × (su ≡ record { id = i; lits = c } ∷ st)
-added st su i c hs h = elim (accepts st (adds i c hs)) as (λ b. accepts st (adds i c hs) ≡ b → cond b (Some (record { id = i; lits = c } ∷ st)) None ≡ Some su → (accepts st (adds i c hs) ≡ true) × (su ≡ record { id = i; lits = c } ∷ st)) [
-  | true ↦ λ e k. (e, cc)
-  | false ↦ λ e k. absurd (cc)
-] refl h
+added st su i c hs h = elim (accepts st (adds i c hs)) as (λ b. accepts st (adds i c hs) ≡ b →
+    cond b (Some (record { id = i; lits = c } ∷ st)) None ≡ Some su →
+    (accepts st (adds i c hs) ≡ true) × (su ≡ record { id = i; lits = c } ∷ st)) [
+      | true ↦ λ e k. (e, cc)
+      | false ↦ λ e k. absurd (cc)
+    ] refl h
 
 kept_model : (a : ℕ → Bool) (q : Item → Bool) (st : List Item) → IsModel a st → IsModel a (filter q st)
 kept_model a q [] m = refl

@@ -1,5 +1,5 @@
 -- A table decides as the store that it is of.
-use Rattle.std.proofs.Common.{◌≡◌, ℕ, suc, ◌+◌, ◌-◌, ◌<◌, ◌≤◌, Bool, true, false, cond, not, ◌&&◌, ◌||◌, eqb, List, [], ◌∷◌, Option, Some, None, is_none, is_some, refl, sym, ap, ◌∙◌, subst, arith, eq-eqb, inl, inr}
+use Rattle.std.proofs.Common.{◌≡◌, ℕ, suc, ◌+◌, Bool, true, false, cond, not, ◌||◌, eqb, List, [], ◌∷◌, Option, Some, None, is_none, is_some, refl, sym, ap, ◌∙◌, subst, arith, eq-eqb, inl, inr}
 use mathlib.Core.Path.{fun_ext}
 use Rattle.std.specs.List.{list_all, list_any}
 use Rattle.std.proofs.lemmas.Bool.{eqb-true, eqb-false, and_parts, and_from, or_cases, or_left, or_parts, or_right, false≢true, both_ways, not-true, ne_eqb, false_from_ne_true}
@@ -54,7 +54,9 @@ without_next : (i : ℕ) (is : List ℕ) (st : List Item) → without_ids (i ∷
 without_next i is [] = refl
 without_next i is (x ∷ st) = go (without_next i is st) (eqb x.id i) refl
   where
-    go : without_ids (i ∷ is) st ≡ without_ids is (without_ids (i ∷ []) st) → (b : Bool) → eqb x.id i ≡ b → cond (not (b || has x.id is)) (x ∷ without_ids (i ∷ is) st) (without_ids (i ∷ is) st) ≡ without_ids is (cond (not (b || false)) (x ∷ without_ids (i ∷ []) st) (without_ids (i ∷ []) st))
+    go : without_ids (i ∷ is) st ≡ without_ids is (without_ids (i ∷ []) st) → (b : Bool) → eqb x.id i ≡ b →
+        cond (not (b || has x.id is)) (x ∷ without_ids (i ∷ is) st) (without_ids (i ∷ is) st) ≡
+        without_ids is (cond (not (b || false)) (x ∷ without_ids (i ∷ []) st) (without_ids (i ∷ []) st))
     go rest true e = rest
     go rest false e = ap (λ su. cond (not (has x.id is)) (x ∷ su) su) rest
 
@@ -115,7 +117,8 @@ module _ (st : List Item) (s : ℕ → Bool) (n : ℕ) where
     pub once : all_once ds ≡ true
     pub unseen : (i : ℕ) → has i ds ≡ true → seen i ≡ false
     pub grouped : (i : ℕ) → has i ds ≡ true → is_some (group_for i gs) ≡ true
-    pub met : (i : ℕ) (d hints : List ℕ) → find st i ≡ Some d → has n d ≡ true → seen i ≡ false → group_for i gs ≡ Some hints → (has i ds ≡ true) × (rest_met (find st) s (without n d) (Some hints) ≡ true)
+    pub met : (i : ℕ) (d hints : List ℕ) → find st i ≡ Some d → has n d ≡ true → seen i ≡ false → group_for i gs ≡ Some hints →
+        (has i ds ≡ true) × (rest_met (find st) s (without n d) (Some hints) ≡ true)
 
   -- what an answer says
   abbrev Told : (ℕ → Bool) → ℕ → List Group → Option ℕ → Type 0
@@ -123,7 +126,9 @@ module _ (st : List Item) (s : ℕ → Bool) (n : ℕ) where
   Told seen met gs (Some m) = (ds : List ℕ) × Meets seen gs ds × (m ≡ met + uses_by n st ds)
 
   -- a group that is passed over changes nothing for the ids that it does not name
-  passed : (seen : ℕ → Bool) (met : ℕ) (g : Group) (gs : List Group) → ((i : ℕ) (d : List ℕ) → find st i ≡ Some d → has n d ≡ true → seen i ≡ false → eqb i g.id ≡ false) → (o : Option ℕ) → Told seen met gs o → Told seen met (g ∷ gs) o
+  passed : (seen : ℕ → Bool) (met : ℕ) (g : Group) (gs : List Group) →
+      ((i : ℕ) (d : List ℕ) → find st i ≡ Some d → has n d ≡ true → seen i ≡ false → eqb i g.id ≡ false) → (o : Option ℕ) →
+      Told seen met gs o → Told seen met (g ∷ gs) o
   passed seen met g gs other None f = record {
     id = f.id;
     clause = f.clause;
@@ -191,7 +196,8 @@ module _ (st : List Item) (s : ℕ → Bool) (n : ℕ) where
           go true h = refl
           go false h = f.1.grouped i h
 
-      met_here : (i : ℕ) (c hints : List ℕ) → find st i ≡ Some c → has n c ≡ true → seen i ≡ false → group_for i (g ∷ gs) ≡ Some hints → (has i (g.id ∷ f.0) ≡ true) × (rest_met (find st) s (without n c) (Some hints) ≡ true)
+      met_here : (i : ℕ) (c hints : List ℕ) → find st i ≡ Some c → has n c ≡ true → seen i ≡ false → group_for i (g ∷ gs) ≡ Some hints →
+          (has i (g.id ∷ f.0) ≡ true) × (rest_met (find st) s (without n c) (Some hints) ≡ true)
       met_here i c hints w t v k = go (eqb i g.id) refl k
         where
           go : (b : Bool) → eqb i g.id ≡ b → cond b (Some g.hints) (group_for i gs) ≡ Some hints → (has i (g.id ∷ f.0) ≡ true) × (rest_met (find st) s (without n c) (Some hints) ≡ true)
@@ -204,7 +210,8 @@ module _ (st : List Item) (s : ℕ → Bool) (n : ℕ) where
               (or_right (eqb i g.id) (has i f.0) rest.0, rest.1)
 
   -- a clause without n, or none
-  other_than : (g : Group) (o : Option (List ℕ)) → find st g.id ≡ o → (n_in : (d : List ℕ) → o ≡ Some d → has n d ≡ true → ⊥) → (seen : ℕ → Bool) (i : ℕ) (d : List ℕ) → find st i ≡ Some d → has n d ≡ true → seen i ≡ false → eqb i g.id ≡ false
+  other_than : (g : Group) (o : Option (List ℕ)) → find st g.id ≡ o → (n_in : (d : List ℕ) → o ≡ Some d → has n d ≡ true → ⊥) →
+      (seen : ℕ → Bool) (i : ℕ) (d : List ℕ) → find st i ≡ Some d → has n d ≡ true → seen i ≡ false → eqb i g.id ≡ false
   other_than g o e n_in seen i d w t u = ne_eqb i g.id (λ k. n_in d (sym e ∙ sym (ap (find st) k) ∙ w) t)
 
   -- one more group in front
@@ -215,7 +222,9 @@ module _ (st : List Item) (s : ℕ → Bool) (n : ℕ) where
       met_or : (d : List ℕ) → find st g.id ≡ Some d → seen g.id ≡ false → (b : Bool) → has n d ≡ b → (r : Bool) → rest_met (find st) s (without n d) (Some g.hints) ≡ r →
           Told seen met (g ∷ gs) (cond (eqb (count_of n d) 0) (met_by_groups (find st) s n seen met gs) (cond r (met_by_groups (find st) s n (add_id g.id seen) (met + count_of n d) gs) None))
       met_or d e u false h r q =
-          subst (λ b. Told seen met (g ∷ gs) (cond b (met_by_groups (find st) s n seen met gs) (cond r (met_by_groups (find st) s n (add_id g.id seen) (met + count_of n d) gs) None))) (sym (eq-eqb (count_of n d) 0 (not_held_counts n d h)))
+          subst (λ b. Told seen met (g ∷ gs) (cond b (met_by_groups (find st) s n seen met gs)
+          (cond r (met_by_groups (find st) s n (add_id g.id seen) (met + count_of n d) gs) None)))
+          (sym (eq-eqb (count_of n d) 0 (not_held_counts n d h)))
           (passed seen met g gs (other_than g (Some d) e (λ c k t. both_ways (has n d) h (subst (λ z. has n z ≡ true) (sym (some-same d c k)) t)) seen) _ pass)
       met_or d e u true h r q =
           subst (λ b. Told seen met (g ∷ gs) (cond b (met_by_groups (find st) s n seen met gs) (cond r (met_by_groups (find st) s n (add_id g.id seen) (met + count_of n d) gs) None)))
@@ -223,13 +232,27 @@ module _ (st : List Item) (s : ℕ → Bool) (n : ℕ) where
         where
           by_rest : (r : Bool) → rest_met (find st) s (without n d) (Some g.hints) ≡ r → Told seen met (g ∷ gs) (cond r (met_by_groups (find st) s n (add_id g.id seen) (met + count_of n d) gs) None)
           by_rest true k = counted seen met g gs d e k u _ (rest (count_of n d))
-          by_rest false k = record { id = g.id; clause = d; hints = g.hints; stored = e; holds = h; unseen = u; group = ap (λ b. cond b (Some g.hints) (group_for g.id gs)) (eq-eqb g.id g.id refl); unmet = k }
+          by_rest false k = record {
+            id = g.id;
+            clause = d;
+            hints = g.hints;
+            stored = e;
+            holds = h;
+            unseen = u;
+            group = ap (λ b. cond b (Some g.hints) (group_for g.id gs)) (eq-eqb g.id g.id refl);
+            unmet = k;
+          }
 
-      by_clause : (o : Option (List ℕ)) → find st g.id ≡ o → seen g.id ≡ false → Told seen met (g ∷ gs) (met_by_clause o n (λ d. rest_met (find st) s (without n d) (Some g.hints)) (met_by_groups (find st) s n seen met gs) (λ k. met_by_groups (find st) s n (add_id g.id seen) (met + k) gs))
+      by_clause : (o : Option (List ℕ)) → find st g.id ≡ o → seen g.id ≡ false →
+          Told seen met (g ∷ gs) (met_by_clause o n (λ d. rest_met (find st) s (without n d) (Some g.hints))
+          (met_by_groups (find st) s n seen met gs) (λ k. met_by_groups (find st) s n (add_id g.id seen) (met + k) gs))
       by_clause None e u = passed seen met g gs (other_than g None e (λ d k t. none-some d k) seen) _ pass
       by_clause (Some d) e u = met_or d e u (has n d) refl (rest_met (find st) s (without n d) (Some g.hints)) refl
 
-      seen_or : (b : Bool) → seen g.id ≡ b → Told seen met (g ∷ gs) (cond b (met_by_groups (find st) s n seen met gs) (met_by_clause (find st g.id) n (λ d. rest_met (find st) s (without n d) (Some g.hints)) (met_by_groups (find st) s n seen met gs) (λ k. met_by_groups (find st) s n (add_id g.id seen) (met + k) gs)))
+      seen_or : (b : Bool) → seen g.id ≡ b → Told seen met (g ∷ gs)
+          (cond b (met_by_groups (find st) s n seen met gs)
+          (met_by_clause (find st g.id) n (λ d. rest_met (find st) s (without n d) (Some g.hints)) (met_by_groups (find st) s n seen met gs)
+          (λ k. met_by_groups (find st) s n (add_id g.id seen) (met + k) gs)))
       seen_or true e = passed seen met g gs (λ i d w t u. ne_eqb i g.id (λ k. both_ways (seen i) u (ap seen k ∙ e))) _ pass
       seen_or false e = by_clause (find st g.id) refl e
 

@@ -41,5 +41,6 @@ is_holder n (Some c) = has n c
 abbrev pub CountsCover : Type 0
 CountsCover = (st : List Item) (n : ℕ) (ds : List ℕ) → all_once ds ≡ true → record {
   never_more : uses_by n st ds ≤ uses n st;
-  all_named : uses n st ≤ uses_by n st ds → (i : ℕ) → is_holder n (find st i) ≡ true → has i ds ≡ true;
+  all_named : uses n st ≤ uses_by n st ds → (i : ℕ) → is_holder n (find st i) ≡ true →
+      has i ds ≡ true;
 }

@@ -35,7 +35,8 @@ rest_met f s rest (Some is) = list_any s rest || is_conflict (propagate f (add_n
 
 -- a stored clause without n needs nothing, one with n its group
 abbrev pub is_met : List Item → (ℕ → Bool) → ℕ → List Group → Item → Bool
-is_met st s n gs x = not (has n x.lits) || rest_met (find st) s (without n x.lits) (group_for x.id gs)
+is_met st s n gs x = not (has n x.lits) || rest_met (find st) s (without n x.lits)
+    (group_for x.id gs)
 
 -- every stored clause with the negation of the pivot is met;  the empty clause has no pivot
 abbrev pub all_met : List Item → (ℕ → Bool) → List ℕ → List Group → Bool

@@ -30,15 +30,19 @@ repaired a (deletes is) = a
 -- one line
 pub record LinesKeepModels : Type 0 where
   -- a clause added by propagation is true under the same assignment
-  pub rup : (st : List Item) (c : List ℕ) (hs : List Hint) → by_rup st c hs ≡ true → (a : ℕ → Bool) → IsModel a st → clause_true a c ≡ true
+  pub rup : (st : List Item) (c : List ℕ) (hs : List Hint) → by_rup st c hs ≡ true →
+      (a : ℕ → Bool) → IsModel a st → clause_true a c ≡ true
   -- every accepted line keeps the repaired assignment a model
-  pub repairs : (st su : List Item) (l : Line) → step st l ≡ Some su → (a : ℕ → Bool) → IsModel a st → IsModel (repaired a l) su
+  pub repairs : (st su : List Item) (l : Line) → step st l ≡ Some su → (a : ℕ → Bool) →
+      IsModel a st → IsModel (repaired a l) su
   -- so it keeps satisfiability
-  pub keeps : (st su : List Item) (l : Line) → step st l ≡ Some su → IsSatisfiable st → IsSatisfiable su
+  pub keeps : (st su : List Item) (l : Line) → step st l ≡ Some su → IsSatisfiable st →
+      IsSatisfiable su
 
 -- the same of a list of lines
 abbrev pub RunsKeepModels : Type 0
-RunsKeepModels = (st su : List Item) (ls : List Line) → run st ls ≡ Some su → IsSatisfiable st → IsSatisfiable su
+RunsKeepModels = (st su : List Item) (ls : List Line) → run st ls ≡ Some su → IsSatisfiable st →
+    IsSatisfiable su
 
 -- a clause that is added follows by propagation
 abbrev pub is_rup : List Item → Line → Bool
@@ -52,15 +56,20 @@ all_rup st (l ∷ ls) = is_rup st l && then_test (step st l) (λ su. all_rup su 
 
 -- where no clause was added by its pivot, whoever satisfies the formula satisfies all that is stored
 abbrev pub RupRunsFollow : Type 0
-RupRunsFollow = (formula : List (List ℕ)) (su : List Item) (ls : List Line) → run (formula_store formula) ls ≡ Some su → all_rup (formula_store formula) ls ≡ true →
+RupRunsFollow = (formula : List (List ℕ)) (su : List Item) (ls : List Line) →
+    run (formula_store formula) ls ≡ Some su → all_rup (formula_store formula) ls ≡ true →
     (a : ℕ → Bool) → all_true a formula ≡ true → IsModel a su
 
 -- whoever satisfies the store satisfies each resolvent on the pivot of a clause that was accepted by it
 abbrev pub RatResolves : Type 0
-RatResolves = (st : List Item) (p : ℕ) (ps : List ℕ) (hs : List Hint) → by_rat st (p ∷ ps) hs ≡ true →
-    (i : ℕ) (d : List ℕ) → find st i ≡ Some d → has (negate p) d ≡ true → (a : ℕ → Bool) → IsModel a st → (clause_true a (p ∷ ps) || clause_true a (without (negate p) d)) ≡ true
+RatResolves = (st : List Item) (p : ℕ) (ps : List ℕ) (hs : List Hint) →
+    by_rat st (p ∷ ps) hs ≡ true →
+    (i : ℕ) (d : List ℕ) → find st i ≡ Some d → has (negate p) d ≡ true → (a : ℕ → Bool) →
+    IsModel a st → (clause_true a (p ∷ ps) || clause_true a (without (negate p) d)) ≡ true
 
 -- a list of lines in two parts
 pub record RunsJoin : Type 0 where
-  pub run_on : (st su : List Item) (ls ms : List Line) → run st ls ≡ Some su → run st (ls ++ ms) ≡ run su ms
-  pub refutes_on : (st su : List Item) (ls ms : List Line) → run st ls ≡ Some su → refutes st (ls ++ ms) ≡ (refutes st ls || refutes su ms)
+  pub run_on : (st su : List Item) (ls ms : List Line) → run st ls ≡ Some su →
+      run st (ls ++ ms) ≡ run su ms
+  pub refutes_on : (st su : List Item) (ls ms : List Line) → run st ls ≡ Some su →
+      refutes st (ls ++ ms) ≡ (refutes st ls || refutes su ms)

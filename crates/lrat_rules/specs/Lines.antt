@@ -96,4 +96,5 @@ refutes st (l ∷ ls) = then_test (step st l) (λ su. adds_empty l || refutes su
 
 -- where lines after a formula's clauses add the empty clause, no assignment satisfies the formula
 abbrev pub RunsRefute : Type 0
-RunsRefute = (formula : List (List ℕ)) (ls : List Line) → refutes (formula_store formula) ls ≡ true → (a : ℕ → Bool) → all_true a formula ≡ true → ⊥
+RunsRefute = (formula : List (List ℕ)) (ls : List Line) →
+    refutes (formula_store formula) ls ≡ true → (a : ℕ → Bool) → all_true a formula ≡ true → ⊥

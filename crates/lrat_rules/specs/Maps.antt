@@ -40,19 +40,27 @@ SameStep (Some st) (Some su) = SameMap st su
 -- every stored clause is met exactly where each clause with n that an id names meets its group
 abbrev pub MetByMap : Type 0
 MetByMap = (st : List Item) (s : ℕ → Bool) (n : ℕ) (gs : List Group) → ids_once st ≡ true →
-    (list_all (is_met st s n gs) st ≡ true) ↔ ((i : ℕ) (d : List ℕ) → find st i ≡ Some d → has n d ≡ true → rest_met (find st) s (without n d) (group_for i gs) ≡ true)
+    (list_all (is_met st s n gs) st ≡ true) ↔
+    ((i : ℕ) (d : List ℕ) → find st i ≡ Some d → has n d ≡ true →
+    rest_met (find st) s (without n d) (group_for i gs) ≡ true)
 
 -- what rests on the map alone
 pub record MapDecides : Type 0 where
   -- from a formula on, no id stands twice
-  pub once : (formula : List (List ℕ)) (su : List Item) (ls : List Line) → run (formula_store formula) ls ≡ Some su → ids_once su ≡ true
+  pub once : (formula : List (List ℕ)) (su : List Item) (ls : List Line) →
+      run (formula_store formula) ls ≡ Some su → ids_once su ≡ true
   -- stores with the same map accept the same lines, and have the same map after them
-  pub same_rup : (st su : List Item) → SameMap st su → (c : List ℕ) (hs : List Hint) → by_rup st c hs ≡ by_rup su c hs
-  pub same_step : (st su : List Item) → SameMap st su → ids_once st ≡ true → ids_once su ≡ true → (l : Line) → SameStep (step st l) (step su l)
+  pub same_rup : (st su : List Item) → SameMap st su → (c : List ℕ) (hs : List Hint) →
+      by_rup st c hs ≡ by_rup su c hs
+  pub same_step : (st su : List Item) → SameMap st su → ids_once st ≡ true → ids_once su ≡ true →
+      (l : Line) → SameStep (step st l) (step su l)
   -- the map after a clause is stored, its literals in any order, and after a deletion
-  pub stored : (st su : List Item) → SameMap st su → (i : ℕ) (c d : List ℕ) → SameLits c d → SameMap (record { id = i; lits = c } ∷ st) (record { id = i; lits = d } ∷ su)
-  pub deleted : (st : List Item) (is : List ℕ) (k : ℕ) → find (without_ids is st) k ≡ (if has k is then None else find st k)
+  pub stored : (st su : List Item) → SameMap st su → (i : ℕ) (c d : List ℕ) → SameLits c d →
+      SameMap (record { id = i; lits = c } ∷ st) (record { id = i; lits = d } ∷ su)
+  pub deleted : (st : List Item) (is : List ℕ) (k : ℕ) →
+      find (without_ids is st) k ≡ (if has k is then None else find st k)
 
 -- hints that the hint machine admits are accepted as a line without groups
 abbrev pub AdmittedIsRup : Type 0
-AdmittedIsRup = (st : List Item) (c ids : List ℕ) → IsAdmitted (find st) c ids → by_rup st c (map along ids) ≡ true
+AdmittedIsRup = (st : List Item) (c ids : List ℕ) → IsAdmitted (find st) c ids →
+    by_rup st c (map along ids) ≡ true

@@ -2,7 +2,7 @@
 --     Ending      how propagation ends
 --     propagate f s is      along the clauses that f gives for the ids, where the literals of s are true
 --     is_conflict e, at_end e test      whether it ends in a conflict;  the test where it ends without one
-use Rattle.std.specs.Prelude.{ℕ, Bool, true, false, eqb, if◌then◌else◌, List, [], ◌∷◌, Option, Some, None}
+use Rattle.std.specs.Prelude.{ℕ, Bool, true, false, nat_eq, if◌then◌else◌, List, [], ◌∷◌, Option, Some, None}
 use Rattle.std.specs.List.{list_all}
 use Rattle.checker_rules.specs.Clauses.{add_lit}
 use Rattle.checker_rules.specs.Passes.{unfalsified}
@@ -17,7 +17,7 @@ pub data Ending : Type 0 where
 -- by the literals that are not false: none; one, perhaps repeated; more
 abbrev pub by_left : List ℕ → Ending → (ℕ → Ending) → Ending
 by_left [] none one = none
-by_left (l ∷ ls) none one = if list_all (eqb l) ls then one l else stuck not_unit
+by_left (l ∷ ls) none one = if list_all (nat_eq l) ls then one l else stuck not_unit
 
 -- the literal of a clause that is not false becomes true, also if it was true before
 abbrev pub on_named : Option (List ℕ) → (ℕ → Bool) → ((ℕ → Bool) → Ending) → Ending

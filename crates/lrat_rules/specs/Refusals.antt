@@ -13,13 +13,16 @@ use Rattle.lrat_rules.specs.Stores.{find}
 
 -- a stored clause with n has a group, which does not meet it
 abbrev pub is_failed : List Item → (ℕ → Bool) → ℕ → List Group → Item → Bool
-is_failed st s n gs x = has n x.lits && (is_some (group_for x.id gs) && not (rest_met (find st) s (without n x.lits) (group_for x.id gs)))
+is_failed st s n gs x = has n x.lits &&
+    (is_some (group_for x.id gs) && not
+    (rest_met (find st) s (without n x.lits) (group_for x.id gs)))
 
 -- why groups don't meet all clauses: there is no pivot or no group at all; one fails; one is missing
 abbrev pub unmet : List Item → (ℕ → Bool) → List ℕ → List Group → Cause
 unmet st s [] gs = no_conflict
 unmet st s (p ∷ ps) [] = no_conflict
-unmet st s (p ∷ ps) (g ∷ gs) = if list_any (is_failed st s (negate p) (g ∷ gs)) st then group_fails else group_missing
+unmet st s (p ∷ ps) (g ∷ gs) = if list_any (is_failed st s (negate p) (g ∷ gs)) st then group_fails
+    else group_missing
 
 -- the cause among the groups, where the leading hints end without a conflict
 abbrev pub groups_cause : List Item → (ℕ → Bool) → List ℕ → List Group → Option Cause
@@ -33,7 +36,8 @@ cause_at (stuck k) rest = Some k
 
 -- first the id, then the leading hints, then the groups
 abbrev pub cause_of_line : List Item → Line → Option Cause
-cause_of_line st (adds i c hs) = if is_some (find st i) then Some id_taken else cause_at (led st c hs) (λ s. groups_cause st s c (groups hs))
+cause_of_line st (adds i c hs) = if is_some (find st i) then Some id_taken
+    else cause_at (led st c hs) (λ s. groups_cause st s c (groups hs))
 cause_of_line st (deletes is) = None
 
 -- a line has no cause exactly where it is accepted

@@ -26,11 +26,17 @@ empty_table = record { named = λ i. None; counts = λ n. 0 }
 
 -- one more clause
 abbrev pub put : ℕ → List ℕ → Table → Table
-put i c t = record { named = λ k. if k == i then Some c else t.named k; counts = λ n. count_of n c + t.counts n }
+put i c t = record {
+  named = λ k. if k == i then Some c else t.named k;
+  counts = λ n. count_of n c + t.counts n;
+}
 
 -- without the clause of an id, where it is there
 abbrev pub drop_one : ℕ → Table → Table
-drop_one i t = record { named = λ k. if k == i then None else t.named k; counts = λ n. t.counts n - count_in n (t.named i) }
+drop_one i t = record {
+  named = λ k. if k == i then None else t.named k;
+  counts = λ n. t.counts n - count_in n (t.named i);
+}
 
 -- without those of the ids, in turn
 abbrev pub drop_all : List ℕ → Table → Table
@@ -47,9 +53,11 @@ abbrev pub formula_table : List (List ℕ) → Table
 formula_table cs = put_from 1 cs empty_table
 
 -- a clause that a group names is passed over where it lacks n; else the group must meet it, and it counts as often as it holds n
-abbrev pub met_by_clause : Option (List ℕ) → ℕ → (List ℕ → Bool) → Option ℕ → (ℕ → Option ℕ) → Option ℕ
+abbrev pub met_by_clause : Option (List ℕ) → ℕ → (List ℕ → Bool) → Option ℕ → (ℕ → Option ℕ) →
+    Option ℕ
 met_by_clause None n is_met pass go = pass
-met_by_clause (Some d) n is_met pass go = if count_of n d == 0 then pass else (if is_met d then go (count_of n d) else None)
+met_by_clause (Some d) n is_met pass go = if count_of n d == 0 then pass
+    else (if is_met d then go (count_of n d) else None)
 
 -- no id was seen;  one more was
 abbrev pub no_id : ℕ → Bool
@@ -59,11 +67,13 @@ abbrev pub add_id : ℕ → (ℕ → Bool) → ℕ → Bool
 add_id i seen k = k == i || seen k
 
 -- the groups in turn, each id once: how often n stands in the clauses that are met; None: a group fails
-abbrev pub met_by_groups : (ℕ → Option (List ℕ)) → (ℕ → Bool) → ℕ → (ℕ → Bool) → ℕ → List Group → Option ℕ
+abbrev pub met_by_groups : (ℕ → Option (List ℕ)) → (ℕ → Bool) → ℕ → (ℕ → Bool) → ℕ → List Group →
+    Option ℕ
 met_by_groups f s n seen met [] = Some met
 met_by_groups f s n seen met (g ∷ gs) =
     if seen g.id then met_by_groups f s n seen met gs
-    else met_by_clause (f g.id) n (λ d. rest_met f s (without n d) (Some g.hints)) (met_by_groups f s n seen met gs) (λ k. met_by_groups f s n (add_id g.id seen) (met + k) gs)
+    else met_by_clause (f g.id) n (λ d. rest_met f s (without n d) (Some g.hints))
+    (met_by_groups f s n seen met gs) (λ k. met_by_groups f s n (add_id g.id seen) (met + k) gs)
 
 -- what is missing, where there are groups and where there is none
 abbrev pub missing : List Group → Cause
@@ -78,11 +88,14 @@ met_cause count gs (Some met) = if met == count then None else Some (missing gs)
 -- the cause among the groups; the empty clause has no pivot
 abbrev pub groups_cause_by : Table → (ℕ → Bool) → List ℕ → List Group → Option Cause
 groups_cause_by t s [] gs = Some no_conflict
-groups_cause_by t s (p ∷ ps) gs = met_cause (t.counts (negate p)) gs (met_by_groups t.named s (negate p) no_id 0 gs)
+groups_cause_by t s (p ∷ ps) gs =
+    met_cause (t.counts (negate p)) gs (met_by_groups t.named s (negate p) no_id 0 gs)
 
 -- first the id, then the leading hints, then the groups
 abbrev pub cause_by_table : Table → Line → Option Cause
-cause_by_table t (adds i c hs) = if is_some (t.named i) then Some id_taken else cause_at (propagate t.named (negated_set c) (leading hs)) (λ s. groups_cause_by t s c (groups hs))
+cause_by_table t (adds i c hs) = if is_some (t.named i) then Some id_taken
+    else cause_at (propagate t.named (negated_set c) (leading hs))
+    (λ s. groups_cause_by t s c (groups hs))
 cause_by_table t (deletes is) = None
 
 -- the table after an accepted line
@@ -99,5 +112,7 @@ pub record IsTableOf (t : Table) (st : List Item) : Type 0 where
 -- a table of a store refuses what the store refuses, for the same cause, and is after a line the table of the store after it
 pub record TablesDecide : Type 0 where
   pub formula : (cs : List (List ℕ)) → IsTableOf (formula_table cs) (formula_store cs)
-  pub cause : (t : Table) (st : List Item) → IsTableOf t st → (l : Line) → cause_by_table t l ≡ cause_of_line st l
-  pub after : (t : Table) (st : List Item) → IsTableOf t st → (l : Line) → cause_of_line st l ≡ None → IsTableOf (table_after t l) (after st l)
+  pub cause : (t : Table) (st : List Item) → IsTableOf t st → (l : Line) →
+      cause_by_table t l ≡ cause_of_line st l
+  pub after : (t : Table) (st : List Item) → IsTableOf t st → (l : Line) →
+      cause_of_line st l ≡ None → IsTableOf (table_after t l) (after st l)

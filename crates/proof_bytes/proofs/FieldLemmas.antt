@@ -37,7 +37,8 @@ pub made_fails : {A B : Type 0} {a b : Known} {e : Stop} (item : List ℕ → Fo
 unfolding made_at
 made_fails item make p = faults_bind (λ x. Ok (make x.0, x.1)) p
 
-pub made_read : {A B : Type 0} {a b : Known} (item : List ℕ → Found A) (make : A → B) {x : A} (y : B) → make x ≡ y → Leads a b item (λ more. Ok (x, more)) → Leads a b (made_at item make) (λ more. Ok (y, more))
+pub made_read : {A B : Type 0} {a b : Known} (item : List ℕ → Found A) (make : A → B) {x : A} (y : B) → make x ≡ y →
+    Leads a b item (λ more. Ok (x, more)) → Leads a b (made_at item make) (λ more. Ok (y, more))
 unfolding made_at
 made_read {A} {B} item make {x} y is p = leads_same _ (leads_bind (λ x. Ok (make x.0, x.1)) p) (λ more. ap (λ (z : B). Ok (z, more)) is)
 
@@ -90,7 +91,8 @@ nothing_before : {A : Type 0} (read : Found (List A)) → read ≡ with_front []
 nothing_before (Ok x) = refl
 nothing_before (Err e) = refl
 
-pub list_begins : {A : Type 0} {a b : Known} (item : List ℕ → Found A) (n k : ℕ) → n ≡ k → Leads a b number_at (λ more. Ok (n, more)) → Leads a b (list_at item) (λ more. with_front [] (many_at item k more))
+pub list_begins : {A : Type 0} {a b : Known} (item : List ℕ → Found A) (n k : ℕ) → n ≡ k → Leads a b number_at (λ more. Ok (n, more)) →
+    Leads a b (list_at item) (λ more. with_front [] (many_at item k more))
 unfolding list_at
 list_begins item n k e p = leads_same _ (leads_bind (λ n. many_at item n.0 n.1) p) (λ more. nothing_before (many_at item n more) ∙ ap (λ m. with_front [] (many_at item m more)) e)
 
@@ -102,7 +104,8 @@ regroup : {A : Type 0} (front : List A) (x : A) (read : Found (List A)) → with
 regroup {A} front x (Ok r) = ap (λ (l : List A). Ok (l, r.1)) (sym (append_assoc front (x ∷ []) r.0))
 regroup front x (Err e) = refl
 
-module _ {A : Type 0} {a b : Known} (f : List ℕ → Found (List A)) (item : List ℕ → Found A) (front : List A) (k n : ℕ) (is : k ≡ suc n) (so_far : Leads a b f (λ more. with_front front (many_at item k more))) where
+module _ {A : Type 0} {a b : Known} (f : List ℕ → Found (List A)) (item : List ℕ → Found A) (front : List A) (k n : ℕ) (is : k ≡ suc n)
+    (so_far : Leads a b f (λ more. with_front front (many_at item k more))) where
   next_item : Leads a b f (λ more. item more >>= after_front front item n)
   unfolding many_at
   next_item = leads_same _ so_far (λ more. ap (λ m. with_front front (many_at item m more)) is ∙ front_of_bind front (item more) (after_item item n))
@@ -113,6 +116,7 @@ module _ {A : Type 0} {a b : Known} (f : List ℕ → Found (List A)) (item : Li
   pub item_read : {c : Known} (x : A) → Leads b c item (λ more. Ok (x, more)) → Leads a c f (λ more. with_front (front ++ x ∷ []) (many_at item n more))
   item_read x p = leads_same _ (then_leads (after_front front item n) next_item p) (λ more. regroup front x (many_at item n more))
 
-pub list_ends : {A : Type 0} {a b : Known} (f : List ℕ → Found (List A)) (item : List ℕ → Found A) (front : List A) (k : ℕ) → k ≡ 0 → Leads a b f (λ more. with_front front (many_at item k more)) → Leads a b f (λ more. Ok (front, more))
+pub list_ends : {A : Type 0} {a b : Known} (f : List ℕ → Found (List A)) (item : List ℕ → Found A) (front : List A) (k : ℕ) → k ≡ 0 →
+    Leads a b f (λ more. with_front front (many_at item k more)) → Leads a b f (λ more. Ok (front, more))
 unfolding many_at
 list_ends {A} f item front k is p = leads_same _ p (λ more. ap (λ m. with_front front (many_at item m more)) is ∙ ap (λ (l : List A). Ok (l, more)) (append-nil front))

@@ -27,7 +27,8 @@ fits_at (formats.Bytes width) hashes i d lt all h =
     ]
 
 -- the hash of a unit, likewise
-pub unit_fits_at : (format : Format) (units : List (ℕ × ℕ)) (i : ℕ) (d : ℕ × ℕ) → i < length units → all_fit format (map (λ u. u.1) units) ≡ true → (get_or units i d).1 < 2 ^ 64 → IsHash format (get_or units i d).1
+pub unit_fits_at : (format : Format) (units : List (ℕ × ℕ)) (i : ℕ) (d : ℕ × ℕ) → i < length units →
+    all_fit format (map (λ u. u.1) units) ≡ true → (get_or units i d).1 < 2 ^ 64 → IsHash format (get_or units i d).1
 unit_fits_at formats.Start units i d lt all h = h
 unit_fits_at formats.Numbers units i d lt all h = h
 unit_fits_at (formats.Bytes width) units i d lt all h =

@@ -118,14 +118,19 @@ after_all_numbers : (steps : List Step) → after_all formats.Numbers steps ≡ 
 after_all_numbers [] = refl
 after_all_numbers (step ∷ steps) = ap (λ (format : Format). after_all format steps) (after_numbers step) ∙ after_all_numbers steps
 
-version_1 : (step : Step) (steps : List Step) (rest : List ℕ) → AreSteps formats.Numbers (step ∷ steps) → ReadsTo (start_of (text formats.Numbers (step ∷ steps) ++ rest)) (step ∷ steps) (formats.Numbers, rest)
+version_1 : (step : Step) (steps : List Step) (rest : List ℕ) → AreSteps formats.Numbers (step ∷ steps) →
+    ReadsTo (start_of (text formats.Numbers (step ∷ steps) ++ rest)) (step ∷ steps) (formats.Numbers, rest)
 unfolding text
 version_1 step steps rest h =
     let tail = text (after step formats.Numbers) steps in
     let bytes = text formats.Numbers (step ∷ steps) ++ rest in
-    let begins = ap (λ (l : List ℕ). next_of (start_of l)) (append_assoc (spells formats.Numbers step) tail rest) ∙ plain_start (spells formats.Numbers step) (tail ++ rest) (tagged formats.Numbers step) ∙ ap (λ (l : List ℕ). next_of (formats.Numbers, l)) (sym (append_assoc (spells formats.Numbers step) tail rest)) in
+    let begins = ap (λ (l : List ℕ). next_of (start_of l)) (append_assoc (spells formats.Numbers step) tail rest) ∙ plain_start
+    (spells formats.Numbers step) (tail ++ rest) (tagged formats.Numbers step) ∙ ap (λ (l : List ℕ). next_of (formats.Numbers, l))
+    (sym (append_assoc (spells formats.Numbers step) tail rest)) in
     let there = later_steps formats.Numbers (step ∷ steps) rest (λ e. absurd cc) h in
-    reads_from (start_of bytes) (formats.Numbers, bytes) (formats.Numbers, rest) step steps begins (subst (λ (format : Format). ReadsTo (formats.Numbers, bytes) (step ∷ steps) (format, rest)) (after_all_numbers (step ∷ steps)) there)
+    reads_from (start_of bytes) (formats.Numbers, bytes) (formats.Numbers, rest) step steps begins
+    (subst (λ (format : Format). ReadsTo (formats.Numbers, bytes) (step ∷ steps) (format, rest)) (after_all_numbers (step ∷ steps))
+    there)
 
 pub text_is_read : TextIsRead
 text_is_read = record {
@@ -183,7 +188,9 @@ format_grows (first ∷ steps) step = after_more (formats.Bytes 64) (first ∷ s
 
 fits_2_grows : (steps : List Step) (step : Step) → AreSteps (formats.Bytes 64) steps → IsStep (writing (written_after steps)) step → AreSteps (formats.Bytes 64) (steps ++ step ∷ [])
 fits_2_grows [] step all h = fits_more (formats.Bytes 64) [] step all h
-fits_2_grows (first ∷ steps) step all h = fits_more (formats.Bytes 64) (first ∷ steps) step all (subst (λ (format : Format). IsStep format step) (writing_begun (written_after (first ∷ steps)) (begun first steps)) h)
+fits_2_grows (first ∷ steps) step all h =
+    fits_more (formats.Bytes 64) (first ∷ steps) step all
+    (subst (λ (format : Format). IsStep format step) (writing_begun (written_after (first ∷ steps)) (begun first steps)) h)
 
 pub text_grows : TextGrows
 text_grows = record {

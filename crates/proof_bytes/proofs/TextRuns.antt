@@ -46,7 +46,8 @@ pub found_fault : (place : Place) (fault : Fault) → next_at place.0 place.1 �
 unfolding next_of
 found_fault place fault e = ap step_or_fault e
 
-attempted : (o : Outcome) (refused : Option Cause) (step : Step) (next : Place) → o.refused ≡ refused → after_attempt {X = Place} {F = Fault} o.refused o.after step next ≡ after_attempt refused o.after step next
+attempted : (o : Outcome) (refused : Option Cause) (step : Step) (next : Place) → o.refused ≡ refused →
+    after_attempt {X = Place} {F = Fault} o.refused o.after step next ≡ after_attempt refused o.after step next
 attempted o refused step next e = ap (λ (r : Option Cause). after_attempt {X = Place} {F = Fault} r o.after step next) e
 
 pub move_step : (t : State) (place next : Place) (step : Step) (refused : Option Cause) → MayRead t → next_at place.0 place.1 ≡ Ok ((next.0, step), next.1) → (attempt t step).refused ≡ refused →
@@ -96,8 +97,13 @@ pub record SoFar (old new : Known) (s : State) (steps : List Step) (t : State) (
 pub nothing_yet : (known bytes : Known) (s : State) (format : Format) → bytes ≡ known → format ≡ formats.Start → SoFar known bytes s [] s format
 nothing_yet known bytes s format e starts = rw (e, starts) (record { taken = []; bytes = λ i. omega arith; consumed = Consumes-nil known; goes = λ more. (refl, refl) })
 
-run_on : (s : State) (here : Place) (steps : List Step) (t u : State) (there next : Place) (step : Step) → RunsTo s here steps t there → move next_of t there ≡ inl (step, next) → u ≡ (attempt t step).after → RunsTo s here (steps ++ step ∷ []) u next
-run_on s here [] t u there next step p e is = (next, ap (λ (v : State). move next_of v here) p.0 ∙ ap (λ (q : Place). move next_of t q) p.1 ∙ e, (ap (λ (v : State). (attempt v step).after) p.0 ∙ sym is, refl))
+run_on : (s : State) (here : Place) (steps : List Step) (t u : State) (there next : Place) (step : Step) → RunsTo s here steps t there →
+    move next_of t there ≡ inl (step, next) → u ≡ (attempt t step).after → RunsTo s here (steps ++ step ∷ []) u next
+run_on s here [] t u there next step p e is = (
+  next,
+  ap (λ (v : State). move next_of v here) p.0 ∙ ap (λ (q : Place). move next_of t q) p.1 ∙ e,
+  (ap (λ (v : State). (attempt v step).after) p.0 ∙ sym is, refl),
+)
 run_on s here (first ∷ steps) t u there next step p e is = (p.0, p.1, run_on (attempt s first).after p.0 steps t u there next step p.2 e is)
 
 -- a turn of the loop: the step that was read is accepted
@@ -116,17 +122,21 @@ one_more {old} {now} {new} {s} {t} {steps} {format} {next} {step} u p q h r is =
 
 -- ---- how a loop ends
 
-pub run_ends : (s : State) (here : Place) (steps : List Step) (t : State) (there : Place) (answer : Answer) (r : State) → RunsTo s here steps t there → move next_of t there ≡ inr (answer, r) → Runs next_of s here steps answer r
+pub run_ends : (s : State) (here : Place) (steps : List Step) (t : State) (there : Place) (answer : Answer) (r : State) →
+    RunsTo s here steps t there → move next_of t there ≡ inr (answer, r) → Runs next_of s here steps answer r
 run_ends s here [] t there answer r p e = ap (λ (v : State). move next_of v here) p.0 ∙ ap (λ (q : Place). move next_of t q) p.1 ∙ e
 run_ends s here (first ∷ steps) t there answer r p e = (p.0, p.1, run_ends (attempt s first).after p.0 steps t there answer r p.2 e)
 
 -- what holds of every text that begins with the bytes taken holds of one of the reader's
-pub of_text : (P : List ℕ → Type 0) (known new : Known) (taken : List ℕ) → IsBytes taken → Consumes known new taken → ((more : List ℕ) → P (taken ++ more)) → (text : List ℕ) × IsTextOf known text × P text
+pub of_text : (P : List ℕ → Type 0) (known new : Known) (taken : List ℕ) → IsBytes taken → Consumes known new taken →
+    ((more : List ℕ) → P (taken ++ more)) → (text : List ℕ) × IsTextOf known text × P text
 of_text P None new taken bytes consumed h = (taken, bytes, subst P (append-nil taken) (h []))
 of_text P (Some known) None taken bytes consumed h = absurd consumed
 of_text P (Some known) (Some rest) taken bytes consumed h = (taken ++ rest, consumed, h rest)
 
-over : (known new : Known) (taken : List ℕ) (s : State) (steps : List Step) (answer : Answer) (r : State) → IsBytes taken → Consumes known new taken → ((more : List ℕ) → Runs next_of s (start_of (taken ++ more)) steps answer r) → RunsOver known s steps answer r
+over : (known new : Known) (taken : List ℕ) (s : State) (steps : List Step) (answer : Answer) (r : State) → IsBytes taken →
+    Consumes known new taken → ((more : List ℕ) → Runs next_of s (start_of (taken ++ more)) steps answer r) →
+    RunsOver known s steps answer r
 over known new taken s steps answer r bytes consumed runs =
     let k = of_text (λ (text : List ℕ). Runs next_of s (start_of text) steps answer r) known new taken bytes consumed runs in record { text = k.0; is_text = k.1; runs = k.2 }
 
@@ -150,17 +160,26 @@ module _ {old now : Known} {s t : State} {steps : List Step} {format : Format} (
 
   -- `End` was accepted, now or before
   pub run_closed : (refused : Option Cause) (r : State) → t.ended ≡ true → (closing_conflict t).refused ≡ refused → r ≡ (closing_conflict t).after → RunsOver old s steps (as_answer refused) r
-  run_closed refused r ended answers leaves = ended_by (as_answer refused) r (λ place. move_closed t place ended ∙ ap (λ (a : Option Cause). ends (as_answer a) (closing_conflict t).after) answers ∙ ap (λ (v : State). ends (as_answer refused) v) (sym leaves))
+  run_closed refused r ended answers leaves =
+      ended_by (as_answer refused) r (λ place. move_closed t place ended ∙ ap
+      (λ (a : Option Cause). ends (as_answer a) (closing_conflict t).after) answers ∙ ap (λ (v : State). ends (as_answer refused) v)
+      (sym leaves))
 
-  run_more : (new : Known) (answer : Answer) (r : State) (taken : List ℕ) → IsBytes taken → Consumes now new taken → ((more : List ℕ) → move next_of t (format, taken ++ more) ≡ inr (answer, r)) → RunsOver old s steps answer r
+  run_more : (new : Known) (answer : Answer) (r : State) (taken : List ℕ) → IsBytes taken → Consumes now new taken →
+      ((more : List ℕ) → move next_of t (format, taken ++ more) ≡ inr (answer, r)) → RunsOver old s steps answer r
   run_more new answer r taken bytes consumed e =
       over old new (p.taken ++ taken) s steps answer r (bytes_on p.taken taken p.bytes bytes) (Consumes-trans old now new p.taken taken p.consumed consumed)
-      (λ more. subst (λ (text : List ℕ). Runs next_of s (start_of text) steps answer r) (sym (append_assoc p.taken taken more)) (run_ends s (start_of (p.taken ++ (taken ++ more))) steps t (format, taken ++ more) answer r (p.goes (taken ++ more)) (e more)))
+      (λ more. subst (λ (text : List ℕ). Runs next_of s (start_of text) steps answer r) (sym (append_assoc p.taken taken more))
+      (run_ends s (start_of (p.taken ++ (taken ++ more))) steps t (format, taken ++ more) answer r (p.goes (taken ++ more)) (e more)))
 
   -- the step that was read is refused
-  pub run_refused : {new : Known} {next : Format} {step : Step} (cause : Cause) (r : State) → Leads now new (next_at format) (λ more. Ok ((next, step), more)) → MayRead t → (attempt t step).refused ≡ Some cause → r ≡ (attempt t step).after → RunsOver old s steps (Some (inl cause)) r
+  pub run_refused : {new : Known} {next : Format} {step : Step} (cause : Cause) (r : State) →
+      Leads now new (next_at format) (λ more. Ok ((next, step), more)) → MayRead t → (attempt t step).refused ≡ Some cause →
+      r ≡ (attempt t step).after → RunsOver old s steps (Some (inl cause)) r
   run_refused {new} {next} {step} cause r q h refused leaves =
-      run_more new (Some (inl cause)) r q.taken q.bytes q.consumed (λ more. move_step t (format, q.taken ++ more) (next, more) step (Some cause) h (q.same more) refused ∙ ap (λ (v : State). ends (Some (inl cause)) v) (sym leaves))
+      run_more new (Some (inl cause)) r q.taken q.bytes q.consumed
+      (λ more. move_step t (format, q.taken ++ more) (next, more) step (Some cause) h (q.same more) refused ∙ ap
+      (λ (v : State). ends (Some (inl cause)) v) (sym leaves))
 
   faulted : (fault : Fault) (r : State) (place : Place) → MayRead t → r ≡ count_step t → next_at place.0 place.1 ≡ Err fault → move next_of t place ≡ ends (Some (inr fault)) r
   faulted fault r place h leaves e = move_fault t place fault h e ∙ ap (λ (v : State). ends (Some (inr fault)) v) (sym leaves)
@@ -190,7 +209,9 @@ module _ {old now : Known} {s t : State} {steps : List Step} {format : Format} (
     begins = some_taken old new (p.taken ++ q.taken) (bytes_on p.taken q.taken p.bytes q.bytes) (Consumes-trans old now new p.taken q.taken p.consumed q.consumed);
     runs = short r q.taken h leaves q.is_fault;
   }
-  run_faulted {new} (proof_faults.Malformed kind) r q h leaves = run_more new (Some (inr (Wrong kind))) r q.taken q.bytes q.consumed (λ more. faulted (Wrong kind) r (format, q.taken ++ more) h leaves (q.is_fault more))
+  run_faulted {new} (proof_faults.Malformed kind) r q h leaves =
+      run_more new (Some (inr (Wrong kind))) r q.taken q.bytes q.consumed
+      (λ more. faulted (Wrong kind) r (format, q.taken ++ more) h leaves (q.is_fault more))
   run_faulted {new} proof_faults.OutOfMemory r q h leaves = run_before
 
 -- over a reader that tells its bytes

@@ -13,10 +13,13 @@ use Rattle.proof_bytes.specs.Taking.{unread_fields, Reads}
 
 -- a step by its head and the lists that were read
 abbrev pub step_with : Head → List ℕ → List ℕ → List (ℕ × ℕ) → Step
-step_with (heads.SolverVarName global solver) lits hashes units = solver_var_name (index_of global) (indexes_of solver)
-step_with (heads.UserVarName global user) lits hashes units = user_var_name (index_of global) (indexes_of user)
+step_with (heads.SolverVarName global solver) lits hashes units =
+    solver_var_name (index_of global) (indexes_of solver)
+step_with (heads.UserVarName global user) lits hashes units =
+    user_var_name (index_of global) (indexes_of user)
 step_with (heads.DeleteVar var) lits hashes units = delete_var (index_of var)
-step_with (heads.ChangeSamplingMode var sample) lits hashes units = change_sampling_mode (index_of var) sample
+step_with (heads.ChangeSamplingMode var sample) lits hashes units =
+    change_sampling_mode (index_of var) sample
 step_with heads.AddClause lits hashes units = add_clause lits
 step_with (heads.AtClause redundant) lits hashes units = at_clause redundant lits hashes
 step_with (heads.DeleteClause proof) lits hashes units = delete_clause (why proof) lits
@@ -41,5 +44,6 @@ abbrev pub unread_body : {R : Type 0} → (R → Option (List ℕ)) → BodyRead
 unread_body remaining r = unread_fields remaining r.fields
 
 -- the call read what f reads, seen so, or stopped where f does
-abbrev pub Fills : {R X A : Type 0} → (R → Option (List ℕ)) → (X → A) → BodyReader R → BodyReader R → Result X Stop → (List ℕ → Found A) → Type 0
+abbrev pub Fills : {R X A : Type 0} → (R → Option (List ℕ)) → (X → A) → BodyReader R →
+    BodyReader R → Result X Stop → (List ℕ → Found A) → Type 0
 Fills remaining seen old new r f = Reads remaining seen old.fields new.fields r f

@@ -39,7 +39,8 @@ made_at item make bytes = do
   Ok (make x.0, x.1)
 
 -- one after the other
-unfoldable pub pair_at : {A B : Type 0} → (List ℕ → Found A) → (List ℕ → Found B) → List ℕ → Found (A × B)
+unfoldable pub pair_at : {A B : Type 0} → (List ℕ → Found A) → (List ℕ → Found B) → List ℕ →
+    Found (A × B)
 pair_at first second bytes = do
   x ← first bytes
   y ← second x.1

@@ -23,7 +23,8 @@ Answer = Option (Cause ⊎ Fault)
 -- the run from s over a text accepts these steps first, and is then in t at that place
 abbrev pub RunsTo : State → Place → List Step → State → Place → Type 0
 RunsTo s here [] t there = (s ≡ t) × (here ≡ there)
-RunsTo s here (step ∷ steps) t there = (next : Place) × (move next_of s here ≡ inl (step, next)) × RunsTo (attempt s step).after next steps t there
+RunsTo s here (step ∷ steps) t there = (next : Place) × (move next_of s here ≡ inl (step, next))
+    × RunsTo (attempt s step).after next steps t there
 
 -- this is the text of a reader: all its bytes where it tells them, else some bytes
 abbrev pub IsTextOf : Option (List ℕ) → List ℕ → Type 0
@@ -36,19 +37,22 @@ BeginsTextOf None text = IsBytes text
 BeginsTextOf (Some known) text = (rest : List ℕ) × (known ≡ text ++ rest)
 
 -- the run from s over the text of a reader accepts these steps, answers so and ends in r
-pub record RunsOver (known : Option (List ℕ)) (s : State) (steps : List Step) (answer : Answer) (r : State) : Type 0 where
+pub record RunsOver (known : Option (List ℕ)) (s : State) (steps : List Step) (answer : Answer)
+    (r : State) : Type 0 where
   pub text : List ℕ
   pub is_text : IsTextOf known text
   pub runs : Runs next_of s (start_of text) steps answer r
 
 -- the same over what was read before a read failed: that stands in place of the text's end
-pub record RunsUntilCut (known : Option (List ℕ)) (s : State) (steps : List Step) (r : State) : Type 0 where
+pub record RunsUntilCut (known : Option (List ℕ)) (s : State) (steps : List Step)
+    (r : State) : Type 0 where
   pub text : List ℕ
   pub begins : BeginsTextOf known text
   pub runs : Runs next_of s (start_of text) steps (Some (inr Short)) r
 
 -- over what was read before memory was wanted the run accepts these steps and is then in t
-pub record RunsBefore (known : Option (List ℕ)) (s : State) (steps : List Step) (t : State) : Type 0 where
+pub record RunsBefore (known : Option (List ℕ)) (s : State) (steps : List Step)
+    (t : State) : Type 0 where
   pub text : List ℕ
   pub begins : BeginsTextOf known text
   pub there : Place
@@ -58,5 +62,6 @@ pub record RunsBefore (known : Option (List ℕ)) (s : State) (steps : List Step
 abbrev pub RunsToFault : Option (List ℕ) → State → List Step → ProofFault → State → State → Type 0
 RunsToFault known s steps proof_faults.End t r = RunsOver known s steps (Some (inr Short)) r
 RunsToFault known s steps (proof_faults.Read e) t r = RunsUntilCut known s steps r
-RunsToFault known s steps (proof_faults.Malformed kind) t r = RunsOver known s steps (Some (inr (Wrong kind))) r
+RunsToFault known s steps (proof_faults.Malformed kind) t r =
+    RunsOver known s steps (Some (inr (Wrong kind))) r
 RunsToFault known s steps proof_faults.OutOfMemory t r = RunsBefore known s steps t

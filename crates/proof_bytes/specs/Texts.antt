@@ -32,7 +32,8 @@ next_of place = step_or_fault (next_at place.0 place.1)
 -- from here on these steps are read, and then the text stands there
 abbrev pub ReadsTo : Place → List Step → Place → Type 0
 ReadsTo here [] there = here ≡ there
-ReadsTo here (step ∷ steps) there = (next : Place) × (next_of here ≡ inl (step, next)) × ReadsTo next steps there
+ReadsTo here (step ∷ steps) there = (next : Place) × (next_of here ≡ inl (step, next))
+    × ReadsTo next steps there
 
 -- the bytes of these steps, one after the other
 unfoldable pub text : Format → List Step → List ℕ

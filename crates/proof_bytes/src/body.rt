@@ -44,7 +44,7 @@ impl<R: Read> BodyReader<R> {
     ghost use Rattle.proof_bytes.specs.NextStep.{view};
     ghost use Rattle.proof_bytes.specs.Steps.{tag_at, next_at, fields_at, one_field, two_fields, three_fields};
     ghost use Rattle.proof_bytes.specs.Fields.{var_at, name_at, flag_at, justification_at, lits_at, hashes_at, unit_at, list_at, below_at};
-    ghost use Rattle.proof_bytes.specs.Taking.{HasStopped, Reads, stop_of};
+    ghost use Rattle.proof_bytes.specs.Taking.{HasItsError, HasStopped, Reads, stop_of};
     ghost use Rattle.proof_bytes.specs.Formats.{IsFormat};
 
     pub(crate) fn new(alloc: Global, inner: R) -> BodyReader<R>
@@ -60,12 +60,14 @@ impl<R: Read> BodyReader<R> {
 
     pub(crate) fn fault(&self, stop: Stop) -> ProofFault
         requires { stop ≡ Stop.Read → HasStopped self.now.fields }
-        ensures { stop_of result ≡ stop }
+        ensures stop { stop_of result ≡ stop }
+        ensures error { HasItsError self.now.fields result }
     {
         self.fields.fault(stop)
     }
 
     /// The step of a head and the lists that were read with it.
+    #[inline(always)]
     pub(crate) fn shown(&self, head: Head) -> ProofStep<'_>
         ensures { view result ≡ step_of head self.now }
     {
@@ -103,9 +105,11 @@ impl<R: Read> BodyReader<R> {
     }
 
     /// The next step of a text in this format, and the format after it.
+    #[inline(always)]
     pub(crate) fn step(&mut self, format: Format) -> Result<(Format, Head), Stop>
         requires { IsFormat format }
-        ensures read { Fills R.remaining (λ s. (s.0, step_of s.1 self.new)) self.old self.new result (next_at format) }
+        ensures read { Fills R.remaining (λ s. (s.0, step_of s.1 self.new)) self.old self.new result
+            (next_at format) }
         ensures in_force { IfOk result (λ s. IsFormat s.0) }
     {
         let (in_force, tag) = self.tag(format)?;
@@ -117,6 +121,7 @@ impl<R: Read> BodyReader<R> {
     }
 
     // The next tag, past the mark of a text that begins with it, and the format in force there.
+    #[inline(always)]
     fn tag(&mut self, format: Format) -> Result<(Format, u8), Stop>
         requires { IsFormat format }
         ensures read { Fills R.remaining (λ t. t) self.old self.new result (tag_at format) }
@@ -148,9 +153,11 @@ impl<R: Read> BodyReader<R> {
     }
 
     // What follows a tag.
+    #[inline(always)]
     fn body(&mut self, format: Format, tag: u8) -> Result<Head, Stop>
         requires { IsFormat format }
-        ensures { Fills R.remaining (λ h. step_of h self.new) self.old self.new result (fields_at format tag) }
+        ensures { Fills R.remaining (λ h. step_of h self.new) self.old self.new result
+            (fields_at format tag) }
     {
         match tag {
             tag::SOLVER_VAR_NAME => self.solver_var_name(),
@@ -171,7 +178,8 @@ impl<R: Read> BodyReader<R> {
     }
 
     fn solver_var_name(&mut self) -> Result<Head, Stop>
-        ensures { Fills R.remaining (λ h. step_of h self.new) self.old self.new result (two_fields var_at name_at solver_var_name) }
+        ensures { Fills R.remaining (λ h. step_of h self.new) self.old self.new result
+            (two_fields var_at name_at solver_var_name) }
     {
         let global = self.fields.var()?;
         let solver = self.fields.name()?;
@@ -179,7 +187,8 @@ impl<R: Read> BodyReader<R> {
     }
 
     fn user_var_name(&mut self) -> Result<Head, Stop>
-        ensures { Fills R.remaining (λ h. step_of h self.new) self.old self.new result (two_fields var_at name_at user_var_name) }
+        ensures { Fills R.remaining (λ h. step_of h self.new) self.old self.new result
+            (two_fields var_at name_at user_var_name) }
     {
         let global = self.fields.var()?;
         let user = self.fields.name()?;
@@ -187,14 +196,16 @@ impl<R: Read> BodyReader<R> {
     }
 
     fn delete_var(&mut self) -> Result<Head, Stop>
-        ensures { Fills R.remaining (λ h. step_of h self.new) self.old self.new result (one_field var_at delete_var) }
+        ensures { Fills R.remaining (λ h. step_of h self.new) self.old self.new result
+            (one_field var_at delete_var) }
     {
         let var = self.fields.var()?;
         Ok(Head::DeleteVar { var })
     }
 
     fn change_sampling_mode(&mut self) -> Result<Head, Stop>
-        ensures { Fills R.remaining (λ h. step_of h self.new) self.old self.new result (two_fields var_at flag_at change_sampling_mode) }
+        ensures { Fills R.remaining (λ h. step_of h self.new) self.old self.new result
+            (two_fields var_at flag_at change_sampling_mode) }
     {
         let var = self.fields.var()?;
         let sample = self.fields.flag()?;
@@ -202,15 +213,18 @@ impl<R: Read> BodyReader<R> {
     }
 
     fn add_clause(&mut self) -> Result<Head, Stop>
-        ensures { Fills R.remaining (λ h. step_of h self.new) self.old self.new result (one_field lits_at add_clause) }
+        ensures { Fills R.remaining (λ h. step_of h self.new) self.old self.new result
+            (one_field lits_at add_clause) }
     {
         self.fields.lits(&mut self.lits)?;
         Ok(Head::AddClause)
     }
 
+    #[inline(always)]
     fn at_clause(&mut self, format: Format) -> Result<Head, Stop>
         requires { IsFormat format }
-        ensures { Fills R.remaining (λ h. step_of h self.new) self.old self.new result (three_fields flag_at lits_at (hashes_at format) at_clause) }
+        ensures { Fills R.remaining (λ h. step_of h self.new) self.old self.new result
+            (three_fields flag_at lits_at (hashes_at format) at_clause) }
     {
         let redundant = self.fields.flag()?;
         self.fields.lits(&mut self.lits)?;
@@ -218,8 +232,10 @@ impl<R: Read> BodyReader<R> {
         Ok(Head::AtClause { redundant })
     }
 
+    #[inline(always)]
     fn delete_clause(&mut self) -> Result<Head, Stop>
-        ensures { Fills R.remaining (λ h. step_of h self.new) self.old self.new result (two_fields justification_at lits_at delete_clause) }
+        ensures { Fills R.remaining (λ h. step_of h self.new) self.old self.new result
+            (two_fields justification_at lits_at delete_clause) }
     {
         let proof = self.fields.justification()?;
         self.fields.lits(&mut self.lits)?;
@@ -228,28 +244,32 @@ impl<R: Read> BodyReader<R> {
 
     fn unit_clauses(&mut self, format: Format) -> Result<Head, Stop>
         requires { IsFormat format }
-        ensures { Fills R.remaining (λ h. step_of h self.new) self.old self.new result (one_field (list_at (unit_at format)) unit_clauses) }
+        ensures { Fills R.remaining (λ h. step_of h self.new) self.old self.new result
+            (one_field (list_at (unit_at format)) unit_clauses) }
     {
         self.fields.units(&mut self.units, format)?;
         Ok(Head::UnitClauses)
     }
 
     fn change_hash_bits(&mut self) -> Result<Head, Stop>
-        ensures { Fills R.remaining (λ h. step_of h self.new) self.old self.new result (one_field (below_at (2 ^ 32)) change_hash_bits) }
+        ensures { Fills R.remaining (λ h. step_of h self.new) self.old self.new result
+            (one_field (below_at (2 ^ 32)) change_hash_bits) }
     {
         let bits = self.fields.below(1 << 32)?;
         Ok(Head::ChangeHashBits { bits: bits as u32 })
     }
 
     fn model(&mut self) -> Result<Head, Stop>
-        ensures { Fills R.remaining (λ h. step_of h self.new) self.old self.new result (one_field lits_at model) }
+        ensures { Fills R.remaining (λ h. step_of h self.new) self.old self.new result
+            (one_field lits_at model) }
     {
         self.fields.lits(&mut self.lits)?;
         Ok(Head::Model)
     }
 
     fn assumptions(&mut self) -> Result<Head, Stop>
-        ensures { Fills R.remaining (λ h. step_of h self.new) self.old self.new result (one_field lits_at assumptions) }
+        ensures { Fills R.remaining (λ h. step_of h self.new) self.old self.new result
+            (one_field lits_at assumptions) }
     {
         self.fields.lits(&mut self.lits)?;
         Ok(Head::Assumptions)
@@ -257,7 +277,8 @@ impl<R: Read> BodyReader<R> {
 
     fn failed_assumptions(&mut self, format: Format) -> Result<Head, Stop>
         requires { IsFormat format }
-        ensures { Fills R.remaining (λ h. step_of h self.new) self.old self.new result (two_fields lits_at (hashes_at format) failed_assumptions) }
+        ensures { Fills R.remaining (λ h. step_of h self.new) self.old self.new result
+            (two_fields lits_at (hashes_at format) failed_assumptions) }
     {
         self.fields.lits(&mut self.lits)?;
         self.fields.hashes(&mut self.hashes, format)?;

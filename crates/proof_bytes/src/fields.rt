@@ -1,6 +1,7 @@
 //! The fields of steps, read one after the other.
 ghost use Rattle.std.specs.Prelude.{◌≡◌, ◌<◌, ◌≤◌, ◌^◌, IfOk};
 
+use crate::ahead::{long_number_ahead, number_ahead, wide_ahead};
 use crate::fault::{MalformedStep, ProofFault, Stop};
 use crate::format::{Format, fits_width};
 use crate::hash::ClauseHash;
@@ -20,7 +21,7 @@ impl<R: Read> Fields<R> {
     ghost use Rattle.proof_bytes.specs.NextStep.{why};
     ghost use Rattle.proof_bytes.specs.Reading.{byte_at, number_at};
     ghost use Rattle.proof_bytes.specs.Fields.{below_at, var_at, lit_at, name_at, justification_at, wide_at, hash_at, unit_at, flag_at, list_at, lits_at, hashes_at};
-    ghost use Rattle.proof_bytes.specs.Taking.{unread_fields, HasStopped, Reads, stop_of};
+    ghost use Rattle.proof_bytes.specs.Taking.{unread_fields, HasItsError, HasStopped, Reads, stop_of};
     ghost use Rattle.proof_bytes.specs.Formats.{IsFormat};
 
     pub(crate) fn new(alloc: Global, inner: R) -> Fields<R>
@@ -34,7 +35,8 @@ impl<R: Read> Fields<R> {
     // The fault of a stop, with the error of the read that failed.
     pub(crate) fn fault(&self, stop: Stop) -> ProofFault
         requires { stop ≡ Stop.Read → HasStopped self.now }
-        ensures { stop_of result ≡ stop }
+        ensures stop { stop_of result ≡ stop }
+        ensures error { HasItsError self.now result }
     {
         match stop {
             Stop::End => ProofFault::End,
@@ -51,7 +53,36 @@ impl<R: Read> Fields<R> {
         Ok(self.source.next_byte()?)
     }
 
+    #[inline(always)]
     pub(crate) fn number(&mut self) -> Result<u64, Stop>
+        ensures { Reads R.remaining (λ n. n) self.old self.new result number_at }
+    {
+        match number_ahead(self.source.ahead()) {
+            Some((value, len)) => {
+                self.source.take_ahead(len);
+                Ok(value)
+            }
+            None => self.number_by_bytes(),
+        }
+    }
+
+    // The same, where a number of nine or ten bytes is likely.
+    #[inline(always)]
+    fn long_number(&mut self) -> Result<u64, Stop>
+        ensures { Reads R.remaining (λ n. n) self.old self.new result number_at }
+    {
+        match long_number_ahead(self.source.ahead()) {
+            Some((value, len)) => {
+                self.source.take_ahead(len);
+                Ok(value)
+            }
+            None => self.number_by_bytes(),
+        }
+    }
+
+    // The same, a byte at a time.
+    #[inline(never)]
+    fn number_by_bytes(&mut self) -> Result<u64, Stop>
         ensures { Reads R.remaining (λ n. n) self.old self.new result number_at }
     {
         let first = self.byte()?;
@@ -90,6 +121,7 @@ impl<R: Read> Fields<R> {
         }
     }
 
+    #[inline(always)]
     pub(crate) fn lit(&mut self) -> Result<Lit, Stop>
         ensures { Reads R.remaining (λ l. l) self.old self.new result lit_at }
     {
@@ -138,8 +170,23 @@ impl<R: Read> Fields<R> {
         }
     }
 
-    // The last byte is apart, so that its weight is not passed.
+    #[inline(always)]
     fn wide(&mut self, width: u32) -> Result<ClauseHash, Stop>
+        requires { (0 < width) × (width ≤ 64) }
+        ensures { Reads R.remaining (λ n. n) self.old self.new result (wide_at width) }
+    {
+        match wide_ahead(self.source.ahead(), width) {
+            Some((value, len)) => {
+                self.source.take_ahead(len);
+                Ok(value)
+            }
+            None => self.wide_by_bytes(width),
+        }
+    }
+
+    // The same, a byte at a time. The last byte is apart, so that its weight is not passed.
+    #[inline(never)]
+    fn wide_by_bytes(&mut self, width: u32) -> Result<ClauseHash, Stop>
         requires { (0 < width) × (width ≤ 64) }
         ensures { Reads R.remaining (λ n. n) self.old self.new result (wide_at width) }
     {
@@ -160,13 +207,14 @@ impl<R: Read> Fields<R> {
         }
     }
 
+    #[inline(always)]
     fn hash(&mut self, format: Format) -> Result<ClauseHash, Stop>
         requires { IsFormat format }
         ensures { Reads R.remaining (λ n. n) self.old self.new result (hash_at format) }
     {
         match format {
             Format::Bytes { width } => self.wide(width),
-            _ => self.number(),
+            _ => self.long_number(),
         }
     }
 
@@ -184,7 +232,8 @@ impl<R: Read> Fields<R> {
 
     pub(crate) fn hashes(&mut self, into: &mut Vec<ClauseHash>, format: Format) -> Result<(), Stop>
         requires { IsFormat format }
-        ensures { Reads R.remaining (λ _. into.new.items) self.old self.new result (hashes_at format) }
+        ensures { Reads R.remaining (λ _. into.new.items) self.old self.new result
+            (hashes_at format) }
     {
         into.clear();
         let count = self.number()?;
@@ -201,7 +250,8 @@ impl<R: Read> Fields<R> {
         format: Format,
     ) -> Result<(), Stop>
         requires { IsFormat format }
-        ensures { Reads R.remaining (λ _. into.new.items) self.old self.new result (list_at (unit_at format)) }
+        ensures { Reads R.remaining (λ _. into.new.items) self.old self.new result
+            (list_at (unit_at format)) }
     {
         into.clear();
         let count = self.number()?;

@@ -144,11 +144,14 @@ bad-fold [] = refl
 bad-fold (d ∷ bytes) =
     elim (is_digit d) as (λ t. token_of (fold number_after (cond t numbers.Bad numbers.Bad) bytes) ≡ tokens.Wrong BadNumber) [ true ↦ bad-fold bytes | false ↦ bad-fold bytes ]
 
-digits-fold : (negative : Bool) (v u : ℕ) (bytes : List ℕ) → min v (2 ^ 28 + 1) ≡ min u (2 ^ 28 + 1) → token_of (fold number_after (numbers.Digits negative v) bytes) ≡ judged negative (value_from u bytes)
+digits-fold : (negative : Bool) (v u : ℕ) (bytes : List ℕ) → min v (2 ^ 28 + 1) ≡ min u (2 ^ 28 + 1) →
+    token_of (fold number_after (numbers.Digits negative v) bytes) ≡ judged negative (value_from u bytes)
 digits-fold negative v u [] e = judged_alike negative v u e
 digits-fold negative v u (d ∷ bytes) e =
     let next : min (min v (2 ^ 28 + 1) * 10 + (d - 48)) (2 ^ 28 + 1) ≡ min (u * 10 + (d - 48)) (2 ^ 28 + 1) = omega arith in
-    elim (is_digit d) as (λ t. token_of (fold number_after (cond t (numbers.Digits negative (min v (2 ^ 28 + 1) * 10 + (d - 48))) numbers.Bad) bytes) ≡ judged negative (cond t (value_from (u * 10 + (d - 48)) bytes) None)) [
+    elim (is_digit d) as (λ t. token_of (fold number_after
+    (cond t (numbers.Digits negative (min v (2 ^ 28 + 1) * 10 + (d - 48))) numbers.Bad) bytes) ≡
+    judged negative (cond t (value_from (u * 10 + (d - 48)) bytes) None)) [
       | true ↦ digits-fold negative (min v (2 ^ 28 + 1) * 10 + (d - 48)) (u * 10 + (d - 48)) bytes next
       | false ↦ bad-fold bytes
     ]
@@ -169,7 +172,9 @@ sign-fold (d ∷ bytes) = first-fold true d bytes
 -- a word is judged alike in one piece and byte after byte
 number-fold : (b : ℕ) (bytes : List ℕ) → token_of (fold number_after (begun_by b) bytes) ≡ token_of_word (b ∷ bytes)
 number-fold b bytes =
-    elim (b == 45) as (λ t. token_of (fold number_after (cond t numbers.Sign (cond (is_digit b) (numbers.Digits false (b - 48)) numbers.Bad)) bytes) ≡ cond t (judged true (value_of bytes)) (judged false (value_of (b ∷ bytes)))) [
+    elim (b == 45) as (λ t. token_of (fold number_after
+    (cond t numbers.Sign (cond (is_digit b) (numbers.Digits false (b - 48)) numbers.Bad)) bytes) ≡
+    cond t (judged true (value_of bytes)) (judged false (value_of (b ∷ bytes)))) [
       | true ↦ sign-fold bytes
       | false ↦ first-fold false b bytes
     ]
@@ -210,7 +215,8 @@ unfolding outcome_at
 outcome_at-cons s b bytes a e = ap (then_at bytes) e
 
 -- a number that ends, with what follows it
-number_ends-then : (t : Token) (line : ℕ) (begun : List ℕ) (after : ℕ) (place : Place) (bytes : List ℕ) (next : List ℕ → Outcome) → ((still : List ℕ) → outcome_at (At after true still place) bytes ≡ next still)
+number_ends-then : (t : Token) (line : ℕ) (begun : List ℕ) (after : ℕ) (place : Place) (bytes : List ℕ) (next : List ℕ → Outcome) →
+    ((still : List ℕ) → outcome_at (At after true still place) bytes ≡ next still)
     → then_at bytes (number_ends line begun t after place) ≡ token_then line begun t next
 number_ends-then tokens.Zero line begun after place bytes next h = ap (with_clause begun) (h [])
 number_ends-then (tokens.Literal code) line begun after place bytes next h = h (begun ++ code ∷ [])
@@ -234,7 +240,9 @@ number_last-then line begun tokens.Zero = refl
 number_last-then line begun (tokens.Literal code) = rw (finish-open line begun code) refl
 number_last-then line begun (tokens.Wrong kind) = refl
 
-header_last-then : (line : ℕ) (seen whole : Bool) (begun : List ℕ) → ending (cond seen (Faulty line LateHeader) (cond whole (finish line begun) (Faulty line BadHeader))) ≡ header_then line seen whole (ending (finish line begun))
+header_last-then : (line : ℕ) (seen whole : Bool) (begun : List ℕ) →
+    ending (cond seen (Faulty line LateHeader) (cond whole (finish line begun) (Faulty line BadHeader))) ≡
+    header_then line seen whole (ending (finish line begun))
 header_last-then line true whole begun = refl
 header_last-then line false true begun = refl
 header_last-then line false false begun = refl
@@ -255,14 +263,16 @@ words_of-blank b bytes e = rw e refl
 words_of-byte : (b : ℕ) (bytes : List ℕ) → is_blank b ≡ false → words_of (b ∷ bytes) ≡ (b ∷ front is_blank bytes) ∷ filter has_bytes (others is_blank bytes)
 words_of-byte b bytes e = rw (e, slice_split-front is_blank bytes) refl
 
-line_then-words : (k : LineKind) (line : ℕ) (seen : Bool) (begun xs ys : List ℕ) (next : Bool → List ℕ → Outcome) → words_of xs ≡ words_of ys → line_then k line seen begun xs next ≡ line_then k line seen begun ys next
+line_then-words : (k : LineKind) (line : ℕ) (seen : Bool) (begun xs ys : List ℕ) (next : Bool → List ℕ → Outcome) →
+    words_of xs ≡ words_of ys → line_then k line seen begun xs next ≡ line_then k line seen begun ys next
 line_then-words EmptyLine line seen begun xs ys next e = refl
 line_then-words CommentLine line seen begun xs ys next e = refl
 line_then-words EndMark line seen begun xs ys next e = refl
 line_then-words HeaderLine line seen begun xs ys next e = ap (λ (ws : List (List ℕ)). header_then line seen (is_header ws) (next true begun)) e
 line_then-words TokenLine line seen begun xs ys next e = ap (λ (ws : List (List ℕ)). tokens_from line begun ws (next true)) e
 
-line_by-blank : (line : ℕ) (seen : Bool) (begun : List ℕ) (b : ℕ) (bytes : List ℕ) (next : Bool → List ℕ → Outcome) → is_blank b ≡ true → line_by line seen begun bytes next ≡ line_by line seen begun (b ∷ bytes) next
+line_by-blank : (line : ℕ) (seen : Bool) (begun : List ℕ) (b : ℕ) (bytes : List ℕ) (next : Bool → List ℕ → Outcome) → is_blank b ≡ true →
+    line_by line seen begun bytes next ≡ line_by line seen begun (b ∷ bytes) next
 line_by-blank line seen begun b bytes next e = rw e (line_then-words (kind_of_line bytes) line seen begun bytes (b ∷ bytes) next (sym (words_of-blank b bytes e)))
 
 kind_of_tokens : (b : ℕ) (bytes : List ℕ) → is_blank b ≡ false → (b ≡ 99 → ⊥) → (b ≡ 37 → ⊥) → (b ≡ 112 → ⊥) → kind_of_line (b ∷ bytes) ≡ TokenLine
@@ -270,7 +280,8 @@ kind_of_tokens b bytes e c mark p = rw (e, ne_eqb b 99 c, ne_eqb b 37 mark, ne_e
 
 -- a word, byte after byte and in one piece
 word-then : (line : ℕ) (begun : List ℕ) (b : ℕ) (bytes : List ℕ) (next : List ℕ → Outcome) → is_blank b ≡ false
-    → token_then line begun (token_of (fold number_after (begun_by b) (front is_blank bytes))) (λ still. tokens_from line still (filter has_bytes (others is_blank bytes)) next) ≡ tokens_from line begun (words_of (b ∷ bytes)) next
+    → token_then line begun (token_of (fold number_after (begun_by b) (front is_blank bytes)))
+    (λ still. tokens_from line still (filter has_bytes (others is_blank bytes)) next) ≡ tokens_from line begun (words_of (b ∷ bytes)) next
 unfolding tokens_from
 word-then line begun b bytes next e = rw (number-fold b (front is_blank bytes), words_of-byte b bytes e) refl
 
@@ -286,11 +297,14 @@ module _ (bytes : List ℕ) (later : Agrees bytes) (line : ℕ) where
   unfolding lines_from
   next_lines seen begun = later Start (next_line line) seen begun tt ∙ rw (slice_split-front is_lf bytes) refl
 
-  at_lf : (p : Place) (seen : Bool) (begun : List ℕ) → IsFit p seen → outcome_at (At line seen begun p) (10 ∷ bytes) ≡ rest_of_line p line seen begun [] (λ now still. lines_from line now still (slice_split is_lf bytes))
+  at_lf : (p : Place) (seen : Bool) (begun : List ℕ) → IsFit p seen →
+      outcome_at (At line seen begun p) (10 ∷ bytes) ≡
+      rest_of_line p line seen begun [] (λ now still. lines_from line now still (slice_split is_lf bytes))
   unfolding tokens_from
   at_lf Start seen begun fit = outcome_at-cons (At line seen begun Start) 10 bytes (Goes (At (next_line line) seen begun Start)) refl ∙ next_lines seen begun
   at_lf Between seen begun fit =
-      outcome_at-cons (At line seen begun Between) 10 bytes (Goes (At (next_line line) seen begun Start)) refl ∙ next_lines seen begun ∙ ap (λ now. lines_from line now begun (slice_split is_lf bytes)) fit
+      outcome_at-cons (At line seen begun Between) 10 bytes (Goes (At (next_line line) seen begun Start)) refl ∙ next_lines seen begun ∙ ap
+      (λ now. lines_from line now begun (slice_split is_lf bytes)) fit
   at_lf Comment seen begun fit = outcome_at-cons (At line seen begun Comment) 10 bytes (Goes (At (next_line line) seen begun Start)) refl ∙ next_lines seen begun
   at_lf (InHeader h) seen begun fit =
       outcome_at-cons (At line seen begun (InHeader h)) 10 bytes (header_ends line seen begun h) refl ∙ header_ends-then line seen (is_whole h) begun bytes _ (next_lines true begun)
@@ -324,22 +338,26 @@ module _ (bytes : List ℕ) (later : Agrees bytes) (line : ℕ) where
 
     at_byte : (p : Place) (seen : Bool) (begun : List ℕ) → IsFit p seen → outcome_at (At line seen begun p) (b ∷ bytes) ≡ rest_of_line p line seen begun (b ∷ l) next
     at_byte Start seen begun fit = elim (true_or_false (is_blank b)) [
-      | inl e ↦ outcome_at-cons (At line seen begun Start) b bytes (Goes (At line seen begun Start)) (word_blank b line seen begun false n e) ∙ later Start line seen begun tt ∙ line_by-blank line seen begun b l next e
+      | inl e ↦ outcome_at-cons (At line seen begun Start) b bytes (Goes (At line seen begun Start))
+          (word_blank b line seen begun false n e) ∙ later Start line seen begun tt ∙ line_by-blank line seen begun b l next e
       | inr e ↦ at_first seen begun e
     ]
     at_byte Between seen begun fit = elim (true_or_false (is_blank b)) [
       | inl e ↦ outcome_at-cons (At line seen begun Between) b bytes (Goes (At line seen begun Between)) (word_blank b line seen begun true n e) ∙ later Between line seen begun fit
           ∙ ap (λ (ws : List (List ℕ)). tokens_from line begun ws (next true)) (sym (words_of-blank b l e))
-      | inr e ↦ outcome_at-cons (At line seen begun Between) b bytes (Goes (At line seen begun (InNumber (begun_by b)))) (word_number b line seen begun true n e (λ f. absurd cc)) ∙ later (InNumber (begun_by b)) line seen begun tt
+      | inr e ↦ outcome_at-cons (At line seen begun Between) b bytes (Goes (At line seen begun (InNumber (begun_by b))))
+          (word_number b line seen begun true n e (λ f. absurd cc)) ∙ later (InNumber (begun_by b)) line seen begun tt
           ∙ word-then line begun b l (next true) e
     ]
     at_byte Comment seen begun fit = outcome_at-cons (At line seen begun Comment) b bytes (Goes (At line seen begun Comment)) (rw (ne_eqb b 10 n) refl) ∙ later Comment line seen begun tt
     at_byte (InHeader h) seen begun fit =
-        outcome_at-cons (At line seen begun (InHeader h)) b bytes (Goes (At line seen begun (InHeader (header_after h b)))) (rw (ne_eqb b 10 n) refl) ∙ later (InHeader (header_after h b)) line seen begun tt
+        outcome_at-cons (At line seen begun (InHeader h)) b bytes (Goes (At line seen begun (InHeader (header_after h b))))
+        (rw (ne_eqb b 10 n) refl) ∙ later (InHeader (header_after h b)) line seen begun tt
     at_byte (InNumber m) seen begun fit = elim (true_or_false (is_blank b)) [
       | inl e ↦ outcome_at-cons (At line seen begun (InNumber m)) b bytes (number_ends line begun (token_of m) line Between) (number_blank b line seen begun m n e)
           ∙ number_ends-then (token_of m) line begun line Between bytes _ (λ still. later Between line true still refl) ∙ rw e refl
-      | inr e ↦ outcome_at-cons (At line seen begun (InNumber m)) b bytes (Goes (At line seen begun (InNumber (number_after m b)))) (number_goes b line seen begun m n e) ∙ later (InNumber (number_after m b)) line seen begun tt ∙ rw e refl
+      | inr e ↦ outcome_at-cons (At line seen begun (InNumber m)) b bytes (Goes (At line seen begun (InNumber (number_after m b))))
+          (number_goes b line seen begun m n e) ∙ later (InNumber (number_after m b)) line seen begun tt ∙ rw e refl
     ]
 
 agrees : (bytes : List ℕ) → Agrees bytes
@@ -347,7 +365,8 @@ unfolding outcome_at lines_from
 agrees [] p line seen begun fit = at_end-rest p line seen begun
 agrees (b ∷ bytes) p line seen begun fit =
     elim (cases_eq b 10) [
-      | inl q ↦ subst (λ (k : ℕ). outcome_at (At line seen begun p) (k ∷ bytes) ≡ rest_of_line p line seen begun (front is_lf (k ∷ bytes)) (λ now still. lines_from line now still (others is_lf (k ∷ bytes)))) (sym q)
+      | inl q ↦ subst (λ (k : ℕ). outcome_at (At line seen begun p) (k ∷ bytes) ≡
+          rest_of_line p line seen begun (front is_lf (k ∷ bytes)) (λ now still. lines_from line now still (others is_lf (k ∷ bytes)))) (sym q)
           (at_lf bytes (agrees bytes) line p seen begun fit)
       | inr n ↦ rw (ne_eqb b 10 n) (at_byte bytes (agrees bytes) line b n p seen begun fit)
     ]

@@ -31,8 +31,11 @@ abbrev pub clauses_given : {R : Type 0} → DimacsReader R → ℕ
 clauses_given r = r.clause_count
 
 -- the next clause, the end or the fault of the text that was not taken
-abbrev pub IsNext : {R : Type 0} → (R → Option (List ℕ)) → DimacsReader R → DimacsReader R → List ℕ → Result Bool DimacsFault → Type 0
-IsNext remaining old new clause r = ReadsNext (unread_of remaining old) (unread_of remaining new) (next_at (standing old)) new.text clause new.ended r
+abbrev pub IsNext : {R : Type 0} → (R → Option (List ℕ)) → DimacsReader R → DimacsReader R →
+    List ℕ → Result Bool DimacsFault → Type 0
+IsNext remaining old new clause r =
+    ReadsNext (unread_of remaining old) (unread_of remaining new) (next_at (standing old)) new.text
+    clause new.ended r
 
 -- one clause more where one was given; their number stays at its end
 abbrev pub counted : ℕ → Result Bool DimacsFault → ℕ

@@ -12,14 +12,16 @@ BytesAreLines = (text : List ℕ) → outcome_at start text ≡ outcome_of text
 -- what some texts say: clauses by the codes of their literals (1 is 0, -2 is 3), and the end or the fault
 pub record WorkedTexts : Type 0 where
   pub empty : outcome_of [] ≡ ([], Ended)
-  pub two_clauses : outcome_of (codes "p cnf 9 9\n1 -2 0\n2 0\n") ≡ ((0 ∷ 3 ∷ []) ∷ (2 ∷ []) ∷ [], Ended)
+  pub two_clauses : outcome_of (codes "p cnf 9 9\n1 -2 0\n2 0\n") ≡
+      ((0 ∷ 3 ∷ []) ∷ (2 ∷ []) ∷ [], Ended)
   pub unterminated : outcome_of (codes "1 2") ≡ ([], Faulty 1 UnterminatedClause)
   pub bad_number : outcome_of (codes "1 0\n2 x 0") ≡ ((0 ∷ []) ∷ [], Faulty 2 BadNumber)
   pub end_mark : outcome_of (codes "1 0\n%\n0\n") ≡ ((0 ∷ []) ∷ [], Ended)
   pub largest_variable : outcome_of (codes "268435456 0") ≡ ((536870910 ∷ []) ∷ [], Ended)
   pub variable_too_large : outcome_of (codes "268435457 0") ≡ ([], Faulty 1 VarTooLarge)
   pub second_header : outcome_of (codes "p cnf 1 1\np cnf 1 1\n") ≡ ([], Faulty 2 LateHeader)
-  pub header_after_clause : outcome_of (codes "1 0\np cnf 1 1\n") ≡ ((0 ∷ []) ∷ [], Faulty 2 LateHeader)
+  pub header_after_clause : outcome_of (codes "1 0\np cnf 1 1\n") ≡
+      ((0 ∷ []) ∷ [], Faulty 2 LateHeader)
   pub short_header : outcome_of (codes "p cnf 1\n") ≡ ([], Faulty 1 BadHeader)
   pub leading_zeros : outcome_of (codes "c x\n-007 0") ≡ ((13 ∷ []) ∷ [], Ended)
   pub minus_zero : outcome_of (codes "-0") ≡ ([], Faulty 1 BadNumber)

@@ -44,7 +44,8 @@ judged negative (Some v) = value_token negative v
 -- what a word says as a token
 abbrev pub token_of_word : List ℕ → Token
 token_of_word [] = tokens.Wrong BadNumber
-token_of_word (b ∷ bs) = if b == minus_sign then judged true (value_of bs) else judged false (value_of (b ∷ bs))
+token_of_word (b ∷ bs) = if b == minus_sign then judged true (value_of bs)
+    else judged false (value_of (b ∷ bs))
 
 -- ---- headers
 
@@ -61,7 +62,8 @@ is_digits w = has_bytes w && list_all is_digit w
 
 -- p, cnf and two runs of digits
 abbrev pub is_header : List (List ℕ) → Bool
-is_header words = all_pass ((λ w. bytes_eq w (codes "p")) ∷ (λ w. bytes_eq w (codes "cnf")) ∷ is_digits ∷ is_digits ∷ []) words
+is_header words = all_pass ((λ w. bytes_eq w (codes "p")) ∷ (λ w. bytes_eq w (codes "cnf")) ∷
+    is_digits ∷ is_digits ∷ []) words
 
 -- ---- kinds of lines
 
@@ -76,7 +78,8 @@ pub data LineKind : Type 0 where
 -- by its first byte that is no blank, if it has one
 abbrev pub kind_by : Option ℕ → LineKind
 kind_by None = EmptyLine
-kind_by (Some b) = if b == letter_c then CommentLine else (if b == percent_sign then EndMark else (if b == letter_p then HeaderLine else TokenLine))
+kind_by (Some b) = if b == letter_c then CommentLine
+    else (if b == percent_sign then EndMark else (if b == letter_p then HeaderLine else TokenLine))
 
 -- by its bytes
 abbrev pub kind_of_line : List ℕ → LineKind
@@ -93,7 +96,8 @@ token_then line begun (tokens.Wrong kind) next = ([], Faulty line kind)
 -- the tokens of a line, after these literals of an open clause
 unfoldable pub tokens_from : ℕ → List ℕ → List (List ℕ) → (List ℕ → Outcome) → Outcome
 tokens_from line begun [] next = next begun
-tokens_from line begun (w ∷ ws) next = token_then line begun (token_of_word w) (λ still. tokens_from line still ws next)
+tokens_from line begun (w ∷ ws) next =
+    token_then line begun (token_of_word w) (λ still. tokens_from line still ws next)
 
 -- a header's line, where a number or a header came before it or none
 abbrev pub header_then : ℕ → Bool → Bool → Outcome → Outcome
@@ -106,14 +110,16 @@ abbrev pub line_then : LineKind → ℕ → Bool → List ℕ → List ℕ → (
 line_then EmptyLine line seen begun bytes next = next seen begun
 line_then CommentLine line seen begun bytes next = next seen begun
 line_then EndMark line seen begun bytes next = ([], finish line begun)
-line_then HeaderLine line seen begun bytes next = header_then line seen (is_header (words_of bytes)) (next true begun)
+line_then HeaderLine line seen begun bytes next =
+    header_then line seen (is_header (words_of bytes)) (next true begun)
 line_then TokenLine line seen begun bytes next = tokens_from line begun (words_of bytes) (next true)
 
 -- the lines after the one of this number, once a number or a header has come or none, with these literals of an open clause
 unfoldable pub lines_from : ℕ → Bool → List ℕ → List (List ℕ) → Outcome
 lines_from before seen begun [] = ([], finish before begun)
 lines_from before seen begun (l ∷ ls) =
-    line_then (kind_of_line l) (next_line before) seen begun l (λ now still. lines_from (next_line before) now still ls)
+    line_then (kind_of_line l) (next_line before) seen begun l
+    (λ now still. lines_from (next_line before) now still ls)
 
 -- the whole text; its lines count from 1
 abbrev pub outcome_of : List ℕ → Outcome

@@ -9,9 +9,13 @@ use Rattle.sat_formula.specs.declared.source.NoByte.{NoByte}
 use Rattle.sat_formula.specs.declared.source.NoByte.TheVariants.{End}
 use Rattle.sat_formula.specs.declared.source.Source.{Source}
 
+-- what is read ahead and not taken
+abbrev pub ahead_of : {R : Type 0} → Source R → List ℕ
+ahead_of s = slice_range s.buffer.items s.start s.end
+
 -- what is read ahead and not taken, and then what the reader has left, where that is known
 abbrev pub unread : {R : Type 0} → (R → Option (List ℕ)) → Source R → Option (List ℕ)
-unread remaining s = prepend_known (slice_range s.buffer.items s.start s.end) (remaining s.inner)
+unread remaining s = prepend_known (ahead_of s) (remaining s.inner)
 
 -- whether it has a limit
 abbrev pub is_limited : {R : Type 0} → Source R → Bool
@@ -31,7 +35,8 @@ IsStopped s = IfNone s.failure (room_of s ≡ Some 0)
 
 -- the error of the read that failed; one of the kind `InvalidData` where none failed and the limit is met
 abbrev pub IsErrorOf : {R : Type 0} → Source R → Error → Type 0
-IsErrorOf s e = MatchOption s.failure ((room_of s ≡ Some 0) × (error_kind e ≡ InvalidData)) (λ failed. e ≡ failed)
+IsErrorOf s e = MatchOption s.failure ((room_of s ≡ Some 0) × (error_kind e ≡ InvalidData))
+    (λ failed. e ≡ failed)
 
 -- no byte was taken for this reason; the end is answered only where the reader has no byte left
 pub record TakesNone (old new : Option (List ℕ)) (reason : NoByte) : Type 0 where

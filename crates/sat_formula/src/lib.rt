@@ -7,8 +7,6 @@ mod fault;
 pub mod laws;
 pub mod lit;
 pub mod source;
-#[cfg(test)]
-mod tests;
 mod text;
 mod word;
 

@@ -7,7 +7,9 @@ use Rattle.sat_hints.specs.WrittenText.{further_words, literal_text, number_text
 
 -- `spread` puts each word after a space
 module _ {A : Type 0} (word : A → List ℕ) (spread : List A → List ℕ) where
-  pub word_pushed : ((x : A) (xs : List A) → spread (x ∷ xs) ≡ (32 ∷ word x) ++ spread xs) → (out next whole : List ℕ) (xs : List A) (i : ℕ) (x d : A) → i < length xs → x ≡ get_or xs i d → next ≡ out ++ 32 ∷ word x → out ++ spread (drop i xs) ≡ whole → next ++ spread (drop (i + 1) xs) ≡ whole
+  pub word_pushed : ((x : A) (xs : List A) → spread (x ∷ xs) ≡ (32 ∷ word x) ++ spread xs) →
+      (out next whole : List ℕ) (xs : List A) (i : ℕ) (x d : A) → i < length xs → x ≡ get_or xs i d → next ≡ out ++ 32 ∷ word x →
+      out ++ spread (drop i xs) ≡ whole → next ++ spread (drop (i + 1) xs) ≡ whole
   word_pushed one out next whole xs i x d lt is pushed so_far =
       let rest : List ℕ = spread (drop (i + 1) xs) in
       let step : spread (drop i xs) ≡ (32 ∷ word x) ++ rest = at_drop_more spread xs i d lt ∙ ap (λ y. spread (y ∷ drop (i + 1) xs)) (sym is) ∙ one x (drop (i + 1) xs) in
@@ -30,13 +32,16 @@ grouped d a z b e lf =
     ∙ ap (λ t. t ++ lf) (append_assoc d (a ++ (z ++ b)) e)
 
 -- the words of a line that adds a clause
-further_text : (c hints : List ℕ) → words_after_space (further_words (adds_clause 0 c hints)) ≡ (words_after_space (map literal_text c) ++ (codes " 0" ++ words_after_space (map number_text hints))) ++ codes " 0"
+further_text : (c hints : List ℕ) → words_after_space (further_words (adds_clause 0 c hints)) ≡
+    (words_after_space (map literal_text c) ++ (codes " 0" ++ words_after_space (map number_text hints))) ++ codes " 0"
 further_text c hints =
     after_space-append (map literal_text c ++ zero_word ∷ map number_text hints) (zero_word ∷ [])
     ∙ ap (λ t. t ++ codes " 0") (after_space-append (map literal_text c) (zero_word ∷ map number_text hints))
 
 -- a line that adds a clause, part by part
-pub addition_text : (id : ℕ) (c hints a0 a1 a2 a3 a4 : List ℕ) {a5 : List ℕ} → a0 ≡ [] → a1 ≡ a0 ++ decimal id → a2 ≡ a1 ++ words_after_space (map literal_text c) → a3 ≡ a2 ++ codes " 0" → a4 ≡ a3 ++ words_after_space (map decimal hints) → a5 ≡ a4 ++ codes " 0\n" →
+pub addition_text : (id : ℕ) (c hints a0 a1 a2 a3 a4 : List ℕ) {a5 : List ℕ} → a0 ≡ [] → a1 ≡ a0 ++ decimal id →
+    a2 ≡ a1 ++ words_after_space (map literal_text c) → a3 ≡ a2 ++ codes " 0" → a4 ≡ a3 ++ words_after_space (map decimal hints) →
+    a5 ≡ a4 ++ codes " 0\n" →
     a5 ≡ text_of (adds_clause id c hints) ++ 10 ∷ []
 addition_text id c hints a0 a1 a2 a3 a4 none number lits zero ids end =
     let first = number ∙ ap (λ t. t ++ decimal id) none in

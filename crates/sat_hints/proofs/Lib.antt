@@ -1,14 +1,5 @@
 pub mod AppendedWords
-pub mod CheckLemmas
 pub mod Decimals
-pub mod LineLemmas
-pub mod ListingLemmas
-pub mod NumberLemmas
-pub mod OneAnswer
-pub mod Parts
-pub mod Places
-pub mod ValueLemmas
-pub mod Words
 pub mod WrittenLines
 pub mod WrittenRuns
 pub mod WrittenSteps

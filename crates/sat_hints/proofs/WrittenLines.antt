@@ -10,8 +10,7 @@ use Rattle.checker_rules.specs.Clauses.{is_negative, var_of}
 use Rattle.checker_rules.specs.HintLines.{HintLine, adds_clause, deletes_clauses}
 use Rattle.sat_formula.specs.Bytes.{is_blank, is_digit, is_lf}
 use Rattle.sat_formula.specs.Vars.{lit_code}
-use Rattle.sat_hints.specs.declared.word.ClauseWord.TheVariants as words
-use Rattle.sat_hints.specs.Text.{addition, clause_to_zero, clause_word, deletion, ids_to_end, is_comment, line_after, number_of_word, on_clause, said, said_by, said_by_words, signed_word}
+use Rattle.hint_checker.specs.Text.{addition, clause_to_zero, clause_word, deletion, ids_to_end, is_comment, line_after, literal_word, number_of_word, on_clause, said, said_by, said_by_words, signed_word}
 use Rattle.sat_hints.specs.WrittenText.{HasFittingNumbers, IsCode, IsId, WrittenIsRead, first_number, further_words, literal_text, number_text, text_of, words_after_space, zero_word}
 use Rattle.sat_hints.proofs.Decimals.{AreDigitsOf, decimal_is, number_of_digits}
 use Rattle.sat_hints.proofs.WrittenWords.{AreWords, AreWords-append, AreWords-map, IsWord, one_line-words, words_of-words}
@@ -66,13 +65,13 @@ read_number n fits = number_of_digits n (decimal n) fits (decimal_is n fits)
 
 -- ---- literals
 
-signed_word-literal : (negative : Bool) (v : ℕ) → 0 < v → v ≤ 2 ^ 28 → signed_word negative (Some v) ≡ words.Literal (lit_code v negative)
+signed_word-literal : (negative : Bool) (v : ℕ) → 0 < v → v ≤ 2 ^ 28 → signed_word negative (Some v) ≡ literal_word (lit_code v negative)
 signed_word-literal negative v some most = rw (ne_eqb v 0 (λ q. omega arith), le-ltb (2 ^ 28) v most) refl
 
 -- a literal's text is a word, is read as the literal, and is no d
 record IsLiteralText (l : ℕ) (text : List ℕ) : Type 0 where
   word : IsWord text
-  read : clause_word text ≡ words.Literal l
+  read : clause_word text ≡ literal_word l
   other : bytes_eq text (codes "d") ≡ false
 
 literal_text-is : (l : ℕ) → IsCode l → IsLiteralText l (literal_text l)
@@ -87,7 +86,7 @@ literal_text-is l fits =
           let code : lit_code v true ≡ l = omega arith in
           rw negative (record {
             word = record { some = refl; solid = solid_digits (decimal v) digits.all; one_line = digits_in_line (decimal v) digits.all };
-            read = ap (signed_word true) (number_of_digits v (decimal v) low digits) ∙ signed_word-literal true v (omega arith) most ∙ ap words.Literal code;
+            read = ap (signed_word true) (number_of_digits v (decimal v) low digits) ∙ signed_word-literal true v (omega arith) most ∙ ap literal_word code;
             other = refl;
           })
       | inr positive ↦
@@ -95,7 +94,7 @@ literal_text-is l fits =
           let code : lit_code v false ≡ l = omega arith in
           rw positive (record {
             word = digits_are_word v (decimal v) digits;
-            read = unsigned_word v (decimal v) digits ∙ ap (signed_word false) (number_of_digits v (decimal v) low digits) ∙ signed_word-literal false v (omega arith) most ∙ ap words.Literal code;
+            read = unsigned_word v (decimal v) digits ∙ ap (signed_word false) (number_of_digits v (decimal v) low digits) ∙ signed_word-literal false v (omega arith) most ∙ ap literal_word code;
             other = no_d v (decimal v) digits;
           })
     ]

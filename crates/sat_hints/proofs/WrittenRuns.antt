@@ -5,7 +5,7 @@ use Rattle.std.specs.Prelude.{is_some, take}
 use Rattle.std.specs.List.{list_any}
 use Rattle.std.proofs.lemmas.List.Folds.{list_any-append}
 use Rattle.checker_rules.specs.CallEmissions.{empty_machine}
-use Rattle.checker_rules.specs.CheckedSteps.{ShownStep, hint_step, hint_steps}
+use Rattle.checker_rules.specs.CheckedSteps.{NamedStep, hint_step, hint_steps}
 use Rattle.checker_rules.specs.FormulaEmissions.{input_steps}
 use Rattle.checker_rules.specs.HintLines.{HintLine, Listed, listing}
 use Rattle.checker_rules.specs.HintRun.{HintStep, IsRun, fails_core, lowers, puts_derived, puts_input, removes}
@@ -14,12 +14,12 @@ use Rattle.checker_rules.specs.WrittenLines as rules
 use Rattle.checker_rules.specs.WrittenLines.{Writer, WriterFault, after_written, line_of, new_writer, writer_fault}
 use Rattle.checker_rules.proofs.HintLineFacts.{some-same}
 use Rattle.sat_formula.specs.Lines.{lines_of}
-use Rattle.sat_hints.specs.Checked.{Accepts, adds_empty, said_all}
+use Rattle.hint_checker.specs.Checked.{Accepts, adds_empty, said_all}
+use Rattle.hint_checker.proofs.CheckLemmas.{added_by_lines}
 use Rattle.sat_hints.specs.Writing.{Wrote, after_all, first_fault, writer_of, written}
 use Rattle.sat_hints.specs.WrittenRuns.{AcceptsRun, RunsFrom, WriterIsAccepted, WriterShowsRun, derives_empty, takes}
 use Rattle.sat_hints.specs.WrittenText.{lines_text, text_of}
 use Rattle.sat_hints.specs.declared.writer.LratWriter.{LratWriter}
-use Rattle.sat_hints.proofs.CheckLemmas.{added_by_lines}
 use Rattle.sat_hints.proofs.WrittenTexts.{no_first, run_is_read, text_is_accepted}
 
 -- ---- steps after steps
@@ -55,13 +55,14 @@ record WroteSteps (old : LratWriter) (es : List HintStep) (new : LratWriter) : T
   text : written new ≡ written old ++ lines_text (rules.lines_of (writer_of old) es)
 
 -- one step, and the steps after it
-wrote_more : (old mid new : LratWriter) (e : ShownStep) (es : List HintStep) → Wrote old e.step mid → WroteSteps mid es new → WroteSteps old (hint_step e.step ++ es) new
+wrote_more : (old mid new : LratWriter) (e : NamedStep) (es : List HintStep) → Wrote old e.step mid → WroteSteps mid es new → WroteSteps old (hint_step e.step ++ es) new
 wrote_more old mid new e es first rest =
     let these : List HintStep = hint_step e.step in
     let w : Writer = writer_of old in
     let lines : List ℕ = lines_text (rules.lines_of w these) in
     let others : List ℕ = lines_text (rules.lines_of (after_all w these) es) in
-    let both : lines_text (rules.lines_of w (these ++ es)) ≡ lines ++ others = ap lines_text (lines_of-append w these es) ∙ lines_text-append (rules.lines_of w these) (rules.lines_of (after_all w these) es) in
+    let both : lines_text (rules.lines_of w (these ++ es)) ≡ lines ++ others =
+    ap lines_text (lines_of-append w these es) ∙ lines_text-append (rules.lines_of w these) (rules.lines_of (after_all w these) es) in
     record {
       accepted = first_fault-append w these es first.accepted (ap (λ v. first_fault v es) (sym first.after) ∙ rest.accepted);
       after = rest.after ∙ ap (λ v. after_all v es) first.after ∙ sym (after_all-append w these es);
@@ -72,7 +73,7 @@ wrote_more old mid new e es first rest =
           ∙ ap (λ (t : List ℕ). written old ++ t) (sym both);
     }
 
-wrote_steps : (old new : LratWriter) (es : List ShownStep) → Ran takes old es new → WroteSteps old (hint_steps es) new
+wrote_steps : (old new : LratWriter) (es : List NamedStep) → Ran takes old es new → WroteSteps old (hint_steps es) new
 wrote_steps old new [] run = record { accepted = refl; after = ap writer_of (sym run); text = ap written (sym run) ∙ sym (append-nil (written old)) }
 wrote_steps old new (e ∷ es) run = wrote_more old run.0 new e (hint_steps es) run.1 (wrote_steps run.0 new es run.2)
 
@@ -118,7 +119,7 @@ accepted_empty h k bytes xs said a none =
     ∙ ap (λ ls. list_any adds_empty ls) (some-same a.lines xs (sym a.said ∙ said))
 
 -- the text of steps that begin with a formula's clauses
-steps_accepted : (cs : List (List ℕ)) (es : List ShownStep) → length cs < 2 ^ 64 → RunsFrom cs es → first_fault (new_writer (length cs)) (hint_steps es) ≡ None →
+steps_accepted : (cs : List (List ℕ)) (es : List NamedStep) → length cs < 2 ^ 64 → RunsFrom cs es → first_fault (new_writer (length cs)) (hint_steps es) ≡ None →
     AcceptsRun cs es (lines_text (rules.lines_of (new_writer (length cs)) (hint_steps es)))
 steps_accepted cs es few r none =
     let w : Writer = new_writer (length cs) in

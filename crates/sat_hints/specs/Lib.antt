@@ -1,10 +1,3 @@
-pub mod Checked
-pub mod Held
-pub mod Lines
-pub mod OneAnswer
-pub mod ReadLine
-pub mod Text
-pub mod Unit
 pub mod Writing
 pub mod WrittenRuns
 pub mod WrittenText

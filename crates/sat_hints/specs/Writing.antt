@@ -4,7 +4,7 @@
 --     hints_fault w ids      the fault of hints
 --     Wrote old e new, WroteLine old e new      a step was written, and what a step asks
 --     IsFault f o      a fault of the code is that of the rules, or want of memory
-use Rattle.std.specs.Prelude.{◌≡◌, ℕ, nat_eq, cond, List, [], ◌∷◌, ◌++◌, Option, Some, None, is_some}
+use Rattle.std.specs.Prelude.{◌≡◌, ℕ, nat_eq, if◌then◌else◌, List, [], ◌∷◌, ◌++◌, Option, Some, None, is_some}
 use Rattle.std.specs.HashSet.{contains}
 use Rattle.std.specs.List.{list_any}
 use Rattle.checker_rules.specs.CheckedSteps.{CheckedStep, hint_step}
@@ -19,7 +19,13 @@ use Rattle.sat_hints.specs.declared.writer.LratWriter.{LratWriter}
 
 -- what the writer knows
 abbrev pub writer_of : LratWriter → Writer
-writer_of w = record { announced = w.announced; inputs = contains nat_eq w.inputs; told = w.told; derived = w.derived; last = w.last }
+writer_of w = record {
+  announced = w.announced;
+  inputs = contains nat_eq w.inputs;
+  told = w.told;
+  derived = w.derived;
+  last = w.last;
+}
 
 -- the text written so far
 abbrev pub written : LratWriter → List ℕ
@@ -27,16 +33,19 @@ written w = w.text.items
 
 -- the number, where it fits
 abbrev pub fitting : ℕ → Option ℕ
-fitting n = cond (is_large n) None (Some n)
+fitting n = if is_large n then None else Some n
 
 -- the fault of hints
 abbrev pub hints_fault : Writer → List ℕ → Option rules.WriterFault
-hints_fault w ids = fault_if (list_any (λ j. is_large (number_of w j)) ids) rules.number_out_of_range
+hints_fault w ids = fault_if (list_any (λ j. is_large (number_of w j)) ids)
+    rules.number_out_of_range
 
 -- the first fault of what a step asks
 abbrev pub first_fault : Writer → List HintStep → Option rules.WriterFault
 first_fault w [] = None
-first_fault w (e ∷ es) = cond (is_some (writer_fault w e)) (writer_fault w e) (first_fault (after_written w e) es)
+first_fault w (e ∷ es) =
+    if is_some (writer_fault w e) then writer_fault w e
+    else first_fault (after_written w e) es
 
 -- the fault of a step
 abbrev pub step_fault : Writer → CheckedStep → Option rules.WriterFault

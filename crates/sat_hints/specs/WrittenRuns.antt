@@ -8,35 +8,36 @@
 use Rattle.std.specs.Prelude.{◌≡◌, ℕ, ◌^◌, ◌<◌, Bool, true, false, List, [], ◌++◌, length, take, None, All}
 use Rattle.std.specs.List.{list_any}
 use Rattle.checker_rules.specs.CallEmissions.{empty_machine}
-use Rattle.checker_rules.specs.CheckedSteps.{ShownStep, hint_steps}
+use Rattle.checker_rules.specs.CheckedSteps.{NamedStep, hint_steps}
 use Rattle.checker_rules.specs.FormulaEmissions.{input_steps}
 use Rattle.checker_rules.specs.HintLines.{Listed, is_empty, listing}
 use Rattle.checker_rules.specs.HintRun.{HintStep, IsRun, fails_core, lowers, puts_derived, puts_input, removes}
 use Rattle.checker_rules.specs.Ran.{Ran}
 use Rattle.checker_rules.specs.WrittenLines as rules
 use Rattle.checker_rules.specs.WrittenLines.{new_writer, no_input}
-use Rattle.sat_hints.specs.Checked.{Accepts}
+use Rattle.hint_checker.specs.Checked.{Accepts}
 use Rattle.sat_hints.specs.Writing.{Wrote, after_all, first_fault, writer_of, written}
 use Rattle.sat_hints.specs.WrittenText.{lines_text}
 use Rattle.sat_hints.specs.WrittenTexts.{HasFittingCodes}
 use Rattle.sat_hints.specs.declared.writer.LratWriter.{LratWriter}
 
 -- the writer takes a step, as a processor
-abbrev pub takes : LratWriter → ShownStep → LratWriter → Type 0
+abbrev pub takes : LratWriter → NamedStep → LratWriter → Type 0
 takes old e new = Wrote old e.step new
 
 -- no step has a fault for a new writer, and this one has written their lines and knows what it was told
-pub record WroteRun (n : ℕ) (es : List ShownStep) (new : LratWriter) : Type 0 where
+pub record WroteRun (n : ℕ) (es : List NamedStep) (new : LratWriter) : Type 0 where
   pub accepted : first_fault (new_writer n) (hint_steps es) ≡ None
   pub text : written new ≡ lines_text (rules.lines_of (new_writer n) (hint_steps es))
   pub after : writer_of new ≡ after_all (new_writer n) (hint_steps es)
 
 -- a new writer that takes the steps in turn comes to that
 abbrev pub WriterShowsRun : Type 0
-WriterShowsRun = (old new : LratWriter) (n : ℕ) (es : List ShownStep) → writer_of old ≡ new_writer n → written old ≡ [] → Ran takes old es new → WroteRun n es new
+WriterShowsRun = (old new : LratWriter) (n : ℕ) (es : List NamedStep) →
+    writer_of old ≡ new_writer n → written old ≡ [] → Ran takes old es new → WroteRun n es new
 
 -- the steps begin with a formula's clauses, or a beginning of them, put no other input clause, and are a run of the hint machine; the clauses that they derive can be written
-pub record RunsFrom (cs : List (List ℕ)) (es : List ShownStep) : Type 0 where
+pub record RunsFrom (cs : List (List ℕ)) (es : List NamedStep) : Type 0 where
   pub clauses : ℕ
   pub rest : List HintStep
   pub inputs_first : hint_steps es ≡ input_steps 0 (take clauses cs) ++ rest
@@ -53,12 +54,13 @@ derives_empty (lowers i keep c ids) = false
 derives_empty (fails_core c ids) = false
 
 -- the text is accepted after the formula's clauses, and the empty clause was added exactly where a step derives it
-pub record AcceptsRun (cs : List (List ℕ)) (es : List ShownStep) (bytes : List ℕ) : Type 0 where
+pub record AcceptsRun (cs : List (List ℕ)) (es : List NamedStep) (bytes : List ℕ) : Type 0 where
   pub held : Listed
   pub accepts : Accepts (listing cs) bytes held
   pub empty : held.added_empty ≡ list_any derives_empty (hint_steps es)
 
 -- what a new writer, told so many clauses as the formula has, wrote of such a run
 abbrev pub WriterIsAccepted : Type 0
-WriterIsAccepted = (old new : LratWriter) (cs : List (List ℕ)) (es : List ShownStep) → writer_of old ≡ new_writer (length cs) → written old ≡ [] → Ran takes old es new →
+WriterIsAccepted = (old new : LratWriter) (cs : List (List ℕ)) (es : List NamedStep) →
+    writer_of old ≡ new_writer (length cs) → written old ≡ [] → Ran takes old es new →
     length cs < 2 ^ 64 → RunsFrom cs es → AcceptsRun cs es (written new)

@@ -5,11 +5,11 @@
 --     text_of x, lines_text xs      the line, and lines with their LF
 --     HasFittingNumbers x      what the words of a line can say
 --     WrittenIsRead      such a line is read again
-use Rattle.std.specs.Prelude.{◌≡◌, ℕ, suc, ◌^◌, ◌<◌, cond, List, [], ◌∷◌, ◌++◌, map, codes, decimal, All}
+use Rattle.std.specs.Prelude.{◌≡◌, ℕ, suc, ◌^◌, ◌<◌, if◌then◌else◌, List, [], ◌∷◌, ◌++◌, map, codes, decimal, All}
 use Rattle.checker_rules.specs.Clauses.{is_negative, var_of}
 use Rattle.checker_rules.specs.HintLines.{HintLine, adds_clause, deletes_clauses}
 use Rattle.sat_formula.specs.Bytes.{minus_sign}
-use Rattle.sat_hints.specs.Text.{Line, said_by}
+use Rattle.hint_checker.specs.Text.{Line, said_by}
 
 -- a number
 abbrev pub number_text : ℕ → List ℕ
@@ -17,7 +17,9 @@ number_text n = decimal n
 
 -- a literal, as in DIMACS
 abbrev pub literal_text : ℕ → List ℕ
-literal_text l = cond (is_negative l) (minus_sign ∷ decimal (suc (var_of l))) (decimal (suc (var_of l)))
+literal_text l =
+    if is_negative l then minus_sign ∷ decimal (suc (var_of l))
+    else decimal (suc (var_of l))
 
 -- words, each after a space
 abbrev pub words_after_space : List (List ℕ) → List ℕ
@@ -35,7 +37,8 @@ first_number (deletes_clauses number ids) = number
 
 -- the words after it: literals, 0, hints and 0, or d, ids and 0
 abbrev pub further_words : HintLine → List (List ℕ)
-further_words (adds_clause id c hints) = map literal_text c ++ zero_word ∷ map number_text hints ++ zero_word ∷ []
+further_words (adds_clause id c hints) =
+    map literal_text c ++ zero_word ∷ map number_text hints ++ zero_word ∷ []
 further_words (deletes_clauses number ids) = codes "d" ∷ map number_text ids ++ zero_word ∷ []
 
 -- a line

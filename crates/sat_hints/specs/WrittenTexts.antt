@@ -10,13 +10,14 @@ use Rattle.checker_rules.specs.HintRun.{HintStep, IsRun, fails_core, lowers, put
 use Rattle.checker_rules.specs.WrittenLines as rules
 use Rattle.checker_rules.specs.WrittenLines.{new_writer, no_input}
 use Rattle.sat_formula.specs.Lines.{lines_of}
-use Rattle.sat_hints.specs.Checked.{Accepts, said_all}
+use Rattle.hint_checker.specs.Checked.{Accepts, said_all}
 use Rattle.sat_hints.specs.Writing.{first_fault}
 use Rattle.sat_hints.specs.WrittenText.{HasFittingNumbers, IsCode, lines_text}
 
 -- what is written of lines is read as those lines
 abbrev pub TextIsRead : Type 0
-TextIsRead = (xs : List HintLine) → All HasFittingNumbers xs → said_all (lines_of (lines_text xs)) ≡ Some xs
+TextIsRead = (xs : List HintLine) → All HasFittingNumbers xs →
+    said_all (lines_of (lines_text xs)) ≡ Some xs
 
 -- the literals of a clause that a step adds are of 2^28 variables; no other step has literals in its line
 abbrev pub HasFittingCodes : HintStep → Type 0
@@ -28,6 +29,9 @@ HasFittingCodes (fails_core c ids) = Unit {0}
 
 -- a run that begins with a formula's clauses, or a beginning of them: what a writer writes of it without a fault, a checker that holds the formula accepts
 abbrev pub TextIsAccepted : Type 0
-TextIsAccepted = (cs : List (List ℕ)) (k : ℕ) (es : List HintStep) → no_input es ≡ true → IsRun empty_machine (input_steps 0 (take k cs) ++ es) →
-    length cs < 2 ^ 64 → All HasFittingCodes es → first_fault (new_writer (length cs)) (input_steps 0 (take k cs) ++ es) ≡ None →
-    (h : Listed) × Accepts (listing cs) (lines_text (rules.lines_of (new_writer (length cs)) (input_steps 0 (take k cs) ++ es))) h
+TextIsAccepted = (cs : List (List ℕ)) (k : ℕ) (es : List HintStep) → no_input es ≡ true →
+    IsRun empty_machine (input_steps 0 (take k cs) ++ es) →
+    length cs < 2 ^ 64 → All HasFittingCodes es →
+    first_fault (new_writer (length cs)) (input_steps 0 (take k cs) ++ es) ≡ None →
+    (h : Listed) × Accepts (listing cs)
+    (lines_text (rules.lines_of (new_writer (length cs)) (input_steps 0 (take k cs) ++ es))) h

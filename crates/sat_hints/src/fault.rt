@@ -1,31 +1,6 @@
-//! Why lines of hints are refused, and why a writer writes none.
-ghost use Rattle.std.specs.Prelude.{◌≡◌};
-
+//! Why a writer of lines of hints writes none.
 use std::alloc::{AllocError, AllocFailed};
 use thiserror::Error;
-
-/// Why a checker of hints refuses a text. Lines count from 1 in each text.
-#[derive(Clone, Copy, Debug, PartialEq, Eq, Error)]
-pub enum HintFault {
-    /// The line is no line of hints. With line 0: an earlier text was refused.
-    #[error("line {line}: malformed line")]
-    Malformed { line: u64 },
-    /// An id that is not greater than all before it.
-    #[error("line {line}: id is not greater than those before")]
-    IdNotGreater { line: u64 },
-    /// A hint that names no clause.
-    #[error("line {line}: no clause has the id of a hint")]
-    UnknownId { line: u64 },
-    /// A hint before the last whose clause is not unit.
-    #[error("line {line}: clause of a hint is not unit")]
-    NotUnit { line: u64 },
-    /// No hint, or a last one whose clause is not falsified.
-    #[error("line {line}: hints end without a conflict")]
-    NoConflict { line: u64 },
-    /// There was no memory for what the lines say.
-    #[error("out of memory")]
-    OutOfMemory,
-}
 
 /// Why a writer writes no line of a step. Its output stays as it was.
 #[derive(Clone, Copy, Debug, PartialEq, Eq, Error)]
@@ -39,35 +14,6 @@ pub enum WriterFault {
     NumberOutOfRange,
     #[error("out of memory")]
     OutOfMemory,
-}
-
-/// Why a line is refused, before it is known which line it is.
-#[derive(Clone, Copy)]
-pub(crate) enum LineFault {
-    Malformed,
-    IdNotGreater,
-    UnknownId,
-    NotUnit,
-    NoConflict,
-    OutOfMemory,
-}
-
-impl LineFault {
-    ghost use Rattle.sat_hints.specs.Checked.{in_line};
-
-    /// The fault of the line of that number.
-    pub(crate) fn in_line(self, line: u64) -> HintFault
-        ensures { result ≡ in_line self line }
-    {
-        match self {
-            LineFault::Malformed => HintFault::Malformed { line },
-            LineFault::IdNotGreater => HintFault::IdNotGreater { line },
-            LineFault::UnknownId => HintFault::UnknownId { line },
-            LineFault::NotUnit => HintFault::NotUnit { line },
-            LineFault::NoConflict => HintFault::NoConflict { line },
-            LineFault::OutOfMemory => HintFault::OutOfMemory,
-        }
-    }
 }
 
 impl From<AllocError> for WriterFault {
@@ -89,27 +35,5 @@ impl<T: Drop> From<AllocFailed<T>> for WriterFault {
 
     fn from(_e: AllocFailed<T>) -> WriterFault {
         WriterFault::OutOfMemory
-    }
-}
-
-impl From<AllocError> for LineFault {
-    ghost use Rattle.std.specs.Prelude.{◌≡◌};
-    ghost use Rattle.sat_hints.specs.declared.fault.LineFault.TheVariants.{OutOfMemory};
-
-    ghost from_gives = { λ _ fault. fault ≡ OutOfMemory };
-
-    fn from(_e: AllocError) -> LineFault {
-        LineFault::OutOfMemory
-    }
-}
-
-impl<T: Drop> From<AllocFailed<T>> for LineFault {
-    ghost use Rattle.std.specs.Prelude.{◌≡◌};
-    ghost use Rattle.sat_hints.specs.declared.fault.LineFault.TheVariants.{OutOfMemory};
-
-    ghost from_gives = { λ _ fault. fault ≡ OutOfMemory };
-
-    fn from(_e: AllocFailed<T>) -> LineFault {
-        LineFault::OutOfMemory
     }
 }

@@ -1,8 +1,9 @@
 //! Laws of the text of hint lines. Each function does nothing: its clause is the law.
-ghost use Rattle.sat_hints.specs.OneAnswer.{AnswerIsOne};
 ghost use Rattle.sat_hints.specs.WrittenRuns.{WriterIsAccepted, WriterShowsRun};
 ghost use Rattle.sat_hints.specs.WrittenText.{WrittenIsRead};
 ghost use Rattle.sat_hints.specs.WrittenTexts.{TextIsAccepted, TextIsRead};
+
+pub use hint_checker::laws::answer_is_one;
 
 /// The text that is written of a line is read as that line.
 pub fn written_is_read()
@@ -28,9 +29,4 @@ pub fn writer_shows_run()
 /// exactly where a step derives the empty clause.
 pub fn writer_is_accepted()
     ensures { WriterIsAccepted }
-{}
-
-/// A text that is accepted leads to one answer, and is never refused.
-pub fn answer_is_one()
-    ensures { AnswerIsOne }
 {}

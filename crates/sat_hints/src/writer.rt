@@ -7,9 +7,6 @@ ghost use Rattle.checker_rules.specs.WrittenLines.{new_writer, number_of, writer
 ghost use Rattle.sat_hints.specs.WrittenText.{words_after_space, lines_text};
 ghost use Rattle.sat_hints.specs.Writing.{IsFault, Wrote, WroteLine, WroteNothing, fitting, hints_fault, step_fault, writer_of, written};
 
-#[cfg(test)]
-mod tests;
-
 use crate::fault::WriterFault;
 use crate::text::{push_literals, push_number};
 use checker_parts::processor::{CheckerData, ProofProcessor};
@@ -61,7 +58,8 @@ impl LratWriter {
     pub fn write_step(&mut self, step: &CheckedProofStep) -> Result<(), WriterFault>
         ensures ok { OnOk result (Wrote self.old (step_of step.now) self.new) }
         ensures err { OnErr result (WroteNothing self.old self.new) }
-        ensures fault { IfErr result (λ fault. IsFault fault (step_fault (writer_of self.old) (step_of step.now))) }
+        ensures fault { IfErr result (λ fault. IsFault fault
+            (step_fault (writer_of self.old) (step_of step.now))) }
     {
         match step {
             CheckedProofStep::AddClause { id, .. }
@@ -88,7 +86,8 @@ impl LratWriter {
     fn note_input(&mut self, id: u64) -> Result<(), WriterFault>
         ensures ok { OnOk result ((c : List ℕ) → WroteLine self.old (puts_input id c) self.new) }
         ensures err { OnErr result (WroteNothing self.old self.new) }
-        ensures fault { IfErr result (λ fault. IsFault fault (writer_fault (writer_of self.old) (puts_input id []))) }
+        ensures fault { IfErr result (λ fault. IsFault fault
+            (writer_fault (writer_of self.old) (puts_input id []))) }
     {
         if self.derived {
             return Err(WriterFault::InputAfterDerived);
@@ -111,9 +110,11 @@ impl LratWriter {
         clause: &[Lit],
         propagations: &[u64],
     ) -> Result<(), WriterFault>
-        ensures ok { OnOk result (WroteLine self.old (puts_derived id clause.now propagations.now) self.new) }
+        ensures ok { OnOk result (WroteLine self.old (puts_derived id clause.now propagations.now)
+            self.new) }
         ensures err { OnErr result (WroteNothing self.old self.new) }
-        ensures fault { IfErr result (λ fault. IsFault fault (writer_fault (writer_of self.old) (puts_derived id clause.now propagations.now))) }
+        ensures fault { IfErr result (λ fault. IsFault fault
+            (writer_fault (writer_of self.old) (puts_derived id clause.now propagations.now))) }
     {
         let number = self.later_number(id).ok_or(WriterFault::NumberOutOfRange)?;
         let line = self.addition(number, clause, propagations)?;
@@ -127,7 +128,8 @@ impl LratWriter {
     fn write_deletion(&mut self, id: u64) -> Result<(), WriterFault>
         ensures ok { OnOk result (WroteLine self.old (removes id) self.new) }
         ensures err { OnErr result (WroteNothing self.old self.new) }
-        ensures fault { IfErr result (λ fault. IsFault fault (writer_fault (writer_of self.old) (removes id))) }
+        ensures fault { IfErr result (λ fault. IsFault fault
+            (writer_fault (writer_of self.old) (removes id))) }
     {
         let number = self.number(id).ok_or(WriterFault::NumberOutOfRange)?;
         let line = self.deletion(number)?;
@@ -142,9 +144,12 @@ impl LratWriter {
         clause: &[Lit],
         propagations: &[u64],
     ) -> Result<Vec<u8>, WriterFault>
-        ensures line { IfOk result (λ line. line.items ≡ lines_text (adds_clause number clause.now (map (number_of (writer_of self.now)) propagations.now) ∷ [])) }
+        ensures line { IfOk result (λ line. line.items ≡
+            lines_text (adds_clause number clause.now
+            (map (number_of (writer_of self.now)) propagations.now) ∷ [])) }
         ensures fit { OnOk result (hints_fault (writer_of self.now) propagations.now ≡ None) }
-        ensures fault { IfErr result (λ fault. IsFault fault (hints_fault (writer_of self.now) propagations.now)) }
+        ensures fault { IfErr result (λ fault. IsFault fault
+            (hints_fault (writer_of self.now) propagations.now)) }
     {
         let mut line = Vec::new(self.alloc);
         push_number(&mut line, number)?;
@@ -157,7 +162,8 @@ impl LratWriter {
 
     /// The line that deletes the clause of a number.
     fn deletion(&self, number: u64) -> Result<Vec<u8>, AllocError>
-        ensures { IfOk result (λ line. line.items ≡ lines_text (deletes_clauses self.now.last (number ∷ []) ∷ [])) }
+        ensures { IfOk result (λ line. line.items ≡
+            lines_text (deletes_clauses self.now.last (number ∷ []) ∷ [])) }
     {
         let mut line = Vec::new(self.alloc);
         push_number(&mut line, self.last)?;
@@ -169,9 +175,12 @@ impl LratWriter {
 
     /// Appends the number of each id after a space.
     fn push_hints(&self, line: &mut Vec<u8>, ids: &[u64]) -> Result<(), WriterFault>
-        ensures line { OnOk result (line.new.items ≡ line.old.items ++ words_after_space (map decimal (map (number_of (writer_of self.now)) ids.now))) }
+        ensures line { OnOk result (line.new.items ≡
+            line.old.items ++ words_after_space
+            (map decimal (map (number_of (writer_of self.now)) ids.now))) }
         ensures fit { OnOk result (hints_fault (writer_of self.now) ids.now ≡ None) }
-        ensures fault { IfErr result (λ fault. IsFault fault (hints_fault (writer_of self.now) ids.now)) }
+        ensures fault { IfErr result (λ fault. IsFault fault
+            (hints_fault (writer_of self.now) ids.now)) }
     {
         for id in ids {
             let number = self.number(*id).ok_or(WriterFault::NumberOutOfRange)?;

@@ -5,7 +5,7 @@ use Rattle.std.proofs.Common.{◌≡◌, ℕ, Bool, true, false, List, [], ◌++
 use Rattle.std.specs.Prelude.{if◌then◌else◌, IfSome}
 use Rattle.checker_rules.specs.Clauses.{all_true}
 use Rattle.checker_rules.specs.HintLines.{Listed, listing}
-use Rattle.sat_hints.specs.Checked.{Accepts}
+use Rattle.hint_checker.specs.Checked.{Accepts}
 use Rattle.varisat_check.specs.HintRuns.{AcceptsHints, GivesText}
 use Rattle.varisat_check.specs.declared.hints.HintVerdict.{HintVerdict}
 use Rattle.varisat_check.specs.declared.hints.HintVerdict.TheVariants.{NotVerified, Verified}
@@ -26,7 +26,8 @@ never_true true h = absurd (h refl)
 never_true false h = refl
 
 -- all its lines were accepted, and the answer was true
-pub verified_hints : {K : Listed → Type 0} (known : Known) (formula : List (List ℕ)) (text : List ℕ) (answer : Bool) → answer ≡ true → GivesText known text → ((k : Listed) × Accepts (listing formula) text k × K k × (answer ≡ k.added_empty))
+pub verified_hints : {K : Listed → Type 0} (known : Known) (formula : List (List ℕ)) (text : List ℕ) (answer : Bool) → answer ≡ true →
+    GivesText known text → ((k : Listed) × Accepts (listing formula) text k × K k × (answer ≡ k.added_empty))
     → (answer ≡ true → (a : ℕ → Bool) → all_true a formula ≡ true → ⊥) → AcceptsHints known formula Verified
 verified_hints known formula text answer is gives found refuted = record {
   text = text;

@@ -7,7 +7,7 @@ use Rattle.std.proofs.Common.{◌≡◌, ◌≤◌, ℕ, Bool, true, false, not,
 use Rattle.std.specs.Prelude.{◌==◌, ◌-◌, if◌then◌else◌, IfOk}
 use Rattle.std.proofs.lemmas.Bool.{and_parts, eqb-true}
 use Rattle.checker_rules.specs.Calls.{shown_inputs, shown_unsat}
-use Rattle.checker_rules.specs.CheckedSteps.{ShownStep}
+use Rattle.checker_rules.specs.CheckedSteps.{NamedStep}
 use Rattle.checker_rules.specs.Clauses.{all_true}
 use Rattle.checker_rules.specs.Headline.{holds}
 use Rattle.checker_rules.specs.State.{State}
@@ -20,7 +20,7 @@ use Rattle.proof_bytes.specs.Reading.{Fault}
 use Rattle.proof_bytes.specs.Texts.{Place, next_of, start_of}
 use Rattle.checker_parts.specs.Answers.{IsCovered}
 use Rattle.checker_parts.specs.declared.error.DimacsError.{DimacsError}
-use Rattle.checker_steps.specs.Handed.{Boxes}
+use Rattle.checker_steps.specs.Delivered.{Listeners}
 use Rattle.varisat_checker.specs.ProofRun.{ProofAnswer, ProofRun}
 use Rattle.varisat_checker.specs.TextRun.{EndsText, TextAnswer, TextRun, outcome_of}
 use Rattle.checker_steps.specs.Failing.{IsFailed}
@@ -65,7 +65,8 @@ verdict_parts true true n h = (refl, refl)
 verdict_parts true false n h = absurd (cc)
 verdict_parts false e n h = absurd (cc)
 
-pub refuted_before : {known : Known} {text : List ℕ} {steps : List Step} (s t : State) (before : List Step) → Accepts known text steps s t → s.failed ≡ false → verdict_of (shown_inputs s) t ≡ Unsatisfiable
+pub refuted_before : {known : Known} {text : List ℕ} {steps : List Step} (s t : State) (before : List Step) → Accepts known text steps s t →
+    s.failed ≡ false → verdict_of (shown_inputs s) t ≡ Unsatisfiable
     → IsCovered before s → (a : ℕ → Bool) → holds before a ≡ false
 refuted_before {text = text} {steps = steps} s t before run lives v covered a =
     let parts = verdict_parts (shown_unsat t) (shown_inputs t == shown_inputs s) (shown_inputs t - shown_inputs s) v in
@@ -79,7 +80,8 @@ pub lives_on : {known : Known} {clauses : List (List ℕ)} (s : State) → Adds 
 lives_on {clauses = clauses} s text = ap (λ (r : State). r.failed) text.answer.1 ∙ failed-add_clauses new_state clauses
 
 -- its clauses are the steps before the proof
-refuted_clauses : {known : Known} {clauses : List (List ℕ)} (s : State) → Adds known clauses s → ((before : List Step) → IsCovered before s → (a : ℕ → Bool) → holds before a ≡ false) → (a : ℕ → Bool) → all_true a clauses ≡ false
+refuted_clauses : {known : Known} {clauses : List (List ℕ)} (s : State) → Adds known clauses s →
+    ((before : List Step) → IsCovered before s → (a : ℕ → Bool) → holds before a ≡ false) → (a : ℕ → Bool) → all_true a clauses ≡ false
 refuted_clauses {known} {clauses} s text refuted a = sym (members clauses a) ∙ refuted (map add_clause clauses) covered a
   where
     covered : IsCovered (map add_clause clauses) s
@@ -91,24 +93,28 @@ not_failed true x h = absurd (let e = (h refl).0 in cc)
 not_failed false x h = refl
 
 -- the verdict that is answered, by the state before the proof
-pub verdict_told : (v : Verdict) (n : ℕ) (s t : State) → ◌≡◌ {A = Result Verdict RunFault} (Ok v) (Ok Unsatisfiable) → v ≡ verdict_of n t → n ≡ shown_inputs s → verdict_of (shown_inputs s) t ≡ Unsatisfiable
+pub verdict_told : (v : Verdict) (n : ℕ) (s t : State) → ◌≡◌ {A = Result Verdict RunFault} (Ok v) (Ok Unsatisfiable) → v ≡ verdict_of n t →
+    n ≡ shown_inputs s → verdict_of (shown_inputs s) t ≡ Unsatisfiable
 verdict_told v n s t h e k = let same : v ≡ Unsatisfiable = cc in sym (ap (λ m. verdict_of m t) k) ∙ sym e ∙ same
 
--- a new checker that was handed the formula
+-- a new checker that was delivered the formula
 abbrev pub AddsText : Known → State → Type 0
 AddsText known t = (clauses : List (List ℕ)) × Adds known clauses t
 
-pub text_added : {P T : Type 0} {took faulted : P → ShownStep → P → Type 0} {took_image faulted_image : T → TranscriptStep → T → Type 0} {old new : Boxes P T} (cnf : Known) (s t : State) → s ≡ new_state
+pub text_added : {P T : Type 0} {took faulted : P → NamedStep → P → Type 0} {took_image faulted_image : T → TranscriptStep → T → Type 0}
+    {old new : Listeners P T} (cnf : Known) (s t : State) → s ≡ new_state
     → (s.failed ≡ false → TextRun {A = Unit {0}} cnf s (Ok tt) t took faulted took_image faulted_image old new) → AddsText cnf t
 text_added cnf s t e h = let run = h (ap (λ (r : State). r.failed) e) in (run.clauses, subst (λ r. TextAnswer {A = Unit {0}} cnf r run.clauses (Ok tt) t) e run.answered)
 
 -- and did not take all of it
-pub text_refused : {P T : Type 0} {took faulted : P → ShownStep → P → Type 0} {took_image faulted_image : T → TranscriptStep → T → Type 0} {old new : Boxes P T} (cnf : Known) (e : DimacsError) (s t : State) → s ≡ new_state
+pub text_refused : {P T : Type 0} {took faulted : P → NamedStep → P → Type 0} {took_image faulted_image : T → TranscriptStep → T → Type 0}
+    {old new : Listeners P T} (cnf : Known) (e : DimacsError) (s t : State) → s ≡ new_state
     → (s.failed ≡ false → TextRun {A = Unit {0}} cnf s (Err e) t took faulted took_image faulted_image old new) → RefusedText cnf e
 text_refused cnf e s t same h = let run = h (ap (λ (r : State). r.failed) same) in (run.clauses, t, subst (λ r. TextAnswer {A = Unit {0}} cnf r run.clauses (Err e) t) same run.answered)
 
 -- the proof's run behind a whole formula
-pub whole_run : {P T : Type 0} (took faulted : P → ShownStep → P → Type 0) (took_image faulted_image : T → TranscriptStep → T → Type 0) (old new : Boxes P T) (cnf proof : Known) (s t : State) (r : Result Verdict RunFault) → AddsText cnf s
+pub whole_run : {P T : Type 0} (took faulted : P → NamedStep → P → Type 0) (took_image faulted_image : T → TranscriptStep → T → Type 0)
+    (old new : Listeners P T) (cnf proof : Known) (s t : State) (r : Result Verdict RunFault) → AddsText cnf s
     → OnProof (λ answer. ProofRun proof s answer t took faulted took_image faulted_image old new) r → IfOk r (λ v. v ≡ verdict_of (shown_inputs s) t)
     → (r ≡ Ok Unsatisfiable → (before : List Step) → IsCovered before s → (a : ℕ → Bool) → holds before a ≡ false) → CheckRun cnf proof r
 whole_run took faulted took_image faulted_image old new cnf proof s t (Ok v) text run told refuted =
@@ -120,7 +126,8 @@ whole_run took faulted took_image faulted_image old new cnf proof s t (Err (Proo
 whole_run took faulted took_image faulted_image old new cnf proof s t (Err (Formula e)) text run told refuted = absurd run
 
 -- of a text whose bytes are known
-pub refuted_text : (cnf : Known) (bytes : List ℕ) (s : State) → cnf ≡ Some bytes → AddsText cnf s → ((before : List Step) → IsCovered before s → (a : ℕ → Bool) → holds before a ≡ false) → IsRefuted bytes
+pub refuted_text : (cnf : Known) (bytes : List ℕ) (s : State) → cnf ≡ Some bytes → AddsText cnf s →
+    ((before : List Step) → IsCovered before s → (a : ℕ → Bool) → holds before a ≡ false) → IsRefuted bytes
 refuted_text cnf bytes s known text refuted =
     let whole = subst (λ k. EndsText {A = Unit {0}} (outcome_of k) text.0 (Ok tt)) known text.1.text in
     (text.0, whole, refuted_clauses s text.1 refuted)

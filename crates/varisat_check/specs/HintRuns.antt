@@ -8,7 +8,7 @@ use Rattle.checker_rules.specs.Clauses.{all_true}
 use Rattle.checker_rules.specs.HintLines.{Listed, listing}
 use Rattle.sat_formula.specs.Outcome.{Ended}
 use Rattle.sat_formula.specs.Whole.{IsOutcome}
-use Rattle.sat_hints.specs.Checked.{Accepts, IsRefusal}
+use Rattle.hint_checker.specs.Checked.{Accepts, IsRefusal}
 use Rattle.varisat_checker.specs.TextRun.{outcome_of}
 use Rattle.varisat_check.specs.ReadFormula.{ReadsFormula}
 use Rattle.varisat_check.specs.declared.hints.HintRunFault.{HintRunFault}
@@ -36,7 +36,8 @@ abbrev pub GivesText : Option (List ℕ) → List ℕ → Type 0
 GivesText known text = IfSome known (λ bytes. text ≡ bytes)
 
 -- all lines of a text are accepted after a formula's clauses; the verdict says whether one adds the empty clause, and then no assignment satisfies the formula
-pub record AcceptsHints (lrat : Option (List ℕ)) (formula : List (List ℕ)) (verdict : HintVerdict) : Type 0 where
+pub record AcceptsHints (lrat : Option (List ℕ)) (formula : List (List ℕ))
+    (verdict : HintVerdict) : Type 0 where
   pub text : List ℕ
   pub gives : GivesText lrat text
   pub held : Listed
@@ -47,13 +48,15 @@ pub record AcceptsHints (lrat : Option (List ℕ)) (formula : List (List ℕ)) (
 -- all lines are accepted, or the first that is not is named; nothing is said where a read failed
 abbrev pub ChecksHints : Option (List ℕ) → List (List ℕ) → Result HintVerdict HintRunFault → Type 0
 ChecksHints lrat formula (Ok verdict) = AcceptsHints lrat formula verdict
-ChecksHints lrat formula (Err (Hints fault)) = (text : List ℕ) × GivesText lrat text × IsRefusal (listing formula) text fault
+ChecksHints lrat formula (Err (Hints fault)) = (text : List ℕ) × GivesText lrat text
+    × IsRefusal (listing formula) text fault
 ChecksHints lrat formula (Err (Read cause)) = Unit {0}
 ChecksHints lrat formula (Err (Formula fault)) = ⊥
 ChecksHints lrat formula (Err (Write cause)) = ⊥
 
 -- the formula's text was read whole, and the text of hints was checked over its clauses with this answer
-pub record ReadAndChecked (cnf lrat : Option (List ℕ)) (r : Result HintVerdict HintRunFault) : Type 0 where
+pub record ReadAndChecked (cnf lrat : Option (List ℕ)) (r : Result HintVerdict HintRunFault) : Type
+    0 where
   pub clauses : List (List ℕ)
   pub whole : IsOutcome (outcome_of cnf) (clauses, Ended)
   pub checks : ChecksHints lrat clauses r
@@ -64,7 +67,8 @@ HintsRun cnf lrat (Ok verdict) = ReadAndChecked cnf lrat (Ok verdict)
 HintsRun cnf lrat (Err (Hints fault)) = ReadAndChecked cnf lrat (Err (Hints fault))
 HintsRun cnf lrat (Err (Read cause)) = ReadAndChecked cnf lrat (Err (Read cause))
 HintsRun cnf lrat (Err (Formula fault)) = ReadsFormula cnf (Err fault)
-HintsRun cnf lrat (Err (Write cause)) = (verdict : HintVerdict) × ReadAndChecked cnf lrat (Ok verdict)
+HintsRun cnf lrat (Err (Write cause)) =
+    (verdict : HintVerdict) × ReadAndChecked cnf lrat (Ok verdict)
 
 -- the formula or the hints were not accepted
 abbrev pub IsRefusedHints : Result HintVerdict HintRunFault → Type 0

@@ -7,7 +7,7 @@ use Rattle.std.specs.Prelude.{◌≡◌, ℕ, List, ◌++◌, map, take, Option,
 use Rattle.checker_rules.specs.AddFormula.{add_clauses}
 use Rattle.checker_rules.specs.CallEmissions.{EmitsCalls, empty_machine}
 use Rattle.checker_rules.specs.Calls.{adds, shown_inputs}
-use Rattle.checker_rules.specs.CheckedSteps.{ShownStep, hint_steps}
+use Rattle.checker_rules.specs.CheckedSteps.{NamedStep, hint_steps}
 use Rattle.checker_rules.specs.FormulaEmissions.{input_steps}
 use Rattle.checker_rules.specs.HintRun.{IsRun}
 use Rattle.checker_rules.specs.Ran.{Ran}
@@ -31,15 +31,16 @@ filled formula = (add_clauses new_state formula).after
 
 -- a new checker accepts the formula and then the whole proof up to its `End`; the processor took all steps that both tell;
 -- these begin with the formula's clauses as input clauses, or a beginning of them, and are a run of the hint machine; the verdict is by what was recorded
-pub record LratRun {P : Type 0} (took : P → ShownStep → P → Type 0) (known : Option (List ℕ)) (formula : List (List ℕ)) (old : P) (verdict : Verdict) (new : P) : Type 0 where
+pub record LratRun {P : Type 0} (took : P → NamedStep → P → Type 0) (known : Option (List ℕ))
+    (formula : List (List ℕ)) (old : P) (verdict : Verdict) (new : P) : Type 0 where
   pub accepted : (add_clauses new_state formula).refused ≡ None
-  pub of_formula : List ShownStep
+  pub of_formula : List NamedStep
   pub formula_emits : EmitsCalls new_state (map adds formula) of_formula
   pub text : List ℕ
   pub steps : List Step
   pub left : State
   pub run : ProofAnswer {A = Unit {0}} known (filled formula) text steps (Ok tt) left
-  pub of_proof : List ShownStep
+  pub of_proof : List NamedStep
   pub proof_emits : EmitsRun next_of (filled formula) (start_of text) steps of_proof
   pub ran : Ran took old (of_formula ++ of_proof) new
   pub clauses : ℕ
@@ -49,12 +50,14 @@ pub record LratRun {P : Type 0} (took : P → ShownStep → P → Type 0) (known
 
 -- a new checker refuses the clauses so
 abbrev pub RefusesFormula : List (List ℕ) → CheckerError → Type 0
-RefusesFormula formula e = (left : State) × AnswersStep {A = Unit {0}} (Err e) (add_clauses new_state formula) left
+RefusesFormula formula e = (left : State)
+    × AnswersStep {A = Unit {0}} (Err e) (add_clauses new_state formula) left
 
 -- a new checker accepts the formula, and then refuses the proof so
 abbrev pub RefusesProof : Option (List ℕ) → List (List ℕ) → CheckerError → Type 0
 RefusesProof known formula e =
-    ((add_clauses new_state formula).refused ≡ None) × (text : List ℕ) × (steps : List Step) × (left : State) × ProofAnswer {A = Unit {0}} known (filled formula) text steps (Err e) left
+    ((add_clauses new_state formula).refused ≡ None) × (text : List ℕ) × (steps : List Step)
+    × (left : State) × ProofAnswer {A = Unit {0}} known (filled formula) text steps (Err e) left
 
 -- what the run was refused for; nothing is said of a write, nor where memory was refused or a processor answered a fault
 abbrev pub RefusesRun : Option (List ℕ) → List (List ℕ) → RunFault → Type 0

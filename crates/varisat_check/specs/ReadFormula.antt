@@ -22,7 +22,8 @@ fault_of faults.OutOfMemory = Formula (Checker OutOfMemory)
 -- nothing is said of the text where a read failed or memory was wanted, and no other fault is answered
 abbrev pub ReadsFormula : Option (List ℕ) → Result (List (List ℕ)) RunFault → Type 0
 ReadsFormula known (Ok formula) = IsOutcome (outcome_of known) (formula, Ended)
-ReadsFormula known (Err (Formula (Malformed line kind))) = (clauses : List (List ℕ)) × IsOutcome (outcome_of known) (clauses, Faulty line kind)
+ReadsFormula known (Err (Formula (Malformed line kind))) = (clauses : List (List ℕ))
+    × IsOutcome (outcome_of known) (clauses, Faulty line kind)
 ReadsFormula known (Err (Formula (Read cause))) = Unit {0}
 ReadsFormula known (Err (Formula (Checker e))) = e ≡ OutOfMemory
 ReadsFormula known (Err (Proof e)) = ⊥

@@ -56,7 +56,8 @@ pub record AddedRun (cnf proof : Option (List ℕ)) (r : Result Verdict RunFault
 
 -- a new checker did not take all clauses of the formula's text
 abbrev pub RefusedText : Option (List ℕ) → DimacsError → Type 0
-RefusedText cnf e = (clauses : List (List ℕ)) × (left : State) × TextAnswer {A = Unit {0}} cnf new_state clauses (Err e) left
+RefusedText cnf e = (clauses : List (List ℕ)) × (left : State)
+    × TextAnswer {A = Unit {0}} cnf new_state clauses (Err e) left
 
 -- a formula that was not added whole is answered, and else the proof's run
 abbrev pub CheckRun : Option (List ℕ) → Option (List ℕ) → Result Verdict RunFault → Type 0
@@ -67,4 +68,5 @@ CheckRun cnf proof (Err (Formula e)) = RefusedText cnf e
 
 -- the text has no fault, and no assignment makes all its clauses true
 abbrev pub IsRefuted : List ℕ → Type 0
-IsRefuted text = (clauses : List (List ℕ)) × (outcome_of text ≡ (clauses, Ended)) × ((a : ℕ → Bool) → all_true a clauses ≡ false)
+IsRefuted text = (clauses : List (List ℕ)) × (outcome_of text ≡ (clauses, Ended))
+    × ((a : ℕ → Bool) → all_true a clauses ≡ false)

@@ -12,7 +12,8 @@ use Rattle.varisat_check.specs.declared.verdict.Verdict.TheVariants.{Unsatisfiab
 -- the text of a verdict, as bytes
 abbrev pub line_of : Verdict → List ℕ
 line_of Unsatisfiable = codes "s UNSATISFIABLE"
-line_of (UnsatisfiableWithAdded n) = codes "s UNSATISFIABLE WITH " ++ (decimal n ++ codes " ADDED CLAUSES")
+line_of (UnsatisfiableWithAdded n) =
+    codes "s UNSATISFIABLE WITH " ++ (decimal n ++ codes " ADDED CLAUSES")
 line_of NotShown = codes "s NOT SHOWN"
 
 -- the text and a line feed
@@ -21,7 +22,8 @@ shown_line v = line_of v ++ 10 ∷ []
 
 -- unsatisfiable where that is recorded and no input clause joined the n before the proof
 abbrev pub verdict_of : ℕ → State → Verdict
-verdict_of n s = if shown_unsat s then (if shown_inputs s == n then Unsatisfiable else UnsatisfiableWithAdded (shown_inputs s - n)) else NotShown
+verdict_of n s = if shown_unsat s then (if shown_inputs s == n then Unsatisfiable
+    else UnsatisfiableWithAdded (shown_inputs s - n)) else NotShown
 
 -- 0 for the first verdict, 3 for the other two, 1 where there is none
 abbrev pub status_of : Result Verdict RunFault → ℕ

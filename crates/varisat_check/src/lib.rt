@@ -16,6 +16,3 @@ pub use lrat::run_lrat;
 pub use run::{run_check, run_proof};
 pub use status::exit_status;
 pub use verdict::Verdict;
-
-#[cfg(test)]
-mod tests;

@@ -34,12 +34,16 @@ pub fn run_lrat<L: Log, P: ProofProcessor, R: Read + Drop, W: Write, V: Write>(
     out: &mut W,
     lrat: &mut V,
 ) -> Result<(Verdict, P), RunFault>
-    ensures run { IfOk result (λ given. LratRun P.took (R.remaining proof) formula.now writer given.0 given.1) }
-    ensures lrat { IfOk result (λ given. Appends (V.contents lrat.old) (V.contents lrat.new) (P.shown given.1)) }
-    ensures line { IfOk result (λ given. Appends (W.contents out.old) (W.contents out.new) (shown_line given.0)) }
+    ensures run { IfOk result (λ given. LratRun
+        P.took (R.remaining proof) formula.now writer given.0 given.1) }
+    ensures lrat { IfOk result (λ given. Appends (V.contents lrat.old) (V.contents lrat.new)
+        (P.shown given.1)) }
+    ensures line { IfOk result (λ given. Appends (W.contents out.old) (W.contents out.new)
+        (shown_line given.0)) }
     ensures refused { IfErr result (λ fault. RefusesRun (R.remaining proof) formula.now fault) }
     ensures silent { IsRefusedRun result → (out.new ≡ out.old) × (lrat.new ≡ lrat.old) }
-    ensures refutes { IfOk result (λ given. given.0 ≡ Unsatisfiable → (a : ℕ → Bool) → all_true a formula.now ≡ false) }
+    ensures refutes { IfOk result (λ given. given.0 ≡ Unsatisfiable → (a : ℕ → Bool) →
+        all_true a formula.now ≡ false) }
 {
     let mut checker: WriterChecker<P> = CheckerOf::new(alloc);
     if let Err((_, fault)) = checker.add_processor(writer) {
@@ -68,8 +72,10 @@ fn write_both<W: Write, V: Write>(
     output: &[u8],
     verdict: Verdict,
 ) -> io::Result<()>
-    ensures lrat { IfOk result (λ done. Appends (V.contents lrat.old) (V.contents lrat.new) output.now) }
-    ensures line { IfOk result (λ done. Appends (W.contents out.old) (W.contents out.new) (shown_line verdict)) }
+    ensures lrat { IfOk result (λ done. Appends (V.contents lrat.old)
+        (V.contents lrat.new) output.now) }
+    ensures line { IfOk result (λ done. Appends (W.contents out.old) (W.contents out.new)
+        (shown_line verdict)) }
 {
     lrat.write_all(output)?;
     lrat.flush()?;

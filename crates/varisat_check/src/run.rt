@@ -7,7 +7,7 @@ ghost use Rattle.checker_rules.specs.Step.{Step};
 ghost use Rattle.checker_parts.specs.Answers.{IsCovered};
 ghost use Rattle.checker_steps.specs.Failing.{RecordsFailure};
 ghost use Rattle.varisat_checker.specs.ProofRun.{ProofRun};
-ghost use Rattle.varisat_checker.specs.Shown.{boxes, state};
+ghost use Rattle.varisat_checker.specs.Shown.{listeners, state};
 ghost use Rattle.varisat_check.specs.Runs.{CheckRun, IsFailedRun, IsRefuted, IsRefusedRun, OnProof};
 ghost use Rattle.varisat_check.specs.Verdicts.{shown_line, verdict_of};
 ghost use Rattle.varisat_check.specs.declared.verdict.Verdict.TheVariants.{Unsatisfiable};
@@ -31,15 +31,19 @@ pub fn run_proof<L: Log, R: Read + Drop, W: Write, P: ProofProcessor, T: ProofTr
     proof: R,
     out: &mut W,
 ) -> Result<Verdict, RunFault>
-    ensures failed { (state checker.old).failed ≡ true → IsFailedRun result × (checker.new ≡ checker.old) }
+    ensures failed { (state checker.old).failed ≡ true →
+        IsFailedRun result × (checker.new ≡ checker.old) }
     ensures run { (state checker.old).failed ≡ false → OnProof (λ answer.
         ProofRun (R.remaining proof) (state checker.old) answer (state checker.new)
-        P.took P.faulted T.took T.faulted (boxes checker.old) (boxes checker.new)) result }
+        P.took P.faulted T.took T.faulted (listeners checker.old) (listeners checker.new)) result }
     ensures records { OnProof (λ answer. RecordsFailure answer (state checker.new)) result }
-    ensures verdict { IfOk result (λ verdict. verdict ≡ verdict_of (shown_inputs (state checker.old)) (state checker.new)) }
-    ensures line { IfOk result (λ verdict. Appends (W.contents out.old) (W.contents out.new) (shown_line verdict)) }
+    ensures verdict { IfOk result (λ verdict. verdict ≡
+        verdict_of (shown_inputs (state checker.old)) (state checker.new)) }
+    ensures line { IfOk result (λ verdict. Appends (W.contents out.old) (W.contents out.new)
+        (shown_line verdict)) }
     ensures silent { IsRefusedRun result → out.new ≡ out.old }
-    ensures refutes { result ≡ Ok Unsatisfiable → (before : List Step) → IsCovered before (state checker.old) → (a : ℕ → Bool) → holds before a ≡ false }
+    ensures refutes { result ≡ Ok Unsatisfiable → (before : List Step) →
+        IsCovered before (state checker.old) → (a : ℕ → Bool) → holds before a ≡ false }
 {
     let inputs = checker.input_clauses();
     if let Err(fault) = checker.check_proof(rt, proof) {
@@ -63,7 +67,8 @@ pub fn run_check<L: Log, F: Read + Drop, P: Read + Drop, W: Write>(
     out: &mut W,
 ) -> Result<Verdict, RunFault>
     ensures run { CheckRun (F.remaining cnf) (P.remaining proof) result }
-    ensures line { IfOk result (λ verdict. Appends (W.contents out.old) (W.contents out.new) (shown_line verdict)) }
+    ensures line { IfOk result (λ verdict. Appends (W.contents out.old) (W.contents out.new)
+        (shown_line verdict)) }
     ensures silent { IsRefusedRun result → out.new ≡ out.old }
     ensures refutes { (text : List ℕ) → F.remaining cnf ≡ Some text →
         result ≡ Ok Unsatisfiable → IsRefuted text }
@@ -94,7 +99,8 @@ pub(crate) fn verdict_after<P: ProofProcessor, T: ProofTranscriptProcessor>(
 
 /// Writes a verdict's line whole, also out of a writer's buffer.
 pub(crate) fn write_line<W: Write>(out: &mut W, verdict: Verdict) -> io::Result<()>
-    ensures { IfOk result (λ done. Appends (W.contents out.old) (W.contents out.new) (shown_line verdict)) }
+    ensures { IfOk result (λ done. Appends (W.contents out.old) (W.contents out.new)
+        (shown_line verdict)) }
 {
     writeln!(out, "{verdict}")?;
     out.flush()

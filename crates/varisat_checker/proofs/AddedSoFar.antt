@@ -3,7 +3,7 @@
 --     added-none, added-more, added-stops      its start, a turn, and a refusal
 use Rattle.std.proofs.Common.{◌≡◌, ℕ, false, List, [], ◌∷◌, ◌++◌, map, Result, Ok, Err, refl, sym, ap, ◌∙◌, subst, append-nil}
 use Rattle.checker_rules.specs.AddFormula.{add_clauses, added}
-use Rattle.checker_rules.specs.Headline.{Good}
+use Rattle.checker_rules.specs.Headline.{EntailsRedundant}
 use Rattle.checker_rules.specs.Outcome.{Outcome, accept, and_then, and_then_by, refuse}
 use Rattle.checker_rules.specs.State.{State}
 use Rattle.checker_rules.specs.Step.{Step, add_clause}
@@ -62,15 +62,22 @@ pub record AddedOf (s : State) (all : List (List ℕ)) (u : State) (rest : List 
   pub so_far : AddedSoFar s added u
   pub is : all ≡ added ++ rest
 
-pub of-stops : {s u : State} {all rest : List (List ℕ)} {c : List ℕ} {left : List (List ℕ)} (e : CheckerError) (w : State) → AddedOf s all u rest → rest ≡ c ∷ left → AnswersStep {A = Unit {0}} (Err e) (step u (add_clause c)) w → AnswersStep {A = Unit {0}} (Err e) (add_clauses s all) w
-of-stops {s} {c = c} {left = left} e w p is h = subst (λ (l : List (List ℕ)). AnswersStep {A = Unit {0}} (Err e) (add_clauses s l) w) (sym (p.is ∙ ap (λ (l : List (List ℕ)). p.added ++ l) is)) (added-stops c left e w p.so_far h)
+pub of-stops : {s u : State} {all rest : List (List ℕ)} {c : List ℕ} {left : List (List ℕ)} (e : CheckerError) (w : State) →
+    AddedOf s all u rest → rest ≡ c ∷ left → AnswersStep {A = Unit {0}} (Err e) (step u (add_clause c)) w →
+    AnswersStep {A = Unit {0}} (Err e) (add_clauses s all) w
+of-stops {s} {c = c} {left = left} e w p is h =
+    subst (λ (l : List (List ℕ)). AnswersStep {A = Unit {0}} (Err e) (add_clauses s l) w)
+    (sym (p.is ∙ ap (λ (l : List (List ℕ)). p.added ++ l) is)) (added-stops c left e w p.so_far h)
 
 pub of-all : {s u : State} {all rest : List (List ℕ)} → AddedOf s all u rest → rest ≡ [] → AnswersStep {A = Unit {0}} (Ok tt) (add_clauses s all) u
-of-all {s} {u} p e = subst (λ (l : List (List ℕ)). AnswersStep {A = Unit {0}} (Ok tt) (add_clauses s l) u) (sym (p.is ∙ ap (λ (l : List (List ℕ)). p.added ++ l) e ∙ append-nil p.added)) (added-all p.so_far)
+of-all {s} {u} p e = subst (λ (l : List (List ℕ)). AnswersStep {A = Unit {0}} (Ok tt) (add_clauses s l) u)
+    (sym (p.is ∙ ap (λ (l : List (List ℕ)). p.added ++ l) e ∙ append-nil p.added)) (added-all p.so_far)
 
 -- what follows for the satisfying set
-pub sets-added : (s : State) (before : List Step) (cs : List (List ℕ)) (r : Answer) (u : State) → Good s → IsFold before s → AnswersStep r (add_clauses s cs) u → UnlessFailed r (IsFold (before ++ map add_clause (added s cs)) u)
+pub sets-added : (s : State) (before : List Step) (cs : List (List ℕ)) (r : Answer) (u : State) → EntailsRedundant s → IsFold before s →
+    AnswersStep r (add_clauses s cs) u → UnlessFailed r (IsFold (before ++ map add_clause (added s cs)) u)
 sets-added s before cs r u good fold h = unless_failed (IsFold (before ++ map add_clause (added s cs))) (add_clauses s cs) (formulas_are_fold.fold s before cs good fold) r u h
 
-pub covers-added : (s : State) (before : List Step) (cs : List (List ℕ)) (r : Answer) (u : State) → IsCovered before s → AnswersStep r (add_clauses s cs) u → UnlessFailed r (IsCovered (before ++ map add_clause (added s cs)) u)
+pub covers-added : (s : State) (before : List Step) (cs : List (List ℕ)) (r : Answer) (u : State) → IsCovered before s →
+    AnswersStep r (add_clauses s cs) u → UnlessFailed r (IsCovered (before ++ map add_clause (added s cs)) u)
 covers-added s before cs r u covered h = unless_failed (IsCovered (before ++ map add_clause (added s cs))) (add_clauses s cs) (formulas_are_fold.covers s before cs covered) r u h

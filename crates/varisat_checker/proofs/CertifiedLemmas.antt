@@ -3,9 +3,9 @@ use Rattle.std.proofs.Common.{◌≡◌, ℕ, false, List, [], ◌∷◌, map, R
 use Rattle.checker_rules.specs.AddFormula.{add_clauses, added}
 use Rattle.checker_rules.specs.CallEmissions.{EmitsCall, EmitsCalls}
 use Rattle.checker_rules.specs.Calls.{Call, adds, answer_of}
-use Rattle.checker_rules.specs.CheckedSteps.{ShownStep, hint_steps}
+use Rattle.checker_rules.specs.CheckedSteps.{NamedStep, hint_steps}
 use Rattle.checker_rules.specs.HintRun.{IsRun, machine_after}
-use Rattle.checker_rules.specs.Machine.{IsTied, Machine}
+use Rattle.checker_rules.specs.Machine.{Mirrors, Machine}
 use Rattle.checker_rules.specs.Outcome.{Outcome}
 use Rattle.checker_rules.specs.State.{State}
 use Rattle.checker_rules.specs.WellFormed.{WellFormed}
@@ -43,16 +43,17 @@ after-parts P (Err OutOfMemory) o t u h same p = tt
 after-parts P (Err Failed) o t u h same p = absurd h
 
 -- one call
-call-run : (s : State) (call : Call) → WellFormed s → (m : Machine) (es : List ShownStep) → IsTied m s → EmitsCall s call es → IsRun m (hint_steps es) × IsTied (machine_after m (hint_steps es)) (answer_of s call).after
+call-run : (s : State) (call : Call) → WellFormed s → (m : Machine) (es : List NamedStep) → Mirrors m s → EmitsCall s call es →
+    IsRun m (hint_steps es) × Mirrors (machine_after m (hint_steps es)) (answer_of s call).after
 call-run s call form m es tied emits = let k = calls_run_machine m s (call ∷ []) es tied form (es, [], emits, refl, sym (append-nil es)) in (k.0, k.1)
 
 pub certifies-call : (r : Answer) (s t u : State) (call : Call) → WellFormed s → AnswersParts r (answer_of s call) t → (has_failed r ≡ false → u ≡ t) → Certifies r (EmitsCall s call) s u
 certifies-call r s t u call form h same m es tied emits =
     let k = call-run s call form m es tied emits in
-    (k.0, after-parts (λ w. IsTied (machine_after m (hint_steps es)) w) r (answer_of s call) t u h same k.1)
+    (k.0, after-parts (λ w. Mirrors (machine_after m (hint_steps es)) w) r (answer_of s call) t u h same k.1)
 
 -- clauses added in turn
 pub certifies-adds : (r : Answer) (s u : State) (cs : List (List ℕ)) → WellFormed s → AnswersStep r (add_clauses s cs) u → Certifies r (EmitsCalls s (map adds (added s cs))) s u
 certifies-adds r s u cs form h m es tied emits =
     let k = calls_run_machine m s (map adds (added s cs)) es tied form emits in
-    (k.0, after-step (λ w. IsTied (machine_after m (hint_steps es)) w) r (add_clauses s cs) u h (subst (λ w. IsTied (machine_after m (hint_steps es)) w) (sym (formulas_are_fold.state s cs)) k.1))
+    (k.0, after-step (λ w. Mirrors (machine_after m (hint_steps es)) w) r (add_clauses s cs) u h (subst (λ w. Mirrors (machine_after m (hint_steps es)) w) (sym (formulas_are_fold.state s cs)) k.1))

@@ -43,7 +43,9 @@ store-same [] r s = refl
 store-same (l ∷ []) r s = unit-same l (unit_of s.units (var_of l)) s
 store-same (l ∷ k ∷ ls) r s =
     let c = l ∷ k ∷ ls in
-    elim (is_stored c s.clauses) as (λ b. Same s (cond b (record s { clauses = map (raise r c) s.clauses }) (record s { clauses = s.clauses ++ new_stored r c s.next ∷ []; next = s.next + 1 }))) [ true ↦ refl | false ↦ refl ]
+    elim (is_stored c s.clauses) as (λ b. Same s
+    (cond b (record s { clauses = map (raise r c) s.clauses })
+    (record s { clauses = s.clauses ++ new_stored r c s.next ∷ []; next = s.next + 1 }))) [ true ↦ refl | false ↦ refl ]
 
 input-same : (c : List ℕ) (s : State) → Same s (store_input c s)
 input-same c s = by (is_tautology c) (stands c s)
@@ -65,7 +67,8 @@ counters-same false false x y s o h = h
 add-same : (s : State) (ls : List ℕ) → Same s (step_add_clause s ls).after
 add-same s ls =
     let c = canonical ls in
-    let last = counters-same (not (ltb s.next id_limit)) (leb count_limit (count_of false c s.clauses)) ids_exhausted count_exhausted s (accept (take_input (store_input c (know_clause c s)))) (input-same c (know_clause c s)) in
+    let last = counters-same (not (ltb s.next id_limit)) (leb count_limit (count_of false c s.clauses)) ids_exhausted count_exhausted s
+    (accept (take_input (store_input c (know_clause c s)))) (input-same c (know_clause c s)) in
     by s.unsat (some_not_sampling s c) (counters false c true s (λ r. accept (take_input (store_input c (know_clause c r))))) last
   where
     by : (a b : Bool) (o : Outcome) → Same s o.after → Same s (cond a (accept s) (cond b (refuse not_sampling s) o)).after
@@ -86,8 +89,10 @@ at-same s redundant ls hs =
     let c = canonical ls in
     let r = ready s c in
     let here : Same s r = pending-same s in
-    let stored = counters-same (not (stands c r) && not (ltb r.next id_limit)) (leb count_limit (count_of redundant c r.clauses)) ids_exhausted count_exhausted r (accept (store_derived c redundant r)) (derived-same c redundant r) in
-    let next = check-same (clause_passes r c hs) (none_empty (buckets r hs)) at_check_failed no_clause_for_hash s r (counters redundant c (not (stands c r)) r (λ q. accept (store_derived c redundant q))) here (stored ∙ here) in
+    let stored = counters-same (not (stands c r) && not (ltb r.next id_limit)) (leb count_limit (count_of redundant c r.clauses))
+    ids_exhausted count_exhausted r (accept (store_derived c redundant r)) (derived-same c redundant r) in
+    let next = check-same (clause_passes r c hs) (none_empty (buckets r hs)) at_check_failed no_clause_for_hash s r
+    (counters redundant c (not (stands c r)) r (λ q. accept (store_derived c redundant q))) here (stored ∙ here) in
     by (is_tautology c) (check s c hs (λ r. counters redundant c (not (stands c r)) r (λ q. accept (store_derived c redundant q)))) next
   where
     by : (a : Bool) (o : Outcome) → Same s o.after → Same s (cond a (refuse tautology s) o).after
@@ -97,7 +102,9 @@ at-same s redundant ls hs =
 copy-same : (r : Bool) (c : List ℕ) (s : State) → Same s (delete_justified r c s).after
 copy-same r c s = by (is_short c) (is_stored c s.clauses) (eqb (count_of r c s.clauses) 0)
   where
-    by : (a b d : Bool) → Same s (cond a (refuse delete_unit_or_empty s) (cond (not b) (refuse delete_unknown s) (cond d (refuse (cond r delete_redundant_is_irredundant delete_irredundant_is_redundant) s) (accept (delete_copy r c s))))).after
+    by : (a b d : Bool) → Same s (cond a (refuse delete_unit_or_empty s)
+        (cond (not b) (refuse delete_unknown s) (cond d (refuse (cond r delete_redundant_is_irredundant delete_irredundant_is_redundant) s)
+        (accept (delete_copy r c s))))).after
     by true b d = refl
     by false false d = refl
     by false true true = refl
@@ -105,8 +112,16 @@ copy-same r c s = by (is_short c) (is_stored c s.clauses) (eqb (count_of r c s.c
 
 justified-same : (j : Justification) (c : List ℕ) (s : State) → Same s (justified j c s).after
 justified-same by_redundant c s = copy-same true c (forget s)
-justified-same by_satisfied c s = elim (some_true_unit s.units c) as (λ b. Same s (cond b (delete_justified false c (forget s)) (refuse not_satisfied s)).after) [ true ↦ copy-same false c (forget s) | false ↦ refl ]
-justified-same by_simplified c s = elim (subsumed_by s.previous c) as (λ b. Same s (cond b (delete_justified false c (forget s)) (refuse not_subsumed s)).after) [ true ↦ copy-same false c (forget s) | false ↦ refl ]
+justified-same by_satisfied c s = elim (some_true_unit s.units c)
+    as (λ b. Same s (cond b (delete_justified false c (forget s)) (refuse not_satisfied s)).after) [
+      | true ↦ copy-same false c (forget s)
+      | false ↦ refl
+    ]
+justified-same by_simplified c s = elim (subsumed_by s.previous c)
+    as (λ b. Same s (cond b (delete_justified false c (forget s)) (refuse not_subsumed s)).after) [
+      | true ↦ copy-same false c (forget s)
+      | false ↦ refl
+    ]
 
 delete-same : (s : State) (j : Justification) (ls : List ℕ) → Same s (step_delete_clause s j ls).after
 delete-same s j ls = elim (is_tautology (canonical ls)) as (λ b. Same s (cond b (refuse tautology s) (justified j (canonical ls) s)).after) [ true ↦ refl | false ↦ justified-same j (canonical ls) s ]
@@ -157,7 +172,8 @@ then-same s o next h k = by o.refused
 unit_step-same : (s : State) (p : ℕ × ℕ) → Same s (step_unit s p).after
 unit_step-same s p =
     let c = p.0 ∷ [] in let hs = p.1 ∷ [] in let r = ready s c in let here : Same s r = pending-same s in
-    let stored = counters-same (not (stands c r) && not (ltb r.next id_limit)) (leb count_limit (count_of false c r.clauses)) ids_exhausted count_exhausted r (accept (store c false r)) (store-same c false r) in
+    let stored = counters-same (not (stands c r) && not (ltb r.next id_limit)) (leb count_limit (count_of false c r.clauses)) ids_exhausted
+    count_exhausted r (accept (store c false r)) (store-same c false r) in
     check-same (clause_passes r c hs) (none_empty (buckets r hs)) at_check_failed no_clause_for_hash s r (counters false c (not (stands c r)) r (λ q. accept (store c false q))) here (stored ∙ here)
 
 units-same : (s : State) (ps : List (ℕ × ℕ)) → Same s (step_unit_clauses s ps).after

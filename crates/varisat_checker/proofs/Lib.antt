@@ -2,10 +2,10 @@ pub mod AddedSoFar
 pub mod CertifiedLemmas
 pub mod CountLemmas
 pub mod FailingLemmas
-pub mod HandedAdds
+pub mod DeliveredAdds
 pub mod ProofRuns
 pub mod ProvenSteps
-pub mod ReadHanded
+pub mod ReadDelivered
 pub mod ReadSoFar
-pub mod RunHanded
+pub mod RunDelivered
 pub mod RunMachines

@@ -6,7 +6,7 @@
 use Rattle.std.proofs.Common.{◌≡◌, List, [], ◌∷◌, ◌++◌, Result, Ok, Err, refl, sym, ap, ◌∙◌, subst}
 use Rattle.checker_rules.specs.Calls.{attempt, closing_conflict, count_step}
 use Rattle.checker_rules.specs.Covers.{Covers}
-use Rattle.checker_rules.specs.Headline.{Good, holds}
+use Rattle.checker_rules.specs.Headline.{EntailsRedundant, holds}
 use Rattle.checker_rules.specs.State.{State, sat}
 use Rattle.checker_rules.specs.Step.{Step}
 use Rattle.checker_rules.proofs.Openings.{sat-count_step}
@@ -82,12 +82,15 @@ cover-counted ts t u e h = subst (λ (w : State). Covers (holds ts) w) (sym e) h
 
 module _ {s : State} {steps : List Step} {t : State} (p : SoFarSets s steps t) where
   -- a turn of the loop
-  pub sets-go : (step : Step) (u : State) → Good t → AnswersParts {A = Unit {0}} (Ok tt) (attempt t step) u → SoFarSets s (steps ++ step ∷ []) u
+  pub sets-go : (step : Step) (u : State) → EntailsRedundant t → AnswersParts {A = Unit {0}} (Ok tt) (attempt t step) u → SoFarSets s (steps ++ step ∷ []) u
   sets-go step u good k = record {
-    folds = λ before f. same-fold ((before ++ steps) ++ step ∷ []) (before ++ (steps ++ step ∷ [])) u (append_append before steps (step ∷ [])) (sets_fold-attempt t step (before ++ steps) (Ok tt) u good (p.folds before f) k);
-    covers = λ before f. same-cover ((before ++ steps) ++ step ∷ []) (before ++ (steps ++ step ∷ [])) u (append_append before steps (step ∷ [])) (covers_fold-attempt t step (before ++ steps) (Ok tt) u (p.covers before f) k);
+    folds = λ before f. same-fold ((before ++ steps) ++ step ∷ []) (before ++ (steps ++ step ∷ [])) u
+        (append_append before steps (step ∷ [])) (sets_fold-attempt t step (before ++ steps) (Ok tt) u good (p.folds before f) k);
+    covers = λ before f. same-cover ((before ++ steps) ++ step ∷ []) (before ++ (steps ++ step ∷ [])) u
+        (append_append before steps (step ∷ [])) (covers_fold-attempt t step (before ++ steps) (Ok tt) u (p.covers before f) k);
     led = attempted-more s steps step ∙ ap (λ (w : State). (attempt w step).after) p.led ∙ sym k.1;
-    proves = λ before f. run_proves-more before s steps step (p.proves before f) (subst (Proves step (before ++ steps)) (sym p.led) (attempt_proves t step (before ++ steps) good (p.folds before f) k.0));
+    proves = λ before f. run_proves-more before s steps step (p.proves before f)
+        (subst (Proves step (before ++ steps)) (sym p.led) (attempt_proves t step (before ++ steps) good (p.folds before f) k.0));
     refutes = λ before f. run_refutes-more before steps step (p.refutes before f) (attempt_refutes t step (before ++ steps) good (p.covers before f) k.0);
   }
 
@@ -110,7 +113,7 @@ module _ {s : State} {steps : List Step} {t : State} (p : SoFarSets s steps t) w
   }
 
   -- the step that was read is refused
-  pub sets-refused : (step : Step) (e : CheckerError) (u : State) → Good t → AnswersParts {A = Unit {0}} (Err e) (attempt t step) u → AnswerSets s steps (Err e) u
+  pub sets-refused : (step : Step) (e : CheckerError) (u : State) → EntailsRedundant t → AnswersParts {A = Unit {0}} (Err e) (attempt t step) u → AnswerSets s steps (Err e) u
   sets-refused step e u good h = record {
     folds = λ before f. unless-bind (Err e) (IsFold (before ++ steps) u) (λ k. sets_fold-attempt t step (before ++ steps) (Err e) u good (p.folds before f) k) h;
     covers = λ before f. unless-bind (Err e) (IsCovered (before ++ steps) u) (λ k. covers_fold-attempt t step (before ++ steps) (Err e) u (p.covers before f) k) h;
@@ -119,7 +122,7 @@ module _ {s : State} {steps : List Step} {t : State} (p : SoFarSets s steps t) w
   }
 
   -- `End` was accepted, now or before
-  pub sets-close : (r : Answer) (u : State) → Good t → AnswersParts r (closing_conflict t) u → AnswerSets s steps r u
+  pub sets-close : (r : Answer) (u : State) → EntailsRedundant t → AnswersParts r (closing_conflict t) u → AnswerSets s steps r u
   sets-close r u good h = record {
     folds = λ before f. unless-bind r (IsFold (before ++ steps) u) (λ k. sets_fold-closing t (before ++ steps) r u good (p.folds before f) k) h;
     covers = λ before f. unless-bind r (IsCovered (before ++ steps) u) (λ k. covers_fold-closing t (before ++ steps) r u (p.covers before f) k) h;

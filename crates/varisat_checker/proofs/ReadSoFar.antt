@@ -1,7 +1,7 @@
 -- What the loop over the clauses of a text reads.
 use Rattle.std.proofs.Common.{◌≡◌, ℕ, Bool, true, false, List, [], ◌∷◌, ◌++◌, Option, Result, Ok, subst}
 use Rattle.checker_rules.specs.AddFormula.{add_clauses}
-use Rattle.checker_rules.specs.Headline.{Good}
+use Rattle.checker_rules.specs.Headline.{EntailsRedundant}
 use Rattle.checker_rules.specs.State.{State}
 use Rattle.sat_formula.specs.declared.dimacs.DimacsReader.{DimacsReader}
 use Rattle.sat_formula.specs.declared.fault.DimacsFault.{DimacsFault}
@@ -22,7 +22,8 @@ pub record ReadSoFar {R : Type 0} (remaining : R → Option (List ℕ)) (s : Sta
   pub so_far : AddedSoFar s clauses u
 
 -- the answer, with what follows for the satisfying set
-pub text-answer : (known : Option (List ℕ)) (s : State) (clauses : List (List ℕ)) (r : Result (Unit {0}) DimacsError) (u : State) → Good s → EndsText (outcome_of known) clauses r → AnswersText r (add_clauses s clauses) u → TextAnswer known s clauses r u
+pub text-answer : (known : Option (List ℕ)) (s : State) (clauses : List (List ℕ)) (r : Result (Unit {0}) DimacsError) (u : State) →
+    EntailsRedundant s → EndsText (outcome_of known) clauses r → AnswersText r (add_clauses s clauses) u → TextAnswer known s clauses r u
 text-answer known s clauses r u good text h = record {
   text = text;
   answer = h;
@@ -45,5 +46,7 @@ module _ {R : Type 0} {remaining : R → Option (List ℕ)} {s u : State} {first
       HasGiven-more remaining first mid new p.clauses clause p.given k.0 k.1
 
   -- the text's outcome, where the reader began with the whole text
-  pub ends-with : (known : Option (List ℕ)) → outcome_left remaining first ≡ outcome_of known → (clauses : List (List ℕ)) (r : Result (Unit {0}) DimacsError) → EndsText (outcome_left remaining first) clauses r → EndsText (outcome_of known) clauses r
+  pub ends-with : (known : Option (List ℕ)) → outcome_left remaining first ≡ outcome_of known →
+      (clauses : List (List ℕ)) (r : Result (Unit {0}) DimacsError) → EndsText (outcome_left remaining first) clauses r →
+      EndsText (outcome_of known) clauses r
   ends-with known same clauses r h = subst (λ (o : Option dimacs.Outcome). EndsText o clauses r) same h

@@ -1,6 +1,6 @@
 //! The checker.
 ghost use Rattle.std.specs.Prelude.{◌≡◌, false};
-ghost use Rattle.checker_steps.specs.Context.{IsKept};
+ghost use Rattle.checker_steps.specs.Context.{ContextInvariant};
 ghost use Rattle.checker_steps.specs.Failing.{has_failed};
 
 use crate::internal::SelfChecker;
@@ -22,13 +22,13 @@ use std::io::Read;
 pub struct CheckerOf<P, T> {
     ctx: ContextOf<P, T>,
     alloc: Global,
-    ghost kept: { ctx.checker_state.failed ≡ false → IsKept ctx },
+    ghost kept: { ctx.checker_state.failed ≡ false → ContextInvariant ctx },
 }
 
 /// A checker whose processors are boxes.
 pub type Checker = CheckerOf<Box<dyn ProofProcessor>, Box<dyn ProofTranscriptProcessor>>;
 
-#[tactic(auto, unfolding(crate::specs::Shown::state, crate::specs::Shown::boxes))]
+#[tactic(auto, unfolding(crate::specs::Shown::state, crate::specs::Shown::listeners))]
 impl<P: ProofProcessor, T: ProofTranscriptProcessor> CheckerOf<P, T> {
     ghost use Rattle.std.specs.Prelude.{◌≡◌, ◌++◌, ◌∷◌, [], true, false, List, map, Ok, Err, IfErr, OnErr, OnOk, ◌*◌, ◌≤◌};
     ghost use Rattle.checker_rules.specs.AddFormula.{add_clauses, added};
@@ -40,18 +40,18 @@ impl<P: ProofProcessor, T: ProofTranscriptProcessor> CheckerOf<P, T> {
     ghost use Rattle.checker_parts.specs.Answers.{AnswersStep, CoversFold, IsCovered, IsFold, SetsFold, UnlessFailed};
     ghost use Rattle.checker_parts.specs.Memory.{NeedsNoMemory};
     ghost use Rattle.checker_steps.specs.Failing.{IsFailed, IsTextFailed, RecordsFailure};
-    ghost use Rattle.checker_steps.specs.Handed.{Handed};
+    ghost use Rattle.checker_steps.specs.Delivered.{Delivered};
     ghost use Rattle.varisat_checker.specs.Certified.{Certifies};
     ghost use Rattle.varisat_checker.specs.ProofRun.{ProofRun};
-    ghost use Rattle.varisat_checker.specs.Shown.{boxes, state, buffer_length, shown_literals};
+    ghost use Rattle.varisat_checker.specs.Shown.{listeners, state, buffer_length, shown_literals};
     ghost use Rattle.varisat_checker.specs.TextFault.{IsTextFault};
     ghost use Rattle.varisat_checker.specs.TextRun.{TextRun};
 
     /// A checker with nothing stored. Takes no memory.
     pub fn new(alloc: Global) -> CheckerOf<P, T>
         ensures state { state result ≡ new_state }
-        ensures processors { (boxes result).processors ≡ [] }
-        ensures transcripts { (boxes result).transcripts ≡ [] }
+        ensures processors { (listeners result).processors ≡ [] }
+        ensures transcripts { (listeners result).transcripts ≡ [] }
     {
         CheckerOf {
             ctx: ContextOf::new(alloc),
@@ -64,12 +64,23 @@ impl<P: ProofProcessor, T: ProofTranscriptProcessor> CheckerOf<P, T> {
     /// Where unsatisfiability is recorded the answer is Ok, and the checker stays as it was.
     pub fn add_clause(&mut self, clause: &[Lit]) -> Result<(), CheckerError>
         ensures failed { (state self.old).failed ≡ true → IsFailed result × (self.new ≡ self.old) }
-        ensures step { (state self.old).failed ≡ false → AnswersStep result (step (state self.old) (rules.add_clause clause.now)) (state self.new) }
-        ensures headline { (state self.old).failed ≡ false → (before : List rules.Step) → IsFold before (state self.old) → SetsFold result before (rules.add_clause clause.now) (state self.new) }
-        ensures covers { (state self.old).failed ≡ false → (before : List rules.Step) → IsCovered before (state self.old) → CoversFold result before (rules.add_clause clause.now) (state self.new) }
-        ensures handed { (state self.old).failed ≡ false → Handed result (EmitsCall (state self.old) (adds clause.now)) P.took P.faulted T.took T.faulted (boxes self.old) (boxes self.new) }
-        ensures certified { (state self.old).failed ≡ false → Certifies result (EmitsCall (state self.old) (adds clause.now)) (state self.old) (state self.new) }
-        ensures after_unsat { (state self.old).failed ≡ false → (state self.old).unsat ≡ true → (result ≡ Ok tt) × (self.new ≡ self.old) }
+        ensures step { (state self.old).failed ≡ false →
+            AnswersStep result (step (state self.old) (rules.add_clause clause.now))
+            (state self.new) }
+        ensures headline { (state self.old).failed ≡ false → (before : List rules.Step) →
+            IsFold before (state self.old) →
+            SetsFold result before (rules.add_clause clause.now) (state self.new) }
+        ensures covers { (state self.old).failed ≡ false → (before : List rules.Step) →
+            IsCovered before (state self.old) →
+            CoversFold result before (rules.add_clause clause.now) (state self.new) }
+        ensures delivered { (state self.old).failed ≡ false →
+            Delivered result (EmitsCall (state self.old) (adds clause.now))
+            P.took P.faulted T.took T.faulted (listeners self.old) (listeners self.new) }
+        ensures certified { (state self.old).failed ≡ false →
+            Certifies result (EmitsCall (state self.old) (adds clause.now)) (state self.old)
+            (state self.new) }
+        ensures after_unsat { (state self.old).failed ≡ false → (state self.old).unsat ≡ true →
+            (result ≡ Ok tt) × (self.new ≡ self.old) }
     {
         if self.ctx.checker_state.failed {
             return Err(CheckerError::Failed);
@@ -84,11 +95,24 @@ impl<P: ProofProcessor, T: ProofTranscriptProcessor> CheckerOf<P, T> {
     /// Adds the clauses of a formula, in their order, up to the first that is refused.
     pub fn add_formula(&mut self, formula: &CnfFormula) -> Result<(), CheckerError>
         ensures failed { (state self.old).failed ≡ true → IsFailed result × (self.new ≡ self.old) }
-        ensures steps { (state self.old).failed ≡ false → AnswersStep result (add_clauses (state self.old) formula.now) (state self.new) }
-        ensures headline { (state self.old).failed ≡ false → (before : List rules.Step) → IsFold before (state self.old) → UnlessFailed result (IsFold (before ++ map rules.add_clause (added (state self.old) formula.now)) (state self.new)) }
-        ensures covers { (state self.old).failed ≡ false → (before : List rules.Step) → IsCovered before (state self.old) → UnlessFailed result (IsCovered (before ++ map rules.add_clause (added (state self.old) formula.now)) (state self.new)) }
-        ensures handed { (state self.old).failed ≡ false → Handed result (EmitsCalls (state self.old) (map adds (added (state self.old) formula.now))) P.took P.faulted T.took T.faulted (boxes self.old) (boxes self.new) }
-        ensures certified { (state self.old).failed ≡ false → Certifies result (EmitsCalls (state self.old) (map adds (added (state self.old) formula.now))) (state self.old) (state self.new) }
+        ensures steps { (state self.old).failed ≡ false →
+            AnswersStep result (add_clauses (state self.old) formula.now) (state self.new) }
+        ensures headline { (state self.old).failed ≡ false → (before : List rules.Step) →
+            IsFold before (state self.old) →
+            UnlessFailed result (IsFold (before ++
+            map rules.add_clause (added (state self.old) formula.now)) (state self.new)) }
+        ensures covers { (state self.old).failed ≡ false → (before : List rules.Step) →
+            IsCovered before (state self.old) →
+            UnlessFailed result (IsCovered
+            (before ++ map rules.add_clause (added (state self.old) formula.now))
+            (state self.new)) }
+        ensures delivered { (state self.old).failed ≡ false →
+            Delivered result (EmitsCalls (state self.old)
+            (map adds (added (state self.old) formula.now))) P.took P.faulted T.took T.faulted
+            (listeners self.old) (listeners self.new) }
+        ensures certified { (state self.old).failed ≡ false →
+            Certifies result (EmitsCalls (state self.old)
+            (map adds (added (state self.old) formula.now))) (state self.old) (state self.new) }
     {
         if self.ctx.checker_state.failed {
             return Err(CheckerError::Failed);
@@ -107,10 +131,11 @@ impl<P: ProofProcessor, T: ProofTranscriptProcessor> CheckerOf<P, T> {
         rt: &L,
         input: R,
     ) -> Result<(), DimacsError>
-        ensures failed { (state self.old).failed ≡ true → IsTextFailed result × (self.new ≡ self.old) }
+        ensures failed { (state self.old).failed ≡ true →
+            IsTextFailed result × (self.new ≡ self.old) }
         ensures text { (state self.old).failed ≡ false →
             TextRun (R.remaining input) (state self.old) result (state self.new)
-            P.took P.faulted T.took T.faulted (boxes self.old) (boxes self.new) }
+            P.took P.faulted T.took T.faulted (listeners self.old) (listeners self.new) }
     {
         if self.ctx.checker_state.failed {
             return Err(DimacsError::Checker(CheckerError::Failed));
@@ -134,7 +159,7 @@ impl<P: ProofProcessor, T: ProofTranscriptProcessor> CheckerOf<P, T> {
     /// The answer for a fault of a formula's text. Want of memory fails the checker.
     fn text_fault(&mut self, fault: DimacsFault) -> DimacsError
         ensures fault { IsTextFault fault (state self.old) result (state self.new) }
-        ensures boxes { boxes self.new ≡ boxes self.old }
+        ensures listeners { listeners self.new ≡ listeners self.old }
     {
         match fault {
             DimacsFault::Read(cause) => DimacsError::Read(cause),
@@ -158,7 +183,7 @@ impl<P: ProofProcessor, T: ProofTranscriptProcessor> CheckerOf<P, T> {
         ensures failed { (state self.old).failed ≡ true → IsFailed result × (self.new ≡ self.old) }
         ensures run { (state self.old).failed ≡ false →
             ProofRun (R.remaining proof) (state self.old) result (state self.new)
-            P.took P.faulted T.took T.faulted (boxes self.old) (boxes self.new) }
+            P.took P.faulted T.took T.faulted (listeners self.old) (listeners self.new) }
         ensures records { RecordsFailure result (state self.new) }
         ensures ended { (state self.old).ended ≡ true → NeedsNoMemory result }
         ensures exhausted { step_limit ≤ (state self.old).steps → NeedsNoMemory result }
@@ -175,11 +200,15 @@ impl<P: ProofProcessor, T: ProofTranscriptProcessor> CheckerOf<P, T> {
 
     /// Registers a processor after those that stand already. A refused one is handed back, and the checker is as it was.
     pub fn add_processor(&mut self, processor: P) -> Result<(), (P, CheckerError)>
-        ensures failed { (state self.old).failed ≡ true → (result ≡ Err (processor, Failed)) × (self.new ≡ self.old) }
+        ensures failed { (state self.old).failed ≡ true → (result ≡ Err (processor, Failed))
+            × (self.new ≡ self.old) }
         ensures state { state self.new ≡ state self.old }
-        ensures registered { OnOk result (boxes self.new ≡ record (boxes self.old) { processors = (boxes self.old).processors ++ processor ∷ [] }) }
-        ensures refused { OnErr result (boxes self.new ≡ boxes self.old) }
-        ensures returned { (state self.old).failed ≡ false → IfErr result (λ refusal. refusal ≡ (processor, OutOfMemory)) }
+        ensures registered { OnOk result
+            (listeners self.new ≡ record (listeners self.old)
+            { processors = (listeners self.old).processors ++ processor ∷ [] }) }
+        ensures refused { OnErr result (listeners self.new ≡ listeners self.old) }
+        ensures returned { (state self.old).failed ≡ false →
+            IfErr result (λ refusal. refusal ≡ (processor, OutOfMemory)) }
     {
         if self.ctx.checker_state.failed {
             return Err((processor, CheckerError::Failed));
@@ -192,11 +221,15 @@ impl<P: ProofProcessor, T: ProofTranscriptProcessor> CheckerOf<P, T> {
 
     /// Registers a transcript after those that stand already. A refused one is handed back, and the checker is as it was.
     pub fn add_transcript(&mut self, transcript: T) -> Result<(), (T, CheckerError)>
-        ensures failed { (state self.old).failed ≡ true → (result ≡ Err (transcript, Failed)) × (self.new ≡ self.old) }
+        ensures failed { (state self.old).failed ≡ true → (result ≡ Err (transcript, Failed))
+            × (self.new ≡ self.old) }
         ensures state { state self.new ≡ state self.old }
-        ensures registered { OnOk result (boxes self.new ≡ record (boxes self.old) { transcripts = (boxes self.old).transcripts ++ transcript ∷ [] }) }
-        ensures refused { OnErr result (boxes self.new ≡ boxes self.old) }
-        ensures returned { (state self.old).failed ≡ false → IfErr result (λ refusal. refusal ≡ (transcript, OutOfMemory)) }
+        ensures registered { OnOk result
+            (listeners self.new ≡ record (listeners self.old)
+            { transcripts = (listeners self.old).transcripts ++ transcript ∷ [] }) }
+        ensures refused { OnErr result (listeners self.new ≡ listeners self.old) }
+        ensures returned { (state self.old).failed ≡ false →
+            IfErr result (λ refusal. refusal ≡ (transcript, OutOfMemory)) }
     {
         if self.ctx.checker_state.failed {
             return Err((transcript, CheckerError::Failed));
@@ -209,8 +242,8 @@ impl<P: ProofProcessor, T: ProofTranscriptProcessor> CheckerOf<P, T> {
 
     /// Ends the checker, and hands back the processors and the transcripts, each in order of registration.
     pub fn into_processors(self) -> (Vec<P>, Vec<T>)
-        ensures processors { result.0.items ≡ (boxes self).processors }
-        ensures transcripts { result.1.items ≡ (boxes self).transcripts }
+        ensures processors { result.0.items ≡ (listeners self).processors }
+        ensures transcripts { result.1.items ≡ (listeners self).transcripts }
     {
         let CheckerOf { ctx, .. } = self;
         let ContextOf { processing, .. } = ctx;
@@ -258,14 +291,14 @@ impl<P: ProofProcessor, T: ProofTranscriptProcessor> CheckerOf<P, T> {
     }
 }
 
-#[tactic(auto, unfolding(crate::specs::Shown::state, crate::specs::Shown::boxes))]
+#[tactic(auto, unfolding(crate::specs::Shown::state, crate::specs::Shown::listeners))]
 impl<P: ProofProcessor, T: ProofTranscriptProcessor> SelfChecker for CheckerOf<P, T> {
-    ghost use Rattle.checker_steps.specs.Handed.{Handed};
-    ghost use Rattle.varisat_checker.specs.Shown.{boxes, state};
+    ghost use Rattle.checker_steps.specs.Delivered.{Delivered};
+    ghost use Rattle.varisat_checker.specs.Shown.{listeners, state};
 
     ghost shown = { λ c. state c };
 
-    ghost hands = { λ answer emitted old new. Handed answer emitted P.took P.faulted T.took T.faulted (boxes old) (boxes new) };
+    ghost delivers = { λ answer emitted old new. Delivered answer emitted P.took P.faulted T.took T.faulted (listeners old) (listeners new) };
 
     fn self_check_step(&mut self, step: ProofStep) -> Result<(), CheckerError> {
         if self.ctx.checker_state.failed {

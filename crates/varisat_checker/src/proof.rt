@@ -3,8 +3,8 @@ ghost use Rattle.std.specs.Prelude.{◌≡◌, ◌≤◌, ℕ, true};
 ghost use Rattle.checker_rules.specs.Calls.{step_limit};
 ghost use Rattle.checker_parts.specs.Answers.{UnlessFailed};
 ghost use Rattle.checker_parts.specs.Memory.{NeedsNoMemory};
-ghost use Rattle.checker_steps.specs.Context.{IsKept, context_state};
-ghost use Rattle.checker_steps.specs.Handed.{boxes_of};
+ghost use Rattle.checker_steps.specs.Context.{ContextInvariant, context_state};
+ghost use Rattle.checker_steps.specs.Delivered.{listeners_of};
 ghost use Rattle.varisat_checker.specs.ProofRun.{ProofRun};
 ghost use Rattle.varisat_checker.specs.ReadFault.{IsReadFault};
 
@@ -30,10 +30,12 @@ pub fn check_proof<P: ProofProcessor, T: ProofTranscriptProcessor, L: Log, R: Re
     ctx: &mut ContextOf<P, T>,
     proof: R,
 ) -> Result<(), CheckerError>
-    requires { IsKept ctx.old }
-    ensures run { ProofRun (R.remaining proof) (context_state ctx.old) result (context_state ctx.new)
-        P.took P.faulted T.took T.faulted (boxes_of ctx.old.processing) (boxes_of ctx.new.processing) }
-    ensures kept { UnlessFailed result (IsKept ctx.new) }
+    requires { ContextInvariant ctx.old }
+    ensures run { ProofRun (R.remaining proof) (context_state ctx.old) result
+        (context_state ctx.new)
+        P.took P.faulted T.took T.faulted (listeners_of ctx.old.processing)
+        (listeners_of ctx.new.processing) }
+    ensures kept { UnlessFailed result (ContextInvariant ctx.new) }
     ensures ended { (context_state ctx.old).ended ≡ true → NeedsNoMemory result }
     ensures exhausted { step_limit ≤ (context_state ctx.old).steps → NeedsNoMemory result }
 {

@@ -11,14 +11,14 @@ ghost use Rattle.checker_rules.specs.Step as rules;
 ghost use Rattle.checker_rules.specs.Steps.{step};
 ghost use Rattle.checker_rules.specs.Store.{id_limit};
 ghost use Rattle.checker_parts.specs.Answers.{AnswersParts, UnlessFailed};
-ghost use Rattle.clause_store.specs.Kept.{Kept};
+ghost use Rattle.clause_store.specs.PartsInvariant.{PartsInvariant};
 ghost use Rattle.clause_store.specs.StateOf.{state_of};
 ghost use Rattle.clause_store.specs.Store.{IsStore};
 ghost use Rattle.clause_store.specs.declared.state.CheckerState.{CheckerState};
 ghost use Rattle.checker_steps.specs.Added.{emitted_of};
-ghost use Rattle.checker_steps.specs.Context.{IsKept, context_state};
-ghost use Rattle.checker_steps.specs.Handed.{Handed, HandsAll, boxes_of};
-ghost use Rattle.checker_steps.specs.InputCause.{IsInputCause, HasRoom, taken};
+ghost use Rattle.checker_steps.specs.Context.{ContextInvariant, context_state};
+ghost use Rattle.checker_steps.specs.Delivered.{Delivered, DeliveredAll, listeners_of};
+ghost use Rattle.checker_steps.specs.InputCause.{IsInputCause, HasCapacity, taken};
 ghost use Rattle.checker_steps.specs.declared.steps.add_clause.Added.TheVariants.{Duplicate};
 
 use crate::context::ContextOf;
@@ -46,11 +46,15 @@ pub fn add_clause<P: ProofProcessor, T: ProofTranscriptProcessor>(
     ctx: &mut ContextOf<P, T>,
     lits: &[Lit],
 ) -> Result<(), CheckerError>
-    requires { IsKept ctx.old }
-    ensures step { AnswersParts result (step (context_state ctx.old) (rules.add_clause lits.now)) (context_state ctx.new) }
-    ensures kept { UnlessFailed result (IsKept ctx.new) }
-    ensures handed { Handed result (Emits (context_state ctx.old) (rules.add_clause lits.now)) P.took P.faulted T.took T.faulted (boxes_of ctx.old.processing) (boxes_of ctx.new.processing) }
-    ensures after_unsat { (context_state ctx.old).unsat ≡ true → (result ≡ Ok tt) × (ctx.new ≡ ctx.old) }
+    requires { ContextInvariant ctx.old }
+    ensures step { AnswersParts result (step (context_state ctx.old) (rules.add_clause lits.now))
+        (context_state ctx.new) }
+    ensures kept { UnlessFailed result (ContextInvariant ctx.new) }
+    ensures delivered { Delivered result (Emits (context_state ctx.old) (rules.add_clause lits.now))
+        P.took P.faulted T.took T.faulted (listeners_of ctx.old.processing)
+        (listeners_of ctx.new.processing) }
+    ensures after_unsat { (context_state ctx.old).unsat ≡ true →
+        (result ≡ Ok tt) × (ctx.new ≡ ctx.old) }
 {
     if ctx.checker_state.unsat {
         return Ok(());
@@ -94,14 +98,16 @@ enum Added {
     },
 }
 
-/// Hands on what became of an input clause.
+/// Delivers what became of an input clause.
 fn emit_added<P: ProofProcessor, T: ProofTranscriptProcessor>(
     processing: &mut ProcessingOf<P, T>,
     variables: &Variables,
     clause: &[Lit],
     added: Added,
 ) -> Result<(), CheckerError>
-    ensures { HandsAll result (emitted_of added clause.now variables.now) P.took P.faulted T.took T.faulted (boxes_of processing.old) (boxes_of processing.new) }
+    ensures { DeliveredAll result (emitted_of added clause.now variables.now)
+        P.took P.faulted T.took T.faulted (listeners_of processing.old)
+        (listeners_of processing.new) }
 {
     match added {
         Added::Tautology { id } => emit_tautological_clause(processing, variables, id, clause),
@@ -127,7 +133,8 @@ fn cause(
     clause: &[Lit],
 ) -> Option<CheckCause>
     requires { IsStore hasher.now clauses.now }
-    ensures { (st : CheckerState) → IsInputCause result (state_of st hasher.now clauses.now variables.now) clause.now }
+    ensures { (st : CheckerState) → IsInputCause result
+        (state_of st hasher.now clauses.now variables.now) clause.now }
 {
     if some_not_sampling(variables, clause) {
         return Some(CheckCause::NotSampling);
@@ -151,13 +158,17 @@ fn take_clause(
     clause: &[Lit],
     tautology: bool,
 ) -> Result<Added, AllocError>
-    requires kept { Kept state.old hasher.now clauses.old variables.old }
-    requires room { HasRoom (state_of state.old hasher.now clauses.old variables.old) clause.now }
+    requires kept { PartsInvariant state.old hasher.now clauses.old variables.old }
+    requires room { HasCapacity (state_of state.old hasher.now clauses.old variables.old)
+        clause.now }
     requires canonical { is_canonical clause.now ≡ true }
     requires tautology { tautology ≡ is_tautology clause.now }
-    ensures state { OnOk result (state_of state.new hasher.now clauses.new variables.new ≡ taken (state_of state.old hasher.now clauses.old variables.old) clause.now) }
+    ensures state { OnOk result (state_of state.new hasher.now clauses.new variables.new ≡
+        taken (state_of state.old hasher.now clauses.old variables.old) clause.now) }
     ensures store { OnOk result (IsStore hasher.now clauses.new) }
-    ensures emitted { IfOk result (λ added. emitted_of added clause.now variables.new ≡ emits_input clause.now (know_clause clause.now (state_of state.old hasher.now clauses.old variables.old))) }
+    ensures emitted { IfOk result (λ added. emitted_of added clause.now variables.new ≡
+        emits_input clause.now (know_clause clause.now
+        (state_of state.old hasher.now clauses.old variables.old))) }
 {
     ensure_vars(clauses, variables, var_bound(clause))?;
     let added = store_input_clause(alloc, state, hasher, clauses, clause, tautology)?;
@@ -175,14 +186,19 @@ fn store_input_clause(
     tautology: bool,
 ) -> Result<Added, AllocError>
     requires store { IsStore hasher.now clauses.old }
-    requires room { (known : List Known) → HasRoom (state_of state.old hasher.now clauses.old known) clause.now }
+    requires room { (known : List Known) →
+        HasCapacity (state_of state.old hasher.now clauses.old known) clause.now }
     requires known { var_bound clause.now ≤ length clauses.old.unit_clauses }
     requires canonical { is_canonical clause.now ≡ true }
     requires tautology { tautology ≡ is_tautology clause.now }
-    ensures state { OnOk result ((known : List Known) → state_of state.new hasher.now clauses.new known ≡ store_input clause.now (state_of state.old hasher.now clauses.old known)) }
+    ensures state { OnOk result ((known : List Known) →
+        state_of state.new hasher.now clauses.new known ≡
+        store_input clause.now (state_of state.old hasher.now clauses.old known)) }
     ensures store { OnOk result (IsStore hasher.now clauses.new) }
     ensures inputs { OnOk result (state.new.input_clauses ≡ state.old.input_clauses) }
-    ensures emitted { IfOk result (λ added. (known : List Known) → emitted_of added clause.now known ≡ emits_input clause.now (state_of state.old hasher.now clauses.old known)) }
+    ensures emitted { IfOk result (λ added. (known : List Known) →
+        emitted_of added clause.now known ≡
+        emits_input clause.now (state_of state.old hasher.now clauses.old known)) }
 {
     if tautology {
         let id = clauses.next_clause_id;
@@ -208,7 +224,8 @@ fn store_input_clause(
 fn repeated(clauses: &mut Clauses, same_as_id: u64, newly_irredundant: bool) -> Added
     requires { clauses.old.next_clause_id < id_limit }
     ensures answer { result ≡ Duplicate clauses.old.next_clause_id same_as_id newly_irredundant }
-    ensures taken { clauses.new ≡ record clauses.old { next_clause_id = clauses.old.next_clause_id + 1 } }
+    ensures taken { clauses.new ≡ record clauses.old
+        { next_clause_id = clauses.old.next_clause_id + 1 } }
 {
     let id = clauses.next_clause_id;
     clauses.next_clause_id += 1;

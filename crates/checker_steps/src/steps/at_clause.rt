@@ -9,8 +9,8 @@ ghost use Rattle.checker_parts.specs.Answers.{AnswersParts, UnlessFailed};
 ghost use Rattle.clause_store.specs.StateOf.{state_of};
 ghost use Rattle.clause_store.specs.declared.clauses.Clauses.{Clauses};
 ghost use Rattle.clause_store.specs.declared.hash.ClauseHasher.{ClauseHasher};
-ghost use Rattle.checker_steps.specs.Context.{IsKept, context_state};
-ghost use Rattle.checker_steps.specs.Handed.{Handed, boxes_of};
+ghost use Rattle.checker_steps.specs.Context.{ContextInvariant, context_state};
+ghost use Rattle.checker_steps.specs.Delivered.{Delivered, listeners_of};
 ghost use Rattle.checker_parts.specs.declared.error.CheckerError.TheVariants.{OutOfMemory};
 
 use crate::context::ContextOf;
@@ -25,6 +25,7 @@ use sat_formula::Lit;
 use std::alloc::Global;
 
 /// Checks a derived clause and stores it in its kind. An irredundant one becomes the previous clause.
+#[inline(always)]
 pub fn at_clause<P: ProofProcessor, T: ProofTranscriptProcessor>(
     alloc: Global,
     ctx: &mut ContextOf<P, T>,
@@ -32,10 +33,15 @@ pub fn at_clause<P: ProofProcessor, T: ProofTranscriptProcessor>(
     lits: &[Lit],
     hashes: &[ClauseHash],
 ) -> Result<(), CheckerError>
-    requires { IsKept ctx.old }
-    ensures step { AnswersParts result (step (context_state ctx.old) (rules.at_clause redundant lits.now hashes.now)) (context_state ctx.new) }
-    ensures kept { UnlessFailed result (IsKept ctx.new) }
-    ensures handed { Handed result (Emits (context_state ctx.old) (rules.at_clause redundant lits.now hashes.now)) P.took P.faulted T.took T.faulted (boxes_of ctx.old.processing) (boxes_of ctx.new.processing) }
+    requires { ContextInvariant ctx.old }
+    ensures step { AnswersParts result
+        (step (context_state ctx.old) (rules.at_clause redundant lits.now hashes.now))
+        (context_state ctx.new) }
+    ensures kept { UnlessFailed result (ContextInvariant ctx.new) }
+    ensures delivered { Delivered result
+        (Emits (context_state ctx.old) (rules.at_clause redundant lits.now hashes.now))
+        P.took P.faulted T.took T.faulted (listeners_of ctx.old.processing)
+        (listeners_of ctx.new.processing) }
 {
     let Ok(tautology) = copy_canonical(&mut ctx.tmp_data.tmp, lits) else {
         return Err(CheckerError::OutOfMemory);
@@ -63,8 +69,11 @@ pub fn at_clause<P: ProofProcessor, T: ProofTranscriptProcessor>(
 }
 
 /// Keeps the previous clause, with its id.
+#[inline(always)]
 fn set_previous(state: &mut CheckerState, clause: &[Lit], id: u64) -> Result<(), CheckerError>
-    ensures state { OnOk result ((hasher : ClauseHasher) (clauses : Clauses) (known : List Known) → state_of state.new hasher clauses known ≡ rules_previous clause.now id (state_of state.old hasher clauses known)) }
+    ensures state { OnOk result ((hasher : ClauseHasher) (clauses : Clauses) (known : List Known) →
+        state_of state.new hasher clauses known ≡
+        rules_previous clause.now id (state_of state.old hasher clauses known)) }
     ensures memory { OnErr result (result ≡ Err OutOfMemory) }
 {
     state.previous_id = None;

@@ -3,8 +3,8 @@ ghost use Rattle.checker_rules.specs.Emits.{Emits};
 ghost use Rattle.checker_rules.specs.Step as rules;
 ghost use Rattle.checker_rules.specs.Steps.{step};
 ghost use Rattle.checker_parts.specs.Answers.{AnswersParts, UnlessFailed};
-ghost use Rattle.checker_steps.specs.Context.{IsKept, context_state};
-ghost use Rattle.checker_steps.specs.Handed.{Handed, boxes_of};
+ghost use Rattle.checker_steps.specs.Context.{ContextInvariant, context_state};
+ghost use Rattle.checker_steps.specs.Delivered.{Delivered, listeners_of};
 
 use crate::context::ContextOf;
 use checker_parts::error::{CheckCause, CheckerError};
@@ -19,10 +19,14 @@ pub fn change_hash_bits<P: ProofProcessor, T: ProofTranscriptProcessor>(
     ctx: &mut ContextOf<P, T>,
     bits: u32,
 ) -> Result<(), CheckerError>
-    requires { IsKept ctx.old }
-    ensures step { AnswersParts result (step (context_state ctx.old) (rules.change_hash_bits bits)) (context_state ctx.new) }
-    ensures kept { UnlessFailed result (IsKept ctx.new) }
-    ensures handed { Handed result (Emits (context_state ctx.old) (rules.change_hash_bits bits)) P.took P.faulted T.took T.faulted (boxes_of ctx.old.processing) (boxes_of ctx.new.processing) }
+    requires { ContextInvariant ctx.old }
+    ensures step { AnswersParts result (step (context_state ctx.old) (rules.change_hash_bits bits))
+        (context_state ctx.new) }
+    ensures kept { UnlessFailed result (ContextInvariant ctx.new) }
+    ensures delivered { Delivered result
+        (Emits (context_state ctx.old) (rules.change_hash_bits bits))
+        P.took P.faulted T.took T.faulted (listeners_of ctx.old.processing)
+        (listeners_of ctx.new.processing) }
 {
     if bits == 0 || bits > u64::BITS {
         return Err(refusal(alloc, &ctx.checker_state, CheckCause::HashBits));

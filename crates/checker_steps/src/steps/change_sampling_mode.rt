@@ -1,5 +1,5 @@
 //! Whether models tell a variable's value as a sample or as a witness.
-ghost use Rattle.std.specs.Prelude.{◌≡◌, ◌<◌, cond, length};
+ghost use Rattle.std.specs.Prelude.{◌≡◌, ◌<◌, if◌then◌else◌, length};
 ghost use Rattle.checker_rules.specs.Emits.{Emits};
 ghost use Rattle.checker_rules.specs.State.{sample as sampled, witness};
 ghost use Rattle.checker_rules.specs.Step as rules;
@@ -7,8 +7,8 @@ ghost use Rattle.checker_rules.specs.Steps.{step};
 ghost use Rattle.checker_parts.specs.Answers.{AnswersParts, UnlessFailed};
 ghost use Rattle.checker_parts.specs.Variables.{mode_of};
 ghost use Rattle.sat_formula.specs.Vars.{index_of};
-ghost use Rattle.checker_steps.specs.Context.{IsKept, context_state};
-ghost use Rattle.checker_steps.specs.Handed.{Handed, boxes_of};
+ghost use Rattle.checker_steps.specs.Context.{ContextInvariant, context_state};
+ghost use Rattle.checker_steps.specs.Delivered.{Delivered, listeners_of};
 ghost use Rattle.checker_steps.specs.Naming.{AnswersMode};
 
 use crate::context::ContextOf;
@@ -28,10 +28,15 @@ pub fn change_sampling_mode<P: ProofProcessor, T: ProofTranscriptProcessor>(
     var: Var,
     sample: bool,
 ) -> Result<(), CheckerError>
-    requires { IsKept ctx.old }
-    ensures step { AnswersParts result (step (context_state ctx.old) (rules.change_sampling_mode (index_of var) sample)) (context_state ctx.new) }
-    ensures kept { UnlessFailed result (IsKept ctx.new) }
-    ensures handed { Handed result (Emits (context_state ctx.old) (rules.change_sampling_mode (index_of var) sample)) P.took P.faulted T.took T.faulted (boxes_of ctx.old.processing) (boxes_of ctx.new.processing) }
+    requires { ContextInvariant ctx.old }
+    ensures step { AnswersParts result
+        (step (context_state ctx.old) (rules.change_sampling_mode (index_of var) sample))
+        (context_state ctx.new) }
+    ensures kept { UnlessFailed result (ContextInvariant ctx.new) }
+    ensures delivered { Delivered result
+        (Emits (context_state ctx.old) (rules.change_sampling_mode (index_of var) sample))
+        P.took P.faulted T.took T.faulted (listeners_of ctx.old.processing)
+        (listeners_of ctx.new.processing) }
 {
     ensure_var(&mut ctx.clauses, &mut ctx.variables, var)?;
     match change_mode(&mut ctx.variables, var, sample) {
@@ -66,7 +71,7 @@ fn change_mode(variables: &mut Variables, var: Var, sample: bool) -> Result<Opti
 }
 
 fn asked_mode(sample: bool) -> SamplingMode
-    ensures { mode_of result ≡ cond sample sampled witness }
+    ensures { mode_of result ≡ (if sample then sampled else witness) }
 {
     if sample {
         SamplingMode::Sample

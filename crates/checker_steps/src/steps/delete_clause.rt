@@ -1,5 +1,5 @@
 //! Deletions of clauses.
-ghost use Rattle.std.specs.Prelude.{◌≡◌, IsTrue, List, cond, true};
+ghost use Rattle.std.specs.Prelude.{◌≡◌, IsTrue, List, if◌then◌else◌, true};
 ghost use Rattle.checker_rules.specs.Clauses.{is_canonical};
 ghost use Rattle.checker_rules.specs.Emits.{Emits};
 ghost use Rattle.checker_rules.specs.State.{Known};
@@ -13,9 +13,9 @@ ghost use Rattle.clause_store.specs.Delete.{IsDeleteError};
 ghost use Rattle.clause_store.specs.StateOf.{state_of};
 ghost use Rattle.clause_store.specs.Trace.{AreStored};
 ghost use Rattle.clause_store.specs.declared.hash.ClauseHasher.{ClauseHasher};
-ghost use Rattle.checker_steps.specs.Context.{IsKept, context_state};
+ghost use Rattle.checker_steps.specs.Context.{ContextInvariant, context_state};
 ghost use Rattle.checker_steps.specs.DeletionSteps.{deletion_steps};
-ghost use Rattle.checker_steps.specs.Handed.{Handed, HandsAll, boxes_of};
+ghost use Rattle.checker_steps.specs.Delivered.{Delivered, DeliveredAll, listeners_of};
 ghost use Rattle.checker_steps.specs.Justified.{AnswersJustified, previous_of, subsuming_id};
 
 use crate::context::ContextOf;
@@ -34,16 +34,22 @@ use sat_formula::Lit;
 use std::alloc::Global;
 
 /// Deletes one copy of a clause. A justification that passes makes the previous clause forgotten, also where the step is then refused.
+#[inline(always)]
 pub fn delete_clause<P: ProofProcessor, T: ProofTranscriptProcessor>(
     alloc: Global,
     ctx: &mut ContextOf<P, T>,
     proof: DeleteClauseProof,
     lits: &[Lit],
 ) -> Result<(), CheckerError>
-    requires { IsKept ctx.old }
-    ensures step { AnswersParts result (step (context_state ctx.old) (rules.delete_clause (why proof) lits.now)) (context_state ctx.new) }
-    ensures kept { UnlessFailed result (IsKept ctx.new) }
-    ensures handed { Handed result (Emits (context_state ctx.old) (rules.delete_clause (why proof) lits.now)) P.took P.faulted T.took T.faulted (boxes_of ctx.old.processing) (boxes_of ctx.new.processing) }
+    requires { ContextInvariant ctx.old }
+    ensures step { AnswersParts result
+        (step (context_state ctx.old) (rules.delete_clause (why proof) lits.now))
+        (context_state ctx.new) }
+    ensures kept { UnlessFailed result (ContextInvariant ctx.new) }
+    ensures delivered { Delivered result
+        (Emits (context_state ctx.old) (rules.delete_clause (why proof) lits.now))
+        P.took P.faulted T.took T.faulted (listeners_of ctx.old.processing)
+        (listeners_of ctx.new.processing) }
 {
     let Ok(tautology) = copy_canonical(&mut ctx.tmp_data.tmp, lits) else {
         return Err(CheckerError::OutOfMemory);
@@ -88,7 +94,8 @@ fn justify(
     requires stored { AreStored clauses.now.unit_clauses }
     requires previous { is_previous_canonical (previous_of state.now) ≡ true }
     requires clause { IsTrue (is_canonical clause.now) }
-    ensures { (h : ClauseHasher) (known : List Known) → AnswersJustified result (why proof) clause.now (state_of state.now h clauses.now known) }
+    ensures { (h : ClauseHasher) (known : List Known) →
+        AnswersJustified result (why proof) clause.now (state_of state.now h clauses.now known) }
 {
     match proof {
         DeleteClauseProof::Redundant => Ok(None),
@@ -118,6 +125,7 @@ fn subsuming_id(state: &CheckerState, clause: &[Lit]) -> Option<u64>
 }
 
 /// The error for a copy that was not deleted.
+#[inline(always)]
 fn delete_error(
     alloc: Global,
     state: &CheckerState,
@@ -136,7 +144,8 @@ fn delete_error(
 
 /// Why no copy of the kind of a stored clause was deleted.
 fn no_copy(redundant: bool) -> CheckCause
-    ensures { result ≡ cond redundant DeleteRedundantIsIrredundant DeleteIrredundantIsRedundant }
+    ensures { result ≡ (if redundant then DeleteRedundantIsIrredundant
+        else DeleteIrredundantIsRedundant) }
 {
     if redundant {
         CheckCause::DeleteRedundantIsIrredundant
@@ -145,7 +154,8 @@ fn no_copy(redundant: bool) -> CheckCause
     }
 }
 
-/// Hands on what the deletion of a copy did to the clause: whether it is gone, or redundant from now on.
+/// Delivers what the deletion of a copy did to the clause: whether it is gone, or redundant from now on.
+#[inline(always)]
 fn emit_deletion<P: ProofProcessor, T: ProofTranscriptProcessor>(
     processing: &mut ProcessingOf<P, T>,
     variables: &Variables,
@@ -154,7 +164,9 @@ fn emit_deletion<P: ProofProcessor, T: ProofTranscriptProcessor>(
     did: DeleteClauseResult,
     implying: Option<u64>,
 ) -> Result<(), CheckerError>
-    ensures { HandsAll result (deletion_steps variables.now implying did id clause.now) P.took P.faulted T.took T.faulted (boxes_of processing.old) (boxes_of processing.new) }
+    ensures { DeliveredAll result (deletion_steps variables.now implying did id clause.now)
+        P.took P.faulted T.took T.faulted (listeners_of processing.old)
+        (listeners_of processing.new) }
 {
     match (implying, did) {
         (None, DeleteClauseResult::Removed) => {

@@ -15,9 +15,9 @@ ghost use Rattle.clause_store.specs.Store.{IsStore};
 ghost use Rattle.clause_store.specs.declared.clauses.Clauses.{Clauses};
 ghost use Rattle.clause_store.specs.declared.hash.ClauseHasher.{ClauseHasher};
 ghost use Rattle.clause_store.specs.declared.state.CheckerState.{CheckerState};
-ghost use Rattle.checker_steps.specs.Context.{IsKept, context_state};
+ghost use Rattle.checker_steps.specs.Context.{ContextInvariant, context_state};
 ghost use Rattle.checker_steps.specs.DeletedVar.{close_on, conflict_on, emits_close, emits_dropped};
-ghost use Rattle.checker_steps.specs.Handed.{Handed, boxes_of};
+ghost use Rattle.checker_steps.specs.Delivered.{Delivered, listeners_of};
 
 use crate::context::ContextOf;
 use crate::emit::{emit_at_clause, emit_delete_rat_clause};
@@ -42,10 +42,14 @@ pub fn delete_var<P: ProofProcessor, T: ProofTranscriptProcessor>(
     ctx: &mut ContextOf<P, T>,
     var: Var,
 ) -> Result<(), CheckerError>
-    requires { IsKept ctx.old }
-    ensures step { AnswersParts result (step (context_state ctx.old) (rules.delete_var (index_of var))) (context_state ctx.new) }
-    ensures kept { UnlessFailed result (IsKept ctx.new) }
-    ensures handed { Handed result (Emits (context_state ctx.old) (rules.delete_var (index_of var))) P.took P.faulted T.took T.faulted (boxes_of ctx.old.processing) (boxes_of ctx.new.processing) }
+    requires { ContextInvariant ctx.old }
+    ensures step { AnswersParts result
+        (step (context_state ctx.old) (rules.delete_var (index_of var))) (context_state ctx.new) }
+    ensures kept { UnlessFailed result (ContextInvariant ctx.new) }
+    ensures delivered { Delivered result
+        (Emits (context_state ctx.old) (rules.delete_var (index_of var)))
+        P.took P.faulted T.took T.faulted (listeners_of ctx.old.processing)
+        (listeners_of ctx.new.processing) }
 {
     ensure_var(&mut ctx.clauses, &mut ctx.variables, var)?;
     if ctx.variables.get(var).user_var.is_some() {
@@ -74,7 +78,8 @@ pub fn delete_var<P: ProofProcessor, T: ProofTranscriptProcessor>(
 
 /// Whether a stored clause of two or more literals holds the variable.
 fn is_held(counts: &LitCounts, var: Var) -> bool
-    ensures { (n : ℕ) (es : List Stored) → AreCounts counts.now n es → result ≡ list_any (λ e. holds_var (index_of var) e.lits) es }
+    ensures { (n : ℕ) (es : List Stored) → AreCounts counts.now n es →
+        result ≡ list_any (λ e. holds_var (index_of var) e.lits) es }
 {
     counts.get(var.lit(true)).clause_count > 0 || counts.get(var.lit(false)).clause_count > 0
 }
@@ -88,10 +93,16 @@ fn close_conflict_on<P: ProofProcessor, T: ProofTranscriptProcessor>(
     processing: &mut ProcessingOf<P, T>,
     var: Var,
 ) -> Result<(), CheckerError>
-    ensures answer { (h : ClauseHasher) → AnswersParts result (close_on (index_of var) (state_of state.now h clauses.old variables.now)) (state_of state.now h clauses.new variables.now) }
+    ensures answer { (h : ClauseHasher) →
+        AnswersParts result (close_on (index_of var)
+        (state_of state.now h clauses.old variables.now))
+        (state_of state.now h clauses.new variables.now) }
     ensures store { (h : ClauseHasher) → IsStore h clauses.old → IsStore h clauses.new }
     ensures units { clauses.new.unit_clauses ≡ clauses.old.unit_clauses }
-    ensures handed { (h : ClauseHasher) → Handed result (λ es. es ≡ emits_close (index_of var) (state_of state.now h clauses.old variables.now)) P.took P.faulted T.took T.faulted (boxes_of processing.old) (boxes_of processing.new) }
+    ensures delivered { (h : ClauseHasher) →
+        Delivered result (λ es. es ≡ emits_close (index_of var)
+        (state_of state.now h clauses.old variables.now)) P.took P.faulted T.took T.faulted
+        (listeners_of processing.old) (listeners_of processing.new) }
 {
     let Some((unit, negation)) = conflict_on(clauses, var) else {
         return Ok(());
@@ -105,7 +116,8 @@ fn close_conflict_on<P: ProofProcessor, T: ProofTranscriptProcessor>(
 
 /// The recorded conflict, where it is with the variable's unit.
 fn conflict_on(clauses: &Clauses, var: Var) -> Option<(u64, u64)>
-    ensures { result ≡ conflict_on (unit_of (stored_units clauses.now.unit_clauses) (index_of var)) clauses.now.unit_conflict }
+    ensures { result ≡ conflict_on (unit_of (stored_units clauses.now.unit_clauses) (index_of var))
+        clauses.now.unit_conflict }
 {
     let conflict = clauses.unit_conflict?;
     let unit = clauses.unit_clauses.get(var.index())?;
@@ -116,7 +128,7 @@ fn conflict_on(clauses: &Clauses, var: Var) -> Option<(u64, u64)>
     }
 }
 
-/// Hands on the unit of the variable, where it has one, as a clause that goes.
+/// Delivers the unit of the variable, where it has one, as a clause that goes.
 fn emit_unit<P: ProofProcessor, T: ProofTranscriptProcessor>(
     processing: &mut ProcessingOf<P, T>,
     clauses: &Clauses,
@@ -124,7 +136,10 @@ fn emit_unit<P: ProofProcessor, T: ProofTranscriptProcessor>(
     var: Var,
 ) -> Result<(), CheckerError>
     ensures not_refused { UnlessGivenUp result (IsOk result) }
-    ensures handed { (st : CheckerState) (h : ClauseHasher) → Handed result (λ es. es ≡ emits_dropped (index_of var) (state_of st h clauses.now variables.now)) P.took P.faulted T.took T.faulted (boxes_of processing.old) (boxes_of processing.new) }
+    ensures delivered { (st : CheckerState) (h : ClauseHasher) →
+        Delivered result (λ es. es ≡ emits_dropped (index_of var)
+        (state_of st h clauses.now variables.now)) P.took P.faulted T.took T.faulted
+        (listeners_of processing.old) (listeners_of processing.new) }
 {
     let Some(unit) = clauses.unit_clauses.get(var.index()) else {
         return Ok(());
@@ -138,7 +153,9 @@ fn free_var(state: &mut CheckerState, clauses: &mut Clauses, variables: &mut Var
     requires place { index_of var < length clauses.old.unit_clauses }
     requires known { index_of var < length variables.old }
     requires unnamed { (known_at variables.old (index_of var)).name ≡ None }
-    ensures state { (h : ClauseHasher) → state_of state.new h clauses.new variables.new ≡ free_var (index_of var) (state_of state.old h clauses.old variables.old) }
+    ensures state { (h : ClauseHasher) →
+        state_of state.new h clauses.new variables.new ≡
+        free_var (index_of var) (state_of state.old h clauses.old variables.old) }
     ensures store { (h : ClauseHasher) → IsStore h clauses.old → IsStore h clauses.new }
 {
     clauses.unit_clauses.set(var.index(), None);
@@ -148,7 +165,10 @@ fn free_var(state: &mut CheckerState, clauses: &mut Clauses, variables: &mut Var
 
 /// Forgets a previous clause that holds the variable.
 fn forget_previous_with(state: &mut CheckerState, var: Var)
-    ensures { (h : ClauseHasher) (cs : Clauses) (known : List Known) → state_of state.new h cs known ≡ record (state_of state.old h cs known) { previous = forget_var (index_of var) (state_of state.old h cs known).previous } }
+    ensures { (h : ClauseHasher) (cs : Clauses) (known : List Known) →
+        state_of state.new h cs known ≡
+        record (state_of state.old h cs known)
+        { previous = forget_var (index_of var) (state_of state.old h cs known).previous } }
 {
     if holds_var(&state.previous_lits, var) {
         state.previous_id = None;

@@ -4,12 +4,12 @@ ghost use Rattle.checker_rules.specs.Check.{ready};
 ghost use Rattle.checker_rules.specs.Clauses.{is_canonical, is_tautology};
 ghost use Rattle.checker_rules.specs.Store.{id_of};
 ghost use Rattle.checker_parts.specs.Answers.{AnswersParts, UnlessFailed};
-ghost use Rattle.clause_store.specs.Kept.{Kept};
+ghost use Rattle.clause_store.specs.PartsInvariant.{PartsInvariant};
 ghost use Rattle.clause_store.specs.Refusal.{IsStoreRefusal};
 ghost use Rattle.clause_store.specs.StateOf.{state_of};
 ghost use Rattle.clause_store.specs.Store.{IsStore};
-ghost use Rattle.checker_steps.specs.Derived.{IsSeenAs, derived, derived_steps, stored_steps};
-ghost use Rattle.checker_steps.specs.Handed.{Handed, HandsAll, boxes_of};
+ghost use Rattle.checker_steps.specs.Derived.{IsTraceFor, derived, derived_steps, stored_steps};
+ghost use Rattle.checker_steps.specs.Delivered.{Delivered, DeliveredAll, listeners_of};
 
 use crate::emit::{emit_at_clause, emit_make_irredundant};
 use crate::processing::ProcessingOf;
@@ -30,6 +30,7 @@ use std::alloc::Global;
 /// Checks a canonical clause without opposite literals, stores it in its kind and hands it on. Answers its id.
 ///
 /// The previous clause stays. The check is traced only where a processor is registered, since transcripts see no propagations.
+#[inline(always)]
 pub(crate) fn derive<P: ProofProcessor, T: ProofTranscriptProcessor>(
     alloc: Global,
     state: &mut CheckerState,
@@ -42,13 +43,20 @@ pub(crate) fn derive<P: ProofProcessor, T: ProofTranscriptProcessor>(
     clause: &[Lit],
     hashes: &[ClauseHash],
 ) -> Result<u64, CheckerError>
-    requires kept { Kept state.old hasher.old clauses.old variables.old }
+    requires kept { PartsInvariant state.old hasher.old clauses.old variables.old }
     requires canonical { is_canonical clause.now ≡ true }
     requires no_tautology { is_tautology clause.now ≡ false }
-    ensures answer { AnswersParts result (derived (state_of state.old hasher.old clauses.old variables.old) redundant clause.now hashes.now) (state_of state.new hasher.new clauses.new variables.new) }
-    ensures id { IfOk result (λ id. id ≡ id_of clause.now (ready (state_of state.old hasher.old clauses.old variables.old) clause.now)) }
+    ensures answer { AnswersParts result
+        (derived (state_of state.old hasher.old clauses.old variables.old) redundant clause.now
+        hashes.now) (state_of state.new hasher.new clauses.new variables.new) }
+    ensures id { IfOk result (λ id. id ≡
+        id_of clause.now (ready (state_of state.old hasher.old clauses.old variables.old)
+        clause.now)) }
     ensures store { UnlessFailed result (IsStore hasher.new clauses.new) }
-    ensures handed { Handed result (λ steps. steps ≡ derived_steps (state_of state.old hasher.old clauses.old variables.old) redundant clause.now hashes.now) P.took P.faulted T.took T.faulted (boxes_of processing.old) (boxes_of processing.new) }
+    ensures delivered { Delivered result
+        (λ steps. steps ≡ derived_steps (state_of state.old hasher.old clauses.old variables.old)
+        redundant clause.now hashes.now) P.took P.faulted T.took T.faulted
+        (listeners_of processing.old) (listeners_of processing.new) }
 {
     let traced = !processing.processors.is_empty();
     check_clause_with_hashes(
@@ -73,6 +81,7 @@ pub(crate) fn derive<P: ProofProcessor, T: ProofTranscriptProcessor>(
 }
 
 /// The error where a clause is not stored.
+#[inline(always)]
 fn store_refusal(alloc: Global, state: &CheckerState, fault: StoreFault) -> CheckerError
     ensures { IsStoreRefusal fault state.now.step result }
 {
@@ -83,7 +92,8 @@ fn store_refusal(alloc: Global, state: &CheckerState, fault: StoreFault) -> Chec
     }
 }
 
-/// Hands on what storing a derived clause did.
+/// Delivers what storing a derived clause did.
+#[inline(always)]
 fn emit_derived<P: ProofProcessor, T: ProofTranscriptProcessor>(
     processing: &mut ProcessingOf<P, T>,
     variables: &Variables,
@@ -93,7 +103,10 @@ fn emit_derived<P: ProofProcessor, T: ProofTranscriptProcessor>(
     clause: &[Lit],
     propagations: &[u64],
 ) -> Result<(), CheckerError>
-    ensures { (ids : List ℕ) → IsSeenAs processing.old.processors.items propagations.now ids → HandsAll result (stored_steps did variables.now id redundant clause.now ids) P.took P.faulted T.took T.faulted (boxes_of processing.old) (boxes_of processing.new) }
+    ensures { (ids : List ℕ) → IsTraceFor processing.old.processors.items propagations.now ids →
+        DeliveredAll result (stored_steps did variables.now id redundant clause.now ids)
+        P.took P.faulted T.took T.faulted (listeners_of processing.old)
+        (listeners_of processing.new) }
 {
     match did {
         StoreClauseResult::New => {

@@ -9,14 +9,14 @@ ghost use Rattle.checker_rules.specs.Step as rules;
 ghost use Rattle.checker_rules.specs.Steps.{step};
 ghost use Rattle.checker_rules.specs.Transcript.{user_of};
 ghost use Rattle.checker_parts.specs.Answers.{AnswersParts, UnlessFailed};
-ghost use Rattle.clause_store.specs.Kept.{Kept};
+ghost use Rattle.clause_store.specs.PartsInvariant.{PartsInvariant};
 ghost use Rattle.clause_store.specs.StateOf.{state_of};
 ghost use Rattle.clause_store.specs.Store.{IsStore};
 ghost use Rattle.clause_store.specs.declared.clauses.Clauses.{Clauses};
 ghost use Rattle.clause_store.specs.declared.hash.ClauseHasher.{ClauseHasher};
-ghost use Rattle.checker_steps.specs.Context.{IsKept, context_state};
+ghost use Rattle.checker_steps.specs.Context.{ContextInvariant, context_state};
 ghost use Rattle.checker_steps.specs.FailedCore.{core_cause, core_clause, core_steps};
-ghost use Rattle.checker_steps.specs.Handed.{Handed, boxes_of};
+ghost use Rattle.checker_steps.specs.Delivered.{Delivered, listeners_of};
 ghost use Rattle.checker_steps.specs.ModelCause.{IsJudged};
 
 use crate::context::ContextOf;
@@ -45,10 +45,15 @@ pub fn failed_assumptions<P: ProofProcessor, T: ProofTranscriptProcessor>(
     failed_core: &[Lit],
     hashes: &[ClauseHash],
 ) -> Result<(), CheckerError>
-    requires { IsKept ctx.old }
-    ensures step { AnswersParts result (step (context_state ctx.old) (rules.failed_assumptions failed_core.now hashes.now)) (context_state ctx.new) }
-    ensures kept { UnlessFailed result (IsKept ctx.new) }
-    ensures handed { Handed result (Emits (context_state ctx.old) (rules.failed_assumptions failed_core.now hashes.now)) P.took P.faulted T.took T.faulted (boxes_of ctx.old.processing) (boxes_of ctx.new.processing) }
+    requires { ContextInvariant ctx.old }
+    ensures step { AnswersParts result
+        (step (context_state ctx.old) (rules.failed_assumptions failed_core.now hashes.now))
+        (context_state ctx.new) }
+    ensures kept { UnlessFailed result (ContextInvariant ctx.new) }
+    ensures delivered { Delivered result
+        (Emits (context_state ctx.old) (rules.failed_assumptions failed_core.now hashes.now))
+        P.took P.faulted T.took T.faulted (listeners_of ctx.old.processing)
+        (listeners_of ctx.new.processing) }
 {
     let Ok(has_opposites) = copy_canonical(&mut ctx.tmp_data.tmp, failed_core) else {
         return Err(CheckerError::OutOfMemory);
@@ -77,7 +82,8 @@ pub fn failed_assumptions<P: ProofProcessor, T: ProofTranscriptProcessor>(
 fn judge(state: &CheckerState, variables: &Variables, core: &[Lit]) -> Result<(), CheckCause>
     requires core { IsTrue (is_canonical core.now) }
     requires assumed { IsTrue (is_canonical state.now.assumptions.items) }
-    ensures { (h : ClauseHasher) (cs : Clauses) → IsJudged result (core_cause (state_of state.now h cs variables.now) core.now) }
+    ensures { (h : ClauseHasher) (cs : Clauses) →
+        IsJudged result (core_cause (state_of state.now h cs variables.now) core.now) }
 {
     if !is_subset(core, &state.assumptions, false) {
         return Err(CheckCause::NotAssumed);
@@ -116,12 +122,18 @@ fn check_core<P: ProofProcessor, T: ProofTranscriptProcessor>(
     core: &[Lit],
     hashes: &[ClauseHash],
 ) -> Result<(), CheckerError>
-    requires kept { Kept state.now hasher.old clauses.old variables.old }
+    requires kept { PartsInvariant state.now hasher.old clauses.old variables.old }
     requires canonical { IsTrue (is_canonical core.now) }
     requires no_tautology { is_tautology core.now ≡ false }
-    ensures answer { AnswersParts result (check (state_of state.now hasher.old clauses.old variables.old) (core_clause core.now) hashes.now accept) (state_of state.now hasher.new clauses.new variables.new) }
+    ensures answer { AnswersParts result
+        (check (state_of state.now hasher.old clauses.old variables.old)
+        (core_clause core.now) hashes.now accept)
+        (state_of state.now hasher.new clauses.new variables.new) }
     ensures store { UnlessFailed result (IsStore hasher.new clauses.new) }
-    ensures handed { Handed result (λ steps. steps ≡ core_steps (state_of state.now hasher.old clauses.old variables.old) core.now hashes.now) P.took P.faulted T.took T.faulted (boxes_of processing.old) (boxes_of processing.new) }
+    ensures delivered { Delivered result
+        (λ steps. steps ≡ core_steps (state_of state.now hasher.old clauses.old variables.old)
+        core.now hashes.now) P.took P.faulted T.took T.faulted (listeners_of processing.old)
+        (listeners_of processing.new) }
 {
     let Ok(clause) = negations(alloc, core) else {
         return Err(CheckerError::OutOfMemory);

@@ -9,13 +9,13 @@ ghost use Rattle.checker_rules.specs.Steps.{step};
 ghost use Rattle.checker_parts.specs.Answers.{AnswersParts, UnlessFailed};
 ghost use Rattle.clause_store.specs.Lits.{IsWithin};
 ghost use Rattle.clause_store.specs.StateOf.{state_of};
-ghost use Rattle.clause_store.specs.Store.{Files};
+ghost use Rattle.clause_store.specs.Store.{IsIndexed};
 ghost use Rattle.clause_store.specs.View.{stored_list, stored_of};
 ghost use Rattle.clause_store.specs.declared.hash.ClauseHasher.{ClauseHasher};
 ghost use Rattle.clause_store.specs.declared.state.CheckerState.{CheckerState};
-ghost use Rattle.checker_steps.specs.Context.{IsKept, context_state};
-ghost use Rattle.checker_steps.specs.Handed.{Handed, boxes_of};
-ghost use Rattle.checker_steps.specs.ModelCause.{HasPlaces, IsJudged, is_met, is_marked, list_cause, lit_cause};
+ghost use Rattle.checker_steps.specs.Context.{ContextInvariant, context_state};
+ghost use Rattle.checker_steps.specs.Delivered.{Delivered, listeners_of};
+ghost use Rattle.checker_steps.specs.ModelCause.{HasPlaces, IsJudged, has_marked, is_marked, list_cause, lit_cause};
 
 use crate::context::ContextOf;
 use crate::emit::emit_model;
@@ -34,10 +34,14 @@ pub fn model<P: ProofProcessor, T: ProofTranscriptProcessor>(
     ctx: &mut ContextOf<P, T>,
     assignment: &[Lit],
 ) -> Result<(), CheckerError>
-    requires { IsKept ctx.old }
-    ensures step { AnswersParts result (step (context_state ctx.old) (rules.model assignment.now)) (context_state ctx.new) }
-    ensures kept { UnlessFailed result (IsKept ctx.new) }
-    ensures handed { Handed result (Emits (context_state ctx.old) (rules.model assignment.now)) P.took P.faulted T.took T.faulted (boxes_of ctx.old.processing) (boxes_of ctx.new.processing) }
+    requires { ContextInvariant ctx.old }
+    ensures step { AnswersParts result (step (context_state ctx.old) (rules.model assignment.now))
+        (context_state ctx.new) }
+    ensures kept { UnlessFailed result (ContextInvariant ctx.new) }
+    ensures delivered { Delivered result
+        (Emits (context_state ctx.old) (rules.model assignment.now))
+        P.took P.faulted T.took T.faulted (listeners_of ctx.old.processing)
+        (listeners_of ctx.new.processing) }
 {
     if ctx.checker_state.unsat {
         return Err(refusal(alloc, &ctx.checker_state, CheckCause::ModelAfterUnsat));
@@ -74,10 +78,11 @@ fn judge(
     assignment: &[Lit],
     marks: &mut [bool],
 ) -> Result<(), CheckCause>
-    requires filed { (h : ClauseHasher) × Files h clauses.now (stored_list clauses.now) }
+    requires filed { (h : ClauseHasher) × IsIndexed h clauses.now (stored_list clauses.now) }
     requires places { HasPlaces marks.old variables.now }
     requires unset { (l : ℕ) → is_marked marks.old l ≡ false }
-    ensures { (h : ClauseHasher) → IsJudged result (list_cause (state_of state.now h clauses.now variables.now) assignment.now) }
+    ensures { (h : ClauseHasher) → IsJudged result
+        (list_cause (state_of state.now h clauses.now variables.now) assignment.now) }
 {
     mark_literals(clauses, variables, assignment, marks)?;
     if !are_marked(marks, &state.assumptions) {
@@ -98,7 +103,8 @@ fn mark_literals(
 ) -> Result<(), CheckCause>
     requires places { HasPlaces marks.old variables.now }
     requires unset { (l : ℕ) → is_marked marks.old l ≡ false }
-    ensures cause { (st : CheckerState) (h : ClauseHasher) → IsJudged result (model_cause (state_of st h clauses.now variables.now) [] assignment.now) }
+    ensures cause { (st : CheckerState) (h : ClauseHasher) →
+        IsJudged result (model_cause (state_of st h clauses.now variables.now) [] assignment.now) }
     ensures marked { OnOk result ((l : ℕ) → is_marked marks.new l ≡ has l assignment.now) }
 {
     for lit in assignment {
@@ -115,7 +121,9 @@ fn mark_literal(
     marks: &mut [bool],
 ) -> Result<(), CheckCause>
     requires { HasPlaces marks.old variables.now }
-    ensures cause { (st : CheckerState) (h : ClauseHasher) → IsJudged result (lit_cause (state_of st h clauses.now variables.now) (is_marked marks.old) lit) }
+    ensures cause { (st : CheckerState) (h : ClauseHasher) →
+        IsJudged result (lit_cause (state_of st h clauses.now variables.now)
+        (is_marked marks.old) lit) }
     ensures marked { OnOk result (is_marked marks.new ≡ add_lit lit (is_marked marks.old)) }
 {
     if lit.index() >= variables.len() {
@@ -154,7 +162,8 @@ fn meets(marks: &[bool], lits: &[Lit]) -> bool
 /// Whether some literal of each clause of a bucket is marked.
 fn meets_bucket(marks: &[bool], bucket: &[Clause], buffer: &[Lit]) -> bool
     requires { All (λ c. IsWithin c.lits buffer.now) bucket.now }
-    ensures { result ≡ list_all (λ c. is_met (is_marked marks.now) (stored_of buffer.now c)) bucket.now }
+    ensures { result ≡ list_all (λ c. has_marked (is_marked marks.now) (stored_of buffer.now c))
+        bucket.now }
 {
     bucket
         .iter()
@@ -163,8 +172,8 @@ fn meets_bucket(marks: &[bool], bucket: &[Clause], buffer: &[Lit]) -> bool
 
 /// Whether some literal of each stored clause of two or more is marked.
 fn meets_clauses(marks: &[bool], clauses: &Clauses) -> bool
-    requires { (h : ClauseHasher) × Files h clauses.now (stored_list clauses.now) }
-    ensures { result ≡ list_all (is_met (is_marked marks.now)) (stored_list clauses.now) }
+    requires { (h : ClauseHasher) × IsIndexed h clauses.now (stored_list clauses.now) }
+    ensures { result ≡ list_all (has_marked (is_marked marks.now)) (stored_list clauses.now) }
 {
     for bucket in clauses.buckets.values() {
         if !meets_bucket(marks, bucket.as_slice(), &clauses.literal_buffer) {

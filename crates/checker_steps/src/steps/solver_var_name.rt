@@ -4,8 +4,8 @@ ghost use Rattle.checker_rules.specs.Step as rules;
 ghost use Rattle.checker_rules.specs.Steps.{step};
 ghost use Rattle.checker_parts.specs.Answers.{AnswersParts, UnlessFailed};
 ghost use Rattle.sat_formula.specs.Vars.{index_of, indexes_of};
-ghost use Rattle.checker_steps.specs.Context.{IsKept, context_state};
-ghost use Rattle.checker_steps.specs.Handed.{Handed, boxes_of};
+ghost use Rattle.checker_steps.specs.Context.{ContextInvariant, context_state};
+ghost use Rattle.checker_steps.specs.Delivered.{Delivered, listeners_of};
 
 use crate::context::ContextOf;
 use checker_parts::error::CheckerError;
@@ -18,10 +18,16 @@ pub fn solver_var_name<P: ProofProcessor, T: ProofTranscriptProcessor>(
     global: Var,
     solver: Option<Var>,
 ) -> Result<(), CheckerError>
-    requires { IsKept ctx.old }
-    ensures step { AnswersParts result (step (context_state ctx.old) (rules.solver_var_name (index_of global) (indexes_of solver))) (context_state ctx.new) }
-    ensures kept { UnlessFailed result (IsKept ctx.new) }
-    ensures handed { Handed result (Emits (context_state ctx.old) (rules.solver_var_name (index_of global) (indexes_of solver))) P.took P.faulted T.took T.faulted (boxes_of ctx.old.processing) (boxes_of ctx.new.processing) }
+    requires { ContextInvariant ctx.old }
+    ensures step { AnswersParts result
+        (step (context_state ctx.old) (rules.solver_var_name (index_of global) (indexes_of solver)))
+        (context_state ctx.new) }
+    ensures kept { UnlessFailed result (ContextInvariant ctx.new) }
+    ensures delivered { Delivered result
+        (Emits (context_state ctx.old)
+        (rules.solver_var_name (index_of global) (indexes_of solver)))
+        P.took P.faulted T.took T.faulted (listeners_of ctx.old.processing)
+        (listeners_of ctx.new.processing) }
 {
     match ctx.clause_hasher.pending.push((global, solver)) {
         Ok(()) => Ok(()),

@@ -15,6 +15,7 @@ use sat_formula::lit::Lit;
 use smallvec::SmallVec;
 use std::alloc::{AllocError, Global};
 use std::collections::HashMap;
+use std::collections::hash_map::Entry;
 
 /// The clauses of two or more literals, by the hash, each bucket by rising ids.
 pub type Buckets = HashMap<ClauseHash, SmallVec<Clause, 1>>;
@@ -87,18 +88,20 @@ pub fn push_clause(
     hash: ClauseHash,
     clause: Clause,
 ) -> Result<(), AllocError>
-    ensures pushed { OnOk result (clauses_at buckets.new hash ≡ clauses_at buckets.old hash ++ clause ∷ []) }
-    ensures others { OnOk result ((k : ℕ) → (k ≡ hash → ⊥) → clauses_at buckets.new k ≡ clauses_at buckets.old k) }
+    ensures pushed { OnOk result (clauses_at buckets.new hash ≡ clauses_at buckets.old hash ++
+        clause ∷ []) }
+    ensures others { OnOk result ((k : ℕ) → (k ≡ hash → ⊥) →
+        clauses_at buckets.new k ≡ clauses_at buckets.old k) }
 {
-    match buckets.get_mut(&hash) {
-        Some(bucket) => {
-            bucket.push(clause)?;
+    match buckets.entry(hash)? {
+        Entry::Occupied(entry) => {
+            entry.into_mut().push(clause)?;
             Ok(())
         }
-        None => {
+        Entry::Vacant(entry) => {
             let mut bucket = SmallVec::new(alloc);
             bucket.push(clause)?;
-            buckets.insert(hash, bucket)?;
+            entry.insert(bucket);
             Ok(())
         }
     }
@@ -107,7 +110,8 @@ pub fn push_clause(
 /// The clause with one copy more.
 #[tactic(auto, unfolding(checker_rules::specs::Store::count_limit))]
 fn raise(clause: &Clause, redundant: bool) -> Option<Clause>
-    ensures { SomeIff result (copies_of redundant clause.now < count_limit) (raised redundant clause.now) }
+    ensures { SomeIff result (copies_of redundant clause.now < count_limit)
+        (raised redundant clause.now) }
 {
     if redundant {
         Some(Clause {
@@ -131,11 +135,15 @@ fn raise_in(
 ) -> Result<Option<(u64, u32)>, CountExhausted>
     requires within { All (λ c. IsWithin c.lits buffer.now) bucket.old }
     requires apart { are_apart (map (stored_of buffer.now) bucket.old) ≡ true }
-    ensures found { IfOk result (λ found. found ≡ found_in lits.now (map (stored_of buffer.now) bucket.old)) }
-    ensures raised { OnOk result (map (stored_of buffer.now) bucket.new ≡ map (raise_in_list redundant lits.now) (map (stored_of buffer.now) bucket.old)) }
+    ensures found { IfOk result (λ found. found ≡
+        found_in lits.now (map (stored_of buffer.now) bucket.old)) }
+    ensures raised { OnOk result (map (stored_of buffer.now) bucket.new ≡
+        map (raise_in_list redundant lits.now) (map (stored_of buffer.now) bucket.old)) }
     ensures within { All (λ c. IsWithin c.lits buffer.now) bucket.new }
-    ensures room { OnOk result (count_in redundant lits.now (map (stored_of buffer.now) bucket.old) < count_limit) }
-    ensures exhausted { OnErr result (count_limit ≤ count_in redundant lits.now (map (stored_of buffer.now) bucket.old)) }
+    ensures room { OnOk result (count_in redundant lits.now
+        (map (stored_of buffer.now) bucket.old) < count_limit) }
+    ensures exhausted { OnErr result
+        (count_limit ≤ count_in redundant lits.now (map (stored_of buffer.now) bucket.old)) }
     ensures unchanged { OnErr result (bucket.new ≡ bucket.old) }
 {
     match find_clause(bucket, buffer, lits) {
@@ -165,11 +173,16 @@ pub fn raise_clause(
 ) -> Result<Option<(u64, u32)>, CountExhausted>
     requires within { All (λ c. IsWithin c.lits buffer.now) (clauses_at buckets.old hash) }
     requires apart { are_apart (stored_in buffer.now buckets.old hash) ≡ true }
-    ensures found { IfOk result (λ found. found ≡ found_in lits.now (stored_in buffer.now buckets.old hash)) }
-    ensures room { OnOk result (count_in redundant lits.now (stored_in buffer.now buckets.old hash) < count_limit) }
-    ensures raised { OnOk result (IsRaised buffer.now hash redundant lits.now buckets.old buckets.new) }
-    ensures exhausted { OnErr result (count_limit ≤ count_in redundant lits.now (stored_in buffer.now buckets.old hash)) }
-    ensures unchanged { OnErr result ((k : ℕ) → clauses_at buckets.new k ≡ clauses_at buckets.old k) }
+    ensures found { IfOk result (λ found. found ≡
+        found_in lits.now (stored_in buffer.now buckets.old hash)) }
+    ensures room { OnOk result (count_in redundant lits.now
+        (stored_in buffer.now buckets.old hash) < count_limit) }
+    ensures raised { OnOk result (IsRaised buffer.now hash redundant lits.now buckets.old
+        buckets.new) }
+    ensures exhausted { OnErr result
+        (count_limit ≤ count_in redundant lits.now (stored_in buffer.now buckets.old hash)) }
+    ensures unchanged { OnErr result ((k : ℕ) →
+        clauses_at buckets.new k ≡ clauses_at buckets.old k) }
 {
     match buckets.get_mut(&hash) {
         Some(bucket) => raise_in(bucket.as_mut_slice(), buffer, lits, redundant),

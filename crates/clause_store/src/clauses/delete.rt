@@ -9,7 +9,7 @@ ghost use Rattle.clause_store.specs.Delete.{AnswersDelete, UnlessOutOfMemory, de
 ghost use Rattle.clause_store.specs.Edits.{KeepsRest};
 ghost use Rattle.clause_store.specs.Lowered.{IsLeft, IsMissing};
 ghost use Rattle.clause_store.specs.StateOf.{state_of};
-ghost use Rattle.clause_store.specs.Store.{Files, IsStore};
+ghost use Rattle.clause_store.specs.Store.{IsIndexed, IsStore};
 ghost use Rattle.clause_store.specs.View.{stored_list};
 ghost use Rattle.clause_store.specs.declared.clauses.delete.DeleteFault.TheVariants.{OutOfMemory};
 
@@ -52,7 +52,9 @@ pub fn delete_clause(
 ) -> Result<(u64, DeleteClauseResult), DeleteFault>
     requires store { IsStore hasher.now clauses.old }
     requires canonical { is_canonical lits.now ≡ true }
-    ensures answer { (st : CheckerState) (known : List Known) → AnswersDelete result lits.now redundant (state_of st hasher.now clauses.old known) (state_of st hasher.now clauses.new known) }
+    ensures answer { (st : CheckerState) (known : List Known) →
+        AnswersDelete result lits.now redundant (state_of st hasher.now clauses.old known)
+        (state_of st hasher.now clauses.new known) }
     ensures store { UnlessOutOfMemory result (IsStore hasher.now clauses.new) }
 {
     if lits.len() < 2 {
@@ -88,16 +90,21 @@ fn take_copy(
     lits: &[Lit],
     redundant: bool,
 ) -> Result<Left, Missing>
-    requires filed { Files hasher.now clauses.old (stored_list clauses.old) }
-    requires counts { AreCounts clauses.old.lit_counts (length clauses.old.unit_clauses) (stored_list clauses.old) }
+    requires filed { IsIndexed hasher.now clauses.old (stored_list clauses.old) }
+    requires counts { AreCounts clauses.old.lit_counts (length clauses.old.unit_clauses)
+        (stored_list clauses.old) }
     requires canonical { is_canonical lits.now ≡ true }
     ensures left { IfOk result (IsLeft redundant lits.now (stored_list clauses.old)) }
-    ensures filed { OnOk result (Files hasher.now clauses.new (remaining (map (lower redundant lits.now) (stored_list clauses.old)))) }
-    ensures counts { OnOk result (AreCounts clauses.new.lit_counts (length clauses.old.unit_clauses) (remaining (map (lower redundant lits.now) (stored_list clauses.old)))) }
+    ensures filed { OnOk result (IsIndexed hasher.now clauses.new
+        (remaining (map (lower redundant lits.now) (stored_list clauses.old)))) }
+    ensures counts { OnOk result (AreCounts clauses.new.lit_counts (length clauses.old.unit_clauses)
+        (remaining (map (lower redundant lits.now) (stored_list clauses.old)))) }
     ensures rest { OnOk result (KeepsRest clauses.old clauses.new) }
     ensures missing { IfErr result (IsMissing redundant lits.now (stored_list clauses.old)) }
-    ensures still_filed { OnErr result (Files hasher.now clauses.new (stored_list clauses.old)) }
-    ensures others { OnErr result (clauses.new ≡ record clauses.old { buckets = clauses.new.buckets }) }
+    ensures still_filed { OnErr result
+        (IsIndexed hasher.now clauses.new (stored_list clauses.old)) }
+    ensures others { OnErr result (clauses.new ≡
+        record clauses.old { buckets = clauses.new.buckets }) }
 {
     let hash = hasher.clause_hash(lits);
     let buffer = clauses.literal_buffer.as_slice();

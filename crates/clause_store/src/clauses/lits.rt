@@ -20,7 +20,8 @@ impl ClauseLits {
         ensures ok { IfOk result (λ c. lits_of c buffer.new.items ≡ lits.now) }
         ensures within { IfOk result (λ c. IsWithin c buffer.new.items) }
         ensures used { 1 < length lits.now → IfOk result (λ c. buffer_used c ≡ live_of lits.now) }
-        ensures buffer { IfOk result (λ c. length buffer.new.items ≡ length buffer.old.items + buffer_used c) }
+        ensures buffer { IfOk result (λ c. length buffer.new.items ≡ length buffer.old.items +
+            buffer_used c) }
         ensures kept { take (length buffer.old.items) buffer.new.items ≡ buffer.old.items }
         ensures err { OnErr result (buffer.new.items ≡ buffer.old.items) }
     {

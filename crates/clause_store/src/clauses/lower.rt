@@ -14,6 +14,7 @@ use crate::clauses::buckets::{Buckets, find_clause};
 use proof_bytes::hash::ClauseHash;
 use sat_formula::lit::Lit;
 use smallvec::SmallVec;
+use std::collections::hash_map::Entry;
 
 /// Why no copy was taken away.
 #[derive(Clone, Copy, Debug, PartialEq, Eq)]
@@ -90,8 +91,10 @@ fn lower_in(
     requires within { All (λ c. IsWithin c.lits buffer.now) bucket.old.items }
     requires apart { are_apart (map (stored_of buffer.now) bucket.old.items) ≡ true }
     requires whole { list_all is_whole (map (stored_of buffer.now) bucket.old.items) ≡ true }
-    ensures lowered { IfOk result (IsLoweredIn buffer.now redundant lits.now bucket.old.items bucket.new.items) }
-    ensures missing { IfErr result (IsMissing redundant lits.now (map (stored_of buffer.now) bucket.old.items)) }
+    ensures lowered { IfOk result (IsLoweredIn buffer.now redundant lits.now bucket.old.items
+        bucket.new.items) }
+    ensures missing { IfErr result (IsMissing redundant lits.now
+        (map (stored_of buffer.now) bucket.old.items)) }
     ensures unchanged { OnErr result (bucket.new.items ≡ bucket.old.items) }
 {
     let Some(at) = find_clause(bucket.as_slice(), buffer, lits) else {
@@ -122,18 +125,27 @@ pub fn lower_clause(
     requires within { All (λ c. IsWithin c.lits buffer.now) (clauses_at buckets.old hash) }
     requires apart { are_apart (stored_in buffer.now buckets.old hash) ≡ true }
     requires whole { list_all is_whole (stored_in buffer.now buckets.old hash) ≡ true }
-    ensures lowered { IfOk result (IsLowered buffer.now hash redundant lits.now buckets.old buckets.new) }
-    ensures missing { IfErr result (IsMissing redundant lits.now (stored_in buffer.now buckets.old hash)) }
-    ensures unchanged { OnErr result ((k : ℕ) → clauses_at buckets.new k ≡ clauses_at buckets.old k) }
+    ensures lowered { IfOk result (IsLowered buffer.now hash redundant lits.now buckets.old
+        buckets.new) }
+    ensures missing { IfErr result (IsMissing redundant lits.now
+        (stored_in buffer.now buckets.old hash)) }
+    ensures unchanged { OnErr result ((k : ℕ) →
+        clauses_at buckets.new k ≡ clauses_at buckets.old k) }
 {
-    match buckets.get_mut(&hash) {
-        Some(bucket) => {
+    match buckets.entry(hash) {
+        Ok(Entry::Occupied(mut entry)) => {
+            let bucket = entry.get_mut();
             let left = lower_in(bucket, buffer, lits, redundant);
             if bucket.is_empty() {
-                buckets.remove(&hash);
+                entry.remove();
             }
             left
         }
-        None => Err(Missing::Clause),
+        Ok(Entry::Vacant(entry)) => {
+            entry.into_key();
+            Err(Missing::Clause)
+        }
+        // Memory is wanted only for a hash without clauses.
+        Err(_) => Err(Missing::Clause),
     }
 }

@@ -68,7 +68,9 @@ pub fn store_clause(
     requires store { IsStore hasher.now clauses.old }
     requires canonical { is_canonical lits.now ≡ true }
     requires known { var_bound lits.now ≤ length clauses.old.unit_clauses }
-    ensures answer { (known : List Known) → AnswersStore result lits.now redundant (state_of state.old hasher.now clauses.old known) (state_of state.new hasher.now clauses.new known) }
+    ensures answer { (known : List Known) →
+        AnswersStore result lits.now redundant (state_of state.old hasher.now clauses.old known)
+        (state_of state.new hasher.now clauses.new known) }
     ensures store { UnlessOutOfMemory result (IsStore hasher.now clauses.new) }
 {
     match lits {
@@ -83,7 +85,9 @@ fn store_empty(
     state: &mut CheckerState,
     clauses: &mut Clauses,
 ) -> Result<(u64, StoreClauseResult), StoreFault>
-    ensures answer { (h : ClauseHasher) (known : List Known) (redundant : Bool) → IsStore h clauses.old → AnswersStore result [] redundant (state_of state.old h clauses.old known) (state_of state.new h clauses.new known) }
+    ensures answer { (h : ClauseHasher) (known : List Known) (redundant : Bool) →
+        IsStore h clauses.old → AnswersStore result [] redundant
+        (state_of state.old h clauses.old known) (state_of state.new h clauses.new known) }
     ensures store { (h : ClauseHasher) → IsStore h clauses.old → IsStore h clauses.new }
 {
     let Some(id) = clauses.take_id() else {
@@ -100,7 +104,9 @@ pub fn store_unit(
     lit: Lit,
 ) -> Result<(u64, StoreClauseResult), StoreFault>
     requires { lit / 2 < length clauses.old.unit_clauses }
-    ensures answer { (h : ClauseHasher) (known : List Known) (redundant : Bool) → IsStore h clauses.old → AnswersStore result (lit ∷ []) redundant (state_of state.old h clauses.old known) (state_of state.new h clauses.new known) }
+    ensures answer { (h : ClauseHasher) (known : List Known) (redundant : Bool) →
+        IsStore h clauses.old → AnswersStore result (lit ∷ []) redundant
+        (state_of state.old h clauses.old known) (state_of state.new h clauses.new known) }
     ensures store { (h : ClauseHasher) → IsStore h clauses.old → IsStore h clauses.new }
 {
     match clauses.unit_clauses.get(lit.index()) {
@@ -119,9 +125,16 @@ pub fn store_unit(
 /// Gives a variable without a value the one that makes the literal true.
 fn put_unit(clauses: &mut Clauses, lit: Lit) -> Result<(u64, StoreClauseResult), StoreFault>
     requires { lit / 2 < length clauses.old.unit_clauses }
-    ensures answer { OkIff result (clauses.old.next_clause_id < id_limit) (clauses.old.next_clause_id, New) }
+    ensures answer { OkIff result (clauses.old.next_clause_id < id_limit)
+        (clauses.old.next_clause_id, New) }
     ensures exhausted { IfErr result (λ fault. fault ≡ IdsExhausted) }
-    ensures stored { OnOk result (clauses.new ≡ record clauses.old { unit_clauses = slice_set clauses.old.unit_clauses (lit / 2) (Some (unit_for lit clauses.old.next_clause_id)); next_clause_id = clauses.old.next_clause_id + 1 }) }
+    ensures stored { OnOk result (clauses.new ≡
+        record clauses.old {
+          unit_clauses = slice_set clauses.old.unit_clauses (lit / 2)
+              (Some (unit_for lit clauses.old.next_clause_id));
+          next_clause_id =
+              clauses.old.next_clause_id + 1;
+        }) }
     ensures unchanged { OnErr result (clauses.new ≡ clauses.old) }
 {
     let Some(id) = clauses.take_id() else {
@@ -141,9 +154,14 @@ fn put_conflict(
     clauses: &mut Clauses,
     stored: u64,
 ) -> Result<(u64, StoreClauseResult), StoreFault>
-    ensures answer { OkIff result (clauses.old.next_clause_id < id_limit) (clauses.old.next_clause_id, New) }
+    ensures answer { OkIff result (clauses.old.next_clause_id < id_limit)
+        (clauses.old.next_clause_id, New) }
     ensures exhausted { IfErr result (λ fault. fault ≡ IdsExhausted) }
-    ensures stored { OnOk result (clauses.new ≡ record clauses.old { unit_conflict = Some (stored, clauses.old.next_clause_id); next_clause_id = clauses.old.next_clause_id + 1 }) }
+    ensures stored { OnOk result (clauses.new ≡
+        record clauses.old {
+          unit_conflict = Some (stored, clauses.old.next_clause_id);
+          next_clause_id = clauses.old.next_clause_id + 1;
+        }) }
     ensures unsat { OnOk result (state.new ≡ record state.old { unsat = true }) }
     ensures unchanged { OnErr result ((clauses.new ≡ clauses.old) × (state.new ≡ state.old)) }
 {
@@ -177,7 +195,9 @@ fn store_long(
     requires long { 1 < length lits.now }
     requires canonical { is_canonical lits.now ≡ true }
     requires known { var_bound lits.now ≤ length clauses.old.unit_clauses }
-    ensures answer { (st : CheckerState) (known : List Known) → AnswersStore result lits.now redundant (state_of st hasher.now clauses.old known) (state_of st hasher.now clauses.new known) }
+    ensures answer { (st : CheckerState) (known : List Known) →
+        AnswersStore result lits.now redundant (state_of st hasher.now clauses.old known)
+        (state_of st hasher.now clauses.new known) }
     ensures store { UnlessOutOfMemory result (IsStore hasher.now clauses.new) }
 {
     let hash = hasher.clause_hash(lits);

@@ -84,6 +84,25 @@ impl Source {
     }
 }
 
+/// A literal, and the value that its variable had before it was overwritten, in sixteen bytes.
+#[derive(Drop)]
+pub struct Overwritten {
+    lit: Lit,
+    value: Value,
+    source: Source,
+    number: u64,
+}
+
+impl Model for Overwritten {
+    ghost use Rattle.std.specs.Prelude.{ℕ, Option};
+    ghost use Rattle.clause_store.specs.Units.{id_by, unit_by};
+    ghost use Rattle.clause_store.specs.declared.clauses.units.UnitClause.{UnitClause};
+
+    ghost Value = { ℕ × Option UnitClause };
+
+    ghost view = { λ o. (o.lit, unit_by o.value (id_by o.source o.number)) };
+}
+
 /// The values of the known variables, by index, in ten bytes a variable.
 ///
 /// A check reads little but values, so these stand by themselves.
@@ -107,7 +126,7 @@ impl Model for Units {
 }
 
 impl Units {
-    ghost use Rattle.checker_rules.specs.Clauses.{negate};
+    ghost use Rattle.checker_rules.specs.Clauses.{negate, var_of};
     ghost use Rattle.clause_store.specs.Rup.{true_lits};
     ghost use Rattle.clause_store.specs.StateOf.{stored_units};
     ghost use Rattle.clause_store.specs.Trace as traces;
@@ -173,6 +192,27 @@ impl Units {
         }
     }
 
+    /// The value of a literal whose variable is known.
+    #[inline]
+    pub fn known_lit_value(&self, lit: Lit) -> Option<bool>
+        requires { var_of lit < length self.now }
+        ensures { result ≡ spec.lit_value self.now lit }
+    {
+        match self.known_value(lit.index()) {
+            Some(value) => Some(value == lit.is_positive()),
+            None => None,
+        }
+    }
+
+    /// The value of a known variable.
+    #[inline]
+    fn known_value(&self, index: usize) -> Option<bool>
+        requires { index < length self.now }
+        ensures { result ≡ option_map (λ u. u.value) (unit_at self.now index) }
+    {
+        self.values[index].known()
+    }
+
     fn is_true(&self, lit: Lit) -> bool
         ensures { result ≡ true_lits self.now lit }
     {
@@ -212,6 +252,62 @@ impl Units {
                 self.numbers[index] = number;
             }
             None => self.values[index] = Value::Free,
+        }
+    }
+
+    /// Gives the variable of this index a value. Its id is whichever stands there.
+    #[inline]
+    pub fn give(&mut self, index: usize, value: bool)
+        requires { index < length self.old }
+        ensures { spec.IsGiven self.old index value self.new }
+    {
+        self.values[index] = Value::of(value);
+    }
+
+    /// Takes the value of the variable of this index away.
+    #[inline]
+    pub fn free(&mut self, index: usize)
+        requires { index < length self.old }
+        ensures { self.new ≡ slice_set self.old index None }
+    {
+        self.values[index] = Value::Free;
+    }
+
+    /// The literal with the value of its variable, to be put back.
+    #[inline]
+    pub fn kept(&self, lit: Lit) -> Overwritten
+        requires { var_of lit < length self.now }
+        ensures { result ≡ (lit, unit_at self.now (var_of lit)) }
+    {
+        let index = lit.index();
+        Overwritten {
+            lit,
+            value: self.values[index],
+            source: self.sources[index],
+            number: self.numbers[index],
+        }
+    }
+
+    /// Puts a value back.
+    #[inline]
+    pub fn put_back(&mut self, old: Overwritten)
+        requires { var_of old.0 < length self.old }
+        ensures { self.new ≡ slice_set self.old (var_of old.0) old.1 }
+    {
+        let Overwritten {
+            lit,
+            value,
+            source,
+            number,
+        } = old;
+        let index = lit.index();
+        match value {
+            Value::Free => self.values[index] = Value::Free,
+            _ => {
+                self.values[index] = value;
+                self.sources[index] = source;
+                self.numbers[index] = number;
+            }
         }
     }
 

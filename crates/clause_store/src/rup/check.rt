@@ -6,8 +6,8 @@ ghost use Rattle.checker_rules.specs.Clauses.{is_tautology};
 ghost use Rattle.checker_rules.specs.Outcome.{accept};
 ghost use Rattle.checker_rules.specs.Traced.{check_trace};
 ghost use Rattle.checker_parts.specs.Answers.{AnswersParts, UnlessFailed};
-ghost use Rattle.clause_store.specs.Kept.{Kept};
-ghost use Rattle.clause_store.specs.Quiet.{IsQuiet};
+ghost use Rattle.clause_store.specs.PartsInvariant.{PartsInvariant};
+ghost use Rattle.clause_store.specs.Quiet.{NoListenerFault};
 ghost use Rattle.clause_store.specs.StateOf.{state_of};
 ghost use Rattle.clause_store.specs.Store.{IsStore};
 
@@ -27,6 +27,7 @@ use std::alloc::{AllocError, Global};
 ///
 /// Where a pending solver name waits, all pending names and removals are applied first. The variables of the clause become known.
 /// The units are those of before, passed or refused. A traced check that passes leaves the ids of what it used in `trace_ids`.
+#[inline(always)]
 pub fn check_clause_with_hashes(
     alloc: Global,
     state: &CheckerState,
@@ -38,13 +39,18 @@ pub fn check_clause_with_hashes(
     lits: &[Lit],
     hashes: &[ClauseHash],
 ) -> Result<(), CheckerError>
-    requires kept { Kept state.now hasher.old clauses.old variables.old }
+    requires kept { PartsInvariant state.now hasher.old clauses.old variables.old }
     requires no_tautology { is_tautology lits.now ≡ false }
-    ensures answer { AnswersParts result (check (state_of state.now hasher.old clauses.old variables.old) lits.now hashes.now accept) (state_of state.now hasher.new clauses.new variables.new) }
+    ensures answer { AnswersParts result
+        (check (state_of state.now hasher.old clauses.old variables.old) lits.now hashes.now accept)
+        (state_of state.now hasher.new clauses.new variables.new) }
     ensures store { UnlessFailed result (IsStore hasher.new clauses.new) }
     ensures known { OnOk result (var_bound lits.now ≤ length clauses.new.unit_clauses) }
-    ensures trace { IsTrue traced → OnOk result (rup.new.trace_ids.items ≡ check_trace (ready (state_of state.now hasher.old clauses.old variables.old) lits.now) lits.now hashes.now) }
-    ensures quiet { IsQuiet result }
+    ensures trace { IsTrue traced → OnOk result
+        (rup.new.trace_ids.items ≡ check_trace
+        (ready (state_of state.now hasher.old clauses.old variables.old) lits.now) lits.now
+        hashes.now) }
+    ensures quiet { NoListenerFault result }
 {
     let Ok(()) = make_ready(alloc, state, hasher, clauses, variables, lits) else {
         return Err(CheckerError::OutOfMemory);
@@ -76,8 +82,9 @@ fn make_ready(
     variables: &mut Variables,
     lits: &[Lit],
 ) -> Result<(), AllocError>
-    requires { Kept state.now hasher.old clauses.old variables.old }
-    ensures state { OnOk result (state_of state.now hasher.new clauses.new variables.new ≡ ready (state_of state.now hasher.old clauses.old variables.old) lits.now) }
+    requires { PartsInvariant state.now hasher.old clauses.old variables.old }
+    ensures state { OnOk result (state_of state.now hasher.new clauses.new variables.new ≡
+        ready (state_of state.now hasher.old clauses.old variables.old) lits.now) }
     ensures store { OnOk result (IsStore hasher.new clauses.new) }
     ensures known { OnOk result (var_bound lits.now ≤ length clauses.new.unit_clauses) }
 {

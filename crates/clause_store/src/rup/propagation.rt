@@ -52,7 +52,8 @@ impl Propagation {
             ≡ (self.new.trace.items, unlisted_lits units.new)) }
         ensures kept { KeepsStored units.old units.new }
         ensures true_lits { true_lits units.new ≡ true_lits units.old }
-        ensures undoable { IsUndoable units.old self.old.trail.items units.new self.new.trail.items }
+        ensures undoable { IsUndoable units.old self.old.trail.items units.new
+            self.new.trail.items }
         ensures traced { self.new.traced ≡ self.old.traced }
     {
         if self.traced {

@@ -1,6 +1,7 @@
 //! What the values of its literals make of a clause.
 ghost use Rattle.std.specs.Prelude.{◌≡◌};
 ghost use Rattle.clause_store.specs.Rup.{status_of, true_lits};
+ghost use Rattle.clause_store.specs.Units.{AreKnown};
 
 use crate::clauses::units::Units;
 use sat_formula::lit::Lit;
@@ -18,11 +19,12 @@ pub enum ClauseStatus {
 
 /// Looks at each literal once, and no further than a true or a second free one.
 pub fn clause_status(units: &Units, lits: &[Lit]) -> ClauseStatus
+    requires { AreKnown units.now lits.now }
     ensures { result ≡ status_of (true_lits units.now) lits.now }
 {
     let mut status = ClauseStatus::Falsified;
     for lit in lits {
-        match units.lit_value(*lit) {
+        match units.known_lit_value(*lit) {
             Some(true) => return ClauseStatus::Idle,
             Some(false) => {}
             None => match status {

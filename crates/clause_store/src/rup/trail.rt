@@ -9,12 +9,12 @@ ghost use Rattle.clause_store.specs.Trace.{AreStored, KeepsStored, unlisted_lits
 ghost use Rattle.clause_store.specs.Trail.{IsTrailFor, IsUndoable, undone};
 ghost use Rattle.clause_store.specs.Units.{AreKnown};
 
-use crate::clauses::units::{UnitClause, UnitId, Units};
+use crate::clauses::units::{Overwritten, UnitClause, UnitId, Units};
 use sat_formula::lit::Lit;
 use std::alloc::AllocError;
 
 /// The overwritten values of the literals' variables, the oldest first.
-pub type Trail = Vec<(Lit, Option<UnitClause>)>;
+pub type Trail = Vec<Overwritten>;
 
 /// Gives the literal's variable a value.
 pub fn overwrite(
@@ -29,10 +29,8 @@ pub fn overwrite(
     ensures err { OnErr result (units.new ≡ units.old) }
     ensures undoable { IsUndoable units.old trail.old.items units.new trail.new.items }
 {
-    let index = lit.index();
-    let old = units.get(index);
-    trail.push((lit, old))?;
-    units.set(index, Some(unit));
+    trail.push(units.kept(lit))?;
+    units.set(lit.index(), Some(unit));
     Ok(())
 }
 
@@ -44,7 +42,8 @@ pub fn assume_false(units: &mut Units, trail: &mut Trail, lits: &[Lit]) -> Resul
     requires no_tautology { is_tautology lits.now ≡ false }
     requires trail { IsTrailFor units.old trail.old.items }
     ensures ok { OnOk result (true_lits units.new ≡ start_set (stored_units units.old) lits.now) }
-    ensures unlisted { OnOk result (unlisted_lits units.new ≡ unlisted_at (stored_units units.old) lits.now) }
+    ensures unlisted { OnOk result (unlisted_lits units.new ≡
+        unlisted_at (stored_units units.old) lits.now) }
     ensures kept { KeepsStored units.old units.new }
     ensures undoable { IsUndoable units.old trail.old.items units.new trail.new.items }
 {
@@ -64,7 +63,7 @@ pub fn undo(units: &mut Units, trail: &mut Trail)
     ensures units { units.new ≡ undone units.old trail.old.items }
     ensures trail { trail.new.items ≡ [] }
 {
-    while let Some((lit, value)) = trail.pop() {
-        units.set(lit.index(), value);
+    while let Some(old) = trail.pop() {
+        units.put_back(old);
     }
 }

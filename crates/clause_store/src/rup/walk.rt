@@ -102,12 +102,16 @@ pub fn walk_buckets(
 {
     for hash in hashes {
         match buckets.get(hash) {
-            Some(bucket) if !bucket.is_empty() => {
-                if visit_bucket(units, run, bucket.as_slice(), buffer)? {
+            Some(bucket) => {
+                let clauses = bucket.as_slice();
+                if clauses.is_empty() {
+                    return Ok(Answer::NoClauseForHash);
+                }
+                if visit_bucket(units, run, clauses, buffer)? {
                     return Ok(Answer::Passed);
                 }
             }
-            _ => return Ok(Answer::NoClauseForHash),
+            None => return Ok(Answer::NoClauseForHash),
         }
     }
     Ok(Answer::Failed)

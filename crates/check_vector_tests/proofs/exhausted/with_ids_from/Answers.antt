@@ -7,22 +7,36 @@ use Rattle.checker_rules.proofs.SoundStates.{sound-new_state}
 use Rattle.clause_store.specs.declared.clauses.Clauses.{Clauses}
 use Rattle.clause_store.specs.declared.hash.ClauseHasher.{ClauseHasher}
 use Rattle.clause_store.specs.declared.state.CheckerState.{CheckerState}
-use Rattle.clause_store.specs.Kept.{Kept}
+use Rattle.clause_store.specs.PartsInvariant.{PartsInvariant}
 use Rattle.clause_store.specs.StateOf.{state_of}
-use Rattle.clause_store.specs.Store.{Files, IsStore}
+use Rattle.clause_store.specs.Store.{IsIndexed, IsStore}
 use Rattle.clause_store.specs.View.{stored_list}
 use Rattle.check_vector_tests.proofs.exhausted.with_ids_from.Goals as goal
 
 sound-next : (n : ℕ) → Sound (record new_state { next = n })
 sound-next n = record {
   good = sound-new_state.good;
-  form = record { fine = refl; rise = grind arith; apart = refl; same_known = refl; unit_ids = λ v. refl; conflict_on_unit = refl; inputs_counted = omega arith; some_width = omega arith; width_fits = omega arith; names = refl; assumed_canonical = refl; previous_canonical = refl };
+  form = record {
+    fine = refl;
+    rise = grind arith;
+    apart = refl;
+    same_known = refl;
+    unit_ids = λ v. refl;
+    conflict_on_unit = refl;
+    inputs_counted = omega arith;
+    some_width = omega arith;
+    width_fits = omega arith;
+    names = refl;
+    assumed_canonical = refl;
+    previous_canonical = refl;
+  };
 }
 
-kept-next : (st : CheckerState) (h : ClauseHasher) (cs : Clauses) (known : List Known) (n : ℕ) → state_of st h cs known ≡ new_state → Kept st h cs known → Kept st h (record cs { next_clause_id = n }) known
+kept-next : (st : CheckerState) (h : ClauseHasher) (cs : Clauses) (known : List Known) (n : ℕ) → state_of st h cs known ≡ new_state →
+    PartsInvariant st h cs known → PartsInvariant st h (record cs { next_clause_id = n }) known
 kept-next st h cs known n e k =
     let none = ap (λ (s : State). s.clauses) e in
-    let filed : Files h (record cs { next_clause_id = n }) (stored_list cs) = record {
+    let filed : IsIndexed h (record cs { next_clause_id = n }) (stored_list cs) = record {
       some_bits = k.store.filed.some_bits;
       bits = k.store.filed.bits;
       within = k.store.filed.within;

@@ -3,7 +3,7 @@ use Rattle.checker_rules.specs.CallEmissions.{EmitsCall, EmitsCalls, EmitsCounte
 use Rattle.checker_rules.specs.Calls.{Call, adds, answer_of, attempt, checks, closes, count_step, step_limit}
 use Rattle.checker_rules.specs.Canonical.{canonical}
 use Rattle.checker_rules.specs.Check.{ready}
-use Rattle.checker_rules.specs.CheckedSteps.{ShownStep}
+use Rattle.checker_rules.specs.CheckedSteps.{NamedStep}
 use Rattle.checker_rules.specs.Clauses.{is_tautology}
 use Rattle.checker_rules.specs.Emits.{Emits, EmitsAccepted, EmitsBy, EmitsCoreBy, EmitsDerived, EmitsDerivedBy, EmitsRefused, EmitsThen, EmitsUnits}
 use Rattle.checker_rules.specs.Outcome.{Cause}
@@ -21,15 +21,15 @@ use Rattle.check_vectors.specs.Counts.{filled}
 use Rattle.check_vectors.proofs.counting.counts_agree.Goals as goal
 
 -- lists that may be emitted have one length
-abbrev OneLength : (List ShownStep → Type 0) → Type 0
-OneLength E = (es fs : List ShownStep) → E es → E fs → length es ≡ length fs
+abbrev OneLength : (List NamedStep → Type 0) → Type 0
+OneLength E = (es fs : List NamedStep) → E es → E fs → length es ≡ length fs
 
 -- one list alone
-alone : (all : List ShownStep) → OneLength (λ es. es ≡ all)
+alone : (all : List NamedStep) → OneLength (λ es. es ≡ all)
 alone all es fs h k = ap length (h ∙ sym k)
 
 -- a first list and the rest
-joined : (E F : List ShownStep → Type 0) → OneLength E → OneLength F → OneLength (λ es. (xs : List ShownStep) × (ys : List ShownStep) × E xs × F ys × (es ≡ xs ++ ys))
+joined : (E F : List NamedStep → Type 0) → OneLength E → OneLength F → OneLength (λ es. (xs : List NamedStep) × (ys : List NamedStep) × E xs × F ys × (es ≡ xs ++ ys))
 joined E F one two es fs h k =
     let a = one h.0 k.0 h.2 k.2 in
     let b = two h.1 k.1 h.3 k.3 in
@@ -45,7 +45,7 @@ core : (b : Bool) (s : State) (c : List ℕ) → OneLength (EmitsCoreBy b s c)
 core true s c = alone _
 core false s c = λ es fs h k. ap length h.2 ∙ sym (ap length k.2)
 
-up_to_refusal : (o : Option Cause) (E F : List ShownStep → Type 0) → OneLength E → OneLength F → OneLength (EmitsThen o E F)
+up_to_refusal : (o : Option Cause) (E F : List NamedStep → Type 0) → OneLength E → OneLength F → OneLength (EmitsThen o E F)
 up_to_refusal None E F one two = joined E F one two
 up_to_refusal (Some cause) E F one two = alone []
 
@@ -119,14 +119,16 @@ of_run s x [] = of_calls s (last_calls next_of s x)
 of_run s x (t ∷ ts) = λ es fs h k.
     let rest = same_rest t h.0 k.0 (move next_of s x) h.1 k.1 in
     let emitted = subst (λ y. EmitsRun next_of (attempt s t).after y ts h.3) rest h.5 in
-    joined (EmitsCall s (checks t)) (EmitsRun next_of (attempt s t).after k.0 ts) (of_call s (checks t)) (of_run (attempt s t).after k.0 ts) es fs (h.2, h.3, h.4, emitted, h.6) (k.2, k.3, k.4, k.5, k.6)
+    joined (EmitsCall s (checks t)) (EmitsRun next_of (attempt s t).after k.0 ts) (of_call s (checks t)) (of_run (attempt s t).after k.0 ts)
+    es fs (h.2, h.3, h.4, emitted, h.6) (k.2, k.3, k.4, k.5, k.6)
 
 pub returns : goal.returns
 returns c text clauses n m a b =
     let texts : a.run.text ≡ b.run.text = sym a.run.is_text ∙ b.run.is_text in
     let again = subst (λ x. Runs next_of (filled clauses) (start_of x) a.steps None a.last) texts a.run.runs in
     let steps = (runs_agree _ _ next_of (filled clauses) (start_of b.run.text) a.steps b.steps None None a.last b.last again b.run.runs).0 in
-    let emitted = subst (λ ts. EmitsRun next_of (filled clauses) (start_of b.run.text) ts a.of_proof) steps (subst (λ x. EmitsRun next_of (filled clauses) (start_of x) a.steps a.of_proof) texts a.proof_emits) in
+    let emitted = subst (λ ts. EmitsRun next_of (filled clauses) (start_of b.run.text) ts a.of_proof) steps
+    (subst (λ x. EmitsRun next_of (filled clauses) (start_of x) a.steps a.of_proof) texts a.proof_emits) in
     let first = of_calls _ _ a.of_clauses b.of_clauses a.clauses_emit b.clauses_emit in
     let second = of_run (filled clauses) (start_of b.run.text) b.steps a.of_proof b.of_proof emitted b.proof_emits in
     let one = a.count in

@@ -6,17 +6,18 @@ use Rattle.checker_rules.specs.Emits.{Emits}
 use Rattle.checker_rules.specs.Steps.{step}
 use Rattle.checker_parts.specs.declared.error.CheckCause.TheVariants.{StepsExhausted}
 use Rattle.clause_store.specs.StateOf.{state_of}
-use Rattle.checker_steps.specs.Handed.{boxes_of}
-use Rattle.checker_steps.proofs.EmissionLemmas.{handed-none, handed-same}
+use Rattle.checker_steps.specs.Delivered.{listeners_of}
+use Rattle.checker_steps.proofs.EmissionLemmas.{delivered-none, delivered-same}
 use Rattle.checker_steps.proofs.EmittedSteps.{emits-counted, emits-exhausted}
-use Rattle.checker_steps.proofs.HandingLemmas.{handed-weaker}
+use Rattle.checker_steps.proofs.DeliveryLemmas.{delivered-weaker}
 use Rattle.checker_steps.proofs.StepAnswers.{counted-answers, exhausted-answers, no-number, not-exhausted, same-parts, some-number}
 use Rattle.checker_steps.proofs.check.attempt_step.Goals as goal
 
 pub returns-then-ctx-clause-step : goal.returns-then-ctx-clause-step
 returns-then-ctx-clause-step g c =
     let ctx = c.args.ctx.now in
-    exhausted-answers c.refusal.result (state_of ctx.checker_state ctx.clause_hasher ctx.clauses ctx.variables) (view c.args.step.now) c.refusal.ensures (no-number ctx.checker_state.step c.if-ctx.true)
+    exhausted-answers c.refusal.result (state_of ctx.checker_state ctx.clause_hasher ctx.clauses ctx.variables)
+    (view c.args.step.now) c.refusal.ensures (no-number ctx.checker_state.step c.if-ctx.true)
 
 pub returns-in-Ok-clause-step : goal.returns-in-Ok-clause-step
 returns-in-Ok-clause-step g c =
@@ -31,27 +32,36 @@ returns-in-Err-clause-step g c =
     counted-answers (Err c.with_step.result) s u (view c.args.step.now) (some-number ctx.checker_state.step (omega arith) c.if-ctx.false)
     (same-parts c.in-Err.fault c.with_step.result (step (count_step s) (view c.args.step.now)) u c.with_step.ensures c.in-Err.ensures.step)
 
-pub returns-then-ctx-clause-handed : goal.returns-then-ctx-clause-handed
-returns-then-ctx-clause-handed g c =
+pub returns-then-ctx-clause-delivered : goal.returns-then-ctx-clause-delivered
+returns-then-ctx-clause-delivered g c =
     let ctx = c.args.ctx.now in
     let s = state_of ctx.checker_state ctx.clause_hasher ctx.clauses ctx.variables in
-    handed-none g.P.ProofProcessor.took g.P.ProofProcessor.faulted g.T.ProofTranscriptProcessor.took g.T.ProofTranscriptProcessor.faulted (EmitsCall s (checks (view c.args.step.now))) c.refusal.result ctx.checker_state.step StepsExhausted (boxes_of ctx.processing) c.refusal.ensures
+    delivered-none g.P.ProofProcessor.took g.P.ProofProcessor.faulted g.T.ProofTranscriptProcessor.took g.T.ProofTranscriptProcessor.faulted
+    (EmitsCall s (checks (view c.args.step.now))) c.refusal.result ctx.checker_state.step StepsExhausted
+    (listeners_of ctx.processing) c.refusal.ensures
     (emits-exhausted s (view c.args.step.now) (no-number ctx.checker_state.step c.if-ctx.true))
 
-pub returns-in-Ok-clause-handed : goal.returns-in-Ok-clause-handed
-returns-in-Ok-clause-handed g c =
+pub returns-in-Ok-clause-delivered : goal.returns-in-Ok-clause-delivered
+returns-in-Ok-clause-delivered g c =
     let ctx = c.args.ctx.now in
     let s = state_of ctx.checker_state ctx.clause_hasher ctx.clauses ctx.variables in
-    handed-weaker g.P.ProofProcessor.took g.P.ProofProcessor.faulted g.T.ProofTranscriptProcessor.took g.T.ProofTranscriptProcessor.faulted {A = Unit {0}} (Emits (count_step s) (view c.args.step.now)) (EmitsCall s (checks (view c.args.step.now))) (boxes_of ctx.processing) (boxes_of c.check_step.new.ctx.processing) (Ok tt)
-    (λ es h. emits-counted s (view c.args.step.now) es (some-number ctx.checker_state.step (omega arith) c.if-ctx.false) h) c.in-Ok.ensures.handed
+    delivered-weaker g.P.ProofProcessor.took g.P.ProofProcessor.faulted g.T.ProofTranscriptProcessor.took
+    g.T.ProofTranscriptProcessor.faulted {A = Unit {0}} (Emits (count_step s) (view c.args.step.now))
+    (EmitsCall s (checks (view c.args.step.now))) (listeners_of ctx.processing) (listeners_of c.check_step.new.ctx.processing) (Ok tt)
+    (λ es h. emits-counted s (view c.args.step.now) es (some-number ctx.checker_state.step (omega arith) c.if-ctx.false) h) c.in-Ok.ensures.delivered
 
-pub returns-in-Err-clause-handed : goal.returns-in-Err-clause-handed
-returns-in-Err-clause-handed g c =
+pub returns-in-Err-clause-delivered : goal.returns-in-Err-clause-delivered
+returns-in-Err-clause-delivered g c =
     let ctx = c.args.ctx.now in
     let s = state_of ctx.checker_state ctx.clause_hasher ctx.clauses ctx.variables in
-    handed-same g.P.ProofProcessor.took g.P.ProofProcessor.faulted g.T.ProofTranscriptProcessor.took g.T.ProofTranscriptProcessor.faulted (EmitsCall s (checks (view c.args.step.now))) c.in-Err.fault c.with_step.result (boxes_of ctx.processing) (boxes_of c.check_step.new.ctx.processing) c.with_step.ensures
-    (handed-weaker g.P.ProofProcessor.took g.P.ProofProcessor.faulted g.T.ProofTranscriptProcessor.took g.T.ProofTranscriptProcessor.faulted {A = Unit {0}} (Emits (count_step s) (view c.args.step.now)) (EmitsCall s (checks (view c.args.step.now))) (boxes_of ctx.processing) (boxes_of c.check_step.new.ctx.processing) (Err c.in-Err.fault)
-    (λ es h. emits-counted s (view c.args.step.now) es (some-number ctx.checker_state.step (omega arith) c.if-ctx.false) h) c.in-Err.ensures.handed)
+    delivered-same g.P.ProofProcessor.took g.P.ProofProcessor.faulted g.T.ProofTranscriptProcessor.took g.T.ProofTranscriptProcessor.faulted
+    (EmitsCall s (checks (view c.args.step.now))) c.in-Err.fault c.with_step.result (listeners_of ctx.processing)
+    (listeners_of c.check_step.new.ctx.processing) c.with_step.ensures
+    (delivered-weaker g.P.ProofProcessor.took g.P.ProofProcessor.faulted g.T.ProofTranscriptProcessor.took
+    g.T.ProofTranscriptProcessor.faulted {A = Unit {0}} (Emits (count_step s) (view c.args.step.now))
+    (EmitsCall s (checks (view c.args.step.now))) (listeners_of ctx.processing) (listeners_of c.check_step.new.ctx.processing)
+    (Err c.in-Err.fault)
+    (λ es h. emits-counted s (view c.args.step.now) es (some-number ctx.checker_state.step (omega arith) c.if-ctx.false) h) c.in-Err.ensures.delivered)
 
 pub returns-in-Err-clause-exhausted : goal.returns-in-Err-clause-exhausted
 returns-in-Err-clause-exhausted g c = λ none. absurd (not-exhausted c.args.ctx.now.checker_state.step (omega arith) c.if-ctx.false none)

@@ -8,11 +8,11 @@ use Rattle.checker_rules.specs.Steps.{step}
 use Rattle.sat_formula.specs.Vars.{index_of}
 use Rattle.clause_store.specs.StateOf.{state_of}
 use Rattle.clause_store.proofs.GrowthLemmas.{is_store-known, names-enough}
-use Rattle.checker_steps.specs.Handed.{boxes_of}
+use Rattle.checker_steps.specs.Delivered.{listeners_of}
 use Rattle.checker_steps.specs.Naming.{naming_cause}
-use Rattle.checker_steps.proofs.EmissionLemmas.{answers-hands, handed-refused, unless-failed}
+use Rattle.checker_steps.proofs.EmissionLemmas.{answers-delivers, delivered-refused, unless-failed}
 use Rattle.checker_steps.proofs.EmitLemmas.{answers-found}
-use Rattle.checker_steps.proofs.HandingLemmas.{handed-one}
+use Rattle.checker_steps.proofs.DeliveryLemmas.{delivered-one}
 use Rattle.checker_steps.proofs.NamingLemmas.{emits-name, name-given, name-refused}
 use Rattle.checker_steps.proofs.variables.add_user_mapping.Goals as goal
 
@@ -29,12 +29,14 @@ returns-in-Some-clause-store g c = λ h store.
     unless-failed {A = Unit {0}} (Err c.refusal.result)
     (is_store-known (suc (index_of c.args.global)) h c.args.clauses.now c.ensure_var.new.clauses c.args.variables.now c.ensure_var.new.variables c.in_ok-ensure_var.ensures.known store)
 
-pub returns-in-Some-clause-handed : goal.returns-in-Some-clause-handed
-returns-in-Some-clause-handed g c = λ h.
+pub returns-in-Some-clause-delivered : goal.returns-in-Some-clause-delivered
+returns-in-Some-clause-delivered g c = λ h.
     let st = c.args.state.now in
     let s = state_of st h c.args.clauses.now c.args.variables.now in
     let r = state_of st h c.ensure_var.new.clauses c.ensure_var.new.variables in
-    handed-refused g.P.ProofProcessor.took g.P.ProofProcessor.faulted g.T.ProofTranscriptProcessor.took g.T.ProofTranscriptProcessor.faulted s r (user_var_name (index_of c.args.global) (Some (index_of c.args.user_var))) c.refusal.result st.step c.in-Some.msg (boxes_of c.args.processing.now) c.refusal.ensures
+    delivered-refused g.P.ProofProcessor.took g.P.ProofProcessor.faulted g.T.ProofTranscriptProcessor.took
+    g.T.ProofTranscriptProcessor.faulted s r (user_var_name (index_of c.args.global) (Some (index_of c.args.user_var))) c.refusal.result
+    st.step c.in-Some.msg (listeners_of c.args.processing.now) c.refusal.ensures
     (returns-in-Some-clause-step g c h) refl
 
 pub set_name-requires-clause-known : goal.set_name-requires-clause-known
@@ -47,7 +49,10 @@ returns-clause-step g c = λ h.
     let s = state_of st h c.args.clauses.now c.args.variables.now in
     let r = state_of st h c.ensure_var.new.clauses c.ensure_var.new.variables in
     let o = name-given s r x u (c.in_ok-ensure_var.ensures.known.state st h) c.in_default.ensures in
-    answers-hands g.P.ProofProcessor.took g.P.ProofProcessor.faulted g.T.ProofTranscriptProcessor.took g.T.ProofTranscriptProcessor.faulted _ (boxes_of c.args.processing.now) (boxes_of c.emit_user_var.new.processing) c.emit_user_var.result (step s (user_var_name x (Some u))) (state_of st h c.ensure_var.new.clauses c.set_name.new.self) c.emit_user_var.ensures
+    answers-delivers g.P.ProofProcessor.took g.P.ProofProcessor.faulted g.T.ProofTranscriptProcessor.took
+    g.T.ProofTranscriptProcessor.faulted _ (listeners_of c.args.processing.now) (listeners_of c.emit_user_var.new.processing)
+    c.emit_user_var.result (step s (user_var_name x (Some u))) (state_of st h c.ensure_var.new.clauses c.set_name.new.self)
+    c.emit_user_var.ensures
     (ap (λ (y : Outcome). y.refused) o, ap (state_of st h c.ensure_var.new.clauses) c.set_name.ensures ∙ sym (ap (λ (y : Outcome). y.after) o))
 
 pub returns-clause-store : goal.returns-clause-store
@@ -55,10 +60,13 @@ returns-clause-store g c = λ h store.
     unless-failed c.emit_user_var.result
     (is_store-known (suc (index_of c.args.global)) h c.args.clauses.now c.ensure_var.new.clauses c.args.variables.now c.ensure_var.new.variables c.in_ok-ensure_var.ensures.known store)
 
-pub returns-clause-handed : goal.returns-clause-handed
-returns-clause-handed g c = λ h.
+pub returns-clause-delivered : goal.returns-clause-delivered
+returns-clause-delivered g c = λ h.
     let st = c.args.state.now in let x = index_of c.args.global in let u = index_of c.args.user_var in
     let s = state_of st h c.args.clauses.now c.args.variables.now in
     let r = state_of st h c.ensure_var.new.clauses c.ensure_var.new.variables in
-    handed-one g.P.ProofProcessor.took g.P.ProofProcessor.faulted g.T.ProofTranscriptProcessor.took g.T.ProofTranscriptProcessor.faulted (Emits s (user_var_name x (Some u))) _ (boxes_of c.args.processing.now) (boxes_of c.emit_user_var.new.processing) c.emit_user_var.result
-    (emits-name s r x u _ c.set_name.new.self (c.in_ok-ensure_var.ensures.known.state st h) c.in_default.ensures (c.shown_mode.ensures ∙ ap (λ (k : Known). is_sample k.mode) c.get.ensures) c.set_name.ensures) c.emit_user_var.ensures
+    delivered-one g.P.ProofProcessor.took g.P.ProofProcessor.faulted g.T.ProofTranscriptProcessor.took g.T.ProofTranscriptProcessor.faulted
+    (Emits s (user_var_name x (Some u))) _ (listeners_of c.args.processing.now) (listeners_of c.emit_user_var.new.processing)
+    c.emit_user_var.result
+    (emits-name s r x u _ c.set_name.new.self (c.in_ok-ensure_var.ensures.known.state st h) c.in_default.ensures
+    (c.shown_mode.ensures ∙ ap (λ (k : Known). is_sample k.mode) c.get.ensures) c.set_name.ensures) c.emit_user_var.ensures

@@ -20,7 +20,9 @@ pub returns-then-some_name_pending-clause-state : goal.returns-then-some_name_pe
 returns-then-some_name_pending-clause-state c =
     on_ok_weaker c.rehash.result (λ after st known.
     let s = state_of st c.args.hasher.now c.args.clauses.now known in
-    after st known ∙ sym (ap (λ b. cond b (apply_pending s) s) (list_any-indexes c.args.hasher.now.pending.items ∙ sym c.some_name_pending.ensures ∙ c.if-some_name_pending.true))) c.rehash.ensures.state
+    after st known ∙ sym (ap (λ b. cond b (apply_pending s) s)
+    (list_any-indexes c.args.hasher.now.pending.items ∙ sym c.some_name_pending.ensures ∙ c.if-some_name_pending.true)))
+    c.rehash.ensures.state
 
 pub returns-else-some_name_pending-clause-state : goal.returns-else-some_name_pending-clause-state
 returns-else-some_name_pending-clause-state c st known =

@@ -4,7 +4,8 @@ use Rattle.sat_hints.proofs.AppendedWords.{word_pushed, words_pushed}
 use Rattle.sat_hints.proofs.text.push_literals.Goals as goal
 
 pub loop-lit-preserved : goal.loop-lit-preserved
-loop-lit-preserved c = word_pushed literal_text (λ ls. words_after_space (map literal_text ls)) (λ l ls. refl) _ _ _ c.args.lits.now c.loop-lit.lit-index c.lit-item.result _ c.loop-lit-test.true c.lit-item.is c.in_ok-push_literal.ensures c.loop-lit.invariant
+loop-lit-preserved c = word_pushed literal_text (λ ls. words_after_space (map literal_text ls)) (λ l ls. refl) _ _ _ c.args.lits.now
+    c.loop-lit.lit-index c.lit-item.result _ c.loop-lit-test.true c.lit-item.is c.in_ok-push_literal.ensures c.loop-lit.invariant
 
 pub returns : goal.returns
 returns c = words_pushed literal_text (λ ls. words_after_space (map literal_text ls)) refl _ _ c.args.lits.now c.loop-lit.lit-index c.loop-lit-test.false c.loop-lit.invariant

@@ -1,10 +1,11 @@
 use Rattle.std.proofs.Common.{ap}
-use Rattle.varisat_checker.specs.Shown.{boxes, state}
+use Rattle.varisat_checker.specs.Shown.{listeners, state}
 use Rattle.varisat_check.proofs.LratLemmas.{counted, formula_refuted, fresh_run, processor_refused, proof_refused, taken}
 use Rattle.varisat_check.proofs.lrat.run_lrat.Goals as goal
 
 pub returns-in-Err-clause-refused : goal.returns-in-Err-clause-refused
-returns-in-Err-clause-refused g c = processor_refused c.args.formula.now c.in-Err.fault (state c.new-checker.result) c.new-checker.ensures.state (λ running. ap (λ p. p.1) (c.in-Err.ensures.returned running))
+returns-in-Err-clause-refused g c = processor_refused c.args.formula.now c.in-Err.fault
+    (state c.new-checker.result) c.new-checker.ensures.state (λ running. ap (λ p. p.1) (c.in-Err.ensures.returned running))
 
 pub returns-in-Err-check_proof-clause-refused : goal.returns-in-Err-check_proof-clause-refused
 returns-in-Err-check_proof-clause-refused g c =
@@ -18,14 +19,19 @@ verdict_after-verdict-requires g c =
 
 pub returns-in-Ok-clause-run : goal.returns-in-Ok-clause-run
 returns-in-Ok-clause-run g c =
-    taken g.P.ProofProcessor.took _ _ _ _ _ (boxes c.check_proof.new.self).processors c.into_processors-processors.result.0.items
-    (fresh_run g.P.ProofProcessor.took g.P.ProofProcessor.faulted _ _ c.args.formula.now (g.R.Read.remaining c.args.proof) c.args.writer (boxes c.new-checker.result) (boxes c.add_processor.new.self) (boxes c.add_formula.new.self) (boxes c.check_proof.new.self)
+    taken g.P.ProofProcessor.took _ _ _ _ _ (listeners c.check_proof.new.self).processors c.into_processors-processors.result.0.items
+    (fresh_run g.P.ProofProcessor.took g.P.ProofProcessor.faulted _ _ c.args.formula.now (g.R.Read.remaining c.args.proof) c.args.writer
+    (listeners c.new-checker.result) (listeners c.add_processor.new.self) (listeners c.add_formula.new.self)
+    (listeners c.check_proof.new.self)
     (state c.new-checker.result) (state c.add_processor.new.self) (state c.add_formula.new.self) (state c.check_proof.new.self) c.input_clauses-inputs.result c.verdict_after-verdict.result
-    c.new-checker.ensures.state c.new-checker.ensures.processors c.in_default.ensures.state c.in_default.ensures.registered c.in_default-add_formula.ensures.steps c.in_default-add_formula.ensures.handed c.in_default-add_formula.ensures.certified
+    c.new-checker.ensures.state c.new-checker.ensures.processors c.in_default.ensures.state c.in_default.ensures.registered
+    c.in_default-add_formula.ensures.steps c.in_default-add_formula.ensures.delivered c.in_default-add_formula.ensures.certified
     c.in_default-check_proof.ensures.run c.input_clauses-inputs.ensures c.verdict_after-verdict.ensures)
     c.into_processors-processors.ensures.processors c.swap_remove-writer.ensures.value
 
 pub returns-in-Ok-clause-refutes : goal.returns-in-Ok-clause-refutes
 returns-in-Ok-clause-refutes g c =
     formula_refuted c.args.formula.now (g.R.Read.remaining c.args.proof) _ _ (state c.add_formula.new.self) (state c.check_proof.new.self) c.input_clauses-inputs.result c.verdict_after-verdict.result
-    (c.new-checker.ensures.state, c.in_default.ensures.state, c.in_default-add_formula.ensures.steps) c.in_default-add_formula.ensures.covers c.in_default-check_proof.ensures.run c.input_clauses-inputs.ensures c.verdict_after-verdict.ensures
+    (c.new-checker.ensures.state, c.in_default.ensures.state, c.in_default-add_formula.ensures.steps)
+    c.in_default-add_formula.ensures.covers c.in_default-check_proof.ensures.run c.input_clauses-inputs.ensures
+    c.verdict_after-verdict.ensures

@@ -4,17 +4,18 @@ use Rattle.checker_rules.specs.State.{State}
 use Rattle.proof_bytes.specs.NextStep.{view}
 use Rattle.proof_bytes.proofs.TextRuns.{MayRead, reader_open}
 use Rattle.checker_steps.specs.Context.{context_state}
-use Rattle.checker_steps.specs.Handed.{boxes_of}
+use Rattle.checker_steps.specs.Delivered.{listeners_of}
 use Rattle.checker_steps.proofs.StepAnswers.{no-number, not-exhausted, some-number}
 use Rattle.varisat_checker.proofs.CountLemmas.{attempt-steps}
-use Rattle.varisat_checker.proofs.RunHanded.{handed-begins, handed-closes, handed-exhausted, handed-faulted, handed-goes, handed-refused}
+use Rattle.varisat_checker.proofs.RunDelivered.{delivered-begins, delivered-closes, delivered-exhausted, delivered-faulted, delivered-goes, delivered-refused}
 use Rattle.varisat_checker.proofs.proof.check_proof.Goals as goal
 
 pub steps-init : goal.steps-init
 steps-init g c = record {
   open_reader = λ going. c.new-reader.ensures.ended;
   kept = c.requires;
-  so_far = handed-begins g.P.ProofProcessor.took g.P.ProofProcessor.faulted g.T.ProofTranscriptProcessor.took g.T.ProofTranscriptProcessor.faulted _ _ _ _ _ c.new-reader.ensures.bytes c.new-reader.ensures.format;
+  so_far = delivered-begins g.P.ProofProcessor.took g.P.ProofProcessor.faulted g.T.ProofTranscriptProcessor.took
+      g.T.ProofTranscriptProcessor.faulted _ _ _ _ _ c.new-reader.ensures.bytes c.new-reader.ensures.format;
   ended = λ e. e;
   exhausted = λ none. none;
 }
@@ -39,32 +40,45 @@ steps-preserved g c =
     record {
       open_reader = λ still. reader_open _ (view c.in-Ok.step) gave.ended may h.1 still;
       kept = c.in_default.ensures.kept;
-      so_far = handed-goes g.P.ProofProcessor.took g.P.ProofProcessor.faulted g.T.ProofTranscriptProcessor.took g.T.ProofTranscriptProcessor.faulted c.steps.invariant.so_far u (boxes_of c.attempt_step.new.ctx.processing) (gave.reads (c.steps.invariant.open_reader c.steps-test.true)) may c.steps.invariant.kept.sound.good h (rw c.in_default.is at c.attempt_step.ensures.handed);
+      so_far = delivered-goes g.P.ProofProcessor.took g.P.ProofProcessor.faulted g.T.ProofTranscriptProcessor.took
+          g.T.ProofTranscriptProcessor.faulted c.steps.invariant.so_far u (listeners_of c.attempt_step.new.ctx.processing)
+          (gave.reads (c.steps.invariant.open_reader c.steps-test.true)) may c.steps.invariant.kept.sound.good h
+          (rw c.in_default.is at c.attempt_step.ensures.delivered);
       ended = λ e. absurd (true≢false (sym (c.steps.invariant.ended e) ∙ c.steps-test.true));
       exhausted = λ none. absurd (not-exhausted c.steps.ctx.checker_state.step (omega arith) c.if-ctx.false (c.steps.invariant.exhausted none));
     }
 
 pub returns-then-ctx-clause-run : goal.returns-then-ctx-clause-run
 returns-then-ctx-clause-run g c =
-    handed-exhausted g.P.ProofProcessor.took g.P.ProofProcessor.faulted g.T.ProofTranscriptProcessor.took g.T.ProofTranscriptProcessor.faulted c.steps.invariant.so_far c.requires.sound.form c.refusal.result c.refusal.ensures c.steps-test.true (no-number c.steps.ctx.checker_state.step c.if-ctx.true)
+    delivered-exhausted g.P.ProofProcessor.took g.P.ProofProcessor.faulted g.T.ProofTranscriptProcessor.took
+    g.T.ProofTranscriptProcessor.faulted c.steps.invariant.so_far c.requires.sound.form c.refusal.result c.refusal.ensures c.steps-test.true
+    (no-number c.steps.ctx.checker_state.step c.if-ctx.true)
 
 pub returns-in-Err-attempt_step-clause-run : goal.returns-in-Err-attempt_step-clause-run
 returns-in-Err-attempt_step-clause-run g c =
     let may : MayRead (context_state c.steps.ctx) = record { going = c.steps-test.true; counted = some-number c.steps.ctx.checker_state.step (omega arith) c.if-ctx.false } in
     let gave = rw c.in-Ok.is at c.next_step.follows.holds-at-none in
-    handed-refused g.P.ProofProcessor.took g.P.ProofProcessor.faulted g.T.ProofTranscriptProcessor.took g.T.ProofTranscriptProcessor.faulted c.steps.invariant.so_far c.requires.sound.form (gave.reads (c.steps.invariant.open_reader c.steps-test.true)) may (context_state c.attempt_step.new.ctx) (boxes_of c.attempt_step.new.ctx.processing) c.in-Err-attempt_step.fault c.steps.invariant.kept.sound.good
-    c.in-Err-attempt_step.ensures.step c.in-Err-attempt_step.ensures.handed
+    delivered-refused g.P.ProofProcessor.took g.P.ProofProcessor.faulted g.T.ProofTranscriptProcessor.took
+    g.T.ProofTranscriptProcessor.faulted c.steps.invariant.so_far c.requires.sound.form
+    (gave.reads (c.steps.invariant.open_reader c.steps-test.true)) may (context_state c.attempt_step.new.ctx)
+    (listeners_of c.attempt_step.new.ctx.processing) c.in-Err-attempt_step.fault c.steps.invariant.kept.sound.good
+    c.in-Err-attempt_step.ensures.step c.in-Err-attempt_step.ensures.delivered
 
 pub returns-in-Err-clause-run : goal.returns-in-Err-clause-run
 returns-in-Err-clause-run g c =
     let may : MayRead (context_state c.steps.ctx) = record { going = c.steps-test.true; counted = some-number c.steps.ctx.checker_state.step (omega arith) c.if-ctx.false } in
     let gave = rw c.in-Err.is at c.next_step.follows.holds-at-none in
-    handed-faulted g.P.ProofProcessor.took g.P.ProofProcessor.faulted g.T.ProofTranscriptProcessor.took g.T.ProofTranscriptProcessor.faulted c.steps.invariant.so_far c.requires.sound.form c.in-Err.fault c.read_fault.result _ (gave.reads (c.steps.invariant.open_reader c.steps-test.true)) may refl c.read_fault.ensures
+    delivered-faulted g.P.ProofProcessor.took g.P.ProofProcessor.faulted g.T.ProofTranscriptProcessor.took
+    g.T.ProofTranscriptProcessor.faulted c.steps.invariant.so_far c.requires.sound.form c.in-Err.fault c.read_fault.result _
+    (gave.reads (c.steps.invariant.open_reader c.steps-test.true)) may refl c.read_fault.ensures
 
 pub returns-clause-run : goal.returns-clause-run
 returns-clause-run g c =
-    handed-closes g.P.ProofProcessor.took g.P.ProofProcessor.faulted g.T.ProofTranscriptProcessor.took g.T.ProofTranscriptProcessor.faulted c.steps.invariant.so_far c.requires.sound.form c.process_unit_conflicts.result (context_state c.process_unit_conflicts.new.ctx) (boxes_of c.process_unit_conflicts.new.ctx.processing) c.steps.invariant.kept.sound.good c.steps-test.false
-    c.process_unit_conflicts.ensures.answer c.process_unit_conflicts.ensures.handed
+    delivered-closes g.P.ProofProcessor.took g.P.ProofProcessor.faulted g.T.ProofTranscriptProcessor.took
+    g.T.ProofTranscriptProcessor.faulted c.steps.invariant.so_far c.requires.sound.form c.process_unit_conflicts.result
+    (context_state c.process_unit_conflicts.new.ctx) (listeners_of c.process_unit_conflicts.new.ctx.processing)
+    c.steps.invariant.kept.sound.good c.steps-test.false
+    c.process_unit_conflicts.ensures.answer c.process_unit_conflicts.ensures.delivered
 
 pub returns-in-Err-clause-exhausted : goal.returns-in-Err-clause-exhausted
 returns-in-Err-clause-exhausted g c = λ none. absurd (not-exhausted c.steps.ctx.checker_state.step (omega arith) c.if-ctx.false (c.steps.invariant.exhausted none))

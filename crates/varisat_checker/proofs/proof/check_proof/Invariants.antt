@@ -1,16 +1,18 @@
 use Rattle.std.proofs.Common.{◌≡◌, ◌≤◌, ◌-◌, ◌^◌, true, false}
 use Rattle.checker_rules.specs.Calls.{step_limit}
 use Rattle.proof_bytes.specs.NextStep.{bytes_left, format_of, has_ended}
-use Rattle.checker_steps.specs.Context.{IsKept, context_state}
-use Rattle.checker_steps.specs.Handed.{boxes_of}
-use Rattle.varisat_checker.proofs.RunHanded.{RunHanded}
+use Rattle.checker_steps.specs.Context.{ContextInvariant, context_state}
+use Rattle.checker_steps.specs.Delivered.{listeners_of}
+use Rattle.varisat_checker.proofs.RunDelivered.{RunDelivered}
 use Rattle.varisat_checker.proofs.proof.check_proof.Given as goal
 
 abbrev pub invariant-steps : goal.invariant-steps
 invariant-steps g l = record {
   open_reader : l.ctx.checker_state.ended ≡ false → has_ended l.reader ≡ false;
-  kept : IsKept l.ctx;
-  so_far : RunHanded g.P.ProofProcessor.took g.T.ProofTranscriptProcessor.took (g.R.Read.remaining l.fn.proof) (bytes_left g.R.Read.remaining l.reader) (context_state l.fn.ctx) (context_state l.ctx) (format_of l.reader) (boxes_of l.fn.ctx.processing) (boxes_of l.ctx.processing);
+  kept : ContextInvariant l.ctx;
+  so_far : RunDelivered g.P.ProofProcessor.took g.T.ProofTranscriptProcessor.took (g.R.Read.remaining l.fn.proof)
+      (bytes_left g.R.Read.remaining l.reader) (context_state l.fn.ctx) (context_state l.ctx) (format_of l.reader)
+      (listeners_of l.fn.ctx.processing) (listeners_of l.ctx.processing);
   ended : l.fn.ctx.checker_state.ended ≡ true → l.ctx.checker_state.ended ≡ true;
   exhausted : step_limit ≤ l.fn.ctx.checker_state.step → step_limit ≤ l.ctx.checker_state.step;
 }

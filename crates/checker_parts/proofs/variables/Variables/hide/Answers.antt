@@ -18,8 +18,14 @@ pub index_mut-requires-in-Some : goal.index_mut-requires-in-Some
 index_mut-requires-in-Some c =
     let ns = c.self.inside.names.items in
     let ms = c.self.inside.modes.items in
-    let place : c.index-index.result < length (known_by ns ms) = omega (arith, within ns ms _ _ _ _ c.self.invariant c.self.view_is c.index-index.ensures.value c.requires, length-known_by ns ms c.self.invariant.modes) in
-    let named = ap (λ (ks : List Known). (known_at ks c.index-index.result).name) c.self.view_is ∙ sym c.name-name.ensures ∙ ap indexes_of c.in-Some.is ∙ ap (λ (n : ℕ). Some n) (sym c.index.ensures.value) in
+    let place : c.index-index.result < length (known_by ns ms) =
+    omega (
+      arith,
+      within ns ms _ _ _ _ c.self.invariant c.self.view_is c.index-index.ensures.value c.requires,
+      length-known_by ns ms c.self.invariant.modes,
+    ) in
+    let named = ap (λ (ks : List Known). (known_at ks c.index-index.result).name) c.self.view_is ∙ sym c.name-name.ensures ∙ ap indexes_of
+    c.in-Some.is ∙ ap (λ (n : ℕ). Some n) (sym c.index.ensures.value) in
     omega (arith, name-in_range (known_by ns ms) c.self.inside.taken.items c.index-index.result c.index.result c.self.invariant.marked place named, c.self.inside.taken.ok.0)
 
 pub invariant_of-self : goal.invariant_of-self
@@ -27,8 +33,14 @@ invariant_of-self c =
     let ns = c.self.inside.names.items in
     let ms = c.self.inside.modes.items in
     let ts = c.self.inside.taken.items in
-    let place : c.index-index.result < length (known_by ns ms) = omega (arith, within ns ms _ _ _ _ c.self.invariant c.self.view_is c.index-index.ensures.value c.requires, length-known_by ns ms c.self.invariant.modes) in
-    let named = ap (λ (ks : List Known). (known_at ks c.index-index.result).name) c.self.view_is ∙ sym c.name-name.ensures ∙ ap indexes_of c.in-Some.is ∙ ap (λ (n : ℕ). Some n) (sym c.index.ensures.value) in
+    let place : c.index-index.result < length (known_by ns ms) =
+    omega (
+      arith,
+      within ns ms _ _ _ _ c.self.invariant c.self.view_is c.index-index.ensures.value c.requires,
+      length-known_by ns ms c.self.invariant.modes,
+    ) in
+    let named = ap (λ (ks : List Known). (known_at ks c.index-index.result).name) c.self.view_is ∙ sym c.name-name.ensures ∙ ap indexes_of
+    c.in-Some.is ∙ ap (λ (n : ℕ). Some n) (sym c.index.ensures.value) in
     columns_hidden ns ms ts _ _ _ refl c.self.invariant (length-set ts c.index.result false)
     (marked_unnamed (known_by ns ms) ts c.index-index.result c.index.result (record { name = None; mode = hide }) c.self.invariant.marked place
     (name-in_range (known_by ns ms) ts c.index-index.result c.index.result c.self.invariant.marked place named) named refl)
@@ -38,7 +50,12 @@ invariant_of-self-in_default c =
     let ns = c.self.inside.names.items in
     let ms = c.self.inside.modes.items in
     let ts = c.self.inside.taken.items in
-    let place : c.index-index.result < length (known_by ns ms) = omega (arith, within ns ms _ _ _ _ c.self.invariant c.self.view_is c.index-index.ensures.value c.requires, length-known_by ns ms c.self.invariant.modes) in
+    let place : c.index-index.result < length (known_by ns ms) =
+    omega (
+      arith,
+      within ns ms _ _ _ _ c.self.invariant c.self.view_is c.index-index.ensures.value c.requires,
+      length-known_by ns ms c.self.invariant.modes,
+    ) in
     columns_hidden ns ms ts ts _ _ refl c.self.invariant refl
     (marked_same (known_by ns ms) ts c.index-index.result (record { name = None; mode = hide }) c.self.invariant.marked place
     (sym (ap (λ (ks : List Known). (known_at ks c.index-index.result).name) c.self.view_is ∙ sym c.name-name.ensures ∙ ap indexes_of c.in_default.is)))
@@ -46,9 +63,11 @@ invariant_of-self-in_default c =
 pub returns-in-Some : goal.returns-in-Some
 returns-in-Some c =
     let gone : Known = record { name = None; mode = hide } in
-    known_by-hidden _ _ c.index-index.result 4294967295 refl c.self.invariant.modes ∙ ap (λ ks. set ks c.index-index.result gone) c.self.view_is ∙ ap (λ n. set c.args.self.now n gone) c.index-index.ensures.value
+    known_by-hidden _ _ c.index-index.result 4294967295 refl c.self.invariant.modes ∙ ap (λ ks. set ks c.index-index.result gone)
+    c.self.view_is ∙ ap (λ n. set c.args.self.now n gone) c.index-index.ensures.value
 
 pub returns-in_default : goal.returns-in_default
 returns-in_default c =
     let gone : Known = record { name = None; mode = hide } in
-    known_by-hidden _ _ c.index-index.result 4294967295 refl c.self.invariant.modes ∙ ap (λ ks. set ks c.index-index.result gone) c.self.view_is ∙ ap (λ n. set c.args.self.now n gone) c.index-index.ensures.value
+    known_by-hidden _ _ c.index-index.result 4294967295 refl c.self.invariant.modes ∙ ap (λ ks. set ks c.index-index.result gone)
+    c.self.view_is ∙ ap (λ n. set c.args.self.now n gone) c.index-index.ensures.value

@@ -15,5 +15,7 @@ returns-in-Some-clause-value c =
 pub returns-in-None-clause-value : goal.returns-in-None-clause-value
 returns-in-None-clause-value c =
     let past : length c.self.inside.taken.items ≤ c.index.result = grind (arith, common_steps) in
-    sym (get_or_past c.self.inside.taken.items c.index.result false past) ∙ sym (taken-mark (known_by c.self.inside.names.items c.self.inside.modes.items) c.self.inside.taken.items c.index.result c.self.invariant.marked)
+    sym (get_or_past c.self.inside.taken.items c.index.result false past) ∙ sym
+    (taken-mark (known_by c.self.inside.names.items c.self.inside.modes.items) c.self.inside.taken.items c.index.result
+    c.self.invariant.marked)
     ∙ ap (λ ks. is_taken ks c.index.result) c.self.view_is ∙ ap (λ n. is_taken c.args.self.now n) c.index.ensures.value

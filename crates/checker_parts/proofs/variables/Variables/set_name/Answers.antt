@@ -42,4 +42,5 @@ returns c =
     known_by-name _ _ i j c.self.invariant.modes
     ∙ ap (λ (ks : List Known). set ks i (record { name = name_of j; mode = (known_at ks i).mode })) c.self.view_is
     ∙ ap (λ n. set ks n (record { name = name_of j; mode = (known_at ks n).mode })) c.index.ensures.value
-    ∙ ap (λ o. set ks c.args.var.index (record { name = o; mode = (known_at ks c.args.var.index).mode })) (name_of-some j c.index-name.ensures.bound ∙ ap (λ (n : ℕ). Some n) c.index-name.ensures.value)
+    ∙ ap (λ o. set ks c.args.var.index (record { name = o; mode = (known_at ks c.args.var.index).mode }))
+    (name_of-some j c.index-name.ensures.bound ∙ ap (λ (n : ℕ). Some n) c.index-name.ensures.value)

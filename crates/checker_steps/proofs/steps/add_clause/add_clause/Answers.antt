@@ -10,11 +10,11 @@ use Rattle.clause_store.specs.StateOf.{state_of}
 use Rattle.clause_store.proofs.RefusalLemmas.{kept-answer}
 use Rattle.checker_steps.specs.InputCause.{input_cause, taken}
 use Rattle.checker_steps.specs.Added.{emitted_of}
-use Rattle.checker_steps.specs.Handed.{boxes_of}
+use Rattle.checker_steps.specs.Delivered.{listeners_of}
 use Rattle.checker_steps.proofs.AddClauseLemmas.{add-accepts, add-unsat, answers-input}
-use Rattle.checker_steps.proofs.EmissionLemmas.{answers-all, handed-all, handed-refused, unless-failed}
+use Rattle.checker_steps.proofs.EmissionLemmas.{answers-all, delivered-all, delivered-refused, unless-failed}
 use Rattle.checker_steps.proofs.EmittedInputs.{emits-added, emits-unsat}
-use Rattle.checker_steps.proofs.HandingLemmas.{whole-none}
+use Rattle.checker_steps.proofs.DeliveryLemmas.{whole-none}
 use Rattle.checker_steps.proofs.steps.add_clause.add_clause.Goals as goal
 
 pub returns-then-ctx-clause-step : goal.returns-then-ctx-clause-step
@@ -46,29 +46,33 @@ returns-in-Ok-taken-clause-step g c =
 pub returns-in-Ok-taken-clause-kept : goal.returns-in-Ok-taken-clause-kept
 returns-in-Ok-taken-clause-kept g c =
     let ctx = c.args.ctx.now in
-    kept-answer c.emit_added.result ctx.checker_state c.take_clause-taken.new.state ctx.clause_hasher ctx.clause_hasher ctx.clauses c.take_clause-taken.new.clauses ctx.variables c.take_clause-taken.new.variables
+    kept-answer c.emit_added.result ctx.checker_state c.take_clause-taken.new.state ctx.clause_hasher ctx.clause_hasher ctx.clauses
+    c.take_clause-taken.new.clauses ctx.variables c.take_clause-taken.new.variables
     (add_clause c.args.lits.now) c.requires (returns-in-Ok-taken-clause-step g c) (unless-failed c.emit_added.result c.in-Ok-taken.ensures.store)
 
-pub returns-in-Ok-taken-clause-handed : goal.returns-in-Ok-taken-clause-handed
-returns-in-Ok-taken-clause-handed g c =
+pub returns-in-Ok-taken-clause-delivered : goal.returns-in-Ok-taken-clause-delivered
+returns-in-Ok-taken-clause-delivered g c =
     let ctx = c.args.ctx.now in
     let s = state_of ctx.checker_state ctx.clause_hasher ctx.clauses ctx.variables in
     let list = c.as_slice-clause.ensures.value ∙ c.in-Ok.ensures.items in
-    handed-all g.P.ProofProcessor.took g.P.ProofProcessor.faulted g.T.ProofTranscriptProcessor.took g.T.ProofTranscriptProcessor.faulted (Emits s (add_clause c.args.lits.now))
+    delivered-all g.P.ProofProcessor.took g.P.ProofProcessor.faulted g.T.ProofTranscriptProcessor.took g.T.ProofTranscriptProcessor.faulted (Emits s (add_clause c.args.lits.now))
     (emitted_of c.in-Ok-taken.added c.as_slice-clause.result.now c.take_clause-taken.new.variables) _ _ c.emit_added.result
     (emits-added s c.args.lits.now _ c.if-ctx.false (subst (λ (x : List ℕ). input_cause s x ≡ None) list (c.in_default-cause.ensures ctx.checker_state))
     (c.in-Ok-taken.ensures.emitted ∙ ap (λ (x : List ℕ). emits_input x (know_clause x s)) list))
     c.emit_added.ensures
 
-pub returns-then-ctx-clause-handed : goal.returns-then-ctx-clause-handed
-returns-then-ctx-clause-handed g c =
+pub returns-then-ctx-clause-delivered : goal.returns-then-ctx-clause-delivered
+returns-then-ctx-clause-delivered g c =
     let ctx = c.args.ctx.now in
     let s = state_of ctx.checker_state ctx.clause_hasher ctx.clauses ctx.variables in
-    whole-none g.P.ProofProcessor.took g.P.ProofProcessor.faulted g.T.ProofTranscriptProcessor.took g.T.ProofTranscriptProcessor.faulted (Emits s (add_clause c.args.lits.now)) (boxes_of ctx.processing) (emits-unsat s c.args.lits.now c.if-ctx.true)
+    whole-none g.P.ProofProcessor.took g.P.ProofProcessor.faulted g.T.ProofTranscriptProcessor.took g.T.ProofTranscriptProcessor.faulted
+    (Emits s (add_clause c.args.lits.now)) (listeners_of ctx.processing) (emits-unsat s c.args.lits.now c.if-ctx.true)
 
-pub returns-in-Some-clause-handed : goal.returns-in-Some-clause-handed
-returns-in-Some-clause-handed g c =
+pub returns-in-Some-clause-delivered : goal.returns-in-Some-clause-delivered
+returns-in-Some-clause-delivered g c =
     let ctx = c.args.ctx.now in
     let s = state_of ctx.checker_state ctx.clause_hasher ctx.clauses ctx.variables in
-    handed-refused g.P.ProofProcessor.took g.P.ProofProcessor.faulted g.T.ProofTranscriptProcessor.took g.T.ProofTranscriptProcessor.faulted s s (add_clause c.args.lits.now) c.refusal.result ctx.checker_state.step c.in-Some.msg (boxes_of ctx.processing)
+    delivered-refused g.P.ProofProcessor.took g.P.ProofProcessor.faulted g.T.ProofTranscriptProcessor.took
+    g.T.ProofTranscriptProcessor.faulted s s (add_clause c.args.lits.now) c.refusal.result ctx.checker_state.step c.in-Some.msg
+    (listeners_of ctx.processing)
     c.refusal.ensures (returns-in-Some-clause-step g c) refl

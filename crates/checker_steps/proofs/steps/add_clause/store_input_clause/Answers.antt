@@ -24,10 +24,13 @@ returns-then-tautology c =
     }
 
 pub unreachable-requires : goal.unreachable-requires
-unreachable-requires c = no-refusal c.args.clause.now (state_of c.args.state.now c.args.hasher.now c.args.clauses.now []) ids_exhausted (c.requires.room []) (rw c.in-Err-IdsExhausted.field-0-is at c.in-Err-IdsExhausted.ensures.answer []).0
+unreachable-requires c = no-refusal c.args.clause.now (state_of c.args.state.now c.args.hasher.now c.args.clauses.now []) ids_exhausted
+    (c.requires.room []) (rw c.in-Err-IdsExhausted.field-0-is at c.in-Err-IdsExhausted.ensures.answer []).0
 
 pub unreachable-requires-in-Err-CountExhausted : goal.unreachable-requires-in-Err-CountExhausted
-unreachable-requires-in-Err-CountExhausted c = no-refusal c.args.clause.now (state_of c.args.state.now c.args.hasher.now c.args.clauses.now []) count_exhausted (c.requires.room []) (rw c.in-Err-CountExhausted.field-0-is at c.in-Err-CountExhausted.ensures.answer []).0
+unreachable-requires-in-Err-CountExhausted c =
+    no-refusal c.args.clause.now (state_of c.args.state.now c.args.hasher.now c.args.clauses.now []) count_exhausted (c.requires.room [])
+    (rw c.in-Err-CountExhausted.field-0-is at c.in-Err-CountExhausted.ensures.answer []).0
 
 other-duplicate : (r : StoreClauseResult) → r ≡ Duplicate → r ≡ New → ⊥
 other-duplicate r e h = let no : Duplicate ≡ New = sym e ∙ h in cc

@@ -10,7 +10,9 @@ overflow_add-state c =
     fits-input c.store_input_clause.new.state.input_clauses c.args.clauses.now.next_clause_id le c.requires.room.ids
 
 pub store_input_clause-requires-clause-store : goal.store_input_clause-requires-clause-store
-store_input_clause-requires-clause-store c = is_store-known c.var_bound.result c.args.hasher.now c.args.clauses.now c.ensure_vars.new.clauses c.args.variables.now c.ensure_vars.new.variables c.in_ok-ensure_vars.ensures c.requires.kept.store
+store_input_clause-requires-clause-store c =
+    is_store-known c.var_bound.result c.args.hasher.now c.args.clauses.now c.ensure_vars.new.clauses c.args.variables.now
+    c.ensure_vars.new.variables c.in_ok-ensure_vars.ensures c.requires.kept.store
 
 pub returns-clause-emitted : goal.returns-clause-emitted
 returns-clause-emitted c =

@@ -1,6 +1,6 @@
 use Rattle.std.proofs.Common.{◌≡◌, ℕ, true, false, cond, List, [], ◌∷◌, refl, sym, ap, ◌∙◌}
 use Rattle.checker_rules.specs.Canonical.{canonical, var_bound}
-use Rattle.checker_rules.specs.CheckedSteps.{checked_assumptions, shown_in}
+use Rattle.checker_rules.specs.CheckedSteps.{checked_assumptions, named_in}
 use Rattle.checker_rules.specs.Emits.{Emits}
 use Rattle.checker_rules.specs.KnownVars.{know, know_clause, some_not_sampling}
 use Rattle.checker_rules.specs.Outcome.{Outcome, accept, not_sampling, refuse}
@@ -12,10 +12,10 @@ use Rattle.checker_parts.specs.declared.error.CheckCause.TheVariants.{NotSamplin
 use Rattle.clause_store.specs.StateOf.{state_of}
 use Rattle.clause_store.proofs.GrowthLemmas.{is_store-known}
 use Rattle.clause_store.proofs.RefusalLemmas.{answers-refusal, kept-answer}
-use Rattle.checker_steps.specs.Handed.{boxes_of}
-use Rattle.checker_steps.proofs.EmissionLemmas.{answers-hands, handed-refused, unless-failed}
+use Rattle.checker_steps.specs.Delivered.{listeners_of}
+use Rattle.checker_steps.proofs.EmissionLemmas.{answers-delivers, delivered-refused, unless-failed}
 use Rattle.checker_steps.proofs.EmitLemmas.{emits-accepted}
-use Rattle.checker_steps.proofs.HandingLemmas.{handed-one}
+use Rattle.checker_steps.proofs.DeliveryLemmas.{delivered-one}
 use Rattle.checker_steps.proofs.steps.assumptions.assumptions.Goals as goal
 
 -- the state with the list assumed
@@ -33,14 +33,18 @@ returns-then-some_not_sampling-clause-step g c =
     let ctx = c.args.ctx.now in
     let s = state_of ctx.checker_state ctx.clause_hasher ctx.clauses ctx.variables in
     let list = c.as_slice-list.ensures.value ∙ c.in-Ok.ensures.items in
-    let o = assumptions-refused s c.args.lits.now (ap (some_not_sampling s) (sym list) ∙ sym (c.some_not_sampling.ensures ctx.checker_state ctx.clause_hasher ctx.clauses) ∙ c.if-some_not_sampling.true) in
+    let o = assumptions-refused s c.args.lits.now
+    (ap (some_not_sampling s) (sym list) ∙ sym (c.some_not_sampling.ensures ctx.checker_state ctx.clause_hasher ctx.clauses) ∙
+    c.if-some_not_sampling.true) in
     answers-refusal c.refusal.result ctx.checker_state.step NotSampling not_sampling _ _ c.refusal.ensures refl (ap (λ (y : Outcome). y.refused) o) (sym (ap (λ (y : Outcome). y.after) o)) refl
 
-pub returns-then-some_not_sampling-clause-handed : goal.returns-then-some_not_sampling-clause-handed
-returns-then-some_not_sampling-clause-handed g c =
+pub returns-then-some_not_sampling-clause-delivered : goal.returns-then-some_not_sampling-clause-delivered
+returns-then-some_not_sampling-clause-delivered g c =
     let ctx = c.args.ctx.now in
     let s = state_of ctx.checker_state ctx.clause_hasher ctx.clauses ctx.variables in
-    handed-refused g.P.ProofProcessor.took g.P.ProofProcessor.faulted g.T.ProofTranscriptProcessor.took g.T.ProofTranscriptProcessor.faulted s s (assumptions c.args.lits.now) c.refusal.result ctx.checker_state.step NotSampling (boxes_of ctx.processing) c.refusal.ensures (returns-then-some_not_sampling-clause-step g c) refl
+    delivered-refused g.P.ProofProcessor.took g.P.ProofProcessor.faulted g.T.ProofTranscriptProcessor.took
+    g.T.ProofTranscriptProcessor.faulted s s (assumptions c.args.lits.now) c.refusal.result ctx.checker_state.step NotSampling
+    (listeners_of ctx.processing) c.refusal.ensures (returns-then-some_not_sampling-clause-step g c) refl
 
 pub returns-clause-step : goal.returns-clause-step
 returns-clause-step g c =
@@ -51,23 +55,29 @@ returns-clause-step g c =
     let items : c.swap.new.x.items ≡ canonical ls = rw c.swap.ensures.x_after c.in-Ok.ensures.items in
     let here = c.in-Ok-ensure_vars.ensures.state ctx.checker_state ctx.clause_hasher ∙ ap (λ n. know n s) (c.var_bound.ensures ∙ ap var_bound list) in
     let o = assumptions-taken s ls (ap (some_not_sampling s) (sym list) ∙ sym (c.some_not_sampling.ensures ctx.checker_state ctx.clause_hasher ctx.clauses) ∙ c.if-some_not_sampling.false) in
-    answers-hands g.P.ProofProcessor.took g.P.ProofProcessor.faulted g.T.ProofTranscriptProcessor.took g.T.ProofTranscriptProcessor.faulted _ (boxes_of ctx.processing) (boxes_of c.emit_assumptions.new.processing) c.emit_assumptions.result (step s (assumptions ls)) (record r { assumed = c.swap.new.x.items }) c.emit_assumptions.ensures
+    answers-delivers g.P.ProofProcessor.took g.P.ProofProcessor.faulted g.T.ProofTranscriptProcessor.took
+    g.T.ProofTranscriptProcessor.faulted _ (listeners_of ctx.processing) (listeners_of c.emit_assumptions.new.processing)
+    c.emit_assumptions.result (step s (assumptions ls)) (record r { assumed = c.swap.new.x.items }) c.emit_assumptions.ensures
     (ap (λ (y : Outcome). y.refused) o, ap (λ xs. record r { assumed = xs }) items ∙ ap (λ (y : State). record y { assumed = canonical ls }) here ∙ sym (ap (λ (y : Outcome). y.after) o))
 
 pub returns-clause-kept : goal.returns-clause-kept
 returns-clause-kept g c =
     let ctx = c.args.ctx.now in let cs = c.ensure_vars.new.clauses in let known = c.ensure_vars.new.variables in
-    kept-answer c.emit_assumptions.result ctx.checker_state (record ctx.checker_state { assumptions = c.swap.new.x }) ctx.clause_hasher ctx.clause_hasher ctx.clauses cs ctx.variables known (assumptions c.args.lits.now) c.requires (returns-clause-step g c)
+    kept-answer c.emit_assumptions.result ctx.checker_state (record ctx.checker_state { assumptions = c.swap.new.x }) ctx.clause_hasher
+    ctx.clause_hasher ctx.clauses cs ctx.variables known (assumptions c.args.lits.now) c.requires (returns-clause-step g c)
     (unless-failed c.emit_assumptions.result (is_store-known c.var_bound.result ctx.clause_hasher ctx.clauses cs ctx.variables known c.in-Ok-ensure_vars.ensures c.requires.store))
 
-pub returns-clause-handed : goal.returns-clause-handed
-returns-clause-handed g c =
+pub returns-clause-delivered : goal.returns-clause-delivered
+returns-clause-delivered g c =
     let ctx = c.args.ctx.now in let ls = c.args.lits.now in
     let s = state_of ctx.checker_state ctx.clause_hasher ctx.clauses ctx.variables in
     let list = c.as_slice-list.ensures.value ∙ c.in-Ok.ensures.items in
     let items : c.swap.new.x.items ≡ canonical ls = rw c.swap.ensures.x_after c.in-Ok.ensures.items in
     let here = c.in-Ok-ensure_vars.ensures.state ctx.checker_state ctx.clause_hasher ∙ ap (λ n. know n s) (c.var_bound.ensures ∙ ap var_bound list) in
     let o = assumptions-taken s ls (ap (some_not_sampling s) (sym list) ∙ sym (c.some_not_sampling.ensures ctx.checker_state ctx.clause_hasher ctx.clauses) ∙ c.if-some_not_sampling.false) in
-    handed-one g.P.ProofProcessor.took g.P.ProofProcessor.faulted g.T.ProofTranscriptProcessor.took g.T.ProofTranscriptProcessor.faulted (Emits s (assumptions ls)) _ (boxes_of ctx.processing) (boxes_of c.emit_assumptions.new.processing) c.emit_assumptions.result
+    delivered-one g.P.ProofProcessor.took g.P.ProofProcessor.faulted g.T.ProofTranscriptProcessor.took g.T.ProofTranscriptProcessor.faulted
+    (Emits s (assumptions ls)) _ (listeners_of ctx.processing) (listeners_of c.emit_assumptions.new.processing)
+    c.emit_assumptions.result
     (emits-accepted s (assumptions ls) (record { step = checked_assumptions c.as_slice.result.now; names = c.ensure_vars.new.variables } ∷ []) (ap (λ (y : Outcome). y.refused) o)
-    (ap (λ xs. record { step = checked_assumptions xs; names = c.ensure_vars.new.variables } ∷ []) (c.as_slice.ensures.value ∙ items) ∙ ap (λ (y : State). shown_in y (checked_assumptions (canonical ls)) ∷ []) here)) c.emit_assumptions.ensures
+    (ap (λ xs. record { step = checked_assumptions xs; names = c.ensure_vars.new.variables } ∷ []) (c.as_slice.ensures.value ∙ items) ∙ ap
+    (λ (y : State). named_in y (checked_assumptions (canonical ls)) ∷ []) here)) c.emit_assumptions.ensures

@@ -12,10 +12,10 @@ use Rattle.checker_rules.proofs.StepKinds.{step-change_hash_bits}
 use Rattle.checker_parts.specs.declared.error.CheckCause.TheVariants.{HashBits}
 use Rattle.clause_store.specs.StateOf.{state_of}
 use Rattle.clause_store.proofs.RefusalLemmas.{answers-refusal}
-use Rattle.checker_steps.specs.Handed.{boxes_of}
-use Rattle.checker_steps.proofs.EmissionLemmas.{handed-refused}
+use Rattle.checker_steps.specs.Delivered.{listeners_of}
+use Rattle.checker_steps.proofs.EmissionLemmas.{delivered-refused}
 use Rattle.checker_steps.proofs.EmitLemmas.{emits-accepted}
-use Rattle.checker_steps.proofs.HandingLemmas.{whole-none}
+use Rattle.checker_steps.proofs.DeliveryLemmas.{whole-none}
 use Rattle.checker_steps.proofs.steps.change_hash_bits.change_hash_bits.Goals as goal
 use Rattle.checker_steps.proofs.steps.change_hash_bits.change_hash_bits.Goals.{then-bits-eq0-via-then-bits-eq0, then-bits-eq0-via-else-bits-eq0+then-bits-gt-BITS}
 
@@ -37,15 +37,21 @@ pub returns-then-bits-eq0-clause-step : goal.returns-then-bits-eq0-clause-step
 returns-then-bits-eq0-clause-step g c =
     let ctx = c.args.ctx.now in
     let s = state_of ctx.checker_state ctx.clause_hasher ctx.clauses ctx.variables in
-    let wrong : (c.args.bits ≡ 0) ⊎ (64 < c.args.bits) = elim c.then-bits-eq0.branch [ then-bits-eq0-via-then-bits-eq0 w ↦ inl w.if-bits-eq0.true | then-bits-eq0-via-else-bits-eq0+then-bits-gt-BITS w ↦ inr w.if-bits-gt-BITS.true ] in
+    let wrong : (c.args.bits ≡ 0) ⊎ (64 < c.args.bits) =
+    elim c.then-bits-eq0.branch [
+      | then-bits-eq0-via-then-bits-eq0 w ↦ inl w.if-bits-eq0.true
+      | then-bits-eq0-via-else-bits-eq0+then-bits-gt-BITS w ↦ inr w.if-bits-gt-BITS.true
+    ] in
     let o = bits-refused s c.args.bits wrong in
     answers-refusal c.refusal.result ctx.checker_state.step HashBits hash_bits _ _ c.refusal.ensures refl (ap (λ (x : Outcome). x.refused) o) (sym (ap (λ (x : Outcome). x.after) o)) refl
 
-pub returns-then-bits-eq0-clause-handed : goal.returns-then-bits-eq0-clause-handed
-returns-then-bits-eq0-clause-handed g c =
+pub returns-then-bits-eq0-clause-delivered : goal.returns-then-bits-eq0-clause-delivered
+returns-then-bits-eq0-clause-delivered g c =
     let ctx = c.args.ctx.now in
     let s = state_of ctx.checker_state ctx.clause_hasher ctx.clauses ctx.variables in
-    handed-refused g.P.ProofProcessor.took g.P.ProofProcessor.faulted g.T.ProofTranscriptProcessor.took g.T.ProofTranscriptProcessor.faulted s s (change_hash_bits c.args.bits) c.refusal.result ctx.checker_state.step HashBits (boxes_of ctx.processing) c.refusal.ensures (returns-then-bits-eq0-clause-step g c) refl
+    delivered-refused g.P.ProofProcessor.took g.P.ProofProcessor.faulted g.T.ProofTranscriptProcessor.took
+    g.T.ProofTranscriptProcessor.faulted s s (change_hash_bits c.args.bits) c.refusal.result ctx.checker_state.step HashBits
+    (listeners_of ctx.processing) c.refusal.ensures (returns-then-bits-eq0-clause-step g c) refl
 
 pub returns-in-Ok-clause-step : goal.returns-in-Ok-clause-step
 returns-in-Ok-clause-step g c =
@@ -62,9 +68,10 @@ returns-in-Ok-clause-kept g c =
       store = c.in-Ok.ensures.store;
     }
 
-pub returns-in-Ok-clause-handed : goal.returns-in-Ok-clause-handed
-returns-in-Ok-clause-handed g c =
+pub returns-in-Ok-clause-delivered : goal.returns-in-Ok-clause-delivered
+returns-in-Ok-clause-delivered g c =
     let ctx = c.args.ctx.now in
     let s = state_of ctx.checker_state ctx.clause_hasher ctx.clauses ctx.variables in
-    whole-none g.P.ProofProcessor.took g.P.ProofProcessor.faulted g.T.ProofTranscriptProcessor.took g.T.ProofTranscriptProcessor.faulted (Emits s (change_hash_bits c.args.bits)) (boxes_of ctx.processing)
+    whole-none g.P.ProofProcessor.took g.P.ProofProcessor.faulted g.T.ProofTranscriptProcessor.took g.T.ProofTranscriptProcessor.faulted
+    (Emits s (change_hash_bits c.args.bits)) (listeners_of ctx.processing)
     (emits-accepted s (change_hash_bits c.args.bits) [] (returns-in-Ok-clause-step g c).0 refl)

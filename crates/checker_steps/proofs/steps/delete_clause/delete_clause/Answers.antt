@@ -14,9 +14,9 @@ use Rattle.clause_store.specs.Store.{IsStore}
 use Rattle.clause_store.specs.declared.state.CheckerState.{CheckerState}
 use Rattle.clause_store.proofs.RefusalLemmas.{answers-refusal, kept-answer}
 use Rattle.checker_steps.specs.DeletionSteps.{deletion_steps}
-use Rattle.checker_steps.specs.Handed.{boxes_of}
-use Rattle.checker_steps.proofs.DeleteStepLemmas.{answers-fault, answers-unjustified, delete-asked, delete-justified, delete-tautology, emits-accepted, emits-by, handed-fault, unless-fault}
-use Rattle.checker_steps.proofs.EmissionLemmas.{answers-all, handed-all, handed-refused, unless-failed}
+use Rattle.checker_steps.specs.Delivered.{listeners_of}
+use Rattle.checker_steps.proofs.DeleteStepLemmas.{answers-fault, answers-unjustified, delete-asked, delete-justified, delete-tautology, emits-accepted, emits-by, delivered-fault, unless-fault}
+use Rattle.checker_steps.proofs.EmissionLemmas.{answers-all, delivered-all, delivered-refused, unless-failed}
 use Rattle.checker_steps.proofs.steps.delete_clause.delete_clause.Goals as goal
 
 pub returns-then-tautology-clause-step : goal.returns-then-tautology-clause-step
@@ -25,34 +25,44 @@ returns-then-tautology-clause-step g c =
     let o = delete-tautology s (why c.args.proof) c.args.lits.now (sym c.in-Ok.ensures.tautology ∙ c.if-tautology.true) in
     answers-refusal c.refusal.result ctx.checker_state.step Tautology tautology _ _ c.refusal.ensures refl (ap (λ (x : Outcome). x.refused) o) (sym (ap (λ (x : Outcome). x.after) o)) refl
 
-pub returns-then-tautology-clause-handed : goal.returns-then-tautology-clause-handed
-returns-then-tautology-clause-handed g c =
+pub returns-then-tautology-clause-delivered : goal.returns-then-tautology-clause-delivered
+returns-then-tautology-clause-delivered g c =
     let ctx = c.args.ctx.now in let s = state_of ctx.checker_state ctx.clause_hasher ctx.clauses ctx.variables in
-    handed-refused g.P.ProofProcessor.took g.P.ProofProcessor.faulted g.T.ProofTranscriptProcessor.took g.T.ProofTranscriptProcessor.faulted s s (delete_clause (why c.args.proof) c.args.lits.now) c.refusal.result ctx.checker_state.step Tautology (boxes_of ctx.processing)
+    delivered-refused g.P.ProofProcessor.took g.P.ProofProcessor.faulted g.T.ProofTranscriptProcessor.took
+    g.T.ProofTranscriptProcessor.faulted s s (delete_clause (why c.args.proof) c.args.lits.now) c.refusal.result ctx.checker_state.step
+    Tautology (listeners_of ctx.processing)
     c.refusal.ensures (returns-then-tautology-clause-step g c) refl
 
 pub returns-in-Err-clause-step : goal.returns-in-Err-clause-step
 returns-in-Err-clause-step g c =
     let ctx = c.args.ctx.now in let s = state_of ctx.checker_state ctx.clause_hasher ctx.clauses ctx.variables in let j = why c.args.proof in let ls = c.args.lits.now in
     let list : c.as_slice-clause.result.now ≡ canonical ls = c.as_slice-clause.ensures.value ∙ c.in-Ok.ensures.items in
-    let asked : step s (delete_clause j ls) ≡ justified j c.as_slice-clause.result.now s = delete-asked s j ls (sym c.in-Ok.ensures.tautology ∙ c.if-tautology.false) ∙ ap (λ x. justified j x s) (sym list) in
+    let asked : step s (delete_clause j ls) ≡ justified j c.as_slice-clause.result.now s =
+    delete-asked s j ls (sym c.in-Ok.ensures.tautology ∙ c.if-tautology.false) ∙ ap (λ x. justified j x s) (sym list) in
     answers-unjustified c.refusal-in-Err.result c.in-Err.msg (step s (delete_clause j ls)) s c.refusal-in-Err.ensures (asked ∙ c.in-Err.ensures ctx.clause_hasher ctx.variables)
 
-pub returns-in-Err-clause-handed : goal.returns-in-Err-clause-handed
-returns-in-Err-clause-handed g c =
+pub returns-in-Err-clause-delivered : goal.returns-in-Err-clause-delivered
+returns-in-Err-clause-delivered g c =
     let ctx = c.args.ctx.now in let s = state_of ctx.checker_state ctx.clause_hasher ctx.clauses ctx.variables in
-    handed-refused g.P.ProofProcessor.took g.P.ProofProcessor.faulted g.T.ProofTranscriptProcessor.took g.T.ProofTranscriptProcessor.faulted s s (delete_clause (why c.args.proof) c.args.lits.now) c.refusal-in-Err.result ctx.checker_state.step c.in-Err.msg (boxes_of ctx.processing)
+    delivered-refused g.P.ProofProcessor.took g.P.ProofProcessor.faulted g.T.ProofTranscriptProcessor.took
+    g.T.ProofTranscriptProcessor.faulted s s (delete_clause (why c.args.proof) c.args.lits.now) c.refusal-in-Err.result
+    ctx.checker_state.step c.in-Err.msg (listeners_of ctx.processing)
     c.refusal-in-Err.ensures (returns-in-Err-clause-step g c) refl
 
 pub returns-in-Ok-deleted-clause-step : goal.returns-in-Ok-deleted-clause-step
 returns-in-Ok-deleted-clause-step g c =
     let ctx = c.args.ctx.now in let s = state_of ctx.checker_state ctx.clause_hasher ctx.clauses ctx.variables in let j = why c.args.proof in let ls = c.args.lits.now in
     let st : CheckerState = record ctx.checker_state { previous_id = None } in let r = c.is_none-redundant.result in let list = c.as_slice-clause.ensures.value ∙ c.in-Ok.ensures.items in
-    let asked = delete-justified s j ls c.as_slice-clause.result.now c.in-Ok-justify.id r (sym c.in-Ok.ensures.tautology ∙ c.if-tautology.false) list (c.in-Ok-justify.ensures ctx.clause_hasher ctx.variables) c.is_none-redundant.ensures in
+    let asked = delete-justified s j ls c.as_slice-clause.result.now c.in-Ok-justify.id r
+    (sym c.in-Ok.ensures.tautology ∙ c.if-tautology.false) list (c.in-Ok-justify.ensures ctx.clause_hasher ctx.variables)
+    c.is_none-redundant.ensures in
     let t = state_of st ctx.clause_hasher c.delete_clause-deleted.new.clauses ctx.variables in
     let o = asked.0 ∙ (c.in-Ok-deleted.ensures.answer st ctx.variables).after in
-    answers-all g.P.ProofProcessor.took g.P.ProofProcessor.faulted g.T.ProofTranscriptProcessor.took g.T.ProofTranscriptProcessor.faulted (deletion_steps ctx.variables c.in-Ok-justify.id c.in-Ok-deleted.did c.in-Ok-deleted.id c.as_slice-clause.result.now) (boxes_of ctx.processing)
-    (boxes_of c.emit_deletion.new.processing) c.emit_deletion.result (step s (delete_clause j ls)) t c.emit_deletion.ensures (ap (λ (x : Outcome). x.refused) o, sym (ap (λ (x : Outcome). x.after) o))
+    answers-all g.P.ProofProcessor.took g.P.ProofProcessor.faulted g.T.ProofTranscriptProcessor.took g.T.ProofTranscriptProcessor.faulted
+    (deletion_steps ctx.variables c.in-Ok-justify.id c.in-Ok-deleted.did c.in-Ok-deleted.id c.as_slice-clause.result.now)
+    (listeners_of ctx.processing)
+    (listeners_of c.emit_deletion.new.processing) c.emit_deletion.result (step s (delete_clause j ls)) t c.emit_deletion.ensures
+    (ap (λ (x : Outcome). x.refused) o, sym (ap (λ (x : Outcome). x.after) o))
 
 pub returns-in-Ok-deleted-clause-kept : goal.returns-in-Ok-deleted-clause-kept
 returns-in-Ok-deleted-clause-kept g c =
@@ -60,9 +70,10 @@ returns-in-Ok-deleted-clause-kept g c =
     kept-answer c.emit_deletion.result ctx.checker_state st ctx.clause_hasher ctx.clause_hasher ctx.clauses c.delete_clause-deleted.new.clauses ctx.variables ctx.variables
     (delete_clause (why c.args.proof) c.args.lits.now) c.requires (returns-in-Ok-deleted-clause-step g c) (unless-failed c.emit_deletion.result c.in-Ok-deleted.ensures.store)
 
-pub returns-in-Ok-deleted-clause-handed : goal.returns-in-Ok-deleted-clause-handed
-returns-in-Ok-deleted-clause-handed g c =
-    let ctx = c.args.ctx.now in let s = state_of ctx.checker_state ctx.clause_hasher ctx.clauses ctx.variables in let j = why c.args.proof in let ls = c.args.lits.now in let cl = c.as_slice-clause.result.now in
+pub returns-in-Ok-deleted-clause-delivered : goal.returns-in-Ok-deleted-clause-delivered
+returns-in-Ok-deleted-clause-delivered g c =
+    let ctx = c.args.ctx.now in let s = state_of ctx.checker_state ctx.clause_hasher ctx.clauses ctx.variables in let j =
+    why c.args.proof in let ls = c.args.lits.now in let cl = c.as_slice-clause.result.now in
     let st : CheckerState = record ctx.checker_state { previous_id = None } in let r = c.is_none-redundant.result in let list = c.as_slice-clause.ensures.value ∙ c.in-Ok.ensures.items in
     let why = c.in-Ok-justify.ensures ctx.clause_hasher ctx.variables in
     let asked = delete-justified s j ls cl c.in-Ok-justify.id r (sym c.in-Ok.ensures.tautology ∙ c.if-tautology.false) list why c.is_none-redundant.ensures in
@@ -70,27 +81,38 @@ returns-in-Ok-deleted-clause-handed g c =
     let d = c.in-Ok-deleted.ensures.answer st ctx.variables in
     let deletes = subst (λ b. Deletes cl b (forget s) t c.in-Ok-deleted.id c.in-Ok-deleted.did) (sym asked.1) d in
     let told : deletion_steps ctx.variables c.in-Ok-justify.id c.in-Ok-deleted.did c.in-Ok-deleted.id cl ≡ emits_deletion s j (canonical ls) =
-    ap (λ o. deletion_steps ctx.variables o c.in-Ok-deleted.did c.in-Ok-deleted.id cl) why.1 ∙ emits-by cl s c.requires.store.filed.apart c.requires.store.filed.whole j c.in-Ok-deleted.id t c.in-Ok-deleted.did deletes ∙ ap (emits_deletion s j) list in
-    handed-all g.P.ProofProcessor.took g.P.ProofProcessor.faulted g.T.ProofTranscriptProcessor.took g.T.ProofTranscriptProcessor.faulted (Emits s (delete_clause j ls)) (deletion_steps ctx.variables c.in-Ok-justify.id c.in-Ok-deleted.did c.in-Ok-deleted.id cl) (boxes_of ctx.processing)
-    (boxes_of c.emit_deletion.new.processing) c.emit_deletion.result (emits-accepted s j ls (ap (λ (x : Outcome). x.refused) (asked.0 ∙ d.after)) _ told) c.emit_deletion.ensures
+    ap (λ o. deletion_steps ctx.variables o c.in-Ok-deleted.did c.in-Ok-deleted.id cl) why.1 ∙ emits-by cl s c.requires.store.filed.apart
+    c.requires.store.filed.whole j c.in-Ok-deleted.id t c.in-Ok-deleted.did deletes ∙ ap (emits_deletion s j) list in
+    delivered-all g.P.ProofProcessor.took g.P.ProofProcessor.faulted g.T.ProofTranscriptProcessor.took g.T.ProofTranscriptProcessor.faulted
+    (Emits s (delete_clause j ls)) (deletion_steps ctx.variables c.in-Ok-justify.id c.in-Ok-deleted.did c.in-Ok-deleted.id cl)
+    (listeners_of ctx.processing)
+    (listeners_of c.emit_deletion.new.processing) c.emit_deletion.result (emits-accepted s j ls (ap (λ (x : Outcome). x.refused) (asked.0 ∙ d.after)) _ told) c.emit_deletion.ensures
 
 pub returns-in-Err-deleted-clause-step : goal.returns-in-Err-deleted-clause-step
 returns-in-Err-deleted-clause-step g c =
-    let ctx = c.args.ctx.now in let s = state_of ctx.checker_state ctx.clause_hasher ctx.clauses ctx.variables in let j = why c.args.proof in let ls = c.args.lits.now in let cl = c.as_slice-clause.result.now in
+    let ctx = c.args.ctx.now in let s = state_of ctx.checker_state ctx.clause_hasher ctx.clauses ctx.variables in let j =
+    why c.args.proof in let ls = c.args.lits.now in let cl = c.as_slice-clause.result.now in
     let st : CheckerState = record ctx.checker_state { previous_id = None } in let r = c.is_none-redundant.result in let list = c.as_slice-clause.ensures.value ∙ c.in-Ok.ensures.items in
-    let asked = delete-justified s j ls cl c.in-Ok-justify.id r (sym c.in-Ok.ensures.tautology ∙ c.if-tautology.false) list (c.in-Ok-justify.ensures ctx.clause_hasher ctx.variables) c.is_none-redundant.ensures in
+    let asked = delete-justified s j ls cl c.in-Ok-justify.id r (sym c.in-Ok.ensures.tautology ∙ c.if-tautology.false) list
+    (c.in-Ok-justify.ensures ctx.clause_hasher ctx.variables) c.is_none-redundant.ensures in
     let t = state_of st ctx.clause_hasher c.delete_clause-deleted.new.clauses ctx.variables in
-    subst (λ (o : Outcome). AnswersParts {A = Unit {0}} (Err c.delete_error.result) o t) (sym asked.0) (answers-fault r cl (forget s) t c.delete_error.result c.in-Err-deleted.fault (c.in-Err-deleted.ensures.answer st ctx.variables) c.delete_error.ensures)
+    subst (λ (o : Outcome). AnswersParts {A = Unit {0}} (Err c.delete_error.result) o t) (sym asked.0)
+    (answers-fault r cl (forget s) t c.delete_error.result c.in-Err-deleted.fault (c.in-Err-deleted.ensures.answer st ctx.variables)
+    c.delete_error.ensures)
 
 pub returns-in-Err-deleted-clause-kept : goal.returns-in-Err-deleted-clause-kept
 returns-in-Err-deleted-clause-kept g c =
     let ctx = c.args.ctx.now in let st : CheckerState = record ctx.checker_state { previous_id = None } in
     kept-answer {A = Unit {0}} (Err c.delete_error.result) ctx.checker_state st ctx.clause_hasher ctx.clause_hasher ctx.clauses c.delete_clause-deleted.new.clauses ctx.variables ctx.variables
-    (delete_clause (why c.args.proof) c.args.lits.now) c.requires (returns-in-Err-deleted-clause-step g c) (unless-fault (IsStore ctx.clause_hasher c.delete_clause-deleted.new.clauses) c.in-Err-deleted.fault c.is_none-redundant.result st.step c.delete_error.result c.delete_error.ensures c.in-Err-deleted.ensures.store)
+    (delete_clause (why c.args.proof) c.args.lits.now) c.requires (returns-in-Err-deleted-clause-step g c)
+    (unless-fault (IsStore ctx.clause_hasher c.delete_clause-deleted.new.clauses) c.in-Err-deleted.fault c.is_none-redundant.result
+    st.step c.delete_error.result c.delete_error.ensures c.in-Err-deleted.ensures.store)
 
-pub returns-in-Err-deleted-clause-handed : goal.returns-in-Err-deleted-clause-handed
-returns-in-Err-deleted-clause-handed g c =
+pub returns-in-Err-deleted-clause-delivered : goal.returns-in-Err-deleted-clause-delivered
+returns-in-Err-deleted-clause-delivered g c =
     let ctx = c.args.ctx.now in let s = state_of ctx.checker_state ctx.clause_hasher ctx.clauses ctx.variables in
     let st : CheckerState = record ctx.checker_state { previous_id = None } in let t = state_of st ctx.clause_hasher c.delete_clause-deleted.new.clauses ctx.variables in
-    handed-fault g.P.ProofProcessor.took g.P.ProofProcessor.faulted g.T.ProofTranscriptProcessor.took g.T.ProofTranscriptProcessor.faulted s t (why c.args.proof) c.args.lits.now c.in-Err-deleted.fault c.is_none-redundant.result c.delete_error.result st.step (boxes_of ctx.processing)
+    delivered-fault g.P.ProofProcessor.took g.P.ProofProcessor.faulted g.T.ProofTranscriptProcessor.took
+    g.T.ProofTranscriptProcessor.faulted s t (why c.args.proof) c.args.lits.now c.in-Err-deleted.fault c.is_none-redundant.result
+    c.delete_error.result st.step (listeners_of ctx.processing)
     c.delete_error.ensures (returns-in-Err-deleted-clause-step g c)

@@ -1,12 +1,12 @@
 use Rattle.std.proofs.Common.{◌≡◌, ℕ, List, Option, None, Some, [], ◌∷◌, false, true, refl, sym, ap, ◌∙◌, subst}
-use Rattle.checker_rules.specs.CheckedSteps.{ShownStep, checked_delete_at_clause, checked_delete_clause}
+use Rattle.checker_rules.specs.CheckedSteps.{NamedStep, checked_delete_at_clause, checked_delete_clause}
 use Rattle.checker_rules.specs.State.{Known}
 use Rattle.clause_store.specs.declared.clauses.DeleteClauseResult.{DeleteClauseResult}
 use Rattle.clause_store.specs.declared.clauses.DeleteClauseResult.TheVariants.{Unchanged, NewlyRedundant, Removed}
 use Rattle.checker_steps.specs.DeletionSteps.{deletion_steps}
-use Rattle.checker_steps.specs.Handed.{HandsAll, RanOver, boxes_of}
+use Rattle.checker_steps.specs.Delivered.{DeliveredAll, RanOver, listeners_of}
 use Rattle.checker_steps.proofs.EmissionLemmas.{all-one}
-use Rattle.checker_steps.proofs.HandingLemmas.{ran-none}
+use Rattle.checker_steps.proofs.DeliveryLemmas.{ran-none}
 use Rattle.checker_steps.proofs.steps.delete_clause.emit_deletion.Goals as goal
 use Rattle.checker_steps.proofs.steps.delete_clause.emit_deletion.Goals.{in_default-via-in-None+in_default, in_default-via-in-Some+in_default}
 
@@ -22,37 +22,42 @@ kept_irredundant names implying NewlyRedundant id c e = cc
 kept_irredundant names None Unchanged id c e = refl
 kept_irredundant names (Some n) Unchanged id c e = refl
 
-by : (names : List Known) (implying other : Option ℕ) (did same : DeleteClauseResult) (id : ℕ) (c : List ℕ) → implying ≡ other → did ≡ same → deletion_steps names other same id c ≡ deletion_steps names implying did id c
+by : (names : List Known) (implying other : Option ℕ) (did same : DeleteClauseResult) (id : ℕ) (c : List ℕ) → implying ≡ other →
+    did ≡ same → deletion_steps names other same id c ≡ deletion_steps names implying did id c
 by names implying other did same id c p q = sym (ap (λ o. deletion_steps names o did id c) p ∙ ap (λ d. deletion_steps names other d id c) q)
 
 pub returns-in-None-Removed : goal.returns-in-None-Removed
 returns-in-None-Removed g c =
-    let names = c.args.variables.now in let ls = c.args.clause.now in let id = c.args.id in let old = boxes_of c.args.processing.now in let new = boxes_of c.emit_delete_clause.new.processing in
-    subst (λ es. HandsAll c.emit_delete_clause.result es g.P.ProofProcessor.took g.P.ProofProcessor.faulted g.T.ProofTranscriptProcessor.took g.T.ProofTranscriptProcessor.faulted old new)
+    let names = c.args.variables.now in let ls = c.args.clause.now in let id = c.args.id in let old = listeners_of c.args.processing.now in
+    let new = listeners_of c.emit_delete_clause.new.processing in
+    subst (λ es. DeliveredAll c.emit_delete_clause.result es g.P.ProofProcessor.took g.P.ProofProcessor.faulted g.T.ProofTranscriptProcessor.took g.T.ProofTranscriptProcessor.faulted old new)
     (by names c.args.implying None c.args.did Removed id ls c.in-None-Removed.is-0 c.in-None-Removed.is-1)
-    (all-one g.P.ProofProcessor.took g.P.ProofProcessor.faulted g.T.ProofTranscriptProcessor.took g.T.ProofTranscriptProcessor.faulted (record { step = checked_delete_clause id ls; names = names }) old new c.emit_delete_clause.result c.emit_delete_clause.ensures)
+    (all-one g.P.ProofProcessor.took g.P.ProofProcessor.faulted g.T.ProofTranscriptProcessor.took g.T.ProofTranscriptProcessor.faulted
+    (record { step = checked_delete_clause id ls; names = names }) old new c.emit_delete_clause.result c.emit_delete_clause.ensures)
 
 pub returns-in-Some-Removed : goal.returns-in-Some-Removed
 returns-in-Some-Removed g c =
     let names = c.args.variables.now in let ls = c.args.clause.now in let id = c.args.id in let n = c.in-Some-Removed.implying in let told = c.emit_delete_at_clause in
-    let old = boxes_of c.args.processing.now in let new = boxes_of told.new.processing in
-    subst (λ es. HandsAll told.result es g.P.ProofProcessor.took g.P.ProofProcessor.faulted g.T.ProofTranscriptProcessor.took g.T.ProofTranscriptProcessor.faulted old new)
+    let old = listeners_of c.args.processing.now in let new = listeners_of told.new.processing in
+    subst (λ es. DeliveredAll told.result es g.P.ProofProcessor.took g.P.ProofProcessor.faulted g.T.ProofTranscriptProcessor.took g.T.ProofTranscriptProcessor.faulted old new)
     (by names c.args.implying (Some n) c.args.did Removed id ls c.in-Some-Removed.is-0 c.in-Some-Removed.is-1)
-    (all-one g.P.ProofProcessor.took g.P.ProofProcessor.faulted g.T.ProofTranscriptProcessor.took g.T.ProofTranscriptProcessor.faulted (record { step = checked_delete_at_clause id false ls (n ∷ []); names = names }) old new told.result told.ensures)
+    (all-one g.P.ProofProcessor.took g.P.ProofProcessor.faulted g.T.ProofTranscriptProcessor.took g.T.ProofTranscriptProcessor.faulted
+    (record { step = checked_delete_at_clause id false ls (n ∷ []); names = names }) old new told.result told.ensures)
 
 pub returns-in-Some-NewlyRedundant : goal.returns-in-Some-NewlyRedundant
 returns-in-Some-NewlyRedundant g c =
     let names = c.args.variables.now in let ls = c.args.clause.now in let id = c.args.id in let n = c.in-Some-NewlyRedundant.implying in let told = c.emit_delete_at_clause-in-Some-NewlyRedundant in
-    let old = boxes_of c.args.processing.now in let new = boxes_of told.new.processing in
-    subst (λ es. HandsAll told.result es g.P.ProofProcessor.took g.P.ProofProcessor.faulted g.T.ProofTranscriptProcessor.took g.T.ProofTranscriptProcessor.faulted old new)
+    let old = listeners_of c.args.processing.now in let new = listeners_of told.new.processing in
+    subst (λ es. DeliveredAll told.result es g.P.ProofProcessor.took g.P.ProofProcessor.faulted g.T.ProofTranscriptProcessor.took g.T.ProofTranscriptProcessor.faulted old new)
     (by names c.args.implying (Some n) c.args.did NewlyRedundant id ls c.in-Some-NewlyRedundant.is-0 c.in-Some-NewlyRedundant.is-1)
-    (all-one g.P.ProofProcessor.took g.P.ProofProcessor.faulted g.T.ProofTranscriptProcessor.took g.T.ProofTranscriptProcessor.faulted (record { step = checked_delete_at_clause id true ls (n ∷ []); names = names }) old new told.result told.ensures)
+    (all-one g.P.ProofProcessor.took g.P.ProofProcessor.faulted g.T.ProofTranscriptProcessor.took g.T.ProofTranscriptProcessor.faulted
+    (record { step = checked_delete_at_clause id true ls (n ∷ []); names = names }) old new told.result told.ensures)
 
 pub returns-in_default : goal.returns-in_default
 returns-in_default g c =
-    let names = c.args.variables.now in let ls = c.args.clause.now in let id = c.args.id in let old = boxes_of c.args.processing.now in
+    let names = c.args.variables.now in let ls = c.args.clause.now in let id = c.args.id in let old = listeners_of c.args.processing.now in
     let none = ran-none g.P.ProofProcessor.took g.P.ProofProcessor.faulted g.T.ProofTranscriptProcessor.took g.T.ProofTranscriptProcessor.faulted old in
-    let P : List ShownStep → Type 0 = λ es. RanOver g.P.ProofProcessor.took g.T.ProofTranscriptProcessor.took es old old in
+    let P : List NamedStep → Type 0 = λ es. RanOver g.P.ProofProcessor.took g.T.ProofTranscriptProcessor.took es old old in
     elim c.in_default.branch [
       | in_default-via-in-None+in_default w ↦ subst P (kept_redundant names c.args.implying c.args.did id ls w.in_default.is-0 w.in_default.not-Removed-1) none
       | in_default-via-in-Some+in_default w ↦ subst P (kept_irredundant names c.args.implying c.args.did id ls w.in_default.is-1) none

@@ -1,16 +1,16 @@
 use Rattle.std.proofs.Common.{◌≡◌, ◌==◌, ℕ, List, ap, ◌∙◌}
 use Rattle.std.proofs.lemmas.Result.{err_from_is_err_and}
 use Rattle.checker_rules.specs.Check.{check, ready}
-use Rattle.checker_rules.specs.CheckedSteps.{ShownStep}
+use Rattle.checker_rules.specs.CheckedSteps.{NamedStep}
 use Rattle.checker_rules.specs.Outcome.{accept}
 use Rattle.checker_rules.specs.Traced.{check_trace}
 use Rattle.clause_store.specs.StateOf.{state_of}
 use Rattle.clause_store.proofs.RefusalLemmas.{answers-part}
 use Rattle.checker_steps.specs.Derived.{derived, derived_steps, stored_steps}
-use Rattle.checker_steps.specs.Handed.{boxes_of}
+use Rattle.checker_steps.specs.Delivered.{listeners_of}
 use Rattle.checker_steps.proofs.DerivedLemmas.{answers-unstored, derived-answer, derived-steps, derived-unchecked, quiet-unstored, steps-refused, steps-unchecked}
-use Rattle.checker_steps.proofs.FaultLemmas.{answers-as, answers-fault, handed-fault}
-use Rattle.checker_steps.proofs.QuietLemmas.{handed-refused}
+use Rattle.checker_steps.proofs.FaultLemmas.{answers-as, answers-fault, delivered-fault}
+use Rattle.checker_steps.proofs.QuietLemmas.{delivered-refused}
 use Rattle.checker_steps.proofs.UnseenLemmas.{seen-where}
 use Rattle.checker_steps.proofs.steps.derived.derive.Goals as goal
 
@@ -21,16 +21,17 @@ returns-in_err-check_clause_with_hashes-clause-answer g c =
     let e = c.in_err-check_clause_with_hashes.field-0.0 in
     let q = err_from_is_err_and c.from_residual.result c.from_residual.ensures.1 in
     rw (q.1, q.2) (answers-as (Unit {0}) ℕ e (derived s a.redundant a.clause.now a.hashes.now) t
-    (answers-part e (check s a.clause.now a.hashes.now accept) (derived s a.redundant a.clause.now a.hashes.now) t (derived-unchecked s a.redundant a.clause.now a.hashes.now) c.in_err-check_clause_with_hashes.ensures.answer))
+    (answers-part e (check s a.clause.now a.hashes.now accept) (derived s a.redundant a.clause.now a.hashes.now) t
+    (derived-unchecked s a.redundant a.clause.now a.hashes.now) c.in_err-check_clause_with_hashes.ensures.answer))
 
-pub returns-in_err-check_clause_with_hashes-clause-handed : goal.returns-in_err-check_clause_with_hashes-clause-handed
-returns-in_err-check_clause_with_hashes-clause-handed g c =
+pub returns-in_err-check_clause_with_hashes-clause-delivered : goal.returns-in_err-check_clause_with_hashes-clause-delivered
+returns-in_err-check_clause_with_hashes-clause-delivered g c =
     let a = c.args in let after = c.check_clause_with_hashes.new in let P = g.P.ProofProcessor in let T = g.T.ProofTranscriptProcessor in
     let s = state_of a.state.now a.hasher.now a.clauses.now a.variables.now in let t = state_of a.state.now after.hasher after.clauses after.variables in
     let e = c.in_err-check_clause_with_hashes.field-0.0 in
-    let E : List ShownStep → Type 0 = λ es. es ≡ derived_steps s a.redundant a.clause.now a.hashes.now in
+    let E : List NamedStep → Type 0 = λ es. es ≡ derived_steps s a.redundant a.clause.now a.hashes.now in
     let q = err_from_is_err_and c.from_residual.result c.from_residual.ensures.1 in
-    rw (q.1, q.2) (handed-refused P.took P.faulted T.took T.faulted ℕ e E (check s a.clause.now a.hashes.now accept) t (boxes_of a.processing.now)
+    rw (q.1, q.2) (delivered-refused P.took P.faulted T.took T.faulted ℕ e E (check s a.clause.now a.hashes.now accept) t (listeners_of a.processing.now)
     c.in_err-check_clause_with_hashes.ensures.quiet (steps-unchecked s a.redundant a.clause.now a.hashes.now) c.in_err-check_clause_with_hashes.ensures.answer)
 
 pub returns-in_err-emit_derived-in-Ok-clause-answer : goal.returns-in_err-emit_derived-in-Ok-clause-answer
@@ -38,21 +39,26 @@ returns-in_err-emit_derived-in-Ok-clause-answer g c =
     let a = c.args in let after = c.check_clause_with_hashes.new in let P = g.P.ProofProcessor in let T = g.T.ProofTranscriptProcessor in
     let s = state_of a.state.now a.hasher.now a.clauses.now a.variables.now in
     let ids = check_trace (ready s a.clause.now) a.clause.now a.hashes.now in
-    let seen = seen-where a.processing.now.processors.items c.is_empty-traced.result c.as_slice-propagations.result.now ids (c.is_empty-traced.ensures ∙ ap (λ n. n == 0) a.processing.now.processors.ok.0) (λ on. c.as_slice-propagations.ensures.value ∙ c.in_ok-check_clause_with_hashes.ensures.trace on) in
+    let seen = seen-where a.processing.now.processors.items c.is_empty-traced.result c.as_slice-propagations.result.now ids
+    (c.is_empty-traced.ensures ∙ ap (λ n. n == 0) a.processing.now.processors.ok.0)
+    (λ on. c.as_slice-propagations.ensures.value ∙ c.in_ok-check_clause_with_hashes.ensures.trace on) in
     let q = err_from_is_err_and c.from_residual-in_err-emit_derived-in-Ok.result c.from_residual-in_err-emit_derived-in-Ok.ensures.1 in
-    rw (q.1, q.2) (answers-fault P.took P.faulted T.took T.faulted (Unit {0}) ℕ c.in_err-emit_derived-in-Ok.field-0.0 _ _ _ (boxes_of a.processing.now) (boxes_of c.emit_derived.new.processing) (c.in_err-emit_derived-in-Ok.ensures ids seen))
+    rw (q.1, q.2) (answers-fault P.took P.faulted T.took T.faulted (Unit {0}) ℕ c.in_err-emit_derived-in-Ok.field-0.0 _ _ _
+    (listeners_of a.processing.now) (listeners_of c.emit_derived.new.processing) (c.in_err-emit_derived-in-Ok.ensures ids seen))
 
-pub returns-in_err-emit_derived-in-Ok-clause-handed : goal.returns-in_err-emit_derived-in-Ok-clause-handed
-returns-in_err-emit_derived-in-Ok-clause-handed g c =
+pub returns-in_err-emit_derived-in-Ok-clause-delivered : goal.returns-in_err-emit_derived-in-Ok-clause-delivered
+returns-in_err-emit_derived-in-Ok-clause-delivered g c =
     let a = c.args in let after = c.check_clause_with_hashes.new in let P = g.P.ProofProcessor in let T = g.T.ProofTranscriptProcessor in
     let s = state_of a.state.now a.hasher.now a.clauses.now a.variables.now in
     let t = state_of a.state.now after.hasher after.clauses after.variables in let u = state_of c.store_clause.new.state after.hasher c.store_clause.new.clauses after.variables in
     let ids = check_trace (ready s a.clause.now) a.clause.now a.hashes.now in
-    let seen = seen-where a.processing.now.processors.items c.is_empty-traced.result c.as_slice-propagations.result.now ids (c.is_empty-traced.ensures ∙ ap (λ n. n == 0) a.processing.now.processors.ok.0) (λ on. c.as_slice-propagations.ensures.value ∙ c.in_ok-check_clause_with_hashes.ensures.trace on) in
-    let E : List ShownStep → Type 0 = λ es. es ≡ derived_steps s a.redundant a.clause.now a.hashes.now in
+    let seen = seen-where a.processing.now.processors.items c.is_empty-traced.result c.as_slice-propagations.result.now ids
+    (c.is_empty-traced.ensures ∙ ap (λ n. n == 0) a.processing.now.processors.ok.0)
+    (λ on. c.as_slice-propagations.ensures.value ∙ c.in_ok-check_clause_with_hashes.ensures.trace on) in
+    let E : List NamedStep → Type 0 = λ es. es ≡ derived_steps s a.redundant a.clause.now a.hashes.now in
     let checked = c.in_ok-check_clause_with_hashes.ensures.answer in
     let q = err_from_is_err_and c.from_residual-in_err-emit_derived-in-Ok.result c.from_residual-in_err-emit_derived-in-Ok.ensures.1 in
-    rw (q.1, q.2) (handed-fault P.took P.faulted T.took T.faulted (Unit {0}) ℕ c.in_err-emit_derived-in-Ok.field-0.0 E _ (boxes_of a.processing.now) (boxes_of c.emit_derived.new.processing)
+    rw (q.1, q.2) (delivered-fault P.took P.faulted T.took T.faulted (Unit {0}) ℕ c.in_err-emit_derived-in-Ok.field-0.0 E _ (listeners_of a.processing.now) (listeners_of c.emit_derived.new.processing)
     (derived-steps s a.redundant a.clause.now a.hashes.now t checked.0 checked.1 u c.in-Ok.id c.in-Ok.did (c.in-Ok.ensures.answer after.variables)) (c.in_err-emit_derived-in-Ok.ensures ids seen))
 
 pub returns-in_ok-emit_derived-in-Ok-clause-answer : goal.returns-in_ok-emit_derived-in-Ok-clause-answer
@@ -63,13 +69,15 @@ returns-in_ok-emit_derived-in-Ok-clause-answer g c =
     let checked = c.in_ok-check_clause_with_hashes.ensures.answer in
     derived-answer s a.redundant a.clause.now a.hashes.now t checked.0 checked.1 u c.in-Ok.id c.in-Ok.did (c.in-Ok.ensures.answer after.variables)
 
-pub returns-in_ok-emit_derived-in-Ok-clause-handed : goal.returns-in_ok-emit_derived-in-Ok-clause-handed
-returns-in_ok-emit_derived-in-Ok-clause-handed g c =
+pub returns-in_ok-emit_derived-in-Ok-clause-delivered : goal.returns-in_ok-emit_derived-in-Ok-clause-delivered
+returns-in_ok-emit_derived-in-Ok-clause-delivered g c =
     let a = c.args in let after = c.check_clause_with_hashes.new in
     let s = state_of a.state.now a.hasher.now a.clauses.now a.variables.now in
     let t = state_of a.state.now after.hasher after.clauses after.variables in let u = state_of c.store_clause.new.state after.hasher c.store_clause.new.clauses after.variables in
     let ids = check_trace (ready s a.clause.now) a.clause.now a.hashes.now in
-    let seen = seen-where a.processing.now.processors.items c.is_empty-traced.result c.as_slice-propagations.result.now ids (c.is_empty-traced.ensures ∙ ap (λ n. n == 0) a.processing.now.processors.ok.0) (λ on. c.as_slice-propagations.ensures.value ∙ c.in_ok-check_clause_with_hashes.ensures.trace on) in
+    let seen = seen-where a.processing.now.processors.items c.is_empty-traced.result c.as_slice-propagations.result.now ids
+    (c.is_empty-traced.ensures ∙ ap (λ n. n == 0) a.processing.now.processors.ok.0)
+    (λ on. c.as_slice-propagations.ensures.value ∙ c.in_ok-check_clause_with_hashes.ensures.trace on) in
     let checked = c.in_ok-check_clause_with_hashes.ensures.answer in (
       stored_steps c.in-Ok.did after.variables c.in-Ok.id a.redundant a.clause.now ids,
       derived-steps s a.redundant a.clause.now a.hashes.now t checked.0 checked.1 u c.in-Ok.id c.in-Ok.did (c.in-Ok.ensures.answer after.variables),
@@ -85,13 +93,13 @@ returns-in-Err-clause-answer g c =
     answers-as (Unit {0}) ℕ c.store_refusal.result (derived s a.redundant a.clause.now a.hashes.now) u
     (answers-unstored s a.redundant a.clause.now a.hashes.now t checked.0 checked.1 u c.in-Err.fault c.store_refusal.result (c.in-Err.ensures.answer after.variables) c.store_refusal.ensures)
 
-pub returns-in-Err-clause-handed : goal.returns-in-Err-clause-handed
-returns-in-Err-clause-handed g c =
+pub returns-in-Err-clause-delivered : goal.returns-in-Err-clause-delivered
+returns-in-Err-clause-delivered g c =
     let a = c.args in let after = c.check_clause_with_hashes.new in let P = g.P.ProofProcessor in let T = g.T.ProofTranscriptProcessor in
     let s = state_of a.state.now a.hasher.now a.clauses.now a.variables.now in
     let t = state_of a.state.now after.hasher after.clauses after.variables in let u = state_of c.store_clause.new.state after.hasher c.store_clause.new.clauses after.variables in
-    let E : List ShownStep → Type 0 = λ es. es ≡ derived_steps s a.redundant a.clause.now a.hashes.now in
+    let E : List NamedStep → Type 0 = λ es. es ≡ derived_steps s a.redundant a.clause.now a.hashes.now in
     let checked = c.in_ok-check_clause_with_hashes.ensures.answer in
-    handed-refused P.took P.faulted T.took T.faulted ℕ c.store_refusal.result E (derived s a.redundant a.clause.now a.hashes.now) u (boxes_of a.processing.now)
+    delivered-refused P.took P.faulted T.took T.faulted ℕ c.store_refusal.result E (derived s a.redundant a.clause.now a.hashes.now) u (listeners_of a.processing.now)
     (quiet-unstored c.in-Err.fault u.steps c.store_refusal.result c.store_refusal.ensures) (steps-refused s a.redundant a.clause.now a.hashes.now)
     (answers-unstored s a.redundant a.clause.now a.hashes.now t checked.0 checked.1 u c.in-Err.fault c.store_refusal.result (c.in-Err.ensures.answer after.variables) c.store_refusal.ensures)

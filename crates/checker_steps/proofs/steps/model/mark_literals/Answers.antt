@@ -35,7 +35,9 @@ returns-in_err-mark_literal-clause-cause c st h =
     let ls = c.args.assignment.now in let rest = drop (c.loop-lit.lit-index + 1) ls in
     let cut = drop-at ls c.loop-lit.lit-index c.lit-item.result c.loop-lit-test.true c.lit-item.is in
     rw (p.1, p.2)
-    (cause-first (cause_of c.in_err-mark_literal.field-0.0) s (is_marked c.loop-lit.marks) c.lit-item.result rest _ (sym (ap (causes_from s (is_marked c.loop-lit.marks)) cut) ∙ c.loop-lit.invariant.same st h) (c.in_err-mark_literal.ensures.cause st h))
+    (cause-first (cause_of c.in_err-mark_literal.field-0.0) s (is_marked c.loop-lit.marks) c.lit-item.result rest _
+    (sym (ap (causes_from s (is_marked c.loop-lit.marks)) cut) ∙ c.loop-lit.invariant.same st h)
+    (c.in_err-mark_literal.ensures.cause st h))
 
 pub returns-clause-cause : goal.returns-clause-cause
 returns-clause-cause c st h =

@@ -7,9 +7,9 @@ use Rattle.checker_parts.specs.Causes.{cause_of}
 use Rattle.checker_parts.specs.declared.error.CheckCause.TheVariants.{ModelAfterUnsat}
 use Rattle.clause_store.specs.StateOf.{state_of}
 use Rattle.clause_store.proofs.RefusalLemmas.{answers-refusal}
-use Rattle.checker_steps.specs.Handed.{boxes_of}
-use Rattle.checker_steps.proofs.EmissionLemmas.{answers-hands, handed-refused}
-use Rattle.checker_steps.proofs.HandingLemmas.{handed-one}
+use Rattle.checker_steps.specs.Delivered.{listeners_of}
+use Rattle.checker_steps.proofs.EmissionLemmas.{answers-delivers, delivered-refused}
+use Rattle.checker_steps.proofs.DeliveryLemmas.{delivered-one}
 use Rattle.checker_steps.proofs.ModelLemmas.{model-accepts, model-emits, model-refuses, model-unsat}
 use Rattle.checker_steps.proofs.steps.model.model.Goals as goal
 
@@ -18,37 +18,39 @@ returns-then-ctx-clause-step g c =
     let ctx = c.args.ctx.now in
     let s = state_of ctx.checker_state ctx.clause_hasher ctx.clauses ctx.variables in
     let o = model-unsat s c.args.assignment.now c.if-ctx.true in
-    answers-refusal c.refusal.result s.steps ModelAfterUnsat model_after_unsat (step s (model c.args.assignment.now)) s c.refusal.ensures refl (ap (λ (x : Outcome). x.refused) o) (sym (ap (λ (x : Outcome). x.after) o)) refl
+    answers-refusal c.refusal.result s.steps ModelAfterUnsat model_after_unsat (step s (model c.args.assignment.now)) s c.refusal.ensures
+    refl (ap (λ (x : Outcome). x.refused) o) (sym (ap (λ (x : Outcome). x.after) o)) refl
 
-pub returns-then-ctx-clause-handed : goal.returns-then-ctx-clause-handed
-returns-then-ctx-clause-handed g c =
+pub returns-then-ctx-clause-delivered : goal.returns-then-ctx-clause-delivered
+returns-then-ctx-clause-delivered g c =
     let ctx = c.args.ctx.now in
     let s = state_of ctx.checker_state ctx.clause_hasher ctx.clauses ctx.variables in
-    handed-refused _ _ _ _ s s (model c.args.assignment.now) c.refusal.result s.steps ModelAfterUnsat (boxes_of ctx.processing) c.refusal.ensures (returns-then-ctx-clause-step g c) refl
+    delivered-refused _ _ _ _ s s (model c.args.assignment.now) c.refusal.result s.steps ModelAfterUnsat (listeners_of ctx.processing) c.refusal.ensures (returns-then-ctx-clause-step g c) refl
 
 pub returns-in-Ok-judged-clause-step : goal.returns-in-Ok-judged-clause-step
 returns-in-Ok-judged-clause-step g c =
     let ctx = c.args.ctx.now in
     let s = state_of ctx.checker_state ctx.clause_hasher ctx.clauses ctx.variables in
     let o = model-accepts s c.args.assignment.now c.if-ctx.false (c.in-Ok-judged.ensures ctx.clause_hasher) in
-    answers-hands _ _ _ _ _ _ _ c.emit_model.result (step s (model c.args.assignment.now)) s c.emit_model.ensures (ap (λ (x : Outcome). x.refused) o, sym (ap (λ (x : Outcome). x.after) o))
+    answers-delivers _ _ _ _ _ _ _ c.emit_model.result (step s (model c.args.assignment.now)) s c.emit_model.ensures (ap (λ (x : Outcome). x.refused) o, sym (ap (λ (x : Outcome). x.after) o))
 
-pub returns-in-Ok-judged-clause-handed : goal.returns-in-Ok-judged-clause-handed
-returns-in-Ok-judged-clause-handed g c =
+pub returns-in-Ok-judged-clause-delivered : goal.returns-in-Ok-judged-clause-delivered
+returns-in-Ok-judged-clause-delivered g c =
     let ctx = c.args.ctx.now in
     let s = state_of ctx.checker_state ctx.clause_hasher ctx.clauses ctx.variables in
     let o = model-accepts s c.args.assignment.now c.if-ctx.false (c.in-Ok-judged.ensures ctx.clause_hasher) in
-    handed-one _ _ _ _ (Emits s (model c.args.assignment.now)) _ _ _ c.emit_model.result (model-emits s c.args.assignment.now o) c.emit_model.ensures
+    delivered-one _ _ _ _ (Emits s (model c.args.assignment.now)) _ _ _ c.emit_model.result (model-emits s c.args.assignment.now o) c.emit_model.ensures
 
 pub returns-clause-step : goal.returns-clause-step
 returns-clause-step g c =
     let ctx = c.args.ctx.now in
     let s = state_of ctx.checker_state ctx.clause_hasher ctx.clauses ctx.variables in
     let r = model-refuses s c.args.assignment.now (cause_of c.in-Err.msg) c.if-ctx.false (c.in-Err.ensures ctx.clause_hasher) in
-    answers-refusal c.refusal-in-Err.result s.steps c.in-Err.msg (cause_of c.in-Err.msg) (step s (model c.args.assignment.now)) s c.refusal-in-Err.ensures refl (ap (λ (x : Outcome). x.refused) r) (sym (ap (λ (x : Outcome). x.after) r)) refl
+    answers-refusal c.refusal-in-Err.result s.steps c.in-Err.msg (cause_of c.in-Err.msg) (step s (model c.args.assignment.now)) s
+    c.refusal-in-Err.ensures refl (ap (λ (x : Outcome). x.refused) r) (sym (ap (λ (x : Outcome). x.after) r)) refl
 
-pub returns-clause-handed : goal.returns-clause-handed
-returns-clause-handed g c =
+pub returns-clause-delivered : goal.returns-clause-delivered
+returns-clause-delivered g c =
     let ctx = c.args.ctx.now in
     let s = state_of ctx.checker_state ctx.clause_hasher ctx.clauses ctx.variables in
-    handed-refused _ _ _ _ s s (model c.args.assignment.now) c.refusal-in-Err.result s.steps c.in-Err.msg (boxes_of ctx.processing) c.refusal-in-Err.ensures (returns-clause-step g c) refl
+    delivered-refused _ _ _ _ s s (model c.args.assignment.now) c.refusal-in-Err.result s.steps c.in-Err.msg (listeners_of ctx.processing) c.refusal-in-Err.ensures (returns-clause-step g c) refl

@@ -1,11 +1,12 @@
 use Rattle.std.proofs.Common.{drop}
-use Rattle.checker_steps.specs.Context.{IsKept, context_state}
-use Rattle.checker_steps.specs.Handed.{boxes_of}
+use Rattle.checker_steps.specs.Context.{ContextInvariant, context_state}
+use Rattle.checker_steps.specs.Delivered.{listeners_of}
 use Rattle.checker_steps.proofs.UnitsSoFar.{UnitsSoFar}
 use Rattle.checker_steps.proofs.steps.unit_clauses.unit_clauses.Given as goal
 
 abbrev pub invariant-loop-lit : goal.invariant-loop-lit
 invariant-loop-lit g l = record {
-  kept : IsKept l.ctx;
-  so_far : UnitsSoFar g.P.ProofProcessor.took g.T.ProofTranscriptProcessor.took (context_state l.fn.ctx) l.units (boxes_of l.fn.ctx.processing) (context_state l.ctx) (drop l.lit-index l.units) (boxes_of l.ctx.processing);
+  kept : ContextInvariant l.ctx;
+  so_far : UnitsSoFar g.P.ProofProcessor.took g.T.ProofTranscriptProcessor.took (context_state l.fn.ctx) l.units
+      (listeners_of l.fn.ctx.processing) (context_state l.ctx) (drop l.lit-index l.units) (listeners_of l.ctx.processing);
 }

@@ -9,7 +9,8 @@ use Rattle.clause_store.proofs.clauses.buckets.raise_in.Goals as goal
 pub returns-in-Some-raise-clause-found : goal.returns-in-Some-raise-clause-found
 returns-in-Some-raise-clause-found c =
     let d = c.index-bucket-at.result in
-    ap (λ x. Some (x.id, x.irredundant)) (sym c.index-bucket-at.is) ∙ sym (found_in-place c.args.buffer.now c.args.lits.now c.args.bucket.now c.in-Some.at d (sym c.in-Some.ensures) c.index-bucket-at.is)
+    ap (λ x. Some (x.id, x.irredundant)) (sym c.index-bucket-at.is) ∙ sym
+    (found_in-place c.args.buffer.now c.args.lits.now c.args.bucket.now c.in-Some.at d (sym c.in-Some.ensures) c.index-bucket-at.is)
 
 pub returns-in-Some-raise-clause-raised : goal.returns-in-Some-raise-clause-raised
 returns-in-Some-raise-clause-raised c =

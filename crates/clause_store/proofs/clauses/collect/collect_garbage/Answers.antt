@@ -19,7 +19,9 @@ move_clauses-requires-clause-within c =
 pub move_clauses-requires-clause-long : goal.move_clauses-requires-clause-long
 move_clauses-requires-clause-long c =
     let cs = c.args.clauses.now in let b = cs.literal_buffer.items in
-    let whole : list_all is_whole (map (stored_of b) c.in_ok-all.all.items) ≡ true = subst (λ es. list_all is_whole es ≡ true) (sym (c.in_ok-all.ensures.list c.args.hasher.now (stored_list cs) c.requires)) c.requires.whole in
+    let whole : list_all is_whole (map (stored_of b) c.in_ok-all.all.items) ≡ true =
+    subst (λ es. list_all is_whole es ≡ true) (sym (c.in_ok-all.ensures.list c.args.hasher.now (stored_list cs) c.requires))
+    c.requires.whole in
     subst (λ x. All (λ (d : Clause). 1 < length (lits_of d.lits x)) c.deref.result.now) (sym c.deref-2.ensures.value)
     (subst (All (λ (d : Clause). 1 < length (lits_of d.lits b))) (sym c.deref.ensures.value) (long_all b c.in_ok-all.all.items whole))
 
@@ -33,7 +35,8 @@ returns-clause-filed c =
       some_bits = c.requires.some_bits;
       bits = c.requires.bits;
       within = subst (λ b. AreWithin b m) c.deref-4.ensures.value c.in_ok-clauses.ensures.within;
-      bucketed = rebuilt_by (hash_of h) m es new c.deref-4.result.now c.in_ok-moved.moved.items c.deref-3.result.now c.deref-4.ensures.value c.deref-3.ensures.value (c.in_ok-moved.ensures.same ∙ all) c.in_ok-clauses.ensures.buckets;
+      bucketed = rebuilt_by (hash_of h) m es new c.deref-4.result.now c.in_ok-moved.moved.items c.deref-3.result.now c.deref-4.ensures.value
+          c.deref-3.ensures.value (c.in_ok-moved.ensures.same ∙ all) c.in_ok-clauses.ensures.buckets;
       rise = c.requires.rise;
       apart = c.requires.apart;
       whole = c.requires.whole;

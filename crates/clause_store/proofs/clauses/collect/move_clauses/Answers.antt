@@ -13,10 +13,13 @@ loop-clause-preserved c =
     let before : i < length all = omega arith in
     let lits : lits_of ls new ≡ lits_of x.lits b = e.ok ∙ c.slice.ensures in
     let longer : length old ≤ length new = omega (arith, e.buffer) in
-    let long : 1 < length c.slice.result.now = subst (λ n. 1 < n) (ap (λ (y : Clause). length (lits_of y.lits b)) (sym c.clause-item.is) ∙ ap length (sym c.slice.ensures)) (c.requires.long i x before) in
+    let long : 1 < length c.slice.result.now =
+    subst (λ n. 1 < n) (ap (λ (y : Clause). length (lits_of y.lits b)) (sym c.clause-item.is) ∙ ap length (sym c.slice.ensures))
+    (c.requires.long i x before) in
     let grown : length new ≡ length old + live_of (lits_of x.lits b) = e.buffer ∙ ap (λ n. length old + n) (e.used long ∙ ap live_of c.slice.ensures) in
     record {
       same = ap (map (stored_of new)) c.in_ok-push.ensures.items ∙ moved-same b old new all moved i x ls c.clause-item.is before e.kept lits v.within v.same;
-      within = subst (All (λ (d : Clause). IsWithin d.lits new)) (sym c.in_ok-push.ensures.items) (moved-within b old new all moved i x ls c.clause-item.is before e.kept lits v.within longer e.within);
+      within = subst (All (λ (d : Clause). IsWithin d.lits new)) (sym c.in_ok-push.ensures.items)
+          (moved-within b old new all moved i x ls c.clause-item.is before e.kept lits v.within longer e.within);
       used = moved-used b old new all moved i x ls c.clause-item.is before e.kept lits grown v.used;
     }

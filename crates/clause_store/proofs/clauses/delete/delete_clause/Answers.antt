@@ -7,7 +7,7 @@ use Rattle.clause_store.specs.Counts.{AreCounts}
 use Rattle.clause_store.specs.Delete.{Deletes}
 use Rattle.clause_store.specs.Lowered.{IsMissing}
 use Rattle.clause_store.specs.StateOf.{state_of}
-use Rattle.clause_store.specs.Store.{Files}
+use Rattle.clause_store.specs.Store.{IsIndexed}
 use Rattle.clause_store.specs.View.{stored_list}
 use Rattle.clause_store.proofs.DeletedLemmas.{both_rest, delete-no_copy, delete-unknown, deletes, state-unchanged, store-rest, store-unchanged}
 use Rattle.clause_store.proofs.EditLemmas.{stored_list-is}
@@ -15,14 +15,16 @@ use Rattle.clause_store.proofs.LongLemmas.{long_is}
 use Rattle.clause_store.proofs.clauses.delete.delete_clause.Goals as goal
 
 -- the counts are those of what is left
-counts_after : (cs taken after : Clauses) (es rest : List Stored) → after.unit_clauses ≡ cs.unit_clauses → after.lit_counts ≡ taken.lit_counts → es ≡ rest → AreCounts taken.lit_counts (length cs.unit_clauses) rest → AreCounts after.lit_counts (length after.unit_clauses) es
+counts_after : (cs taken after : Clauses) (es rest : List Stored) → after.unit_clauses ≡ cs.unit_clauses →
+    after.lit_counts ≡ taken.lit_counts → es ≡ rest → AreCounts taken.lit_counts (length cs.unit_clauses) rest →
+    AreCounts after.lit_counts (length after.unit_clauses) es
 counts_after cs taken after es rest units counts same a = subst (AreCounts after.lit_counts (length after.unit_clauses)) (sym same)
     (subst (λ us. AreCounts after.lit_counts (length us) rest) (sym units) (subst (λ (n : List ℕ). AreCounts n (length cs.unit_clauses) rest) (sym counts) a))
 
 pub collect_garbage-requires : goal.collect_garbage-requires
 collect_garbage-requires c =
     let h = c.args.hasher.now in let taken = c.take_copy.new.clauses in let es = remaining (map (lower c.args.redundant c.args.lits.now) (stored_list c.args.clauses.now)) in
-    subst (Files h taken) (sym (stored_list-is h taken es c.in-Ok.ensures.filed)) c.in-Ok.ensures.filed
+    subst (IsIndexed h taken) (sym (stored_list-is h taken es c.in-Ok.ensures.filed)) c.in-Ok.ensures.filed
 
 pub returns-in_ok-collect_garbage-in-Ok-clause-answer : goal.returns-in_ok-collect_garbage-in-Ok-clause-answer
 returns-in_ok-collect_garbage-in-Ok-clause-answer c st known =
@@ -36,7 +38,9 @@ returns-in_ok-collect_garbage-in-Ok-clause-store c =
     let h = c.args.hasher.now in let cs = c.args.clauses.now in let taken = c.take_copy.new.clauses in let after = c.collect_garbage.new.clauses in
     let p = c.in-Ok.ensures in let q = c.in_ok-collect_garbage-in-Ok.ensures in
     store-rest h cs after (stored_list taken) q.filed q.garbage (both_rest cs taken after p.rest q.rest)
-    (counts_after cs taken after (stored_list taken) (remaining (map (lower c.args.redundant c.args.lits.now) (stored_list cs))) (both_rest cs taken after p.rest q.rest).units q.counts (stored_list-is h taken (remaining (map (lower c.args.redundant c.args.lits.now) (stored_list cs))) p.filed) p.counts)
+    (counts_after cs taken after (stored_list taken) (remaining (map (lower c.args.redundant c.args.lits.now) (stored_list cs)))
+    (both_rest cs taken after p.rest q.rest).units q.counts
+    (stored_list-is h taken (remaining (map (lower c.args.redundant c.args.lits.now) (stored_list cs))) p.filed) p.counts)
     c.requires.store
 
 pub returns-in-Err-Clause-clause-answer : goal.returns-in-Err-Clause-clause-answer

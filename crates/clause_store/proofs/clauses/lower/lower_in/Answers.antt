@@ -52,8 +52,12 @@ returns-else-is_gone-clause-lowered c =
     let at : position (is_of b ls) cs ≡ Some i = sym (c.in-Some.ensures ∙ ap (position (is_of b ls)) c.as_slice.ensures) in
     let here : d ≡ get_or cs i d = c.index-as_slice-at.is ∙ ap (λ xs. get_or xs i d) c.as_slice-2.ensures in
     let kept : is_gone (left_of clause) ≡ false = ap is_gone (sym c.left_of-left.ensures) ∙ sym c.is_gone.ensures ∙ c.if-is_gone.false in
-    let written : refill (length cs) cs c.replace.new.bucket ≡ set cs i clause = ap (refill (length cs) cs) (c.replace.ensures ∙ ap (λ xs. set xs i clause) c.as_mut_slice.ensures.value) ∙ refill-all cs (set cs i clause) (length-set cs i clause) in
-    let inside : IsWithin clause.lits b = subst (λ (x : Clause). IsWithin x.lits b) (sym c.in-Some-lower.ensures.1) (lowered_within b r d (subst (λ (x : Clause). IsWithin x.lits b) (sym here) (c.requires.within i d (position-Some (is_of b ls) cs i d at).0))) in
+    let written : refill (length cs) cs c.replace.new.bucket ≡ set cs i clause =
+    ap (refill (length cs) cs) (c.replace.ensures ∙ ap (λ xs. set xs i clause) c.as_mut_slice.ensures.value) ∙ refill-all cs
+    (set cs i clause) (length-set cs i clause) in
+    let inside : IsWithin clause.lits b = subst (λ (x : Clause). IsWithin x.lits b) (sym c.in-Some-lower.ensures.1)
+    (lowered_within b r d (subst (λ (x : Clause). IsWithin x.lits b) (sym here)
+    (c.requires.within i d (position-Some (is_of b ls) cs i d at).0))) in
     record {
       here = ap (map (stored_of b)) written ∙ lowered-place b ls cs i d at here r clause c.in-Some-lower.ensures.1 kept c.requires.apart c.requires.whole;
       within = subst (All P) (sym written) (All-set P cs i clause inside c.requires.within);

@@ -1,11 +1,12 @@
-use Rattle.std.proofs.Common.{◌≡◌, Bool, true, false, cond, eqb, List, [], ◌∷◌, map, All, refl, sym, ap, ◌∙◌, subst, arith}
+use Rattle.std.proofs.Common.{◌≡◌, ℕ, ◌+◌, ◌<◌, Bool, true, false, cond, eqb, List, [], ◌∷◌, ◌++◌, append-nil, length, take, get_or, map, All, ⊎_elim, refl, sym, ap, ◌∙◌, subst, arith}
+use Rattle.std.proofs.lemmas.Bool.{cases_eq, eq-eqb, ne_eqb}
 use Rattle.std.specs.List.{filter}
-use Rattle.std.proofs.lemmas.List.{take_all}
-use Rattle.std.proofs.lemmas.List.Elements.{All-filter}
+use Rattle.std.proofs.lemmas.List.{take_all, take_more}
+use Rattle.std.proofs.lemmas.List.Elements.{All-filter, filter-append}
 use Rattle.checker_rules.specs.State.{Stored}
 use Rattle.clause_store.specs.declared.clauses.Clause.{Clause}
-use Rattle.clause_store.specs.Buckets.{has_hash}
-use Rattle.clause_store.specs.Lits.{IsWithin}
+use Rattle.clause_store.specs.Buckets.{clauses_at, has_hash}
+use Rattle.clause_store.specs.Lits.{IsWithin, lits_of}
 use Rattle.clause_store.specs.StateOf.{hash_of}
 use Rattle.clause_store.specs.View.{stored_of}
 use Rattle.clause_store.proofs.clauses.rebuild.rebuild.Goals as goal
@@ -28,3 +29,23 @@ returns-clause-within c k =
     let h = hash_of c.args.hasher.now in let b = c.args.buffer.now in let all = c.args.all.now in
     subst (All (λ d. IsWithin d.lits b)) (sym (c.loop-clause.invariant k ∙ ap (filter (has_hash h b k)) (take_all c.loop-clause.clause-index all (omega arith))))
     (All-filter (has_hash h b k) (λ (d : Clause). IsWithin d.lits b) all c.requires.within)
+
+-- one clause more stands in the bucket of its hash
+bucket-step : (f : Clause → ℕ) (all : List Clause) (i : ℕ) (x : Clause) (old new : ℕ → List Clause) (hash : ℕ) → i < length all →
+    x ≡ get_or all i x → hash ≡ f x → ((k : ℕ) → old k ≡ filter (λ c. eqb (f c) k) (take i all))
+    → new hash ≡ old hash ++ x ∷ [] → ((k : ℕ) → (k ≡ hash → ⊥) → new k ≡ old k) → (k : ℕ) → new k ≡ filter (λ c. eqb (f c) k) (take (i + 1) all)
+bucket-step f all i x old new hash less is at same pushed others k =
+    let p : Clause → Bool = λ c. eqb (f c) k in
+    let cut : take (i + 1) all ≡ take i all ++ x ∷ [] = take_more all i x less ∙ ap (λ y. take i all ++ y ∷ []) (sym is) in
+    ⊎_elim {C = new k ≡ filter p (take i all) ++ filter p (x ∷ [])}
+    (λ (e : k ≡ hash). ap new e ∙ pushed ∙ ap (λ j. old j ++ x ∷ []) (sym e) ∙ ap (λ ys. ys ++ x ∷ []) (same k) ∙ sym
+    (ap (λ b. filter p (take i all) ++ cond b (x ∷ []) []) (eq-eqb (f x) k (sym at ∙ sym e))))
+    (λ (ne : k ≡ hash → ⊥). others k ne ∙ same k ∙ sym (append-nil (filter p (take i all))) ∙ sym (ap (λ b. filter p (take i all) ++ cond b (x ∷ []) []) (ne_eqb (f x) k (λ g. ne (sym g ∙ sym at)))))
+    (cases_eq k hash) ∙ sym (ap (filter p) cut ∙ filter-append p (take i all) (x ∷ []))
+
+pub loop-clause-preserved : goal.loop-clause-preserved
+loop-clause-preserved c =
+    let h = hash_of c.args.hasher.now in let b = c.args.buffer.now in
+    bucket-step (λ d. h (lits_of d.lits b)) c.args.all.now c.loop-clause.clause-index c.clause-item.result
+    (clauses_at c.loop-clause.buckets) (clauses_at c.push_clause.new.buckets) c.clause_hash-hash.result
+    c.loop-clause-test.true c.clause-item.is (c.clause_hash-hash.ensures ∙ ap h c.slice.ensures) c.loop-clause.invariant c.in_ok-push_clause.ensures.pushed c.in_ok-push_clause.ensures.others

@@ -29,7 +29,9 @@ returns c =
     let longer : length old ≤ length new = let q = ap length same_buffer in omega (arith, e.buffer, q) in
     let d = first_copy_of r c.in-Some.id c.in_ok-kept.kept in
     let here : IsWithin d.lits new = e.within in
-    let pushed : clauses_at n hash ≡ clauses_at m hash ++ d ∷ [] = p.pushed ∙ ap (λ b. clauses_at b hash ++ c.first_copy-clause.result ∷ []) same_buckets ∙ ap (λ (y : Clause). clauses_at m hash ++ y ∷ []) c.first_copy-clause.ensures in
+    let pushed : clauses_at n hash ≡ clauses_at m hash ++ d ∷ [] =
+    p.pushed ∙ ap (λ b. clauses_at b hash ++ c.first_copy-clause.result ∷ []) same_buckets ∙ ap
+    (λ (y : Clause). clauses_at m hash ++ y ∷ []) c.first_copy-clause.ensures in
     let others : (k : ℕ) → (k ≡ hash → ⊥) → clauses_at n k ≡ clauses_at m k = λ k ne. p.others k ne ∙ ap (λ b. clauses_at b k) same_buckets in
     let stored : stored_of new d ≡ new_stored r c.args.lits.now cs.next_clause_id = ap (λ ls. new_stored r ls c.in-Some.id) e.ok ∙ ap (new_stored r c.args.lits.now) c.in-Some.ensures.id.1 in (
       c.in-Some.ensures.id.0,

@@ -13,7 +13,8 @@ returns-clause-answer c h known redundant kept =
     let st = c.args.state.now in let cs = c.args.clauses.now in let s = state_of st h cs known in
     let e = c.in-Some.ensures in
     subst (λ (x : Clauses). Stores [] redundant s (state_of (record st { unsat = true }) h x known) c.in-Some.id New) (sym e.taken)
-    (subst (λ n. Stores [] redundant s (record s { unsat = true; next = s.next + 1 }) n New) (sym e.id.1) (empty-stored redundant s e.id.0 (few-short h cs (stored_list cs) kept.filed redundant [] refl)))
+    (subst (λ n. Stores [] redundant s (record s { unsat = true; next = s.next + 1 }) n New) (sym e.id.1)
+    (empty-stored redundant s e.id.0 (few-short h cs (stored_list cs) kept.filed redundant [] refl)))
 
 pub returns-clause-store : goal.returns-clause-store
 returns-clause-store c h kept =

@@ -29,14 +29,17 @@ returns-in-None-clause-answer c h known redundant kept =
     let none : unit_of s.units (var_of l) ≡ None = unit_is cs.unit_clauses None c.index.result (l / 2) c.in-None.ensures c.index.ensures.value in
     let u : State = record s { units = set s.units (var_of l) (Some (record { value = not (is_negative l); id = s.next })); next = s.next + 1 } in
     answers-new c.put_unit.result (l ∷ []) redundant s (state_of st h c.put_unit.new.clauses known) u e.answer e.exhausted
-    (on_ok_weaker c.put_unit.result (λ q. ap (λ x. state_of st h x known) q ∙ ap (λ us. record s { units = us; next = s.next + 1 }) (stored_units-set cs.unit_clauses (l / 2) (unit_for l cs.next_clause_id))) e.stored)
+    (on_ok_weaker c.put_unit.result (λ q. ap (λ x. state_of st h x known) q ∙ ap (λ us. record s { units = us; next = s.next + 1 })
+    (stored_units-set cs.unit_clauses (l / 2) (unit_for l cs.next_clause_id))) e.stored)
     (on_err_weaker c.put_unit.result (λ q. ap (λ x. state_of st h x known) q) e.unchanged)
     (ap (λ o. makes_true o l) none) (unit-new l redundant s (few-short h cs (stored_list cs) kept.filed redundant (l ∷ []) refl) none)
 
 pub returns-in-None-clause-store : goal.returns-in-None-clause-store
 returns-in-None-clause-store c h kept =
     let cs = c.args.clauses.now in let l = c.args.lit in let res = c.put_unit.result in
-    let next = is_store-units h cs (slice_set cs.unit_clauses (l / 2) (Some (unit_for l cs.next_clause_id))) cs.unit_conflict (cs.next_clause_id + 1) (omega arith) (list_all-set is_stored_unit cs.unit_clauses (l / 2) (Some (unit_for l cs.next_clause_id)) refl kept.units) (length-set cs.unit_clauses (l / 2) (Some (unit_for l cs.next_clause_id))) kept in
+    let next = is_store-units h cs (slice_set cs.unit_clauses (l / 2) (Some (unit_for l cs.next_clause_id))) cs.unit_conflict
+    (cs.next_clause_id + 1) (omega arith) (list_all-set is_stored_unit cs.unit_clauses (l / 2) (Some (unit_for l cs.next_clause_id))
+    refl kept.units) (length-set cs.unit_clauses (l / 2) (Some (unit_for l cs.next_clause_id))) kept in
     either_way res (on_ok_weaker res (λ q. subst (IsStore h) (sym q) next) c.put_unit.ensures.stored) (on_err_weaker res (λ q. subst (IsStore h) (sym q) kept) c.put_unit.ensures.unchanged)
 
 pub returns-then-unit-is_positive-clause-answer : goal.returns-then-unit-is_positive-clause-answer
@@ -49,11 +52,13 @@ returns-then-unit-is_positive-clause-answer c h known redundant kept =
 
 pub returns-else-unit-is_positive-clause-answer : goal.returns-else-unit-is_positive-clause-answer
 returns-else-unit-is_positive-clause-answer c h known redundant kept =
-    let st = c.args.state.now in let cs = c.args.clauses.now in let l = c.args.lit in let s = state_of st h cs known in let u = c.in-Some.unit in let e = c.put_conflict.ensures in let res = c.put_conflict.result in
+    let st = c.args.state.now in let cs = c.args.clauses.now in let l = c.args.lit in let s = state_of st h cs known in let u =
+    c.in-Some.unit in let e = c.put_conflict.ensures in let res = c.put_conflict.result in
     let here : unit_of s.units (var_of l) ≡ Some (stored_unit u) = unit_is cs.unit_clauses (Some u) c.index.result (l / 2) c.in-Some.ensures c.index.ensures.value in
     let other : same_bool u.value (not (is_negative l)) ≡ false = same_is u.value c.is_positive.result false (not (is_negative l)) c.if-unit-is_positive.false c.is_positive.ensures in
     let t : State = record s { unsat = true; conflict = Some (id_of_unit u.id, s.next); next = s.next + 1 } in
-    let clauses_are = on_ok_weaker res (λ q. ap (λ x. state_of (record st { unsat = true }) h x known) q ∙ ap (λ n. record s { unsat = true; conflict = Some (n, s.next); next = s.next + 1 }) c.global_id-stored.ensures) e.stored in
+    let clauses_are = on_ok_weaker res (λ q. ap (λ x. state_of (record st { unsat = true }) h x known) q ∙ ap
+    (λ n. record s { unsat = true; conflict = Some (n, s.next); next = s.next + 1 }) c.global_id-stored.ensures) e.stored in
     answers-new res (l ∷ []) redundant s (state_of c.put_conflict.new.state h c.put_conflict.new.clauses known) t e.answer e.exhausted
     (both_ok res (λ p q. ap (λ x. state_of x h c.put_conflict.new.clauses known) p ∙ q) e.unsat clauses_are)
     (on_err_weaker res (λ q. ap (λ x. state_of c.put_conflict.new.state h x known) q.0 ∙ ap (λ x. state_of x h cs known) q.1) e.unchanged)

@@ -20,25 +20,47 @@ check_clause-requires-clause-all_known c =
 pub returns-in-Passed-clause-answer : goal.returns-in-Passed-clause-answer
 returns-in-Passed-clause-answer c =
     let s = state_of c.args.state.now c.args.hasher.now c.args.clauses.now c.args.variables.now in
-    let passes = subst (λ (a : Answer). AnswersCheck (ready s c.args.lits.now) c.args.lits.now c.args.hashes.now a) c.in-Passed.is (ready-answers c.args.state.now c.make_ready.new.hasher c.make_ready.new.clauses c.make_ready.new.variables c.as_slice.result.now c.args.lits.now c.args.hashes.now c.in-Ok-check_clause.answer s c.in-Ok.ensures.store c.requires.kept.sound c.in-Ok.ensures.state c.requires.no_tautology c.as_slice.ensures.value c.in-Ok-check_clause.ensures.answer) in
-    let o = check-passed s c.args.lits.now c.args.hashes.now passes in
-    (ap (λ (x : Outcome). x.refused) o, same-units c.args.state.now c.make_ready.new.hasher c.make_ready.new.clauses c.make_ready.new.variables c.check_clause.new.units (ready s c.args.lits.now) c.in-Ok-check_clause.ensures.units c.in-Ok.ensures.state ∙ sym (ap (λ (x : Outcome). x.after) o))
+    let passes = subst (λ (a : Answer). AnswersCheck (ready s c.args.lits.now) c.args.lits.now c.args.hashes.now a) c.in-Passed.is
+    (ready-answers c.args.state.now c.make_ready.new.hasher c.make_ready.new.clauses c.make_ready.new.variables c.as_slice.result.now
+    c.args.lits.now c.args.hashes.now c.in-Ok-check_clause.answer s c.in-Ok.ensures.store c.requires.kept.sound c.in-Ok.ensures.state
+    c.requires.no_tautology c.as_slice.ensures.value c.in-Ok-check_clause.ensures.answer) in
+    let o = check-passed s c.args.lits.now c.args.hashes.now passes in (
+      ap (λ (x : Outcome). x.refused) o,
+      same-units c.args.state.now c.make_ready.new.hasher c.make_ready.new.clauses
+          c.make_ready.new.variables c.check_clause.new.units (ready s c.args.lits.now) c.in-Ok-check_clause.ensures.units
+          c.in-Ok.ensures.state ∙ sym (ap (λ (x : Outcome). x.after) o),
+    )
 
 pub returns-in-Passed-clause-trace : goal.returns-in-Passed-clause-trace
 returns-in-Passed-clause-trace c = λ traced.
     let s = state_of c.args.state.now c.args.hasher.now c.args.clauses.now c.args.variables.now in
-    ready-trace c.args.state.now c.make_ready.new.hasher c.make_ready.new.clauses c.make_ready.new.variables c.as_slice.result.now c.args.lits.now c.args.hashes.now c.args.rup.now.trace_ids.items c.check_clause.new.rup.trace_ids.items c.in-Ok-check_clause.answer c.args.traced s c.in-Ok.ensures.store c.in-Ok.ensures.state c.as_slice.ensures.value c.in-Passed.is traced c.in-Ok-check_clause.ensures.trace_ids
+    ready-trace c.args.state.now c.make_ready.new.hasher c.make_ready.new.clauses c.make_ready.new.variables c.as_slice.result.now
+    c.args.lits.now c.args.hashes.now c.args.rup.now.trace_ids.items c.check_clause.new.rup.trace_ids.items c.in-Ok-check_clause.answer
+    c.args.traced s c.in-Ok.ensures.store c.in-Ok.ensures.state c.as_slice.ensures.value c.in-Passed.is traced
+    c.in-Ok-check_clause.ensures.trace_ids
 
 pub returns-in-NoClauseForHash-clause-answer : goal.returns-in-NoClauseForHash-clause-answer
 returns-in-NoClauseForHash-clause-answer c =
     let s = state_of c.args.state.now c.args.hasher.now c.args.clauses.now c.args.variables.now in
-    let misses = subst (λ (a : Answer). AnswersCheck (ready s c.args.lits.now) c.args.lits.now c.args.hashes.now a) c.in-NoClauseForHash.is (ready-answers c.args.state.now c.make_ready.new.hasher c.make_ready.new.clauses c.make_ready.new.variables c.as_slice.result.now c.args.lits.now c.args.hashes.now c.in-Ok-check_clause.answer s c.in-Ok.ensures.store c.requires.kept.sound c.in-Ok.ensures.state c.requires.no_tautology c.as_slice.ensures.value c.in-Ok-check_clause.ensures.answer) in
+    let misses = subst (λ (a : Answer). AnswersCheck (ready s c.args.lits.now) c.args.lits.now c.args.hashes.now a) c.in-NoClauseForHash.is
+    (ready-answers c.args.state.now c.make_ready.new.hasher c.make_ready.new.clauses c.make_ready.new.variables c.as_slice.result.now
+    c.args.lits.now c.args.hashes.now c.in-Ok-check_clause.answer s c.in-Ok.ensures.store c.requires.kept.sound c.in-Ok.ensures.state
+    c.requires.no_tautology c.as_slice.ensures.value c.in-Ok-check_clause.ensures.answer) in
     let o = check-no_clause s c.args.lits.now c.args.hashes.now misses.0 misses.1 in
-    answers-refusal c.refusal.result c.args.state.now.step NoClauseForHash no_clause_for_hash _ _ c.refusal.ensures refl (ap (λ (x : Outcome). x.refused) o) (same-units c.args.state.now c.make_ready.new.hasher c.make_ready.new.clauses c.make_ready.new.variables c.check_clause.new.units (ready s c.args.lits.now) c.in-Ok-check_clause.ensures.units c.in-Ok.ensures.state ∙ sym (ap (λ (x : Outcome). x.after) o)) refl
+    answers-refusal c.refusal.result c.args.state.now.step NoClauseForHash no_clause_for_hash _ _ c.refusal.ensures refl
+    (ap (λ (x : Outcome). x.refused) o) (same-units c.args.state.now c.make_ready.new.hasher c.make_ready.new.clauses
+    c.make_ready.new.variables c.check_clause.new.units (ready s c.args.lits.now) c.in-Ok-check_clause.ensures.units
+    c.in-Ok.ensures.state ∙ sym (ap (λ (x : Outcome). x.after) o)) refl
 
 pub returns-in-Failed-clause-answer : goal.returns-in-Failed-clause-answer
 returns-in-Failed-clause-answer c =
     let s = state_of c.args.state.now c.args.hasher.now c.args.clauses.now c.args.variables.now in
-    let fails = subst (λ (a : Answer). AnswersCheck (ready s c.args.lits.now) c.args.lits.now c.args.hashes.now a) c.in-Failed.is (ready-answers c.args.state.now c.make_ready.new.hasher c.make_ready.new.clauses c.make_ready.new.variables c.as_slice.result.now c.args.lits.now c.args.hashes.now c.in-Ok-check_clause.answer s c.in-Ok.ensures.store c.requires.kept.sound c.in-Ok.ensures.state c.requires.no_tautology c.as_slice.ensures.value c.in-Ok-check_clause.ensures.answer) in
+    let fails = subst (λ (a : Answer). AnswersCheck (ready s c.args.lits.now) c.args.lits.now c.args.hashes.now a) c.in-Failed.is
+    (ready-answers c.args.state.now c.make_ready.new.hasher c.make_ready.new.clauses c.make_ready.new.variables c.as_slice.result.now
+    c.args.lits.now c.args.hashes.now c.in-Ok-check_clause.answer s c.in-Ok.ensures.store c.requires.kept.sound c.in-Ok.ensures.state
+    c.requires.no_tautology c.as_slice.ensures.value c.in-Ok-check_clause.ensures.answer) in
     let o = check-failed s c.args.lits.now c.args.hashes.now fails.0 fails.1 in
-    answers-refusal c.refusal-in-Failed.result c.args.state.now.step AtCheckFailed at_check_failed _ _ c.refusal-in-Failed.ensures refl (ap (λ (x : Outcome). x.refused) o) (same-units c.args.state.now c.make_ready.new.hasher c.make_ready.new.clauses c.make_ready.new.variables c.check_clause.new.units (ready s c.args.lits.now) c.in-Ok-check_clause.ensures.units c.in-Ok.ensures.state ∙ sym (ap (λ (x : Outcome). x.after) o)) refl
+    answers-refusal c.refusal-in-Failed.result c.args.state.now.step AtCheckFailed at_check_failed _ _ c.refusal-in-Failed.ensures refl
+    (ap (λ (x : Outcome). x.refused) o) (same-units c.args.state.now c.make_ready.new.hasher c.make_ready.new.clauses
+    c.make_ready.new.variables c.check_clause.new.units (ready s c.args.lits.now) c.in-Ok-check_clause.ensures.units
+    c.in-Ok.ensures.state ∙ sym (ap (λ (x : Outcome). x.after) o)) refl

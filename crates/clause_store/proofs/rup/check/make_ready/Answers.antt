@@ -10,4 +10,6 @@ ensure_vars-requires c =
 
 pub returns-clause-store : goal.returns-clause-store
 returns-clause-store c =
-    on_ok_weaker c.ensure_vars.result (λ grown. is_store-known c.var_bound.result c.apply_pending_names.new.hasher c.apply_pending_names.new.clauses c.ensure_vars.new.clauses c.args.variables.now c.ensure_vars.new.variables grown c.in_ok-apply_pending_names.ensures.store) c.ensure_vars.ensures
+    on_ok_weaker c.ensure_vars.result (λ grown. is_store-known c.var_bound.result c.apply_pending_names.new.hasher
+    c.apply_pending_names.new.clauses c.ensure_vars.new.clauses c.args.variables.now c.ensure_vars.new.variables grown
+    c.in_ok-apply_pending_names.ensures.store) c.ensure_vars.ensures

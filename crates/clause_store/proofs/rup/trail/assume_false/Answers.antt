@@ -6,14 +6,16 @@ use Rattle.clause_store.proofs.TrailLemmas.{is_undoable_then}
 use Rattle.clause_store.proofs.rup.trail.assume_false.Goals as goal
 
 pub overwrite-requires-clause-known : goal.overwrite-requires-clause-known
-overwrite-requires-clause-known c = known-at c.args.lits.now c.loop-lit.lit-index c.lit-item.result (length c.loop-lit.units) (rw c.loop-lit.invariant.undoable.known c.requires.known) c.loop-lit-test.true c.lit-item.is
+overwrite-requires-clause-known c = known-at c.args.lits.now c.loop-lit.lit-index c.lit-item.result (length c.loop-lit.units)
+    (rw c.loop-lit.invariant.undoable.known c.requires.known) c.loop-lit-test.true c.lit-item.is
 
 pub loop-lit-preserved : goal.loop-lit-preserved
 loop-lit-preserved c =
     let us = c.loop-lit.units in let m = c.lit-item.result in let written = c.in_ok-overwrite.ensures.ok in
     let known = known-at c.args.lits.now c.loop-lit.lit-index m (length us) (rw c.loop-lit.invariant.undoable.known c.requires.known) c.loop-lit-test.true c.lit-item.is in
     record {
-      same = assume-step us _ _ c.args.lits.now c.loop-lit.lit-index m _ c.loop-lit-test.true c.lit-item.is known c.is_negative.ensures written c.requires.free c.requires.no_tautology c.loop-lit.invariant.same;
+      same = assume-step us _ _ c.args.lits.now c.loop-lit.lit-index m _ c.loop-lit-test.true c.lit-item.is known c.is_negative.ensures
+          written c.requires.free c.requires.no_tautology c.loop-lit.invariant.same;
       unlisted = unlisted-step us _ _ c.args.lits.now c.loop-lit.lit-index m _ c.loop-lit-test.true c.lit-item.is known refl written c.loop-lit.invariant.unlisted;
       kept = keeps-then _ us _ c.loop-lit.invariant.kept (subst (KeepsStored us) (sym written) (keeps-set us _ _ known refl));
       undoable = is_undoable_then _ _ _ _ _ _ c.loop-lit.invariant.undoable c.overwrite.ensures.undoable;

@@ -10,7 +10,9 @@ use Rattle.clause_store.proofs.rup.walk.visit_bucket.Given as goal
 abbrev pub invariant-loop-clause : goal.invariant-loop-clause
 invariant-loop-clause l = record {
   same : walk (true_lits l.units) (lits_in l.buffer (drop l.clause-index l.bucket)) ≡ walk (true_lits l.initial.units) (lits_in l.buffer l.bucket);
-  listed : IsTrue l.initial.run.traced → (rest : List Stored) → ids_after l.run.trace.items l.units (map (stored_of l.buffer) (drop l.clause-index l.bucket) ++ rest) ≡ ids_after l.initial.run.trace.items l.initial.units (map (stored_of l.buffer) l.bucket ++ rest);
+  listed : IsTrue l.initial.run.traced → (rest : List Stored) →
+      ids_after l.run.trace.items l.units (map (stored_of l.buffer) (drop l.clause-index l.bucket) ++ rest) ≡
+      ids_after l.initial.run.trace.items l.initial.units (map (stored_of l.buffer) l.bucket ++ rest);
   undoable : IsUndoable l.initial.units l.initial.run.trail.items l.units l.run.trail.items;
   traced : l.run.traced ≡ l.initial.run.traced;
 }

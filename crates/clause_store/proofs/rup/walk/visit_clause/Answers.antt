@@ -15,25 +15,33 @@ overwrite-requires-clause-known c =
 pub returns-in_ok-list_clause-in-Falsified-clause-listed : goal.returns-in_ok-list_clause-in-Falsified-clause-listed
 returns-in_ok-list_clause-in-Falsified-clause-listed c = λ traced.
     let e = stored_of c.args.buffer.now c.args.clause.now in
-    let seen = is_looked _ _ c.args.units.now c.list_units.new.units e _ _ c.slice-lits.ensures c.in-Falsified.ensures (c.in_ok-list_units.ensures.listed traced) c.list_units.ensures.kept c.list_units.ensures.true_lits in
+    let seen = is_looked _ _ c.args.units.now c.list_units.new.units e _ _ c.slice-lits.ensures c.in-Falsified.ensures
+    (c.in_ok-list_units.ensures.listed traced) c.list_units.ensures.kept c.list_units.ensures.true_lits in
     lists-falsified _ _ _ _ _ e seen (c.in_ok-list_clause-in-Falsified.ensures.listed (c.list_units.ensures.traced ∙ traced))
 
 pub returns-in_ok-overwrite-in-Unit-clause-ok : goal.returns-in_ok-overwrite-in-Unit-clause-ok
 returns-in_ok-overwrite-in-Unit-clause-ok c =
     let status = c.in-Unit.ensures ∙ ap (status_of (true_lits c.args.units.now)) c.slice-lits.ensures in
     let known : AreKnown c.list_units.new.units (lits_of c.args.clause.now.lits c.args.buffer.now) = rw c.list_units.ensures.undoable.known c.requires.known in
-    unit-step c.args.units.now _ _ c.in-Unit.lit status (unit-added c.args.units.now c.list_units.new.units _ _ c.in-Unit.lit _ known status c.list_units.ensures.true_lits c.is_positive.ensures c.in_ok-overwrite-in-Unit.ensures.ok)
+    unit-step c.args.units.now _ _ c.in-Unit.lit status
+    (unit-added c.args.units.now c.list_units.new.units _ _ c.in-Unit.lit _ known status c.list_units.ensures.true_lits
+    c.is_positive.ensures c.in_ok-overwrite-in-Unit.ensures.ok)
 
 pub returns-in_ok-overwrite-in-Unit-clause-listed : goal.returns-in_ok-overwrite-in-Unit-clause-listed
 returns-in_ok-overwrite-in-Unit-clause-listed c = λ traced.
     let e = stored_of c.args.buffer.now c.args.clause.now in
     let status = c.in-Unit.ensures ∙ ap (status_of (true_lits c.args.units.now)) c.slice-lits.ensures in
     let known : AreKnown c.list_units.new.units (lits_of c.args.clause.now.lits c.args.buffer.now) = rw c.list_units.ensures.undoable.known c.requires.known in
-    let seen = is_looked _ _ c.args.units.now c.list_units.new.units e _ _ c.slice-lits.ensures c.in-Unit.ensures (c.in_ok-list_units.ensures.listed traced) c.list_units.ensures.kept c.list_units.ensures.true_lits in
+    let seen = is_looked _ _ c.args.units.now c.list_units.new.units e _ _ c.slice-lits.ensures c.in-Unit.ensures
+    (c.in_ok-list_units.ensures.listed traced) c.list_units.ensures.kept c.list_units.ensures.true_lits in
     let added = unit-added c.args.units.now c.list_units.new.units _ _ c.in-Unit.lit _ known status c.list_units.ensures.true_lits c.is_positive.ensures c.in_ok-overwrite-in-Unit.ensures.ok in
     lists-unit _ _ _ _ _ _ e c.in-Unit.lit _ known seen (c.in_ok-list_clause-in-Unit.ensures.listed (c.list_units.ensures.traced ∙ traced)) refl added c.in_ok-overwrite-in-Unit.ensures.ok
 
 pub returns-in-Idle-clause-listed : goal.returns-in-Idle-clause-listed
 returns-in-Idle-clause-listed c = λ traced.
     let e = stored_of c.args.buffer.now c.args.clause.now in
-    lists-idle _ _ _ _ e (is_looked _ _ c.args.units.now c.list_units.new.units e _ _ c.slice-lits.ensures c.in-Idle.ensures (c.in_ok-list_units.ensures.listed traced) c.list_units.ensures.kept c.list_units.ensures.true_lits)
+    lists-idle _ _ _ _ e (is_looked _ _ c.args.units.now c.list_units.new.units e _ _ c.slice-lits.ensures c.in-Idle.ensures
+    (c.in_ok-list_units.ensures.listed traced) c.list_units.ensures.kept c.list_units.ensures.true_lits)
+
+pub clause_status-status-requires : goal.clause_status-status-requires
+clause_status-status-requires c = rw c.slice-lits.ensures c.requires.known

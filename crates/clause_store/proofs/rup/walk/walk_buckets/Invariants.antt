@@ -8,7 +8,9 @@ use Rattle.clause_store.proofs.rup.walk.walk_buckets.Given as goal
 abbrev pub invariant-loop-hash : goal.invariant-loop-hash
 invariant-loop-hash l = record {
   same : walk_buckets (true_lits l.units) (named_buckets l.buffer l.buckets (drop l.hash-index l.hashes)) ≡ walk_buckets (true_lits l.initial.units) (named_buckets l.buffer l.buckets l.hashes);
-  listed : IsTrue l.initial.run.traced → ids_after l.run.trace.items l.units (named_clauses l.buffer l.buckets (drop l.hash-index l.hashes)) ≡ ids_after l.initial.run.trace.items l.initial.units (named_clauses l.buffer l.buckets l.hashes);
+  listed : IsTrue l.initial.run.traced → ids_after l.run.trace.items l.units
+      (named_clauses l.buffer l.buckets (drop l.hash-index l.hashes)) ≡
+      ids_after l.initial.run.trace.items l.initial.units (named_clauses l.buffer l.buckets l.hashes);
   undoable : IsUndoable l.initial.units l.initial.run.trail.items l.units l.run.trail.items;
   traced : l.run.traced ≡ l.initial.run.traced;
 }

@@ -5,7 +5,10 @@ use Rattle.proof_bytes.proofs.StepFields.{only_fails, only_read, first_of_two, f
 use Rattle.proof_bytes.proofs.body.BodyReader.at_clause.Goals as goal
 
 pub returns-in_err-redundant : goal.returns-in_err-redundant
-returns-in_err-redundant g c = exits _ _ c.from_residual.ensures.1 (first_of_three_fails flag_at lits_at (hashes_at c.args.format) (λ x y z. at_clause x y z) c.in_err-redundant.ensures.0, c.in_err-redundant.ensures.1)
+returns-in_err-redundant g c = exits _ _ c.from_residual.ensures.1 (
+  first_of_three_fails flag_at lits_at (hashes_at c.args.format) (λ x y z. at_clause x y z) c.in_err-redundant.ensures.0,
+  c.in_err-redundant.ensures.1,
+)
 
 pub returns-in_err-lits : goal.returns-in_err-lits
 returns-in_err-lits g c =

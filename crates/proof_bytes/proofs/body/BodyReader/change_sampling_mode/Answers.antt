@@ -8,7 +8,11 @@ pub returns-in_err-var : goal.returns-in_err-var
 returns-in_err-var g c = exits _ _ c.from_residual.ensures.1 (first_of_two_fails var_at flag_at (λ x y. change_sampling_mode x y) c.in_err-var.ensures.0, c.in_err-var.ensures.1)
 
 pub returns-in_err-sample : goal.returns-in_err-sample
-returns-in_err-sample g c = exits _ _ c.from_residual-in_err-sample.ensures.1 (faults_on (first_of_two var_at flag_at (λ x y. change_sampling_mode x y) c.in_ok-var.ensures) (only_fails flag_at _ c.in_err-sample.ensures.0), c.in_err-sample.ensures.1)
+returns-in_err-sample g c = exits _ _ c.from_residual-in_err-sample.ensures.1 (
+  faults_on (first_of_two var_at flag_at (λ x y. change_sampling_mode x y) c.in_ok-var.ensures)
+      (only_fails flag_at _ c.in_err-sample.ensures.0),
+  c.in_err-sample.ensures.1,
+)
 
 pub returns : goal.returns
 returns g c = leads_on (first_of_two var_at flag_at (λ x y. change_sampling_mode x y) c.in_ok-var.ensures) (only_read flag_at _ c.in_ok-sample.ensures)

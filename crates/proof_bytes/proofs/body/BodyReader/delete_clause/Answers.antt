@@ -8,7 +8,11 @@ pub returns-in_err-proof : goal.returns-in_err-proof
 returns-in_err-proof g c = exits _ _ c.from_residual.ensures.1 (first_of_two_fails justification_at lits_at (λ x y. delete_clause x y) c.in_err-proof.ensures.0, c.in_err-proof.ensures.1)
 
 pub returns-in_err-lits : goal.returns-in_err-lits
-returns-in_err-lits g c = exits _ _ c.from_residual-in_err-lits.ensures.1 (faults_on (first_of_two justification_at lits_at (λ x y. delete_clause x y) c.in_ok-proof.ensures) (only_fails lits_at _ c.in_err-lits.ensures.0), c.in_err-lits.ensures.1)
+returns-in_err-lits g c = exits _ _ c.from_residual-in_err-lits.ensures.1 (
+  faults_on (first_of_two justification_at lits_at (λ x y. delete_clause x y) c.in_ok-proof.ensures)
+      (only_fails lits_at _ c.in_err-lits.ensures.0),
+  c.in_err-lits.ensures.1,
+)
 
 pub returns : goal.returns
 returns g c = leads_on (first_of_two justification_at lits_at (λ x y. delete_clause x y) c.in_ok-proof.ensures) (only_read lits_at _ c.in_ok-lits.ensures)

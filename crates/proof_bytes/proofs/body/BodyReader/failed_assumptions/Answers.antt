@@ -8,7 +8,11 @@ pub returns-in_err-lits : goal.returns-in_err-lits
 returns-in_err-lits g c = exits _ _ c.from_residual.ensures.1 (first_of_two_fails lits_at (hashes_at c.args.format) (λ x y. failed_assumptions x y) c.in_err-lits.ensures.0, c.in_err-lits.ensures.1)
 
 pub returns-in_err-hashes : goal.returns-in_err-hashes
-returns-in_err-hashes g c = exits _ _ c.from_residual-in_err-hashes.ensures.1 (faults_on (first_of_two lits_at (hashes_at c.args.format) (λ x y. failed_assumptions x y) c.in_ok-lits.ensures) (only_fails (hashes_at c.args.format) _ c.in_err-hashes.ensures.0), c.in_err-hashes.ensures.1)
+returns-in_err-hashes g c = exits _ _ c.from_residual-in_err-hashes.ensures.1 (
+  faults_on (first_of_two lits_at (hashes_at c.args.format) (λ x y. failed_assumptions x y) c.in_ok-lits.ensures)
+      (only_fails (hashes_at c.args.format) _ c.in_err-hashes.ensures.0),
+  c.in_err-hashes.ensures.1,
+)
 
 pub returns : goal.returns
 returns g c = leads_on (first_of_two lits_at (hashes_at c.args.format) (λ x y. failed_assumptions x y) c.in_ok-lits.ensures) (only_read (hashes_at c.args.format) _ c.in_ok-hashes.ensures)

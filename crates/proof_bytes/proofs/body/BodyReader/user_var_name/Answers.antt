@@ -8,7 +8,11 @@ pub returns-in_err-global : goal.returns-in_err-global
 returns-in_err-global g c = exits _ _ c.from_residual.ensures.1 (first_of_two_fails var_at name_at (λ x y. user_var_name x y) c.in_err-global.ensures.0, c.in_err-global.ensures.1)
 
 pub returns-in_err-user : goal.returns-in_err-user
-returns-in_err-user g c = exits _ _ c.from_residual-in_err-user.ensures.1 (faults_on (first_of_two var_at name_at (λ x y. user_var_name x y) c.in_ok-global.ensures) (only_fails name_at _ c.in_err-user.ensures.0), c.in_err-user.ensures.1)
+returns-in_err-user g c = exits _ _ c.from_residual-in_err-user.ensures.1 (
+  faults_on (first_of_two var_at name_at (λ x y. user_var_name x y) c.in_ok-global.ensures)
+      (only_fails name_at _ c.in_err-user.ensures.0),
+  c.in_err-user.ensures.1,
+)
 
 pub returns : goal.returns
 returns g c = leads_on (first_of_two var_at name_at (λ x y. user_var_name x y) c.in_ok-global.ensures) (only_read name_at _ c.in_ok-user.ensures)

@@ -11,13 +11,21 @@ pub items-init : goal.items-init
 items-init g c = rw c.clear.ensures.items (list_begins (hash_at c.args.format) c.in_ok-count.count _ (omega arith) c.in_ok-count.ensures)
 
 pub returns-in_err-hash : goal.returns-in_err-hash
-returns-in_err-hash g c = exits _ _ c.from_residual-in_err-hash.ensures.1 (item_fails _ (hash_at c.args.format) _ _ (c.in_ok-count.count - (c.items.counter + 1)) (omega arith) c.items.invariant c.in_err-hash.ensures.0, c.in_err-hash.ensures.1)
+returns-in_err-hash g c = exits _ _ c.from_residual-in_err-hash.ensures.1 (
+  item_fails _ (hash_at c.args.format) _ _ (c.in_ok-count.count - (c.items.counter + 1))
+      (omega arith) c.items.invariant c.in_err-hash.ensures.0,
+  c.in_err-hash.ensures.1,
+)
 
 pub items-preserved : goal.items-preserved
-items-preserved g c = rw c.in_ok-push.ensures.items (item_read _ (hash_at c.args.format) _ _ (c.in_ok-count.count - (c.items.counter + 1)) (omega arith) c.items.invariant c.in_ok-hash.hash c.in_ok-hash.ensures)
+items-preserved g c = rw c.in_ok-push.ensures.items
+    (item_read _ (hash_at c.args.format) _ _ (c.in_ok-count.count - (c.items.counter + 1)) (omega arith) c.items.invariant c.in_ok-hash.hash
+    c.in_ok-hash.ensures)
 
 pub returns : goal.returns
 returns g c = list_ends _ (hash_at c.args.format) _ _ (omega arith) c.items.invariant
 
 pub returns-in_err-push : goal.returns-in_err-push
-returns-in_err-push g c = exits _ _ c.from_residual-in_err-push.ensures.1 (no_memory (item_read _ (hash_at c.args.format) _ _ (c.in_ok-count.count - (c.items.counter + 1)) (omega arith) c.items.invariant c.in_ok-hash.hash c.in_ok-hash.ensures))
+returns-in_err-push g c = exits _ _ c.from_residual-in_err-push.ensures.1
+    (no_memory (item_read _ (hash_at c.args.format) _ _ (c.in_ok-count.count - (c.items.counter + 1))
+    (omega arith) c.items.invariant c.in_ok-hash.hash c.in_ok-hash.ensures))

@@ -5,4 +5,5 @@ use Rattle.proof_bytes.proofs.FieldLemmas.{with_front}
 use Rattle.proof_bytes.proofs.fields.Fields.hashes.Given as goal
 
 abbrev pub invariant-items : goal.invariant-items
-invariant-items g l = Leads (unread_fields g.R.Read.remaining l.fn.self) (unread_fields g.R.Read.remaining l.self) (list_at (hash_at l.format)) (λ more. with_front l.into.items (many_at (hash_at l.format) (l.count - l.counter) more))
+invariant-items g l = Leads (unread_fields g.R.Read.remaining l.fn.self) (unread_fields g.R.Read.remaining l.self)
+    (list_at (hash_at l.format)) (λ more. with_front l.into.items (many_at (hash_at l.format) (l.count - l.counter) more))

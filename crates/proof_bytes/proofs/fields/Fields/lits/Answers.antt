@@ -11,13 +11,21 @@ pub items-init : goal.items-init
 items-init g c = rw c.clear.ensures.items (list_begins (below_at (2 ^ 29)) c.in_ok-count.count _ (omega arith) c.in_ok-count.ensures)
 
 pub returns-in_err-lit : goal.returns-in_err-lit
-returns-in_err-lit g c = exits _ _ c.from_residual-in_err-lit.ensures.1 (item_fails _ (below_at (2 ^ 29)) _ _ (c.in_ok-count.count - (c.items.counter + 1)) (omega arith) c.items.invariant c.in_err-lit.ensures.0, c.in_err-lit.ensures.1)
+returns-in_err-lit g c = exits _ _ c.from_residual-in_err-lit.ensures.1 (
+  item_fails _ (below_at (2 ^ 29)) _ _ (c.in_ok-count.count - (c.items.counter + 1))
+      (omega arith) c.items.invariant c.in_err-lit.ensures.0,
+  c.in_err-lit.ensures.1,
+)
 
 pub items-preserved : goal.items-preserved
-items-preserved g c = rw c.in_ok-push.ensures.items (item_read _ (below_at (2 ^ 29)) _ _ (c.in_ok-count.count - (c.items.counter + 1)) (omega arith) c.items.invariant c.in_ok-lit.lit c.in_ok-lit.ensures)
+items-preserved g c = rw c.in_ok-push.ensures.items
+    (item_read _ (below_at (2 ^ 29)) _ _ (c.in_ok-count.count - (c.items.counter + 1)) (omega arith) c.items.invariant c.in_ok-lit.lit
+    c.in_ok-lit.ensures)
 
 pub returns : goal.returns
 returns g c = list_ends _ (below_at (2 ^ 29)) _ _ (omega arith) c.items.invariant
 
 pub returns-in_err-push : goal.returns-in_err-push
-returns-in_err-push g c = exits _ _ c.from_residual-in_err-push.ensures.1 (no_memory (item_read _ (below_at (2 ^ 29)) _ _ (c.in_ok-count.count - (c.items.counter + 1)) (omega arith) c.items.invariant c.in_ok-lit.lit c.in_ok-lit.ensures))
+returns-in_err-push g c = exits _ _ c.from_residual-in_err-push.ensures.1
+    (no_memory (item_read _ (below_at (2 ^ 29)) _ _ (c.in_ok-count.count - (c.items.counter + 1))
+    (omega arith) c.items.invariant c.in_ok-lit.lit c.in_ok-lit.ensures))

@@ -6,6 +6,7 @@ use Rattle.sat_hints.proofs.writer.LratWriter.push_hints.Given as goal
 
 abbrev pub invariant-loop-id : goal.invariant-loop-id
 invariant-loop-id l = record {
-  text : l.line.items ++ words_after_space (map decimal (map (number_of (writer_of l.self)) (drop l.id-index l.ids))) ≡ l.fn.line.items ++ words_after_space (map decimal (map (number_of (writer_of l.self)) l.ids));
+  text : l.line.items ++ words_after_space (map decimal (map (number_of (writer_of l.self)) (drop l.id-index l.ids))) ≡
+      l.fn.line.items ++ words_after_space (map decimal (map (number_of (writer_of l.self)) l.ids));
   fault : hints_fault (writer_of l.self) (drop l.id-index l.ids) ≡ hints_fault (writer_of l.self) l.ids;
 }

@@ -11,7 +11,8 @@ use Rattle.varisat_checker.proofs.checker.CheckerOfSelfChecker.self_check_delaye
 pub returns-else-fails-clause-headline : goal.returns-else-fails-clause-headline
 unfolding state
 returns-else-fails-clause-headline g c = λ running before fold.
-    sets_fold-closing (context_state c.args.self.now.ctx) before c.process_unit_conflicts-answer.result (context_state c.process_unit_conflicts-answer.new.ctx) (c.args.self.now.kept running).sound.good fold
+    sets_fold-closing (context_state c.args.self.now.ctx) before c.process_unit_conflicts-answer.result
+    (context_state c.process_unit_conflicts-answer.new.ctx) (c.args.self.now.kept running).sound.good fold
     (went-on c.process_unit_conflicts-answer.result _ _ (sym c.fails.ensures ∙ c.if-fails.false) c.process_unit_conflicts-answer.ensures.answer)
 
 pub returns-else-fails-clause-covers : goal.returns-else-fails-clause-covers

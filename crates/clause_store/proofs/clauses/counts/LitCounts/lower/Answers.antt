@@ -17,6 +17,7 @@ loop-lit-preserved c =
     let some = subst (λ n. 0 < n) next (c.requires.held (get_or lits i 0) (has-at lits i c.loop-lit-test.true)) in
     let taken = c.take_one.ensures ∙ ap (λ l. set now l (get_or now l 0 - 1)) (item_is lits i c.lit-item.result c.loop-lit-test.true c.lit-item.is) in
     record {
-      held = subst (λ (counts : List ℕ). HoldOneMore (take (i + 1) lits) counts c.args.self.now) (sym taken) (lowered-more lits i c.loop-lit-test.true c.requires.canonical c.args.self.now now some c.loop-lit.invariant.held);
+      held = subst (λ (counts : List ℕ). HoldOneMore (take (i + 1) lits) counts c.args.self.now) (sym taken)
+          (lowered-more lits i c.loop-lit-test.true c.requires.canonical c.args.self.now now some c.loop-lit.invariant.held);
       known = ap length taken ∙ length-set now (get_or lits i 0) (get_or now (get_or lits i 0) 0 - 1) ∙ c.loop-lit.invariant.known;
     }

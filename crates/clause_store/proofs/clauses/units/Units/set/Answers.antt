@@ -15,7 +15,8 @@ pub index_mut-requires-in-None : goal.index_mut-requires-in-None
 index_mut-requires-in-None c = rw c.self.inside.values.ok.0 (is_place _ _ _ _ _ c.self.invariant c.self.view_is c.requires).in_values
 
 pub returns-in-Some : goal.returns-in-Some
-returns-in-Some c = unit-write _ _ _ _ c.args.index c.of.result c.with_number-source.result.0 c.with_number-source.result.1 c.in-Some.unit c.args.unit c.self.invariant c.self.view_is c.of.ensures c.with_number-source.ensures c.in-Some.is
+returns-in-Some c = unit-write _ _ _ _ c.args.index c.of.result c.with_number-source.result.0 c.with_number-source.result.1 c.in-Some.unit
+    c.args.unit c.self.invariant c.self.view_is c.of.ensures c.with_number-source.ensures c.in-Some.is
 
 pub returns-in-None : goal.returns-in-None
 returns-in-None c =

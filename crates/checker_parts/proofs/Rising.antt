@@ -1,0 +1,37 @@
+-- Lists whose variables rise are canonical, and no tautologies.
+use Rattle.std.proofs.Common.{◌≡◌, ℕ, ◌<◌, Bool, true, false, ◌||◌, eqb, ltb, List, [], ◌∷◌, refl, sym, ap, ◌∙◌, arith, ltb-true}
+use Rattle.std.specs.List.{list_all}
+use Rattle.std.proofs.lemmas.Bool.{and_parts, and_from, lt-ltb, ne_eqb}
+use Rattle.checker_rules.specs.Canonical.{canonical}
+use Rattle.checker_rules.specs.Clauses.{is_canonical, is_tautology, var_of}
+use Rattle.checker_parts.specs.RisingVars.{has_rising_vars}
+use Rattle.checker_parts.proofs.CanonicalLists.{canonical_from, shares_var, shares_var-canonical}
+
+all_above : (k m : ℕ) (ms : List ℕ) → k < m → has_rising_vars (m ∷ ms) ≡ true → list_all (ltb k) (m ∷ ms) ≡ true
+all_above k m [] lt h = and_from (ltb k m) true (lt-ltb k m lt) refl
+all_above k m (n ∷ ns) lt h =
+    let p = and_parts (ltb (var_of m) (var_of n)) (has_rising_vars (n ∷ ns)) h in
+    let v = ltb-true (var_of m) (var_of n) p.0 in
+    and_from (ltb k m) (list_all (ltb k) (n ∷ ns)) (lt-ltb k m lt) (all_above k n ns (omega arith) p.1)
+
+pub rising_canonical : (c : List ℕ) → has_rising_vars c ≡ true → is_canonical c ≡ true
+rising_canonical [] h = refl
+rising_canonical (l ∷ []) h = refl
+rising_canonical (l ∷ m ∷ ms) h =
+    let p = and_parts (ltb (var_of l) (var_of m)) (has_rising_vars (m ∷ ms)) h in
+    let v = ltb-true (var_of l) (var_of m) p.0 in
+    and_from (list_all (ltb l) (m ∷ ms)) (is_canonical (m ∷ ms)) (all_above l m ms (omega arith) p.1) (rising_canonical (m ∷ ms) p.1)
+
+rising_apart : (c : List ℕ) → has_rising_vars c ≡ true → shares_var c ≡ false
+rising_apart [] h = refl
+rising_apart (l ∷ []) h = refl
+rising_apart (l ∷ m ∷ ms) h =
+    let p = and_parts (ltb (var_of l) (var_of m)) (has_rising_vars (m ∷ ms)) h in
+    let v = ltb-true (var_of l) (var_of m) p.0 in
+    ap (λ b. b || shares_var (m ∷ ms)) (ne_eqb (var_of l) (var_of m) (λ e. omega arith)) ∙ rising_apart (m ∷ ms) p.1
+
+pub rising_is : (c : List ℕ) → has_rising_vars c ≡ true → c ≡ canonical c
+rising_is c h = canonical_from c c (rising_canonical c h) (λ x. refl)
+
+pub rising_sound : (c : List ℕ) → has_rising_vars c ≡ true → false ≡ is_tautology (canonical c)
+rising_sound c h = sym (rising_apart c h) ∙ shares_var-canonical c (rising_canonical c h) ∙ ap is_tautology (rising_is c h)

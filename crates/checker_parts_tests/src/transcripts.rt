@@ -1,0 +1,62 @@
+//! Transcript steps of checked steps, also where they need memory.
+use crate::literals::{lits, var};
+use checker_parts::processor::CheckerData;
+use checker_parts::step::{
+    CheckedProofStep, CheckedSamplingMode, CheckedUserVar, ProofTranscriptStep,
+    ResolutionPropagations,
+};
+use checker_parts::transcript::Transcript;
+use checker_parts::variables::Variables;
+use std::test::Fail;
+
+#[test]
+fn clauses(rt: HostRuntime) -> Result<(), Fail> {
+    let alloc = rt.alloc();
+    let mut variables = Variables::new(alloc);
+    variables.know(2)?;
+    let _propagations = ResolutionPropagations {};
+    let clause = lits(alloc, &[1, -2])?;
+    let mut transcript = Transcript::new(alloc);
+    let step = CheckedProofStep::AddClause {
+        id: 0,
+        clause: &clause,
+    };
+    match transcript.transcript_step(&step, CheckerData(&variables))? {
+        Some(ProofTranscriptStep::AddClause { clause: told }) => {
+            assert_eq!(rt; told, clause.as_slice());
+        }
+        _ => assert!(rt; false),
+    }
+    let empty = CheckedProofStep::AtClause {
+        id: 1,
+        redundant: false,
+        clause: &[],
+        propagations: &[0],
+    };
+    let told = transcript.transcript_step(&empty, CheckerData(&variables))?;
+    assert!(rt; matches!(&told, Some(ProofTranscriptStep::Unsat)));
+    Ok(())
+}
+
+#[test]
+fn user_vars(rt: HostRuntime) -> Result<(), Fail> {
+    let alloc = rt.alloc();
+    let variables = Variables::new(alloc);
+    let _propagations = ResolutionPropagations {};
+    let mut transcript = Transcript::new(alloc);
+    let step = CheckedProofStep::UserVar {
+        var: var(0)?,
+        user_var: Some(CheckedUserVar {
+            user_var: var(1)?,
+            sampling_mode: CheckedSamplingMode::Witness,
+            new_var: true,
+        }),
+    };
+    match transcript.transcript_step(&step, CheckerData(&variables))? {
+        Some(ProofTranscriptStep::ObserveInternalVar { var: told }) => {
+            assert_eq!(rt; told.index(), 1);
+        }
+        _ => assert!(rt; false),
+    }
+    Ok(())
+}

@@ -1,0 +1,105 @@
+-- What a call delivers on, put together from the steps that it delivers on.
+use Rattle.std.proofs.Common.{◌≡◌, List, [], ◌∷◌, ◌++◌, Some, Result, Ok, Err, OnOk, IfErr, refl, sym, subst, append_assoc, inr}
+use Rattle.checker_rules.specs.CheckedSteps.{NamedStep}
+use Rattle.checker_rules.specs.Ran.{AllTook, OneFaulted}
+use Rattle.checker_rules.specs.Transcript.{TranscriptStep, image}
+use Rattle.checker_rules.proofs.RanLemmas.{both_ran_append, both_ran_line, both_ran_nil}
+use Rattle.checker_parts.specs.Errors.{IsFaultOrMemory}
+use Rattle.checker_parts.specs.declared.error.CheckerError.{CheckerError}
+use Rattle.checker_parts.specs.declared.error.CheckerError.TheVariants.{ProofIncomplete, IoError, ParseError, CheckFailed, ProofProcessorError, OutOfMemory, Failed}
+use Rattle.checker_steps.specs.Delivered.{Listeners, Delivered, DeliveredStep, DeliveredBeginning, DeliveredWhole, RanOver}
+
+-- the image is delivered to the transcripts, after every processor took the step
+pub delivers-image : {P T : Type 0} (took faulted : P → NamedStep → P → Type 0) (took_image faulted_image : T → TranscriptStep → T → Type 0)
+    (e : NamedStep) (t : TranscriptStep) (old new : Listeners P T) → AllTook took old.processors e new.processors → image e ≡ Some t →
+    (r : Result Unit CheckerError) → OnOk r (AllTook took_image old.transcripts t new.transcripts) →
+    IfErr r (λ x. IsFaultOrMemory x (OneFaulted took_image faulted_image old.transcripts t new.transcripts) ⊥) →
+    DeliveredStep r e took faulted took_image faulted_image old new
+delivers-image took faulted took_image faulted_image e t old new a i (Ok done) ok err = both_ran_line took took_image e t old.processors new.processors old.transcripts new.transcripts a i ok
+delivers-image took faulted took_image faulted_image e t old new a i (Err (ProofProcessorError cause)) ok err = inr (record { processors = a; transcribed = t; is_image = i; transcripts = err })
+delivers-image took faulted took_image faulted_image e t old new a i (Err OutOfMemory) ok err = tt
+delivers-image took faulted took_image faulted_image e t old new a i (Err (ProofIncomplete number)) ok err = err
+delivers-image took faulted took_image faulted_image e t old new a i (Err (IoError number cause)) ok err = err
+delivers-image took faulted took_image faulted_image e t old new a i (Err (ParseError number cause)) ok err = err
+delivers-image took faulted took_image faulted_image e t old new a i (Err (CheckFailed number cause debug_step)) ok err = err
+delivers-image took faulted took_image faulted_image e t old new a i (Err Failed) ok err = err
+
+pub fault-weaker : {P Q : Type 0} (R : Type 0) → (P → Q) → (e : CheckerError) → IsFaultOrMemory e P R → IsFaultOrMemory e Q R
+fault-weaker R f (ProofProcessorError cause) h = f h
+fault-weaker R f OutOfMemory h = h
+fault-weaker R f (ProofIncomplete number) h = h
+fault-weaker R f (IoError number cause) h = h
+fault-weaker R f (ParseError number cause) h = h
+fault-weaker R f (CheckFailed number cause debug_step) h = h
+fault-weaker R f Failed h = h
+
+module _ {P T : Type 0} (took faulted : P → NamedStep → P → Type 0) (took_image faulted_image : T → TranscriptStep → T → Type 0) where
+  -- nothing is delivered on
+  pub ran-none : (old : Listeners P T) → RanOver took took_image [] old old
+  ran-none old = both_ran_nil took took_image old.processors old.transcripts
+
+  pub ran-append : (es fs : List NamedStep) (x y z : Listeners P T) → RanOver took took_image es x y → RanOver took took_image fs y z → RanOver took took_image (es ++ fs) x z
+  ran-append es fs x y z a b = both_ran_append took took_image es fs x.processors y.processors z.processors x.transcripts y.transcripts z.transcripts a b
+
+  pub whole-none : (E : List NamedStep → Type 0) (old : Listeners P T) → E [] → DeliveredWhole E took took_image old old
+  whole-none E old h = ([], h, ran-none old)
+
+  -- one step that is the whole list
+  pub delivered-one : {A : Type 0} (E : List NamedStep → Type 0) (e : NamedStep) (old new : Listeners P T) (r : Result A CheckerError) →
+      E (e ∷ []) → DeliveredStep r e took faulted took_image faulted_image old new →
+      Delivered r E took faulted took_image faulted_image old new
+  delivered-one E e old new (Ok done) h a = (e ∷ [], h, a)
+  delivered-one E e old new (Err (ProofProcessorError cause)) h a = ([], e, [], h, (old.processors, old.transcripts, ran-none old, a))
+  delivered-one E e old new (Err OutOfMemory) h a = tt
+  delivered-one E e old new (Err (ProofIncomplete number)) h a = absurd a
+  delivered-one E e old new (Err (IoError number cause)) h a = absurd a
+  delivered-one E e old new (Err (ParseError number cause)) h a = absurd a
+  delivered-one E e old new (Err (CheckFailed number cause debug_step)) h a = absurd a
+  delivered-one E e old new (Err Failed) h a = absurd a
+
+  -- the lists of another kind
+  pub delivered-weaker : {A : Type 0} (E F : List NamedStep → Type 0) (old new : Listeners P T) (r : Result A CheckerError) →
+      ((es : List NamedStep) → E es → F es) → Delivered r E took faulted took_image faulted_image old new →
+      Delivered r F took faulted took_image faulted_image old new
+  delivered-weaker E F old new (Ok done) f a = (a.0, f a.0 a.1, a.2)
+  delivered-weaker E F old new (Err (CheckFailed number cause debug_step)) f a = (a.0, f a.0 a.1, a.2)
+  delivered-weaker E F old new (Err (ProofIncomplete number)) f a = (a.0, f a.0 a.1, a.2)
+  delivered-weaker E F old new (Err (IoError number cause)) f a = (a.0, f a.0 a.1, a.2)
+  delivered-weaker E F old new (Err (ParseError number cause)) f a = (a.0, f a.0 a.1, a.2)
+  delivered-weaker E F old new (Err (ProofProcessorError cause)) f a = (a.0, a.1, a.2, f (a.0 ++ a.1 ∷ a.2) a.3, a.4)
+  delivered-weaker E F old new (Err OutOfMemory) f a = tt
+  delivered-weaker E F old new (Err Failed) f a = a
+
+  -- a fault at the first of two parts
+  pub beginning-first : (E F : List NamedStep → Type 0) (rest : List NamedStep) (old new : Listeners P T) →
+      ((es : List NamedStep) → E es → F (es ++ rest)) → DeliveredBeginning E took faulted took_image faulted_image old new →
+      DeliveredBeginning F took faulted took_image faulted_image old new
+  beginning-first E F rest old new f a = (a.0, a.1, a.2 ++ rest, subst F (append_assoc a.0 (a.1 ∷ a.2) rest) (f (a.0 ++ a.1 ∷ a.2) a.3), a.4)
+
+  -- the first part, and a fault at the second
+  pub beginning-second : (E F : List NamedStep → Type 0) (first : List NamedStep) (old mid new : Listeners P T) →
+      RanOver took took_image first old mid → ((es : List NamedStep) → E es → F (first ++ es)) →
+      DeliveredBeginning E took faulted took_image faulted_image mid new →
+      DeliveredBeginning F took faulted took_image faulted_image old new
+  beginning-second E F first old mid new r f a =
+      let b = a.4 in (
+        first ++ a.0,
+        a.1,
+        a.2,
+        subst F (sym (append_assoc first a.0 (a.1 ∷ a.2))) (f (a.0 ++ a.1 ∷ a.2) a.3),
+        (b.0, b.1, both_ran_append took took_image first a.0 old.processors mid.processors b.0 old.transcripts mid.transcripts b.1 r b.2, b.3),
+      )
+
+  -- after a first part, a second one
+  pub delivered-second : {A : Type 0} (E F : List NamedStep → Type 0) (first : List NamedStep) (old mid new : Listeners P T)
+      (r : Result A CheckerError) → RanOver took took_image first old mid → ((es : List NamedStep) → E es → F (first ++ es)) →
+      (r ≡ Err Failed → ⊥) →
+      Delivered r E took faulted took_image faulted_image mid new → Delivered r F took faulted took_image faulted_image old new
+  delivered-second E F first old mid new (Ok done) a f n h = (first ++ h.0, f h.0 h.1, ran-append first h.0 old mid new a h.2)
+  delivered-second E F first old mid new (Err (CheckFailed number cause debug_step)) a f n h = (first ++ h.0, f h.0 h.1, ran-append first h.0 old mid new a h.2)
+  delivered-second E F first old mid new (Err (ProofIncomplete number)) a f n h = (first ++ h.0, f h.0 h.1, ran-append first h.0 old mid new a h.2)
+  delivered-second E F first old mid new (Err (IoError number cause)) a f n h = (first ++ h.0, f h.0 h.1, ran-append first h.0 old mid new a h.2)
+  delivered-second E F first old mid new (Err (ParseError number cause)) a f n h = (first ++ h.0, f h.0 h.1, ran-append first h.0 old mid new a h.2)
+  delivered-second E F first old mid new (Err (ProofProcessorError cause)) a f n h = beginning-second E F first old mid new a f h
+  delivered-second E F first old mid new (Err OutOfMemory) a f n h = tt
+  delivered-second E F first old mid new (Err Failed) a f n h = absurd (n refl)

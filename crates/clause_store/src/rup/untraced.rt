@@ -1,0 +1,199 @@
+//! The check that is not traced: it writes values alone, and only those of free variables.
+ghost use Rattle.std.specs.Prelude.{◌≡◌, ◌<◌, ◌∷◌, [], All, IfOk, None, false, length, OnOk};
+ghost use Rattle.checker_rules.specs.Clauses.{is_tautology, var_of};
+ghost use Rattle.checker_rules.specs.Passes as rules;
+ghost use Rattle.checker_rules.specs.State.{some_true_unit, start_set};
+ghost use Rattle.clause_store.specs.Buckets.{AreWithin};
+ghost use Rattle.clause_store.specs.Lits.{IsWithin, lits_of};
+ghost use Rattle.clause_store.specs.Rup.{AreAllKnown, Walks, check_answer, lits_in, named_buckets, true_lits};
+ghost use Rattle.clause_store.specs.StateOf.{stored_units};
+ghost use Rattle.clause_store.specs.Trail.{IsTrailFor, IsUndoable, freed, undone};
+ghost use Rattle.clause_store.specs.Units.{AreKnown, IsGiven, unit_at};
+
+use crate::clauses::Clause;
+use crate::clauses::buckets::Buckets;
+use crate::clauses::units::Units;
+use crate::rup::Answer;
+use crate::rup::status::{ClauseStatus, clause_status};
+use proof_bytes::hash::ClauseHash;
+use sat_formula::lit::Lit;
+use std::alloc::AllocError;
+
+/// The literals whose variables were given a value, the oldest first.
+pub type FreeTrail = Vec<Lit>;
+
+/// Gives a free variable a value, by which its literal is listed.
+#[inline]
+fn give(units: &mut Units, trail: &mut FreeTrail, lit: Lit, value: bool) -> Result<(), AllocError>
+    requires known { var_of lit < length units.old }
+    requires free { unit_at units.old (var_of lit) ≡ None }
+    requires trail { IsTrailFor units.old (freed trail.old.items) }
+    ensures ok { OnOk result (IsGiven units.old (var_of lit) value units.new) }
+    ensures undoable { IsUndoable units.old (freed trail.old.items)
+        units.new (freed trail.new.items) }
+{
+    trail.push(lit)?;
+    units.give(lit.index(), value);
+    Ok(())
+}
+
+/// Takes every literal as false.
+fn assume_free(units: &mut Units, trail: &mut FreeTrail, lits: &[Lit]) -> Result<(), AllocError>
+    requires known { AreKnown units.old lits.now }
+    requires free { some_true_unit (stored_units units.old) lits.now ≡ false }
+    requires no_tautology { is_tautology lits.now ≡ false }
+    requires trail { IsTrailFor units.old (freed trail.old.items) }
+    ensures ok { OnOk result (true_lits units.new ≡ start_set (stored_units units.old) lits.now) }
+    ensures undoable { IsUndoable units.old (freed trail.old.items)
+        units.new (freed trail.new.items) }
+{
+    for lit in lits {
+        match units.known_lit_value(*lit) {
+            Some(_) => {}
+            None => give(units, trail, *lit, lit.is_negative())?,
+        }
+    }
+    Ok(())
+}
+
+/// Frees the variables of the trail.
+fn free_again(units: &mut Units, trail: &mut FreeTrail)
+    requires { IsTrailFor units.old (freed trail.old.items) }
+    ensures units { units.new ≡ undone units.old (freed trail.old.items) }
+    ensures trail { trail.new.items ≡ [] }
+{
+    while let Some(lit) = trail.pop() {
+        units.free(lit.index());
+    }
+}
+
+/// Makes the literal true that alone is free. Answers whether the clause is falsified.
+fn propagate_clause(
+    units: &mut Units,
+    trail: &mut FreeTrail,
+    clause: &Clause,
+    buffer: &[Lit],
+) -> Result<bool, AllocError>
+    requires within { IsWithin clause.now.lits buffer.now }
+    requires known { AreKnown units.old (lits_of clause.now.lits buffer.now) }
+    requires trail { IsTrailFor units.old (freed trail.old.items) }
+    ensures ok { IfOk result (Walks units.old (lits_in buffer.now (clause.now ∷ [])) units.new) }
+    ensures undoable { IsUndoable units.old (freed trail.old.items)
+        units.new (freed trail.new.items) }
+{
+    let lits = clause.lits.slice(buffer);
+    match clause_status(units, lits) {
+        ClauseStatus::Falsified => Ok(true),
+        ClauseStatus::Unit(lit) => {
+            give(units, trail, lit, lit.is_positive())?;
+            Ok(false)
+        }
+        ClauseStatus::Idle => Ok(false),
+    }
+}
+
+/// Visits the clauses in turn, and answers whether one is falsified.
+fn propagate_bucket(
+    units: &mut Units,
+    trail: &mut FreeTrail,
+    bucket: &[Clause],
+    buffer: &[Lit],
+) -> Result<bool, AllocError>
+    requires within { All (λ c. IsWithin c.lits buffer.now) bucket.now }
+    requires known { All (λ c. AreKnown units.old (lits_of c.lits buffer.now)) bucket.now }
+    requires trail { IsTrailFor units.old (freed trail.old.items) }
+    ensures ok { IfOk result (Walks units.old (lits_in buffer.now bucket.now) units.new) }
+    ensures undoable { IsUndoable units.old (freed trail.old.items)
+        units.new (freed trail.new.items) }
+{
+    for clause in bucket {
+        if propagate_clause(units, trail, clause, buffer)? {
+            return Ok(true);
+        }
+    }
+    Ok(false)
+}
+
+/// Visits the buckets of the hashes in turn, up to a falsified clause or a missing bucket.
+fn propagate_buckets(
+    units: &mut Units,
+    trail: &mut FreeTrail,
+    buckets: &Buckets,
+    buffer: &[Lit],
+    hashes: &[ClauseHash],
+) -> Result<Answer, AllocError>
+    requires within { AreWithin buffer.now buckets.now }
+    requires known { AreAllKnown units.old buffer.now buckets.now }
+    requires trail { IsTrailFor units.old (freed trail.old.items) }
+    ensures ok { let named = named_buckets buffer.now buckets.now hashes.now in
+        IfOk result (λ a. check_answer a ≡ rules.walk_buckets (true_lits units.old) named) }
+    ensures undoable { IsUndoable units.old (freed trail.old.items)
+        units.new (freed trail.new.items) }
+{
+    for hash in hashes {
+        match buckets.get(hash) {
+            Some(bucket) => {
+                let clauses = bucket.as_slice();
+                if clauses.is_empty() {
+                    return Ok(Answer::NoClauseForHash);
+                }
+                if propagate_bucket(units, trail, clauses, buffer)? {
+                    return Ok(Answer::Passed);
+                }
+            }
+            None => return Ok(Answer::NoClauseForHash),
+        }
+    }
+    Ok(Answer::Failed)
+}
+
+/// The walk with the literals taken as false, whose values stay.
+fn propagate_negated(
+    units: &mut Units,
+    trail: &mut FreeTrail,
+    buckets: &Buckets,
+    buffer: &[Lit],
+    lits: &[Lit],
+    hashes: &[ClauseHash],
+) -> Result<Answer, AllocError>
+    requires within { AreWithin buffer.now buckets.now }
+    requires known { AreKnown units.old lits.now }
+    requires all_known { AreAllKnown units.old buffer.now buckets.now }
+    requires free { some_true_unit (stored_units units.old) lits.now ≡ false }
+    requires no_tautology { is_tautology lits.now ≡ false }
+    requires trail { IsTrailFor units.old (freed trail.old.items) }
+    ensures answer { let named = named_buckets buffer.now buckets.now hashes.now in
+        IfOk result (λ a. check_answer a
+        ≡ rules.walk_buckets (start_set (stored_units units.old) lits.now) named) }
+    ensures undoable { IsUndoable units.old (freed trail.old.items)
+        units.new (freed trail.new.items) }
+{
+    assume_free(units, trail, lits)?;
+    propagate_buckets(units, trail, buckets, buffer, hashes)
+}
+
+/// The check of a clause without a true literal, not traced.
+pub fn check_untraced(
+    units: &mut Units,
+    trail: &mut FreeTrail,
+    buckets: &Buckets,
+    buffer: &[Lit],
+    lits: &[Lit],
+    hashes: &[ClauseHash],
+) -> Result<Answer, AllocError>
+    requires within { AreWithin buffer.now buckets.now }
+    requires known { AreKnown units.old lits.now }
+    requires all_known { AreAllKnown units.old buffer.now buckets.now }
+    requires free { some_true_unit (stored_units units.old) lits.now ≡ false }
+    requires no_tautology { is_tautology lits.now ≡ false }
+    requires trail { trail.old.items ≡ [] }
+    ensures answer { let named = named_buckets buffer.now buckets.now hashes.now in
+        IfOk result (λ a. check_answer a
+        ≡ rules.walk_buckets (start_set (stored_units units.old) lits.now) named) }
+    ensures units { units.new ≡ units.old }
+    ensures trail { trail.new.items ≡ [] }
+{
+    let answer = propagate_negated(units, trail, buckets, buffer, lits, hashes);
+    free_again(units, trail);
+    answer
+}

@@ -1,0 +1,12 @@
+use Rattle.std.proofs.Common.{rules, tests}
+use Rattle.std.proofs.lemmas.Iterator.{YieldsList-from_slice}
+use Rattle.std.proofs.lemmas.Iterator.Search.{position_from_yields_List}
+use Rattle.hint_checker.proofs.Places.{position_or_len_from}
+use Rattle.hint_checker.proofs.Words.{is_in_word}
+use Rattle.hint_checker.proofs.word.blanks_before.Goals as goal
+
+pub returns : goal.returns
+returns c =
+    position_or_len_from is_in_word c.args.line.now c.position.result c.unwrap_or.result
+    (position_from_yields_List is_in_word _ _ c.position.result c.position.ensures.ran (YieldsList-from_slice c.args.line.now cc) (λ x b q k. search (rules, tests)))
+    c.unwrap_or.ensures

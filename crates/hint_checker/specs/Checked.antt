@@ -1,0 +1,127 @@
+-- What a checker of hints holds, and what it answers to a text.
+--     named_by m, listed_by m g b      what the checker holds, from its parts
+--     said_all ls      the lines of hints that lines of text say
+--     Accepts h text k      all lines of the text are accepted after h, and lead to k
+--     refusal h said      why what a line says is refused
+--     Refuses h text n f      line n is the first that is refused, and why
+--     IsRefusal h text f      a fault of the checker is that of the text, or want of memory
+--     IsCause f o, in_line f n      a cause of the code, and the fault that it is in line n
+--     adds_empty x      whether a line adds the empty clause
+--     AcceptsAfter cs xs text o b      the same after a formula's clauses and earlier lines
+use Rattle.std.specs.Prelude.{◌≡◌, ℕ, suc, nat_eq, Bool, false, List, [], ◌∷◌, ◌++◌, length, Option, Some, None, Vec}
+use Rattle.std.specs.Global.{Global}
+use Rattle.std.specs.List.{list_any}
+use Rattle.std.specs.Option.{option_map}
+use Rattle.std.specs.HashMap.{HashMap, get}
+use Rattle.std.specs.declared.hash.BuildHasherDefault.{BuildHasherDefault}
+use Rattle.std.specs.declared.hash.FoldHasher.{FoldHasher}
+use Rattle.checker_rules.specs.HintLines.{Follows, HintCause, HintLine, Listed, adds_clause, after_line, deletes_clauses, id_not_greater, is_empty, line_cause, listing, no_conflict, not_unit, unknown_id}
+use Rattle.sat_formula.specs.Lines.{lines_of}
+use Rattle.hint_checker.specs.Text as text
+use Rattle.hint_checker.specs.Text.{Said, in_front, said_by}
+use Rattle.hint_checker.specs.declared.fault.HintFault.{HintFault}
+use Rattle.hint_checker.specs.declared.fault.HintFault.TheVariants as faults
+use Rattle.hint_checker.specs.declared.fault.LineFault.{LineFault}
+use Rattle.hint_checker.specs.declared.fault.LineFault.TheVariants as causes
+
+-- the clause under an id
+abbrev pub named_by : HashMap ℕ (Vec ℕ Global) (BuildHasherDefault FoldHasher) → ℕ → Option (List ℕ)
+named_by m i = option_map (λ c. c.items) (get nat_eq m i)
+
+-- the clauses under their ids, the greatest id so far, and whether the empty clause was added
+abbrev pub listed_by : HashMap ℕ (Vec ℕ Global) (BuildHasherDefault FoldHasher) → ℕ → Bool → Listed
+listed_by m greatest empty = record {
+  machine = record { named = named_by m; above = suc greatest };
+  added_empty = empty;
+}
+
+-- what one line says, before the others
+abbrev pub joined : Said → Option (List HintLine) → Option (List HintLine)
+joined text.Nothing rest = rest
+joined (text.Line x) rest = in_front x rest
+joined text.Malformed rest = None
+
+-- the lines of hints that lines of text say, unless one is malformed
+abbrev pub said_all : List (List ℕ) → Option (List HintLine)
+said_all [] = Some []
+said_all (l ∷ ls) = joined (said_by l) (said_all ls)
+
+-- all lines of the text are accepted after h, and lead to k
+pub record Accepts (h : Listed) (bytes : List ℕ) (k : Listed) : Type 0 where
+  pub lines : List HintLine
+  pub said : said_all (lines_of bytes) ≡ Some lines
+  pub follow : Follows h lines k
+
+-- a cause of the rules as one of the code
+abbrev pub cause_of : HintCause → LineFault
+cause_of id_not_greater = causes.IdNotGreater
+cause_of unknown_id = causes.UnknownId
+cause_of not_unit = causes.NotUnit
+cause_of no_conflict = causes.NoConflict
+
+-- why what a line says is refused
+abbrev pub refusal : Listed → Said → Option LineFault
+refusal h text.Nothing = None
+refusal h (text.Line x) = option_map cause_of (line_cause h x)
+refusal h text.Malformed = Some causes.Malformed
+
+-- what is held after a line
+abbrev pub after_said : Listed → Said → Listed
+after_said h text.Nothing = h
+after_said h (text.Line x) = after_line h x
+after_said h text.Malformed = h
+
+-- the lines before line n are accepted after h, and that one is refused
+pub record Refuses (h : Listed) (bytes : List ℕ) (n : ℕ) (fault : LineFault) : Type 0 where
+  pub before : List (List ℕ)
+  pub line : List ℕ
+  pub after : List (List ℕ)
+  pub cut : lines_of bytes ≡ before ++ line ∷ after
+  pub number : n ≡ suc (length before)
+  pub lines : List HintLine
+  pub said : said_all before ≡ Some lines
+  pub held : Listed
+  pub follow : Follows h lines held
+  pub refused : refusal held (said_by line) ≡ Some fault
+
+-- a fault of the checker is that of the first line that is refused, or want of memory
+abbrev pub IsRefusal : Listed → List ℕ → HintFault → Type 0
+IsRefusal h bytes (faults.Malformed n) = Refuses h bytes n causes.Malformed
+IsRefusal h bytes (faults.IdNotGreater n) = Refuses h bytes n causes.IdNotGreater
+IsRefusal h bytes (faults.UnknownId n) = Refuses h bytes n causes.UnknownId
+IsRefusal h bytes (faults.NotUnit n) = Refuses h bytes n causes.NotUnit
+IsRefusal h bytes (faults.NoConflict n) = Refuses h bytes n causes.NoConflict
+IsRefusal h bytes faults.OutOfMemory = Unit {0}
+
+-- a cause of the code is why it is refused, or want of memory
+abbrev pub IsCause : LineFault → Option LineFault → Type 0
+IsCause causes.Malformed o = o ≡ Some causes.Malformed
+IsCause causes.IdNotGreater o = o ≡ Some causes.IdNotGreater
+IsCause causes.UnknownId o = o ≡ Some causes.UnknownId
+IsCause causes.NotUnit o = o ≡ Some causes.NotUnit
+IsCause causes.NoConflict o = o ≡ Some causes.NoConflict
+IsCause causes.OutOfMemory o = Unit {0}
+
+-- a cause with its line
+abbrev pub in_line : LineFault → ℕ → HintFault
+in_line causes.Malformed n = faults.Malformed n
+in_line causes.IdNotGreater n = faults.IdNotGreater n
+in_line causes.UnknownId n = faults.UnknownId n
+in_line causes.NotUnit n = faults.NotUnit n
+in_line causes.NoConflict n = faults.NoConflict n
+in_line causes.OutOfMemory n = faults.OutOfMemory
+
+-- whether a line adds the empty clause
+abbrev pub adds_empty : HintLine → Bool
+adds_empty (adds_clause id c hints) = is_empty c
+adds_empty (deletes_clauses number ids) = false
+
+-- the text's lines are accepted after a formula's clauses and the lines before, and the answer is whether one of all these lines adds the empty clause
+pub record AcceptsAfter (formula : List (List ℕ)) (before : List HintLine) (bytes : List ℕ)
+    (held : Option Listed) (yes : Bool) : Type 0 where
+  pub lines : List HintLine
+  pub said : said_all (lines_of bytes) ≡ Some lines
+  pub leads_to : Listed
+  pub follow : Follows (listing formula) (before ++ lines) leads_to
+  pub holds : held ≡ Some leads_to
+  pub answer : yes ≡ list_any adds_empty (before ++ lines)

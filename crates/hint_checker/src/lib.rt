@@ -1,0 +1,16 @@
+//! A checker of lines of hints in the LRAT format, which holds only ids and clauses.
+#![tactic(auto)]
+
+mod checker;
+mod fault;
+pub mod laws;
+mod line;
+mod lines;
+mod listing;
+#[cfg(test)]
+mod tests;
+mod values;
+mod word;
+
+pub use checker::HintChecker;
+pub use fault::HintFault;

@@ -1,0 +1,139 @@
+//! The clauses that a checker of hints holds.
+ghost use Rattle.std.specs.Prelude.{◌≡◌, ℕ, Bool, Option, None, IfErr, IfOk, OnOk};
+ghost use Rattle.checker_rules.specs.HintLines.{HintCause, adds_clause, after_line, drop_ids, hints_cause, line_cause, listing, next_cause};
+ghost use Rattle.checker_rules.specs.Machine.{drop_id, put_id};
+ghost use Rattle.hint_checker.specs.Checked.{IsCause, cause_of};
+ghost use Rattle.hint_checker.specs.Held.{held_by, trues};
+ghost use Rattle.std.specs.Option.{option_map};
+
+use crate::fault::LineFault;
+use crate::values::Values;
+use sat_formula::CnfFormula;
+use sat_formula::lit::Lit;
+use std::alloc::{AllocError, Global};
+use std::collections::HashMap;
+
+/// The clauses under their ids, and what was added.
+#[derive(Drop)]
+pub(crate) struct Listing {
+    clauses: HashMap<u64, Vec<Lit>>,
+    /// The greatest id so far, or 0.
+    greatest: u64,
+    added_empty: bool,
+}
+
+impl Listing {
+    /// The clauses of a formula under 1, 2 and so on.
+    pub(crate) fn new(alloc: Global, formula: &CnfFormula) -> Result<Listing, AllocError>
+        ensures { IfOk result (λ made. held_by made ≡ listing formula.now) }
+    {
+        let mut held = Listing {
+            clauses: HashMap::with_capacity(alloc, formula.len())?,
+            greatest: 0,
+            added_empty: false,
+        };
+        for clause in formula {
+            let id = held.greatest + 1;
+            held.put(id, Vec::from_slice(alloc, clause)?)?;
+        }
+        Ok(held)
+    }
+
+    /// Puts a clause under an id.
+    fn put(&mut self, id: u64, clause: Vec<Lit>) -> Result<(), AllocError>
+        ensures { OnOk result (held_by self.new ≡
+            record (held_by self.old) {
+              machine = put_id id clause.items
+                  (held_by self.old).machine;
+            }) }
+    {
+        self.clauses.insert(id, clause)?;
+        self.greatest = id;
+        Ok(())
+    }
+
+    /// Whether a line added the empty clause.
+    pub(crate) fn added_empty(&self) -> bool
+        ensures { result ≡ (held_by self.now).added_empty }
+    {
+        self.added_empty
+    }
+
+    /// Adds a clause that follows by its hints.
+    pub(crate) fn add(
+        &mut self,
+        values: &mut Values,
+        id: u64,
+        clause: Vec<Lit>,
+        hints: &[u64],
+    ) -> Result<(), LineFault>
+        ensures ok { OnOk result (line_cause (held_by self.old)
+            (adds_clause id clause.items hints.now) ≡ None) }
+        ensures added { OnOk result (held_by self.new ≡
+            after_line (held_by self.old) (adds_clause id clause.items hints.now)) }
+        ensures err { IfErr result (λ fault. IsCause fault
+            (option_map cause_of (line_cause (held_by self.old)
+            (adds_clause id clause.items hints.now)))) }
+    {
+        if id <= self.greatest {
+            return Err(LineFault::IdNotGreater);
+        }
+        values.negate(&clause)?;
+        self.try_hints(values, hints)?;
+        let is_empty = clause.is_empty();
+        self.put(id, clause)?;
+        self.added_empty |= is_empty;
+        Ok(())
+    }
+
+    /// Tries the hints in turn: all but the last are unit, and the last is falsified.
+    fn try_hints(&self, values: &mut Values, hints: &[u64]) -> Result<(), LineFault>
+        ensures ok { OnOk result (hints_cause (held_by self.now).machine.named
+            (trues values.old) hints.now ≡ None) }
+        ensures err { IfErr result (λ fault. IsCause fault
+            (option_map cause_of (hints_cause (held_by self.now).machine.named
+            (trues values.old) hints.now))) }
+    {
+        let (last, others) = hints.split_last().ok_or(LineFault::NoConflict)?;
+        for id in others {
+            self.follow(values, *id)?;
+        }
+        let clause = self.clauses.get(last).ok_or(LineFault::UnknownId)?;
+        if !values.is_falsified(clause) {
+            return Err(LineFault::NoConflict);
+        }
+        Ok(())
+    }
+
+    /// Makes the literal true on which the clause of a hint is unit.
+    fn follow(&self, values: &mut Values, id: u64) -> Result<(), LineFault>
+        ensures ok { OnOk result ((rest : (ℕ → Bool) → Option HintCause) →
+            next_cause (trues values.old) ((held_by self.now).machine.named id) rest ≡
+            rest (trues values.new)) }
+        ensures err { IfErr result (λ fault. (rest : (ℕ → Bool) → Option HintCause) →
+            IsCause fault (option_map cause_of
+            (next_cause (trues values.old) ((held_by self.now).machine.named id) rest))) }
+    {
+        let clause = self.clauses.get(&id).ok_or(LineFault::UnknownId)?;
+        let unit = values.unit(clause).ok_or(LineFault::NotUnit)?;
+        values.set(unit)?;
+        Ok(())
+    }
+
+    /// Removes the clauses of these ids, where they are there.
+    pub(crate) fn remove(&mut self, ids: &[u64])
+        ensures { held_by self.new ≡ record (held_by self.old)
+            { machine = drop_ids ids.now (held_by self.old).machine } }
+    {
+        for id in ids {
+            self.remove_one(*id);
+        }
+    }
+
+    fn remove_one(&mut self, id: u64)
+        ensures { held_by self.new ≡ record (held_by self.old)
+            { machine = drop_id id (held_by self.old).machine } }
+    {
+        self.clauses.remove(&id);
+    }
+}

@@ -1,0 +1,76 @@
+//! What lines of text say, which no caller sees. All other tests are in `sat_hints_tests`.
+use crate::line::{HintLine, read_line};
+use std::test::Fail;
+
+// What a line says, in words.
+fn shown(rt: &HostRuntime, line: &[u8]) -> Result<String, Fail> {
+    let mut said = String::new(rt.alloc());
+    match read_line(rt.alloc(), line) {
+        Ok(None) => write!(said, "nothing")?,
+        Ok(Some(HintLine::Addition { id, clause, hints })) => {
+            write!(said, "{id}:")?;
+            for lit in clause.iter() {
+                write!(said, " {}", lit.to_dimacs())?;
+            }
+            write!(said, " by")?;
+            for hint in hints.iter() {
+                write!(said, " {hint}")?;
+            }
+        }
+        Ok(Some(HintLine::Deletion { number, ids })) => {
+            write!(said, "{number} deletes")?;
+            for id in ids.iter() {
+                write!(said, " {id}")?;
+            }
+        }
+        Err(_) => write!(said, "refused")?,
+    }
+    Ok(said)
+}
+
+const LINES: [(&[u8], &str); 27] = [
+    (b"", "nothing"),
+    (b" \t\r", "nothing"),
+    (b"c", "nothing"),
+    (b"\t cx 1 0 2 0", "nothing"),
+    (b"c 1 0 2 0", "nothing"),
+    (b"1 0 0", "1: by"),
+    (b"9 0 3 0", "9: by 3"),
+    (b"9 1 0 0", "9: 1 by"),
+    (b"9 1 -2 0 3 4 0", "9: 1 -2 by 3 4"),
+    (b"9\t1 -2\r0 3\t\r 4  0", "9: 1 -2 by 3 4"),
+    (b"  9 1 -2 0 3 4 0 \r", "9: 1 -2 by 3 4"),
+    (b"09 001 -02 00 03 4 000", "9: 1 -2 by 3 4"),
+    (b"9 1 1 -1 0 4 3 3 0", "9: 1 1 -1 by 4 3 3"),
+    (b"10 268435456 0 20 0", "10: 268435456 by 20"),
+    (b"10 -268435456 0 20 0", "10: -268435456 by 20"),
+    (
+        b"18446744073709551615 5 0 18446744073709551615 0",
+        "18446744073709551615: 5 by 18446744073709551615",
+    ),
+    (
+        b"00018446744073709551615 0 1 0",
+        "18446744073709551615: by 1",
+    ),
+    (b"7 d 0", "7 deletes"),
+    (b"7 d 2 5 0", "7 deletes 2 5"),
+    (b"0 d 2 0", "0 deletes 2"),
+    (b"000 d 02 2 00", "0 deletes 2 2"),
+    (b"\t7  d\t2\r0 ", "7 deletes 2"),
+    (
+        b"7 d 18446744073709551615 0",
+        "7 deletes 18446744073709551615",
+    ),
+    (b"18446744073709551615 d 0", "18446744073709551615 deletes"),
+    (b"0 d 0", "0 deletes"),
+    (b"1 0 1 0", "1: by 1"),
+    (b"1 2 0 1 0\r", "1: 2 by 1"),
+];
+
+#[test]
+fn lines(rt: HostRuntime) -> Result<(), Fail> {
+    for (line, said) in LINES {
+        assert_eq!(rt; shown(&rt, line)?.as_str(), said);
+    }
+    Ok(())
+}

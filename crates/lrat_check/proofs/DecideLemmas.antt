@@ -1,0 +1,77 @@
+-- What the checker's answer says of the whole text of a proof.
+use Rattle.std.proofs.Common.{◌≡◌, ℕ, Bool, true, false, List, [], ◌∷◌, ◌++◌, Option, Some, None, Result, Ok, Err, refl, sym, ap, ◌∙◌, append_assoc}
+use Rattle.std.specs.Prelude.{◌||◌, IfSome}
+use Rattle.checker_rules.specs.Hints.{Item}
+use Rattle.lrat_rules.specs.Lines.{Line, accepts, refutes}
+use Rattle.lrat_rules.specs.Causes.{Cause}
+use Rattle.lrat_rules.specs.Refusals.{cause_of_line}
+use Rattle.lrat_rules.specs.Stores.{formula_store}
+use Rattle.lrat_rules.proofs.Refusing.{causes_exact}
+use Rattle.lrat_rules.proofs.Running.{runs_join}
+use Rattle.lrat_text.specs.Texts.{Outcome, outcome_of}
+use Rattle.lrat_checker.specs.Causes.{cause_of}
+use Rattle.lrat_checker.specs.Standing.{HasAccepted, has_refuted}
+use Rattle.lrat_checker.specs.TextAnswers.{said}
+use Rattle.lrat_checker.specs.declared.checker.LratChecker.{LratChecker}
+use Rattle.lrat_checker.specs.declared.fault.LratFault.{LratFault}
+use Rattle.lrat_checker.specs.declared.fault.LratFault.TheVariants as lrat
+use Rattle.lrat_check.specs.Runs.{Decides, Refutes, shows}
+
+said-append : (ls ms : List (ℕ × Line)) → said (ls ++ ms) ≡ said ls ++ said ms
+said-append [] ms = refl
+said-append (l ∷ ls) ms = ap (λ (k : List Line). l.1 ∷ k) (said-append ls ms)
+
+-- a line that has a cause ends the lines
+refused_ends : (st : List Item) (l : Line) (ls : List Line) (k : Cause) → cause_of_line st l ≡ Some k → refutes st (l ∷ ls) ≡ false
+refused_ends st l ls k e = go (accepts st l) refl
+  where
+    go : (b : Bool) → accepts st l ≡ b → refutes st (l ∷ ls) ≡ false
+    go false is = rw is refl
+    go true is = let none = (causes_exact st l).1 is in absurd cc
+
+module _ (formula : List (List ℕ)) where
+  -- lines that were accepted, and those after them
+  found : (lines later : List (ℕ × Line)) (c : LratChecker) (p : HasAccepted formula (said lines) c)
+      → refutes (formula_store formula) (said (lines ++ later)) ≡ (has_refuted c || refutes p.store (said later))
+  found lines later c p =
+      ap (refutes (formula_store formula)) (said-append lines later)
+      ∙ runs_join.refutes_on (formula_store formula) p.store (said lines) (said later) p.ran
+      ∙ ap (λ b. b || refutes p.store (said later)) (sym p.refuted)
+
+  shows-of : (text : List ℕ) (o : Outcome) → outcome_of text ≡ o → shows formula text ≡ refutes (formula_store formula) (said o.0)
+  shows-of text o e = ap (λ (p : Outcome). refutes (formula_store formula) (said p.0)) e
+
+  -- one of the lines that were accepted adds the empty clause
+  shows-refuted : (lines later : List (ℕ × Line)) (c : LratChecker) → HasAccepted formula (said lines) c → has_refuted c ≡ true → refutes (formula_store formula) (said (lines ++ later)) ≡ true
+  shows-refuted lines later c p e = found lines later c p ∙ ap (λ b. b || refutes p.store (said later)) e
+
+  -- none does, and the next line is refused
+  shows-refused : (lines : List (ℕ × Line)) (number : ℕ) (line : Line) (later : List (ℕ × Line)) (c : LratChecker) (k : Cause) (p : HasAccepted formula (said lines) c) → has_refuted c ≡ false
+      → cause_of_line p.store line ≡ Some k → refutes (formula_store formula) (said ((lines ++ (number, line) ∷ []) ++ later)) ≡ false
+  shows-refused lines number line later c k p e refused =
+      ap (λ (ls : List (ℕ × Line)). refutes (formula_store formula) (said ls)) (append_assoc lines ((number, line) ∷ []) later)
+      ∙ found lines ((number, line) ∷ later) c p
+      ∙ ap (λ b. b || refutes p.store (line ∷ said later)) e
+      ∙ refused_ends p.store line (said later) k refused
+
+  decides : (text : List ℕ) (r : Result Bool LratFault) → Refutes formula (Some text) r → Decides formula text r
+  decides text (Ok true) p =
+      let a = p.answer in
+      shows-of text _ a.text.1 ∙ shows-refuted a.lines a.text.0.0 p.checker a.ready.accepted (sym a.answer)
+  decides text (Ok false) p =
+      let a = p.answer in
+      shows-of text _ a.text ∙ sym a.ready.accepted.refuted ∙ sym a.answer
+  decides text (Err (lrat.Read cause)) p = tt
+  decides text (Err (lrat.Unread line kind)) p =
+      let a = p.answer in
+      shows-of text _ a.text ∙ sym a.accepted.refuted ∙ p.stops
+  decides text (Err (lrat.Refused line cause)) p =
+      let a = p.answer in
+      shows-of text _ a.text.1
+      ∙ shows-refused a.lines line a.line a.text.0.0 p.checker (cause_of cause) a.accepted p.stops (a.refused a.accepted.store a.accepted.ran)
+  decides text (Err lrat.OutOfMemory) p = tt
+  decides text (Err lrat.Failed) p = tt
+
+  pub decided : (known : Option (List ℕ)) (r : Result Bool LratFault) → Refutes formula known r → IfSome known (λ text. Decides formula text r)
+  decided None r p = tt
+  decided (Some text) r p = decides text r p

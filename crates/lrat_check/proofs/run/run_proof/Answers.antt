@@ -1,0 +1,17 @@
+use Rattle.std.proofs.Common.{◌≡◌}
+use Rattle.lrat_check.specs.Verdicts.{verdict_of}
+use Rattle.lrat_check.specs.declared.verdict.Verdict.TheVariants.{Verified}
+use Rattle.lrat_check.proofs.RunLemmas.{fault_decided, formula_refuted, verdict_decided}
+use Rattle.lrat_check.proofs.run.run_proof.Goals as goal
+
+pub returns-in-Err-clause-decided : goal.returns-in-Err-clause-decided
+returns-in-Err-clause-decided g c = fault_decided c.args.formula.now (g.P.Read.remaining c.args.proof) c.in-Err.fault c.in-Err.ensures
+
+pub returns-in-Ok-write_line-clause-decided : goal.returns-in-Ok-write_line-clause-decided
+returns-in-Ok-write_line-clause-decided g c =
+    verdict_decided c.args.formula.now (g.P.Read.remaining c.args.proof) c.in-Ok.refuted c.of-verdict.result c.of-verdict.ensures c.in-Ok.ensures
+
+pub returns-in-Ok-write_line-clause-refutes : goal.returns-in-Ok-write_line-clause-refutes
+returns-in-Ok-write_line-clause-refutes g c = λ e a.
+    let is : verdict_of c.in-Ok.refuted ≡ Verified = cc c.of-verdict.ensures in
+    formula_refuted c.args.formula.now (g.P.Read.remaining c.args.proof) c.in-Ok.refuted c.in-Ok.ensures is a

@@ -1,0 +1,82 @@
+//! Runs: a proof is checked, and its verdict is written.
+ghost use Rattle.std.specs.Prelude.{◌≡◌, ℕ, Bool, false, IfOk, IfSome, Ok};
+ghost use Rattle.std.specs.Io.KnownBytes.{Appends};
+ghost use Rattle.checker_rules.specs.Clauses.{all_true};
+ghost use Rattle.lrat_check.specs.Runs.{IsCheckRun, IsDecided, IsProofRun, IsRefusedRun, Refutes};
+ghost use Rattle.lrat_check.specs.Verdicts.{shown_line};
+ghost use Rattle.lrat_check.specs.declared.verdict.Verdict.TheVariants.{Verified};
+
+use crate::fault::RunFault;
+use crate::formula::read_formula;
+use crate::verdict::Verdict;
+use lrat_checker::{LratChecker, LratFault};
+use sat_formula::CnfFormula;
+use std::alloc::Global;
+use std::io;
+use std::io::{Read, Write};
+
+/// Checks a proof after a formula, up to its first line that adds the empty clause, and writes the
+/// verdict's line. What stands after that line is not read.
+///
+/// Nothing is written where a line is refused or can't be read.
+pub fn run_proof<P: Read + Drop, W: Write>(
+    alloc: Global,
+    formula: &CnfFormula,
+    proof: P,
+    out: &mut W,
+) -> Result<Verdict, RunFault>
+    ensures run { IsProofRun formula.now (P.remaining proof) result }
+    ensures decided { IfSome (P.remaining proof) (λ text. IsDecided formula.now text result) }
+    ensures line { IfOk result (λ verdict.
+        Appends (W.contents out.old) (W.contents out.new) (shown_line verdict)) }
+    ensures silent { IsRefusedRun result → out.new ≡ out.old }
+    ensures refutes { result ≡ Ok Verified → (a : ℕ → Bool) → all_true a formula.now ≡ false }
+{
+    let verdict = match refute(alloc, formula, proof) {
+        Ok(refuted) => Verdict::of(refuted),
+        Err(fault) => return Err(RunFault::Proof(fault)),
+    };
+    match write_line(out, verdict) {
+        Ok(()) => Ok(verdict),
+        Err(fault) => Err(RunFault::Write(fault)),
+    }
+}
+
+/// Reads a formula in DIMACS CNF, checks the proof, and writes the verdict's line.
+///
+/// The proof is read only once the formula was read whole.
+pub fn run_check<F: Read + Drop, P: Read + Drop, W: Write>(
+    alloc: Global,
+    cnf: F,
+    proof: P,
+    out: &mut W,
+) -> Result<Verdict, RunFault>
+    ensures run { IsCheckRun (F.remaining cnf) (P.remaining proof) result }
+    ensures line { IfOk result (λ verdict.
+        Appends (W.contents out.old) (W.contents out.new) (shown_line verdict)) }
+    ensures silent { IsRefusedRun result → out.new ≡ out.old }
+{
+    match read_formula(alloc, cnf) {
+        Ok(formula) => run_proof(alloc, &formula, proof, out),
+        Err(fault) => Err(RunFault::Formula(fault)),
+    }
+}
+
+// Whether the proof shows that no assignment satisfies the formula.
+fn refute<P: Read + Drop>(alloc: Global, formula: &CnfFormula, proof: P) -> Result<bool, LratFault>
+    ensures { Refutes formula.now (P.remaining proof) result }
+{
+    match LratChecker::new(alloc, formula) {
+        Ok(mut checker) => checker.refute(proof),
+        Err(_) => Err(LratFault::OutOfMemory),
+    }
+}
+
+/// Writes a verdict's line whole, also out of a writer's buffer.
+fn write_line<W: Write>(out: &mut W, verdict: Verdict) -> io::Result<()>
+    ensures { IfOk result (λ done.
+        Appends (W.contents out.old) (W.contents out.new) (shown_line verdict)) }
+{
+    writeln!(out, "{verdict}")?;
+    out.flush()
+}

@@ -1,0 +1,44 @@
+//! Verdicts and their lines.
+ghost use Rattle.std.specs.Prelude.{Some};
+ghost use Rattle.lrat_check.specs.Verdicts.{line_of};
+
+use std::fmt;
+
+/// What a proof has shown of its formula.
+#[derive(Clone, Copy, Debug, PartialEq, Eq)]
+pub enum Verdict {
+    /// No assignment satisfies the formula: all lines of the proof up to one that adds the empty
+    /// clause were accepted.
+    Verified,
+    /// All lines were accepted, and none adds the empty clause. The formula may be satisfiable or
+    /// not.
+    NotVerified,
+}
+
+impl Verdict {
+    ghost use Rattle.std.specs.Prelude.{◌≡◌};
+    ghost use Rattle.lrat_check.specs.Verdicts.{verdict_of};
+
+    /// The verdict of a proof whose lines were accepted, and which adds the empty clause or not.
+    pub(crate) fn of(refuted: bool) -> Verdict
+        ensures { result ≡ verdict_of refuted }
+    {
+        if refuted {
+            Verdict::Verified
+        } else {
+            Verdict::NotVerified
+        }
+    }
+}
+
+/// Writes the verdict's line, without a line feed.
+impl fmt::Display for Verdict {
+    ghost output = { λ verdict. Some (line_of verdict) };
+
+    fn fmt<W: fmt::Write>(&self, f: &mut fmt::Formatter<W>) -> fmt::Result {
+        match *self {
+            Verdict::Verified => write!(f, "s VERIFIED UNSAT"),
+            Verdict::NotVerified => write!(f, "s NOT VERIFIED"),
+        }
+    }
+}

@@ -1,0 +1,102 @@
+-- Trails of literals, and marks of what they hold.
+use Rattle.std.proofs.Common.{◌≡◌, ℕ, ◌+◌, ◌<◌, Bool, true, false, cond, not, ◌&&◌, ◌||◌, eqb, List, [], ◌∷◌, ◌++◌, length, get_or, set, drop, refl, sym, ap, ◌∙◌, eq-eqb, inl, inr}
+use mathlib.Core.Path.{fun_ext}
+use Rattle.std.proofs.lemmas.Bool.{eqb-true, eqb-false, and_parts, and_from, both_ways, not-true, ne_eqb, or_cases}
+use Rattle.std.proofs.lemmas.List.{at_drop_more}
+use Rattle.std.proofs.lemmas.Grind.{get_or-set_at}
+use Rattle.std.proofs.lemmas.List.{get_or-set_other}
+use Rattle.checker_rules.specs.Clauses.{add_lit, has}
+use Rattle.lrat_rules.specs.Counts.{all_once}
+use Rattle.lrat_checker.specs.Values.{IsMarked, among, with_lit}
+
+-- ---- trails
+
+-- whether a literal is in a trail with one more
+pub has-push : (t : List ℕ) (l k : ℕ) → has k (t ++ l ∷ []) ≡ (eqb k l || has k t)
+has-push [] l k = refl
+has-push (m ∷ t) l k = ap (λ b. eqb k m || b) (has-push t l k) ∙ swap (eqb k m) (eqb k l) (has k t)
+  where
+    swap : (a b c : Bool) → (a || (b || c)) ≡ (b || (a || c))
+    swap true true c = refl
+    swap true false c = refl
+    swap false b c = refl
+
+-- a trail with one more has none twice where that one is new
+pub all_once-push : (t : List ℕ) (l : ℕ) → all_once (t ++ l ∷ []) ≡ (not (has l t) && all_once t)
+all_once-push [] l = refl
+all_once-push (m ∷ t) l =
+    ap (λ b. not b && all_once (t ++ l ∷ [])) (has-push t l m)
+    ∙ ap (λ b. not (b || has m t) && all_once (t ++ l ∷ [])) (eqb-swap m l)
+    ∙ ap (λ b. not (eqb l m || has m t) && b) (all_once-push t l)
+    ∙ move (eqb l m) (has m t) (has l t) (all_once t)
+  where
+    move : (a b c d : Bool) → (not (a || b) && (not c && d)) ≡ (not (a || c) && (not b && d))
+    move true b c d = refl
+    move false true true d = refl
+    move false true false d = refl
+    move false false true d = refl
+    move false false false d = refl
+
+    eqb-swap : (a b : ℕ) → eqb a b ≡ eqb b a
+    eqb-swap a b = go (eqb b a) refl
+      where
+        go : (c : Bool) → eqb b a ≡ c → eqb a b ≡ c
+        go true e = eq-eqb a b (sym (eqb-true b a e))
+        go false e = ne_eqb a b (λ k. eqb-false b a e (sym k))
+
+-- one more literal is among them
+pub among-with_lit : (l : ℕ) (t : List ℕ) → among (with_lit l t) ≡ add_lit l (among t)
+among-with_lit l t = fun_ext (λ k. go (has l t) refl k)
+  where
+    go : (b : Bool) → has l t ≡ b → (k : ℕ) → has k (cond b t (t ++ l ∷ [])) ≡ (eqb k l || has k t)
+    go true e k = old (eqb k l) refl
+      where
+        old : (c : Bool) → eqb k l ≡ c → has k t ≡ (c || has k t)
+        old true w = ap (λ j. has j t) (eqb-true k l w) ∙ e
+        old false w = refl
+    go false e k = has-push t l k
+
+-- ---- marks
+
+-- a mark is set for a new literal
+pub marked-push : (marks : List Bool) (t : List ℕ) (l : ℕ) → IsMarked marks t → has l t ≡ false → (more : List Bool) →
+    ((k : ℕ) → get_or more k false ≡ get_or marks k false) → l < length more → IsMarked (set more l true) (t ++ l ∷ [])
+marked-push marks t l m new more same w = record {
+  marked = λ k. at k (eqb k l) refl;
+  once = all_once-push t l ∙ and_from (not (has l t)) (all_once t) (ap not new) m.once;
+}
+  where
+    at : (k : ℕ) (b : Bool) → eqb k l ≡ b → get_or (set more l true) k false ≡ has k (t ++ l ∷ [])
+    at k true e = get_or-set_at more l k true false (eqb-true k l e) w ∙ sym (has-push t l k ∙ ap (λ b. b || has k t) e)
+    at k false e = get_or-set_other more l k true false (eqb-false k l e) ∙ same k ∙ m.marked k ∙ sym (has-push t l k ∙ ap (λ b. b || has k t) e)
+
+-- the mark of the last literal is cleared
+pub marked-pop : (marks : List Bool) (t : List ℕ) (l : ℕ) → IsMarked marks (t ++ l ∷ []) → (fewer : List Bool) →
+    ((k : ℕ) → get_or fewer k false ≡ (not (eqb k l) && get_or marks k false)) → IsMarked fewer t
+marked-pop marks t l m fewer cleared = record { marked = λ k. at k (eqb k l) refl; once = parts.1 }
+  where
+    parts : (not (has l t) ≡ true) × (all_once t ≡ true)
+    parts = and_parts (not (has l t)) (all_once t) (sym (all_once-push t l) ∙ m.once)
+
+    at : (k : ℕ) (b : Bool) → eqb k l ≡ b → get_or fewer k false ≡ has k t
+    at k true e = cleared k ∙ ap (λ b. not b && get_or marks k false) e ∙ sym (ap (λ j. has j t) (eqb-true k l e) ∙ not-true (has l t) parts.0)
+    at k false e = cleared k ∙ ap (λ b. not b && get_or marks k false) e ∙ m.marked k ∙ has-push t l k ∙ ap (λ b. b || has k t) e
+
+-- a mark that is left after the first ones of a trail were cleared is that of a later literal
+pub later_in_trail : (trail : List ℕ) (i k m : ℕ) (b : Bool) → i < length trail → m ≡ get_or trail i m →
+    (b ≡ true → has k (drop i trail) ≡ true) → (not (eqb k m) && b) ≡ true → has k (drop (i + 1) trail) ≡ true
+later_in_trail trail i k m b w e h t =
+    let parts = and_parts _ _ t in
+    let here = at_drop_more (has k) trail i m w ∙ ap (λ l. has k (l ∷ drop (i + 1) trail)) (sym e) in
+    elim (or_cases (eqb k m) (has k (drop (i + 1) trail)) (sym here ∙ h parts.1)) [
+      | inl y ↦ absurd (both_ways (eqb k m) (not-true _ parts.0) y)
+      | inr y ↦ y
+    ]
+
+-- no mark is left
+pub marked-none : (marks : List Bool) → ((k : ℕ) → get_or marks k false ≡ true → ⊥) → IsMarked marks []
+marked-none marks none = record { marked = λ k. go k (get_or marks k false) refl; once = refl }
+  where
+    go : (k : ℕ) (b : Bool) → get_or marks k false ≡ b → b ≡ false
+    go k true e = absurd (none k e)
+    go k false e = refl

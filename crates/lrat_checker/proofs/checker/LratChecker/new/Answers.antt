@@ -1,0 +1,12 @@
+use Rattle.std.proofs.Common.{refl, subst, sym}
+use Rattle.lrat_rules.specs.Stores.{formula_store}
+use Rattle.lrat_rules.specs.Tables.{IsTableOf}
+use Rattle.lrat_rules.proofs.Tabling.{tables_decide}
+use Rattle.lrat_checker.proofs.checker.LratChecker.new.Goals as goal
+
+pub returns : goal.returns
+returns c = record {
+  accepted = record { store = formula_store c.args.formula.now; ran = refl; refuted = refl };
+  table = subst (λ t. IsTableOf t (formula_store c.args.formula.now)) (sym c.in_ok-new.ensures) (tables_decide.formula c.args.formula.now);
+  going = refl;
+}

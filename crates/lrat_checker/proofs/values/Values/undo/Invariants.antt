@@ -1,0 +1,9 @@
+use Rattle.std.proofs.Common.{◌≡◌, length, take}
+use Rattle.lrat_checker.proofs.values.Values.undo.Given as goal
+
+-- what is left is taken to the length as all was
+abbrev pub invariant-loop-self : goal.invariant-loop-self
+invariant-loop-self l = take l.len l.self ≡ take l.len l.fn.self
+
+abbrev pub decreases-loop-self : goal.decreases-loop-self
+decreases-loop-self l = length l.self

@@ -1,0 +1,11 @@
+pub mod Values
+pub mod Spans
+pub mod Near
+pub mod Far
+pub mod Causes
+pub mod Faults
+pub mod Propagating
+pub mod Grouping
+pub mod Held
+pub mod Standing
+pub mod TextAnswers

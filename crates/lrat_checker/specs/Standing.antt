@@ -1,0 +1,45 @@
+-- Where a checker stands: the lines that it has accepted after a formula's clauses, and what it holds.
+--     has_failed c, has_refuted c      a line was not accepted;  a line added the empty clause
+--     HasAccepted formula lines c      the lines were accepted, and whether one of them added the empty clause is known
+--     IsReady formula lines c      and the checker holds what is stored after them
+--     IsAnswer formula lines line fault      the fault of a line after them
+use Rattle.std.specs.Prelude.{◌≡◌, ℕ, Bool, false, List, Some}
+use Rattle.checker_rules.specs.Hints.{Item}
+use Rattle.lrat_rules.specs.Lines.{Line, refutes, run}
+use Rattle.lrat_rules.specs.Refusals.{cause_of_line}
+use Rattle.lrat_rules.specs.Stores.{formula_store}
+use Rattle.lrat_rules.specs.Tables.{IsTableOf}
+use Rattle.lrat_checker.specs.Causes.{cause_of}
+use Rattle.lrat_checker.specs.Held.{table_of}
+use Rattle.lrat_checker.specs.declared.checker.LratChecker.{LratChecker}
+use Rattle.lrat_checker.specs.declared.fault.LineFault.{LineFault}
+use Rattle.lrat_checker.specs.declared.fault.LineFault.TheVariants.{Failed, OutOfMemory, Refused}
+
+-- a line was not accepted
+abbrev pub has_failed : LratChecker → Bool
+has_failed c = c.failed
+
+-- a line added the empty clause
+abbrev pub has_refuted : LratChecker → Bool
+has_refuted c = c.refuted
+
+-- the lines are accepted after the formula's clauses, and it is known whether one of them adds the empty clause
+pub record HasAccepted (formula : List (List ℕ)) (lines : List Line) (c : LratChecker) : Type 0
+  where
+    pub store : List Item
+    pub ran : run (formula_store formula) lines ≡ Some store
+    pub refuted : has_refuted c ≡ refutes (formula_store formula) lines
+
+-- and no line was refused, and the checker holds what is stored
+pub record IsReady (formula : List (List ℕ)) (lines : List Line) (c : LratChecker) : Type 0 where
+  pub accepted : HasAccepted formula lines c
+  pub table : IsTableOf (table_of c.clauses) accepted.store
+  pub going : has_failed c ≡ false
+
+-- the fault of a line after these: its cause by the rules, or want of memory
+abbrev pub IsAnswer : List (List ℕ) → List Line → Line → LineFault → Type 0
+IsAnswer formula lines line (Refused cause) = (store : List Item) →
+    run (formula_store formula) lines ≡ Some store →
+    cause_of_line store line ≡ Some (cause_of cause)
+IsAnswer formula lines line OutOfMemory = Unit {0}
+IsAnswer formula lines line Failed = ⊥

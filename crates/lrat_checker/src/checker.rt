@@ -1,0 +1,204 @@
+//! The checker of LRAT proofs.
+ghost use Rattle.std.specs.Prelude.{◌≡◌, ◌∷◌, ◌++◌, ◌||◌, ◌&&◌, ℕ, Bool, true, false, [], List, None, Some, Err, IfErr, IfOk, OnOk, OnErr};
+ghost use Rattle.checker_rules.specs.Clauses.{all_true};
+ghost use Rattle.lrat_rules.specs.Lines.{Line, adds_empty};
+ghost use Rattle.lrat_rules.specs.Tables.{cause_by_table, table_after};
+ghost use Rattle.lrat_checker.specs.Causes.{IsCause};
+ghost use Rattle.lrat_checker.specs.declared.fault.LineFault.TheVariants.{Failed};
+ghost use Rattle.lrat_checker.specs.declared.fault.LratFault.TheVariants as texts;
+ghost use Rattle.lrat_checker.specs.Held.{table_of};
+ghost use Rattle.lrat_text.specs.NextLine.{view};
+
+use crate::clauses::Clauses;
+use crate::fault::{LineFault, LratFault, Stop};
+use crate::judging::judge;
+use crate::work::Work;
+use lrat_text::{LineReader, LratLine, LratTextFault};
+use sat_formula::CnfFormula;
+use std::alloc::{AllocError, Global};
+use std::io::Read;
+
+/// Checks the lines of an LRAT proof after the clauses of a formula, groups included.
+#[derive(Drop)]
+pub struct LratChecker {
+    alloc: Global,
+    clauses: Clauses,
+    work: Work,
+    refuted: bool,
+    failed: bool,
+}
+
+impl LratChecker {
+    ghost use Rattle.lrat_checker.specs.Standing.{HasAccepted, IsAnswer, IsReady, has_failed, has_refuted};
+    ghost use Rattle.lrat_checker.specs.TextAnswers.{IfCut, IsCut, IsTextAnswer};
+    ghost use Rattle.lrat_checker.specs.Faults.{of_text};
+
+    /// A checker that holds the clauses of a formula under 1, 2 and so on.
+    pub fn new(alloc: Global, formula: &CnfFormula) -> Result<LratChecker, AllocError>
+        ensures { IfOk result (λ checker. IsReady formula.now [] checker) }
+    {
+        Ok(LratChecker {
+            alloc,
+            clauses: Clauses::new(alloc, formula)?,
+            work: Work::new(alloc),
+            refuted: false,
+            failed: false,
+        })
+    }
+
+    /// Whether a line so far added the empty clause: then no assignment satisfies the formula.
+    pub fn refuted(&self) -> bool
+        ensures value { result ≡ has_refuted self.now }
+        ensures refutes { (formula : List (List ℕ)) (lines : List Line)
+            → HasAccepted formula lines self.now
+            → result ≡ true → (a : ℕ → Bool) → all_true a formula ≡ true → ⊥ }
+    {
+        self.refuted // it stays true after a refusal
+    }
+
+    /// Checks one line after those of earlier calls, and does what it says.
+    ///
+    /// After a line that was not accepted every later call answers `Failed`.
+    pub fn check_line(&mut self, line: LratLine<'_>) -> Result<(), LineFault>
+        ensures accepted { (formula : List (List ℕ)) (lines : List Line)
+            → IsReady formula lines self.old
+            → OnOk result (IsReady formula (lines ++ view line.entry ∷ []) self.new) }
+        ensures refused { (formula : List (List ℕ)) (lines : List Line)
+            → IsReady formula lines self.old
+            → IfErr result (λ fault. IsAnswer formula lines (view line.entry) fault) }
+        ensures kept { (formula : List (List ℕ)) (lines : List Line)
+            → HasAccepted formula lines self.old
+            → OnErr result (HasAccepted formula lines self.new) }
+        ensures fails { OnErr result (has_failed self.new ≡ true) }
+        ensures stays { OnErr result (has_refuted self.new ≡ has_refuted self.old) }
+        ensures going { OnOk result (has_failed self.new ≡ false) }
+        ensures failed { has_failed self.old ≡ true
+            → (result ≡ Err Failed) × (self.new ≡ self.old) }
+    {
+        if self.failed {
+            return Err(LineFault::Failed);
+        }
+        match self.take(line) {
+            Ok(()) => Ok(()),
+            Err(stop) => {
+                self.failed = true;
+                Err(stop.fault())
+            }
+        }
+    }
+
+    /// Checks the lines of a text after those of earlier calls. The answer is whether some line so
+    /// far added the empty clause: then no assignment satisfies the formula.
+    ///
+    /// The text is read as it goes, line by line. After a fault every later call answers `Failed`.
+    pub fn check<R: Read + Drop>(&mut self, proof: R) -> Result<bool, LratFault>
+        ensures checked { (formula : List (List ℕ)) (lines : List Line)
+            → IsReady formula lines self.old
+            → IsTextAnswer false (R.remaining proof) formula lines self.new result }
+        ensures cut { (formula : List (List ℕ)) (lines : List Line)
+            → IsReady formula lines self.old
+            → IfCut result (IsCut R.remaining (R.remaining proof) formula lines self.new) }
+        ensures fails { OnErr result (has_failed self.new ≡ true) }
+        ensures failed { has_failed self.old ≡ true
+            → (result ≡ Err texts.Failed) × (self.new ≡ self.old) }
+    {
+        self.check_text(proof, false)
+    }
+
+    /// The same up to the first line that adds the empty clause. What stands after it is not
+    /// checked.
+    pub fn refute<R: Read + Drop>(&mut self, proof: R) -> Result<bool, LratFault>
+        ensures checked { (formula : List (List ℕ)) (lines : List Line)
+            → IsReady formula lines self.old
+            → IsTextAnswer true (R.remaining proof) formula lines self.new result }
+        ensures cut { (formula : List (List ℕ)) (lines : List Line)
+            → IsReady formula lines self.old
+            → IfCut result (IsCut R.remaining (R.remaining proof) formula lines self.new) }
+        ensures fails { OnErr result (has_failed self.new ≡ true) }
+        ensures stops { has_failed self.old ≡ false → OnErr result (has_refuted self.new ≡ false) }
+        ensures failed { has_failed self.old ≡ true
+            → (result ≡ Err texts.Failed) × (self.new ≡ self.old) }
+    {
+        self.check_text(proof, true)
+    }
+
+    /// Checks the lines of a text, all of them or up to the empty clause.
+    fn check_text<R: Read + Drop>(
+        &mut self,
+        proof: R,
+        until_refuted: bool,
+    ) -> Result<bool, LratFault>
+        ensures checked { (formula : List (List ℕ)) (lines : List Line)
+            → IsReady formula lines self.old
+            → IsTextAnswer until_refuted (R.remaining proof) formula lines self.new result }
+        ensures cut { (formula : List (List ℕ)) (lines : List Line)
+            → IsReady formula lines self.old
+            → IfCut result (IsCut R.remaining (R.remaining proof) formula lines self.new) }
+        ensures fails { OnErr result (has_failed self.new ≡ true) }
+        ensures stops { has_failed self.old ≡ false → until_refuted ≡ true
+            → OnErr result (has_refuted self.new ≡ false) }
+        ensures failed { has_failed self.old ≡ true
+            → (result ≡ Err texts.Failed) × (self.new ≡ self.old) }
+    {
+        if self.failed {
+            return Err(LratFault::Failed);
+        }
+        let mut reader = LineReader::new(self.alloc, proof);
+        'lines: while !self.is_done(until_refuted) {
+            match reader.next_line() {
+                Ok(Some(line)) => {
+                    if let Err(fault) = self.check_line(line) {
+                        return Err(fault.in_line(reader.line()));
+                    }
+                }
+                Ok(None) => return Ok(self.refuted),
+                Err(fault) => return Err(self.unreadable(fault)),
+            }
+        }
+        Ok(self.refuted)
+    }
+
+    /// Whether nothing more is asked for.
+    fn is_done(&self, until_refuted: bool) -> bool
+        ensures { result ≡ (until_refuted && has_refuted self.now) }
+    {
+        until_refuted && self.refuted
+    }
+
+    /// Fails for a text that can't be read.
+    fn unreadable(&mut self, fault: LratTextFault) -> LratFault
+        ensures fault { result ≡ of_text fault }
+        ensures failed { self.new ≡ record self.old { failed = true } }
+    {
+        self.failed = true;
+        LratFault::from(fault)
+    }
+
+    /// Checks a line, and does what it says.
+    fn take(&mut self, line: LratLine<'_>) -> Result<(), Stop>
+        ensures ok { OnOk result
+            (cause_by_table (table_of self.old.clauses) (view line.entry) ≡ None) }
+        ensures table { OnOk result
+            (table_of self.new.clauses
+            ≡ table_after (table_of self.old.clauses) (view line.entry)) }
+        ensures refuted { OnOk result
+            (self.new.refuted ≡ (self.old.refuted || adds_empty (view line.entry))) }
+        ensures going { self.new.failed ≡ self.old.failed }
+        ensures err { IfErr result (λ stop.
+            IsCause stop (cause_by_table (table_of self.old.clauses) (view line.entry))) }
+        ensures kept { OnErr result (self.new.refuted ≡ self.old.refuted) }
+    {
+        match line {
+            LratLine::Add { id, clause, hints } => {
+                judge(&self.clauses, &mut self.work, id, clause, hints)?;
+                self.clauses.put(id, clause)?;
+                self.refuted |= clause.is_empty();
+                Ok(())
+            }
+            LratLine::Delete { ids } => {
+                self.clauses.remove(ids)?;
+                Ok(())
+            }
+        }
+    }
+}

@@ -1,0 +1,150 @@
+//! The stored clauses.
+ghost use Rattle.std.specs.Prelude.{◌≡◌, ◌==◌, ◌<◌, ◌^◌, ◌&&◌, ℕ, None, Some, false, if◌then◌else◌, is_some, nat_eq, IfOk, IsTrue, OnOk};
+ghost use Rattle.std.specs.Option.{option_copied};
+ghost use Rattle.std.specs.HashMap.{get};
+ghost use Rattle.lrat_rules.specs.Tables.{drop_all, drop_one, empty_table, formula_table, put};
+ghost use Rattle.lrat_checker.specs.Far.{far_clause};
+ghost use Rattle.lrat_checker.specs.Near.{near_clause};
+
+use crate::counts::LitCounts;
+use crate::near::NearClauses;
+use sat_formula::{CnfFormula, Lit};
+use std::alloc::{AllocError, Global};
+use std::collections::HashMap;
+
+/// So many places there are for ids beside four for each stored clause.
+const SPARE_PLACES: u64 = 1 << 12;
+
+/// Ids from here on are far.
+const NEAR_IDS: u64 = 1 << 40;
+
+/// The clauses by their ids. Small ids have places in turn; ids that are far above the number of
+/// clauses that were stored stand in a map.
+#[derive(Drop)]
+pub(crate) struct Clauses {
+    alloc: Global,
+    near: NearClauses,
+    far: HashMap<u64, Vec<Lit>>,
+    /// How many clauses were stored so far.
+    stored: u64,
+    counts: LitCounts,
+    ghost apart: { (id : ℕ)
+        → (is_some (near_clause near id) && is_some (get nat_eq far id)) ≡ false },
+}
+
+impl Clauses {
+    ghost use Rattle.lrat_checker.specs.Held.{table_of};
+
+    /// The clauses of a formula under 1, 2 and so on.
+    pub(crate) fn new(alloc: Global, formula: &CnfFormula) -> Result<Clauses, AllocError>
+        ensures { IfOk result (λ made. table_of made ≡ formula_table formula.now) }
+    {
+        let mut made = Clauses::empty(alloc, formula.len())?;
+        let mut id = 0u64;
+        for clause in formula {
+            id += 1;
+            made.put(id, clause)?;
+        }
+        Ok(made)
+    }
+
+    /// No clause, with places for some.
+    fn empty(alloc: Global, room: usize) -> Result<Clauses, AllocError>
+        ensures { IfOk result (λ made. table_of made ≡ empty_table) }
+    {
+        Ok(Clauses {
+            alloc,
+            near: NearClauses::new(alloc, room)?,
+            far: HashMap::new(alloc),
+            stored: 0,
+            counts: LitCounts::new(alloc),
+        })
+    }
+
+    /// The literals of the clause of an id, where it is there.
+    pub(crate) fn get(&self, id: u64) -> Option<&[Lit]>
+        ensures { option_copied result ≡ (table_of self.now).named id }
+    {
+        match self.near.get(id) {
+            Some(clause) => Some(clause),
+            None => self.far_clause(id),
+        }
+    }
+
+    fn far_clause(&self, id: u64) -> Option<&[Lit]>
+        ensures { option_copied result ≡ far_clause self.now.far id }
+    {
+        let clause = self.far.get(&id)?;
+        Some(clause.as_slice())
+    }
+
+    /// Whether the id names a clause.
+    pub(crate) fn contains(&self, id: u64) -> bool
+        ensures { result ≡ is_some ((table_of self.now).named id) }
+    {
+        self.get(id).is_some()
+    }
+
+    /// How often a literal stands in the clauses.
+    pub(crate) fn count(&self, lit: Lit) -> u32
+        ensures { result ≡ (table_of self.now).counts lit }
+    {
+        self.counts.get(lit)
+    }
+
+    /// Stores a clause under a new id. After an error the clauses are of no use.
+    pub(crate) fn put(&mut self, id: u64, clause: &[Lit]) -> Result<(), AllocError>
+        requires { (table_of self.old).named id ≡ None }
+        ensures { OnOk result (table_of self.new ≡ put id clause.now (table_of self.old)) }
+    {
+        self.place(id, clause)?;
+        self.stored = self.stored.saturating_add(1);
+        self.counts.raise(clause)?;
+        Ok(())
+    }
+
+    fn place(&mut self, id: u64, clause: &[Lit]) -> Result<(), AllocError>
+        requires { (table_of self.old).named id ≡ None }
+        ensures named { OnOk result ((k : ℕ) → (table_of self.new).named k
+            ≡ (if k == id then Some clause.now else (table_of self.old).named k)) }
+        ensures counts { self.new.counts ≡ self.old.counts }
+    {
+        if self.is_near(id) {
+            self.near.put(id, clause)?;
+            return Ok(());
+        }
+        self.far.insert(id, Vec::from_slice(self.alloc, clause)?)?;
+        Ok(())
+    }
+
+    /// Whether a new clause under this id gets a place: there are at most four for each clause that
+    /// was stored.
+    fn is_near(&self, id: u64) -> bool
+        ensures { IsTrue result → id < 2 ^ 62 }
+    {
+        id < NEAR_IDS && id / 4 <= self.stored.saturating_add(SPARE_PLACES)
+    }
+
+    /// Removes the clauses of these ids, where they are there. After an error the clauses are of no
+    /// use.
+    pub(crate) fn remove(&mut self, ids: &[u64]) -> Result<(), AllocError>
+        ensures { OnOk result (table_of self.new ≡ drop_all ids.now (table_of self.old)) }
+    {
+        for id in ids {
+            self.remove_one(*id);
+        }
+        self.near.collect_garbage(self.alloc)?;
+        Ok(())
+    }
+
+    fn remove_one(&mut self, id: u64)
+        ensures { table_of self.new ≡ drop_one id (table_of self.old) }
+    {
+        if let Some(clause) = self.near.get(id) {
+            self.counts.lower(clause);
+            self.near.remove(id);
+        } else if let Some(clause) = self.far.remove(&id) {
+            self.counts.lower(&clause);
+        }
+    }
+}

@@ -1,0 +1,139 @@
+//! Why lines are refused.
+ghost use Rattle.std.specs.Prelude.{◌≡◌};
+ghost use Rattle.lrat_checker.specs.declared.fault.Stop.TheVariants as stops;
+
+use lrat_text::{LineKind, LratTextFault};
+use std::alloc::{AllocError, AllocFailed};
+use std::io;
+use thiserror::Error;
+
+/// Why a line is refused.
+#[derive(Clone, Copy, Debug, PartialEq, Eq, Error)]
+pub enum LratCause {
+    /// The id of the new clause names a clause already.
+    #[error("id is taken")]
+    IdTaken,
+    /// A hint before the groups names no clause.
+    #[error("no clause has the id of a hint")]
+    UnknownId,
+    /// A hint before the groups names a clause with two literals that are not false.
+    #[error("clause of a hint is not unit")]
+    NotUnit,
+    /// The hints end without a conflict, and there is no group.
+    #[error("hints end without a conflict")]
+    NoConflict,
+    /// A clause with the negation of the first literal has no group.
+    #[error("no group for a clause with the negation of the first literal")]
+    GroupMissing,
+    /// The hints of a group end without a conflict.
+    #[error("hints of a group end without a conflict")]
+    GroupFails,
+}
+
+/// Why a line is not accepted.
+#[derive(Clone, Copy, Debug, PartialEq, Eq, Error)]
+pub enum LineFault {
+    /// The line is refused.
+    #[error("{0}")]
+    Refused(LratCause),
+    /// There was no memory for what the line says.
+    #[error("out of memory")]
+    OutOfMemory,
+    /// An earlier line was not accepted.
+    #[error("an earlier line was not accepted")]
+    Failed,
+}
+
+/// Why a text is not accepted. Lines count from 1 in each text.
+#[derive(Debug, Drop, Error)]
+pub enum LratFault {
+    /// A read failed, or the text is longer than any that is read.
+    #[error("error reading proof: {0}")]
+    Read(io::Error),
+    /// The line can't be read.
+    #[error("line {line}: {kind}")]
+    Unread { line: u64, kind: LineKind },
+    /// The line is refused.
+    #[error("line {line}: {cause}")]
+    Refused { line: u64, cause: LratCause },
+    /// There was no memory for what the text says.
+    #[error("out of memory")]
+    OutOfMemory,
+    /// An earlier line or text was not accepted.
+    #[error("an earlier line was not accepted")]
+    Failed,
+}
+
+/// Why the check of a line stops.
+#[derive(Clone, Copy)]
+pub(crate) enum Stop {
+    Refused(LratCause),
+    OutOfMemory,
+}
+
+impl From<LratCause> for Stop {
+    ghost from_gives = { λ cause stop. stop ≡ stops.Refused cause };
+
+    fn from(cause: LratCause) -> Stop {
+        Stop::Refused(cause)
+    }
+}
+
+impl From<AllocError> for Stop {
+    ghost from_gives = { λ _ stop. stop ≡ stops.OutOfMemory };
+
+    fn from(_e: AllocError) -> Stop {
+        Stop::OutOfMemory
+    }
+}
+
+impl<T: Drop> From<AllocFailed<T>> for Stop {
+    ghost from_gives = { λ _ stop. stop ≡ stops.OutOfMemory };
+
+    fn from(_e: AllocFailed<T>) -> Stop {
+        Stop::OutOfMemory
+    }
+}
+
+impl Stop {
+    ghost use Rattle.lrat_checker.specs.Faults.{fault_of};
+
+    /// The fault of a line that is checked.
+    pub(crate) fn fault(self) -> LineFault
+        ensures { result ≡ fault_of self }
+    {
+        match self {
+            Stop::Refused(cause) => LineFault::Refused(cause),
+            Stop::OutOfMemory => LineFault::OutOfMemory,
+        }
+    }
+}
+
+impl LineFault {
+    ghost use Rattle.lrat_checker.specs.Faults.{in_line};
+
+    /// The fault of the line of that number in a text.
+    pub(crate) fn in_line(self, line: u64) -> LratFault
+        ensures { result ≡ in_line self line }
+    {
+        match self {
+            LineFault::Refused(cause) => LratFault::Refused { line, cause },
+            LineFault::OutOfMemory => LratFault::OutOfMemory,
+            LineFault::Failed => LratFault::Failed,
+        }
+    }
+}
+
+impl From<LratTextFault> for LratFault {
+    ghost use Rattle.lrat_checker.specs.Faults.{of_text};
+
+    ghost from_gives = { λ fault result. result ≡ of_text fault };
+
+    fn from(fault: LratTextFault) -> LratFault {
+        match fault {
+            LratTextFault::Read(cause) => LratFault::Read(cause),
+            LratTextFault::Line { line, kind } => LratFault::Unread { line, kind },
+            LratTextFault::OutOfMemory => LratFault::OutOfMemory,
+        }
+    }
+}

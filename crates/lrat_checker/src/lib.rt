@@ -1,0 +1,21 @@
+//! A checker of LRAT proofs as solvers write them: of lines that add clauses by propagation along
+//! hints, of lines that add redundant clauses with groups of hints, and of deletions.
+#![tactic(auto)]
+
+mod checker;
+mod clauses;
+mod counts;
+mod fault;
+mod groups;
+mod judging;
+mod near;
+mod propagation;
+mod redundancy;
+mod span;
+#[cfg(test)]
+mod tests;
+mod values;
+mod work;
+
+pub use checker::LratChecker;
+pub use fault::{LineFault, LratCause, LratFault};

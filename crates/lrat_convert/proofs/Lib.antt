@@ -1,0 +1,5 @@
+pub mod HoldingLemmas
+pub mod WrittenLemmas
+pub mod ConvertedLemmas
+pub mod LineLemmas
+pub mod ReadingLemmas

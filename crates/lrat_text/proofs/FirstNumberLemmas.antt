@@ -1,0 +1,140 @@
+-- The number in front of a line.
+use Rattle.std.proofs.Common.{◌≡◌, ℕ, zero, suc, ◌+◌, ◌-◌, ◌*◌, ◌^◌, ◌<◌, ◌≤◌, Bool, true, false, List, [], ◌∷◌, ◌++◌, length, length-take, get_or, take, drop, Option, Some, None, refl, sym, ap, ◌∙◌, arith, length-drop, subst}
+use Rattle.std.proofs.Math.Nat.{pow-le-pow_right, pow-suc}
+use Rattle.std.proofs.lemmas.Bool.{eqb-true}
+use Rattle.std.specs.Prelude.{◌==◌, slice_index}
+use Rattle.std.proofs.lemmas.Bool.Decides.{nat_tests}
+use Rattle.std.proofs.lemmas.List.{take_all}
+use Rattle.sat_formula.specs.Bytes.{is_blank, is_digit}
+use Rattle.sat_formula.specs.Lines.{value_from, words_of}
+use Rattle.lrat_text.specs.declared.number.Number.TheVariants.{Exact}
+use Rattle.lrat_text.specs.FirstNumbers.{HasDigits, IsDigitsWord, IsFirst}
+use Rattle.lrat_text.specs.Numbers.{number_of}
+use Rattle.lrat_text.proofs.NumberLemmas.{judged-exact}
+use Rattle.lrat_text.proofs.WordLemmas.{words_of-drop, words_of-first}
+
+-- ---- digits
+
+no_blank : (b : ℕ) → is_digit b ≡ true → is_blank b ≡ false
+no_blank b e = go (is_blank b) refl
+  where
+    go : (x : Bool) → is_blank b ≡ x → x ≡ false
+    go true p = absurd (grind (arith, nat_tests, e, p))
+    go false p = refl
+
+digit_small : (b : ℕ) → is_digit b ≡ true → b - 48 ≤ 9
+digit_small b e = grind (arith, nat_tests, e)
+
+no_minus : (b : ℕ) → is_digit b ≡ true → (b == 45) ≡ false
+no_minus b e = go (b == 45) refl
+  where
+    go : (x : Bool) → (b == 45) ≡ x → x ≡ false
+    go true p = absurd (grind (arith, nat_tests, e, p))
+    go false p = refl
+
+some-value : (v w : ℕ) → Some v ≡ Some w → v ≡ w
+some-value v w e = cc
+
+-- a digit more at the end
+digit_then : (v w d x : ℕ) (ds : List ℕ) (b : Bool) → is_digit x ≡ b → value_from v (x ∷ ds) ≡ Some w →
+    (value_from (v * 10 + (x - 48)) ds ≡ Some w → value_from (v * 10 + (x - 48)) (ds ++ d ∷ []) ≡ Some (w * 10 + (d - 48))) → value_from v (x ∷ ds ++ d ∷ []) ≡ Some (w * 10 + (d - 48))
+digit_then v w d x ds true p e later = rw p (later (rw p at e))
+digit_then v w d x ds false p e later = let bad = rw p at e in absurd cc
+
+value_from-more : (v w d : ℕ) (ds : List ℕ) → value_from v ds ≡ Some w → is_digit d ≡ true → value_from v (ds ++ d ∷ []) ≡ Some (w * 10 + (d - 48))
+value_from-more v w d [] e f = rw f (ap (λ u. Some (u * 10 + (d - 48))) (some-value v w e))
+value_from-more v w d (x ∷ ds) e f = digit_then v w d x ds (is_digit x) refl e (λ more. value_from-more (v * 10 + (x - 48)) w d ds more f)
+
+take-more : (bytes : List ℕ) (n : ℕ) → n < length bytes → take (suc n) bytes ≡ take n bytes ++ get_or bytes n 0 ∷ []
+take-more [] n lt = absurd (omega arith)
+take-more (b ∷ bytes) zero lt = refl
+take-more (b ∷ bytes) (suc n) lt = ap (λ bs. b ∷ bs) (take-more bytes n (omega arith))
+
+suc-is : (n : ℕ) → n + 1 ≡ suc n
+suc-is n = omega arith
+
+-- the value of some digits stays below a power of ten
+pub small_more : (n v d : ℕ) → v < 10 ^ n → is_digit d ≡ true → v * 10 + (d - 48) < 10 ^ (n + 1)
+small_more n v d small e = omega (arith, small, digit_small d e, pow-suc 10 n, ap (λ m. 10 ^ m) (suc-is n))
+
+pub digit_fits_after : (n v d : ℕ) → n < 18 → v < 10 ^ n → is_digit d ≡ true → v * 10 + (d - 48) < 2 ^ 64
+digit_fits_after n v d few small e =
+    let below : 10 ^ n ≤ 10 ^ 17 = pow-le-pow_right {n = 10} (omega arith) {i = n} {j = 17} (omega (arith, few)) in
+    omega (arith, small, digit_small d e, below)
+
+-- none yet, and one more
+pub digits_none : (bytes : List ℕ) → HasDigits bytes 0 0
+digits_none bytes = record { within = omega arith; digits = λ k lt. absurd (omega (arith, lt)); value = refl; fits = omega arith }
+
+pub digits_more : (bytes : List ℕ) (n v : ℕ) → HasDigits bytes n v → n < length bytes → n < 18 → v < 10 ^ n → is_digit (slice_index bytes n) ≡ true →
+    HasDigits bytes (n + 1) (v * 10 + (slice_index bytes n - 48))
+digits_more bytes n v h lt few small e = record {
+  within = omega (arith, lt);
+  digits = λ k below. at_or_before k (k == n) refl below;
+  value = ap (λ m. value_from 0 (take m bytes)) (suc-is n) ∙ ap (value_from 0) (take-more bytes n lt) ∙ value_from-more 0 v (slice_index bytes n) (take n bytes) h.value e;
+  fits = digit_fits_after n v (slice_index bytes n) few small e;
+}
+  where
+    at_or_before : (k : ℕ) (b : Bool) → (k == n) ≡ b → k < n + 1 → is_digit (slice_index bytes k) ≡ true
+    at_or_before k true p below = subst (λ i. is_digit (slice_index bytes i) ≡ true) (sym (eqb-true k n p)) e
+    at_or_before k false p below = h.digits k (grind (arith, nat_tests, p, below))
+
+-- ---- words of digits
+
+-- the word goes to the end of the bytes
+pub word_to_end : (bytes : List ℕ) (n v : ℕ) → HasDigits bytes n v → (n ≡ 0 → ⊥) → n ≡ length bytes → IsDigitsWord bytes v (take (length bytes - n) (drop n bytes))
+word_to_end bytes n v h some all = record {
+  len = n;
+  digits = h;
+  some = omega (arith, some);
+  end = λ lt. absurd (omega (arith, lt, all));
+  words = ap words_of (take_all (length bytes - n) (drop n bytes) (omega (arith, length-drop n bytes)));
+  shorter = omega (arith, some, all, length-take (length bytes - n) (drop n bytes));
+}
+
+-- a blank follows the word
+pub word_to_blank : (bytes : List ℕ) (n v : ℕ) → HasDigits bytes n v → (n ≡ 0 → ⊥) → n < length bytes → is_blank (slice_index bytes n) ≡ true →
+    IsDigitsWord bytes v (take (length bytes - (n + 1)) (drop (n + 1) bytes))
+word_to_blank bytes n v h some lt e = record {
+  len = n;
+  digits = h;
+  some = omega (arith, some);
+  end = λ l. e;
+  words = ap words_of (take_all (length bytes - (n + 1)) (drop (n + 1) bytes) (omega (arith, length-drop (n + 1) bytes))) ∙ ap (λ m. words_of (drop m bytes)) (suc-is n) ∙ words_after bytes n lt e;
+  shorter = omega (arith, some, length-drop (n + 1) bytes, length-take (length bytes - (n + 1)) (drop (n + 1) bytes));
+}
+  where
+    words_after : (bs : List ℕ) (m : ℕ) → m < length bs → is_blank (get_or bs m 0) ≡ true → words_of (drop (suc m) bs) ≡ words_of (drop m bs)
+    words_after [] m l f = absurd (omega arith)
+    words_after (b ∷ bs) zero l f = words_of-drop (b ∷ bs) l f
+    words_after (b ∷ bs) (suc m) l f = words_after bs m (omega arith) f
+
+-- ---- the number in front
+
+plain_says : (bytes : List ℕ) (n v : ℕ) → HasDigits bytes n v → 0 < n → v < 2 ^ 64 → number_of (take n bytes) ≡ Exact false v
+plain_says bytes zero v h some fits = absurd (omega arith)
+plain_says [] (suc n) v h some fits = let le = h.within in absurd (omega (arith, le))
+plain_says (b ∷ bytes) (suc n) v h some fits = rw (no_minus b (h.digits 0 (omega arith)), h.value) (judged-exact false v fits (λ e. absurd cc))
+
+pub first_plain : (bytes rest : List ℕ) (v : ℕ) → IsDigitsWord bytes v rest → IsFirst (words_of bytes) (Exact false v) (words_of rest)
+first_plain bytes rest v w = record {
+  word = take w.len bytes;
+  words = words_of-first bytes w.len w.some w.digits.within (λ k lt. no_blank (slice_index bytes k) (w.digits.digits k lt)) w.end ∙ ap (λ ws. take w.len bytes ∷ ws) (sym w.words);
+  says = plain_says bytes w.len v w.digits w.some w.digits.fits;
+}
+
+negative_says : (bytes : List ℕ) (n v : ℕ) → HasDigits bytes n v → 0 < n → v < 2 ^ 64 → (v ≡ 0 → ⊥) → number_of (45 ∷ take n bytes) ≡ Exact true v
+negative_says bytes zero v h some fits other = absurd (omega arith)
+negative_says [] (suc n) v h some fits other = let le = h.within in absurd (omega (arith, le))
+negative_says (b ∷ bytes) (suc n) v h some fits other = rw h.value (judged-exact true v fits (λ e. other))
+
+pub first_negative : (bytes rest : List ℕ) (v : ℕ) → IsDigitsWord bytes v rest → (v ≡ 0 → ⊥) → IsFirst (words_of (45 ∷ bytes)) (Exact true v) (words_of rest)
+first_negative bytes rest v w other = record {
+  word = 45 ∷ take w.len bytes;
+  words = words_of-first (45 ∷ bytes) (suc w.len) (omega arith) (let le = w.digits.within in omega (arith, le)) free (λ lt. w.end (omega (arith, lt))) ∙ ap (λ ws. (45 ∷ take w.len bytes) ∷ ws) (sym w.words);
+  says = negative_says bytes w.len v w.digits w.some w.digits.fits other;
+}
+  where
+    free : (k : ℕ) → k < suc w.len → is_blank (get_or (45 ∷ bytes) k 0) ≡ false
+    free zero lt = refl
+    free (suc k) lt = no_blank (slice_index bytes k) (w.digits.digits k (omega (arith, lt)))

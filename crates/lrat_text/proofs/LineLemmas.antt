@@ -1,0 +1,88 @@
+-- The lines of a text, one after the other.
+use Rattle.std.proofs.Common.{◌≡◌, ℕ, Bool, true, false, List, [], ◌∷◌, ◌++◌, Option, Result, refl, sym, ap, ◌∙◌, append_assoc}
+use Rattle.std.specs.Io.KnownBytes.{Consumes, IsAtEnd}
+use Rattle.std.proofs.KnownBytes.{Consumes-trans, Consumes-nil}
+use Rattle.std.proofs.lemmas.List.Splits.{slice_split_at, slice_split_none}
+use Rattle.sat_formula.specs.Bytes.{is_lf}
+use Rattle.sat_formula.specs.Lines.{lines_of, words_of}
+use Rattle.sat_formula.specs.Outcome.{next_line}
+use Rattle.sat_formula.proofs.Lines.{slice_split-front}
+use Rattle.lrat_rules.specs.Lines.{Line}
+use Rattle.lrat_text.specs.declared.fault.LineKind.{LineKind}
+use Rattle.lrat_text.specs.declared.fault.LineKind.TheVariants.{Malformed, Unfinished}
+use Rattle.lrat_text.specs.Grammar.{says}
+use Rattle.lrat_text.specs.Bytes.{IsOpen}
+use Rattle.lrat_text.specs.Taking.{Leads, EndsAll, Follows, Breaks}
+use Rattle.lrat_text.specs.Texts.{Outcome, line_then, lines_from, outcome_after}
+
+abbrev pub Known : Type 0
+Known = Option (List ℕ)
+
+-- what a line says, and then the rest of its text
+abbrev pub said_then : ℕ → Result (Option Line) LineKind → List ℕ → Outcome
+said_then number said more = line_then number said (outcome_after number more)
+
+-- a line with its LF
+lines_of-lf : (line more : List ℕ) → IsOpen line → lines_of ((line ++ 10 ∷ []) ++ more) ≡ line ∷ lines_of more
+lines_of-lf line more is_open = ap lines_of (append_assoc line (10 ∷ []) more) ∙ slice_split_at is_lf line 10 more is_open refl
+
+-- it is no last line, since the text goes on after it, if only by an empty line
+short_inside : (before : ℕ) (line more : List ℕ) → lines_from before (line ∷ lines_of more) ≡ said_then (next_line before) (says Malformed (words_of line)) more
+short_inside before line more =
+    let e = slice_split-front is_lf more in
+    ap (λ (ls : List (List ℕ)). lines_from before (line ∷ ls)) e
+    ∙ ap (λ (ls : List (List ℕ)). line_then (next_line before) (says Malformed (words_of line)) (lines_from (next_line before) ls)) (sym e)
+
+pub line_leads : {a b : Known} (before : ℕ) (line : List ℕ) → IsOpen line → Consumes a b (line ++ 10 ∷ []) →
+    Leads a b (outcome_after before) (said_then (next_line before) (says Malformed (words_of line)))
+line_leads before line is_open consumed = record {
+  taken = line ++ 10 ∷ [];
+  consumed = consumed;
+  same = λ more. ap (lines_from before) (lines_of-lf line more is_open) ∙ short_inside before line more;
+}
+
+pub last_ends : {a b : Known} (before : ℕ) (line : List ℕ) → IsOpen line → Consumes a b line → IsAtEnd b →
+    EndsAll a b (outcome_after before) (said_then (next_line before) (says Unfinished (words_of line)))
+last_ends before line is_open consumed at_end = record {
+  taken = line;
+  consumed = consumed;
+  at_end = at_end;
+  same = ap (lines_from before) (slice_split_none is_lf line is_open);
+}
+
+-- ---- line after line
+
+pub leads_on : {a b c : Known} {f g h : List ℕ → Outcome} → Leads a b f g → Leads b c g h → Leads a c f h
+leads_on {a} {b} {c} {f} p q = record {
+  taken = p.taken ++ q.taken;
+  consumed = Consumes-trans a b c p.taken q.taken p.consumed q.consumed;
+  same = λ more. ap f (append_assoc p.taken q.taken more) ∙ p.same (q.taken ++ more) ∙ q.same more;
+}
+
+pub ends_on : {a b c : Known} {f g h : List ℕ → Outcome} → Leads a b f g → EndsAll b c g h → EndsAll a c f h
+ends_on {a} {b} {c} p q = record {
+  taken = p.taken ++ q.taken;
+  consumed = Consumes-trans a b c p.taken q.taken p.consumed q.consumed;
+  at_end = q.at_end;
+  same = p.same q.taken ∙ q.same;
+}
+
+-- a line after those that were read
+pub follows_on : {a b : Known} (c : Known) (before number : ℕ) (over : Bool) (rest : List ℕ → Outcome) →
+    Leads a b (outcome_after before) (outcome_after number) → Follows b c number over rest → Follows a c before over rest
+follows_on c before number false rest p q = leads_on p q
+follows_on c before number true rest p q = ends_on p q
+
+pub breaks_on : {a b c : Known} {before number last : ℕ} → Leads a b (outcome_after before) (outcome_after number) → Breaks b c number last → Breaks a c before last
+breaks_on {a} {b} {c} {before} p q = record {
+  passed = p.taken ++ q.passed;
+  begun = q.begun;
+  consumed = rw (append_assoc p.taken q.passed q.begun) (Consumes-trans a b c p.taken (q.passed ++ q.begun) p.consumed q.consumed);
+  same = λ more. ap (outcome_after before) (append_assoc p.taken q.passed more) ∙ p.same (q.passed ++ more) ∙ q.same more;
+  is_open = q.is_open;
+}
+
+-- the same, said otherwise
+pub follows_as : (a b : Known) (before : ℕ) (over : Bool) (f g : List ℕ → Outcome) → ((more : List ℕ) → f more ≡ g more) → Follows a b before over f → Follows a b before over g
+follows_as a b before false f g e p = record { taken = p.taken; consumed = p.consumed; same = λ more. p.same more ∙ e more }
+follows_as a b before true f g e p = record { taken = p.taken; consumed = p.consumed; at_end = p.at_end; same = p.same ∙ e [] }

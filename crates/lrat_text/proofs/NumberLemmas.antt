@@ -1,0 +1,59 @@
+-- The value of digits, one after the other.
+use Rattle.std.proofs.Common.{◌≡◌, ℕ, ◌+◌, ◌-◌, ◌*◌, ◌^◌, ◌<◌, ◌≤◌, Bool, true, false, List, [], ◌∷◌, length, drop, Some, None, refl, sym, ap, ◌∙◌, arith}
+use Rattle.std.proofs.lemmas.Bool.{lt-ltb, ne_eqb}
+use Rattle.std.proofs.lemmas.List.{drop_all}
+use Rattle.sat_formula.specs.Bytes.{is_digit}
+use Rattle.sat_formula.specs.Lines.{value_from, value_of}
+use Rattle.lrat_text.specs.declared.number.Number.TheVariants.{Exact}
+use Rattle.lrat_text.specs.Numbers.{judged}
+
+-- what is kept of the value of the digits so far: the value, or that it has more than 64 bits
+abbrev pub IsKept : Bool → ℕ → ℕ → Type 0
+IsKept false kept value = kept ≡ value
+IsKept true kept value = 2 ^ 64 ≤ value
+
+-- of the digits, these are still to be read
+pub record SoFar (digits left : List ℕ) (kept : ℕ) (large : Bool) : Type 0 where
+  pub value : ℕ
+  pub same : value_from 0 digits ≡ value_from value left
+  pub is_kept : IsKept large kept value
+
+pub none_read : (digits : List ℕ) → SoFar digits digits 0 false
+none_read digits = record { value = 0; same = refl; is_kept = refl }
+
+pub no_digit : {digits : List ℕ} {kept : ℕ} {large : Bool} (d : ℕ) (left : List ℕ) → SoFar digits (d ∷ left) kept large → is_digit d ≡ false → value_from 0 digits ≡ None
+no_digit d left p e = p.same ∙ rw e refl
+
+one_more : {digits : List ℕ} {kept : ℕ} {large : Bool} (d : ℕ) (left : List ℕ) (p : SoFar digits (d ∷ left) kept large) →
+    is_digit d ≡ true → value_from 0 digits ≡ value_from (p.value * 10 + (d - 48)) left
+one_more d left p e = p.same ∙ rw e refl
+
+-- a digit more, and the value still fits
+pub digit_fits : {digits : List ℕ} (kept d : ℕ) (left : List ℕ) → SoFar digits (d ∷ left) kept false → is_digit d ≡ true → SoFar digits left (kept * 10 + (d - 48)) false
+digit_fits kept d left p e = record { value = p.value * 10 + (d - 48); same = one_more d left p e; is_kept = ap (λ v. v * 10 + (d - 48)) p.is_kept }
+
+-- a digit more, and the value no longer fits
+pub digit_over : {digits : List ℕ} (kept d : ℕ) (left : List ℕ) → SoFar digits (d ∷ left) kept false → is_digit d ≡ true → 2 ^ 64 ≤ kept * 10 + (d - 48) → (any : ℕ) → SoFar digits left any true
+digit_over kept d left p e over any = record { value = p.value * 10 + (d - 48); same = one_more d left p e; is_kept = rw (← p.is_kept) over }
+
+-- a digit more after a value that no longer fits
+pub digit_large : {digits : List ℕ} (kept d : ℕ) (left : List ℕ) → SoFar digits (d ∷ left) kept true → is_digit d ≡ true → (any : ℕ) → SoFar digits left any true
+digit_large kept d left p e any = record { value = p.value * 10 + (d - 48); same = one_more d left p e; is_kept = omega (arith, p.is_kept) }
+
+pub all_read : {digits : List ℕ} {kept : ℕ} {large : Bool} (p : SoFar digits [] kept large) → value_from 0 digits ≡ Some p.value
+all_read p = p.same
+
+-- digits have the value that is read
+pub value_of-digits : (digits : List ℕ) → (digits ≡ [] → ⊥) → value_of digits ≡ value_from 0 digits
+value_of-digits [] some = absurd (some refl)
+value_of-digits (d ∷ digits) some = refl
+
+-- a value that fits, and is not -0
+pub judged-exact : (negative : Bool) (v : ℕ) → v < 2 ^ 64 → (negative ≡ true → v ≡ 0 → ⊥) → judged negative (Some v) ≡ Exact negative v
+judged-exact false v fits some = rw (lt-ltb v (2 ^ 64) fits) refl
+judged-exact true v fits some = rw (lt-ltb v (2 ^ 64) fits, ne_eqb v 0 (some refl)) refl
+
+-- all digits were read
+pub value_of-read : (digits : List ℕ) (n kept : ℕ) → SoFar digits (drop n digits) kept false → length digits ≤ n → (digits ≡ [] → ⊥) → value_of digits ≡ Some kept
+value_of-read digits n kept p all some =
+    value_of-digits digits some ∙ p.same ∙ ap (value_from p.value) (drop_all n digits all) ∙ ap (λ (v : ℕ). Some v) (sym p.is_kept)

@@ -1,0 +1,90 @@
+-- What reading a line says, and reading on to one that says something.
+use Rattle.std.proofs.Common.{◌≡◌, ℕ, ◌<◌, Bool, true, false, List, [], Option, Some, None, Result, Ok, Err, refl, sym, ap}
+use Rattle.std.specs.Prelude.{not, IsErrAnd}
+use Rattle.std.proofs.lemmas.Result.{err_from_is_err_and}
+use Rattle.sat_formula.specs.Lines.{words_of}
+use Rattle.sat_formula.specs.Outcome.{next_line}
+use Rattle.sat_formula.specs.declared.source.Source.{Source}
+use Rattle.lrat_rules.specs.Lines.{Line}
+use Rattle.lrat_text.specs.declared.fault.LineKind.{LineKind}
+use Rattle.lrat_text.specs.declared.fault.LineKind.TheVariants.{Malformed, Unfinished}
+use Rattle.lrat_text.specs.declared.fault.LratTextFault.{LratTextFault}
+use Rattle.lrat_text.specs.declared.fault.LratTextFault.TheVariants as faults
+use Rattle.lrat_text.specs.declared.fault.Stop.{Stop}
+use Rattle.lrat_text.specs.declared.fault.Stop.TheVariants as stops
+use Rattle.lrat_text.specs.declared.reader.LineReader.{LineReader}
+use Rattle.lrat_text.specs.declared.row.Head.{Head}
+use Rattle.lrat_text.specs.Grammar.{says}
+use Rattle.lrat_text.specs.Holding.{HoldsLine}
+use Rattle.lrat_text.specs.NextLine.{bytes_left, has_ended, line_number, work_left, rest_of, Reads, Answers, JudgesLine, Explains}
+use Rattle.lrat_text.specs.Reading.{ReadsAs, line_if, line_of}
+use Rattle.lrat_text.specs.Taking.{Follows}
+use Rattle.lrat_text.specs.Texts.{outcome_after}
+use Rattle.lrat_text.proofs.LineLemmas.{Known, said_then, line_leads, last_ends, follows_on, follows_as, breaks_on}
+
+-- ---- one line
+
+-- the fault of a line that ends too early
+abbrev pub short_for : Bool → LineKind
+short_for true = Malformed
+short_for false = Unfinished
+
+held : {R : Type 0} (a b : Known) (before : ℕ) (source : Source R) (line : List ℕ) (whole : Bool) → HoldsLine a b source line (Ok whole) →
+    Follows a b before (not whole) (said_then (next_line before) (says (short_for whole) (words_of line)))
+held a b before source line true p = line_leads before line p.0 p.1
+held a b before source line false p = last_ends before line p.0 p.1 p.2
+
+module _ {R : Type 0} (remaining : R → Option (List ℕ)) (old new : LineReader R) (line : List ℕ) where
+  pub line_judged : (whole : Bool) (r : Result (Option Head) Stop) → HoldsLine (bytes_left remaining old) (bytes_left remaining new) new.lines.source line (Ok whole)
+      → line_number new ≡ next_line (line_number old) → has_ended new ≡ not whole → ReadsAs (line_if new.row) (says (short_for whole) (words_of line)) r → JudgesLine remaining old new r
+  line_judged whole (Ok head) p number over said =
+      rw (number, over) (follows_as (bytes_left remaining old) (bytes_left remaining new) (line_number old) (not whole) _ _
+      (λ more. ap (λ (s : Result (Option Line) LineKind). said_then (next_line (line_number old)) s more) said)
+      (held _ _ (line_number old) new.lines.source line whole p))
+  line_judged whole (Err (stops.Wrong kind)) p number over said =
+      rw number (
+        not whole,
+        follows_as (bytes_left remaining old) (bytes_left remaining new) (line_number old) (not whole) _ _
+            (λ more. ap (λ (s : Result (Option Line) LineKind). said_then (next_line (line_number old)) s more) said)
+            (held _ _ (line_number old) new.lines.source line whole p),
+      )
+  line_judged whole (Err stops.Read) p number over said = absurd said
+  line_judged whole (Err stops.OutOfMemory) p number over said = tt
+
+  not_held : (e : Stop) → HoldsLine (bytes_left remaining old) (bytes_left remaining new) new.lines.source line (Err e) → line_number new ≡ line_number old → JudgesLine remaining old new (Err e)
+  not_held (stops.Wrong kind) p number = absurd p
+  not_held stops.Read p number = (record { passed = []; begun = line; consumed = p.1; same = λ more. ap (λ n. outcome_after n more) (sym number); is_open = p.0 }, p.2)
+  not_held stops.OutOfMemory p number = tt
+
+  pub line_broken : (e : Stop) (r : Result (Option Head) Stop) → IsErrAnd r (λ d. d ≡ e) →
+      HoldsLine (bytes_left remaining old) (bytes_left remaining new) new.lines.source line (Err e) → line_number new ≡ line_number old →
+      JudgesLine remaining old new r
+  line_broken e r h p number = let q = err_from_is_err_and r h in rw (q.1, q.2) (not_held e p number)
+
+-- ---- line after line
+
+module _ {R : Type 0} (remaining : R → Option (List ℕ)) (old now new : LineReader R) where
+  -- what a loop keeps: lines that say nothing were read
+  pub line_passed : Reads remaining old now false (rest_of now) → JudgesLine remaining now new (Ok None) → Reads remaining old new (has_ended new) (rest_of new)
+  line_passed p q = follows_on (bytes_left remaining new) (line_number old) (line_number now) (has_ended new) (rest_of new) p q
+
+  pub line_given : (head : Head) → Reads remaining old now false (rest_of now) → JudgesLine remaining now new (Ok (Some head)) →
+      work_left new < work_left old → Answers remaining (line_of new.row) old new (Ok (Some head))
+  line_given head p q less = (follows_on (bytes_left remaining new) (line_number old) (line_number now) (has_ended new) _ p q, less)
+
+  -- nothing is read after a stop
+  pub stop_told : (last : LineReader R) (stop : Stop) (fault : LratTextFault) → Reads remaining old now false (rest_of now) → JudgesLine remaining now new (Err stop)
+      → Explains new.lines.source new.number stop fault → last ≡ record new { ended = true } → Answers remaining (line_of last.row) old last (Err fault)
+  stop_told last (stops.Wrong kind) fault p q e is =
+      rw (e, is) (refl, (q.0, follows_on (bytes_left remaining new) (line_number old) (line_number now) q.0 _ p q.1), refl)
+  stop_told last stops.Read (faults.Read e) p q told is = rw is (breaks_on p q.0, told, refl)
+  stop_told last stops.Read (faults.Line number kind) p q told is = absurd told
+  stop_told last stops.Read faults.OutOfMemory p q told is = absurd told
+  stop_told last stops.OutOfMemory fault p q e is = rw (e, is) refl
+
+-- the end
+pub text_ended : {R X : Type 0} (remaining : R → Option (List ℕ)) (seen : X → Line) (old now : LineReader R) → has_ended now ≡ true →
+    Reads remaining old now (has_ended now) (rest_of now) → Answers remaining seen old now (Ok None)
+text_ended remaining seen old now e p =
+    let q = rw e at p in
+    (record { taken = q.taken; consumed = q.consumed; at_end = q.at_end; same = q.same }, e)

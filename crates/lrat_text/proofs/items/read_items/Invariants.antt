@@ -1,0 +1,12 @@
+use Rattle.std.proofs.Common.{◌≡◌, length}
+use Rattle.sat_formula.specs.Lines.{words_of}
+use Rattle.lrat_text.specs.Items.{items_at}
+use Rattle.lrat_text.proofs.ItemLemmas.{with_front}
+use Rattle.lrat_text.proofs.items.read_items.Given as goal
+
+abbrev pub invariant-words : goal.invariant-words
+invariant-words g l =
+    items_at g.T.Item.said l.short (words_of l.fn.bytes) ≡ with_front l.into.items (items_at g.T.Item.said l.short (words_of l.rest))
+
+abbrev pub decreases-words : goal.decreases-words
+decreases-words g l = length l.rest

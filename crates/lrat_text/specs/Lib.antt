@@ -1,0 +1,11 @@
+pub mod Numbers
+pub mod Items
+pub mod FirstNumbers
+pub mod Grammar
+pub mod Reading
+pub mod Bytes
+pub mod Holding
+pub mod Texts
+pub mod Taking
+pub mod NextLine
+pub mod Rows

@@ -1,0 +1,60 @@
+//! Why a line could not be read.
+ghost use Rattle.std.specs.Prelude.{◌≡◌};
+ghost use Rattle.lrat_text.specs.declared.fault.Stop.TheVariants as stops;
+
+use std::alloc::AllocFailed;
+use std::io;
+use thiserror::Error;
+
+/// What is wrong with a line.
+#[derive(Clone, Copy, Debug, PartialEq, Eq, Error)]
+pub enum LineKind {
+    /// A word that is no number where one is due, a number that can't stand there, a 0 that is
+    /// missing where the line ends, or a word after its last 0.
+    #[error("malformed line")]
+    Malformed,
+    /// An id or a hint of 2^64 or more, or a variable above `Var::MAX_COUNT`.
+    #[error("number too large")]
+    NumberTooLarge,
+    /// The text ends within a line, before its last 0.
+    #[error("unfinished line")]
+    Unfinished,
+}
+
+/// Why a reader of lines gave up.
+#[derive(Debug, Drop, Error)]
+pub enum LratTextFault {
+    /// A read failed, or the text is longer than any that is read.
+    #[error("error reading proof: {0}")]
+    Read(io::Error),
+    /// The first fault of the text, and the line in which it stands; lines count from 1.
+    #[error("line {line}: {kind}")]
+    Line { line: u64, kind: LineKind },
+    /// There was no memory for a line or for the bytes read ahead.
+    #[error("out of memory")]
+    OutOfMemory,
+}
+
+/// Why reading stops. It is small, since it passes through the loops over words.
+#[derive(Clone, Copy)]
+pub(crate) enum Stop {
+    Read,
+    Wrong(LineKind),
+    OutOfMemory,
+}
+
+impl From<LineKind> for Stop {
+    ghost from_gives = { λ kind stop. stop ≡ stops.Wrong kind };
+
+    fn from(kind: LineKind) -> Stop {
+        Stop::Wrong(kind)
+    }
+}
+
+impl<T: Drop> From<AllocFailed<T>> for Stop {
+    ghost from_gives = { λ _ stop. stop ≡ stops.OutOfMemory };
+
+    fn from(_e: AllocFailed<T>) -> Stop {
+        Stop::OutOfMemory
+    }
+}

@@ -1,0 +1,98 @@
+//! Lists of a line, each up to its 0.
+ghost use Rattle.std.specs.Prelude.{◌≡◌, Option, Result};
+ghost use Rattle.sat_formula.specs.Lines.{words_of};
+ghost use Rattle.lrat_text.specs.declared.number.Number.{Number};
+ghost use Rattle.lrat_text.specs.declared.fault.LineKind.{LineKind};
+ghost use Rattle.lrat_text.specs.Items.{lit_said, hint_said, id_said, items_at};
+ghost use Rattle.lrat_text.specs.Reading.{ReadsAs};
+
+use crate::fault::{LineKind, Stop};
+use crate::line::Hint;
+use crate::number::{Number, split_number};
+use sat_formula::{Lit, Var};
+
+const MAX_VARIABLE: u64 = Var::MAX_COUNT as u64;
+
+/// What stands in a list, by the number that says it.
+pub(crate) trait Item: Copy {
+    ghost said: { Number → Result (Option Self) LineKind };
+
+    /// An item, or none at the 0 that ends the list.
+    fn of(number: Number) -> Result<Option<Self>, LineKind>
+        ensures { result ≡ said number };
+}
+
+impl Item for Lit {
+    ghost said = { lit_said };
+
+    fn of(number: Number) -> Result<Option<Lit>, LineKind> {
+        match number {
+            Number::Exact { value: 0, .. } => Ok(None),
+            Number::Exact { negative, value } if value <= MAX_VARIABLE => {
+                Ok(Lit::from_code((value as usize - 1) * 2 + negative as usize))
+            }
+            Number::Exact { .. } | Number::Large => Err(LineKind::NumberTooLarge),
+            Number::Bad => Err(LineKind::Malformed),
+        }
+    }
+}
+
+impl Item for Hint {
+    ghost said = { hint_said };
+
+    fn of(number: Number) -> Result<Option<Hint>, LineKind> {
+        match number {
+            Number::Exact { value: 0, .. } => Ok(None),
+            Number::Exact {
+                negative: false,
+                value,
+            } => Ok(Some(Hint::Along(value))),
+            Number::Exact {
+                negative: true,
+                value,
+            } => Ok(Some(Hint::Against(value))),
+            Number::Large => Err(LineKind::NumberTooLarge),
+            Number::Bad => Err(LineKind::Malformed),
+        }
+    }
+}
+
+impl Item for u64 {
+    ghost said = { id_said };
+
+    fn of(number: Number) -> Result<Option<u64>, LineKind> {
+        match number {
+            Number::Exact { value: 0, .. } => Ok(None),
+            Number::Exact {
+                negative: false,
+                value,
+            } => Ok(Some(value)),
+            Number::Large => Err(LineKind::NumberTooLarge),
+            Number::Exact { negative: true, .. } | Number::Bad => Err(LineKind::Malformed),
+        }
+    }
+}
+
+/// Reads a list to its 0 in place of what `into` held, and answers what follows it. `short` is the
+/// fault of a list whose 0 is missing.
+pub(crate) fn read_items<'a, T: Item>(
+    bytes: &'a [u8],
+    short: LineKind,
+    into: &mut Vec<T>,
+) -> Result<&'a [u8], Stop>
+    ensures { ReadsAs (λ rest. (into.new.items, words_of rest.now))
+        (items_at T.said short (words_of bytes.now)) result }
+{
+    into.clear();
+    let mut rest = bytes;
+    'words: loop {
+        let Some((number, after)) = split_number(rest) else {
+            return Err(Stop::Wrong(short));
+        };
+        rest = after;
+        match T::of(number)? {
+            Some(item) => into.push(item)?,
+            None => return Ok(rest),
+        }
+    }
+}

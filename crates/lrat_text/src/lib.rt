@@ -1,0 +1,18 @@
+//! LRAT text, as solvers write it: a line adds a clause with its hints, or deletes clauses.
+#![tactic(auto)]
+
+mod fault;
+mod items;
+pub mod laws;
+mod line;
+mod lines;
+mod number;
+mod reader;
+mod row;
+#[cfg(test)]
+mod tests;
+mod words;
+
+pub use fault::{LineKind, LratTextFault};
+pub use line::{Hint, LratLine};
+pub use reader::LineReader;

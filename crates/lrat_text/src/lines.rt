@@ -1,0 +1,92 @@
+//! The lines of a text, one after the other.
+ghost use Rattle.std.specs.Prelude.{◌≡◌, ◌<◌, ◌≤◌, ◌+◌, ◌++◌, ◌∷◌, [], Ok, IfSome, true, IsTrue, length, slice_index, take};
+ghost use Rattle.std.specs.Io.KnownBytes.{Consumes};
+ghost use Rattle.sat_formula.specs.Source.{is_limited};
+ghost use Rattle.lrat_text.specs.Bytes.{IsOpen};
+
+use crate::fault::Stop;
+use memchr::memchr;
+use sat_formula::source::{NoByte, Source};
+use std::alloc::Global;
+use std::io;
+use std::io::Read;
+
+/// A text of which the last line that was taken is held.
+#[derive(Drop)]
+pub(crate) struct Lines<R> {
+    source: Source<R>,
+    held: Vec<u8>,
+    ghost limited: { IsTrue (is_limited source) },
+}
+
+impl<R: Read> Lines<R> {
+    ghost use Rattle.sat_formula.specs.Source.{ahead_of, IsStopped, IsErrorOf};
+    ghost use Rattle.lrat_text.specs.Holding.{unread_lines, room_in, HoldsLine};
+
+    pub(crate) fn new(alloc: Global, inner: R) -> Lines<R>
+        ensures { unread_lines R.remaining result ≡ R.remaining inner }
+    {
+        Lines {
+            source: Source::limited(alloc, inner, u64::MAX),
+            held: Vec::new(alloc),
+        }
+    }
+
+    /// The error of a stop by the source.
+    pub(crate) fn error(&self) -> io::Error
+        requires { IsStopped self.now.source }
+        ensures { IsErrorOf self.now.source result }
+    {
+        self.source.error()
+    }
+
+    /// The line that was taken last, without its LF.
+    pub(crate) fn held(&self) -> &[u8]
+        ensures { result.now ≡ self.now.held.items }
+    {
+        &self.held
+    }
+
+    /// The next line without its LF, where all of it stands ahead.
+    pub(crate) fn whole_ahead(&self) -> Option<&[u8]>
+        ensures open { IfSome result (λ line. IsOpen line.now) }
+        ensures ahead { IfSome result (λ line.
+            take (length line.now + 1) (ahead_of self.now.source) ≡ line.now ++ 10 ∷ []) }
+        ensures len { IfSome result (λ line. length line.now < length (ahead_of self.now.source)) }
+    {
+        let ahead = self.source.ahead();
+        let len = memchr(b'\n', ahead)?;
+        Some(&ahead[..len])
+    }
+
+    /// Takes a line of this length, which stands ahead, and its LF.
+    pub(crate) fn take_line(&mut self, len: usize)
+        requires { len < length (ahead_of self.old.source) }
+        ensures bytes { let taken = take (len + 1) (ahead_of self.old.source) in
+            let old = unread_lines R.remaining self.old in
+            Consumes old (unread_lines R.remaining self.new) taken }
+        ensures nearer { room_in self.new < room_in self.old }
+    {
+        self.source.take_ahead(len + 1);
+    }
+
+    /// Takes the next line, and answers whether an LF ended it.
+    pub(crate) fn hold(&mut self) -> Result<bool, Stop>
+        ensures line { let old = unread_lines R.remaining self.old in
+            let new = unread_lines R.remaining self.new in
+            HoldsLine old new self.new.source self.new.held.items result }
+        ensures room { room_in self.new ≤ room_in self.old }
+        ensures nearer { result ≡ Ok true → room_in self.new < room_in self.old }
+    {
+        self.held.clear();
+        'bytes: loop {
+            match self.source.next_byte() {
+                Ok(b'\n') => return Ok(true),
+                Ok(byte) => self.held.push(byte)?,
+                Err(NoByte::End) => return Ok(false),
+                Err(NoByte::Read) => return Err(Stop::Read),
+                Err(NoByte::OutOfMemory) => return Err(Stop::OutOfMemory),
+            }
+        }
+    }
+}

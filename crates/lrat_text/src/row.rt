@@ -1,0 +1,116 @@
+//! A line, read into lists.
+ghost use Rattle.std.specs.Prelude.{◌≡◌, [], Err, OnOk, IfErr};
+ghost use Rattle.lrat_rules.specs.Lines.{Line};
+ghost use Rattle.sat_formula.specs.Lines.{words_of};
+ghost use Rattle.lrat_text.specs.Grammar.{alone};
+
+use crate::fault::{LineKind, Stop};
+use crate::items::read_items;
+use crate::line::{Hint, LratLine};
+use crate::number::Number;
+use crate::words::{skip_blanks, split_word};
+use sat_formula::Lit;
+use std::alloc::Global;
+
+/// A line without its lists.
+#[derive(Clone, Copy)]
+pub(crate) enum Head {
+    Add { id: u64 },
+    Delete,
+}
+
+/// Reads lines, the lists of the last one into its own.
+#[derive(Drop)]
+pub(crate) struct Row {
+    lits: Vec<Lit>,
+    hints: Vec<Hint>,
+    ids: Vec<u64>,
+}
+
+impl Row {
+    ghost use Rattle.lrat_text.specs.Grammar.{says, after_id, deletion_at, clause_at};
+    ghost use Rattle.lrat_text.specs.Reading.{ReadsAs, line_of, line_if};
+    ghost use Rattle.lrat_text.specs.NextLine.{view};
+
+    pub(crate) fn new(alloc: Global) -> Row {
+        Row {
+            lits: Vec::new(alloc),
+            hints: Vec::new(alloc),
+            ids: Vec::new(alloc),
+        }
+    }
+
+    /// The line of a head and the lists that were read with it.
+    pub(crate) fn shown(&self, head: Head) -> LratLine<'_>
+        ensures { view result ≡ line_of self.now head }
+    {
+        match head {
+            Head::Add { id } => LratLine::Add {
+                id,
+                clause: &self.lits,
+                hints: &self.hints,
+            },
+            Head::Delete => LratLine::Delete { ids: &self.ids },
+        }
+    }
+
+    /// Reads a line of these bytes, if it says anything. `short` is the fault of a line that ends
+    /// before its last 0.
+    pub(crate) fn read(&mut self, bytes: &[u8], short: LineKind) -> Result<Option<Head>, Stop>
+        ensures { ReadsAs (line_if self.new) (says short (words_of bytes.now)) result }
+    {
+        let Some((word, rest)) = split_word(bytes) else {
+            return Ok(None);
+        };
+        if word.starts_with(b"c") {
+            return Ok(None);
+        }
+        let id = Number::of(word).first()?;
+        let head = self.after_id(skip_blanks(rest), short, id)?;
+        Ok(Some(head))
+    }
+
+    fn after_id(&mut self, bytes: &[u8], short: LineKind, id: u64) -> Result<Head, Stop>
+        ensures { ReadsAs (line_of self.new) (after_id short id (words_of bytes.now)) result }
+    {
+        let Some((word, rest)) = split_word(bytes) else {
+            return Err(Stop::Wrong(short));
+        };
+        if word == b"d".as_slice() {
+            return self.deletion(rest, short);
+        }
+        if id == 0 {
+            return Err(Stop::Wrong(LineKind::Malformed));
+        }
+        self.clause(bytes, short, id)
+    }
+
+    fn deletion(&mut self, bytes: &[u8], short: LineKind) -> Result<Head, Stop>
+        ensures { ReadsAs (line_of self.new) (deletion_at short (words_of bytes.now)) result }
+    {
+        let rest = read_items(bytes, short, &mut self.ids)?;
+        end(rest)?;
+        Ok(Head::Delete)
+    }
+
+    fn clause(&mut self, bytes: &[u8], short: LineKind, id: u64) -> Result<Head, Stop>
+        ensures { ReadsAs (line_of self.new) (clause_at short id (words_of bytes.now)) result }
+    {
+        let after_lits = read_items(bytes, short, &mut self.lits)?;
+        let rest = read_items(after_lits, short, &mut self.hints)?;
+        end(rest)?;
+        Ok(Head::Add { id })
+    }
+}
+
+// Nothing but blanks follows a line's last 0.
+fn end(bytes: &[u8]) -> Result<(), LineKind>
+    ensures ok { OnOk result (words_of bytes.now ≡ []) }
+    ensures err { IfErr result (λ kind. (line : Line)
+        → alone line (words_of bytes.now) ≡ Err kind) }
+{
+    match split_word(bytes) {
+        None => Ok(()),
+        Some(_) => Err(LineKind::Malformed),
+    }
+}

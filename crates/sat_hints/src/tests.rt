@@ -1,3 +1,0 @@
-//! Worked texts.
-mod checker;
-mod lines;

@@ -1,0 +1,19 @@
+//! What no clause of `varisat_check` says, as tests: runs with what they write, texts of faults, and readers and writers that fail.
+//!
+//! They stand apart so that the library is not proved a second time with them.
+#![tactic(auto)]
+
+#[cfg(test)]
+mod formula;
+#[cfg(test)]
+mod four_clauses;
+#[cfg(test)]
+mod hints;
+#[cfg(test)]
+mod lrat;
+#[cfg(test)]
+mod outcomes;
+#[cfg(test)]
+mod runs;
+#[cfg(test)]
+mod streams;

@@ -1,0 +1,188 @@
+//! Runs with their verdicts, lines and statuses, texts of faults, and readers and writers that fail.
+use crate::four_clauses::{FIRST_MISSING, FOUR, WIDTH_1, proof_of_four};
+use crate::outcomes::{NOT_SHOWN, Outcome, SHOWN, WITH_ONE_ADDED, is_answered, refused};
+use crate::streams::{Full, broken, byte_by_byte};
+use checker_parts::error::CheckerError;
+use log::sink::Discard;
+use sat_formula::Lit;
+use std::alloc::Global;
+use std::io;
+use std::io::{ErrorKind, Read};
+use std::process::Abort;
+use std::test::Fail;
+use varisat_check::{RunFault, run_check, run_proof};
+use varisat_checker::Checker;
+
+// A formula and a proof.
+fn check<F: Read + Drop, P: Read + Drop>(
+    rt: &impl Abort,
+    alloc: Global,
+    cnf: F,
+    proof: P,
+    expected: Outcome<'_>,
+) -> Result<(), Fail> {
+    let mut out = Vec::new(alloc);
+    let answer = run_check(&Discard, alloc, cnf, proof, &mut out);
+    is_answered(rt, alloc, answer, &out, expected)
+}
+
+// A checker with these units, and then one proof after the other.
+fn prove(
+    rt: &impl Abort,
+    alloc: Global,
+    units: &[i64],
+    proofs: &[(&[u8], Outcome<'_>)],
+) -> Result<(), Fail> {
+    let mut checker = Checker::new(alloc);
+    for &number in units {
+        let lit = Lit::from_dimacs(number).ok_or("no literal")?;
+        assert!(rt; checker.add_clause(&[lit]).is_ok());
+    }
+    for &(proof, expected) in proofs {
+        let mut out = Vec::new(alloc);
+        let answer = run_proof(&Discard, &mut checker, proof, &mut out);
+        is_answered(rt, alloc, answer, &out, expected)?;
+    }
+    Ok(())
+}
+
+#[test]
+fn opposite_units_are_unsatisfiable(rt: HostRuntime) -> Result<(), Fail> {
+    prove(&rt, rt.alloc(), &[1, -1], &[(&[0x0D], SHOWN)])
+}
+
+#[test]
+fn proofs_on_a_new_checker(rt: HostRuntime) -> Result<(), Fail> {
+    let rows: [(&[u8], Outcome<'_>); 3] = [
+        (&[0x0D], NOT_SHOWN),
+        (&[0x05, 0x00, 0x0D], WITH_ONE_ADDED),
+        (&[], refused("step 1: Unexpected end of proof file")),
+    ];
+    for row in rows {
+        prove(&rt, rt.alloc(), &[], &[row])?;
+    }
+    Ok(())
+}
+
+#[test]
+fn an_accepted_end_asks_for_nothing_more(rt: HostRuntime) -> Result<(), Fail> {
+    prove(
+        &rt,
+        rt.alloc(),
+        &[],
+        &[(&[0x05, 0x00, 0x0D], WITH_ONE_ADDED), (&[], SHOWN)],
+    )
+}
+
+#[test]
+fn formulas_with_short_proofs(rt: HostRuntime) -> Result<(), Fail> {
+    let rows: [(&str, &[u8], Outcome<'_>); 3] = [
+        ("1 0", &[0x05, 0x00, 0x0D], WITH_ONE_ADDED),
+        ("1 0\n-1 0\n", &[0x0D], SHOWN),
+        ("1 0", &[0x0D], NOT_SHOWN),
+    ];
+    for (cnf, proof, expected) in rows {
+        check(&rt, rt.alloc(), cnf.as_bytes(), proof, expected)?;
+    }
+    Ok(())
+}
+
+#[test]
+fn four_clauses_however_cut(rt: HostRuntime) -> Result<(), Fail> {
+    let alloc = rt.alloc();
+    let cnf = FOUR.as_bytes();
+    let proof = proof_of_four(alloc)?;
+    for proof in [proof.as_slice(), WIDTH_1.as_slice()] {
+        check(&rt, alloc, cnf, proof, SHOWN)?;
+        check(&rt, alloc, byte_by_byte(cnf), byte_by_byte(proof), SHOWN)?;
+    }
+    Ok(())
+}
+
+#[test]
+fn no_beginning_of_a_proof_will_do(rt: HostRuntime) -> Result<(), Fail> {
+    let alloc = rt.alloc();
+    let cnf = FOUR.as_bytes();
+    for (len, step) in FIRST_MISSING.iter().enumerate() {
+        let proof = &WIDTH_1[..len];
+        let text = format!(in alloc; "step {step}: Unexpected end of proof file")?;
+        check(&rt, alloc, cnf, proof, refused(&text))?;
+        check(&rt, alloc, cnf, byte_by_byte(proof), refused(&text))?;
+    }
+    Ok(())
+}
+
+#[test]
+fn texts_of_refused_formulas(rt: HostRuntime) -> Result<(), Fail> {
+    let rows: [(&str, &str); 5] = [
+        ("1 0\n2 x 0", "line 2: bad number"),
+        ("1 2", "line 1: unterminated clause"),
+        ("p cnf 1\n", "line 1: bad header"),
+        ("1 0\np cnf 1 1\n", "line 2: late header"),
+        ("268435457 0", "line 1: variable too large"),
+    ];
+    let end: &[u8] = &[0x0D];
+    for (cnf, text) in rows {
+        check(&rt, rt.alloc(), cnf.as_bytes(), end, refused(text))?;
+    }
+    Ok(())
+}
+
+#[test]
+fn texts_of_refused_proofs(rt: HostRuntime) -> Result<(), Fail> {
+    let rows: [(&str, &[u8], &str); 3] = [
+        ("1 0", &[], "step 1: Unexpected end of proof file"),
+        (
+            "1 0",
+            &[0x0E],
+            "step 1: Could not parse proof step: unknown step tag",
+        ),
+        (
+            "1 2 0",
+            &[0x06, 0x00, 0x00, 0x00],
+            "step 1: Checking proof failed: AT check failed",
+        ),
+    ];
+    for (cnf, proof, text) in rows {
+        check(&rt, rt.alloc(), cnf.as_bytes(), proof, refused(text))?;
+    }
+    Ok(())
+}
+
+#[test]
+fn reads_that_fail(rt: HostRuntime) -> Result<(), Fail> {
+    let alloc = rt.alloc();
+    let end: &[u8] = &[0x0D];
+    let cnf = "1 0\n-1 0\n".as_bytes();
+    let cause = io::Error::from(ErrorKind::ConnectionReset);
+
+    let text = format!(in alloc; "error reading formula: {cause}")?;
+    check(&rt, alloc, broken(cnf), end, refused(&text))?;
+
+    let text = format!(in alloc; "step 2: Error reading proof file: {cause}")?;
+    check(&rt, alloc, cnf, broken(&[0x05, 0x00]), refused(&text))
+}
+
+#[test]
+fn lines_that_cannot_be_written(rt: HostRuntime) -> Result<(), Fail> {
+    let alloc = rt.alloc();
+    let end: &[u8] = &[0x0D];
+    let cause = io::Error::from(ErrorKind::StorageFull);
+    let answer = run_check(&Discard, alloc, "1 0\n-1 0\n".as_bytes(), end, &mut Full);
+    assert!(rt; matches!(&answer, Err(RunFault::Write(_))));
+    let text = format!(in alloc; "error writing: {cause}")?;
+    is_answered(&rt, alloc, answer, &[], refused(&text))
+}
+
+#[test]
+fn refused_proof_is_not_a_failed_write(rt: HostRuntime) -> Result<(), Fail> {
+    let empty: &[u8] = &[];
+    let answer = run_check(&Discard, rt.alloc(), "1 0".as_bytes(), empty, &mut Full);
+    assert!(rt;
+        matches!(
+            &answer,
+            Err(RunFault::Proof(CheckerError::ProofIncomplete { step: 1 }))
+        )
+    );
+    Ok(())
+}

@@ -1,0 +1,165 @@
+#!/usr/bin/env bash
+# Runs the programs on files that can't be read or written to their end, and on files that never end.
+#
+# The programs must be built: `rt ci` does it, or `rt run` in their folders. It needs `cc`.
+set -euo pipefail
+
+top=$(cd "$(dirname "$0")/.." && pwd)
+check=$top/crates/varisat_check_main/out/varisat_check_main
+hint_check=$top/crates/hint_check_main/out/hint_check_main
+data=$top/tests/data
+work=$(mktemp -d)
+trap 'rm -rf "$work"' EXIT
+for program in "$check" "$hint_check"; do
+  if [[ ! -x $program ]]; then
+    echo "not built: $program"
+    exit 1
+  fi
+done
+"${CC:-cc}" -O2 -Wall -shared -fPIC -o "$work/fail.so" "$top/tests/failing_files/fail.c" -ldl
+wrong=0
+runs=0
+
+# failing LIMITS COMMAND..: a run with reads or writes that fail or are short, by the limits `NAME=NUMBER ..`. It sets `status`.
+failing() {
+  status=0
+  # shellcheck disable=SC2086
+  env $1 LD_PRELOAD="$work/fail.so" "${@:2}" > "$work/out" 2> "$work/err" || status=$?
+  runs=$((runs + 1))
+}
+
+# wants NAME STATUS OUTPUT ERRORS: what the last run must have done
+wants() {
+  if [[ $status != "$2" || $(cat "$work/out") != "$3" || $(cat "$work/err") != "$4" ]]; then
+    echo "WRONG $1: status $status, output '$(cat "$work/out")', errors '$(cat "$work/err")'"
+    wrong=1
+  fi
+}
+
+# counted NAME: how many runs a part had
+counted() {
+  echo "$1: $runs runs"
+  runs=0
+}
+
+# Byte by byte, with a read of the formula failing at some forty places.
+fail_reads_of_formula() {
+  local size=$1 cnf=$2 proof=$3 read
+  for ((read = 1; read <= size + 1; read += size / 40 + 1)); do
+    failing "SHORT_READS=1 FAIL_READ=$read" "$check" "$cnf" "$proof"
+    wants "$cnf, read $read" 1 '' 'error reading formula: Input/output error (os error 5)'
+  done
+}
+
+# The same of the proof, at some hundred places. The step is the one at which the proof ends that is cut there.
+fail_reads_of_proof() {
+  local size=$1 cnf=$2 proof=$3 length=$4 place cut
+  for ((place = 0; place <= length; place += length / 100 + 1)); do
+    head -c "$place" "$proof" > "$work/cut"
+    cut=$("$check" "$cnf" "$work/cut" 2>&1) || true
+    failing "SHORT_READS=1 FAIL_READ=$((size + 2 + place))" "$check" "$cnf" "$proof"
+    if ((place == length)); then
+      wants "$proof, after its end" 0 's UNSATISFIABLE' ''
+    else
+      wants "$proof, byte $place" 1 '' "${cut%%:*}: Error reading proof file: Input/output error (os error 5)"
+    fi
+  done
+}
+
+# The same of a text of hints, at some forty places.
+fail_reads_of_hints() {
+  local size=$1 cnf=$2 lrat=$3 length=$4 place
+  for ((place = 0; place <= length; place += length / 40 + 1)); do
+    failing "SHORT_READS=1 FAIL_READ=$((size + 2 + place))" "$hint_check" "$cnf" "$lrat"
+    wants "$lrat, byte $place" 1 '' 'error reading hints: Input/output error (os error 5)'
+  done
+}
+
+# Where a line or the lines of hints can't be written whole, the status is 1 and the fault is told.
+fail_writes() {
+  local full='error writing: No space left on device (os error 28)' write
+  failing 'FAIL_WRITE=1' "$check" "$cnf" "$proof"
+  wants 'the line' 1 '' "$full"
+  failing 'FAIL_WRITE=1' "$check" "$cnf" "$proof" "$work/hints"
+  wants 'the hints' 1 '' "$full"
+  for ((write = 1; write <= $(stat -c %s "$work/whole"); write += 97)); do
+    failing "SHORT_WRITES=1 FAIL_WRITE=$write" "$check" "$cnf" "$proof" "$work/hints"
+    wants "byte $write of the hints" 1 '' "$full"
+    head -c $((write - 1)) "$work/whole" | cmp "$work/hints" - || wrong=1
+  done
+  for most in 1 7 1000; do
+    failing "SHORT_WRITES=$most" "$check" "$cnf" "$proof" "$work/hints"
+    wants "$most bytes a write" 0 's UNSATISFIABLE' ''
+    cmp "$work/whole" "$work/hints" || wrong=1
+  done
+  failing '' "$check" "$cnf" "$proof" /dev/full
+  wants 'hints on a full disk' 1 '' "$full"
+  failing 'FAIL_WRITE=1' "$hint_check" "$cnf" "$lrat"
+  wants 'the line of hints' 1 '' "$full"
+}
+
+# The program's own output is full, closed, or a pipe that no one reads.
+fail_outputs() {
+  : > "$work/out"
+  runs=$((runs + 3))
+  status=0
+  "$check" "$cnf" "$proof" > /dev/full 2> "$work/err" || status=$?
+  wants 'full output' 1 '' 'error writing: No space left on device (os error 28)'
+  status=0
+  "$check" "$cnf" "$proof" >&- 2> "$work/err" || status=$?
+  wants 'closed output' 1 '' 'error writing: Bad file descriptor (os error 9)'
+  mkfifo "$work/pipe"
+  exec 8<> "$work/pipe" 7> "$work/pipe" 8>&-
+  status=0
+  "$check" "$cnf" "$proof" >&7 2> "$work/err" || status=$?
+  exec 7>&-
+  wants 'closed pipe' 1 '' 'error writing: Broken pipe (os error 32)'
+}
+
+# endless NAME ARGUMENT..: nothing is said of a file that never ends, while it is read
+endless() {
+  status=0
+  runs=$((runs + 1))
+  timeout 1 "$check" "${@:2}" > "$work/out" 2> "$work/err" || status=$?
+  wants "$1" 124 '' ''
+}
+
+for name in par10.whole board6.whole grid5.whole grid5.v2; do
+  cnf=$data/${name%.*}.cnf
+  proof=$data/$name.proof
+  size=$(stat -c %s "$cnf")
+  fail_reads_of_formula "$size" "$cnf" "$proof"
+  fail_reads_of_proof "$size" "$cnf" "$proof" "$(stat -c %s "$proof")"
+  for most in 1 2 7 4095; do
+    failing "SHORT_READS=$most" "$check" "$cnf" "$proof"
+    wants "$proof, $most bytes a read" 0 's UNSATISFIABLE' ''
+  done
+done
+cnf=$data/par10.cnf
+lrat=$data/par10.lrat
+fail_reads_of_hints "$(stat -c %s "$cnf")" "$cnf" "$lrat" "$(stat -c %s "$lrat")"
+counted 'reads'
+
+proof=$data/par10.whole.proof
+"$check" "$cnf" "$proof" "$work/whole" > "$work/out"
+fail_writes
+fail_outputs
+counted 'writes'
+
+endless 'comments' <(yes 'c no clause') "$proof"
+endless 'clauses' <(yes '1 0') "$proof"
+endless 'a token' <(yes 1 | tr -d '\n') "$proof"
+endless 'NUL bytes' /dev/zero "$proof"
+endless 'steps' "$cnf" <(yes $'\x09\x40' | tr -d '\n')
+mkfifo "$work/silent"
+endless 'a pipe that no one writes' "$work/silent" "$proof"
+timeout 10 dd if="$proof" of="$work/silent" status=none 2> /dev/null &
+failing '' "$check" "$cnf" "$work/silent"
+wants 'a pipe with a proof' 0 's UNSATISFIABLE' ''
+failing '' bash -c 'ulimit -v 300000; "$0" <(yes 1) "$1"' "$check" "$proof"
+wants 'a clause that never ends, in little memory' 1 '' 'out of memory'
+printf '\x03\xff\xff\xff\x7f\x0d' > "$work/last_var"
+failing '' bash -c 'ulimit -v 300000; "$0" "$1" "$2"' "$check" "$cnf" "$work/last_var"
+wants 'the last variable there may be, in little memory' 1 '' 'out of memory'
+counted 'files that never end, or ask for too much'
+exit "$wrong"
