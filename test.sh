@@ -1,7 +1,10 @@
 #!/usr/bin/env bash
-# Proves, tests and runs everything, from nothing: the gate, and then the programs on files, and on files that fail.
+# Proves, tests and runs everything, from nothing: the gate, and then the programs on files, on files that fail, and
+# where memory is refused.
 set -euo pipefail
 cd "$(dirname "$0")"
 rt ci
 tests/end_to_end.sh
 tests/failing_files.sh
+tests/refused_growths.sh
+tests/log_lines.sh

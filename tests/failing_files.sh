@@ -80,6 +80,8 @@ fail_writes() {
   local full='error writing: No space left on device (os error 28)' write
   failing 'FAIL_WRITE=1' "$check" "$cnf" "$proof"
   wants 'the line' 1 '' "$full"
+  failing 'FAIL_WRITE=2' "$check" "$cnf" "$proof"
+  wants 'the line is one write' 0 's UNSATISFIABLE' ''
   failing 'FAIL_WRITE=1' "$check" "$cnf" "$proof" "$work/hints"
   wants 'the hints' 1 '' "$full"
   for ((write = 1; write <= $(stat -c %s "$work/whole"); write += 97)); do
@@ -96,6 +98,8 @@ fail_writes() {
   wants 'hints on a full disk' 1 '' "$full"
   failing 'FAIL_WRITE=1' "$hint_check" "$cnf" "$lrat"
   wants 'the line of hints' 1 '' "$full"
+  failing 'FAIL_WRITE=2' "$hint_check" "$cnf" "$lrat"
+  wants 'the line of hints is one write' 0 's VERIFIED UNSAT' ''
 }
 
 # The program's own output is full, closed, or a pipe that no one reads.

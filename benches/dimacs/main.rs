@@ -1,4 +1,5 @@
-//! The same work in Rust: the twin of main.rt, with the reader written out.
+//! The same work in Rust: the twin of main.rt, with the reader written out. It reads in two ways:
+//! short numbers out of the bytes ahead, as the proved reader does, and all bytes one by one.
 use std::fmt::Write;
 use std::io::{self, Read};
 use std::time::Instant;
@@ -6,6 +7,7 @@ use std::time::Instant;
 const CLAUSES: u32 = 4_150_000;
 const CAPACITY: usize = 32768;
 const MAX_VALUE: u64 = 1 << 28;
+const FEW_DIGITS: usize = 9;
 
 #[derive(Clone, Copy)]
 enum Stop {
@@ -40,7 +42,7 @@ impl<R: Read> Source<R> {
     }
 }
 
-struct Reader<R> {
+struct Reader<R, const AHEAD: bool> {
     source: Source<R>,
     line: u64,
     in_line: bool,
@@ -53,7 +55,32 @@ fn is_blank(byte: u8) -> bool {
     byte == b' ' || byte == b'\t' || byte == b'\r'
 }
 
-impl<R: Read> Reader<R> {
+fn ends_word(byte: u8) -> bool {
+    byte <= b' ' && (is_blank(byte) || byte == b'\n')
+}
+
+/// A number of up to nine digits in front: its sign, its value, how many bytes it takes, and the one after it.
+#[inline(always)]
+fn short_number(bytes: &[u8]) -> Option<(bool, u64, usize, u8)> {
+    if bytes.len() < FEW_DIGITS + 2 {
+        return None;
+    }
+    let negative = bytes[0] == b'-';
+    let digits = &bytes[negative as usize..];
+    let mut value = 0u64;
+    let mut len = 0;
+    while len < FEW_DIGITS && digits[len].is_ascii_digit() {
+        value = value * 10 + (digits[len] - b'0') as u64;
+        len += 1;
+    }
+    let end = digits[len];
+    if len == 0 || !ends_word(end) {
+        return None;
+    }
+    Some((negative, value, negative as usize + len, end))
+}
+
+impl<R: Read, const AHEAD: bool> Reader<R, AHEAD> {
     fn new(inner: R) -> Self {
         let source = Source { inner, buffer: vec![0; CAPACITY], start: 0, end: 0 };
         Reader { source, line: 1, in_line: false, seen: false, clauses: 0, vars: 0 }
@@ -80,7 +107,7 @@ impl<R: Read> Reader<R> {
             byte = self.source.next_byte()?;
         }
         loop {
-            if byte <= b' ' && (is_blank(byte) || byte == b'\n') {
+            if ends_word(byte) {
                 break;
             }
             if !byte.is_ascii_digit() {
@@ -90,7 +117,15 @@ impl<R: Read> Reader<R> {
             value = value.min(MAX_VALUE + 1) * 10 + (byte - b'0') as u64;
             byte = self.source.next_byte()?;
         }
-        if !digits || value > MAX_VALUE || (negative && value == 0) {
+        if !digits {
+            return Err(Stop::Bad);
+        }
+        self.end_number(negative, value, byte)
+    }
+
+    #[inline(always)]
+    fn end_number(&mut self, negative: bool, value: u64, byte: u8) -> Result<Option<u32>, Stop> {
+        if value > MAX_VALUE || (negative && value == 0) {
             return Err(Stop::Bad);
         }
         self.seen = true;
@@ -101,9 +136,35 @@ impl<R: Read> Reader<R> {
         Ok(if value == 0 { None } else { Some((value as u32 - 1) * 2 + negative as u32) })
     }
 
+    #[inline(always)]
+    fn take(&mut self, number: Option<u32>, into: &mut Vec<u32>) -> bool {
+        match number {
+            Some(code) => {
+                into.push(code);
+                false
+            }
+            None => {
+                self.clauses = self.clauses.saturating_add(1);
+                self.vars = into.iter().fold(self.vars, |most, code| most.max((code >> 1) + 1));
+                true
+            }
+        }
+    }
+
     fn next_clause(&mut self, into: &mut Vec<u32>) -> Result<bool, Stop> {
         into.clear();
         loop {
+            if AHEAD {
+                let ahead = &self.source.buffer[self.source.start..self.source.end];
+                if let Some((negative, value, len, end)) = short_number(ahead) {
+                    self.source.start += len + 1;
+                    let number = self.end_number(negative, value, end)?;
+                    if self.take(number, into) {
+                        return Ok(true);
+                    }
+                    continue;
+                }
+            }
             let byte = match self.source.next_byte() {
                 Ok(byte) => byte,
                 Err(Stop::End) => return Ok(false),
@@ -115,13 +176,9 @@ impl<R: Read> Reader<R> {
             } else if !self.in_line && (byte == b'c' || byte == b'p') {
                 self.skip_line()?;
             } else {
-                match self.number(byte)? {
-                    Some(code) => into.push(code),
-                    None => {
-                        self.clauses = self.clauses.saturating_add(1);
-                        self.vars = into.iter().fold(self.vars, |most, code| most.max((code >> 1) + 1));
-                        return Ok(true);
-                    }
+                let number = self.number(byte)?;
+                if self.take(number, into) {
+                    return Ok(true);
                 }
             }
         }
@@ -147,11 +204,10 @@ fn text() -> String {
     text
 }
 
-fn main() -> io::Result<()> {
-    let text = text();
+fn read<const AHEAD: bool>(text: &str) -> io::Result<()> {
     for _ in 0..5 {
         let start = Instant::now();
-        let mut reader = Reader::new(text.as_bytes());
+        let mut reader = Reader::<_, AHEAD>::new(text.as_bytes());
         let mut lits = Vec::new();
         let mut sum = 0u64;
         while reader.next_clause(&mut lits).map_err(|_| io::ErrorKind::InvalidData)? {
@@ -164,4 +220,12 @@ fn main() -> io::Result<()> {
         println!("{size} bytes, {clauses} clauses, {vars} variables, sum {sum}: {took} ms");
     }
     Ok(())
+}
+
+fn main() -> io::Result<()> {
+    let text = text();
+    println!("numbers out of the bytes ahead:");
+    read::<true>(&text)?;
+    println!("byte by byte:");
+    read::<false>(&text)
 }

@@ -52,6 +52,44 @@ model 1 2
 > ~ Model [2]
 ";
 
+// Marks of a model that is refused half way, or accepted, are seen by none that comes later.
+const MODELS_IN_TURN: &str = "
+new
+given 1 2
+given -1 2 3
+model 1 -3 9
+> CheckFailed 1 UnknownVar
+model -1 2 3
+> + Model [-1 2 3]
+> ~ Model [-1 2 3]
+model 1 3 -2
+> + Model [1 3 -2]
+> ~ Model [1 3 -2]
+model 1 -3 3
+> CheckFailed 4 ModelAgainstItself
+model -1
+> CheckFailed 5 ModelMissesClause
+model 3
+> CheckFailed 6 ModelMissesClause
+model -1 2
+> + Model [-1 2]
+> ~ Model [-1 2]
+# More variables become known in between.
+given 4 5
+model -1 2 -4 9
+> CheckFailed 8 UnknownVar
+model 4 1 -2
+> CheckFailed 9 ModelMissesClause
+model 2 4 -1
+> + Model [2 4 -1]
+> ~ Model [2 4 -1]
+";
+
+#[test]
+fn models_in_turn(rt: HostRuntime) -> Result<(), Fail> {
+    agrees(&rt, rt.alloc(), MODELS_IN_TURN)
+}
+
 #[test]
 fn models(rt: HostRuntime) -> Result<(), Fail> {
     agrees(&rt, rt.alloc(), MODELS)

@@ -1,10 +1,11 @@
 -- Judging the literals of a model one after the other, those before being marked.
-use Rattle.std.proofs.Common.{◌≡◌, ℕ, ◌<◌, Bool, true, false, cond, not, ◌||◌, eqb, ltb, List, [], ◌∷◌, Option, None, Some, refl, sym, ap, ◌∙◌, arith}
+use Rattle.std.proofs.Common.{◌≡◌, ℕ, ◌<◌, Bool, true, false, cond, not, ◌&&◌, ◌||◌, eqb, ltb, List, [], ◌∷◌, Option, None, Some, refl, sym, ap, ◌∙◌, arith}
 use Rattle.checker_rules.specs.Clauses.{add_lit, has, negate, var_of}
 use Rattle.checker_rules.specs.KnownVars.{is_known}
 use Rattle.checker_rules.specs.Model.{is_false_by_unit, model_cause}
 use Rattle.checker_rules.specs.Outcome.{Cause, model_against_itself, model_against_unit, unknown_var}
 use Rattle.checker_rules.specs.State.{State}
+use Rattle.checker_steps.specs.Marks.{MarksOnly, is_marked}
 use Rattle.checker_steps.specs.ModelCause.{first_cause, lit_cause}
 
 pub less : (n m : ℕ) → n < m → ltb n m ≡ true
@@ -75,3 +76,22 @@ marked-turn f g l ls k marked = ap (λ h. h k || has k ls) marked ∙ or-turn (e
 
 pub marked-all : (f : ℕ → Bool) (whole ls : List ℕ) (k : ℕ) → ls ≡ [] → (f k || has k ls) ≡ has k whole → f k ≡ has k whole
 marked-all f whole ls k done h = sym (or-none (f k)) ∙ ap (λ xs. f k || has k xs) (sym done) ∙ h
+
+-- only what is listed is marked
+pub marks_only : (marks : List Bool) (whole ls : List ℕ) → ((k : ℕ) → (is_marked marks k || has k ls) ≡ has k whole) → MarksOnly marks whole
+marks_only marks whole ls marked = λ k away. by (is_marked marks k) (has k ls) (marked k ∙ away)
+  where
+    by : (b c : Bool) → (b || c) ≡ false → b ≡ false
+    by true c h = h
+    by false c h = refl
+
+-- the marks that are still to be taken back, and those of an empty list
+pub unmarked-turn : (old new : List Bool) (l : ℕ) (ls : List ℕ) → MarksOnly old (l ∷ ls) → ((k : ℕ) → is_marked new k ≡ (not (eqb k l) && is_marked old k)) → MarksOnly new ls
+unmarked-turn old new l ls only taken = λ k away. taken k ∙ by k away (eqb k l) refl
+  where
+    by : (k : ℕ) → has k ls ≡ false → (b : Bool) → eqb k l ≡ b → (not b && is_marked old k) ≡ false
+    by k away true e = refl
+    by k away false e = only k (ap (λ c. c || has k ls) e ∙ away)
+
+pub unmarked-all : (marks : List Bool) (ls : List ℕ) → ls ≡ [] → MarksOnly marks ls → (k : ℕ) → is_marked marks k ≡ false
+unmarked-all marks ls done only k = only k (ap (has k) done)

@@ -9,5 +9,6 @@ pub mod Delivered
 pub mod Idle
 pub mod InputCause
 pub mod Justified
+pub mod Marks
 pub mod ModelCause
 pub mod Naming

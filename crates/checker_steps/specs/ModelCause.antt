@@ -1,26 +1,17 @@
--- Why a list of literals is no model. Its literals are marked, by their codes.
---     is_marked marks l, HasPlaces marks known      whether a literal is marked; a place for each literal of a known variable
+-- Why a list of literals is no model. Its literals are marked.
 --     lit_cause s listed l      why a literal can't be listed beside those of a set
 --     list_cause s m      why a list is refused where `unsat` is not recorded
 --     IsJudged r cause      the answer of the code names that cause
-use Rattle.std.specs.Prelude.{ℕ, ◌≡◌, ◌<◌, ◌^◌, Bool, false, if◌then◌else◌, not, slice_index_or, List, [], length, Option, Some, None, Result, Ok, Err}
+use Rattle.std.specs.Prelude.{ℕ, ◌≡◌, Bool, if◌then◌else◌, not, List, [], Option, Some, None, Result, Ok, Err}
 use Rattle.std.specs.List.{list_all, list_any}
 use Rattle.checker_rules.specs.Canonical.{is_subset}
 use Rattle.checker_rules.specs.Clauses.{negate, var_of}
 use Rattle.checker_rules.specs.KnownVars.{is_known}
 use Rattle.checker_rules.specs.Model.{has_some, is_false_by_unit, model_cause}
 use Rattle.checker_rules.specs.Outcome.{Cause, model_against_itself, model_against_unit, model_misses_assumption, model_misses_clause, unknown_var}
-use Rattle.checker_rules.specs.State.{Known, State, Stored}
+use Rattle.checker_rules.specs.State.{State, Stored}
 use Rattle.checker_parts.specs.Causes.{cause_of}
 use Rattle.checker_parts.specs.declared.error.CheckCause.{CheckCause}
-
--- whether the literal is marked
-abbrev pub is_marked : List Bool → ℕ → Bool
-is_marked marks l = slice_index_or marks l false
-
--- there is a place for each literal of a known variable
-abbrev pub HasPlaces : List Bool → List Known → Type 0
-HasPlaces marks known = (l : ℕ) → l < 2 ^ 29 → var_of l < length known → l < length marks
 
 -- whether a literal of the clause is in the set
 abbrev pub has_marked : (ℕ → Bool) → Stored → Bool

@@ -1,4 +1,5 @@
 //! The parts of a checker.
+use crate::marks::Marks;
 use crate::processing::ProcessingOf;
 use checker_parts::processor::{ProofProcessor, ProofTranscriptProcessor};
 use checker_parts::variables::Variables;
@@ -14,6 +15,8 @@ use std::alloc::Global;
 pub struct TmpData {
     /// The canonical form of the clause of the present step.
     pub tmp: Vec<Lit>,
+    /// The literals of the model of the present step.
+    pub marks: Marks,
 }
 
 /// The parts of a checker.
@@ -51,6 +54,7 @@ impl<P: ProofProcessor, T: ProofTranscriptProcessor> ContextOf<P, T> {
             rup_check: RupCheck::new(alloc),
             tmp_data: TmpData {
                 tmp: Vec::new(alloc),
+                marks: Marks::new(alloc),
             },
             variables: Variables::new(alloc),
         }

@@ -4,6 +4,7 @@
 pub mod check;
 pub mod context;
 mod emit;
+pub mod marks;
 pub mod processing;
 pub mod steps;
 pub mod variables;

@@ -1,6 +1,7 @@
 pub mod Buckets
 pub mod CheckLaw
 pub mod Counts
+pub mod CountsByCode
 pub mod Delete
 pub mod Edits
 pub mod Found

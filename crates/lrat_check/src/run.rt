@@ -72,11 +72,12 @@ fn refute<P: Read + Drop>(alloc: Global, formula: &CnfFormula, proof: P) -> Resu
     }
 }
 
-/// Writes a verdict's line whole, also out of a writer's buffer.
+/// Writes a verdict's line at once, so that no fault between two writes leaves a part of it, and out
+/// of a writer's buffer.
 fn write_line<W: Write>(out: &mut W, verdict: Verdict) -> io::Result<()>
     ensures { IfOk result (λ done.
         Appends (W.contents out.old) (W.contents out.new) (shown_line verdict)) }
 {
-    writeln!(out, "{verdict}")?;
+    out.write_all(verdict.line())?;
     out.flush()
 }

@@ -17,7 +17,7 @@ pub enum Verdict {
 
 impl Verdict {
     ghost use Rattle.std.specs.Prelude.{◌≡◌};
-    ghost use Rattle.lrat_check.specs.Verdicts.{verdict_of};
+    ghost use Rattle.lrat_check.specs.Verdicts.{shown_line, verdict_of};
 
     /// The verdict of a proof whose lines were accepted, and which adds the empty clause or not.
     pub(crate) fn of(refuted: bool) -> Verdict
@@ -27,6 +27,16 @@ impl Verdict {
             Verdict::Verified
         } else {
             Verdict::NotVerified
+        }
+    }
+
+    /// The bytes of its line, with the line feed.
+    pub(crate) fn line(self) -> &'static [u8]
+        ensures { result.now ≡ shown_line self }
+    {
+        match self {
+            Verdict::Verified => b"s VERIFIED UNSAT\n",
+            Verdict::NotVerified => b"s NOT VERIFIED\n",
         }
     }
 }

@@ -38,7 +38,8 @@ abbrev pub hashes_of : (List ℕ → ℕ) → List ℕ → List ℕ
 hashes_of hash c = if is_named c then hash c ∷ [] else []
 
 -- go on with the clause of an id, where there is one
-abbrev pub on_entry : Option Entry → (List ℕ → Result (List ℕ) LineCause) → Result (List ℕ) LineCause
+abbrev pub on_entry : Option Entry → (List ℕ → Result (List ℕ) LineCause) →
+    Result (List ℕ) LineCause
 on_entry None go = Err UnknownId
 on_entry (Some e) go = go e.lits
 
@@ -46,7 +47,8 @@ on_entry (Some e) go = go e.lits
 abbrev pub gather : (List ℕ → ℕ) → Holding → List ℕ → List Hint → Result (List ℕ) LineCause
 gather hash h found [] = Ok found
 gather hash h found (against d ∷ hs) = Err RatGroup
-gather hash h found (along i ∷ hs) = on_entry (h.entries i) (λ c. gather hash h (found ++ hashes_of hash c) hs)
+gather hash h found (along i ∷ hs) =
+    on_entry (h.entries i) (λ c. gather hash h (found ++ hashes_of hash c) hs)
 
 -- an added clause, a canonical list, as a redundant one; a tautology says nothing, and a checker would refuse it
 abbrev pub derivation : List ℕ → List ℕ → List Step
@@ -55,7 +57,10 @@ derivation c hashes = if is_tautology c then [] else at_clause true c hashes ∷
 -- the clause is added by these hashes, where there are some
 abbrev pub added : Converted → ℕ → Entry → Result (List ℕ) LineCause → Result Converted LineCause
 added c i e (Err cause) = Err cause
-added c i e (Ok hashes) = Ok (record { steps = c.steps ++ derivation e.lits hashes; held = hold i e c.held })
+added c i e (Ok hashes) = Ok (record {
+  steps = c.steps ++ derivation e.lits hashes;
+  held = hold i e c.held;
+})
 
 -- a line that adds a clause under a new id
 abbrev pub add_line : ℕ → Converted → ℕ → List ℕ → List Hint → Result Converted LineCause
@@ -68,11 +73,16 @@ add_line width c i lits hints =
 -- one copy of a clause that a line added goes; those of the formula stay, and so do units
 abbrev pub deletion : Option Entry → List Step
 deletion None = []
-deletion (Some e) = if e.derived && is_named e.lits then delete_clause by_redundant e.lits ∷ [] else []
+deletion (Some e) =
+    if e.derived && is_named e.lits then delete_clause by_redundant e.lits ∷ []
+    else []
 
 -- the clause of an id goes; an id that names none is passed over
 abbrev pub delete_one : Converted → ℕ → Converted
-delete_one c i = record { steps = c.steps ++ deletion (c.held.entries i); held = drop_entry i c.held }
+delete_one c i = record {
+  steps = c.steps ++ deletion (c.held.entries i);
+  held = drop_entry i c.held;
+}
 
 -- the clauses of the ids, in turn
 abbrev pub delete_all : Converted → List ℕ → Converted
@@ -87,7 +97,8 @@ next width c (adds i lits hints) = add_line width c i lits hints
 next width c (deletes is) = Ok (delete_all c is)
 
 -- go on, where the line was not refused
-abbrev pub then_run : Result Converted LineCause → (Converted → Result Converted LineCause) → Result Converted LineCause
+abbrev pub then_run : Result Converted LineCause → (Converted → Result Converted LineCause) →
+    Result Converted LineCause
 then_run (Err cause) go = Err cause
 then_run (Ok c) go = go c
 

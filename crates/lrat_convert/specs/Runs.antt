@@ -24,12 +24,14 @@ use Rattle.lrat_convert.specs.declared.fault.LineCause.{LineCause}
 use Rattle.lrat_convert.specs.declared.status.Conversion.{Conversion}
 
 -- these lines of the text after c were converted, and lead to d: all of them, or those up to the one that refutes the formula
-pub record Leads (known : Option (List ℕ)) (width : ℕ) (c : Converted) (lines : List (ℕ × Line)) (d : Converted) : Type 0 where
+pub record Leads (known : Option (List ℕ)) (width : ℕ) (c : Converted) (lines : List (ℕ × Line))
+    (d : Converted) : Type 0 where
   pub text : MatchBool d.held.refuted (BeginsWith known lines) (SaysAll known lines texts.Ended)
   pub ran : run width c (said lines) ≡ Ok d
 
 -- lines were converted, and the next one, of this number, is refused
-pub record IsRefused (known : Option (List ℕ)) (width : ℕ) (c : Converted) (number : ℕ) (cause : LineCause) : Type 0 where
+pub record IsRefused (known : Option (List ℕ)) (width : ℕ) (c : Converted) (number : ℕ)
+    (cause : LineCause) : Type 0 where
   pub lines : List (ℕ × Line)
   pub line : Line
   pub before : Converted
@@ -39,7 +41,8 @@ pub record IsRefused (known : Option (List ℕ)) (width : ℕ) (c : Converted) (
   pub refused : next width before line ≡ Err cause
 
 -- lines were converted, and the next one, of this number, can't be read
-pub record IsUnread (known : Option (List ℕ)) (width : ℕ) (c : Converted) (number : ℕ) (kind : LineKind) : Type 0 where
+pub record IsUnread (known : Option (List ℕ)) (width : ℕ) (c : Converted) (number : ℕ)
+    (kind : LineKind) : Type 0 where
   pub lines : List (ℕ × Line)
   pub before : Converted
   pub text : SaysAll known lines (texts.Faulty number kind)
@@ -56,13 +59,16 @@ IsStopped known width c OutOfMemory = Unit {0}
 IsStopped known width c (Formula fault) = ⊥
 
 -- what a converter answers to the lines of a text after c
-abbrev pub ConvertsLines : Option (List ℕ) → ℕ → Converted → Option (List ℕ) → Option (List ℕ) → Converter → Result (Unit {0}) ConvertFault → Type 0
+abbrev pub ConvertsLines : Option (List ℕ) → ℕ → Converted → Option (List ℕ) → Option (List ℕ) →
+    Converter → Result (Unit {0}) ConvertFault → Type 0
 ConvertsLines known width c start now x (Ok done) =
-    (lines : List (ℕ × Line)) × (d : Converted) × Leads known width c lines d × HasConverted width start now d x
+    (lines : List (ℕ × Line)) × (d : Converted) × Leads known width c lines d
+    × HasConverted width start now d x
 ConvertsLines known width c start now x (Err fault) = IsStopped known width c fault
 
 -- the proof is converted: what was written is the bytes of all its steps, which can be read again
-pub record IsConverted (known : Option (List ℕ)) (width : ℕ) (formula : List (List ℕ)) (old new : Option (List ℕ)) (conversion : Conversion) : Type 0 where
+pub record IsConverted (known : Option (List ℕ)) (width : ℕ) (formula : List (List ℕ))
+    (old new : Option (List ℕ)) (conversion : Conversion) : Type 0 where
   pub lines : List (ℕ × Line)
   pub end : Converted
   pub leads : Leads known width (begun width formula) lines end
@@ -71,17 +77,23 @@ pub record IsConverted (known : Option (List ℕ)) (width : ℕ) (formula : List
   pub fits : AreSteps (formats.Bytes 64) (whole end)
 
 -- by the answer
-abbrev pub IsProofRun : Option (List ℕ) → ℕ → List (List ℕ) → Option (List ℕ) → Option (List ℕ) → Result Conversion ConvertFault → Type 0
-IsProofRun known width formula old new (Ok conversion) = IsConverted known width formula old new conversion
-IsProofRun known width formula old new (Err fault) = IsStopped known width (begun width formula) fault
+abbrev pub IsProofRun : Option (List ℕ) → ℕ → List (List ℕ) → Option (List ℕ) → Option (List ℕ) →
+    Result Conversion ConvertFault → Type 0
+IsProofRun known width formula old new (Ok conversion) =
+    IsConverted known width formula old new conversion
+IsProofRun known width formula old new (Err fault) =
+    IsStopped known width (begun width formula) fault
 
 -- the whole text is this formula, after which the proof was converted
-pub record IsAfterFormula (cnf known : Option (List ℕ)) (width : ℕ) (old new : Option (List ℕ)) (r : Result Conversion ConvertFault) : Type 0 where
+pub record IsAfterFormula (cnf known : Option (List ℕ)) (width : ℕ) (old new : Option (List ℕ))
+    (r : Result Conversion ConvertFault) : Type 0 where
   pub formula : List (List ℕ)
   pub whole : IsOutcome (option_map dimacs.outcome_of cnf) (formula, Ended)
   pub run : IsProofRun known width formula old new r
 
 -- over both texts: a formula that was not read whole is answered, and else the proof's conversion
-abbrev pub IsRun : Option (List ℕ) → Option (List ℕ) → ℕ → Option (List ℕ) → Option (List ℕ) → Result Conversion ConvertFault → Type 0
-IsRun cnf known width old new (Err (Formula fault)) = (clauses : List (List ℕ)) × FailsAfter (option_map dimacs.outcome_of cnf) clauses fault
+abbrev pub IsRun : Option (List ℕ) → Option (List ℕ) → ℕ → Option (List ℕ) → Option (List ℕ) →
+    Result Conversion ConvertFault → Type 0
+IsRun cnf known width old new (Err (Formula fault)) =
+    (clauses : List (List ℕ)) × FailsAfter (option_map dimacs.outcome_of cnf) clauses fault
 IsRun cnf known width old new r = IsAfterFormula cnf known width old new r

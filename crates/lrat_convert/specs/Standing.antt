@@ -45,14 +45,16 @@ pub record HasWritten (start now : Option (List ℕ)) (steps : List Step) (w : S
   pub fits : AreSteps (formats.Bytes 64) steps
 
 -- the converter has converted so far, with hashes of this width
-pub record HasConverted (width : ℕ) (start now : Option (List ℕ)) (c : Converted) (x : Converter) : Type 0 where
+pub record HasConverted (width : ℕ) (start now : Option (List ℕ)) (c : Converted)
+    (x : Converter) : Type 0 where
   pub written : HasWritten start now c.steps x.steps
   pub held : holding_of x.held ≡ c.held
   pub bits : x.hasher.hash_bits ≡ width
   pub names : applied_of x.hasher ≡ no_name
 
 -- the converter has converted as the rules say, and they refuse nothing
-pub record Reaches (width : ℕ) (start now : Option (List ℕ)) (r : Result Converted LineCause) (x : Converter) : Type 0 where
+pub record Reaches (width : ℕ) (start now : Option (List ℕ)) (r : Result Converted LineCause)
+    (x : Converter) : Type 0 where
   pub after : Converted
   pub ran : r ≡ Ok after
   pub stands : HasConverted width start now after x

@@ -83,7 +83,7 @@ fn write_proof(
 ) -> Result<Conversion, ConvertFault> {
     match BufWriter::new(rt.alloc(), proof) {
         Ok(mut out) => convert(rt.alloc(), cnf, lrat, width, &mut out),
-        Err(fault) => Err(ConvertFault::Write(fault)),
+        Err(_) => Err(ConvertFault::OutOfMemory),
     }
 }
 

@@ -10,6 +10,7 @@ pub mod Source
 pub mod Stop
 pub mod Taking
 pub mod Reading
+pub mod ShortNumbers
 pub mod DimacsReader
 pub mod Whole
 pub mod LineLaws

@@ -1,6 +1,7 @@
 //! Variables, literals, formulas and DIMACS text.
 #![tactic(auto)]
 
+mod ahead;
 mod cnf;
 mod dimacs;
 mod fault;

@@ -1,12 +1,15 @@
 -- A text of hints that is checked over a formula, by what the calls of the run ensure.
 --     gives_text      the whole text was read
 --     verified_hints      all its lines were accepted, and one adds the empty clause
+--     unread_hints      there was no memory to read it
 use Rattle.std.proofs.Common.{◌≡◌, ℕ, Bool, true, false, List, [], ◌++◌, Option, Some, None, refl, sym, ap, ◌∙◌}
-use Rattle.std.specs.Prelude.{if◌then◌else◌, IfSome}
+use Rattle.std.specs.Prelude.{Err, if◌then◌else◌, IfSome}
 use Rattle.checker_rules.specs.Clauses.{all_true}
 use Rattle.checker_rules.specs.HintLines.{Listed, listing}
 use Rattle.hint_checker.specs.Checked.{Accepts}
-use Rattle.varisat_check.specs.HintRuns.{AcceptsHints, GivesText}
+use Rattle.hint_checker.specs.declared.fault.HintFault.TheVariants.{OutOfMemory}
+use Rattle.varisat_check.specs.HintRuns.{AcceptsHints, ChecksHints, GivesText}
+use Rattle.varisat_check.specs.declared.hints.HintRunFault.TheVariants.{Hints}
 use Rattle.varisat_check.specs.declared.hints.HintVerdict.{HintVerdict}
 use Rattle.varisat_check.specs.declared.hints.HintVerdict.TheVariants.{NotVerified, Verified}
 
@@ -37,3 +40,8 @@ verified_hints known formula text answer is gives found refuted = record {
   verdict_is = ap verdict_by (sym is ∙ found.3);
   refutes = λ h a. never_true (all_true a formula) (refuted is a);
 }
+
+-- there was no memory to read it
+pub unread_hints : (known : Known) (formula : List (List ℕ)) → ChecksHints known formula (Err (Hints OutOfMemory))
+unread_hints None formula = ([], tt, tt)
+unread_hints (Some bytes) formula = (bytes, refl, tt)

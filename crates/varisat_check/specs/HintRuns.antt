@@ -3,7 +3,9 @@
 --     ChecksHints lrat formula r      the answer of checking a text of hints over a formula
 --     HintsRun cnf lrat r      the run over both texts
 --     IsRefusedHints r      the formula or the hints were not accepted
-use Rattle.std.specs.Prelude.{◌≡◌, ℕ, Bool, false, List, [], ◌∷◌, ◌++◌, if◌then◌else◌, Option, IfSome, Result, Ok, Err, codes}
+use Rattle.std.specs.Prelude.{◌≡◌, ◌≢◌, ℕ, Bool, false, List, [], ◌∷◌, ◌++◌, if◌then◌else◌, Option, IfSome, Result, Ok, Err, codes}
+use Rattle.std.specs.IoError.{error_kind}
+use Rattle.std.specs.declared.io.ErrorKind.TheVariants.{OutOfMemory}
 use Rattle.checker_rules.specs.Clauses.{all_true}
 use Rattle.checker_rules.specs.HintLines.{Listed, listing}
 use Rattle.sat_formula.specs.Outcome.{Ended}
@@ -45,12 +47,12 @@ pub record AcceptsHints (lrat : Option (List ℕ)) (formula : List (List ℕ))
   pub verdict_is : verdict ≡ (if held.added_empty then Verified else NotVerified)
   pub refutes : verdict ≡ Verified → (a : ℕ → Bool) → all_true a formula ≡ false
 
--- all lines are accepted, or the first that is not is named; nothing is said where a read failed
+-- all lines are accepted, or the first that is not is named; a failed read wanted no memory
 abbrev pub ChecksHints : Option (List ℕ) → List (List ℕ) → Result HintVerdict HintRunFault → Type 0
 ChecksHints lrat formula (Ok verdict) = AcceptsHints lrat formula verdict
 ChecksHints lrat formula (Err (Hints fault)) = (text : List ℕ) × GivesText lrat text
     × IsRefusal (listing formula) text fault
-ChecksHints lrat formula (Err (Read cause)) = Unit {0}
+ChecksHints lrat formula (Err (Read cause)) = error_kind cause ≢ OutOfMemory
 ChecksHints lrat formula (Err (Formula fault)) = ⊥
 ChecksHints lrat formula (Err (Write cause)) = ⊥
 

@@ -1,5 +1,6 @@
 //! Runs of the checker of hints: a text of hints is checked over a formula, and the answer is written.
-ghost use Rattle.std.specs.Prelude.{◌≡◌, List, ℕ, Some, Ok, IfOk};
+ghost use Rattle.std.specs.Prelude.{◌≡◌, ◌↔◌, List, ℕ, Some, Ok, IfOk, IsTrue};
+ghost use Rattle.std.specs.IoError.{error_kind};
 ghost use Rattle.std.specs.Io.KnownBytes.{Appends};
 ghost use Rattle.varisat_check.specs.HintRuns.{ChecksHints, HintsRun, IsRefusedHints, hint_line_of, hint_status_of, shown_hint_line};
 ghost use Rattle.varisat_check.specs.Runs.{IsRefuted};
@@ -7,10 +8,11 @@ ghost use Rattle.varisat_check.specs.declared.hints.HintVerdict.TheVariants.{Ver
 
 use crate::fault::RunFault;
 use crate::formula::read_formula;
+use crate::line::{Line, write_whole};
 use sat_formula::CnfFormula;
 use sat_hints::{HintChecker, HintFault};
 use std::alloc::Global;
-use std::io::{Read, Write};
+use std::io::{ErrorKind, Read, Write};
 use std::{fmt, io};
 use thiserror::Error;
 
@@ -41,7 +43,7 @@ pub enum HintRunFault {
     /// The formula was not read whole.
     #[error("{0}")]
     Formula(RunFault),
-    /// The text of hints was not read whole.
+    /// The text of hints was not read whole, and not for want of memory.
     #[error("error reading hints: {0}")]
     Read(io::Error),
     /// A line of hints was refused, or memory was wanting.
@@ -93,6 +95,9 @@ fn check_hints<H: Read + Drop>(
     let mut input = hints;
     let mut text = Vec::new(alloc);
     if let Err(fault) = input.read_to_end(&mut text) {
+        if is_want_of_memory(&fault) {
+            return Err(HintRunFault::Hints(HintFault::OutOfMemory));
+        }
         return Err(HintRunFault::Read(fault));
     }
     let mut checker = match HintChecker::new(alloc, formula) {
@@ -106,13 +111,21 @@ fn check_hints<H: Read + Drop>(
     }
 }
 
-/// Writes a verdict's line whole, also out of a writer's buffer.
+/// Whether there was no memory for what a read gave, or for the read.
+fn is_want_of_memory(fault: &io::Error) -> bool
+    ensures { IsTrue result ↔ (error_kind fault.now ≡ ErrorKind.OutOfMemory) }
+{
+    fault.kind() == ErrorKind::OutOfMemory
+}
+
+/// Writes a verdict's line at once, so that no fault between two writes leaves a part of it.
 fn write_line<W: Write>(out: &mut W, verdict: HintVerdict) -> io::Result<()>
     ensures { IfOk result (λ done.
         Appends (W.contents out.old) (W.contents out.new) (shown_hint_line verdict)) }
 {
-    writeln!(out, "{verdict}")?;
-    out.flush()
+    let mut line = Line::new();
+    writeln!(line, "{verdict}")?;
+    write_whole(out, line.as_slice())
 }
 
 /// The exit status of a program that made this run: 0 says that no assignment satisfies the formula.

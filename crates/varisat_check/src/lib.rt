@@ -4,6 +4,7 @@
 pub mod fault;
 pub mod formula;
 pub mod hints;
+mod line;
 pub mod lrat;
 pub mod run;
 pub mod status;

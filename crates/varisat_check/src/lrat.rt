@@ -7,6 +7,7 @@ ghost use Rattle.varisat_check.specs.Verdicts.{shown_line};
 ghost use Rattle.varisat_check.specs.declared.verdict.Verdict.TheVariants.{Unsatisfiable};
 
 use crate::fault::RunFault;
+use crate::line::write_whole;
 use crate::run::{verdict_after, write_line};
 use crate::verdict::Verdict;
 use checker_parts::error::DimacsError;
@@ -77,7 +78,6 @@ fn write_both<W: Write, V: Write>(
     ensures line { IfOk result (λ done. Appends (W.contents out.old) (W.contents out.new)
         (shown_line verdict)) }
 {
-    lrat.write_all(output)?;
-    lrat.flush()?;
+    write_whole(lrat, output)?;
     write_line(out, verdict)
 }

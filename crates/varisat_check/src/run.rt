@@ -13,6 +13,7 @@ ghost use Rattle.varisat_check.specs.Verdicts.{shown_line, verdict_of};
 ghost use Rattle.varisat_check.specs.declared.verdict.Verdict.TheVariants.{Unsatisfiable};
 
 use crate::fault::RunFault;
+use crate::line::{Line, write_whole};
 use crate::verdict::Verdict;
 use checker_parts::processor::{ProofProcessor, ProofTranscriptProcessor};
 use log::Log;
@@ -97,11 +98,12 @@ pub(crate) fn verdict_after<P: ProofProcessor, T: ProofTranscriptProcessor>(
     }
 }
 
-/// Writes a verdict's line whole, also out of a writer's buffer.
+/// Writes a verdict's line at once, so that no fault between two writes leaves a part of it.
 pub(crate) fn write_line<W: Write>(out: &mut W, verdict: Verdict) -> io::Result<()>
     ensures { IfOk result (λ done. Appends (W.contents out.old) (W.contents out.new)
         (shown_line verdict)) }
 {
-    writeln!(out, "{verdict}")?;
-    out.flush()
+    let mut line = Line::new();
+    writeln!(line, "{verdict}")?;
+    write_whole(out, line.as_slice())
 }

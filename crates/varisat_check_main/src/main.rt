@@ -2,10 +2,12 @@
 //!
 //! With a third file the checked steps are written to it as lines of hints.
 //! Without arguments it checks a small fixed example.
+//! What `RUST_LOG` asks for, as `RUST_LOG=info`, is logged to standard error; else nothing is.
 #![tactic(auto)]
 
+use log::Logged;
+use log::filter::{Builder, FilteredLog};
 use log::sink::Console;
-use log::{LevelFilter, Logged};
 use sat_formula::Lit;
 use sat_hints::LratWriter;
 use std::fs::File;
@@ -53,7 +55,7 @@ fn check_files(rt: &HostRuntime, cnf_name: &str, proof_name: &str) -> u8 {
     let Some(proof) = open(rt, proof_name) else {
         return NOT_RUN;
     };
-    let log = Logged::new(rt, LevelFilter::Warn, Console(rt));
+    let log = logged(rt);
     let outcome = run_check(&log, rt.alloc(), cnf, proof, &mut io::writer(rt));
     report(rt, &outcome)
 }
@@ -82,7 +84,7 @@ fn hints_of(
 ) -> Result<Verdict, RunFault> {
     let formula = read_formula(rt.alloc(), cnf)?;
     let writer = LratWriter::new(rt.alloc(), formula.len() as u64);
-    let log = Logged::new(rt, LevelFilter::Warn, Console(rt));
+    let log = logged(rt);
     let out = &mut io::writer(rt);
     let (verdict, _) = run_lrat(&log, rt.alloc(), &formula, writer, proof, out, lrat)?;
     Ok(verdict)
@@ -98,7 +100,7 @@ fn check_example(rt: &HostRuntime) -> u8 {
             return report(rt, &Err(RunFault::Proof(fault)));
         }
     }
-    let log = Logged::new(rt, LevelFilter::Warn, Console(rt));
+    let log = logged(rt);
     let outcome = run_proof(
         &log,
         &mut checker,
@@ -106,6 +108,16 @@ fn check_example(rt: &HostRuntime) -> u8 {
         &mut io::writer(rt),
     );
     report(rt, &outcome)
+}
+
+/// A runtime with the log that the environment asks for. Where there is no memory to read what that
+/// is, it asks for nothing.
+fn logged(rt: &HostRuntime) -> Logged<&HostRuntime, FilteredLog<Console<&HostRuntime>>> {
+    let filter = match Builder::from_env(rt, "RUST_LOG") {
+        Ok(builder) => builder.build(),
+        Err(_) => Builder::new(rt.alloc()).build(),
+    };
+    Logged::new(rt, filter.filter(), FilteredLog::new(Console(rt), filter))
 }
 
 /// The file, or a line that says that it can't be opened.

@@ -1,6 +1,6 @@
 //! Runs of the checker of hints: their lines and statuses, texts of faults, readers and writers that fail.
 use crate::four_clauses::FOUR;
-use crate::streams::{Full, broken, byte_by_byte};
+use crate::streams::{Full, broken, byte_by_byte, without_memory};
 use std::alloc::Global;
 use std::io;
 use std::io::{ErrorKind, Read};
@@ -93,6 +93,19 @@ fn reads_that_fail(rt: HostRuntime) -> Result<(), Fail> {
     check(&rt, alloc, broken(UNITS.as_bytes()), hints, refused(&text))?;
     let text = format!(in alloc; "error reading hints: {cause}")?;
     check(&rt, alloc, UNITS.as_bytes(), broken(hints), refused(&text))
+}
+
+// A reader without memory is no failed read.
+#[test]
+fn reads_without_memory(rt: HostRuntime) -> Result<(), Fail> {
+    let hints = without_memory("5 0 1 2 0\n".as_bytes());
+    check(
+        &rt,
+        rt.alloc(),
+        UNITS.as_bytes(),
+        hints,
+        refused("out of memory"),
+    )
 }
 
 #[test]

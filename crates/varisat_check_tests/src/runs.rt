@@ -1,7 +1,7 @@
 //! Runs with their verdicts, lines and statuses, texts of faults, and readers and writers that fail.
 use crate::four_clauses::{FIRST_MISSING, FOUR, WIDTH_1, proof_of_four};
 use crate::outcomes::{NOT_SHOWN, Outcome, SHOWN, WITH_ONE_ADDED, is_answered, refused};
-use crate::streams::{Full, broken, byte_by_byte};
+use crate::streams::{Counting, Full, broken, byte_by_byte};
 use checker_parts::error::CheckerError;
 use log::sink::Discard;
 use sat_formula::Lit;
@@ -172,6 +172,23 @@ fn lines_that_cannot_be_written(rt: HostRuntime) -> Result<(), Fail> {
     assert!(rt; matches!(&answer, Err(RunFault::Write(_))));
     let text = format!(in alloc; "error writing: {cause}")?;
     is_answered(&rt, alloc, answer, &[], refused(&text))
+}
+
+// So that no part of a line stands where the next write fails.
+#[test]
+fn a_line_is_one_write(rt: HostRuntime) -> Result<(), Fail> {
+    let alloc = rt.alloc();
+    let end: &[u8] = &[0x0D];
+    for (cnf, line) in [
+        ("1 0\n-1 0\n", "s UNSATISFIABLE\n"),
+        ("1 0\n", "s NOT SHOWN\n"),
+    ] {
+        let mut out = Counting::new(alloc);
+        assert!(rt; run_check(&Discard, alloc, cnf.as_bytes(), end, &mut out).is_ok());
+        assert_eq!(rt; out.text.as_slice(), line.as_bytes());
+        assert_eq!(rt; out.writes, 1);
+    }
+    Ok(())
 }
 
 #[test]

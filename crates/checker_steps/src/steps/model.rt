@@ -1,5 +1,5 @@
 //! Models.
-ghost use Rattle.std.specs.Prelude.{◌≡◌, ℕ, All, IfOk, OnOk, [], false};
+ghost use Rattle.std.specs.Prelude.{◌≡◌, ℕ, ◌&&◌, All, OnErr, OnOk, [], eqb, false, not};
 ghost use Rattle.std.specs.List.{list_all, list_any};
 ghost use Rattle.checker_rules.specs.Clauses.{add_lit, has};
 ghost use Rattle.checker_rules.specs.Emits.{Emits};
@@ -15,10 +15,12 @@ ghost use Rattle.clause_store.specs.declared.hash.ClauseHasher.{ClauseHasher};
 ghost use Rattle.clause_store.specs.declared.state.CheckerState.{CheckerState};
 ghost use Rattle.checker_steps.specs.Context.{ContextInvariant, context_state};
 ghost use Rattle.checker_steps.specs.Delivered.{Delivered, listeners_of};
-ghost use Rattle.checker_steps.specs.ModelCause.{HasPlaces, IsJudged, has_marked, is_marked, list_cause, lit_cause};
+ghost use Rattle.checker_steps.specs.Marks.{HasPlaces, MarksOnly, is_marked};
+ghost use Rattle.checker_steps.specs.ModelCause.{IsJudged, has_marked, list_cause, lit_cause};
 
 use crate::context::ContextOf;
 use crate::emit::emit_model;
+use crate::marks::Marks;
 use checker_parts::error::{CheckCause, CheckerError};
 use checker_parts::processor::{ProofProcessor, ProofTranscriptProcessor};
 use checker_parts::variables::Variables;
@@ -26,7 +28,7 @@ use clause_store::clauses::{Clause, Clauses};
 use clause_store::refusal::refusal;
 use clause_store::state::CheckerState;
 use sat_formula::Lit;
-use std::alloc::{AllocError, Global};
+use std::alloc::Global;
 
 /// Checks a model: its literals go together and with the units, and it has every assumption and a literal of each stored clause.
 pub fn model<P: ProofProcessor, T: ProofTranscriptProcessor>(
@@ -46,7 +48,7 @@ pub fn model<P: ProofProcessor, T: ProofTranscriptProcessor>(
     if ctx.checker_state.unsat {
         return Err(refusal(alloc, &ctx.checker_state, CheckCause::ModelAfterUnsat));
     }
-    let Ok(mut marks) = no_marks(alloc, &ctx.variables) else {
+    let Ok(()) = ctx.tmp_data.marks.make_places(&ctx.variables) else {
         return Err(CheckerError::OutOfMemory);
     };
     let judged = judge(
@@ -54,7 +56,7 @@ pub fn model<P: ProofProcessor, T: ProofTranscriptProcessor>(
         &ctx.clauses,
         &ctx.variables,
         assignment,
-        &mut marks,
+        &mut ctx.tmp_data.marks,
     );
     match judged {
         Ok(()) => emit_model(&mut ctx.processing, &ctx.variables, assignment),
@@ -62,16 +64,26 @@ pub fn model<P: ProofProcessor, T: ProofTranscriptProcessor>(
     }
 }
 
-/// A mark for each literal of a known variable, by its code. None is set.
-fn no_marks(alloc: Global, variables: &Variables) -> Result<Vec<bool>, AllocError>
-    ensures places { IfOk result (λ marks. HasPlaces marks.items variables.now) }
-    ensures unset { IfOk result (λ marks. (l : ℕ) → is_marked marks.items l ≡ false) }
+/// Why the list is no model, where unsatisfiability is not recorded.
+fn judge(
+    state: &CheckerState,
+    clauses: &Clauses,
+    variables: &Variables,
+    assignment: &[Lit],
+    marks: &mut Marks,
+) -> Result<(), CheckCause>
+    requires filed { (h : ClauseHasher) × IsIndexed h clauses.now (stored_list clauses.now) }
+    requires places { HasPlaces marks.old.by_code.items variables.now }
+    ensures { (h : ClauseHasher) → IsJudged result
+        (list_cause (state_of state.now h clauses.now variables.now) assignment.now) }
 {
-    vec![in alloc; false; variables.len().saturating_mul(2)]
+    let judged = judge_marking(state, clauses, variables, assignment, &mut marks.by_code);
+    unmark_literals(&mut marks.by_code, assignment);
+    judged
 }
 
-/// Why the list is no model, where unsatisfiability is not recorded. Its literals are marked.
-fn judge(
+/// The same. Literals of the list are marked, and stay so.
+fn judge_marking(
     state: &CheckerState,
     clauses: &Clauses,
     variables: &Variables,
@@ -81,8 +93,9 @@ fn judge(
     requires filed { (h : ClauseHasher) × IsIndexed h clauses.now (stored_list clauses.now) }
     requires places { HasPlaces marks.old variables.now }
     requires unset { (l : ℕ) → is_marked marks.old l ≡ false }
-    ensures { (h : ClauseHasher) → IsJudged result
+    ensures cause { (h : ClauseHasher) → IsJudged result
         (list_cause (state_of state.now h clauses.now variables.now) assignment.now) }
+    ensures listed { MarksOnly marks.new assignment.now }
 {
     mark_literals(clauses, variables, assignment, marks)?;
     if !are_marked(marks, &state.assumptions) {
@@ -106,6 +119,7 @@ fn mark_literals(
     ensures cause { (st : CheckerState) (h : ClauseHasher) →
         IsJudged result (model_cause (state_of st h clauses.now variables.now) [] assignment.now) }
     ensures marked { OnOk result ((l : ℕ) → is_marked marks.new l ≡ has l assignment.now) }
+    ensures listed { MarksOnly marks.new assignment.now }
 {
     for lit in assignment {
         mark_literal(clauses, variables, *lit, marks)?;
@@ -125,6 +139,7 @@ fn mark_literal(
         IsJudged result (lit_cause (state_of st h clauses.now variables.now)
         (is_marked marks.old) lit) }
     ensures marked { OnOk result (is_marked marks.new ≡ add_lit lit (is_marked marks.old)) }
+    ensures same { OnErr result (marks.new ≡ marks.old) }
 {
     if lit.index() >= variables.len() {
         return Err(CheckCause::UnknownVar);
@@ -137,6 +152,26 @@ fn mark_literal(
     }
     marks[lit.code()] = true;
     Ok(())
+}
+
+/// Takes back the marks of a list, so that none is left.
+fn unmark_literals(marks: &mut [bool], lits: &[Lit])
+    requires { MarksOnly marks.old lits.now }
+    ensures { (l : ℕ) → is_marked marks.new l ≡ false }
+{
+    for lit in lits {
+        unmark_literal(marks, *lit);
+    }
+}
+
+/// Takes back the mark of a literal. Without a place it has none.
+fn unmark_literal(marks: &mut [bool], lit: Lit)
+    ensures { (l : ℕ) → is_marked marks.new l ≡ (not (eqb l lit) && is_marked marks.old l) }
+{
+    let code = lit.code();
+    if code < marks.len() {
+        marks[code] = false;
+    }
 }
 
 fn is_marked(marks: &[bool], lit: Lit) -> bool

@@ -1,5 +1,5 @@
 //! How many stored clauses hold each literal.
-ghost use Rattle.std.specs.Prelude.{◌≡◌, ◌+◌, ◌-◌, ◌*◌, ◌<◌, ◌≤◌, ◌++◌, ℕ, [], true, length, replicate, OnOk, slice_index, slice_set};
+ghost use Rattle.std.specs.Prelude.{◌≡◌, ◌+◌, ◌-◌, ◌*◌, ◌<◌, ◌≤◌, ◌++◌, ℕ, [], true, length, replicate, IfOk, OnOk, slice_index, slice_set};
 ghost use Rattle.checker_rules.specs.Canonical.{var_bound};
 ghost use Rattle.checker_rules.specs.Clauses.{has, is_canonical};
 ghost use Rattle.clause_store.specs.Counts.{HoldOneMore};
@@ -9,18 +9,28 @@ use sat_formula::lit::Lit;
 use std::alloc::{AllocError, Global};
 use std::marker::Model;
 
-/// For each literal of a known variable, the number of clauses that hold it, in four bytes a literal.
+/// Counts by the literals' codes, in four bytes each or in eight.
+#[derive(Drop)]
+enum ByCode {
+    Narrow(Vec<u32>),
+    Wide(Vec<u64>),
+}
+
+/// For each literal of a known variable, the number of clauses that hold it.
+///
+/// A count takes four bytes, until one would pass them: from then on each takes eight.
 #[derive(Drop)]
 pub struct LitCounts {
-    by_code: Vec<u32>,
+    by_code: ByCode,
 }
 
 impl Model for LitCounts {
     ghost use Rattle.std.specs.Prelude.{ℕ, List};
+    ghost use Rattle.clause_store.specs.CountsByCode.{counts_in};
 
     ghost Value = { List ℕ };
 
-    ghost view = { λ c. c.by_code.items };
+    ghost view = { λ c. counts_in c.by_code };
 }
 
 impl LitCounts {
@@ -28,8 +38,15 @@ impl LitCounts {
     pub fn new(alloc: Global) -> LitCounts
         ensures { result ≡ [] }
     {
+        LitCounts::of(Vec::new(alloc))
+    }
+
+    /// The counts that are given, by the literals' codes.
+    pub fn of(counts: Vec<u32>) -> LitCounts
+        ensures { result ≡ counts.items }
+    {
         LitCounts {
-            by_code: Vec::new(alloc),
+            by_code: ByCode::Narrow(counts),
         }
     }
 
@@ -37,10 +54,12 @@ impl LitCounts {
     pub fn get(&self, lit: Lit) -> LitData
         ensures { result.clause_count ≡ slice_index self.now lit }
     {
-        let count = self.by_code.get(lit.code()).copied().unwrap_or(0);
-        LitData {
-            clause_count: count as usize,
-        }
+        let code = lit.code();
+        let clause_count = match &self.by_code {
+            ByCode::Narrow(counts) => counts.get(code).copied().unwrap_or(0) as usize,
+            ByCode::Wide(counts) => counts.get(code).copied().unwrap_or(0) as usize,
+        };
+        LitData { clause_count }
     }
 
     /// Makes the literals of the first `vars` variables known. No clause holds a new one.
@@ -48,17 +67,16 @@ impl LitCounts {
         ensures { OnOk result (self.new ≡ self.old ++ replicate (2 * vars - length self.old) 0) }
     {
         let lits = vars.checked_mul(2).ok_or(AllocError)?;
-        if self.by_code.len() < lits {
-            self.by_code.resize(lits, 0)?;
+        match &mut self.by_code {
+            ByCode::Narrow(counts) if counts.len() < lits => counts.resize(lits, 0),
+            ByCode::Wide(counts) if counts.len() < lits => counts.resize(lits, 0),
+            _ => Ok(()),
         }
-        Ok(())
     }
 
     /// One clause more holds these literals.
     ///
-    /// A literal can be counted in 2^32 - 1 clauses. The table has no room for more, which is answered
-    /// as want of memory: such a store takes hundreds of gigabytes, and would fill the memory long
-    /// before. After an error the counts are of no use.
+    /// After an error the counts are of no use.
     pub fn raise(&mut self, lits: &[Lit]) -> Result<(), AllocError>
         requires canonical { is_canonical lits.now ≡ true }
         requires known { 2 * var_bound lits.now ≤ length self.old }
@@ -87,16 +105,59 @@ impl LitCounts {
         requires { lit < length self.old }
         ensures { OnOk result (self.new ≡ slice_set self.old lit (slice_index self.old lit + 1)) }
     {
-        let count = &mut self.by_code[lit.code()];
-        *count = count.checked_add(1).ok_or(AllocError)?;
-        Ok(())
+        match &mut self.by_code {
+            ByCode::Narrow(counts) => {
+                let count = &mut counts[lit.code()];
+                match count.checked_add(1) {
+                    Some(raised) => *count = raised,
+                    None => self.by_code = ByCode::Wide(widened(counts, lit)?),
+                }
+                Ok(())
+            }
+            ByCode::Wide(counts) => add_wide(counts, lit),
+        }
     }
 
     fn take_one(&mut self, lit: Lit)
         requires { 0 < slice_index self.old lit }
         ensures { self.new ≡ slice_set self.old lit (slice_index self.old lit - 1) }
     {
-        let count = &mut self.by_code[lit.code()];
-        *count -= 1;
+        match &mut self.by_code {
+            ByCode::Narrow(counts) => counts[lit.code()] -= 1,
+            ByCode::Wide(counts) => counts[lit.code()] -= 1,
+        }
     }
+}
+
+/// The counts in eight bytes each, where one clause more holds the literal.
+fn widened(counts: &Vec<u32>, lit: Lit) -> Result<Vec<u64>, AllocError>
+    requires { lit < length counts.now.items }
+    ensures { IfOk result (λ wide. wide.items
+        ≡ slice_set counts.now.items lit (slice_index counts.now.items lit + 1)) }
+{
+    let mut wide = copy_wide(counts)?;
+    add_wide(&mut wide, lit)?;
+    Ok(wide)
+}
+
+fn copy_wide(counts: &Vec<u32>) -> Result<Vec<u64>, AllocError>
+    ensures { IfOk result (λ wide. wide.items ≡ counts.now.items) }
+{
+    let mut wide = Vec::with_capacity(*counts.allocator(), counts.len())?;
+    for count in counts {
+        wide.push(*count as u64)?;
+    }
+    Ok(wide)
+}
+
+// No count passes 64 bits: each clause that is counted has an id of its own, and ids end before.
+// What is known here does not say so, and the error stands in place of a sum that is never made.
+fn add_wide(counts: &mut Vec<u64>, lit: Lit) -> Result<(), AllocError>
+    requires { lit < length counts.old.items }
+    ensures { OnOk result (counts.new.items
+        ≡ slice_set counts.old.items lit (slice_index counts.old.items lit + 1)) }
+{
+    let count = &mut counts[lit.code()];
+    *count = count.checked_add(1).ok_or(AllocError)?;
+    Ok(())
 }

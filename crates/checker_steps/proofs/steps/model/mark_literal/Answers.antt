@@ -1,7 +1,7 @@
 use Rattle.std.proofs.Common.{length, sym, ap, ◌∙◌, arith}
 use Rattle.checker_rules.specs.Clauses.{var_of}
 use Rattle.clause_store.specs.StateOf.{state_of}
-use Rattle.checker_steps.specs.ModelCause.{is_marked}
+use Rattle.checker_steps.specs.Marks.{is_marked}
 use Rattle.checker_steps.proofs.MarkLemmas.{less, lit-against_itself, lit-against_unit, lit-none}
 use Rattle.checker_steps.proofs.steps.model.mark_literal.Goals as goal
 

@@ -1,12 +1,12 @@
-use Rattle.std.proofs.Common.{◌+◌, ◌||◌, drop, sym, ap, ◌∙◌}
+use Rattle.std.proofs.Common.{◌+◌, ◌||◌, drop, sym, ap, ◌∙◌, subst}
 use Rattle.std.proofs.lemmas.List.{drop_all}
 use Rattle.std.proofs.lemmas.Result.{err_from_is_err_and}
 use Rattle.checker_rules.specs.Clauses.{has}
 use Rattle.checker_parts.specs.Causes.{cause_of}
 use Rattle.clause_store.specs.StateOf.{state_of}
 use Rattle.clause_store.proofs.StatusLemmas.{drop-at}
-use Rattle.checker_steps.specs.ModelCause.{is_marked}
-use Rattle.checker_steps.proofs.MarkLemmas.{causes_from, causes_from-goes, causes_from-none, cause-first, marked-all, marked-none, marked-turn}
+use Rattle.checker_steps.specs.Marks.{MarksOnly, is_marked}
+use Rattle.checker_steps.proofs.MarkLemmas.{causes_from, causes_from-goes, causes_from-none, cause-first, marked-all, marked-none, marked-turn, marks_only}
 use Rattle.checker_steps.proofs.steps.model.mark_literals.Goals as goal
 
 pub loop-lit-init : goal.loop-lit-init
@@ -48,3 +48,14 @@ pub returns-clause-marked : goal.returns-clause-marked
 returns-clause-marked c k =
     let ls = c.args.assignment.now in
     marked-all (is_marked c.loop-lit.marks) ls (drop c.loop-lit.lit-index ls) k (drop_all c.loop-lit.lit-index ls c.loop-lit-test.false) (c.loop-lit.invariant.marked k)
+
+pub returns-in_err-mark_literal-clause-listed : goal.returns-in_err-mark_literal-clause-listed
+returns-in_err-mark_literal-clause-listed c =
+    let ls = c.args.assignment.now in
+    subst (λ marks. MarksOnly marks ls) (sym c.in_err-mark_literal.ensures.same)
+    (marks_only c.loop-lit.marks ls (drop c.loop-lit.lit-index ls) c.loop-lit.invariant.marked)
+
+pub returns-clause-listed : goal.returns-clause-listed
+returns-clause-listed c =
+    let ls = c.args.assignment.now in
+    marks_only c.loop-lit.marks ls (drop c.loop-lit.lit-index ls) c.loop-lit.invariant.marked

@@ -4,7 +4,7 @@ use Rattle.checker_rules.specs.Model.{model_cause}
 use Rattle.clause_store.specs.StateOf.{state_of}
 use Rattle.clause_store.specs.declared.hash.ClauseHasher.{ClauseHasher}
 use Rattle.clause_store.specs.declared.state.CheckerState.{CheckerState}
-use Rattle.checker_steps.specs.ModelCause.{is_marked}
+use Rattle.checker_steps.specs.Marks.{is_marked}
 use Rattle.checker_steps.proofs.MarkLemmas.{causes_from}
 use Rattle.checker_steps.proofs.steps.model.mark_literals.Given as goal
 

@@ -3,7 +3,8 @@ use Rattle.std.specs.List.{list_all}
 use Rattle.clause_store.specs.Lits.{IsWithin}
 use Rattle.clause_store.specs.View.{stored_list, stored_of}
 use Rattle.clause_store.proofs.GatheredLemmas.{walked_within}
-use Rattle.checker_steps.specs.ModelCause.{is_marked, has_marked}
+use Rattle.checker_steps.specs.Marks.{is_marked}
+use Rattle.checker_steps.specs.ModelCause.{has_marked}
 use Rattle.checker_steps.proofs.MetLemmas.{AllWithin, all_met, met-not, met-rest, met-stored, within-first, within-rest}
 use Rattle.checker_steps.proofs.steps.model.meets_clauses.Goals as goal
 

@@ -41,16 +41,16 @@ returns-in-Ok-judged-clause-delivered g c =
     let o = model-accepts s c.args.assignment.now c.if-ctx.false (c.in-Ok-judged.ensures ctx.clause_hasher) in
     delivered-one _ _ _ _ (Emits s (model c.args.assignment.now)) _ _ _ c.emit_model.result (model-emits s c.args.assignment.now o) c.emit_model.ensures
 
-pub returns-clause-step : goal.returns-clause-step
-returns-clause-step g c =
+pub returns-in-Err-clause-step : goal.returns-in-Err-clause-step
+returns-in-Err-clause-step g c =
     let ctx = c.args.ctx.now in
     let s = state_of ctx.checker_state ctx.clause_hasher ctx.clauses ctx.variables in
     let r = model-refuses s c.args.assignment.now (cause_of c.in-Err.msg) c.if-ctx.false (c.in-Err.ensures ctx.clause_hasher) in
     answers-refusal c.refusal-in-Err.result s.steps c.in-Err.msg (cause_of c.in-Err.msg) (step s (model c.args.assignment.now)) s
     c.refusal-in-Err.ensures refl (ap (λ (x : Outcome). x.refused) r) (sym (ap (λ (x : Outcome). x.after) r)) refl
 
-pub returns-clause-delivered : goal.returns-clause-delivered
-returns-clause-delivered g c =
+pub returns-in-Err-clause-delivered : goal.returns-in-Err-clause-delivered
+returns-in-Err-clause-delivered g c =
     let ctx = c.args.ctx.now in
     let s = state_of ctx.checker_state ctx.clause_hasher ctx.clauses ctx.variables in
-    delivered-refused _ _ _ _ s s (model c.args.assignment.now) c.refusal-in-Err.result s.steps c.in-Err.msg (listeners_of ctx.processing) c.refusal-in-Err.ensures (returns-clause-step g c) refl
+    delivered-refused _ _ _ _ s s (model c.args.assignment.now) c.refusal-in-Err.result s.steps c.in-Err.msg (listeners_of ctx.processing) c.refusal-in-Err.ensures (returns-in-Err-clause-step g c) refl

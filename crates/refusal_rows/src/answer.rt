@@ -1,0 +1,62 @@
+//! Answers of calls as short texts.
+use arrayvec::ArrayString;
+use checker_parts::error::{CheckerError, DimacsError};
+use std::fmt;
+use std::fmt::Write;
+
+/// A text that takes no growth.
+pub type Answer = ArrayString<80>;
+
+/// What stands in place of another answer where memory was refused to a call.
+pub const WANT_OF_MEMORY: &str = "OutOfMemory";
+
+/// The same where it was refused to a registered box.
+pub const WANT_OF_A_BOX: &str = "ProofProcessorError memory allocation failed";
+
+/// What a checker answers once it has failed.
+pub const FAILED: &str = "Failed";
+
+/// The text of an answer: `Ok`, or the name of the fault with the number of the step where it has one, and the cause.
+///
+/// A refused step that is shown ends in `shown`.
+pub fn step_answer(answer: &Result<(), CheckerError>) -> Answer {
+    let mut text = Answer::new();
+    let _ = match answer {
+        Ok(()) => write!(text, "Ok"),
+        Err(fault) => write_fault(&mut text, fault),
+    };
+    text
+}
+
+/// The text of an answer to a formula's text: a malformed one has the number of its line.
+pub fn text_answer(answer: &Result<(), DimacsError>) -> Answer {
+    let mut text = Answer::new();
+    let _ = match answer {
+        Ok(()) => write!(text, "Ok"),
+        Err(DimacsError::Read(cause)) => write!(text, "Read {:?}", cause.kind()),
+        Err(DimacsError::Malformed { line, kind }) => write!(text, "Malformed {line} {kind:?}"),
+        Err(DimacsError::Checker(fault)) => write_fault(&mut text, fault),
+    };
+    text
+}
+
+fn write_fault(text: &mut Answer, fault: &CheckerError) -> fmt::Result {
+    match fault {
+        CheckerError::ProofIncomplete { step } => write!(text, "ProofIncomplete {step}"),
+        CheckerError::IoError { step, cause } => write!(text, "IoError {step} {:?}", cause.kind()),
+        CheckerError::ParseError { step, cause } => write!(text, "ParseError {step} {cause:?}"),
+        CheckerError::CheckFailed {
+            step,
+            msg,
+            debug_step,
+        } => {
+            let shown = if debug_step.is_empty() { "" } else { " shown" };
+            write!(text, "CheckFailed {step} {msg:?}{shown}")
+        }
+        CheckerError::ProofProcessorError { cause } => {
+            write!(text, "ProofProcessorError {cause}")
+        }
+        CheckerError::OutOfMemory => write!(text, "{WANT_OF_MEMORY}"),
+        CheckerError::Failed => write!(text, "{FAILED}"),
+    }
+}

@@ -1,0 +1,107 @@
+#!/usr/bin/env bash
+# Refuses the growths of programs, one after the other: first each alone, and then all from each one on.
+#
+# It plays the rows of `refusal_rows`, which judges them itself, and runs the programs on real proofs: no verdict may stand in
+# place of an error. The programs must be built: `rt ci` does it, or `rt run` in their folders. It needs `cc`.
+set -euo pipefail
+
+top=$(cd "$(dirname "$0")/.." && pwd)
+rows=$top/crates/refusal_rows/out/refusal_rows
+check=$top/crates/varisat_check_main/out/varisat_check_main
+hint_check=$top/crates/hint_check_main/out/hint_check_main
+lrat_check=$top/crates/lrat_check_main/out/lrat_check_main
+lrat_to_proof=$top/crates/lrat_to_proof_main/out/lrat_to_proof_main
+data=$top/tests/data
+work=$(mktemp -d)
+trap 'rm -rf "$work"' EXIT
+for program in "$rows" "$check" "$hint_check" "$lrat_check" "$lrat_to_proof"; do
+  if [[ ! -x $program ]]; then
+    echo "not built: $program"
+    exit 1
+  fi
+done
+"${CC:-cc}" -O2 -Wall -shared -fPIC -o "$work/fail.so" "$top/tests/refused_growths/fail.c" -ldl
+wrong=0
+
+# refuse MODE NUMBER COMMAND..: a run with refused growths. It sets `status`, and `refused` to how many there were.
+refuse() {
+  status=0
+  env "$1=$2" LD_PRELOAD="$work/fail.so" "${@:3}" > "$work/out" 2> "$work/err" 9> "$work/marks" || status=$?
+  refused=$(stat -c %s "$work/marks")
+}
+
+misjudged() {
+  echo "WRONG $1: status $status, output '$(cat "$work/out")', errors '$(cat "$work/err")'"
+  wrong=1
+}
+
+# A row is as it may be, or memory was refused to the program that plays it; without a refused growth it is as written.
+play_row() {
+  local row=$1 mode=$2 number own=0
+  for ((number = 1; ; number++)); do
+    refuse "$mode" "$number" "$rows" "$row"
+    if ((refused == 0)); then
+      break
+    elif ((status == 4)); then
+      own=$((own + 1))
+    elif ((status != 0)); then
+      misjudged "$row $mode=$number"
+    fi
+  done
+  if [[ $status != 0 || $(cat "$work/out") != "$row: as written" ]]; then
+    misjudged "$row without a refused growth"
+  fi
+  echo "$row $mode: $((number - 1)) runs, of which $own met the program that plays the row"
+}
+
+# Whether a run whose one refused growth was that of the log's setting went on without a log, and did all else: once at most.
+went_on_silently() {
+  [[ $1 == "$check" && $status == 0 && $(cat "$work/out") == 's UNSATISFIABLE' ]] || return 1
+  [[ $# == 3 ]] || cmp -s "$work/hints" "$work/whole_hints"
+}
+
+# run NAME MODE LINE COMMAND..: a run that ends in the line, if no growth is refused. With a refused growth there is no line and no
+# line of hints; the fault is want of memory, or the arguments could not be read.
+run() {
+  local name=$1 mode=$2 line=$3 number unread=0 silent=0
+  shift 3
+  for ((number = 1; ; number++)); do
+    rm -f "$work/hints"
+    refuse "$mode" "$number" "$@"
+    if ((refused == 0)); then
+      break
+    elif ((silent == 0)) && went_on_silently "$@"; then
+      silent=1
+    elif [[ -s $work/out || -s $work/hints ]]; then
+      misjudged "$name $mode=$number"
+    elif ((status == 2)); then
+      unread=$((unread + 1))
+    elif ((status != 1)) || ! grep -qE '^((Error in proof processor|formula|proof): )?out of memory$' "$work/err"; then
+      misjudged "$name $mode=$number"
+    fi
+  done
+  if [[ $status != 0 || $(cat "$work/out") != "$line" ]]; then
+    misjudged "$name without a refused growth"
+  fi
+  echo "$name $mode: $((number - 1)) runs, of which $unread met the reading of the arguments and $silent the log's setting"
+}
+
+"$rows" > "$work/all" || { cat "$work/all"; exit 1; }
+"$check" "$data"/par10.{cnf,whole.proof} "$work/whole_hints" > "$work/out"
+mapfile -t names < <(sed 's/: as written$//' "$work/all")
+for mode in FAIL_AT FAIL_FROM; do
+  for row in "${names[@]}"; do
+    play_row "$row" "$mode"
+  done
+  for proof in "$data"/*.proof; do
+    run "$(basename "$proof")" "$mode" 's UNSATISFIABLE' "$check" "${proof%.*.proof}.cnf" "$proof"
+  done
+  # with hints a run has hundreds of growths: one will do
+  run 'par10.whole.proof with hints' "$mode" 's UNSATISFIABLE' "$check" "$data"/par10.{cnf,whole.proof} "$work/hints"
+  run 'par10.lrat' "$mode" 's VERIFIED UNSAT' "$hint_check" "$data"/par10.{cnf,lrat}
+  for lrat in "$data"/*.lrat; do
+    run "$(basename "$lrat") by lrat_check" "$mode" 's VERIFIED UNSAT' "$lrat_check" "${lrat%.lrat}.cnf" "$lrat"
+  done
+  run 'par10.lrat by lrat_to_proof' "$mode" '' "$lrat_to_proof" "$data"/par10.{cnf,lrat} "$work/bytes"
+done
+exit "$wrong"
