@@ -3,7 +3,10 @@
 # where memory is refused.
 set -euo pipefail
 cd "$(dirname "$0")"
-rt ci
+told=$(mktemp)
+trap 'rm -f "$told"' EXIT
+rt ci 2>&1 | tee "$told"
+tests/weak_edits.sh "$told"
 tests/end_to_end.sh
 tests/failing_files.sh
 tests/refused_growths.sh

@@ -1,6 +1,8 @@
 //! Derived clauses: what they are checked by, their ids and their propagations.
-use crate::script::agrees;
+use crate::calls::make;
+use crate::script::{agrees, given};
 use std::test::Fail;
+use varisat_checker::Checker;
 
 const DERIVED_CLAUSES: &str = "
 new
@@ -224,4 +226,127 @@ at irr -1
 #[test]
 fn checks_leave_no_values(rt: HostRuntime) -> Result<(), Fail> {
     agrees(&rt, rt.alloc(), CHECKS_LEAVE_NO_VALUES)
+}
+
+const LONG_BUCKETS: &str = "
+# With hashes of one bit the bucket 0 has ten clauses, and nothing follows from them before 2 has a value.
+new
+given 4 5
+given 4 9
+given 4 10
+given 5 9
+given 5 10
+given 7 8
+given 7 11
+given -2 6
+given -2 -6
+given 2 3
+given 1 2
+bits 1
+at red 1 : 0 0 0
+> CheckFailed 2 AtCheckFailed
+at red 1 : 0 0 1 0
+> + AtClause 11 red [1] (10 7 8)
+# Its own last clause gives 2 the value: the first ones wait for the second walk.
+new
+given 4 5
+given 4 9
+given 4 10
+given 5 9
+given 5 10
+given 7 8
+given 7 11
+given -2 6
+given -2 -6
+given 2 3
+bits 1
+at red 3 : 0
+> CheckFailed 2 AtCheckFailed
+at red 3 : 0 0
+> + AtClause 10 red [3] (9 7 8)
+# Where nothing follows in one check, something can in the next.
+new
+given 4 5
+given 4 9
+given 4 10
+given 5 9
+given 5 10
+given 7 8
+given 7 11
+given -2 6
+given -2 -6
+given 2 3
+bits 1
+at red 1 : 0 0
+> CheckFailed 2 AtCheckFailed
+at red -2 : 0
+> + AtClause 10 red [-2] (7 8)
+# A unit that such a bucket meets is listed once, before what follows later.
+new
+given 13
+given 4 5
+given 4 9
+given 4 10
+given 5 9
+given 5 10
+given 7 8
+given 7 11 -13
+given -2 6
+given -2 -6
+given 2 3
+given 1 2
+bits 1
+at red 1 : 0 0 0 1 0
+> + AtClause 12 red [1] (0 11 8 9)
+";
+
+#[test]
+fn long_buckets(rt: HostRuntime) -> Result<(), Fail> {
+    agrees(&rt, rt.alloc(), LONG_BUCKETS)
+}
+
+// The ten clauses of one bucket, and one of the other.
+const LONG_BUCKET: [&str; 11] = [
+    "4 5", "4 9", "4 10", "5 9", "5 10", "7 8", "7 11", "-2 6", "-2 -6", "2 3", "1 2",
+];
+
+// A check without processors goes another way.
+#[test]
+fn long_buckets_without_processors(rt: HostRuntime) -> Result<(), Fail> {
+    let rows: [(&str, &str); 6] = [
+        ("at red 1 : 0 0 0", "CheckFailed 2 AtCheckFailed"),
+        ("at red 3 : 0", "CheckFailed 2 AtCheckFailed"),
+        ("at red 12 : 0 0 1 0", "CheckFailed 2 AtCheckFailed"),
+        ("at red 1 : 0 0 1 0", "Ok"),
+        ("at red 3 : 0 0", "Ok"),
+        ("at red -2 : 0", "Ok"),
+    ];
+    let alloc = rt.alloc();
+    for (call, answer) in rows {
+        let mut checker = Checker::new(alloc);
+        for clause in LONG_BUCKET {
+            given(alloc, &mut checker, clause)?;
+        }
+        make(alloc, &mut checker, "bits 1", 1)?;
+        assert_eq!(rt; make(alloc, &mut checker, call, 1)?.as_str(), answer);
+    }
+    Ok(())
+}
+
+// Where nothing follows in one check, something can in the next.
+#[test]
+fn long_buckets_in_turn(rt: HostRuntime) -> Result<(), Fail> {
+    let alloc = rt.alloc();
+    let mut checker = Checker::new(alloc);
+    for clause in LONG_BUCKET {
+        given(alloc, &mut checker, clause)?;
+    }
+    make(alloc, &mut checker, "bits 1", 1)?;
+    let failed = make(alloc, &mut checker, "at red 12 : 0 0", 1)?;
+    assert_eq!(rt; failed.as_str(), "CheckFailed 2 AtCheckFailed");
+    assert_eq!(rt;
+        make(alloc, &mut checker, "at red -2 : 0", 1)?.as_str(),
+        "Ok"
+    );
+    Ok(())
 }

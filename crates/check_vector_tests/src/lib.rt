@@ -36,6 +36,8 @@ mod models;
 #[cfg(test)]
 mod names;
 #[cfg(test)]
+mod parts;
+#[cfg(test)]
 mod proofs;
 #[cfg(test)]
 mod script;

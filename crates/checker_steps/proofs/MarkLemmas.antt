@@ -1,12 +1,13 @@
 -- Judging the literals of a model one after the other, those before being marked.
 use Rattle.std.proofs.Common.{◌≡◌, ℕ, ◌<◌, Bool, true, false, cond, not, ◌&&◌, ◌||◌, eqb, ltb, List, [], ◌∷◌, Option, None, Some, refl, sym, ap, ◌∙◌, arith}
+use Rattle.std.specs.List.{list_all}
 use Rattle.checker_rules.specs.Clauses.{add_lit, has, negate, var_of}
 use Rattle.checker_rules.specs.KnownVars.{is_known}
-use Rattle.checker_rules.specs.Model.{is_false_by_unit, model_cause}
-use Rattle.checker_rules.specs.Outcome.{Cause, model_against_itself, model_against_unit, unknown_var}
+use Rattle.checker_rules.specs.Model.{has_some, is_false_by_unit, model_cause}
+use Rattle.checker_rules.specs.Outcome.{Cause, model_against_itself, model_against_unit, model_misses_assumption, model_misses_clause, unknown_var}
 use Rattle.checker_rules.specs.State.{State}
 use Rattle.checker_steps.specs.Marks.{MarksOnly, is_marked}
-use Rattle.checker_steps.specs.ModelCause.{first_cause, lit_cause}
+use Rattle.checker_steps.specs.ModelCause.{first_cause, has_marked, list_cause, lit_cause, missing_cause}
 
 pub less : (n m : ℕ) → n < m → ltb n m ≡ true
 less n m h = grind (arith, h)
@@ -76,6 +77,24 @@ marked-turn f g l ls k marked = ap (λ h. h k || has k ls) marked ∙ or-turn (e
 
 pub marked-all : (f : ℕ → Bool) (whole ls : List ℕ) (k : ℕ) → ls ≡ [] → (f k || has k ls) ≡ has k whole → f k ≡ has k whole
 marked-all f whole ls k done h = sym (or-none (f k)) ∙ ap (λ xs. f k || has k xs) (sym done) ∙ h
+
+-- what a list misses, its literals alone being marked
+pub judged-whole : (s : State) (f : ℕ → Bool) (m : List ℕ) (a b : Bool) →
+    ((k : ℕ) → f k ≡ has k m) → model_cause s [] m ≡ None →
+    a ≡ list_all f s.assumed → b ≡ list_all (has_marked f) s.clauses →
+    list_cause s m ≡ cond (not a) (Some model_misses_assumption)
+    (cond (not b) (Some model_misses_clause) None)
+judged-whole s f m a b marked none assumed clauses =
+    ap (λ c. first_cause c (missing_cause s m)) none
+    ∙ ap (λ x. cond (not x) (Some model_misses_assumption)
+    (cond (not (list_all (λ e. has_some e.lits m) s.clauses)) (Some model_misses_clause) None))
+    (sym (assumed ∙ ap (λ g. list_all g s.assumed) (same f m marked)))
+    ∙ ap (λ x. cond (not a) (Some model_misses_assumption)
+    (cond (not x) (Some model_misses_clause) None))
+    (sym (clauses ∙ ap (λ g. list_all (has_marked g) s.clauses) (same f m marked)))
+  where
+    same : (f : ℕ → Bool) (m : List ℕ) → ((k : ℕ) → f k ≡ has k m) → f ≡ (λ k. has k m)
+    same f m marked = λ i k. marked k i
 
 -- only what is listed is marked
 pub marks_only : (marks : List Bool) (whole ls : List ℕ) → ((k : ℕ) → (is_marked marks k || has k ls) ≡ has k whole) → MarksOnly marks whole

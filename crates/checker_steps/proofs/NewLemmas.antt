@@ -3,9 +3,9 @@ use Rattle.std.proofs.Common.{◌≡◌, ℕ, List, [], nat_eq, None, refl, sym,
 use Rattle.std.specs.HashMap.{IsEmpty}
 use Rattle.std.specs.Map.{keys_of, lookup}
 use Rattle.std.specs.List.{flat_map}
-use Rattle.checker_rules.specs.Sound.{Sound}
 use Rattle.checker_rules.specs.Steps.{new_state}
-use Rattle.checker_rules.proofs.SoundStates.{sound-new_state}
+use Rattle.checker_rules.specs.WellFormed.{WellFormed}
+use Rattle.checker_rules.proofs.StepForms.{new_form}
 use Rattle.clause_store.specs.declared.clauses.Clauses.{Clauses}
 use Rattle.clause_store.specs.declared.hash.ClauseHasher.{ClauseHasher}
 use Rattle.clause_store.specs.declared.state.CheckerState.{CheckerState}
@@ -70,6 +70,6 @@ is_store-new h cs bits empty =
 -- both
 pub kept-new : (st : CheckerState) (h : ClauseHasher) (cs : Clauses) → IsNewState st → h.hash_bits ≡ 64 → applied_of h ≡ (λ v. None) → pending_of h ≡ [] → IsEmptyStore cs → PartsInvariant st h cs []
 kept-new st h cs fresh bits names pending empty = record {
-  sound = subst Sound (sym (state_of-new st h cs fresh bits names pending empty)) sound-new_state;
+  form = subst WellFormed (sym (state_of-new st h cs fresh bits names pending empty)) new_form;
   store = is_store-new h cs bits empty;
 }

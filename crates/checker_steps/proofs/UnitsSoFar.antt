@@ -5,14 +5,14 @@ use Rattle.std.proofs.lemmas.List.{append-nil, append_assoc}
 use Rattle.checker_rules.specs.Check.{ready}
 use Rattle.checker_rules.specs.CheckedSteps.{NamedStep}
 use Rattle.checker_rules.specs.Outcome.{Cause, Outcome, accept, and_then_by, refuse}
-use Rattle.checker_rules.specs.Sound.{Sound}
 use Rattle.checker_rules.specs.State.{State}
 use Rattle.checker_rules.specs.Step.{unit_clauses}
 use Rattle.checker_rules.specs.Steps.{step}
 use Rattle.checker_rules.specs.Traced.{traced, traced_derived, traced_then, traced_units, traced_when}
 use Rattle.checker_rules.specs.Transcript.{TranscriptStep}
 use Rattle.checker_rules.specs.UnitClauses.{step_unit, step_unit_clauses}
-use Rattle.checker_rules.proofs.SoundStates.{sound_after}
+use Rattle.checker_rules.specs.WellFormed.{WellFormed}
+use Rattle.checker_rules.proofs.StepForms.{steps_keep_form}
 use Rattle.checker_rules.proofs.StepKinds.{step-unit_clauses}
 use Rattle.checker_parts.specs.Answers.{AnswersParts, IsRefusal}
 use Rattle.checker_parts.specs.Causes.{cause_of}
@@ -37,11 +37,13 @@ abbrev later_steps : Option Cause → List NamedStep → List NamedStep
 later_steps None es = es
 later_steps (Some cause) es = []
 
--- a pair leaves a sound state
-pub sound-unit : (s t : State) (p : ℕ × ℕ) → Sound s → t ≡ (step_unit s p).after → Sound t
-sound-unit s t p sound left = subst Sound (sym left) (by (step_unit s p).refused (subst (λ (o : Outcome). Sound o.after) (step-unit_clauses s (p ∷ [])) (sound_after s (unit_clauses (p ∷ [])) sound)))
+-- a pair keeps the form
+pub form-unit : (s t : State) (p : ℕ × ℕ) → WellFormed s → t ≡ (step_unit s p).after → WellFormed t
+form-unit s t p form left =
+    subst WellFormed (sym left)
+    (by (step_unit s p).refused (subst (λ (o : Outcome). WellFormed o.after) (step-unit_clauses s (p ∷ [])) (steps_keep_form s (unit_clauses (p ∷ [])) form)))
   where
-    by : (x : Option Cause) → Sound (and_then_by x (step_unit s p).after accept).after → Sound (step_unit s p).after
+    by : (x : Option Cause) → WellFormed (and_then_by x (step_unit s p).after accept).after → WellFormed (step_unit s p).after
     by None h = h
     by (Some cause) h = h
 

@@ -14,6 +14,7 @@ pub mod GrowthLemmas
 pub mod HashLemmas
 pub mod HeldEdits
 pub mod HeldLemmas
+pub mod IdleLemmas
 pub mod LongLemmas
 pub mod MoveLemmas
 pub mod ReadyLemmas

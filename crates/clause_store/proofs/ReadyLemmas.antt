@@ -6,7 +6,6 @@ use Rattle.checker_rules.specs.Check.{apply_if_named, apply_pending, check, read
 use Rattle.checker_rules.specs.Clauses.{is_tautology}
 use Rattle.checker_rules.specs.Outcome.{accept, at_check_failed, no_clause_for_hash, refuse}
 use Rattle.checker_rules.specs.Passes.{none_empty}
-use Rattle.checker_rules.specs.Sound.{Sound}
 use Rattle.checker_rules.specs.State.{Known, State, StoredUnit, buckets, clause_passes}
 use Rattle.checker_rules.specs.Traced.{check_trace}
 use Rattle.checker_rules.specs.WellFormed.{WellFormed}
@@ -41,8 +40,8 @@ pending-length st h h' cs cs' known form e =
     sym (length-stored cs'.unit_clauses) ∙ ap (λ (us : List (Option StoredUnit)). length us) same ∙ form.same_known
 
 -- the form of the state in which the clause is checked
-pub ready-form : (s t : State) (c : List ℕ) → Sound s → t ≡ ready s c → WellFormed t
-ready-form s t c k e = subst WellFormed (sym e) (form-ready s c k.form)
+pub ready-form : (s t : State) (c : List ℕ) → WellFormed s → t ≡ ready s c → WellFormed t
+ready-form s t c form e = subst WellFormed (sym e) (form-ready s c form)
 
 -- there the variables of the stored clauses are known
 pub ready-known : (st : CheckerState) (h : ClauseHasher) (cs : Clauses) (known : List Known) → IsStore h cs →
@@ -69,11 +68,11 @@ check-failed s c hs e n =
 
 -- what the check found, in the state in which the clause is checked
 pub ready-answers : (st : CheckerState) (h : ClauseHasher) (cs : Clauses) (known : List Known) (buffer c hs : List ℕ) (a : Answer)
-    (s : State) → IsStore h cs → Sound s → state_of st h cs known ≡ ready s c → is_tautology c ≡ false
+    (s : State) → IsStore h cs → WellFormed s → state_of st h cs known ≡ ready s c → is_tautology c ≡ false
     → buffer ≡ cs.literal_buffer.items → check_answer a ≡ clause_answer (stored_units cs.unit_clauses) c (named_buckets buffer cs.buckets hs) → AnswersCheck (ready s c) c hs a
-ready-answers st h cs known buffer c hs a s store sound here apart whole e =
+ready-answers st h cs known buffer c hs a s store form here apart whole e =
     let is = subst (λ (b : List ℕ). check_answer a ≡ clause_answer (stored_units cs.unit_clauses) c (named_buckets b cs.buckets hs)) whole e in
-    subst (λ (r : State). AnswersCheck r c hs a) here (check_is_by_rules.answers st h cs known c hs a store.filed.bucketed (ready-form s (state_of st h cs known) c sound here) apart is)
+    subst (λ (r : State). AnswersCheck r c hs a) here (check_is_by_rules.answers st h cs known c hs a store.filed.bucketed (ready-form s (state_of st h cs known) c form here) apart is)
 
 -- the state with the units of before
 pub same-units : (st : CheckerState) (h : ClauseHasher) (cs : Clauses) (known : List Known) (us : List (Option UnitClause)) (t : State) →

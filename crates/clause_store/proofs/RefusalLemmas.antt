@@ -2,10 +2,10 @@
 use Rattle.std.specs.Result.{OnErr, OnOk}
 use Rattle.std.proofs.Common.{◌≡◌, ℕ, List, None, Some, Result, Ok, Err, sym, ap, ◌∙◌, subst}
 use Rattle.checker_rules.specs.Outcome.{Cause, Outcome, refuse}
-use Rattle.checker_rules.specs.Sound.{Sound}
 use Rattle.checker_rules.specs.State.{Known, State}
 use Rattle.checker_rules.specs.Step.{Step}
 use Rattle.checker_rules.specs.Steps.{step}
+use Rattle.checker_rules.specs.WellFormed.{WellFormed}
 use Rattle.checker_parts.specs.Answers.{AnswersParts, IsRefusal, UnlessFailed}
 use Rattle.checker_parts.specs.Causes.{cause_of}
 use Rattle.checker_parts.specs.declared.error.CheckCause.{CheckCause}
@@ -18,7 +18,7 @@ use Rattle.clause_store.specs.PartsInvariant.{PartsInvariant}
 use Rattle.clause_store.specs.Refusal.{RefusesWith}
 use Rattle.clause_store.specs.StateOf.{state_of}
 use Rattle.clause_store.specs.Store.{IsStore}
-use Rattle.checker_rules.proofs.SoundStates.{sound_after}
+use Rattle.checker_rules.proofs.StepForms.{steps_keep_form}
 
 -- a refusal answers an outcome that refuses with its cause
 pub answers-refusal : (e : CheckerError) (n : ℕ) (msg : CheckCause) (cause : Cause) (o : Outcome) (s : State) → RefusesWith n msg e →
@@ -59,16 +59,16 @@ answers-part (ProofProcessorError fault) o p s f h = tt
 answers-part OutOfMemory o p s f h = tt
 answers-part Failed o p s f h = absurd h
 
--- a sound outcome, whatever the answer
-pub sound-answer : {A : Type 0} (r : Result A CheckerError) (o : Outcome) (s : State) → Sound o.after → AnswersParts r o s → UnlessFailed r (Sound s)
-sound-answer (Ok done) o s k h = subst Sound (sym h.1) k
-sound-answer (Err (CheckFailed number msg debug_step)) o s k h = subst Sound (sym h.1) k
-sound-answer (Err (ProofIncomplete number)) o s k h = absurd h
-sound-answer (Err (IoError number read)) o s k h = absurd h
-sound-answer (Err (ParseError number kind)) o s k h = absurd h
-sound-answer (Err (ProofProcessorError fault)) o s k h = tt
-sound-answer (Err OutOfMemory) o s k h = tt
-sound-answer (Err Failed) o s k h = absurd h
+-- the form of the outcome, whatever the answer
+pub form-answer : {A : Type 0} (r : Result A CheckerError) (o : Outcome) (s : State) → WellFormed o.after → AnswersParts r o s → UnlessFailed r (WellFormed s)
+form-answer (Ok done) o s k h = subst WellFormed (sym h.1) k
+form-answer (Err (CheckFailed number msg debug_step)) o s k h = subst WellFormed (sym h.1) k
+form-answer (Err (ProofIncomplete number)) o s k h = absurd h
+form-answer (Err (IoError number read)) o s k h = absurd h
+form-answer (Err (ParseError number kind)) o s k h = absurd h
+form-answer (Err (ProofProcessorError fault)) o s k h = tt
+form-answer (Err OutOfMemory) o s k h = tt
+form-answer (Err Failed) o s k h = absurd h
 
 -- two facts at once
 pub unless-both : {A : Type 0} {P Q R : Type 0} (r : Result A CheckerError) → (P → Q → R) → UnlessFailed r P → UnlessFailed r Q → UnlessFailed r R
@@ -85,5 +85,5 @@ unless-both (Err Failed) f p q = tt
 pub kept-answer : {A : Type 0} (r : Result A CheckerError) (st st' : CheckerState) (h h' : ClauseHasher) (cs cs' : Clauses) (known known' : List Known) (t : Step) → PartsInvariant st h cs known
     → AnswersParts r (step (state_of st h cs known) t) (state_of st' h' cs' known') → UnlessFailed r (IsStore h' cs') → UnlessFailed r (PartsInvariant st' h' cs' known')
 kept-answer r st st' h h' cs cs' known known' t kept answers store =
-    unless-both r (λ sound store. record { sound = sound; store = store })
-    (sound-answer r (step (state_of st h cs known) t) (state_of st' h' cs' known') (sound_after (state_of st h cs known) t kept.sound) answers) store
+    unless-both r (λ form store. record { form = form; store = store })
+    (form-answer r (step (state_of st h cs known) t) (state_of st' h' cs' known') (steps_keep_form (state_of st h cs known) t kept.form) answers) store

@@ -1,24 +1,19 @@
 -- How the trace goes on after a clause.
-use Rattle.std.proofs.Common.{◌≡◌, ℕ, ◌+◌, ◌<◌, nat_eq, Bool, true, false, cond, not, ◌&&◌, eqb, List, [], ◌∷◌, ◌++◌, length, map, drop, get_or, set, Option, None, Some, is_some, ⊎_elim, refl, sym, ap, ◌∙◌, subst}
-use Rattle.std.specs.HashMap.{get}
+use Rattle.std.proofs.Common.{◌≡◌, ℕ, ◌<◌, Bool, true, false, not, ◌&&◌, eqb, List, [], ◌∷◌, ◌++◌, length, set, Option, None, Some, is_some, ⊎_elim, refl, sym, ap, ◌∙◌, subst}
 use Rattle.std.specs.Option.{option_map}
-use Rattle.smallvec.specs.SmallVec.{SmallVec}
 use Rattle.std.proofs.lemmas.Bool.{and_right, cases_eq, ne_eqb}
-use Rattle.std.proofs.lemmas.List.{append_assoc, drop_more, map-append}
+use Rattle.std.proofs.lemmas.List.{append_assoc, map-append}
 use Rattle.checker_rules.specs.Clauses.{add_lit, negate, var_of}
 use Rattle.checker_rules.specs.Hints.{Item, prepend, stored_item, trace, unlisted_at}
 use Rattle.checker_rules.specs.State.{Stored, start_set}
 use Rattle.checker_rules.specs.Traced.{ids_of}
-use Rattle.clause_store.specs.declared.clauses.Clause.{Clause}
 use Rattle.clause_store.specs.declared.clauses.units.UnitClause.{UnitClause}
 use Rattle.clause_store.specs.declared.rup.status.ClauseStatus.{ClauseStatus}
 use Rattle.clause_store.specs.declared.rup.status.ClauseStatus.TheVariants as statuses
-use Rattle.clause_store.specs.Buckets.{Buckets, bucket_items}
 use Rattle.clause_store.specs.Rup.{status_of, true_lits}
 use Rattle.clause_store.specs.StateOf.{stored_units}
-use Rattle.clause_store.specs.Trace.{KeepsStored, Lists, ids_after, item_ids, look, looked, named_clauses, open_trace, unlisted_lits}
+use Rattle.clause_store.specs.Trace.{KeepsStored, ids_after, item_ids, look, looked, open_trace, unlisted_lits}
 use Rattle.clause_store.specs.Units.{AreKnown, number_of, stored_id, unit_at}
-use Rattle.clause_store.specs.View.{stored_of}
 use Rattle.clause_store.proofs.TraceLemmas.{keeps-agree, keeps-set, keeps-then, unlisted_lits-set}
 use Rattle.clause_store.proofs.UnitsLemmas.{negation_is}
 use Rattle.clause_store.proofs.VisitLemmas.{on_status, on_visit-status, trace-agree}
@@ -117,19 +112,6 @@ lists-unit ids ids_now ids_last us vs ws e m w known h last new added written re
     by_status ids us e rest (statuses.Unit m) h.status ∙ with_ids-prepend ids (v.items ++ stored_item e ∷ []) (trace (stored_units us) (add_lit m (true_lits us)) v.unlisted rest)
     ∙ ap (λ xs. with_ids xs (trace (stored_units us) (add_lit m (true_lits us)) v.unlisted rest)) (named-last ids ids_now v.items (stored_item e) (ap (λ p. p.0) h.listed) ∙ sym last)
     ∙ ap (with_ids ids_last) (goes_on us ws (add_lit m (true_lits us)) v.unlisted rest keeps added unlisted)
-
--- the clauses of the bucket at hand, before those that are left
-pub named_clauses-drop : (buffer : List ℕ) (m : Buckets) (hs : List ℕ) (i : ℕ) (b : SmallVec Clause) (cs : List Clause) → i < length hs → Some b ≡ get nat_eq m (get_or hs i 0) → cs ≡ b.items
-    → named_clauses buffer m (drop i hs) ≡ map (stored_of buffer) cs ++ named_clauses buffer m (drop (i + 1) hs)
-named_clauses-drop buffer m hs i b cs less found is =
-    ap (named_clauses buffer m) (drop_more hs i 0 less) ∙ ap (λ o. map (stored_of buffer) (bucket_items o) ++ named_clauses buffer m (drop (i + 1) hs)) (sym found)
-    ∙ ap (λ xs. map (stored_of buffer) xs ++ named_clauses buffer m (drop (i + 1) hs)) (sym is)
-
--- the trace goes on after a bucket without a falsified clause
-pub lists-bucket : (ids ids_now : List ℕ) (us vs : List (Option UnitClause)) (es : List Stored) (falsified : Bool) →
-    Lists ids us es ids_now vs falsified → falsified ≡ false → (rest : List Stored) →
-    ids_after ids us (es ++ rest) ≡ ids_after ids_now vs rest
-lists-bucket ids ids_now us vs es falsified h e rest = h rest ∙ ap (λ b. cond b (Some ids_now) (ids_after ids_now vs rest)) e
 
 -- the trace of the walk from the values with the negated clause
 pub open_trace-is : (ids t : List ℕ) (us vs : List (Option UnitClause)) (c : List ℕ) (es : List Stored) → ids ≡ [] → KeepsStored us vs →

@@ -6,6 +6,7 @@ pub mod Delete
 pub mod Edits
 pub mod Found
 pub mod Growth
+pub mod Idle
 pub mod PartsInvariant
 pub mod Lits
 pub mod Lowered

@@ -1,5 +1,5 @@
 -- What the propagation check finds, in the words of the rules.
-use Rattle.std.specs.Prelude.{◌≡◌, ℕ, Bool, if◌then◌else◌, List, map, Option, None, Some, All}
+use Rattle.std.specs.Prelude.{◌≡◌, ℕ, Bool, if◌then◌else◌, List, ◌∷◌, map, Option, None, Some, All}
 use Rattle.std.specs.List.{list_any}
 use Rattle.checker_rules.specs.Passes.{CheckAnswer, by_count, failed, no_clause, passed, unfalsified, walk, walk_buckets}
 use Rattle.checker_rules.specs.State.{StoredUnit, all_lits, lit_by_unit, some_true_unit, start_set}
@@ -31,6 +31,23 @@ abbrev pub Walks : List (Option UnitClause) → List (List ℕ) → List (Option
 Walks us cs vs falsified = walk (true_lits us) cs ≡
     (if falsified then None else Some (true_lits vs))
 
+-- the answer in the words of the rules
+abbrev pub check_answer : Answer → CheckAnswer
+check_answer Passed = passed
+check_answer NoClauseForHash = no_clause
+check_answer Failed = failed
+
+-- the answer that ends a walk, or else what the rest of it answers
+abbrev pub answer_or : Option Answer → CheckAnswer → CheckAnswer
+answer_or None rest = rest
+answer_or (Some a) rest = check_answer a
+
+-- a walk over buckets of which this is the first ends in it, or goes on from those values
+abbrev pub WalksFirst : List (Option UnitClause) → List (List ℕ) → List (Option UnitClause) →
+    Option Answer → Type 0
+WalksFirst us b vs end = (rest : List (List (List ℕ))) →
+    walk_buckets (true_lits us) (b ∷ rest) ≡ answer_or end (walk_buckets (true_lits vs) rest)
+
 -- the lists of literals of clauses
 abbrev pub lits_in : List ℕ → List Clause → List (List ℕ)
 lits_in buffer cs = all_lits (map (stored_of buffer) cs)
@@ -46,12 +63,6 @@ AreAllKnown us buffer m = (k : ℕ) → All (λ c. AreKnown us (lits_of c.lits b
 -- the buckets of the hashes
 abbrev pub named_buckets : List ℕ → Buckets → List ℕ → List (List (List ℕ))
 named_buckets buffer m hs = map (lits_at buffer m) hs
-
--- the answer in the words of the rules
-abbrev pub check_answer : Answer → CheckAnswer
-check_answer Passed = passed
-check_answer NoClauseForHash = no_clause
-check_answer Failed = failed
 
 -- the answer of the check of a clause over these buckets
 abbrev pub clause_answer : List (Option StoredUnit) → List ℕ → List (List (List ℕ)) → CheckAnswer

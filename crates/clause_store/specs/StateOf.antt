@@ -36,7 +36,7 @@ hash_of h c = clause_hash (applied_of h) h.hash_bits c
 
 -- the pending names and removals
 abbrev pub pending_of : ClauseHasher → List (ℕ × Option ℕ)
-pending_of h = map indexes h.pending.items
+pending_of h = map indexes h.pending.entries.items
 
 -- the state that the parts stand for, with these known variables
 abbrev pub state_of : CheckerState → ClauseHasher → Clauses → List Known → State

@@ -1,5 +1,5 @@
 -- What a traced check lists.
-use Rattle.std.specs.Prelude.{◌≡◌, ℕ, Bool, true, if◌then◌else◌, ◌&&◌, List, [], ◌∷◌, ◌++◌, map, Option, None, Some, All, is_some}
+use Rattle.std.specs.Prelude.{◌≡◌, ℕ, Bool, true, false, if◌then◌else◌, ◌&&◌, List, [], ◌∷◌, ◌++◌, map, Option, None, Some, All, is_some}
 use Rattle.std.specs.Option.{option_map}
 use Rattle.checker_rules.specs.Clauses.{var_of}
 use Rattle.checker_rules.specs.Emits.{first_true}
@@ -56,6 +56,12 @@ abbrev pub Lists : List ℕ → List (Option UnitClause) → List Stored → Lis
     List (Option UnitClause) → Bool → Type 0
 Lists ids us es now vs falsified = (rest : List Stored) →
     ids_after ids us (es ++ rest) ≡ (if falsified then Some now else ids_after now vs rest)
+
+-- a walk over buckets, these clauses the first, ends in it with these ids, or goes on with them
+pub record ListsFirst (ids : List ℕ) (us : List (Option UnitClause)) (es : List Stored)
+    (now : List ℕ) (vs : List (Option UnitClause)) (end : Option Answer) : Type 0 where
+  pub passed : end ≡ Some Passed → Lists ids us es now vs true
+  pub goes_on : end ≡ None → Lists ids us es now vs false
 
 -- the clauses of the named buckets, one after the other
 abbrev pub named_clauses : List ℕ → Buckets → List ℕ → List Stored

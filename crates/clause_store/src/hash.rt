@@ -1,6 +1,5 @@
 //! The hash of a clause under the solver's names for its variables.
-ghost use Rattle.std.specs.Prelude.{◌≡◌, ◌<◌, ◌≤◌, ◌/◌, [], ℕ, List, None, IfOk, OnOk, false, is_some, map};
-ghost use Rattle.std.specs.List.{list_any};
+ghost use Rattle.std.specs.Prelude.{◌≡◌, ◌<◌, ◌≤◌, ◌/◌, [], ℕ, List, None, IfOk, OnOk, false, map};
 ghost use Rattle.checker_rules.specs.Check.{apply_if_named, apply_name, apply_names, apply_pending};
 ghost use Rattle.checker_rules.specs.State.{Known, named_hash};
 ghost use Rattle.sat_formula.specs.Vars.{indexes_of};
@@ -10,6 +9,7 @@ ghost use Rattle.clause_store.specs.Names.{indexes, names_of};
 
 use crate::clauses::Clauses;
 use crate::clauses::rebuild::rebuild_buckets;
+use crate::pending::PendingNames;
 use crate::state::CheckerState;
 use proof_bytes::hash::{ClauseHash, lit_code_hash, lit_hash};
 use sat_formula::lit::{Lit, Var};
@@ -22,8 +22,8 @@ pub struct ClauseHasher {
     pub hash_bits: u32,
     /// The name of a variable, by the variable's index.
     pub solver_names: HashMap<usize, Var>,
-    /// Names, and removals where there is None, in the order in which they came.
-    pub pending: Vec<(Var, Option<Var>)>,
+    /// The names and removals that wait.
+    pub pending: PendingNames,
 }
 
 impl ClauseHasher {
@@ -38,7 +38,7 @@ impl ClauseHasher {
         ClauseHasher {
             hash_bits: 64,
             solver_names: HashMap::new(alloc),
-            pending: Vec::new(alloc),
+            pending: PendingNames::new(alloc),
         }
     }
 
@@ -53,13 +53,6 @@ impl ClauseHasher {
             hash ^= self.named_lit_hash(*lit);
         }
         hash >> (64 - self.hash_bits)
-    }
-
-    /// Whether one of the pending entries is a name.
-    fn some_name_pending(&self) -> bool
-        ensures { result ≡ list_any (λ p. is_some p.1) self.now.pending.items }
-    {
-        self.pending.iter().any(|entry| entry.1.is_some())
     }
 
     /// The hash of a literal by the applied name of its variable.
@@ -100,7 +93,7 @@ pub fn rehash(
         apply_pending (record (state_of st hasher.old clauses.old known) { width = bits })) }
     ensures store { OnOk result (IsStore hasher.new clauses.new) }
 {
-    let renamed = apply_names(&mut hasher.solver_names, &hasher.pending)?;
+    let renamed = apply_names(&mut hasher.solver_names, &hasher.pending.entries)?;
     hasher.pending.clear();
     if !renamed && hasher.hash_bits == bits {
         return Ok(());
@@ -122,7 +115,7 @@ pub fn apply_pending_names(
         apply_if_named (state_of st hasher.old clauses.old known)) }
     ensures store { OnOk result (IsStore hasher.new clauses.new) }
 {
-    if hasher.some_name_pending() {
+    if hasher.pending.some_name() {
         let bits = hasher.hash_bits;
         rehash(alloc, hasher, clauses, bits)
     } else {

@@ -4,6 +4,7 @@
 pub mod clauses;
 pub mod hash;
 pub mod laws;
+pub mod pending;
 pub mod refusal;
 pub mod rup;
 pub mod state;

@@ -1,5 +1,6 @@
 //! The propagation check.
 pub mod check;
+mod idle;
 mod propagation;
 mod status;
 mod trace;
@@ -23,7 +24,7 @@ use crate::clauses::buckets::Buckets;
 use crate::clauses::units::Units;
 use crate::rup::propagation::Propagation;
 use crate::rup::trail::{assume_false, undo};
-use crate::rup::untraced::{FreeTrail, check_untraced};
+use crate::rup::untraced::{FreePropagation, check_untraced};
 use crate::rup::walk::walk_buckets;
 use proof_bytes::hash::ClauseHash;
 use sat_formula::lit::Lit;
@@ -45,11 +46,11 @@ pub enum Answer {
 #[derive(Drop)]
 pub struct RupCheck {
     propagation: Propagation,
-    assumed: FreeTrail,
+    free: FreePropagation,
     /// The ids of what the last check used that was traced and passed.
     pub trace_ids: Vec<u64>,
     ghost at_rest: { propagation.trail.items ≡ [] },
-    ghost none_assumed: { assumed.items ≡ [] },
+    ghost none_given: { free.trail.items ≡ [] },
 }
 
 impl RupCheck {
@@ -58,7 +59,7 @@ impl RupCheck {
     {
         RupCheck {
             propagation: Propagation::new(alloc),
-            assumed: Vec::new(alloc),
+            free: FreePropagation::new(alloc),
             trace_ids: Vec::new(alloc),
         }
     }
@@ -126,7 +127,7 @@ fn check_open_clause(
         rup.new.trace_ids.items ≡ last_trace traced a ids rup.old.trace_ids.items) }
 {
     if !traced {
-        return check_untraced(units, &mut rup.assumed, buckets, buffer, lits, hashes);
+        return check_untraced(units, &mut rup.free, buckets, buffer, lits, hashes);
     }
     rup.propagation.begin(traced);
     let answer = walk_negated(units, &mut rup.propagation, buckets, buffer, lits, hashes);

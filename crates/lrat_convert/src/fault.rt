@@ -119,12 +119,16 @@ impl From<AllocError> for GivenUp {
 }
 
 impl From<io::Error> for GivenUp {
+    ghost from_gives = { λ cause why. why ≡ reasons.Write cause };
+
     fn from(cause: io::Error) -> GivenUp {
         GivenUp::Write(cause)
     }
 }
 
 impl From<WriteFault> for GivenUp {
+    ghost from_gives = { λ _ why. why ≡ reasons.OutOfMemory };
+
     fn from(_e: WriteFault) -> GivenUp {
         // Hashes are cut to the width in force, so none is too wide.
         GivenUp::OutOfMemory

@@ -1,8 +1,9 @@
 pub mod AddedSoFar
 pub mod CertifiedLemmas
 pub mod CountLemmas
-pub mod FailingLemmas
 pub mod DeliveredAdds
+pub mod EntailedLemmas
+pub mod FailingLemmas
 pub mod ProofRuns
 pub mod ProvenSteps
 pub mod ReadDelivered

@@ -1,5 +1,5 @@
 -- What follows for the satisfying set from the steps that a run accepts.
---     SoFarSets s steps t      the steps accepted so far led from s to t, the fold over them, and what they prove
+--     SoFarSets s steps t      the steps accepted so far led from s to t; where s entails its redundant clauses, the fold over the steps and what they prove
 --     AnswerSets s steps r t      the same of the answer
 --     sets-begin, sets-go      the loop's start, and a turn of it
 --     sets-stand, sets-counted, sets-refused, sets-close      how it ends
@@ -18,24 +18,27 @@ use Rattle.checker_parts.specs.declared.error.CheckerError.{CheckerError}
 use Rattle.checker_parts.specs.declared.error.CheckerError.TheVariants.{ProofIncomplete, IoError, ParseError, CheckFailed, ProofProcessorError, OutOfMemory, Failed}
 use Rattle.checker_parts.proofs.Headlines.{covers_fold-attempt, covers_fold-closing, sets_fold-attempt, sets_fold-closing}
 use Rattle.checker_parts.proofs.Proving.{attempt_proves, attempt_refutes, attempted-more, run_proves-more, run_refutes-more}
+use Rattle.varisat_checker.proofs.EntailedLemmas.{entails-attempt, entails-closing, entails-counted}
 
 abbrev Answer : Type 0
 Answer = Result (Unit {0}) CheckerError
 
 -- the fold over the steps that were accepted so far, and what they prove
 pub record SoFarSets (s : State) (steps : List Step) (t : State) : Type 0 where
-  pub folds : (before : List Step) → IsFold before s → IsFold (before ++ steps) t
-  pub covers : (before : List Step) → IsCovered before s → IsCovered (before ++ steps) t
   pub led : attempted s steps ≡ t
-  pub proves : (before : List Step) → IsFold before s → RunProves before s steps
-  pub refutes : (before : List Step) → IsCovered before s → RunRefutes before steps
+  pub covers : (before : List Step) → IsCovered before s → IsCovered (before ++ steps) t
+  pub entails : EntailsRedundant s → EntailsRedundant t
+  pub folds : EntailsRedundant s → (before : List Step) → IsFold before s → IsFold (before ++ steps) t
+  pub proves : EntailsRedundant s → (before : List Step) → IsFold before s → RunProves before s steps
+  pub refutes : EntailsRedundant s → (before : List Step) → IsCovered before s → RunRefutes before steps
 
 -- the same of a call that accepted these steps
 pub record AnswerSets (s : State) (steps : List Step) (r : Answer) (t : State) : Type 0 where
-  pub folds : (before : List Step) → IsFold before s → UnlessFailed r (IsFold (before ++ steps) t)
   pub covers : (before : List Step) → IsCovered before s → UnlessFailed r (IsCovered (before ++ steps) t)
-  pub proves : (before : List Step) → IsFold before s → RunProves before s steps
-  pub refutes : (before : List Step) → IsCovered before s → RunRefutes before steps
+  pub entails : EntailsRedundant s → UnlessFailed r (EntailsRedundant t)
+  pub folds : EntailsRedundant s → (before : List Step) → IsFold before s → UnlessFailed r (IsFold (before ++ steps) t)
+  pub proves : EntailsRedundant s → (before : List Step) → IsFold before s → RunProves before s steps
+  pub refutes : EntailsRedundant s → (before : List Step) → IsCovered before s → RunRefutes before steps
 
 same-fold : (ts us : List Step) (s : State) → ts ≡ us → IsFold ts s → IsFold us s
 same-fold ts us s e h = subst (λ (l : List Step). IsFold l s) e h
@@ -45,11 +48,12 @@ same-cover ts us s e h = subst (λ (l : List Step). IsCovered l s) e h
 
 pub sets-begin : (s : State) → SoFarSets s [] s
 sets-begin s = record {
-  folds = λ before h. same-fold before (before ++ []) s (sym (append_none before)) h;
-  covers = λ before h. same-cover before (before ++ []) s (sym (append_none before)) h;
   led = refl;
-  proves = λ before h. tt;
-  refutes = λ before h. tt;
+  covers = λ before h. same-cover before (before ++ []) s (sym (append_none before)) h;
+  entails = λ good. good;
+  folds = λ good before h. same-fold before (before ++ []) s (sym (append_none before)) h;
+  proves = λ good before h. tt;
+  refutes = λ good before h. tt;
 }
 
 -- what holds unless a call failed holds where it gave up or not
@@ -82,23 +86,26 @@ cover-counted ts t u e h = subst (λ (w : State). Covers (holds ts) w) (sym e) h
 
 module _ {s : State} {steps : List Step} {t : State} (p : SoFarSets s steps t) where
   -- a turn of the loop
-  pub sets-go : (step : Step) (u : State) → EntailsRedundant t → AnswersParts {A = Unit {0}} (Ok tt) (attempt t step) u → SoFarSets s (steps ++ step ∷ []) u
-  sets-go step u good k = record {
-    folds = λ before f. same-fold ((before ++ steps) ++ step ∷ []) (before ++ (steps ++ step ∷ [])) u
-        (append_append before steps (step ∷ [])) (sets_fold-attempt t step (before ++ steps) (Ok tt) u good (p.folds before f) k);
+  pub sets-go : (step : Step) (u : State) → AnswersParts {A = Unit {0}} (Ok tt) (attempt t step) u → SoFarSets s (steps ++ step ∷ []) u
+  sets-go step u k = record {
+    led = attempted-more s steps step ∙ ap (λ (w : State). (attempt w step).after) p.led ∙ sym k.1;
     covers = λ before f. same-cover ((before ++ steps) ++ step ∷ []) (before ++ (steps ++ step ∷ [])) u
         (append_append before steps (step ∷ [])) (covers_fold-attempt t step (before ++ steps) (Ok tt) u (p.covers before f) k);
-    led = attempted-more s steps step ∙ ap (λ (w : State). (attempt w step).after) p.led ∙ sym k.1;
-    proves = λ before f. run_proves-more before s steps step (p.proves before f)
-        (subst (Proves step (before ++ steps)) (sym p.led) (attempt_proves t step (before ++ steps) good (p.folds before f) k.0));
-    refutes = λ before f. run_refutes-more before steps step (p.refutes before f) (attempt_refutes t step (before ++ steps) good (p.covers before f) k.0);
+    entails = λ good. entails-attempt (Ok tt) u t (p.entails good) step k;
+    folds = λ good before f. same-fold ((before ++ steps) ++ step ∷ []) (before ++ (steps ++ step ∷ [])) u
+        (append_append before steps (step ∷ [])) (sets_fold-attempt t step (before ++ steps) (Ok tt) u (p.entails good) (p.folds good before f) k);
+    proves = λ good before f. run_proves-more before s steps step (p.proves good before f)
+        (subst (Proves step (before ++ steps)) (sym p.led) (attempt_proves t step (before ++ steps) (p.entails good) (p.folds good before f) k.0));
+    refutes = λ good before f. run_refutes-more before steps step (p.refutes good before f)
+        (attempt_refutes t step (before ++ steps) (p.entails good) (p.covers before f) k.0);
   }
 
   -- nothing more was attempted
   pub sets-stand : (r : Answer) → AnswerSets s steps r t
   sets-stand r = record {
-    folds = λ before f. unless-always r (p.folds before f);
     covers = λ before f. unless-always r (p.covers before f);
+    entails = λ good. unless-always r (p.entails good);
+    folds = λ good before f. unless-always r (p.folds good before f);
     proves = p.proves;
     refutes = p.refutes;
   }
@@ -106,26 +113,31 @@ module _ {s : State} {steps : List Step} {t : State} (p : SoFarSets s steps t) w
   -- no step was read
   pub sets-counted : (r : Answer) (u : State) → u ≡ count_step t → AnswerSets s steps r u
   sets-counted r u counted = record {
-    folds = λ before f. unless-always r (fold-counted (before ++ steps) t u counted (p.folds before f));
     covers = λ before f. unless-always r (cover-counted (before ++ steps) t u counted (p.covers before f));
+    entails = λ good. unless-always r (entails-counted t u counted (p.entails good));
+    folds = λ good before f. unless-always r (fold-counted (before ++ steps) t u counted (p.folds good before f));
     proves = p.proves;
     refutes = p.refutes;
   }
 
   -- the step that was read is refused
-  pub sets-refused : (step : Step) (e : CheckerError) (u : State) → EntailsRedundant t → AnswersParts {A = Unit {0}} (Err e) (attempt t step) u → AnswerSets s steps (Err e) u
-  sets-refused step e u good h = record {
-    folds = λ before f. unless-bind (Err e) (IsFold (before ++ steps) u) (λ k. sets_fold-attempt t step (before ++ steps) (Err e) u good (p.folds before f) k) h;
+  pub sets-refused : (step : Step) (e : CheckerError) (u : State) → AnswersParts {A = Unit {0}} (Err e) (attempt t step) u → AnswerSets s steps (Err e) u
+  sets-refused step e u h = record {
     covers = λ before f. unless-bind (Err e) (IsCovered (before ++ steps) u) (λ k. covers_fold-attempt t step (before ++ steps) (Err e) u (p.covers before f) k) h;
+    entails = λ good. unless-bind (Err e) (EntailsRedundant u) (λ k. entails-attempt (Err e) u t (p.entails good) step k) h;
+    folds = λ good before f. unless-bind (Err e) (IsFold (before ++ steps) u)
+        (λ k. sets_fold-attempt t step (before ++ steps) (Err e) u (p.entails good) (p.folds good before f) k) h;
     proves = p.proves;
     refutes = p.refutes;
   }
 
   -- `End` was accepted, now or before
-  pub sets-close : (r : Answer) (u : State) → EntailsRedundant t → AnswersParts r (closing_conflict t) u → AnswerSets s steps r u
-  sets-close r u good h = record {
-    folds = λ before f. unless-bind r (IsFold (before ++ steps) u) (λ k. sets_fold-closing t (before ++ steps) r u good (p.folds before f) k) h;
+  pub sets-close : (r : Answer) (u : State) → AnswersParts r (closing_conflict t) u → AnswerSets s steps r u
+  sets-close r u h = record {
     covers = λ before f. unless-bind r (IsCovered (before ++ steps) u) (λ k. covers_fold-closing t (before ++ steps) r u (p.covers before f) k) h;
+    entails = λ good. unless-bind r (EntailsRedundant u) (λ k. entails-closing r u t (p.entails good) k) h;
+    folds = λ good before f. unless-bind r (IsFold (before ++ steps) u)
+        (λ k. sets_fold-closing t (before ++ steps) r u (p.entails good) (p.folds good before f) k) h;
     proves = p.proves;
     refutes = p.refutes;
   }

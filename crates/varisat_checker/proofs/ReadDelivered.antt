@@ -7,13 +7,13 @@ use Rattle.checker_rules.specs.AddFormula.{add_clauses, added}
 use Rattle.checker_rules.specs.CallEmissions.{EmitsCall, EmitsCalls}
 use Rattle.checker_rules.specs.Calls.{adds}
 use Rattle.checker_rules.specs.CheckedSteps.{NamedStep, hint_steps}
+use Rattle.checker_rules.specs.Headline.{EntailsRedundant}
 use Rattle.checker_rules.specs.HintRun.{IsRun, machine_after}
 use Rattle.checker_rules.specs.Machine.{Mirrors, Machine}
 use Rattle.checker_rules.specs.State.{State}
 use Rattle.checker_rules.specs.Step.{add_clause}
 use Rattle.checker_rules.specs.Steps.{step}
 use Rattle.checker_rules.specs.Transcript.{TranscriptStep}
-use Rattle.checker_rules.specs.Sound.{Sound}
 use Rattle.checker_rules.specs.WellFormed.{WellFormed}
 use Rattle.sat_formula.specs.declared.dimacs.DimacsReader.{DimacsReader}
 use Rattle.sat_formula.specs.declared.fault.DimacsFault.{DimacsFault}
@@ -66,7 +66,7 @@ module _ {R P T : Type 0} (remaining : R → Option (List ℕ)) (took faulted : 
       delivered = adds-more took faulted took_image faulted_image s u p.reading.clauses clause old now later p.reading.so_far p.delivered k;
     }
 
-    module _ (known : Option (List ℕ)) (same : outcome_left remaining first ≡ outcome_of known) (sound : Sound s) where
+    module _ (known : Option (List ℕ)) (same : outcome_left remaining first ≡ outcome_of known) (good : EntailsRedundant s) (form : WellFormed s) where
       -- a clause that was refused, or that a box faulted at
       pub delivered-stops : (more : Bool) → more ≡ true → Answers remaining mid new clause (Ok more) →
           (e : CheckerError) (w : State) (later : Listeners P T) → AnswersStep {A = Unit {0}} (Err e) (step u (add_clause clause)) w
@@ -77,11 +77,11 @@ module _ {R P T : Type 0} (remaining : R → Option (List ℕ)) (took faulted : 
           let stops = added-stops clause [] e w p.reading.so_far a in
           record {
             clauses = clauses;
-            answered = text-answer known s clauses (Err (Checker e)) w sound.good
+            answered = text-answer known s clauses (Err (Checker e)) w good
                 (ends-with p.reading new clause known same clauses (Err (Checker e)) (BeginsWith-given remaining first new clauses (given-more p.reading new clause more is h)))
                 stops;
             delivered = adds-stop took faulted took_image faulted_image s u w p.reading.clauses [] clause e old now later p.reading.so_far p.delivered a k;
-            certified = certifies-text s w clauses (Err (Checker e)) sound.form stops;
+            certified = certifies-text s w clauses (Err (Checker e)) form stops;
           }
 
       whole : DeliveredWhole (EmitsCalls s (map adds (added s p.reading.clauses))) took took_image old now
@@ -93,11 +93,11 @@ module _ {R P T : Type 0} (remaining : R → Option (List ℕ)) (took faulted : 
           let k : Answers remaining mid new clause (Ok false) = subst (λ (b : Bool). Answers remaining mid new clause (Ok b)) e h in
           record {
             clauses = p.reading.clauses;
-            answered = text-answer known s p.reading.clauses (Ok tt) u sound.good
+            answered = text-answer known s p.reading.clauses (Ok tt) u good
                 (ends-with p.reading new clause known same p.reading.clauses (Ok tt) (IsOutcome-ended remaining first mid new p.reading.clauses clause p.reading.given k.1))
                 (added-all p.reading.so_far);
             delivered = whole;
-            certified = certifies-text s u p.reading.clauses (Ok tt) sound.form (added-all p.reading.so_far);
+            certified = certifies-text s u p.reading.clauses (Ok tt) form (added-all p.reading.so_far);
           }
 
       -- its fault
@@ -113,9 +113,9 @@ module _ {R P T : Type 0} (remaining : R → Option (List ℕ)) (took faulted : 
               faulted_image old now → TextRun {A = Unit {0}} known s (Err x) w took faulted took_image faulted_image old now
           ended x text a delivered = record {
             clauses = p.reading.clauses;
-            answered = text-answer known s p.reading.clauses (Err x) w sound.good (ends-with p.reading new clause known same p.reading.clauses (Err x) text) a;
+            answered = text-answer known s p.reading.clauses (Err x) w good (ends-with p.reading new clause known same p.reading.clauses (Err x) text) a;
             delivered = delivered;
-            certified = certifies-text s w p.reading.clauses (Err x) sound.form a;
+            certified = certifies-text s w p.reading.clauses (Err x) form a;
           }
 
           by : (f : DimacsFault) → IsTextFault f u e w → FailsAfter (outcome_left remaining first) p.reading.clauses f →

@@ -7,7 +7,6 @@ use Rattle.std.proofs.KnownBytes.{Consumes-trans}
 use Rattle.checker_rules.specs.CallEmissions.{EmitsCall, EmitsCalls}
 use Rattle.checker_rules.specs.Calls.{Call, answer_of, attempt, calls_after, checks, closes, closing_conflict, count_step, step_limit}
 use Rattle.checker_rules.specs.CheckedSteps.{NamedStep}
-use Rattle.checker_rules.specs.Headline.{EntailsRedundant}
 use Rattle.checker_rules.specs.Outcome.{Cause, steps_exhausted}
 use Rattle.checker_rules.specs.Run.{Runs, Stop, as_answer, move}
 use Rattle.checker_rules.specs.RunEmissions.{EmitsRun, last_calls, read_calls}
@@ -33,7 +32,7 @@ use Rattle.checker_parts.specs.declared.error.CheckCause.TheVariants.{StepsExhau
 use Rattle.checker_parts.specs.declared.error.CheckerError.{CheckerError}
 use Rattle.checker_parts.specs.declared.error.CheckerError.TheVariants.{ProofIncomplete, IoError, ParseError, CheckFailed, ProofProcessorError, OutOfMemory, Failed}
 use Rattle.checker_steps.specs.Delivered.{Listeners, Delivered, DeliveredBeginning, DeliveredWhole, RanOver}
-use Rattle.varisat_checker.specs.ProofRun.{EmitsProof, EndsProof, IsReadText, ProofRun}
+use Rattle.varisat_checker.specs.ProofRun.{EmitsProof, EndsProof, IsReadText, PartsRun}
 use Rattle.varisat_checker.specs.ReadFault.{IsReadFault}
 use Rattle.clause_store.specs.Refusal.{RefusesWith}
 use Rattle.checker_steps.proofs.DeliveryLemmas.{beginning-second, ran-append, ran-none}
@@ -137,14 +136,14 @@ module _ {P T : Type 0} (took faulted : P → NamedStep → P → Type 0) (took_
 
     -- a turn of the loop
     pub delivered-goes : {new : Known} {next : Format} {step : Step} (u : State) (later : Listeners P T) →
-        Leads now new (next_at format) (λ more. Ok ((next, step), more)) → MayRead t → EntailsRedundant t →
+        Leads now new (next_at format) (λ more. Ok ((next, step), more)) → MayRead t →
         AnswersParts {A = Unit {0}} (Ok tt) (attempt t step) u
         → DeliveredWhole (EmitsCall t (checks step)) took took_image mid later → RunDelivered took took_image known new s u next old later
-    delivered-goes {new} {next} {step} u later leads may good h k =
+    delivered-goes {new} {next} {step} u later leads may h k =
         record {
           steps = p.steps ++ step ∷ [];
           reads = one_more u p.reads leads may h.0 h.1;
-          sets = sets-go p.sets step u good h;
+          sets = sets-go p.sets step u h;
           after = ap (calls_after s) (map-append p.steps (step ∷ [])) ∙ after-append s (map checks p.steps) (checks step) ∙ ap (λ (w : State). (attempt w step).after) p.after ∙ sym h.1;
           delivered = (
             p.delivered.0 ++ k.0,
@@ -188,27 +187,35 @@ module _ {P T : Type 0} (took faulted : P → NamedStep → P → Type 0) (took_
         old mid new p.delivered.2 (λ es emits. last-emits text there call es goes last emits) h
 
     module _ (form : WellFormed s) where
-      proof-run : (r : Call-answer) (u : State) (new : Listeners P T) (text : List ℕ) → AnswerSets s p.steps r u → IsReadText r known text →
+      parts-run : (r : Call-answer) (u : State) (new : Listeners P T) (text : List ℕ) → AnswerSets s p.steps r u → IsReadText r known text →
           EndsProof r text s p.steps u → Delivered r (EmitsProof r s text p.steps) took faulted took_image faulted_image old new
-          → ProofRun known s r u took faulted took_image faulted_image old new
-      proof-run r u new text sets is_text ends delivered = record {
+          → PartsRun known s r u took faulted took_image faulted_image old new
+      parts-run r u new text sets is_text ends delivered = record {
         text = text;
         steps = p.steps;
-        answered = record { is_text = is_text; ends = ends; folds = sets.folds; covers = sets.covers; proves = sets.proves; refutes = sets.refutes };
+        answered = record {
+          is_text = is_text;
+          ends = ends;
+          covers = sets.covers;
+          entails = sets.entails;
+          folds = sets.folds;
+          proves = sets.proves;
+          refutes = sets.refutes;
+        };
         delivered = delivered;
         certified = certifies-proof r s u text p.steps form ends;
       }
 
       -- want of memory
-      out-of-memory : (u : State) (new : Listeners P T) → AnswerSets s p.steps (Err OutOfMemory) u → ProofRun {A = Unit {0}} known s (Err OutOfMemory) u took faulted took_image faulted_image old new
-      out-of-memory u new sets = proof-run (Err OutOfMemory) u new p.reads.taken sets (some_taken known now p.reads.taken p.reads.bytes p.reads.consumed) tt tt
+      out-of-memory : (u : State) (new : Listeners P T) → AnswerSets s p.steps (Err OutOfMemory) u → PartsRun {A = Unit {0}} known s (Err OutOfMemory) u took faulted took_image faulted_image old new
+      out-of-memory u new sets = parts-run (Err OutOfMemory) u new p.reads.taken sets (some_taken known now p.reads.taken p.reads.bytes p.reads.consumed) tt tt
 
       -- a refusal by the rules
       refuses : (e : CheckerError) (cause : Cause) (u : State) (new : Listeners P T) (text : List ℕ) → AnswerSets s p.steps (Err e) u →
           IsNamed e u.steps cause → IsTextOf known text → Runs next_of s (start_of text) p.steps (Some (inl cause)) u
-          → DeliveredWhole (EmitsRun next_of s (start_of text) p.steps) took took_image old new → ProofRun {A = Unit {0}} known s (Err e) u took faulted took_image faulted_image old new
+          → DeliveredWhole (EmitsRun next_of s (start_of text) p.steps) took took_image old new → PartsRun {A = Unit {0}} known s (Err e) u took faulted took_image faulted_image old new
       refuses (CheckFailed number msg debug_step) cause u new text sets named is_text runs h =
-          proof-run (Err (CheckFailed number msg debug_step)) u new text sets is_text (named.0, subst (λ (x : Cause). Runs next_of s (start_of text) p.steps (Some (inl x)) u) (sym named.1) runs) h
+          parts-run (Err (CheckFailed number msg debug_step)) u new text sets is_text (named.0, subst (λ (x : Cause). Runs next_of s (start_of text) p.steps (Some (inl x)) u) (sym named.1) runs) h
       refuses (ProofIncomplete number) cause u new text sets named is_text runs h = absurd named
       refuses (IoError number read) cause u new text sets named is_text runs h = absurd named
       refuses (ParseError number kind) cause u new text sets named is_text runs h = absurd named
@@ -228,7 +235,7 @@ module _ {P T : Type 0} (took faulted : P → NamedStep → P → Type 0) (took_
 
       -- no step number was left
       pub delivered-exhausted : (e : CheckerError) → RefusesWith t.steps StepsExhausted e → t.ended ≡ false →
-          ltb t.steps step_limit ≡ false → ProofRun {A = Unit {0}} known s (Err e) t took faulted took_image faulted_image old mid
+          ltb t.steps step_limit ≡ false → PartsRun {A = Unit {0}} known s (Err e) t took faulted took_image faulted_image old mid
       delivered-exhausted e h going none =
           let k = last-here [] (λ there. last-exhausted t there going none) in
           refuses e steps_exhausted t mid k.0 (sets-stand p.sets (Err e)) (names e h) k.1
@@ -245,10 +252,10 @@ module _ {P T : Type 0} (took faulted : P → NamedStep → P → Type 0) (took_
           names Failed h = absurd h
 
       -- `End` was accepted, now or before
-      pub delivered-closes : (r : Call-answer) (u : State) (new : Listeners P T) → EntailsRedundant t → t.ended ≡ true →
+      pub delivered-closes : (r : Call-answer) (u : State) (new : Listeners P T) → t.ended ≡ true →
           AnswersParts r (closing_conflict t) u → Delivered r (EmitsCall t closes) took faulted took_image faulted_image mid new →
-          ProofRun known s r u took faulted took_image faulted_image old new
-      delivered-closes r u new good ended h k = by r (sets-close p.sets r u good h) h k
+          PartsRun known s r u took faulted took_image faulted_image old new
+      delivered-closes r u new ended h k = by r (sets-close p.sets r u h) h k
         where
           moved : (x : Option Cause) → (closing_conflict t).refused ≡ x → u ≡ (closing_conflict t).after → (there : Place) → move next_of t there ≡ inr (as_answer x, u)
           moved x refused leaves there = move_closed t there ended ∙ ap (λ (c : Option Cause). ends-with (as_answer c) (closing_conflict t).after) refused ∙ ap (ends-with (as_answer x)) (sym leaves)
@@ -258,19 +265,19 @@ module _ {P T : Type 0} (took faulted : P → NamedStep → P → Type 0) (took_
 
           by : (r : Call-answer) → AnswerSets s p.steps r u → AnswersParts r (closing_conflict t) u →
               Delivered r (EmitsCall t closes) took faulted took_image faulted_image mid new →
-              ProofRun known s r u took faulted took_image faulted_image old new
-          by (Ok done) sets h k = proof-run (Ok done) u new found.0 sets found.1
+              PartsRun known s r u took faulted took_image faulted_image old new
+          by (Ok done) sets h k = parts-run (Ok done) u new found.0 sets found.1
               (runs-here None u found.0 (closes ∷ []) found.2 (moved None h.0 h.1))
               (ends-whole found.0 found.2.there closes new found.2.goes found.2.last k)
           by (Err (CheckFailed number msg debug_step)) sets h k =
-              proof-run (Err (CheckFailed number msg debug_step)) u new found.0 sets found.1
+              parts-run (Err (CheckFailed number msg debug_step)) u new found.0 sets found.1
               (h.2, runs-here (Some (inl (cause_of msg))) u found.0 (closes ∷ []) found.2 (moved (Some (cause_of msg)) h.0 h.1))
               (ends-whole found.0 found.2.there closes new found.2.goes found.2.last k)
           by (Err (ProofIncomplete number)) sets h k = absurd h
           by (Err (IoError number read)) sets h k = absurd h
           by (Err (ParseError number kind)) sets h k = absurd h
           by (Err (ProofProcessorError fault)) sets h k =
-              proof-run (Err (ProofProcessorError fault)) u new found.0 sets found.1 tt
+              parts-run (Err (ProofProcessorError fault)) u new found.0 sets found.1 tt
               (ends-fault found.0 found.2.there closes new found.2.goes found.2.last k)
           by (Err OutOfMemory) sets h k = out-of-memory u new sets
           by (Err Failed) sets h k = absurd h
@@ -292,36 +299,36 @@ module _ {P T : Type 0} (took faulted : P → NamedStep → P → Type 0) (took_
 
         module _ (u : State) (new : Listeners P T) where
           -- the step that was read is refused, or a box answered a fault at it
-          pub delivered-refused : (e : CheckerError) → EntailsRedundant t → AnswersParts {A = Unit {0}} (Err e) (attempt t step) u →
+          pub delivered-refused : (e : CheckerError) → AnswersParts {A = Unit {0}} (Err e) (attempt t step) u →
               Delivered {A = Unit {0}} (Err e) (EmitsCall t (checks step)) took faulted took_image faulted_image mid new →
-              ProofRun {A = Unit {0}} known s (Err e) u took faulted took_image faulted_image old new
-          delivered-refused (CheckFailed number msg debug_step) good h k =
+              PartsRun {A = Unit {0}} known s (Err e) u took faulted took_image faulted_image old new
+          delivered-refused (CheckFailed number msg debug_step) h k =
               let found = over-step (λ text. Runs next_of s (start_of text) p.steps (Some (inl (cause_of msg))) u × LastAt s p.steps t text (checks step ∷ [])) (λ more. (
                 run_ends s (start_of ((p.reads.taken ++ leads.taken) ++ more)) p.steps t (stand more) (Some (inl (cause_of msg))) u (goes-on more)
                     (move_step t (stand more) (next, more) step (Some (cause_of msg)) may (leads.same more) h.0 ∙ ap (ends-with (Some (inl (cause_of msg)))) (sym h.1)),
                 record { there = stand more; goes = goes-on more; last = last-step more },
               )) in
-              proof-run (Err (CheckFailed number msg debug_step)) u new found.0
-              (sets-refused p.sets step (CheckFailed number msg debug_step) u good h) found.1 (h.2, found.2.0)
+              parts-run (Err (CheckFailed number msg debug_step)) u new found.0
+              (sets-refused p.sets step (CheckFailed number msg debug_step) u h) found.1 (h.2, found.2.0)
               (ends-whole found.0 found.2.1.there (checks step) new found.2.1.goes found.2.1.last k)
-          delivered-refused (ProofIncomplete number) good h k = absurd h
-          delivered-refused (IoError number read) good h k = absurd h
-          delivered-refused (ParseError number kind) good h k = absurd h
-          delivered-refused (ProofProcessorError fault) good h k =
+          delivered-refused (ProofIncomplete number) h k = absurd h
+          delivered-refused (IoError number read) h k = absurd h
+          delivered-refused (ParseError number kind) h k = absurd h
+          delivered-refused (ProofProcessorError fault) h k =
               let found = over-step (λ text. LastAt s p.steps t text (checks step ∷ [])) (λ more. record { there = stand more; goes = goes-on more; last = last-step more }) in
-              proof-run (Err (ProofProcessorError fault)) u new found.0 (sets-refused p.sets step (ProofProcessorError fault) u good h)
+              parts-run (Err (ProofProcessorError fault)) u new found.0 (sets-refused p.sets step (ProofProcessorError fault) u h)
               found.1 tt (ends-fault found.0 found.2.there (checks step) new found.2.goes found.2.last k)
-          delivered-refused OutOfMemory good h k = out-of-memory u new (sets-refused p.sets step OutOfMemory u good h)
-          delivered-refused Failed good h k = absurd h
+          delivered-refused OutOfMemory h k = out-of-memory u new (sets-refused p.sets step OutOfMemory u h)
+          delivered-refused Failed h k = absurd h
 
       -- no step was read
       pub delivered-faulted : {later : Known} (fault : ProofFault) (e : CheckerError) (u : State) →
           Faults now later (stop_of fault) (next_at format) → MayRead t → u ≡ count_step t → IsReadFault u.steps fault e →
-          ProofRun {A = Unit {0}} known s (Err e) u took faulted took_image faulted_image old mid
+          PartsRun {A = Unit {0}} known s (Err e) u took faulted took_image faulted_image old mid
       delivered-faulted {later} fault e u q may counted is = by fault q is
         where
           Whole : CheckerError → Type 0
-          Whole x = ProofRun {A = Unit {0}} known s (Err x) u took faulted took_image faulted_image old mid
+          Whole x = PartsRun {A = Unit {0}} known s (Err x) u took faulted took_image faulted_image old mid
 
           sets : (x : CheckerError) → AnswerSets s p.steps (Err x) u
           sets x = sets-counted p.sets (Err x) u counted
@@ -344,13 +351,13 @@ module _ {P T : Type 0} (took faulted : P → NamedStep → P → Type 0) (took_
           by faults.End q is =
               let k = runs Short (p.reads.taken ++ q.taken) q.taken (p.reads.goes q.taken) q.is_fault.0 in
               subst (λ (x : CheckerError). Whole x) (sym is)
-              (proof-run (Err (ProofIncomplete u.steps)) u mid (p.reads.taken ++ q.taken) (sets (ProofIncomplete u.steps))
+              (parts-run (Err (ProofIncomplete u.steps)) u mid (p.reads.taken ++ q.taken) (sets (ProofIncomplete u.steps))
               (all_taken known later (p.reads.taken ++ q.taken) (bytes_on p.reads.taken q.taken p.reads.bytes q.bytes)
               (Consumes-trans known now later p.reads.taken q.taken p.reads.consumed q.consumed) q.is_fault.1) (refl, k.0) k.1)
           by (faults.Read cause) q is =
               let k = runs Short (p.reads.taken ++ q.taken) q.taken (p.reads.goes q.taken) q.is_fault in
               subst (λ (x : CheckerError). Whole x) (sym is)
-              (proof-run (Err (IoError u.steps cause)) u mid (p.reads.taken ++ q.taken) (sets (IoError u.steps cause))
+              (parts-run (Err (IoError u.steps cause)) u mid (p.reads.taken ++ q.taken) (sets (IoError u.steps cause))
               (some_taken known later (p.reads.taken ++ q.taken) (bytes_on p.reads.taken q.taken p.reads.bytes q.bytes)
               (Consumes-trans known now later p.reads.taken q.taken p.reads.consumed q.consumed)) (refl, k.0) k.1)
           by (faults.Malformed kind) q is =
@@ -361,5 +368,5 @@ module _ {P T : Type 0} (took faulted : P → NamedStep → P → Type 0) (took_
               (λ more. runs (Wrong kind) ((p.reads.taken ++ q.taken) ++ more) (q.taken ++ more)
               (subst (λ (text : List ℕ). RunsTo s (start_of text) p.steps t (format, q.taken ++ more))
               (sym (append_assoc p.reads.taken q.taken more)) (p.reads.goes (q.taken ++ more))) (q.is_fault more)) in
-              subst (λ (x : CheckerError). Whole x) (sym is) (proof-run (Err (ParseError u.steps kind)) u mid found.0 (sets (ParseError u.steps kind)) found.1 (refl, found.2.0) found.2.1)
+              subst (λ (x : CheckerError). Whole x) (sym is) (parts-run (Err (ParseError u.steps kind)) u mid found.0 (sets (ParseError u.steps kind)) found.1 (refl, found.2.0) found.2.1)
           by faults.OutOfMemory q is = subst (λ (x : CheckerError). Whole x) (sym is) (out-of-memory u mid (sets OutOfMemory))

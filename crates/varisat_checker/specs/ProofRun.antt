@@ -4,9 +4,11 @@
 --     EmitsProof r s text steps es      what it emits
 --     ProofAnswer known s text steps r t      the run over this text accepts these steps, and what follows for the satisfying set
 --     ProofRun known s r t .. old new      some run does so, and of the same steps, what was delivered on
+--     PartsAnswer, PartsRun      the same over parts of which the form alone is known
 use Rattle.std.specs.Prelude.{◌≡◌, ℕ, List, ◌++◌, Option, Some, None, Result, Ok, Err}
 use Rattle.std.proofs.Common.{inl, inr}
 use Rattle.checker_rules.specs.CheckedSteps.{NamedStep}
+use Rattle.checker_rules.specs.Headline.{EntailsRedundant}
 use Rattle.checker_rules.specs.Run.{Runs}
 use Rattle.checker_rules.specs.RunEmissions.{EmitsRun}
 use Rattle.checker_rules.specs.State.{State}
@@ -87,6 +89,33 @@ pub record ProofRun {A P T : Type 0} (known : Option (List ℕ)) (s : State)
     pub text : List ℕ
     pub steps : List Step
     pub answered : ProofAnswer known s text steps r t
+    pub delivered : Delivered r (EmitsProof r s text steps) took faulted took_image faulted_image old
+        new
+    pub certified : Certifies r (EmitsProof r s text steps) s t
+
+-- the same of parts whose redundant clauses need not be entailed: what rests on that has it as its premise, and it is so again after the run
+pub record PartsAnswer {A : Type 0} (known : Option (List ℕ)) (s : State) (text : List ℕ)
+    (steps : List Step) (r : Result A CheckerError) (t : State) : Type 0 where
+  pub is_text : IsReadText r known text
+  pub ends : EndsProof r text s steps t
+  pub covers : (before : List Step) → IsCovered before s →
+      UnlessFailed r (IsCovered (before ++ steps) t)
+  pub entails : EntailsRedundant s → UnlessFailed r (EntailsRedundant t)
+  pub folds : EntailsRedundant s → (before : List Step) → IsFold before s →
+      UnlessFailed r (IsFold (before ++ steps) t)
+  pub proves : EntailsRedundant s → (before : List Step) → IsFold before s →
+      RunProves before s steps
+  pub refutes : EntailsRedundant s → (before : List Step) → IsCovered before s →
+      RunRefutes before steps
+
+-- the run over the text of a reader with these bytes, from such parts; what the listeners took of what it emits; and that this is a run of the hint machine
+pub record PartsRun {A P T : Type 0} (known : Option (List ℕ)) (s : State)
+    (r : Result A CheckerError) (t : State) (took faulted : P → NamedStep → P → Type 0)
+    (took_image faulted_image : T → TranscriptStep → T → Type 0) (old new : Listeners P T) : Type 0
+  where
+    pub text : List ℕ
+    pub steps : List Step
+    pub answered : PartsAnswer known s text steps r t
     pub delivered : Delivered r (EmitsProof r s text steps) took faulted took_image faulted_image old
         new
     pub certified : Certifies r (EmitsProof r s text steps) s t

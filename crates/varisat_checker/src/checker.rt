@@ -1,6 +1,7 @@
 //! The checker.
 ghost use Rattle.std.specs.Prelude.{◌≡◌, false};
-ghost use Rattle.checker_steps.specs.Context.{ContextInvariant};
+ghost use Rattle.checker_rules.specs.Headline.{EntailsRedundant};
+ghost use Rattle.checker_steps.specs.Context.{ContextInvariant, context_state};
 ghost use Rattle.checker_steps.specs.Failing.{has_failed};
 
 use crate::internal::SelfChecker;
@@ -23,6 +24,7 @@ pub struct CheckerOf<P, T> {
     ctx: ContextOf<P, T>,
     alloc: Global,
     ghost kept: { ctx.checker_state.failed ≡ false → ContextInvariant ctx },
+    ghost entails: { ctx.checker_state.failed ≡ false → EntailsRedundant (context_state ctx) },
 }
 
 /// A checker whose processors are boxes.

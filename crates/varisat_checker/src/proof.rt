@@ -5,7 +5,7 @@ ghost use Rattle.checker_parts.specs.Answers.{UnlessFailed};
 ghost use Rattle.checker_parts.specs.Memory.{NeedsNoMemory};
 ghost use Rattle.checker_steps.specs.Context.{ContextInvariant, context_state};
 ghost use Rattle.checker_steps.specs.Delivered.{listeners_of};
-ghost use Rattle.varisat_checker.specs.ProofRun.{ProofRun};
+ghost use Rattle.varisat_checker.specs.ProofRun.{PartsRun};
 ghost use Rattle.varisat_checker.specs.ReadFault.{IsReadFault};
 
 use checker_parts::error::{CheckCause, CheckerError};
@@ -31,7 +31,7 @@ pub fn check_proof<P: ProofProcessor, T: ProofTranscriptProcessor, L: Log, R: Re
     proof: R,
 ) -> Result<(), CheckerError>
     requires { ContextInvariant ctx.old }
-    ensures run { ProofRun (R.remaining proof) (context_state ctx.old) result
+    ensures run { PartsRun (R.remaining proof) (context_state ctx.old) result
         (context_state ctx.new)
         P.took P.faulted T.took T.faulted (listeners_of ctx.old.processing)
         (listeners_of ctx.new.processing) }

@@ -29,7 +29,7 @@ pub fn solver_var_name<P: ProofProcessor, T: ProofTranscriptProcessor>(
         P.took P.faulted T.took T.faulted (listeners_of ctx.old.processing)
         (listeners_of ctx.new.processing) }
 {
-    match ctx.clause_hasher.pending.push((global, solver)) {
+    match ctx.clause_hasher.pending.push(global, solver) {
         Ok(()) => Ok(()),
         Err(_) => Err(CheckerError::OutOfMemory),
     }

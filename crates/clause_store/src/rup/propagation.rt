@@ -1,17 +1,19 @@
 //! What a check overwrites and lists.
 ghost use Rattle.std.specs.Prelude.{◌≡◌, ◌∷◌, ◌++◌, [], IsTrue, OnOk};
+ghost use Rattle.clause_store.specs.Idle.{LengthensRun};
 ghost use Rattle.clause_store.specs.Rup.{true_lits};
 ghost use Rattle.clause_store.specs.Trace.{KeepsStored, looked, unlisted_lits};
 ghost use Rattle.clause_store.specs.Trail.{IsTrailFor, IsUndoable};
 ghost use Rattle.clause_store.specs.Units.{AreKnown};
 
 use crate::clauses::units::Units;
+use crate::rup::idle::IdleBuckets;
 use crate::rup::trace::list_units;
 use crate::rup::trail::Trail;
 use sat_formula::lit::Lit;
 use std::alloc::{AllocError, Global};
 
-/// What a check overwrites and lists.
+/// What a check overwrites and lists, and which buckets it need not walk again.
 #[derive(Drop)]
 pub struct Propagation {
     pub trail: Trail,
@@ -19,6 +21,7 @@ pub struct Propagation {
     pub traced: bool,
     /// The ids listed so far.
     pub trace: Vec<u64>,
+    pub idle: IdleBuckets,
 }
 
 impl Propagation {
@@ -30,6 +33,7 @@ impl Propagation {
             trail: Vec::new(alloc),
             traced: false,
             trace: Vec::new(alloc),
+            idle: IdleBuckets::new(alloc),
         }
     }
 
@@ -52,9 +56,11 @@ impl Propagation {
             ≡ (self.new.trace.items, unlisted_lits units.new)) }
         ensures kept { KeepsStored units.old units.new }
         ensures true_lits { true_lits units.new ≡ true_lits units.old }
+        ensures lengthens { OnOk result (LengthensRun units.old self.old units.new self.new) }
         ensures undoable { IsUndoable units.old self.old.trail.items units.new
             self.new.trail.items }
         ensures traced { self.new.traced ≡ self.old.traced }
+        ensures idle { self.new.idle ≡ self.old.idle }
     {
         if self.traced {
             list_units(units, &mut self.trail, &mut self.trace, lits)?;
@@ -68,6 +74,7 @@ impl Propagation {
             (self.new.trace.items ≡ self.old.trace.items ++ id ∷ []) }
         ensures trail { self.new.trail ≡ self.old.trail }
         ensures traced { self.new.traced ≡ self.old.traced }
+        ensures idle { self.new.idle ≡ self.old.idle }
     {
         if self.traced {
             self.trace.push(id)?;

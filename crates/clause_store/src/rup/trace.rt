@@ -1,6 +1,7 @@
 //! The trace of a check: the ids of what it uses.
 ghost use Rattle.std.specs.Prelude.{◌≡◌, ◌<◌, ◌∷◌, ℕ, List, Some, false, length, OnOk};
 ghost use Rattle.checker_rules.specs.Clauses.{var_of};
+ghost use Rattle.clause_store.specs.Idle.{Lengthens};
 ghost use Rattle.clause_store.specs.Rup.{true_lits};
 ghost use Rattle.clause_store.specs.Trace.{KeepsStored, looked, unlisted_lits};
 ghost use Rattle.clause_store.specs.Trail.{IsTrailFor, IsUndoable};
@@ -27,6 +28,10 @@ pub fn list_units(
         ≡ (trace.new.items, unlisted_lits units.new)) }
     ensures kept { KeepsStored units.old units.new }
     ensures true_lits { true_lits units.new ≡ true_lits units.old }
+    ensures lengthens { OnOk result (Lengthens units.old (length trail.old.items)
+        units.new (length trail.new.items)) }
+    ensures lengthens_ids { OnOk result (Lengthens trace.old.items (length trail.old.items)
+        trace.new.items (length trail.new.items)) }
     ensures undoable { IsUndoable units.old trail.old.items units.new trail.new.items }
 {
     for lit in lits {
@@ -54,6 +59,10 @@ fn list_unit(
         looked trace.old.items units.old (lit ∷ rest) ≡ looked trace.new.items units.new rest) }
     ensures kept { KeepsStored units.old units.new }
     ensures true_lits { true_lits units.new ≡ true_lits units.old }
+    ensures lengthens { OnOk result (Lengthens units.old (length trail.old.items)
+        units.new (length trail.new.items)) }
+    ensures lengthens_ids { OnOk result (Lengthens trace.old.items (length trail.old.items)
+        trace.new.items (length trail.new.items)) }
     ensures undoable { IsUndoable units.old trail.old.items units.new trail.new.items }
 {
     if let Some(id) = units.stored_id(lit.index()) {

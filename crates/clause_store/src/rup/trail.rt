@@ -1,5 +1,5 @@
 //! Values that hold during a check only: what they overwrite is kept, and put back afterwards.
-ghost use Rattle.std.specs.Prelude.{◌≡◌, ◌<◌, [], Some, false, length, OnOk, OnErr, slice_set};
+ghost use Rattle.std.specs.Prelude.{◌≡◌, ◌+◌, ◌<◌, [], Some, false, length, OnOk, OnErr, slice_set};
 ghost use Rattle.checker_rules.specs.Clauses.{is_tautology, var_of};
 ghost use Rattle.checker_rules.specs.Hints.{unlisted_at};
 ghost use Rattle.checker_rules.specs.State.{some_true_unit, start_set};
@@ -26,6 +26,7 @@ pub fn overwrite(
     requires known { var_of lit < length units.old }
     requires trail { IsTrailFor units.old trail.old.items }
     ensures ok { OnOk result (units.new ≡ slice_set units.old (var_of lit) (Some unit)) }
+    ensures longer { OnOk result (length trail.new.items ≡ length trail.old.items + 1) }
     ensures err { OnErr result (units.new ≡ units.old) }
     ensures undoable { IsUndoable units.old trail.old.items units.new trail.new.items }
 {

@@ -1,11 +1,12 @@
 //! The check that is not traced: it writes values alone, and only those of free variables.
-ghost use Rattle.std.specs.Prelude.{◌≡◌, ◌<◌, ◌∷◌, [], All, IfOk, None, false, length, OnOk};
+ghost use Rattle.std.specs.Prelude.{◌≡◌, ◌+◌, ◌<◌, ◌∷◌, [], All, IfOk, None, false, length, OnOk};
 ghost use Rattle.checker_rules.specs.Clauses.{is_tautology, var_of};
 ghost use Rattle.checker_rules.specs.Passes as rules;
 ghost use Rattle.checker_rules.specs.State.{some_true_unit, start_set};
 ghost use Rattle.clause_store.specs.Buckets.{AreWithin};
+ghost use Rattle.clause_store.specs.Idle.{AreIdle, IsIdle, Lengthens, idle_at};
 ghost use Rattle.clause_store.specs.Lits.{IsWithin, lits_of};
-ghost use Rattle.clause_store.specs.Rup.{AreAllKnown, Walks, check_answer, lits_in, named_buckets, true_lits};
+ghost use Rattle.clause_store.specs.Rup.{AreAllKnown, Walks, WalksFirst, check_answer, lits_at, lits_in, named_buckets, true_lits};
 ghost use Rattle.clause_store.specs.StateOf.{stored_units};
 ghost use Rattle.clause_store.specs.Trail.{IsTrailFor, IsUndoable, freed, undone};
 ghost use Rattle.clause_store.specs.Units.{AreKnown, IsGiven, unit_at};
@@ -14,13 +15,32 @@ use crate::clauses::Clause;
 use crate::clauses::buckets::Buckets;
 use crate::clauses::units::Units;
 use crate::rup::Answer;
+use crate::rup::idle::{IdleBuckets, LONG_BUCKET};
 use crate::rup::status::{ClauseStatus, clause_status};
 use proof_bytes::hash::ClauseHash;
 use sat_formula::lit::Lit;
-use std::alloc::AllocError;
+use std::alloc::{AllocError, Global};
 
 /// The literals whose variables were given a value, the oldest first.
 pub type FreeTrail = Vec<Lit>;
+
+/// What a check gave values to, and which buckets it need not walk again.
+#[derive(Drop)]
+pub struct FreePropagation {
+    pub trail: FreeTrail,
+    idle: IdleBuckets,
+}
+
+impl FreePropagation {
+    pub fn new(alloc: Global) -> FreePropagation
+        ensures { result.trail.items ≡ [] }
+    {
+        FreePropagation {
+            trail: Vec::new(alloc),
+            idle: IdleBuckets::new(alloc),
+        }
+    }
+}
 
 /// Gives a free variable a value, by which its literal is listed.
 #[inline]
@@ -29,6 +49,7 @@ fn give(units: &mut Units, trail: &mut FreeTrail, lit: Lit, value: bool) -> Resu
     requires free { unit_at units.old (var_of lit) ≡ None }
     requires trail { IsTrailFor units.old (freed trail.old.items) }
     ensures ok { OnOk result (IsGiven units.old (var_of lit) value units.new) }
+    ensures longer { OnOk result (length trail.new.items ≡ length trail.old.items + 1) }
     ensures undoable { IsUndoable units.old (freed trail.old.items)
         units.new (freed trail.new.items) }
 {
@@ -78,6 +99,8 @@ fn propagate_clause(
     requires known { AreKnown units.old (lits_of clause.now.lits buffer.now) }
     requires trail { IsTrailFor units.old (freed trail.old.items) }
     ensures ok { IfOk result (Walks units.old (lits_in buffer.now (clause.now ∷ [])) units.new) }
+    ensures lengthens { OnOk result (Lengthens units.old (length trail.old.items)
+        units.new (length trail.new.items)) }
     ensures undoable { IsUndoable units.old (freed trail.old.items)
         units.new (freed trail.new.items) }
 {
@@ -103,6 +126,8 @@ fn propagate_bucket(
     requires known { All (λ c. AreKnown units.old (lits_of c.lits buffer.now)) bucket.now }
     requires trail { IsTrailFor units.old (freed trail.old.items) }
     ensures ok { IfOk result (Walks units.old (lits_in buffer.now bucket.now) units.new) }
+    ensures lengthens { OnOk result (Lengthens units.old (length trail.old.items)
+        units.new (length trail.new.items)) }
     ensures undoable { IsUndoable units.old (freed trail.old.items)
         units.new (freed trail.new.items) }
 {
@@ -114,34 +139,70 @@ fn propagate_bucket(
     Ok(false)
 }
 
+/// Visits the bucket of a hash, unless it is known to be idle. Answers what ends the walk there.
+#[inline]
+fn propagate_named(
+    units: &mut Units,
+    run: &mut FreePropagation,
+    buckets: &Buckets,
+    buffer: &[Lit],
+    hash: ClauseHash,
+) -> Result<Option<Answer>, AllocError>
+    requires within { AreWithin buffer.now buckets.now }
+    requires known { AreAllKnown units.old buffer.now buckets.now }
+    requires trail { IsTrailFor units.old (freed run.old.trail.items) }
+    requires idle { AreIdle (idle_at run.old.idle) (length run.old.trail.items)
+        (λ h. IsIdle units.old (lits_at buffer.now buckets.now h)) }
+    ensures ok { let bucket = lits_at buffer.now buckets.now hash in
+        IfOk result (WalksFirst units.old bucket units.new) }
+    ensures idle { IfOk result (λ end. end ≡ None →
+        AreIdle (idle_at run.new.idle) (length run.new.trail.items)
+        (λ h. IsIdle units.new (lits_at buffer.now buckets.now h))) }
+    ensures undoable { IsUndoable units.old (freed run.old.trail.items)
+        units.new (freed run.new.trail.items) }
+{
+    let Some(bucket) = buckets.get(&hash) else {
+        return Ok(Some(Answer::NoClauseForHash));
+    };
+    let clauses = bucket.as_slice();
+    if clauses.is_empty() {
+        return Ok(Some(Answer::NoClauseForHash));
+    }
+    let is_long = clauses.len() > LONG_BUCKET;
+    let given = run.trail.len();
+    if is_long && run.idle.has(hash, given) {
+        return Ok(None);
+    }
+    if propagate_bucket(units, &mut run.trail, clauses, buffer)? {
+        return Ok(Some(Answer::Passed));
+    }
+    if is_long && run.trail.len() == given {
+        // Where memory is refused it is walked again.
+        let _refused = run.idle.add(hash, given);
+    }
+    Ok(None)
+}
+
 /// Visits the buckets of the hashes in turn, up to a falsified clause or a missing bucket.
 fn propagate_buckets(
     units: &mut Units,
-    trail: &mut FreeTrail,
+    run: &mut FreePropagation,
     buckets: &Buckets,
     buffer: &[Lit],
     hashes: &[ClauseHash],
 ) -> Result<Answer, AllocError>
     requires within { AreWithin buffer.now buckets.now }
     requires known { AreAllKnown units.old buffer.now buckets.now }
-    requires trail { IsTrailFor units.old (freed trail.old.items) }
+    requires trail { IsTrailFor units.old (freed run.old.trail.items) }
     ensures ok { let named = named_buckets buffer.now buckets.now hashes.now in
         IfOk result (λ a. check_answer a ≡ rules.walk_buckets (true_lits units.old) named) }
-    ensures undoable { IsUndoable units.old (freed trail.old.items)
-        units.new (freed trail.new.items) }
+    ensures undoable { IsUndoable units.old (freed run.old.trail.items)
+        units.new (freed run.new.trail.items) }
 {
+    run.idle.forget();
     for hash in hashes {
-        match buckets.get(hash) {
-            Some(bucket) => {
-                let clauses = bucket.as_slice();
-                if clauses.is_empty() {
-                    return Ok(Answer::NoClauseForHash);
-                }
-                if propagate_bucket(units, trail, clauses, buffer)? {
-                    return Ok(Answer::Passed);
-                }
-            }
-            None => return Ok(Answer::NoClauseForHash),
+        if let Some(answer) = propagate_named(units, run, buckets, buffer, *hash)? {
+            return Ok(answer);
         }
     }
     Ok(Answer::Failed)
@@ -150,7 +211,7 @@ fn propagate_buckets(
 /// The walk with the literals taken as false, whose values stay.
 fn propagate_negated(
     units: &mut Units,
-    trail: &mut FreeTrail,
+    run: &mut FreePropagation,
     buckets: &Buckets,
     buffer: &[Lit],
     lits: &[Lit],
@@ -161,21 +222,21 @@ fn propagate_negated(
     requires all_known { AreAllKnown units.old buffer.now buckets.now }
     requires free { some_true_unit (stored_units units.old) lits.now ≡ false }
     requires no_tautology { is_tautology lits.now ≡ false }
-    requires trail { IsTrailFor units.old (freed trail.old.items) }
+    requires trail { IsTrailFor units.old (freed run.old.trail.items) }
     ensures answer { let named = named_buckets buffer.now buckets.now hashes.now in
         IfOk result (λ a. check_answer a
         ≡ rules.walk_buckets (start_set (stored_units units.old) lits.now) named) }
-    ensures undoable { IsUndoable units.old (freed trail.old.items)
-        units.new (freed trail.new.items) }
+    ensures undoable { IsUndoable units.old (freed run.old.trail.items)
+        units.new (freed run.new.trail.items) }
 {
-    assume_free(units, trail, lits)?;
-    propagate_buckets(units, trail, buckets, buffer, hashes)
+    assume_free(units, &mut run.trail, lits)?;
+    propagate_buckets(units, run, buckets, buffer, hashes)
 }
 
 /// The check of a clause without a true literal, not traced.
 pub fn check_untraced(
     units: &mut Units,
-    trail: &mut FreeTrail,
+    run: &mut FreePropagation,
     buckets: &Buckets,
     buffer: &[Lit],
     lits: &[Lit],
@@ -186,14 +247,14 @@ pub fn check_untraced(
     requires all_known { AreAllKnown units.old buffer.now buckets.now }
     requires free { some_true_unit (stored_units units.old) lits.now ≡ false }
     requires no_tautology { is_tautology lits.now ≡ false }
-    requires trail { trail.old.items ≡ [] }
+    requires trail { run.old.trail.items ≡ [] }
     ensures answer { let named = named_buckets buffer.now buckets.now hashes.now in
         IfOk result (λ a. check_answer a
         ≡ rules.walk_buckets (start_set (stored_units units.old) lits.now) named) }
     ensures units { units.new ≡ units.old }
-    ensures trail { trail.new.items ≡ [] }
+    ensures trail { run.new.trail.items ≡ [] }
 {
-    let answer = propagate_negated(units, trail, buckets, buffer, lits, hashes);
-    free_again(units, trail);
+    let answer = propagate_negated(units, run, buckets, buffer, lits, hashes);
+    free_again(units, &mut run.trail);
     answer
 }

@@ -1,18 +1,20 @@
 //! The walk over the named clauses.
-ghost use Rattle.std.specs.Prelude.{◌≡◌, ◌∷◌, [], All, IfOk, IsTrue, Some, map};
+ghost use Rattle.std.specs.Prelude.{◌≡◌, ◌∷◌, [], All, IfOk, IsTrue, None, Some, false, length, map};
 ghost use Rattle.checker_rules.specs.Passes as rules;
 ghost use Rattle.clause_store.specs.Buckets.{AreWithin};
+ghost use Rattle.clause_store.specs.Idle.{AreIdle, IsIdleRun, LengthensRun, idle_at};
 ghost use Rattle.clause_store.specs.Lits.{IsWithin, lits_of};
-ghost use Rattle.clause_store.specs.Rup.{AreAllKnown, Walks, check_answer, lits_in, named_buckets, true_lits};
-ghost use Rattle.clause_store.specs.Trace.{Lists, ids_after, named_clauses};
+ghost use Rattle.clause_store.specs.Rup.{AreAllKnown, Walks, WalksFirst, check_answer, lits_at, lits_in, named_buckets, true_lits};
+ghost use Rattle.clause_store.specs.Trace.{Lists, ListsFirst, ids_after, named_clauses};
 ghost use Rattle.clause_store.specs.Trail.{IsTrailFor, IsUndoable};
 ghost use Rattle.clause_store.specs.Units.{AreKnown};
-ghost use Rattle.clause_store.specs.View.{stored_of};
+ghost use Rattle.clause_store.specs.View.{stored_in, stored_of};
 
 use crate::clauses::Clause;
 use crate::clauses::buckets::Buckets;
 use crate::clauses::units::{UnitClause, UnitId, Units};
 use crate::rup::Answer;
+use crate::rup::idle::LONG_BUCKET;
 use crate::rup::propagation::Propagation;
 use crate::rup::status::{ClauseStatus, clause_status};
 use crate::rup::trail::overwrite;
@@ -33,8 +35,11 @@ pub fn visit_clause(
     ensures ok { IfOk result (Walks units.old (lits_in buffer.now (clause.now ∷ [])) units.new) }
     ensures listed { IsTrue run.old.traced → IfOk result (Lists run.old.trace.items units.old
         (stored_of buffer.now clause.now ∷ []) run.new.trace.items units.new) }
+    ensures lengthens { IfOk result (λ falsified. falsified ≡ false →
+        LengthensRun units.old run.old units.new run.new) }
     ensures undoable { IsUndoable units.old run.old.trail.items units.new run.new.trail.items }
     ensures traced { run.new.traced ≡ run.old.traced }
+    ensures idle { run.new.idle ≡ run.old.idle }
 {
     let lits = clause.lits.slice(buffer);
     let status = clause_status(units, lits);
@@ -70,8 +75,11 @@ pub fn visit_bucket(
     ensures ok { IfOk result (Walks units.old (lits_in buffer.now bucket.now) units.new) }
     ensures listed { IsTrue run.old.traced → IfOk result (Lists run.old.trace.items units.old
         (map (stored_of buffer.now) bucket.now) run.new.trace.items units.new) }
+    ensures lengthens { IfOk result (λ falsified. falsified ≡ false →
+        LengthensRun units.old run.old units.new run.new) }
     ensures undoable { IsUndoable units.old run.old.trail.items units.new run.new.trail.items }
     ensures traced { run.new.traced ≡ run.old.traced }
+    ensures idle { run.new.idle ≡ run.old.idle }
 {
     for clause in bucket {
         if visit_clause(units, run, clause, buffer)? {
@@ -79,6 +87,53 @@ pub fn visit_bucket(
         }
     }
     Ok(false)
+}
+
+/// Visits the bucket of a hash, unless it is known to be idle. Answers what ends the walk there.
+fn visit_named(
+    units: &mut Units,
+    run: &mut Propagation,
+    buckets: &Buckets,
+    buffer: &[Lit],
+    hash: ClauseHash,
+) -> Result<Option<Answer>, AllocError>
+    requires within { AreWithin buffer.now buckets.now }
+    requires known { AreAllKnown units.old buffer.now buckets.now }
+    requires trail { IsTrailFor units.old run.old.trail.items }
+    requires idle { AreIdle (idle_at run.old.idle) (length run.old.trail.items)
+        (λ h. IsIdleRun run.old.traced run.old.trace.items units.old
+        (stored_in buffer.now buckets.now h)) }
+    ensures ok { let bucket = lits_at buffer.now buckets.now hash in
+        IfOk result (WalksFirst units.old bucket units.new) }
+    ensures listed { IsTrue run.old.traced → IfOk result (ListsFirst run.old.trace.items units.old
+        (stored_in buffer.now buckets.now hash) run.new.trace.items units.new) }
+    ensures idle { IfOk result (λ end. end ≡ None →
+        AreIdle (idle_at run.new.idle) (length run.new.trail.items)
+        (λ h. IsIdleRun run.new.traced run.new.trace.items units.new
+        (stored_in buffer.now buckets.now h))) }
+    ensures undoable { IsUndoable units.old run.old.trail.items units.new run.new.trail.items }
+    ensures traced { run.new.traced ≡ run.old.traced }
+{
+    let Some(bucket) = buckets.get(&hash) else {
+        return Ok(Some(Answer::NoClauseForHash));
+    };
+    let clauses = bucket.as_slice();
+    if clauses.is_empty() {
+        return Ok(Some(Answer::NoClauseForHash));
+    }
+    let is_long = clauses.len() > LONG_BUCKET;
+    let given = run.trail.len();
+    if is_long && run.idle.has(hash, given) {
+        return Ok(None);
+    }
+    if visit_bucket(units, run, clauses, buffer)? {
+        return Ok(Some(Answer::Passed));
+    }
+    if is_long && run.trail.len() == given {
+        // Where memory is refused it is walked again.
+        let _refused = run.idle.add(hash, given);
+    }
+    Ok(None)
 }
 
 /// Visits the buckets of the hashes in turn, up to a falsified clause or a missing bucket.
@@ -100,18 +155,10 @@ pub fn walk_buckets(
     ensures undoable { IsUndoable units.old run.old.trail.items units.new run.new.trail.items }
     ensures traced { run.new.traced ≡ run.old.traced }
 {
+    run.idle.forget();
     for hash in hashes {
-        match buckets.get(hash) {
-            Some(bucket) => {
-                let clauses = bucket.as_slice();
-                if clauses.is_empty() {
-                    return Ok(Answer::NoClauseForHash);
-                }
-                if visit_bucket(units, run, clauses, buffer)? {
-                    return Ok(Answer::Passed);
-                }
-            }
-            None => return Ok(Answer::NoClauseForHash),
+        if let Some(answer) = visit_named(units, run, buckets, buffer, *hash)? {
+            return Ok(answer);
         }
     }
     Ok(Answer::Failed)

@@ -1,9 +1,7 @@
 use Rattle.std.proofs.Common.{◌≡◌, ℕ, List, true, refl, sym, ap, subst, arith}
-use Rattle.checker_rules.specs.Sound.{Sound}
 use Rattle.checker_rules.specs.State.{Known, State}
 use Rattle.checker_rules.specs.Steps.{new_state}
-use Rattle.checker_rules.specs.WellFormed.{ids_rise}
-use Rattle.checker_rules.proofs.SoundStates.{sound-new_state}
+use Rattle.checker_rules.specs.WellFormed.{WellFormed, ids_rise}
 use Rattle.clause_store.specs.declared.clauses.Clauses.{Clauses}
 use Rattle.clause_store.specs.declared.hash.ClauseHasher.{ClauseHasher}
 use Rattle.clause_store.specs.declared.state.CheckerState.{CheckerState}
@@ -13,23 +11,20 @@ use Rattle.clause_store.specs.Store.{IsIndexed, IsStore}
 use Rattle.clause_store.specs.View.{stored_list}
 use Rattle.check_vector_tests.proofs.exhausted.with_ids_from.Goals as goal
 
-sound-next : (n : ℕ) → Sound (record new_state { next = n })
-sound-next n = record {
-  good = sound-new_state.good;
-  form = record {
-    fine = refl;
-    rise = grind arith;
-    apart = refl;
-    same_known = refl;
-    unit_ids = λ v. refl;
-    conflict_on_unit = refl;
-    inputs_counted = omega arith;
-    some_width = omega arith;
-    width_fits = omega arith;
-    names = refl;
-    assumed_canonical = refl;
-    previous_canonical = refl;
-  };
+form-next : (n : ℕ) → WellFormed (record new_state { next = n })
+form-next n = record {
+  fine = refl;
+  rise = grind arith;
+  apart = refl;
+  same_known = refl;
+  unit_ids = λ v. refl;
+  conflict_on_unit = refl;
+  inputs_counted = omega arith;
+  some_width = omega arith;
+  width_fits = omega arith;
+  names = refl;
+  assumed_canonical = refl;
+  previous_canonical = refl;
 }
 
 kept-next : (st : CheckerState) (h : ClauseHasher) (cs : Clauses) (known : List Known) (n : ℕ) → state_of st h cs known ≡ new_state →
@@ -47,7 +42,7 @@ kept-next st h cs known n e k =
       used = k.store.filed.used;
     } in
     record {
-      sound = subst Sound (sym (ap (λ (s : State). record s { next = n }) e)) (sound-next n);
+      form = subst WellFormed (sym (ap (λ (s : State). record s { next = n }) e)) (form-next n);
       store = record { filed = filed; garbage = k.store.garbage; units = k.store.units; counts = k.store.counts };
     }
 

@@ -4,9 +4,9 @@ use Rattle.checker_rules.specs.Calls.{closes}
 use Rattle.checker_rules.specs.CheckedSteps.{checked_at_clause, named_in}
 use Rattle.checker_rules.specs.Emits.{emits_closing}
 use Rattle.checker_rules.specs.Outcome.{Outcome, ids_exhausted}
-use Rattle.checker_rules.specs.Sound.{Sound}
+use Rattle.checker_rules.specs.WellFormed.{WellFormed}
 use Rattle.checker_rules.proofs.Openings.{closing_conflict-none}
-use Rattle.checker_rules.proofs.SoundStates.{sound_closing}
+use Rattle.checker_rules.proofs.StepForms.{form-close}
 use Rattle.checker_parts.specs.declared.error.CheckCause.TheVariants.{IdsExhausted}
 use Rattle.clause_store.specs.declared.clauses.Clauses.{Clauses}
 use Rattle.clause_store.specs.StateOf.{state_of}
@@ -55,7 +55,7 @@ returns-in-Some-take_id-clause-kept g c =
     let o = closing-taken s (some-is ctx.clauses.unit_conflict (c.in-Some.stored, c.in-Some.refuting) c.in-Some.is) c.in-Some-take_id.ensures.id.0 in
     let is = ap (λ (cs : Clauses). state_of ctx.checker_state ctx.clause_hasher cs ctx.variables) c.in-Some-take_id.ensures.taken ∙ sym (ap (λ (x : Outcome). x.after) o) in
     let kept : PartsInvariant ctx.checker_state ctx.clause_hasher c.take_id.new.self ctx.variables = record {
-      sound = subst Sound (sym is) (sound_closing s c.requires.sound);
+      form = subst WellFormed (sym is) (form-close s c.requires.form);
       store = subst (IsStore ctx.clause_hasher) (sym c.in-Some-take_id.ensures.taken) (is_store-next ctx.clause_hasher ctx.clauses c.requires.store);
     } in
     unless-failed c.emit_at_clause.result kept

@@ -16,15 +16,15 @@ list_any-indexes : (ps : List (Var × Option Var)) → list_any (λ p. is_some p
 list_any-indexes [] = refl
 list_any-indexes (p ∷ ps) = ap (λ b. b || list_any (λ p. is_some p.1) (map indexes ps)) (is_some-indexes_of p.1) ∙ ap (λ b. is_some p.1 || b) (list_any-indexes ps)
 
-pub returns-then-some_name_pending-clause-state : goal.returns-then-some_name_pending-clause-state
-returns-then-some_name_pending-clause-state c =
+pub returns-then-some_name-clause-state : goal.returns-then-some_name-clause-state
+returns-then-some_name-clause-state c =
     on_ok_weaker c.rehash.result (λ after st known.
     let s = state_of st c.args.hasher.now c.args.clauses.now known in
     after st known ∙ sym (ap (λ b. cond b (apply_pending s) s)
-    (list_any-indexes c.args.hasher.now.pending.items ∙ sym c.some_name_pending.ensures ∙ c.if-some_name_pending.true)))
+    (list_any-indexes c.args.hasher.now.pending.entries.items ∙ sym c.some_name.ensures ∙ c.if-some_name.true)))
     c.rehash.ensures.state
 
-pub returns-else-some_name_pending-clause-state : goal.returns-else-some_name_pending-clause-state
-returns-else-some_name_pending-clause-state c st known =
+pub returns-else-some_name-clause-state : goal.returns-else-some_name-clause-state
+returns-else-some_name-clause-state c st known =
     let s = state_of st c.args.hasher.now c.args.clauses.now known in
-    sym (ap (λ b. cond b (apply_pending s) s) (list_any-indexes c.args.hasher.now.pending.items ∙ sym c.some_name_pending.ensures ∙ c.if-some_name_pending.false))
+    sym (ap (λ b. cond b (apply_pending s) s) (list_any-indexes c.args.hasher.now.pending.entries.items ∙ sym c.some_name.ensures ∙ c.if-some_name.false))

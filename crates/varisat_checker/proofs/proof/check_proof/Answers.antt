@@ -42,7 +42,7 @@ steps-preserved g c =
       kept = c.in_default.ensures.kept;
       so_far = delivered-goes g.P.ProofProcessor.took g.P.ProofProcessor.faulted g.T.ProofTranscriptProcessor.took
           g.T.ProofTranscriptProcessor.faulted c.steps.invariant.so_far u (listeners_of c.attempt_step.new.ctx.processing)
-          (gave.reads (c.steps.invariant.open_reader c.steps-test.true)) may c.steps.invariant.kept.sound.good h
+          (gave.reads (c.steps.invariant.open_reader c.steps-test.true)) may h
           (rw c.in_default.is at c.attempt_step.ensures.delivered);
       ended = λ e. absurd (true≢false (sym (c.steps.invariant.ended e) ∙ c.steps-test.true));
       exhausted = λ none. absurd (not-exhausted c.steps.ctx.checker_state.step (omega arith) c.if-ctx.false (c.steps.invariant.exhausted none));
@@ -51,7 +51,7 @@ steps-preserved g c =
 pub returns-then-ctx-clause-run : goal.returns-then-ctx-clause-run
 returns-then-ctx-clause-run g c =
     delivered-exhausted g.P.ProofProcessor.took g.P.ProofProcessor.faulted g.T.ProofTranscriptProcessor.took
-    g.T.ProofTranscriptProcessor.faulted c.steps.invariant.so_far c.requires.sound.form c.refusal.result c.refusal.ensures c.steps-test.true
+    g.T.ProofTranscriptProcessor.faulted c.steps.invariant.so_far c.requires.form c.refusal.result c.refusal.ensures c.steps-test.true
     (no-number c.steps.ctx.checker_state.step c.if-ctx.true)
 
 pub returns-in-Err-attempt_step-clause-run : goal.returns-in-Err-attempt_step-clause-run
@@ -59,9 +59,9 @@ returns-in-Err-attempt_step-clause-run g c =
     let may : MayRead (context_state c.steps.ctx) = record { going = c.steps-test.true; counted = some-number c.steps.ctx.checker_state.step (omega arith) c.if-ctx.false } in
     let gave = rw c.in-Ok.is at c.next_step.follows.holds-at-none in
     delivered-refused g.P.ProofProcessor.took g.P.ProofProcessor.faulted g.T.ProofTranscriptProcessor.took
-    g.T.ProofTranscriptProcessor.faulted c.steps.invariant.so_far c.requires.sound.form
+    g.T.ProofTranscriptProcessor.faulted c.steps.invariant.so_far c.requires.form
     (gave.reads (c.steps.invariant.open_reader c.steps-test.true)) may (context_state c.attempt_step.new.ctx)
-    (listeners_of c.attempt_step.new.ctx.processing) c.in-Err-attempt_step.fault c.steps.invariant.kept.sound.good
+    (listeners_of c.attempt_step.new.ctx.processing) c.in-Err-attempt_step.fault
     c.in-Err-attempt_step.ensures.step c.in-Err-attempt_step.ensures.delivered
 
 pub returns-in-Err-clause-run : goal.returns-in-Err-clause-run
@@ -69,16 +69,15 @@ returns-in-Err-clause-run g c =
     let may : MayRead (context_state c.steps.ctx) = record { going = c.steps-test.true; counted = some-number c.steps.ctx.checker_state.step (omega arith) c.if-ctx.false } in
     let gave = rw c.in-Err.is at c.next_step.follows.holds-at-none in
     delivered-faulted g.P.ProofProcessor.took g.P.ProofProcessor.faulted g.T.ProofTranscriptProcessor.took
-    g.T.ProofTranscriptProcessor.faulted c.steps.invariant.so_far c.requires.sound.form c.in-Err.fault c.read_fault.result _
+    g.T.ProofTranscriptProcessor.faulted c.steps.invariant.so_far c.requires.form c.in-Err.fault c.read_fault.result _
     (gave.reads (c.steps.invariant.open_reader c.steps-test.true)) may refl c.read_fault.ensures
 
 pub returns-clause-run : goal.returns-clause-run
 returns-clause-run g c =
     delivered-closes g.P.ProofProcessor.took g.P.ProofProcessor.faulted g.T.ProofTranscriptProcessor.took
-    g.T.ProofTranscriptProcessor.faulted c.steps.invariant.so_far c.requires.sound.form c.process_unit_conflicts.result
+    g.T.ProofTranscriptProcessor.faulted c.steps.invariant.so_far c.requires.form c.process_unit_conflicts.result
     (context_state c.process_unit_conflicts.new.ctx) (listeners_of c.process_unit_conflicts.new.ctx.processing)
-    c.steps.invariant.kept.sound.good c.steps-test.false
-    c.process_unit_conflicts.ensures.answer c.process_unit_conflicts.ensures.delivered
+    c.steps-test.false c.process_unit_conflicts.ensures.answer c.process_unit_conflicts.ensures.delivered
 
 pub returns-in-Err-clause-exhausted : goal.returns-in-Err-clause-exhausted
 returns-in-Err-clause-exhausted g c = λ none. absurd (not-exhausted c.steps.ctx.checker_state.step (omega arith) c.if-ctx.false (c.steps.invariant.exhausted none))

@@ -6,7 +6,7 @@ use Rattle.checker_steps.proofs.steps.add_clause.take_clause.Goals as goal
 
 pub overflow_add-state : goal.overflow_add-state
 overflow_add-state c =
-    let le = subst (λ n. n ≤ c.args.clauses.now.next_clause_id) (sym c.in_ok-added.ensures.inputs) c.requires.kept.sound.form.inputs_counted in
+    let le = subst (λ n. n ≤ c.args.clauses.now.next_clause_id) (sym c.in_ok-added.ensures.inputs) c.requires.kept.form.inputs_counted in
     fits-input c.store_input_clause.new.state.input_clauses c.args.clauses.now.next_clause_id le c.requires.room.ids
 
 pub store_input_clause-requires-clause-store : goal.store_input_clause-requires-clause-store

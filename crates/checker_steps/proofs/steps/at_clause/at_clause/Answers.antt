@@ -59,7 +59,7 @@ returns-in_err-id-clause-delivered g c =
     let here = at-steps s c.args.redundant c.args.lits.now c.args.hashes.now clause (c.as_slice-clause.ensures.value ∙ c.in-Ok.ensures.items) (sym c.in-Ok.ensures.tautology ∙ c.if-tautology.false) in
     let q = err_from_is_err_and c.from_residual.result c.from_residual.ensures.1 in
     rw (q.1, q.2) (delivered-traced P.took P.faulted T.took T.faulted {A = Unit {0}} (Err c.in_err-id.field-0.0) s t xs
-    (listeners_of ctx.processing) (listeners_of new.processing) c.requires.sound.form here
+    (listeners_of ctx.processing) (listeners_of new.processing) c.requires.form here
     (delivered-as P.took P.faulted T.took T.faulted ℕ (Unit {0}) c.in_err-id.field-0.0 (λ es. es ≡ xs) (listeners_of ctx.processing) (listeners_of new.processing) c.in_err-id.ensures.delivered))
 
 pub returns-then-redundant-clause-step : goal.returns-then-redundant-clause-step
@@ -84,7 +84,7 @@ returns-then-redundant-clause-delivered g c =
     let here = at-steps s c.args.redundant c.args.lits.now c.args.hashes.now clause (c.as_slice-clause.ensures.value ∙ c.in-Ok.ensures.items) (sym c.in-Ok.ensures.tautology ∙ c.if-tautology.false) in
     delivered-traced P.took P.faulted T.took T.faulted {A = ℕ} (Ok c.in_ok-id.id) s t
     (derived_steps s c.args.redundant clause c.args.hashes.now) (listeners_of ctx.processing)
-    (listeners_of new.processing) c.requires.sound.form here c.in_ok-id.ensures.delivered
+    (listeners_of new.processing) c.requires.form here c.in_ok-id.ensures.delivered
 
 pub returns-clause-step : goal.returns-clause-step
 returns-clause-step g c =
@@ -114,7 +114,7 @@ returns-clause-delivered g c =
     delivered-unless-memory P.took P.faulted T.took T.faulted c.set_previous.result (Emits s t) (listeners_of ctx.processing) (listeners_of new.processing) c.set_previous.ensures.memory
     (delivered-traced P.took P.faulted T.took T.faulted {A = ℕ} (Ok c.in_ok-id.id) s t
     (derived_steps s c.args.redundant clause c.args.hashes.now) (listeners_of ctx.processing)
-    (listeners_of new.processing) c.requires.sound.form here c.in_ok-id.ensures.delivered)
+    (listeners_of new.processing) c.requires.form here c.in_ok-id.ensures.delivered)
 
 pub derive-requires-clause-canonical : goal.derive-requires-clause-canonical
 derive-requires-clause-canonical g c = ap is_canonical (c.as_slice-clause.ensures.value ∙ c.in-Ok.ensures.items) ∙ canonical-is c.args.lits.now

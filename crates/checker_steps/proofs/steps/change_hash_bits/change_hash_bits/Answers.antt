@@ -3,11 +3,11 @@ use Rattle.std.proofs.lemmas.Bool.Decides.{nat_tests}
 use Rattle.checker_rules.specs.Check.{apply_pending}
 use Rattle.checker_rules.specs.Emits.{Emits}
 use Rattle.checker_rules.specs.Outcome.{Outcome, accept, hash_bits, refuse}
-use Rattle.checker_rules.specs.Sound.{Sound}
 use Rattle.checker_rules.specs.State.{State}
 use Rattle.checker_rules.specs.Step.{change_hash_bits}
 use Rattle.checker_rules.specs.Steps.{step}
-use Rattle.checker_rules.proofs.SoundStates.{sound_after}
+use Rattle.checker_rules.specs.WellFormed.{WellFormed}
+use Rattle.checker_rules.proofs.StepForms.{steps_keep_form}
 use Rattle.checker_rules.proofs.StepKinds.{step-change_hash_bits}
 use Rattle.checker_parts.specs.declared.error.CheckCause.TheVariants.{HashBits}
 use Rattle.clause_store.specs.StateOf.{state_of}
@@ -64,7 +64,7 @@ returns-in-Ok-clause-kept g c =
     let ctx = c.args.ctx.now in
     let s = state_of ctx.checker_state ctx.clause_hasher ctx.clauses ctx.variables in
     record {
-      sound = subst Sound (sym (returns-in-Ok-clause-step g c).1) (sound_after s (change_hash_bits c.args.bits) c.requires.sound);
+      form = subst WellFormed (sym (returns-in-Ok-clause-step g c).1) (steps_keep_form s (change_hash_bits c.args.bits) c.requires.form);
       store = c.in-Ok.ensures.store;
     }
 

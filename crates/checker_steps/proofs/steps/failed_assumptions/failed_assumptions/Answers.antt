@@ -51,7 +51,7 @@ returns-then-has_opposites-clause-delivered g c =
     let here = core-opposites-steps s c.args.failed_core.now c.args.hashes.now core list
     (c.in_default-judge.ensures ctx.clause_hasher ctx.clauses)
     (ap is_tautology list ∙ sym c.in-Ok.ensures.tautology ∙ c.if-has_opposites.true) in
-    delivered-traced P.took P.faulted T.took T.faulted c.emit_failed_assumptions.result s t (shown ∷ []) old new c.requires.sound.form here
+    delivered-traced P.took P.faulted T.took T.faulted c.emit_failed_assumptions.result s t (shown ∷ []) old new c.requires.form here
     (delivered-one P.took P.faulted T.took T.faulted (λ es. es ≡ shown ∷ []) shown old new c.emit_failed_assumptions.result refl c.emit_failed_assumptions.ensures)
 
 pub returns-clause-step : goal.returns-clause-step
@@ -78,4 +78,4 @@ returns-clause-delivered g c =
     let here = core-traced s c.args.failed_core.now c.args.hashes.now core list (c.in_default-judge.ensures ctx.clause_hasher ctx.clauses)
     (ap is_tautology list ∙ sym c.in-Ok.ensures.tautology ∙ c.if-has_opposites.false) in
     delivered-traced P.took P.faulted T.took T.faulted c.check_core.result s t (core_steps s core c.args.hashes.now)
-    (listeners_of ctx.processing) (listeners_of c.check_core.new.processing) c.requires.sound.form here c.check_core.ensures.delivered
+    (listeners_of ctx.processing) (listeners_of c.check_core.new.processing) c.requires.form here c.check_core.ensures.delivered

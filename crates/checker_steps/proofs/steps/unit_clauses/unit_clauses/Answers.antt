@@ -12,7 +12,7 @@ use Rattle.checker_steps.specs.Derived.{derived_steps}
 use Rattle.checker_steps.specs.Delivered.{listeners_of}
 use Rattle.checker_steps.proofs.EmittedSteps.{delivered-traced}
 use Rattle.checker_steps.proofs.FaultLemmas.{answers-as, delivered-as, unless-as}
-use Rattle.checker_steps.proofs.UnitsSoFar.{UnitsSoFar, drop-pair, so-far-answer, so-far-delivered, so-far-more, so-far-none, so-far-refused, so-far-stopped, sound-unit, units-traced}
+use Rattle.checker_steps.proofs.UnitsSoFar.{UnitsSoFar, drop-pair, form-unit, so-far-answer, so-far-delivered, so-far-more, so-far-none, so-far-refused, so-far-stopped, units-traced}
 use Rattle.checker_steps.proofs.steps.unit_clauses.unit_clauses.Goals as goal
 
 pub loop-lit-init : goal.loop-lit-init
@@ -60,7 +60,7 @@ returns-in_err-derive-clause-delivered g c =
     let E : List NamedStep → Type 0 = λ es. es ≡ derived_steps r false (p.0 ∷ []) (p.1 ∷ []) in
     let q = err_from_is_err_and c.from_residual.result c.from_residual.ensures.1 in
     rw (q.1, q.2) (delivered-traced P.took P.faulted T.took T.faulted {A = Unit {0}} (Err e) s (unit_clauses us) (traced_units s us)
-    (listeners_of ctx.processing) (listeners_of new.processing) c.requires.sound.form (units-traced s us)
+    (listeners_of ctx.processing) (listeners_of new.processing) c.requires.form (units-traced s us)
     (so-far-stopped P.took P.faulted T.took T.faulted s us (listeners_of ctx.processing) r p (drop (i + 1) us)
     (listeners_of mid.processing) far e t (listeners_of new.processing)
     (answers-as ℕ (Unit {0}) e (step_unit r p) t c.in_err-derive.ensures.answer)
@@ -76,7 +76,7 @@ loop-lit-preserved g c =
     let far = subst (λ (rest : List (ℕ × ℕ)). UnitsSoFar P.took T.took s us (listeners_of ctx.processing) r rest
     (listeners_of mid.processing)) (drop-pair us i p c.loop-lit-test.true c.loop-lit-item.is) c.loop-lit.invariant.so_far in
     record {
-      kept = record { sound = sound-unit r t p c.loop-lit.invariant.kept.sound c.in_ok-derive.ensures.answer.1; store = c.in_ok-derive.ensures.store };
+      kept = record { form = form-unit r t p c.loop-lit.invariant.kept.form c.in_ok-derive.ensures.answer.1; store = c.in_ok-derive.ensures.store };
       so_far = so-far-more P.took P.faulted T.took T.faulted s us (listeners_of ctx.processing) r t p (drop (i + 1) us)
           (listeners_of mid.processing) (listeners_of new.processing) far c.in_ok-derive.ensures.answer c.in_ok-derive.ensures.delivered;
     }
@@ -96,5 +96,5 @@ returns-clause-delivered g c =
     let far = subst (λ (rest : List (ℕ × ℕ)). UnitsSoFar P.took T.took s us (listeners_of ctx.processing) r rest
     (listeners_of mid.processing)) (drop_of_length-le us c.loop-lit-test.false) c.loop-lit.invariant.so_far in
     delivered-traced P.took P.faulted T.took T.faulted {A = Unit {0}} (Ok tt) s (unit_clauses us) (traced_units s us)
-    (listeners_of ctx.processing) (listeners_of mid.processing) c.requires.sound.form (units-traced s us)
+    (listeners_of ctx.processing) (listeners_of mid.processing) c.requires.form (units-traced s us)
     (so-far-delivered P.took P.faulted T.took T.faulted s us (listeners_of ctx.processing) r (listeners_of mid.processing) far)

@@ -14,7 +14,7 @@ pub check_clause-requires-clause-all_known : goal.check_clause-requires-clause-a
 check_clause-requires-clause-all_known c =
     let st = c.args.state.now in let h = c.make_ready.new.hasher in let cs = c.make_ready.new.clauses in let known = c.make_ready.new.variables in
     let s = state_of st c.args.hasher.now c.args.clauses.now c.args.variables.now in
-    let form = ready-form s (state_of st h cs known) c.args.lits.now c.requires.kept.sound c.in-Ok.ensures.state in
+    let form = ready-form s (state_of st h cs known) c.args.lits.now c.requires.kept.form c.in-Ok.ensures.state in
     subst (λ (buffer : List ℕ). AreAllKnown cs.unit_clauses buffer cs.buckets) (sym c.as_slice.ensures.value) (ready-known st h cs known c.in-Ok.ensures.store form)
 
 pub returns-in-Passed-clause-answer : goal.returns-in-Passed-clause-answer
@@ -22,7 +22,7 @@ returns-in-Passed-clause-answer c =
     let s = state_of c.args.state.now c.args.hasher.now c.args.clauses.now c.args.variables.now in
     let passes = subst (λ (a : Answer). AnswersCheck (ready s c.args.lits.now) c.args.lits.now c.args.hashes.now a) c.in-Passed.is
     (ready-answers c.args.state.now c.make_ready.new.hasher c.make_ready.new.clauses c.make_ready.new.variables c.as_slice.result.now
-    c.args.lits.now c.args.hashes.now c.in-Ok-check_clause.answer s c.in-Ok.ensures.store c.requires.kept.sound c.in-Ok.ensures.state
+    c.args.lits.now c.args.hashes.now c.in-Ok-check_clause.answer s c.in-Ok.ensures.store c.requires.kept.form c.in-Ok.ensures.state
     c.requires.no_tautology c.as_slice.ensures.value c.in-Ok-check_clause.ensures.answer) in
     let o = check-passed s c.args.lits.now c.args.hashes.now passes in (
       ap (λ (x : Outcome). x.refused) o,
@@ -44,7 +44,7 @@ returns-in-NoClauseForHash-clause-answer c =
     let s = state_of c.args.state.now c.args.hasher.now c.args.clauses.now c.args.variables.now in
     let misses = subst (λ (a : Answer). AnswersCheck (ready s c.args.lits.now) c.args.lits.now c.args.hashes.now a) c.in-NoClauseForHash.is
     (ready-answers c.args.state.now c.make_ready.new.hasher c.make_ready.new.clauses c.make_ready.new.variables c.as_slice.result.now
-    c.args.lits.now c.args.hashes.now c.in-Ok-check_clause.answer s c.in-Ok.ensures.store c.requires.kept.sound c.in-Ok.ensures.state
+    c.args.lits.now c.args.hashes.now c.in-Ok-check_clause.answer s c.in-Ok.ensures.store c.requires.kept.form c.in-Ok.ensures.state
     c.requires.no_tautology c.as_slice.ensures.value c.in-Ok-check_clause.ensures.answer) in
     let o = check-no_clause s c.args.lits.now c.args.hashes.now misses.0 misses.1 in
     answers-refusal c.refusal.result c.args.state.now.step NoClauseForHash no_clause_for_hash _ _ c.refusal.ensures refl
@@ -57,7 +57,7 @@ returns-in-Failed-clause-answer c =
     let s = state_of c.args.state.now c.args.hasher.now c.args.clauses.now c.args.variables.now in
     let fails = subst (λ (a : Answer). AnswersCheck (ready s c.args.lits.now) c.args.lits.now c.args.hashes.now a) c.in-Failed.is
     (ready-answers c.args.state.now c.make_ready.new.hasher c.make_ready.new.clauses c.make_ready.new.variables c.as_slice.result.now
-    c.args.lits.now c.args.hashes.now c.in-Ok-check_clause.answer s c.in-Ok.ensures.store c.requires.kept.sound c.in-Ok.ensures.state
+    c.args.lits.now c.args.hashes.now c.in-Ok-check_clause.answer s c.in-Ok.ensures.store c.requires.kept.form c.in-Ok.ensures.state
     c.requires.no_tautology c.as_slice.ensures.value c.in-Ok-check_clause.ensures.answer) in
     let o = check-failed s c.args.lits.now c.args.hashes.now fails.0 fails.1 in
     answers-refusal c.refusal-in-Failed.result c.args.state.now.step AtCheckFailed at_check_failed _ _ c.refusal-in-Failed.ensures refl

@@ -1,6 +1,7 @@
 use Rattle.std.proofs.Common.{◌≡◌, None, sym, ap, ◌∙◌}
 use Rattle.clause_store.specs.Trace.{looked}
 use Rattle.clause_store.specs.Units.{lit_value}
+use Rattle.clause_store.proofs.IdleLemmas.{lengthens_then}
 use Rattle.clause_store.proofs.StatusLemmas.{drop-at}
 use Rattle.clause_store.proofs.TraceLemmas.{keeps-then, looked-free}
 use Rattle.clause_store.proofs.TrailLemmas.{is_undoable_then}
@@ -17,6 +18,8 @@ loop-lit-preserved c =
         listed = sym (w.in_ok-list_unit-in-Some-false.ensures.listed _) ∙ before;
         kept = keeps-then _ us _ inv.kept w.list_unit.ensures.kept;
         true_lits = w.list_unit.ensures.true_lits ∙ inv.true_lits;
+        lengthens = lengthens_then _ _ _ _ _ _ inv.lengthens w.in_ok-list_unit-in-Some-false.ensures.lengthens;
+        lengthens_ids = lengthens_then _ _ _ _ _ _ inv.lengthens_ids w.in_ok-list_unit-in-Some-false.ensures.lengthens_ids;
         undoable = is_undoable_then _ _ _ _ _ _ inv.undoable w.list_unit.ensures.undoable;
       })
       | in-None w ↦
@@ -25,6 +28,8 @@ loop-lit-preserved c =
             listed = sym (looked-free _ us m _ value) ∙ before;
             kept = inv.kept;
             true_lits = inv.true_lits;
+            lengthens = inv.lengthens;
+            lengthens_ids = inv.lengthens_ids;
             undoable = inv.undoable;
           })
     ]

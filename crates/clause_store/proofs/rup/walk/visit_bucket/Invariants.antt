@@ -1,6 +1,7 @@
 use Rattle.std.proofs.Common.{◌≡◌, List, ◌++◌, drop, map, IsTrue}
 use Rattle.checker_rules.specs.Passes.{walk}
 use Rattle.checker_rules.specs.State.{Stored}
+use Rattle.clause_store.specs.Idle.{LengthensRun}
 use Rattle.clause_store.specs.Rup.{lits_in, true_lits}
 use Rattle.clause_store.specs.Trace.{ids_after}
 use Rattle.clause_store.specs.Trail.{IsUndoable}
@@ -13,6 +14,8 @@ invariant-loop-clause l = record {
   listed : IsTrue l.initial.run.traced → (rest : List Stored) →
       ids_after l.run.trace.items l.units (map (stored_of l.buffer) (drop l.clause-index l.bucket) ++ rest) ≡
       ids_after l.initial.run.trace.items l.initial.units (map (stored_of l.buffer) l.bucket ++ rest);
+  lengthens : LengthensRun l.initial.units l.initial.run l.units l.run;
   undoable : IsUndoable l.initial.units l.initial.run.trail.items l.units l.run.trail.items;
   traced : l.run.traced ≡ l.initial.run.traced;
+  idle : l.run.idle ≡ l.initial.run.idle;
 }

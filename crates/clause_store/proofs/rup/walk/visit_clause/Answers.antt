@@ -1,8 +1,9 @@
-use Rattle.std.proofs.Common.{ap, refl, ◌∙◌}
+use Rattle.std.proofs.Common.{◌≡◌, ℕ, ◌+◌, length, ap, refl, ◌∙◌}
 use Rattle.clause_store.specs.Rup.{status_of, true_lits}
 use Rattle.clause_store.specs.Units.{AreKnown}
 use Rattle.clause_store.specs.View.{stored_of}
 use Rattle.clause_store.specs.Lits.{lits_of}
+use Rattle.clause_store.proofs.IdleLemmas.{lengthens_then_longer}
 use Rattle.clause_store.proofs.TraceStepLemmas.{is_looked, lists-falsified, lists-idle, lists-unit}
 use Rattle.clause_store.proofs.WalkLemmas.{unit-added, unit-known, unit-step}
 use Rattle.clause_store.proofs.rup.walk.visit_clause.Goals as goal
@@ -45,3 +46,10 @@ returns-in-Idle-clause-listed c = λ traced.
 
 pub clause_status-status-requires : goal.clause_status-status-requires
 clause_status-status-requires c = rw c.slice-lits.ensures c.requires.known
+
+pub returns-in_ok-overwrite-in-Unit-clause-lengthens : goal.returns-in_ok-overwrite-in-Unit-clause-lengthens
+returns-in_ok-overwrite-in-Unit-clause-lengthens c = λ _.
+    let listed = c.in_ok-list_units.ensures.lengthens in
+    let same : length c.list_clause-in-Unit.new.self.trail.items ≡ length c.list_units.new.self.trail.items = cc (c.list_clause-in-Unit.ensures.trail) in
+    let longer = c.in_ok-overwrite-in-Unit.ensures.longer ∙ ap (λ (n : ℕ). n + 1) same in
+    record { units = lengthens_then_longer _ _ _ _ _ _ listed.units longer; ids = lengthens_then_longer _ _ _ _ _ _ listed.ids longer }

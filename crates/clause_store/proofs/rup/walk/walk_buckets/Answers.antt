@@ -1,18 +1,27 @@
-use Rattle.std.proofs.Common.{ap, sym, ◌∙◌, arith, rules}
-use Rattle.std.proofs.lemmas.Grind.{common_steps}
-use Rattle.clause_store.specs.Trace.{ids_after}
-use Rattle.clause_store.proofs.TraceStepLemmas.{lists-bucket, named_clauses-drop}
+use Rattle.std.proofs.Common.{Some, ap, ◌∙◌}
+use Rattle.clause_store.proofs.IdleLemmas.{first-ended, first-walked, listed-ended, listed-walked}
 use Rattle.clause_store.proofs.TrailLemmas.{is_undoable_then}
 use Rattle.clause_store.proofs.rup.walk.walk_buckets.Goals as goal
 
+pub returns-in-Some-clause-ok : goal.returns-in-Some-clause-ok
+returns-in-Some-clause-ok c =
+    first-ended c.args.buffer.now c.args.buckets.now c.loop-hash.units c.visit_named.new.units c.args.hashes.now c.loop-hash.hash-index _ _ _
+    c.loop-hash-test.true c.in-Some.is c.in_ok-answer.ensures.ok c.loop-hash.invariant.same
+
+pub returns-in-Some-clause-listed : goal.returns-in-Some-clause-listed
+returns-in-Some-clause-listed c = λ traced passed.
+    listed-ended c.args.buffer.now c.args.buckets.now c.loop-hash.run.trace.items c.visit_named.new.run.trace.items c.loop-hash.units c.visit_named.new.units
+    c.args.hashes.now c.loop-hash.hash-index _ c.loop-hash-test.true
+    ((c.in_ok-answer.ensures.listed (c.loop-hash.invariant.traced ∙ traced)).passed (c.in-Some.is ∙ ap Some passed)) (c.loop-hash.invariant.listed traced)
+
 pub loop-hash-preserved : goal.loop-hash-preserved
 loop-hash-preserved c = record {
-  same = grind (arith, common_steps);
-  listed = λ traced.
-      let cut = named_clauses-drop c.args.buffer.now c.args.buckets.now c.args.hashes.now c.loop-hash.hash-index c.in-Some.bucket.now
-      c.as_slice-clauses.result.now c.loop-hash-test.true c.in-Some.ensures.value c.as_slice-clauses.ensures in
-      let more = lists-bucket _ _ c.loop-hash.units c.visit_bucket.new.units _ _ (c.in_ok-visit_bucket-in-Some.ensures.listed (c.loop-hash.invariant.traced ∙ traced)) c.if-branch.false _ in
-      sym more ∙ sym (ap (ids_after c.loop-hash.run.trace.items c.loop-hash.units) cut) ∙ c.loop-hash.invariant.listed traced;
-  undoable = is_undoable_then _ _ _ _ _ _ c.loop-hash.invariant.undoable c.visit_bucket.ensures.undoable;
-  traced = search rules;
+  same = first-walked c.args.buffer.now c.args.buckets.now c.loop-hash.units c.visit_named.new.units c.args.hashes.now c.loop-hash.hash-index _ _
+      c.loop-hash-test.true c.in_default.is c.in_ok-answer.ensures.ok c.loop-hash.invariant.same;
+  listed = λ traced. listed-walked c.args.buffer.now c.args.buckets.now c.loop-hash.run.trace.items c.visit_named.new.run.trace.items c.loop-hash.units
+      c.visit_named.new.units c.args.hashes.now c.loop-hash.hash-index _ c.loop-hash-test.true
+      ((c.in_ok-answer.ensures.listed (c.loop-hash.invariant.traced ∙ traced)).goes_on c.in_default.is) (c.loop-hash.invariant.listed traced);
+  idle = c.in_ok-answer.ensures.idle c.in_default.is;
+  undoable = is_undoable_then _ _ _ _ _ _ c.loop-hash.invariant.undoable c.visit_named.ensures.undoable;
+  traced = c.visit_named.ensures.traced ∙ c.loop-hash.invariant.traced;
 }

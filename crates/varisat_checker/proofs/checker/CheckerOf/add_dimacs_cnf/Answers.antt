@@ -28,7 +28,7 @@ returns-in-Err-add_clause-clause-text g c = λ running.
     g.T.ProofTranscriptProcessor.faulted (context_state c.args.self.now.ctx) c.new-reader.result (listeners c.args.self.now)
     (state c.clauses.self) c.clauses.reader (listeners c.clauses.self) p c.next_clause.new.self c.next_clause.new.into.items
     (g.R.Read.remaining c.args.input) (outcome_left-new g.R.Read.remaining c.new-reader.result _ c.new-reader.ensures.unread
-    c.new-reader.ensures.standing c.new-reader.ensures.ended) (c.args.self.now.kept running).sound
+    c.new-reader.ensures.standing c.new-reader.ensures.ended) (c.args.self.now.entails running) (c.args.self.now.kept running).form
     c.in-Ok-true.field-0 c.in-Ok-true.field-0-test (c.in-Ok-true.ensures.after_end, c.in-Ok-true.ensures.next) c.in-Err-add_clause.fault (state c.add_clause.new.self) (listeners c.add_clause.new.self)
     (rw c.deref.ensures.value at (c.in-Err-add_clause.ensures.step p.reading.so_far.running))
     (rw c.deref.ensures.value at (c.in-Err-add_clause.ensures.delivered p.reading.so_far.running))
@@ -42,7 +42,7 @@ returns-in-Err-clause-text g c = λ running.
     (state c.clauses.self) c.clauses.reader (listeners c.clauses.self) c.clauses.invariant c.next_clause.new.self
     c.next_clause.new.into.items (g.R.Read.remaining c.args.input)
     (outcome_left-new g.R.Read.remaining c.new-reader.result _ c.new-reader.ensures.unread c.new-reader.ensures.standing
-    c.new-reader.ensures.ended) (c.args.self.now.kept running).sound
+    c.new-reader.ensures.ended) (c.args.self.now.entails running) (c.args.self.now.kept running).form
     c.in-Err.fault (c.in-Err.ensures.after_end, c.in-Err.ensures.next) c.text_fault.result (state c.text_fault.new.self) c.text_fault.ensures.fault)
 
 pub returns-clause-text : goal.returns-clause-text
@@ -53,5 +53,5 @@ returns-clause-text g c = λ running.
     (state c.clauses.self) c.clauses.reader (listeners c.clauses.self) c.clauses.invariant c.next_clause.new.self
     c.next_clause.new.into.items (g.R.Read.remaining c.args.input)
     (outcome_left-new g.R.Read.remaining c.new-reader.result _ c.new-reader.ensures.unread c.new-reader.ensures.standing
-    c.new-reader.ensures.ended) (c.args.self.now.kept running).sound
+    c.new-reader.ensures.ended) (c.args.self.now.entails running) (c.args.self.now.kept running).form
     c.in-Ok-false.field-0 c.in-Ok-false.field-0-test (c.in-Ok-false.ensures.after_end, c.in-Ok-false.ensures.next)

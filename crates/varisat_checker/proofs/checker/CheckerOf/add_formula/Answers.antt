@@ -32,7 +32,7 @@ pub returns-in_err-add_clause-clause-headline : goal.returns-in_err-add_clause-c
 unfolding state
 returns-in_err-add_clause-clause-headline g c = λ running before fold.
     sets-added (context_state c.args.self.now.ctx) before c.args.formula.now c.from_residual.result _
-    (c.args.self.now.kept running).sound.good fold (returns-in_err-add_clause-clause-steps g c running)
+    (c.args.self.now.entails running) fold (returns-in_err-add_clause-clause-steps g c running)
 
 pub returns-in_err-add_clause-clause-covers : goal.returns-in_err-add_clause-clause-covers
 returns-in_err-add_clause-clause-covers g c = λ running before covered.
@@ -44,7 +44,7 @@ returns-clause-steps g c = λ running. of-all c.clauses.invariant.adding c.in-No
 pub returns-clause-headline : goal.returns-clause-headline
 unfolding state
 returns-clause-headline g c = λ running before fold.
-    sets-added (context_state c.args.self.now.ctx) before c.args.formula.now (Ok tt) _ (c.args.self.now.kept running).sound.good fold (returns-clause-steps g c running)
+    sets-added (context_state c.args.self.now.ctx) before c.args.formula.now (Ok tt) _ (c.args.self.now.entails running) fold (returns-clause-steps g c running)
 
 pub returns-clause-covers : goal.returns-clause-covers
 returns-clause-covers g c = λ running before covered.
@@ -54,12 +54,12 @@ pub returns-in_err-add_clause-clause-certified : goal.returns-in_err-add_clause-
 unfolding state
 returns-in_err-add_clause-clause-certified g c = λ running.
     certifies-adds c.from_residual.result (context_state c.args.self.now.ctx) (state c.add_clause.new.self) c.args.formula.now
-    (c.args.self.now.kept running).sound.form (returns-in_err-add_clause-clause-steps g c running)
+    (c.args.self.now.kept running).form (returns-in_err-add_clause-clause-steps g c running)
 
 pub returns-clause-certified : goal.returns-clause-certified
 unfolding state
 returns-clause-certified g c = λ running.
-    certifies-adds (Ok tt) (context_state c.args.self.now.ctx) _ c.args.formula.now (c.args.self.now.kept running).sound.form (returns-clause-steps g c running)
+    certifies-adds (Ok tt) (context_state c.args.self.now.ctx) _ c.args.formula.now (c.args.self.now.kept running).form (returns-clause-steps g c running)
 
 pub returns-in_err-add_clause-clause-delivered : goal.returns-in_err-add_clause-clause-delivered
 returns-in_err-add_clause-clause-delivered g c = λ running.

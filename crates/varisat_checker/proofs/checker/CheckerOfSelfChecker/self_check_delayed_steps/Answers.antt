@@ -5,6 +5,7 @@ use Rattle.checker_parts.proofs.Headlines.{covers_fold-closing, sets_fold-closin
 use Rattle.checker_steps.specs.Context.{context_state}
 use Rattle.varisat_checker.specs.Shown.{state}
 use Rattle.varisat_checker.proofs.CertifiedLemmas.{certifies-call}
+use Rattle.varisat_checker.proofs.EntailedLemmas.{closing-entails}
 use Rattle.varisat_checker.proofs.FailingLemmas.{went-on}
 use Rattle.varisat_checker.proofs.checker.CheckerOfSelfChecker.self_check_delayed_steps.Goals as goal
 
@@ -12,7 +13,7 @@ pub returns-else-fails-clause-headline : goal.returns-else-fails-clause-headline
 unfolding state
 returns-else-fails-clause-headline g c = λ running before fold.
     sets_fold-closing (context_state c.args.self.now.ctx) before c.process_unit_conflicts-answer.result
-    (context_state c.process_unit_conflicts-answer.new.ctx) (c.args.self.now.kept running).sound.good fold
+    (context_state c.process_unit_conflicts-answer.new.ctx) (c.args.self.now.entails running) fold
     (went-on c.process_unit_conflicts-answer.result _ _ (sym c.fails.ensures ∙ c.if-fails.false) c.process_unit_conflicts-answer.ensures.answer)
 
 pub returns-else-fails-clause-covers : goal.returns-else-fails-clause-covers
@@ -26,7 +27,7 @@ unfolding state
 returns-then-fails-clause-certified g c = λ running.
     let s = context_state c.args.self.now.ctx in
     let u = context_state c.process_unit_conflicts-answer.new.ctx in
-    certifies-call c.process_unit_conflicts-answer.result s u (fail u) closes (c.args.self.now.kept running).sound.form c.process_unit_conflicts-answer.ensures.answer
+    certifies-call c.process_unit_conflicts-answer.result s u (fail u) closes (c.args.self.now.kept running).form c.process_unit_conflicts-answer.ensures.answer
     (λ on. absurd (true≢false (sym (sym c.fails.ensures ∙ c.if-fails.true) ∙ on)))
 
 pub returns-else-fails-clause-certified : goal.returns-else-fails-clause-certified
@@ -34,4 +35,9 @@ unfolding state
 returns-else-fails-clause-certified g c = λ running.
     let s = context_state c.args.self.now.ctx in
     let u = context_state c.process_unit_conflicts-answer.new.ctx in
-    certifies-call c.process_unit_conflicts-answer.result s u u closes (c.args.self.now.kept running).sound.form c.process_unit_conflicts-answer.ensures.answer (λ on. refl)
+    certifies-call c.process_unit_conflicts-answer.result s u u closes (c.args.self.now.kept running).form c.process_unit_conflicts-answer.ensures.answer (λ on. refl)
+
+pub invariant_of-self-else-fails-clause-entails : goal.invariant_of-self-else-fails-clause-entails
+invariant_of-self-else-fails-clause-entails g c = λ running.
+    closing-entails c.process_unit_conflicts-answer.result (context_state c.process_unit_conflicts-answer.new.ctx) (context_state c.args.self.now.ctx)
+    (c.args.self.now.entails c.if-self.false) (sym c.fails.ensures ∙ c.if-fails.false) c.process_unit_conflicts-answer.ensures.answer

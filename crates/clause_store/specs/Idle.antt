@@ -1,0 +1,48 @@
+-- Buckets whose walk changes nothing.
+--     idle_at x h      the length of the trail at which the bucket of a hash was found idle
+--     IsIdle us cs      a walk over these clauses from these values gives none and falsifies none
+--     IsIdleRun      the same, and where it is traced it lists nothing
+--     AreIdle      what was found idle is so while the trail is no longer
+use Rattle.std.specs.Prelude.{◌≡◌, ℕ, ◌≤◌, Bool, false, nat_eq, List, Option, Some, length, IsTrue}
+use Rattle.std.specs.HashMap.{get}
+use Rattle.checker_rules.specs.State.{Stored, all_lits}
+use Rattle.clause_store.specs.declared.clauses.units.UnitClause.{UnitClause}
+use Rattle.clause_store.specs.declared.rup.idle.IdleBuckets.{IdleBuckets}
+use Rattle.clause_store.specs.declared.rup.propagation.Propagation.{Propagation}
+use Rattle.clause_store.specs.Rup.{Walks}
+use Rattle.clause_store.specs.Trace.{Lists}
+
+-- the length of the trail at which the bucket of a hash was found idle
+abbrev pub idle_at : IdleBuckets → ℕ → Option ℕ
+idle_at x h = get nat_eq x.found h
+
+-- a walk over these clauses from these values gives no value, and falsifies no clause
+abbrev pub IsIdle : List (Option UnitClause) → List (List ℕ) → Type 0
+IsIdle us cs = Walks us cs us false
+
+-- the same, and where the walk is traced it lists nothing after these ids
+pub record IsIdleRun (traced : Bool) (ids : List ℕ) (us : List (Option UnitClause))
+    (es : List Stored) : Type 0 where
+  pub walk : IsIdle us (all_lits es)
+  pub listed : IsTrue traced → Lists ids us es ids us false
+
+-- found at a trail of length n, and idle while its length is that
+pub record IsIdleSince (n now : ℕ) (Idle : Type 0) : Type 0 where
+  pub no_later : n ≤ now
+  pub idle : n ≡ now → Idle
+
+-- each bucket that was found idle is so while the trail has the length that it had then
+abbrev pub AreIdle : (ℕ → Option ℕ) → ℕ → (ℕ → Type 0) → Type 0
+AreIdle found now Idle = (h n : ℕ) → found h ≡ Some n → IsIdleSince n now (Idle h)
+
+-- a trail of length n gets the length m: it gets no shorter, and while it is no longer y is x
+pub record Lengthens {A : Type 0} (x : A) (n : ℕ) (y : A) (m : ℕ) : Type 0 where
+  pub no_shorter : n ≤ m
+  pub still : m ≡ n → y ≡ x
+
+-- the same of the values, and of the listed ids
+pub record LengthensRun (us : List (Option UnitClause)) (run : Propagation)
+    (vs : List (Option UnitClause)) (now : Propagation) : Type 0 where
+  pub units : Lengthens us (length run.trail.items) vs (length now.trail.items)
+  pub ids : Lengthens run.trace.items (length run.trail.items)
+      now.trace.items (length now.trail.items)
