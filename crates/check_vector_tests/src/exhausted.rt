@@ -11,10 +11,9 @@ use std::alloc::Global;
 use std::io::{ErrorKind, Read};
 use std::process::Abort;
 use std::test::Fail;
-use varisat_checker::check::{attempt_step, process_unit_conflicts};
+use varisat_checker::check::{add_clause, attempt_step, process_unit_conflicts};
 use varisat_checker::context::Context;
 use varisat_checker::proof::check_proof;
-use varisat_checker::steps::add_clause::add_clause;
 
 // New parts whose next id is this.
 fn with_ids_from(alloc: Global, next: u64) -> Context

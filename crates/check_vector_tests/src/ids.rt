@@ -7,11 +7,10 @@ use proof_bytes::ProofStep;
 use std::alloc::Global;
 use std::process::Abort;
 use std::test::Fail;
-use varisat_checker::check::attempt_step;
+use varisat_checker::check::{add_clause, attempt_step};
 use varisat_checker::clauses::store::copies;
 use varisat_checker::context::Context;
 use varisat_checker::hash::ClauseHasher;
-use varisat_checker::steps::add_clause::add_clause;
 
 // Adds an input clause, and answers the next id.
 fn add(alloc: Global, ctx: &mut Context, numbers: &str) -> Result<u64, Fail>

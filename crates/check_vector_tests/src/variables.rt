@@ -1,10 +1,9 @@
 //! The calls of the module `variables`, over the parts of a checker.
 ghost use Rattle.std.specs.Prelude.{◌≡◌, length, true};
 
-use crate::answers::answer;
 use crate::calls::var;
+use checker_parts::error::{CheckCause, StepFault};
 use sat_formula::Var;
-use std::alloc::Global;
 use std::process::Abort;
 use std::test::Fail;
 use varisat_checker::context::Context;
@@ -30,41 +29,26 @@ fn variables_become_known(rt: HostRuntime) -> Result<(), Fail> {
 fn names_come_and_go(rt: HostRuntime) -> Result<(), Fail> {
     let (user, named) = (var("1")?, var("2")?);
     let mut ctx = Context::new(rt.alloc());
-    named_and_hidden(&rt, rt.alloc(), &mut ctx, user, named)
+    named_and_hidden(&rt, &mut ctx, user, named)
 }
 
-fn named_and_hidden(
-    rt: &impl Abort,
-    alloc: Global,
-    ctx: &mut Context,
-    user: Var,
-    named: Var,
-) -> Result<(), Fail>
+fn named_and_hidden(rt: &impl Abort, ctx: &mut Context, user: Var, named: Var) -> Result<(), Fail>
     requires { length ctx.old.clauses.unit_clauses ≡ length ctx.old.variables }
 {
-    assert!(rt; is_named(alloc, ctx, named, user));
+    assert!(rt; is_named(ctx, named, user));
     assert_eq!(rt; ctx.variables.get(named).user_var, Some(user));
-    assert!(rt; is_hidden(alloc, ctx, named));
+    assert!(rt; is_hidden(ctx, named));
     assert_eq!(rt; ctx.variables.get(named).user_var, None);
-    let hidden = ensure_sampling_var(
-        alloc,
-        &ctx.checker_state,
-        &mut ctx.clauses,
-        &mut ctx.variables,
-        named,
-    );
-    let seen = answer(alloc, hidden)?;
-    assert_eq!(rt; seen.as_str(), "CheckFailed 0 NotSampling");
+    let hidden = ensure_sampling_var(&mut ctx.clauses, &mut ctx.variables, named);
+    assert_eq!(rt; hidden, Err(StepFault::Refused(CheckCause::NotSampling)));
     Ok(())
 }
 
-fn is_named(alloc: Global, ctx: &mut Context, var: Var, user: Var) -> bool
+fn is_named(ctx: &mut Context, var: Var, user: Var) -> bool
     requires { length ctx.old.clauses.unit_clauses ≡ length ctx.old.variables }
     ensures { result ≡ true → length ctx.new.clauses.unit_clauses ≡ length ctx.new.variables }
 {
     let answer = add_user_mapping(
-        alloc,
-        &ctx.checker_state,
         &mut ctx.clauses,
         &mut ctx.variables,
         &mut ctx.processing,
@@ -74,13 +58,11 @@ fn is_named(alloc: Global, ctx: &mut Context, var: Var, user: Var) -> bool
     answer.is_ok()
 }
 
-fn is_hidden(alloc: Global, ctx: &mut Context, var: Var) -> bool
+fn is_hidden(ctx: &mut Context, var: Var) -> bool
     requires { length ctx.old.clauses.unit_clauses ≡ length ctx.old.variables }
     ensures { result ≡ true → length ctx.new.clauses.unit_clauses ≡ length ctx.new.variables }
 {
     let answer = remove_user_mapping(
-        alloc,
-        &ctx.checker_state,
         &mut ctx.clauses,
         &mut ctx.variables,
         &mut ctx.processing,
@@ -93,13 +75,7 @@ fn is_hidden(alloc: Global, ctx: &mut Context, var: Var) -> bool
 fn new_variables_are_samples(rt: HostRuntime) -> Result<(), Fail> {
     let fourth = var("4")?;
     let mut ctx = Context::new(rt.alloc());
-    let known = ensure_sampling_var(
-        rt.alloc(),
-        &ctx.checker_state,
-        &mut ctx.clauses,
-        &mut ctx.variables,
-        fourth,
-    );
+    let known = ensure_sampling_var(&mut ctx.clauses, &mut ctx.variables, fourth);
     assert!(rt; known.is_ok());
     assert_eq!(rt; ctx.variables.len(), 4);
     Ok(())

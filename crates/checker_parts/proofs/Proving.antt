@@ -7,7 +7,8 @@ use Rattle.checker_rules.specs.Covers.{all_sat}
 use Rattle.checker_rules.specs.Headline.{EntailsRedundant}
 use Rattle.checker_rules.specs.Outcome.{refuse, steps_exhausted}
 use Rattle.checker_rules.specs.State.{State, Stored, irredundant_true, sat, stored_true, units_true}
-use Rattle.checker_rules.specs.Step.{Step, add_clause, assumptions, at_clause, change_hash_bits, change_sampling_mode, delete_clause, delete_var, end_proof, failed_assumptions, model, solver_var_name, unit_clauses, user_var_name}
+use Rattle.checker_rules.specs.Step.{Step, add_clause, assumptions, at_clause, change_hash_bits, change_sampling_mode, delete_clause}
+use Rattle.checker_rules.specs.Step.{delete_var, end_proof, failed_assumptions, model, solver_var_name, unit_clauses, user_var_name}
 use Rattle.checker_rules.specs.Steps.{step}
 use Rattle.checker_rules.proofs.Models.{cores_fail, models_are_members}
 use Rattle.checker_parts.specs.Answers.{IsCovered, IsFold}

@@ -1,11 +1,16 @@
 -- Lists whose variables rise are canonical, and no tautologies.
-use Rattle.std.proofs.Common.{◌≡◌, ℕ, ◌<◌, Bool, true, false, ◌||◌, eqb, ltb, List, [], ◌∷◌, refl, sym, ap, ◌∙◌, arith, ltb-true}
+use Rattle.std.proofs.Common.{◌≡◌, ℕ, ◌+◌, ◌<◌, ◌≤◌, Bool, true, false, ◌&&◌, ◌||◌, eqb, ltb, List, [], ◌∷◌, length, get_or, drop, refl, sym, ap, ◌∙◌, arith, ltb-true}
 use Rattle.std.specs.List.{list_all}
 use Rattle.std.proofs.lemmas.Bool.{and_parts, and_from, lt-ltb, ne_eqb}
+use Rattle.std.proofs.lemmas.Bool.Decides.{nat_tests}
+use Rattle.std.proofs.lemmas.List.{at_drop_more, at_drop_all}
 use Rattle.checker_rules.specs.Canonical.{canonical}
 use Rattle.checker_rules.specs.Clauses.{is_canonical, is_tautology, var_of}
 use Rattle.checker_parts.specs.RisingVars.{has_rising_vars}
 use Rattle.checker_parts.proofs.CanonicalLists.{canonical_from, shares_var, shares_var-canonical}
+
+not_less : (v n : ℕ) → n ≤ v → ltb v n ≡ false
+not_less v n h = grind (arith, nat_tests)
 
 all_above : (k m : ℕ) (ms : List ℕ) → k < m → has_rising_vars (m ∷ ms) ≡ true → list_all (ltb k) (m ∷ ms) ≡ true
 all_above k m [] lt h = and_from (ltb k m) true (lt-ltb k m lt) refl
@@ -35,3 +40,26 @@ rising_is c h = canonical_from c c (rising_canonical c h) (λ x. refl)
 
 pub rising_sound : (c : List ℕ) → has_rising_vars c ≡ true → false ≡ is_tautology (canonical c)
 rising_sound c h = sym (rising_apart c h) ∙ shares_var-canonical c (rising_canonical c h) ∙ ap is_tautology (rising_is c h)
+
+-- whether the variables rise, also above this one
+abbrev pub rises_after : ℕ → List ℕ → Bool
+rises_after v [] = true
+rises_after v (m ∷ ms) = ltb v (var_of m) && rises_after (var_of m) ms
+
+pub rises_after-is : (l : ℕ) (ms : List ℕ) → rises_after (var_of l) ms ≡ has_rising_vars (l ∷ ms)
+rises_after-is l [] = refl
+rises_after-is l (m ∷ ms) = ap (λ b. ltb (var_of l) (var_of m) && b) (rises_after-is m ms)
+
+module _ (v : ℕ) (c : List ℕ) (i : ℕ) where
+  pub rises_after-end : i ≡ length c → rises_after v (drop i c) ≡ true
+  rises_after-end e = at_drop_all (rises_after v) c i (omega (arith, e))
+
+  module _ (m : ℕ) (within : i < length c) (here : m ≡ get_or c i m) where
+    next : rises_after v (drop i c) ≡ (ltb v (var_of m) && rises_after (var_of m) (drop (i + 1) c))
+    next = at_drop_more (rises_after v) c i m within ∙ ap (λ l. ltb v (var_of l) && rises_after (var_of l) (drop (i + 1) c)) (sym here)
+
+    pub rises_after-more : v < var_of m → rises_after (var_of m) (drop (i + 1) c) ≡ rises_after v (drop i c)
+    rises_after-more less = sym (next ∙ ap (λ b. b && rises_after (var_of m) (drop (i + 1) c)) (lt-ltb v (var_of m) less))
+
+    pub rises_after-less : var_of m ≤ v → rises_after v (drop i c) ≡ false
+    rises_after-less more = next ∙ ap (λ b. b && rises_after (var_of m) (drop (i + 1) c)) (not_less v (var_of m) more)

@@ -2,7 +2,10 @@
 use Rattle.checker_rules.specs.Outcome as rules
 use Rattle.checker_rules.specs.Outcome.{Cause}
 use Rattle.checker_parts.specs.declared.error.CheckCause.{CheckCause}
-use Rattle.checker_parts.specs.declared.error.CheckCause.TheVariants.{NotSampling, Tautology, NoClauseForHash, AtCheckFailed, DeleteUnitOrEmpty, DeleteUnknown, DeleteRedundantIsIrredundant, DeleteIrredundantIsRedundant, NotSatisfied, NotSubsumed, DeletedVarNamed, DeletedVarHasClauses, SampleHidden, UserNameTaken, StillHidden, NameInUse, NoNameToRemove, ModelAgainstUnit, ModelAgainstItself, ModelMissesAssumption, ModelMissesClause, NotAssumed, UnknownVar, HashBits, CoreVarHidden, ModelAfterUnsat, IdsExhausted, CountExhausted, StepsExhausted}
+use Rattle.checker_parts.specs.declared.error.CheckCause.TheVariants.{NotSampling, Tautology, NoClauseForHash, AtCheckFailed, DeleteUnitOrEmpty, DeleteUnknown, DeleteRedundantIsIrredundant}
+use Rattle.checker_parts.specs.declared.error.CheckCause.TheVariants.{DeleteIrredundantIsRedundant, NotSatisfied, NotSubsumed, DeletedVarNamed, DeletedVarHasClauses, SampleHidden, UserNameTaken}
+use Rattle.checker_parts.specs.declared.error.CheckCause.TheVariants.{StillHidden, NameInUse, NoNameToRemove, ModelAgainstUnit, ModelAgainstItself, ModelMissesAssumption, ModelMissesClause}
+use Rattle.checker_parts.specs.declared.error.CheckCause.TheVariants.{NotAssumed, UnknownVar, HashBits, CoreVarHidden, ModelAfterUnsat, IdsExhausted, CountExhausted, StepsExhausted}
 
 -- the cause of the definitions
 abbrev pub cause_of : CheckCause → Cause

@@ -2,7 +2,7 @@ pub mod Answers
 pub mod Boxes
 pub mod Causes
 pub mod CheckedSteps
-pub mod Errors
+pub mod Faults
 pub mod Memory
 pub mod Models
 pub mod Names

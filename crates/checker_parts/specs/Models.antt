@@ -8,7 +8,8 @@ use Rattle.checker_rules.specs.Calls.{attempt}
 use Rattle.checker_rules.specs.Clauses.{lit_true}
 use Rattle.checker_rules.specs.Headline.{Extends, holds}
 use Rattle.checker_rules.specs.State.{State, StoredUnit}
-use Rattle.checker_rules.specs.Step.{Step, add_clause, assumptions, at_clause, change_hash_bits, change_sampling_mode, delete_clause, delete_var, end_proof, failed_assumptions, model, solver_var_name, unit_clauses, user_var_name}
+use Rattle.checker_rules.specs.Step.{Step, add_clause, assumptions, at_clause, change_hash_bits, change_sampling_mode, delete_clause}
+use Rattle.checker_rules.specs.Step.{delete_var, end_proof, failed_assumptions, model, solver_var_name, unit_clauses, user_var_name}
 
 -- the model with the units extends only to members, and to one
 pub record ModelProves (m : List ℕ) (ts : List Step) (units : List (Option StoredUnit)) : Type 0

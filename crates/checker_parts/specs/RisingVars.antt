@@ -1,5 +1,5 @@
 -- Lists whose variables rise.
-use Rattle.std.specs.Prelude.{ℕ, ◌/◌, Bool, true, ◌&&◌, nat_lt, List, [], ◌∷◌}
+use Rattle.std.specs.Prelude.{ℕ, Bool, true, ◌&&◌, nat_lt, List, [], ◌∷◌}
 use Rattle.checker_rules.specs.Clauses.{var_of}
 
 -- whether the variables rise from literal to literal

@@ -1,6 +1,10 @@
 //! Why the checker refuses or fails.
+ghost use Rattle.std.specs.Prelude.{◌≡◌};
+ghost use Rattle.checker_parts.specs.declared.error.StepFault.TheVariants.{OutOfMemory};
+
 use proof_bytes::MalformedStep;
 use sat_formula::DimacsKind;
+use std::alloc::AllocError;
 use std::io;
 use thiserror::Error;
 
@@ -107,6 +111,25 @@ pub enum CheckerError {
     /// The checker had failed before the call, which did nothing.
     #[error("checker has failed")]
     Failed,
+}
+
+/// Why a step is not taken. It is small, since every step answers it: the error is made of it where the call ends.
+#[derive(Clone, Copy, Debug, PartialEq, Eq)]
+pub enum StepFault {
+    /// The step is refused.
+    Refused(CheckCause),
+    /// A processor or a transcript answered a fault.
+    Processor,
+    /// A growth was refused.
+    OutOfMemory,
+}
+
+impl From<AllocError> for StepFault {
+    ghost from_gives = { λ _ fault. fault ≡ OutOfMemory };
+
+    fn from(_refused: AllocError) -> StepFault {
+        StepFault::OutOfMemory
+    }
 }
 
 /// Why a DIMACS text was not added whole. The clauses that ended before stay.

@@ -32,14 +32,16 @@ pub fn copy_canonical(target: &mut Vec<Lit>, src: &[Lit]) -> Result<bool, AllocE
 fn has_rising_vars(lits: &[Lit]) -> bool
     ensures { result ≡ has_rising_vars lits.now }
 {
-    let mut rest = lits;
-    while let Some((first, others)) = rest.split_first() {
-        if let Some(second) = others.first() {
-            if first.index() >= second.index() {
-                return false;
-            }
+    let Some((first, others)) = lits.split_first() else {
+        return true;
+    };
+    let mut last = first.index();
+    for lit in others {
+        let index = lit.index();
+        if index <= last {
+            return false;
         }
-        rest = others;
+        last = index;
     }
     true
 }

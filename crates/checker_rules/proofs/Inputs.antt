@@ -1,5 +1,6 @@
 -- How steps change the number of input clauses.
-use Rattle.std.proofs.Common.{◌≡◌, ◌≤◌, ℕ, suc, ◌+◌, Bool, true, false, cond, not, ◌&&◌, ◌||◌, eqb, ltb, leb, List, [], ◌∷◌, ◌++◌, map, Option, Some, None, refl, sym, ◌∙◌, subst, arith, is_some, is_none}
+use Rattle.std.proofs.Common.{◌≡◌, ◌≤◌, ℕ, suc, ◌+◌, Bool, true, false, cond, not, ◌&&◌, ◌||◌, eqb, ltb, leb, List}
+use Rattle.std.proofs.Common.{[], ◌∷◌, ◌++◌, map, Option, Some, None, refl, sym, ◌∙◌, subst, arith, is_some, is_none}
 use Rattle.std.specs.List.{list_any, list_all}
 use Rattle.std.proofs.lemmas.Bool.{cond_both, both_ways, false≢true}
 use Rattle.checker_rules.specs.AddClause.{step_add_clause, store_input}
@@ -18,7 +19,8 @@ use Rattle.checker_rules.specs.Model.{has_some, model_cause, model_whole, step_m
 use Rattle.checker_rules.specs.Outcome.{Cause, Outcome, accept, and_then_by, refuse}
 use Rattle.checker_rules.specs.Passes.{none_empty}
 use Rattle.checker_rules.specs.State.{State, StoredUnit, buckets, clause_passes, lit_by_unit, makes_true, some_true_unit, unit_of}
-use Rattle.checker_rules.specs.Step.{Justification, Step, add_clause, assumptions, at_clause, by_redundant, by_satisfied, by_simplified, change_hash_bits, change_sampling_mode, delete_clause, delete_var, end_proof, failed_assumptions, model, solver_var_name, unit_clauses, user_var_name}
+use Rattle.checker_rules.specs.Step.{Justification, Step, add_clause, assumptions, at_clause, by_redundant, by_satisfied, by_simplified, change_hash_bits}
+use Rattle.checker_rules.specs.Step.{change_sampling_mode, delete_clause, delete_var, end_proof, failed_assumptions, model, solver_var_name, unit_clauses, user_var_name}
 use Rattle.checker_rules.specs.Steps.{step}
 use Rattle.checker_rules.specs.Store.{count_limit, count_of, counters, id_limit, is_stored, new_stored, raise, stands, store, store_unit, take_id}
 use Rattle.checker_rules.specs.UnitClauses.{step_unit, step_unit_clauses}

@@ -11,7 +11,8 @@ use Rattle.checker_rules.specs.Outcome.{Cause, Outcome}
 use Rattle.checker_rules.specs.Refutations.{FormulasAreRefuted, RunsRefute}
 use Rattle.checker_rules.specs.Run.{Runs, Stop, after_attempt, after_read, move}
 use Rattle.checker_rules.specs.State.{State}
-use Rattle.checker_rules.specs.Step.{Step, add_clause, assumptions, at_clause, change_hash_bits, change_sampling_mode, delete_clause, delete_var, end_proof, failed_assumptions, model, solver_var_name, unit_clauses, user_var_name}
+use Rattle.checker_rules.specs.Step.{Step, add_clause, assumptions, at_clause, change_hash_bits, change_sampling_mode, delete_clause}
+use Rattle.checker_rules.specs.Step.{delete_var, end_proof, failed_assumptions, model, solver_var_name, unit_clauses, user_var_name}
 use Rattle.checker_rules.specs.Steps.{new_state, step}
 use Rattle.checker_rules.specs.Store.{id_limit}
 use Rattle.checker_rules.proofs.AddedClauses.{formulas_are_fold, members}

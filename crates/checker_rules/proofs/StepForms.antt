@@ -1,5 +1,6 @@
 -- Each step keeps the form of the state.
-use Rattle.std.proofs.Common.{◌≡◌, ℕ, suc, ◌-◌, ◌≤◌, Bool, true, false, cond, not, ◌&&◌, ◌||◌, eqb, ltb, leb, List, [], ◌∷◌, map, length, replicate, Option, Some, None, refl, arith, is_some, is_none, length-append}
+use Rattle.std.proofs.Common.{◌≡◌, ℕ, suc, ◌-◌, ◌≤◌, Bool, true, false, cond, not, ◌&&◌, ◌||◌, eqb, ltb, leb, List, [], ◌∷◌}
+use Rattle.std.proofs.Common.{map, length, replicate, Option, Some, None, refl, arith, is_some, is_none, length-append}
 use Rattle.std.specs.List.{list_any, list_all}
 use Rattle.std.proofs.lemmas.Bool.{or_parts, eqb-false, ltb-false, cond_both}
 use Rattle.std.proofs.lemmas.List.{length-replicate}
@@ -20,14 +21,16 @@ use Rattle.checker_rules.specs.Model.{has_some, model_cause, model_whole, step_m
 use Rattle.checker_rules.specs.Outcome.{Outcome, accept, and_then, and_then_by}
 use Rattle.checker_rules.specs.Passes.{none_empty}
 use Rattle.checker_rules.specs.State.{State, buckets, clause_passes, hide, sample, some_true_unit, unit_of, witness}
-use Rattle.checker_rules.specs.Step.{Justification, add_clause, assumptions, at_clause, by_redundant, by_satisfied, by_simplified, change_hash_bits, change_sampling_mode, delete_clause, delete_var, end_proof, failed_assumptions, model, solver_var_name, unit_clauses, user_var_name}
+use Rattle.checker_rules.specs.Step.{Justification, add_clause, assumptions, at_clause, by_redundant, by_satisfied, by_simplified, change_hash_bits}
+use Rattle.checker_rules.specs.Step.{change_sampling_mode, delete_clause, delete_var, end_proof, failed_assumptions, model, solver_var_name, unit_clauses, user_var_name}
 use Rattle.checker_rules.specs.Steps.{new_state, step}
 use Rattle.checker_rules.specs.Store.{count_limit, count_of, counters, id_limit, id_of, is_stored, stands, store, take_id}
 use Rattle.checker_rules.specs.UnitClauses.{step_unit_clauses}
 use Rattle.checker_rules.specs.UserVarName.{step_user_var_name}
 use Rattle.checker_rules.specs.WellFormed.{StepsKeepForm, WellFormed}
 use Rattle.checker_rules.proofs.Entries.{canonical-is}
-use Rattle.checker_rules.proofs.Forms.{Storable, W, form-close_conflict, form-delete, form-forget, form-free_var, form-know, form-previous, form-set_known, form-store, form-store_unit, form-take_id, form-take_input}
+use Rattle.checker_rules.proofs.Forms.{Storable, W, form-close_conflict, form-delete, form-forget, form-free_var, form-know}
+use Rattle.checker_rules.proofs.Forms.{form-previous, form-set_known, form-store, form-store_unit, form-take_id, form-take_input}
 use Rattle.checker_rules.proofs.Inputs.{takes_input}
 use Rattle.checker_rules.proofs.KnownNames.{names-same, names-set}
 

@@ -11,7 +11,8 @@ use Rattle.checker_rules.specs.FailedAssumptions.{step_failed_assumptions}
 use Rattle.checker_rules.specs.Model.{step_model}
 use Rattle.checker_rules.specs.Outcome.{accept}
 use Rattle.checker_rules.specs.State.{State}
-use Rattle.checker_rules.specs.Step.{Justification, add_clause, assumptions, at_clause, change_hash_bits, change_sampling_mode, delete_clause, delete_var, end_proof, failed_assumptions, model, solver_var_name, unit_clauses, user_var_name}
+use Rattle.checker_rules.specs.Step.{Justification, add_clause, assumptions, at_clause, change_hash_bits, change_sampling_mode, delete_clause}
+use Rattle.checker_rules.specs.Step.{delete_var, end_proof, failed_assumptions, model, solver_var_name, unit_clauses, user_var_name}
 use Rattle.checker_rules.specs.Steps.{step}
 use Rattle.checker_rules.specs.UnitClauses.{step_unit_clauses}
 use Rattle.checker_rules.specs.UserVarName.{step_user_var_name}

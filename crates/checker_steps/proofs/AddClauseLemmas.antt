@@ -9,12 +9,11 @@ use Rattle.checker_rules.specs.Steps.{step}
 use Rattle.checker_rules.specs.Store.{count_limit, count_of, counters, id_limit}
 use Rattle.checker_rules.proofs.StepKinds.{step-add_clause}
 use Rattle.checker_steps.specs.InputCause.{HasCapacity, input_cause, taken}
-use Rattle.checker_parts.specs.Answers.{AnswersParts}
+use Rattle.checker_parts.specs.Faults.{AnswersOutcome}
 use Rattle.checker_parts.specs.Causes.{cause_of}
 use Rattle.checker_parts.specs.declared.error.CheckCause.{CheckCause}
-use Rattle.checker_parts.specs.declared.error.CheckerError.{CheckerError}
-use Rattle.clause_store.specs.Refusal.{RefusesWith}
-use Rattle.clause_store.proofs.RefusalLemmas.{answers-refusal}
+use Rattle.checker_parts.specs.declared.error.StepFault.TheVariants.{Refused}
+use Rattle.clause_store.proofs.RefusalLemmas.{answers-refuse}
 
 -- refused with the cause, where there is one
 abbrev pub by_cause : Option Cause → State → Outcome → Outcome
@@ -123,8 +122,7 @@ cause-none s c e n fits m =
     sym (after-ids s c e n) ∙ ap (λ b. cond b (Some count_exhausted) None) (some-copy (count_of false c s.clauses) count_limit (copy-left (count_of false c s.clauses) fits m))
 
 -- the refusal of an input clause
-pub answers-input : (e : CheckerError) (msg : CheckCause) (s : State) (ls : List ℕ) → RefusesWith s.steps msg e → s.unsat ≡ false → input_cause s (canonical ls) ≡ Some (cause_of msg)
-    → AnswersParts {A = Unit {0}} (Err e) (step s (add_clause ls)) s
-answers-input e msg s ls h live named =
-    let o = add-refuses s ls (cause_of msg) live (sym named) in
-    answers-refusal e s.steps msg (cause_of msg) (step s (add_clause ls)) s h refl (ap (λ (x : Outcome). x.refused) o) (sym (ap (λ (x : Outcome). x.after) o)) refl
+pub answers-input : (msg : CheckCause) (s : State) (ls : List ℕ) → s.unsat ≡ false → input_cause s (canonical ls) ≡ Some (cause_of msg) →
+    AnswersOutcome {A = Unit {0}} (Err (Refused msg)) (step s (add_clause ls)) s
+answers-input msg s ls live named =
+    answers-refuse (cause_of msg) (step s (add_clause ls)) s s (add-refuses s ls (cause_of msg) live (sym named)) refl

@@ -16,24 +16,24 @@ use Rattle.checker_rules.specs.Store.{count_of, is_stored, lower}
 use Rattle.checker_rules.specs.WellFormed.{are_apart}
 use Rattle.checker_rules.specs.Transcript.{TranscriptStep}
 use Rattle.checker_rules.proofs.StepKinds.{step-delete_clause}
-use Rattle.checker_parts.specs.Answers.{AnswersParts, UnlessFailed}
+use Rattle.checker_parts.specs.Faults.{AnswersOutcome, UnlessStopped}
 use Rattle.checker_parts.specs.Causes.{cause_of}
 use Rattle.checker_parts.specs.declared.error.CheckCause.{CheckCause}
 use Rattle.checker_parts.specs.declared.error.CheckCause.TheVariants as causes
-use Rattle.checker_parts.specs.declared.error.CheckerError.{CheckerError}
+use Rattle.checker_parts.specs.declared.error.StepFault.TheVariants.{Refused}
 use Rattle.clause_store.specs.declared.clauses.DeleteClauseResult.{DeleteClauseResult}
 use Rattle.clause_store.specs.declared.clauses.DeleteClauseResult.TheVariants.{Unchanged, NewlyRedundant, Removed}
 use Rattle.clause_store.specs.declared.clauses.delete.DeleteFault.{DeleteFault}
 use Rattle.clause_store.specs.declared.clauses.delete.DeleteFault.TheVariants.{OutOfMemory, UnitOrEmpty, Unknown, NoCopy}
-use Rattle.clause_store.specs.Delete.{AnswersDelete, Deletes, IsDeleteError, UnlessOutOfMemory}
-use Rattle.clause_store.specs.Refusal.{RefusesWith}
+use Rattle.clause_store.specs.Delete.{AnswersDelete, Deletes, UnlessOutOfMemory}
+use Rattle.clause_store.specs.Refusal.{delete_fault}
 use Rattle.clause_store.specs.Store.{is_whole}
 use Rattle.clause_store.proofs.DeleteLemmas.{is_stored-lowered}
-use Rattle.clause_store.proofs.RefusalLemmas.{answers-refusal}
+use Rattle.clause_store.proofs.RefusalLemmas.{answers-refuse}
 use Rattle.checker_steps.specs.DeletionSteps.{deletion_steps}
-use Rattle.checker_steps.specs.Delivered.{Listeners, Delivered}
+use Rattle.checker_steps.specs.Delivered.{Listeners, DeliveredList}
 use Rattle.checker_steps.specs.Justified.{AnswersJustified, implying_id, of_redundant}
-use Rattle.checker_steps.proofs.EmissionLemmas.{delivered-refused, unless-failed}
+use Rattle.checker_steps.proofs.EmissionLemmas.{delivered-refused}
 
 -- a tautology is refused
 pub delete-tautology : (s : State) (j : Justification) (ls : List ℕ) → is_tautology (canonical ls) ≡ true → step s (delete_clause j ls) ≡ refuse tautology s
@@ -44,8 +44,8 @@ pub delete-asked : (s : State) (j : Justification) (ls : List ℕ) → is_tautol
 delete-asked s j ls h = step-delete_clause s j ls ∙ ap (λ b. cond b (refuse tautology s) (justified j (canonical ls) s)) h
 
 -- the refusal of a justification
-pub answers-unjustified : (e : CheckerError) (msg : CheckCause) (o : Outcome) (s : State) → RefusesWith s.steps msg e → o ≡ refuse (cause_of msg) s → AnswersParts {A = Unit {0}} (Err e) o s
-answers-unjustified e msg o s h is = answers-refusal e s.steps msg (cause_of msg) o s h refl (ap (λ (x : Outcome). x.refused) is) (sym (ap (λ (x : Outcome). x.after) is)) refl
+pub answers-unjustified : (msg : CheckCause) (o : Outcome) (s : State) → o ≡ refuse (cause_of msg) s → AnswersOutcome {A = Unit {0}} (Err (Refused msg)) o s
+answers-unjustified msg o s is = answers-refuse (cause_of msg) o s s is refl
 
 -- what is deleted where the justification passes
 kind_of : (j : Justification) (c : List ℕ) (s : State) (r : Bool) → is_some (implying_id j c s) ≡ not r → of_redundant j ≡ r
@@ -63,30 +63,27 @@ delete-justified s j ls c id r apart same a some =
     let kind = kind_of j c s r (ap is_some (sym a.1) ∙ some) in
     (delete-asked s j ls apart ∙ ap (λ x. justified j x s) (sym same) ∙ a.0 ∙ ap (λ b. delete_justified b c (forget s)) kind, kind)
 
--- the error for a copy that was not deleted
-module _ (r : Bool) (c : List ℕ) (s t : State) (e : CheckerError) where
-  refused-with : (msg : CheckCause) (cause : Cause) → RefusesWith t.steps msg e → cause_of msg ≡ cause →
-      (delete_justified r c s ≡ refuse cause s) × (t ≡ s) → AnswersParts {A = Unit {0}} (Err e) (delete_justified r c s) t
-  refused-with msg cause h named k = answers-refusal e t.steps msg cause (delete_justified r c s) t h named (ap (λ (x : Outcome). x.refused) k.0) (k.1 ∙ sym (ap (λ (x : Outcome). x.after) k.0)) refl
+-- a copy that was not deleted
+no_copy : (r : Bool) → cond r delete_redundant_is_irredundant delete_irredundant_is_redundant ≡ cause_of (cond r causes.DeleteRedundantIsIrredundant causes.DeleteIrredundantIsRedundant)
+no_copy true = refl
+no_copy false = refl
 
-  no_copy : (r : Bool) → cause_of (cond r causes.DeleteRedundantIsIrredundant causes.DeleteIrredundantIsRedundant) ≡ cond r delete_redundant_is_irredundant delete_irredundant_is_redundant
-  no_copy true = refl
-  no_copy false = refl
+pub answers-fault : (r : Bool) (c : List ℕ) (s t : State) (f : DeleteFault) → AnswersDelete (Err f) c r s t →
+    AnswersOutcome {A = Unit {0}} (Err (delete_fault f r)) (delete_justified r c s) t
+answers-fault r c s t OutOfMemory a = tt
+answers-fault r c s t UnitOrEmpty a = answers-refuse delete_unit_or_empty (delete_justified r c s) s t a.0 a.1
+answers-fault r c s t Unknown a = answers-refuse delete_unknown (delete_justified r c s) s t a.0 a.1
+answers-fault r c s t NoCopy a =
+    subst (λ (x : Cause). ((delete_justified r c s).refused ≡ Some x) × (t ≡ (delete_justified r c s).after)) (no_copy r)
+    (answers-refuse (cond r delete_redundant_is_irredundant delete_irredundant_is_redundant) (delete_justified r c s) s t a.0 a.1)
 
-  pub answers-fault : (f : DeleteFault) → AnswersDelete (Err f) c r s t → IsDeleteError f r t.steps e → AnswersParts {A = Unit {0}} (Err e) (delete_justified r c s) t
-  answers-fault OutOfMemory a h = subst (λ (x : CheckerError). AnswersParts {A = Unit {0}} (Err x) (delete_justified r c s) t) (sym h) tt
-  answers-fault UnitOrEmpty a h = refused-with causes.DeleteUnitOrEmpty delete_unit_or_empty h refl a
-  answers-fault Unknown a h = refused-with causes.DeleteUnknown delete_unknown h refl a
-  answers-fault NoCopy a h = refused-with (cond r causes.DeleteRedundantIsIrredundant causes.DeleteIrredundantIsRedundant)
-      (cond r delete_redundant_is_irredundant delete_irredundant_is_redundant) h (no_copy r) a
-
--- what holds unless memory was refused holds unless the call failed
-pub unless-fault : (P : Type 0) (f : DeleteFault) (r : Bool) (n : ℕ) (e : CheckerError) → IsDeleteError f r n e →
-    UnlessOutOfMemory {A = ℕ × DeleteClauseResult} (Err f) P → UnlessFailed {A = Unit {0}} (Err e) P
-unless-fault P OutOfMemory r n e h p = subst (λ (x : CheckerError). UnlessFailed {A = Unit {0}} (Err x) P) (sym h) tt
-unless-fault P UnitOrEmpty r n e h p = unless-failed {A = Unit {0}} (Err e) p
-unless-fault P Unknown r n e h p = unless-failed {A = Unit {0}} (Err e) p
-unless-fault P NoCopy r n e h p = unless-failed {A = Unit {0}} (Err e) p
+-- what holds unless memory was refused holds unless the step gave up
+pub unless-fault : (P : Type 0) (f : DeleteFault) (r : Bool) → UnlessOutOfMemory {A = ℕ × DeleteClauseResult} (Err f) P →
+    UnlessStopped {A = Unit {0}} (Err (delete_fault f r)) P
+unless-fault P OutOfMemory r p = tt
+unless-fault P UnitOrEmpty r p = p
+unless-fault P Unknown r p = p
+unless-fault P NoCopy r p = p
 
 -- what the deletion delivers on is what the rules emit
 stored_part : (r : Bool) (c : List ℕ) (s : State) → (delete_justified r c s).refused ≡ None → (is_stored c s.clauses ≡ true) × (eqb (count_of r c s.clauses) 0 ≡ false)
@@ -149,17 +146,15 @@ pub emits-accepted : (s : State) (j : Justification) (ls : List ℕ) → (step s
 emits-accepted s j ls h es e = subst (λ (o : Option Cause). EmitsBy o s (delete_clause j ls) es) (sym h) e
 
 -- a refused deletion delivers nothing on
-pub delivered-fault : {P T : Type 0} (took faulted : P → NamedStep → P → Type 0) (took_image faulted_image : T → TranscriptStep → T →
-    Type 0) (s u : State) (j : Justification) (ls : List ℕ) (f : DeleteFault) (r : Bool) (e : CheckerError) (n : ℕ) (old : Listeners P T) →
-    IsDeleteError f r n e
-    → AnswersParts {A = Unit {0}} (Err e) (step s (delete_clause j ls)) u → Delivered {A = Unit {0}} (Err e) (Emits s (delete_clause j ls)) took faulted took_image faulted_image old old
-delivered-fault took faulted took_image faulted_image s u j ls OutOfMemory r e n old h a =
-    subst (λ (x : CheckerError). Delivered {A = Unit {0}} (Err x) (Emits s (delete_clause j ls)) took faulted took_image faulted_image old
-    old) (sym h) tt
-delivered-fault took faulted took_image faulted_image s u j ls UnitOrEmpty r e n old h a =
-    delivered-refused took faulted took_image faulted_image s u (delete_clause j ls) e n causes.DeleteUnitOrEmpty old h a refl
-delivered-fault took faulted took_image faulted_image s u j ls Unknown r e n old h a =
-    delivered-refused took faulted took_image faulted_image s u (delete_clause j ls) e n causes.DeleteUnknown old h a refl
-delivered-fault took faulted took_image faulted_image s u j ls NoCopy r e n old h a =
-    delivered-refused took faulted took_image faulted_image s u (delete_clause j ls) e n
-    (cond r causes.DeleteRedundantIsIrredundant causes.DeleteIrredundantIsRedundant) old h a refl
+pub delivered-fault : {P T : Type 0} (took faulted : P → NamedStep → P → Type 0) (took_image faulted_image : T → TranscriptStep → T → Type 0)
+    (s u : State) (j : Justification) (ls : List ℕ) (f : DeleteFault) (r : Bool) (old : Listeners P T) →
+    AnswersOutcome {A = Unit {0}} (Err (delete_fault f r)) (step s (delete_clause j ls)) u →
+    DeliveredList {A = Unit {0}} (Err (delete_fault f r)) (Emits s (delete_clause j ls)) took faulted took_image faulted_image old old
+delivered-fault took faulted took_image faulted_image s u j ls OutOfMemory r old a = tt
+delivered-fault took faulted took_image faulted_image s u j ls UnitOrEmpty r old a =
+    delivered-refused took faulted took_image faulted_image s u (delete_clause j ls) causes.DeleteUnitOrEmpty old a refl
+delivered-fault took faulted took_image faulted_image s u j ls Unknown r old a =
+    delivered-refused took faulted took_image faulted_image s u (delete_clause j ls) causes.DeleteUnknown old a refl
+delivered-fault took faulted took_image faulted_image s u j ls NoCopy r old a =
+    delivered-refused took faulted took_image faulted_image s u (delete_clause j ls)
+    (cond r causes.DeleteRedundantIsIrredundant causes.DeleteIrredundantIsRedundant) old a refl

@@ -1,5 +1,6 @@
 -- The step `DeleteVar`, part by part.
-use Rattle.std.proofs.Common.{◌≡◌, ℕ, ◌+◌, ◌*◌, ◌/◌, ◌<◌, ◌≤◌, Bool, true, false, cond, ◌||◌, eqb, ltb, nat_lt, List, [], ◌∷◌, get_or, if◌then◌else◌, Option, None, Some, refl, sym, ap, ◌∙◌, arith, eq-eqb, eqb-true, ⊎_elim}
+use Rattle.std.proofs.Common.{◌≡◌, ℕ, ◌+◌, ◌*◌, ◌/◌, ◌<◌, ◌≤◌, Bool, true, false, cond, ◌||◌, eqb, ltb, nat_lt, List, [], ◌∷◌}
+use Rattle.std.proofs.Common.{get_or, if◌then◌else◌, Option, None, Some, refl, sym, ap, ◌∙◌, arith, eq-eqb, eqb-true, ⊎_elim}
 use Rattle.std.specs.List.{list_any}
 use Rattle.std.proofs.lemmas.Bool.{or_cases}
 use Rattle.std.proofs.lemmas.Bool.Decides.{nat_tests}

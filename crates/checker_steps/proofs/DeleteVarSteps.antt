@@ -1,7 +1,5 @@
 -- The step `DeleteVar` as a whole.
 use Rattle.std.proofs.Common.{◌≡◌, ℕ, suc, Bool, true, false, cond, ltb, List, [], ◌∷◌, ◌++◌, Option, None, Some, is_some, ◌⊎◌, Result, Err, refl, sym, ap, ◌∙◌, subst, inl, inr, ⊎_elim}
-use Rattle.std.proofs.lemmas.Bool.{false≢true}
-use Rattle.std.specs.Prelude.{IsOk}
 use Rattle.std.specs.List.{list_any}
 use Rattle.checker_rules.specs.CheckedSteps.{NamedStep, checked_at_clause, checked_delete_rat_clause, named_in}
 use Rattle.checker_rules.specs.DeleteVar.{close_conflict, drop_unit, free_var, holds_var, is_conflict_on}
@@ -15,16 +13,16 @@ use Rattle.checker_rules.specs.Steps.{step}
 use Rattle.checker_rules.specs.Store.{id_limit}
 use Rattle.checker_rules.specs.Transcript.{TranscriptStep, known_at}
 use Rattle.checker_rules.proofs.StepKinds.{step-delete_var}
-use Rattle.checker_parts.specs.Answers.{AnswersParts, UnlessGivenUp}
+use Rattle.checker_parts.specs.Faults.{AnswersOutcome}
 use Rattle.checker_parts.specs.Causes.{cause_of}
 use Rattle.checker_parts.specs.Variables.{known_of_data}
-use Rattle.checker_parts.specs.declared.error.CheckerError.{CheckerError}
-use Rattle.checker_parts.specs.declared.error.CheckerError.TheVariants.{ProofIncomplete, IoError, ParseError, CheckFailed, ProofProcessorError, OutOfMemory, Failed}
+use Rattle.checker_parts.specs.declared.error.StepFault.{StepFault}
+use Rattle.checker_parts.specs.declared.error.StepFault.TheVariants.{Refused, Processor, OutOfMemory}
 use Rattle.checker_parts.specs.declared.variables.VarData.{VarData}
 use Rattle.sat_formula.specs.Vars.{indexes_of}
 use Rattle.sat_formula.specs.declared.lit.Var.{Var}
 use Rattle.checker_steps.specs.DeletedVar.{close_on, emits_close, emits_dropped}
-use Rattle.checker_steps.specs.Delivered.{Listeners, Delivered, DeliveredWhole}
+use Rattle.checker_steps.specs.Delivered.{Listeners, DeliveredList, DeliveredWhole}
 use Rattle.checker_steps.proofs.EmitLemmas.{emits-accepted, emits-refused}
 use Rattle.checker_steps.proofs.DeliveryLemmas.{beginning-first, delivered-second}
 
@@ -118,37 +116,29 @@ module _ {P T : Type 0} (took faulted : P → NamedStep → P → Type 0) (took_
     (s t : State) (x : ℕ) (is : t ≡ know (suc x) s) (unnamed : is_some (known_at t.known x).name ≡ false)
     (free : list_any (λ e. holds_var x e.lits) t.clauses ≡ false) where
   -- a closing that is refused, or delivered on to a fault, ends the step
-  pub delivered-unclosed : (e : CheckerError) (r : State) (old new : Listeners P T) → AnswersParts {A = Unit {0}} (Err e) (close_on x t) r →
-      Delivered {A = Unit {0}} (Err e) (λ es. es ≡ emits_close x t) took faulted took_image faulted_image old new
-      → Delivered {A = Unit {0}} (Err e) (Emits s (delete_var x)) took faulted took_image faulted_image old new
-  delivered-unclosed (CheckFailed number msg debug_step) r old new a h = (h.0, subst (Emits s (delete_var x)) (sym (h.1 ∙ none)) refused, h.2)
+  pub delivered-unclosed : (e : StepFault) (r : State) (old new : Listeners P T) → AnswersOutcome {A = Unit {0}} (Err e) (close_on x t) r →
+      DeliveredList {A = Unit {0}} (Err e) (λ es. es ≡ emits_close x t) took faulted took_image faulted_image old new
+      → DeliveredList {A = Unit {0}} (Err e) (Emits s (delete_var x)) took faulted took_image faulted_image old new
+  delivered-unclosed (Refused cause) r old new a h = (h.0, subst (Emits s (delete_var x)) (sym (h.1 ∙ none)) refused, h.2)
     where
       none : emits_close x t ≡ []
       none = ⊎_elim {C = emits_close x t ≡ []} (λ closed. absurd (cc (a.0, closed))) (λ e. e) (close-by x t)
 
       refused : Emits s (delete_var x) []
-      refused = emits-refused s (delete_var x) [] (cause_of msg) (ap (λ (o : Outcome). o.refused) (delete-unclosed s t x is unnamed free (cause_of msg) a.0)) refl
-  delivered-unclosed (ProofProcessorError cause) r old new a h =
+      refused = emits-refused s (delete_var x) [] (cause_of cause) (ap (λ (o : Outcome). o.refused) (delete-unclosed s t x is unnamed free (cause_of cause) a.0)) refl
+  delivered-unclosed Processor r old new a h =
       let closed = ⊎_elim {C = (close_on x t).refused ≡ None} (λ c. c) (λ e. absurd (not_empty h.0 h.1 h.2 (h.3 ∙ e))) (close-by x t) in
       beginning-first took faulted took_image faulted_image (λ es. es ≡ emits_close x t) (Emits s (delete_var x)) (emits_dropped x t) old new
       (λ es e. subst (λ ys. Emits s (delete_var x) (ys ++ emits_dropped x t)) (sym e) (emits-closed s t x is unnamed free closed)) h
   delivered-unclosed OutOfMemory r old new a h = tt
-  delivered-unclosed (ProofIncomplete number) r old new a h = absurd a
-  delivered-unclosed (IoError number read) r old new a h = absurd a
-  delivered-unclosed (ParseError number kind) r old new a h = absurd a
-  delivered-unclosed Failed r old new a h = absurd a
 
   -- the unit is delivered on after it
-  pub delivered-dropped : (res : Result (Unit {0}) CheckerError) (r : State) (old mid new : Listeners P T) → (close_on x t).refused ≡ None →
+  pub delivered-dropped : (res : Result (Unit {0}) StepFault) (r : State) (old mid new : Listeners P T) → (close_on x t).refused ≡ None →
       r.units ≡ t.units → r.known ≡ t.known → DeliveredWhole (λ es. es ≡ emits_close x t) took took_image old mid
-      → UnlessGivenUp res (IsOk res) → Delivered res (λ es. es ≡ emits_dropped x r) took faulted took_image faulted_image mid new →
-      Delivered res (Emits s (delete_var x)) took faulted took_image faulted_image old new
-  delivered-dropped res r old mid new closed units known first fine h =
+      → DeliveredList res (λ es. es ≡ emits_dropped x r) took faulted took_image faulted_image mid new →
+      DeliveredList res (Emits s (delete_var x)) took faulted took_image faulted_image old new
+  delivered-dropped res r old mid new closed units known first h =
       delivered-second took faulted took_image faulted_image (λ es. es ≡ emits_dropped x r) (Emits s (delete_var x)) first.0 old mid new res first.2
       (λ es e. subst (λ ys. Emits s (delete_var x) (ys ++ es)) (sym first.1)
       (subst (λ ys. Emits s (delete_var x) (emits_close x t ++ ys)) (sym (e ∙ emits_dropped-by x t r units known))
-      (emits-closed s t x is unnamed free closed)))
-      (λ failed. not_failed res failed fine) h
-    where
-      not_failed : (res : Result (Unit {0}) CheckerError) → res ≡ Err Failed → UnlessGivenUp res (IsOk res) → ⊥
-      not_failed res e = subst (λ (y : Result (Unit {0}) CheckerError). UnlessGivenUp y (IsOk y) → ⊥) (sym e) (λ k. false≢true k)
+      (emits-closed s t x is unnamed free closed))) h

@@ -1,37 +1,29 @@
 -- What a call delivers on, put together from the steps that it delivers on.
-use Rattle.std.proofs.Common.{◌≡◌, List, [], ◌∷◌, ◌++◌, Some, Result, Ok, Err, OnOk, IfErr, refl, sym, subst, append_assoc, inr}
+use Rattle.std.proofs.Common.{◌≡◌, List, [], ◌∷◌, ◌++◌, Some, Result, Ok, Err, OnOk, IfErr, sym, subst, append_assoc, inr}
 use Rattle.checker_rules.specs.CheckedSteps.{NamedStep}
 use Rattle.checker_rules.specs.Ran.{AllTook, OneFaulted}
 use Rattle.checker_rules.specs.Transcript.{TranscriptStep, image}
 use Rattle.checker_rules.proofs.RanLemmas.{both_ran_append, both_ran_line, both_ran_nil}
-use Rattle.checker_parts.specs.Errors.{IsFaultOrMemory}
-use Rattle.checker_parts.specs.declared.error.CheckerError.{CheckerError}
-use Rattle.checker_parts.specs.declared.error.CheckerError.TheVariants.{ProofIncomplete, IoError, ParseError, CheckFailed, ProofProcessorError, OutOfMemory, Failed}
-use Rattle.checker_steps.specs.Delivered.{Listeners, Delivered, DeliveredStep, DeliveredBeginning, DeliveredWhole, RanOver}
+use Rattle.checker_parts.specs.Faults.{IsFaultOrMemory}
+use Rattle.checker_parts.specs.declared.error.StepFault.{StepFault}
+use Rattle.checker_parts.specs.declared.error.StepFault.TheVariants.{Refused, Processor, OutOfMemory}
+use Rattle.checker_steps.specs.Delivered.{Listeners, DeliveredList, DeliveredStep, DeliveredBeginning, DeliveredWhole, RanOver}
 
 -- the image is delivered to the transcripts, after every processor took the step
 pub delivers-image : {P T : Type 0} (took faulted : P → NamedStep → P → Type 0) (took_image faulted_image : T → TranscriptStep → T → Type 0)
     (e : NamedStep) (t : TranscriptStep) (old new : Listeners P T) → AllTook took old.processors e new.processors → image e ≡ Some t →
-    (r : Result Unit CheckerError) → OnOk r (AllTook took_image old.transcripts t new.transcripts) →
+    (r : Result Unit StepFault) → OnOk r (AllTook took_image old.transcripts t new.transcripts) →
     IfErr r (λ x. IsFaultOrMemory x (OneFaulted took_image faulted_image old.transcripts t new.transcripts) ⊥) →
     DeliveredStep r e took faulted took_image faulted_image old new
 delivers-image took faulted took_image faulted_image e t old new a i (Ok done) ok err = both_ran_line took took_image e t old.processors new.processors old.transcripts new.transcripts a i ok
-delivers-image took faulted took_image faulted_image e t old new a i (Err (ProofProcessorError cause)) ok err = inr (record { processors = a; transcribed = t; is_image = i; transcripts = err })
+delivers-image took faulted took_image faulted_image e t old new a i (Err Processor) ok err = inr (record { processors = a; transcribed = t; is_image = i; transcripts = err })
 delivers-image took faulted took_image faulted_image e t old new a i (Err OutOfMemory) ok err = tt
-delivers-image took faulted took_image faulted_image e t old new a i (Err (ProofIncomplete number)) ok err = err
-delivers-image took faulted took_image faulted_image e t old new a i (Err (IoError number cause)) ok err = err
-delivers-image took faulted took_image faulted_image e t old new a i (Err (ParseError number cause)) ok err = err
-delivers-image took faulted took_image faulted_image e t old new a i (Err (CheckFailed number cause debug_step)) ok err = err
-delivers-image took faulted took_image faulted_image e t old new a i (Err Failed) ok err = err
+delivers-image took faulted took_image faulted_image e t old new a i (Err (Refused cause)) ok err = err
 
-pub fault-weaker : {P Q : Type 0} (R : Type 0) → (P → Q) → (e : CheckerError) → IsFaultOrMemory e P R → IsFaultOrMemory e Q R
-fault-weaker R f (ProofProcessorError cause) h = f h
+pub fault-weaker : {P Q : Type 0} (R : Type 0) → (P → Q) → (e : StepFault) → IsFaultOrMemory e P R → IsFaultOrMemory e Q R
+fault-weaker R f Processor h = f h
 fault-weaker R f OutOfMemory h = h
-fault-weaker R f (ProofIncomplete number) h = h
-fault-weaker R f (IoError number cause) h = h
-fault-weaker R f (ParseError number cause) h = h
-fault-weaker R f (CheckFailed number cause debug_step) h = h
-fault-weaker R f Failed h = h
+fault-weaker R f (Refused cause) h = h
 
 module _ {P T : Type 0} (took faulted : P → NamedStep → P → Type 0) (took_image faulted_image : T → TranscriptStep → T → Type 0) where
   -- nothing is delivered on
@@ -45,30 +37,22 @@ module _ {P T : Type 0} (took faulted : P → NamedStep → P → Type 0) (took_
   whole-none E old h = ([], h, ran-none old)
 
   -- one step that is the whole list
-  pub delivered-one : {A : Type 0} (E : List NamedStep → Type 0) (e : NamedStep) (old new : Listeners P T) (r : Result A CheckerError) →
+  pub delivered-one : {A : Type 0} (E : List NamedStep → Type 0) (e : NamedStep) (old new : Listeners P T) (r : Result A StepFault) →
       E (e ∷ []) → DeliveredStep r e took faulted took_image faulted_image old new →
-      Delivered r E took faulted took_image faulted_image old new
+      DeliveredList r E took faulted took_image faulted_image old new
   delivered-one E e old new (Ok done) h a = (e ∷ [], h, a)
-  delivered-one E e old new (Err (ProofProcessorError cause)) h a = ([], e, [], h, (old.processors, old.transcripts, ran-none old, a))
+  delivered-one E e old new (Err Processor) h a = ([], e, [], h, (old.processors, old.transcripts, ran-none old, a))
   delivered-one E e old new (Err OutOfMemory) h a = tt
-  delivered-one E e old new (Err (ProofIncomplete number)) h a = absurd a
-  delivered-one E e old new (Err (IoError number cause)) h a = absurd a
-  delivered-one E e old new (Err (ParseError number cause)) h a = absurd a
-  delivered-one E e old new (Err (CheckFailed number cause debug_step)) h a = absurd a
-  delivered-one E e old new (Err Failed) h a = absurd a
+  delivered-one E e old new (Err (Refused cause)) h a = absurd a
 
   -- the lists of another kind
-  pub delivered-weaker : {A : Type 0} (E F : List NamedStep → Type 0) (old new : Listeners P T) (r : Result A CheckerError) →
-      ((es : List NamedStep) → E es → F es) → Delivered r E took faulted took_image faulted_image old new →
-      Delivered r F took faulted took_image faulted_image old new
+  pub delivered-weaker : {A : Type 0} (E F : List NamedStep → Type 0) (old new : Listeners P T) (r : Result A StepFault) →
+      ((es : List NamedStep) → E es → F es) → DeliveredList r E took faulted took_image faulted_image old new →
+      DeliveredList r F took faulted took_image faulted_image old new
   delivered-weaker E F old new (Ok done) f a = (a.0, f a.0 a.1, a.2)
-  delivered-weaker E F old new (Err (CheckFailed number cause debug_step)) f a = (a.0, f a.0 a.1, a.2)
-  delivered-weaker E F old new (Err (ProofIncomplete number)) f a = (a.0, f a.0 a.1, a.2)
-  delivered-weaker E F old new (Err (IoError number cause)) f a = (a.0, f a.0 a.1, a.2)
-  delivered-weaker E F old new (Err (ParseError number cause)) f a = (a.0, f a.0 a.1, a.2)
-  delivered-weaker E F old new (Err (ProofProcessorError cause)) f a = (a.0, a.1, a.2, f (a.0 ++ a.1 ∷ a.2) a.3, a.4)
+  delivered-weaker E F old new (Err (Refused cause)) f a = (a.0, f a.0 a.1, a.2)
+  delivered-weaker E F old new (Err Processor) f a = (a.0, a.1, a.2, f (a.0 ++ a.1 ∷ a.2) a.3, a.4)
   delivered-weaker E F old new (Err OutOfMemory) f a = tt
-  delivered-weaker E F old new (Err Failed) f a = a
 
   -- a fault at the first of two parts
   pub beginning-first : (E F : List NamedStep → Type 0) (rest : List NamedStep) (old new : Listeners P T) →
@@ -92,14 +76,9 @@ module _ {P T : Type 0} (took faulted : P → NamedStep → P → Type 0) (took_
 
   -- after a first part, a second one
   pub delivered-second : {A : Type 0} (E F : List NamedStep → Type 0) (first : List NamedStep) (old mid new : Listeners P T)
-      (r : Result A CheckerError) → RanOver took took_image first old mid → ((es : List NamedStep) → E es → F (first ++ es)) →
-      (r ≡ Err Failed → ⊥) →
-      Delivered r E took faulted took_image faulted_image mid new → Delivered r F took faulted took_image faulted_image old new
-  delivered-second E F first old mid new (Ok done) a f n h = (first ++ h.0, f h.0 h.1, ran-append first h.0 old mid new a h.2)
-  delivered-second E F first old mid new (Err (CheckFailed number cause debug_step)) a f n h = (first ++ h.0, f h.0 h.1, ran-append first h.0 old mid new a h.2)
-  delivered-second E F first old mid new (Err (ProofIncomplete number)) a f n h = (first ++ h.0, f h.0 h.1, ran-append first h.0 old mid new a h.2)
-  delivered-second E F first old mid new (Err (IoError number cause)) a f n h = (first ++ h.0, f h.0 h.1, ran-append first h.0 old mid new a h.2)
-  delivered-second E F first old mid new (Err (ParseError number cause)) a f n h = (first ++ h.0, f h.0 h.1, ran-append first h.0 old mid new a h.2)
-  delivered-second E F first old mid new (Err (ProofProcessorError cause)) a f n h = beginning-second E F first old mid new a f h
-  delivered-second E F first old mid new (Err OutOfMemory) a f n h = tt
-  delivered-second E F first old mid new (Err Failed) a f n h = absurd (n refl)
+      (r : Result A StepFault) → RanOver took took_image first old mid → ((es : List NamedStep) → E es → F (first ++ es)) →
+      DeliveredList r E took faulted took_image faulted_image mid new → DeliveredList r F took faulted took_image faulted_image old new
+  delivered-second E F first old mid new (Ok done) a f h = (first ++ h.0, f h.0 h.1, ran-append first h.0 old mid new a h.2)
+  delivered-second E F first old mid new (Err (Refused cause)) a f h = (first ++ h.0, f h.0 h.1, ran-append first h.0 old mid new a h.2)
+  delivered-second E F first old mid new (Err Processor) a f h = beginning-second E F first old mid new a f h
+  delivered-second E F first old mid new (Err OutOfMemory) a f h = tt

@@ -1,5 +1,5 @@
 -- A derived clause: its outcome and the steps that show it, part by part.
-use Rattle.std.proofs.Common.{◌≡◌, ℕ, Bool, true, false, cond, not, ◌&&◌, eqb, List, [], ◌∷◌, Option, None, Some, Err, refl, sym, ap, ◌∙◌, subst}
+use Rattle.std.proofs.Common.{◌≡◌, ℕ, Bool, true, false, cond, not, ◌&&◌, eqb, List, [], ◌∷◌, Option, None, Some, Err, refl, sym, ap, ◌∙◌}
 use Rattle.checker_rules.specs.Check.{check, ready}
 use Rattle.checker_rules.specs.CheckedSteps.{NamedStep, checked_at_clause, checked_make_irredundant, named_in}
 use Rattle.checker_rules.specs.Clauses.{var_of}
@@ -9,20 +9,16 @@ use Rattle.checker_rules.specs.Passes.{none_empty}
 use Rattle.checker_rules.specs.State.{State, buckets, clause_passes, lit_by_unit, unit_of}
 use Rattle.checker_rules.specs.Store.{count_of, counters, id_among, id_of, is_stored, stands, store, unit_id}
 use Rattle.checker_rules.specs.Traced.{check_trace, traced_derived}
-use Rattle.checker_parts.specs.Answers.{AnswersParts}
-use Rattle.checker_parts.specs.declared.error.CheckCause.TheVariants as causes
-use Rattle.checker_parts.specs.declared.error.CheckerError.{CheckerError}
+use Rattle.checker_parts.specs.Faults.{AnswersOutcome}
 use Rattle.clause_store.specs.declared.clauses.StoreClauseResult.{StoreClauseResult}
 use Rattle.clause_store.specs.declared.clauses.StoreClauseResult.TheVariants.{New, Duplicate, NewlyIrredundant}
 use Rattle.clause_store.specs.declared.clauses.store.StoreFault.{StoreFault}
 use Rattle.clause_store.specs.declared.clauses.store.StoreFault.TheVariants as faults
 use Rattle.clause_store.specs.Quiet.{NoListenerFault}
-use Rattle.clause_store.specs.Refusal.{IsStoreRefusal}
+use Rattle.clause_store.specs.Refusal.{store_fault}
 use Rattle.clause_store.specs.Store.{AnswersStore, Stores, result_of, store_counters}
-use Rattle.clause_store.proofs.RefusalLemmas.{answers-refusal}
 use Rattle.checker_steps.specs.Derived.{derived, derived_steps, steps_unless, stored_in_kind, stored_steps}
 use Rattle.checker_steps.proofs.OutcomeLemmas.{and_then-accepted, and_then-refused, check-and_then, counters-after, counters-and_then}
-use Rattle.checker_steps.proofs.QuietLemmas.{quiet-refusal}
 
 -- what is shown of a clause that passed its check, with these propagations
 abbrev pub steps_of : State → Bool → List ℕ → List ℕ → List NamedStep
@@ -124,16 +120,14 @@ module _ (s : State) (redundant : Bool) (c hs : List ℕ) where
         let e = derived-checked ∙ stored_in_kind-refused redundant c t cause h.0 in
         (ap (λ (x : Outcome). x.refused) e, h.1 ∙ sym (ap (λ (x : Outcome). x.after) e))
 
-    pub answers-unstored : (u : State) (fault : StoreFault) (e : CheckerError) → AnswersStore (Err fault) c redundant t u →
-        IsStoreRefusal fault u.steps e → AnswersParts {A = Unit {0}} (Err e) (derived s redundant c hs) u
-    answers-unstored u faults.OutOfMemory e h k = subst (λ (x : CheckerError). AnswersParts {A = Unit {0}} (Err x) (derived s redundant c hs) u) (sym k) tt
-    answers-unstored u faults.IdsExhausted e h k = let o = derived-unstored u ids_exhausted h in
-        answers-refusal e u.steps causes.IdsExhausted ids_exhausted (derived s redundant c hs) u k refl o.0 o.1 refl
-    answers-unstored u faults.CountExhausted e h k = let o = derived-unstored u count_exhausted h in
-        answers-refusal e u.steps causes.CountExhausted count_exhausted (derived s redundant c hs) u k refl o.0 o.1 refl
+    pub answers-unstored : (u : State) (fault : StoreFault) → AnswersStore (Err fault) c redundant t u →
+        AnswersOutcome {A = Unit {0}} (Err (store_fault fault)) (derived s redundant c hs) u
+    answers-unstored u faults.OutOfMemory h = tt
+    answers-unstored u faults.IdsExhausted h = derived-unstored u ids_exhausted h
+    answers-unstored u faults.CountExhausted h = derived-unstored u count_exhausted h
 
 -- it is no fault of a processor
-pub quiet-unstored : (fault : StoreFault) (n : ℕ) (e : CheckerError) → IsStoreRefusal fault n e → NoListenerFault {A = Unit {0}} (Err e)
-quiet-unstored faults.OutOfMemory n e h = subst (λ (x : CheckerError). NoListenerFault {A = Unit {0}} (Err x)) (sym h) tt
-quiet-unstored faults.IdsExhausted n e h = quiet-refusal e n causes.IdsExhausted h
-quiet-unstored faults.CountExhausted n e h = quiet-refusal e n causes.CountExhausted h
+pub quiet-unstored : (fault : StoreFault) → NoListenerFault {A = Unit {0}} (Err (store_fault fault))
+quiet-unstored faults.OutOfMemory = tt
+quiet-unstored faults.IdsExhausted = tt
+quiet-unstored faults.CountExhausted = tt

@@ -13,8 +13,8 @@ use Rattle.checker_rules.specs.Traced.{traced}
 use Rattle.checker_rules.specs.Transcript.{TranscriptStep}
 use Rattle.checker_rules.specs.WellFormed.{WellFormed}
 use Rattle.checker_rules.proofs.TracedSteps.{traced_is_emitted}
-use Rattle.checker_parts.specs.declared.error.CheckerError.{CheckerError}
-use Rattle.checker_steps.specs.Delivered.{Listeners, Delivered}
+use Rattle.checker_parts.specs.declared.error.StepFault.{StepFault}
+use Rattle.checker_steps.specs.Delivered.{Listeners, DeliveredList}
 use Rattle.checker_steps.proofs.DeliveryLemmas.{delivered-weaker}
 
 -- `End` emits nothing
@@ -66,7 +66,7 @@ pub traced-emits : (s : State) (t : Step) (xs es : List NamedStep) → WellForme
 traced-emits s t xs es w here e = subst (Emits s t) (sym (e ∙ here)) (traced_is_emitted s t w)
 
 module _ {P T : Type 0} (took faulted : P → NamedStep → P → Type 0) (took_image faulted_image : T → TranscriptStep → T → Type 0) where
-  pub delivered-traced : {A : Type 0} (r : Result A CheckerError) (s : State) (t : Step) (xs : List NamedStep) (old new : Listeners P T) →
-      WellFormed s → xs ≡ traced s t → Delivered r (λ es. es ≡ xs) took faulted took_image faulted_image old new
-      → Delivered r (Emits s t) took faulted took_image faulted_image old new
+  pub delivered-traced : {A : Type 0} (r : Result A StepFault) (s : State) (t : Step) (xs : List NamedStep) (old new : Listeners P T) →
+      WellFormed s → xs ≡ traced s t → DeliveredList r (λ es. es ≡ xs) took faulted took_image faulted_image old new
+      → DeliveredList r (Emits s t) took faulted took_image faulted_image old new
   delivered-traced r s t xs old new w here h = delivered-weaker took faulted took_image faulted_image (λ es. es ≡ xs) (Emits s t) old new r (λ es e. traced-emits s t xs es w here e) h

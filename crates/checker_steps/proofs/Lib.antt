@@ -1,5 +1,6 @@
 pub mod AddClauseLemmas
 pub mod AtClauseLemmas
+pub mod CallAnswers
 pub mod CoreLemmas
 pub mod DeleteStepLemmas
 pub mod DeleteVarLemmas

@@ -1,20 +1,18 @@
 -- Steps counted and not, and the closing conflict.
 use Rattle.std.proofs.Common.{◌≡◌, ℕ, ◌<◌, ◌≤◌, ◌-◌, ◌^◌, true, false, ltb, Option, None, Some, Result, Ok, Err, refl, sym, ap, ◌∙◌, subst, arith, is_some}
 use Rattle.checker_rules.specs.Calls.{attempt, closing_conflict, count_step, step_limit}
-use Rattle.checker_rules.specs.Outcome.{Cause, Outcome, accept, ids_exhausted, refuse, steps_exhausted}
+use Rattle.checker_rules.specs.Outcome.{Outcome, accept, ids_exhausted, refuse, steps_exhausted}
 use Rattle.checker_rules.specs.State.{State}
 use Rattle.checker_rules.specs.Step.{Step, end_proof}
 use Rattle.checker_rules.specs.Steps.{step}
 use Rattle.checker_rules.specs.Store.{id_limit, take_id}
 use Rattle.checker_rules.proofs.Openings.{attempt-counted, attempt-exhausted, closing_conflict-exhausted, closing_conflict-taken}
 use Rattle.checker_rules.proofs.StepKinds.{step-end_proof}
-use Rattle.checker_parts.specs.Answers.{AnswersParts, IsRefusal}
-use Rattle.checker_parts.specs.Causes.{cause_of}
+use Rattle.checker_parts.specs.Faults.{AnswersOutcome}
 use Rattle.checker_parts.specs.declared.error.CheckCause.TheVariants.{StepsExhausted}
-use Rattle.checker_parts.specs.declared.error.CheckerError.{CheckerError}
-use Rattle.checker_parts.specs.declared.error.CheckerError.TheVariants.{ProofIncomplete, IoError, ParseError, CheckFailed, ProofProcessorError, OutOfMemory, Failed}
-use Rattle.clause_store.specs.Refusal.{IsSameFault, RefusesWith}
-use Rattle.clause_store.proofs.RefusalLemmas.{answers-refusal}
+use Rattle.checker_parts.specs.declared.error.StepFault.{StepFault}
+use Rattle.checker_parts.specs.declared.error.StepFault.TheVariants.{Refused}
+use Rattle.clause_store.proofs.RefusalLemmas.{answers-refuse}
 
 -- the closing conflict where one is recorded
 taken-by : (s : State) (o : Option (ℕ × ℕ)) → s.conflict ≡ o → (o ≡ None → ⊥) → ltb s.next id_limit ≡ true → closing_conflict s ≡ accept (take_id s)
@@ -38,9 +36,9 @@ pub closing-exhausted : (s : State) → (s.conflict ≡ None → ⊥) → (s.nex
 closing-exhausted s some room = none-by s s.conflict refl some (no-less s.next id_limit room)
 
 -- `End`
-pub end-answers : (s : State) (t : Step) → t ≡ end_proof → AnswersParts {A = Unit {0}} (Ok tt) (step s t) (record s { ended = true })
+pub end-answers : (s : State) (t : Step) → t ≡ end_proof → AnswersOutcome {A = Unit {0}} (Ok tt) (step s t) (record s { ended = true })
 end-answers s t e =
-    subst (λ (x : Step). AnswersParts {A = Unit {0}} (Ok tt) (step s x) (record s { ended = true })) (sym e)
+    subst (λ (x : Step). AnswersOutcome {A = Unit {0}} (Ok tt) (step s x) (record s { ended = true })) (sym e)
     (ap (λ (o : Outcome). o.refused) (step-end_proof s), sym (ap (λ (o : Outcome). o.after) (step-end_proof s)))
 
 -- a step number at its end
@@ -61,33 +59,12 @@ pub not-exhausted : (n : ℕ) → n < 2 ^ 64 → (n ≡ 2 ^ 64 - 1 → ⊥) → 
 unfolding step_limit
 not-exhausted n fits some none = some (omega (arith, fits, none))
 
-pub exhausted-answers : (e : CheckerError) (s : State) (t : Step) → RefusesWith s.steps StepsExhausted e → ltb s.steps step_limit ≡ false → AnswersParts {A = Unit {0}} (Err e) (attempt s t) s
-exhausted-answers e s t h none =
-    let is = attempt-exhausted s t none in
-    answers-refusal e s.steps StepsExhausted steps_exhausted (attempt s t) s h refl (ap (λ (x : Outcome). x.refused) is) (sym (ap (λ (x : Outcome). x.after) is)) refl
+pub attempt-refused : (s : State) (t : Step) → ltb s.steps step_limit ≡ false → AnswersOutcome {A = Unit {0}} (Err (Refused StepsExhausted)) (attempt s t) s
+attempt-refused s t none = answers-refuse steps_exhausted (attempt s t) s s (attempt-exhausted s t none) refl
 
 -- a counted step
-pub counted-answers : (r : Result (Unit {0}) CheckerError) (s u : State) (t : Step) → ltb s.steps step_limit ≡ true → AnswersParts r (step (count_step s) t) u → AnswersParts r (attempt s t) u
-counted-answers r s u t room h = subst (λ (o : Outcome). AnswersParts r o u) (sym (attempt-counted s t room)) h
-
--- another text of the step changes no answer
-same-refusal : (x y : Cause) (number n : ℕ) (o : Outcome) (s : State) → x ≡ y → number ≡ n → IsRefusal y n o s → IsRefusal x number o s
-same-refusal x y number n o s e f h = subst (λ (z : Cause). IsRefusal z number o s) (sym e) (subst (λ (m : ℕ). IsRefusal y m o s) (sym f) h)
-
-pub same-parts : (fault e : CheckerError) (o : Outcome) (s : State) → IsSameFault fault e → AnswersParts {A = Unit {0}} (Err fault) o s → AnswersParts {A = Unit {0}} (Err e) o s
-same-parts (CheckFailed n msg debug_step) (CheckFailed number found text) o s h k = same-refusal (cause_of found) (cause_of msg) number n o s (ap cause_of h.1) h.0 k
-same-parts (CheckFailed n msg debug_step) (ProofIncomplete number) o s h k = absurd h
-same-parts (CheckFailed n msg debug_step) (IoError number read) o s h k = absurd h
-same-parts (CheckFailed n msg debug_step) (ParseError number kind) o s h k = absurd h
-same-parts (CheckFailed n msg debug_step) (ProofProcessorError cause) o s h k = absurd h
-same-parts (CheckFailed n msg debug_step) OutOfMemory o s h k = absurd h
-same-parts (CheckFailed n msg debug_step) Failed o s h k = absurd h
-same-parts (ProofIncomplete n) e o s h k = absurd k
-same-parts (IoError n read) e o s h k = absurd k
-same-parts (ParseError n kind) e o s h k = absurd k
-same-parts (ProofProcessorError cause) e o s h k = subst (λ (x : CheckerError). AnswersParts {A = Unit {0}} (Err x) o s) (sym h) tt
-same-parts OutOfMemory e o s h k = subst (λ (x : CheckerError). AnswersParts {A = Unit {0}} (Err x) o s) (sym h) tt
-same-parts Failed e o s h k = absurd k
+pub counted-answers : (r : Result (Unit {0}) StepFault) (s u : State) (t : Step) → ltb s.steps step_limit ≡ true → AnswersOutcome r (step (count_step s) t) u → AnswersOutcome r (attempt s t) u
+counted-answers r s u t room h = subst (λ (o : Outcome). AnswersOutcome r o u) (sym (attempt-counted s t room)) h
 
 pub none-of : (o : Option (ℕ × ℕ)) → is_some o ≡ false → o ≡ None
 none-of None h = refl

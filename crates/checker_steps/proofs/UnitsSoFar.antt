@@ -14,13 +14,13 @@ use Rattle.checker_rules.specs.UnitClauses.{step_unit, step_unit_clauses}
 use Rattle.checker_rules.specs.WellFormed.{WellFormed}
 use Rattle.checker_rules.proofs.StepForms.{steps_keep_form}
 use Rattle.checker_rules.proofs.StepKinds.{step-unit_clauses}
-use Rattle.checker_parts.specs.Answers.{AnswersParts, IsRefusal}
+use Rattle.checker_parts.specs.Faults.{AnswersOutcome}
 use Rattle.checker_parts.specs.Causes.{cause_of}
-use Rattle.checker_parts.specs.declared.error.CheckerError.{CheckerError}
-use Rattle.checker_parts.specs.declared.error.CheckerError.TheVariants.{ProofIncomplete, IoError, ParseError, CheckFailed, ProofProcessorError, OutOfMemory, Failed}
+use Rattle.checker_parts.specs.declared.error.StepFault.{StepFault}
+use Rattle.checker_parts.specs.declared.error.StepFault.TheVariants.{Refused, Processor, OutOfMemory}
 use Rattle.clause_store.proofs.RefusalLemmas.{answers-part}
 use Rattle.checker_steps.specs.Derived.{derived_steps, steps_unless}
-use Rattle.checker_steps.specs.Delivered.{Listeners, Delivered, DeliveredWhole, RanOver}
+use Rattle.checker_steps.specs.Delivered.{Listeners, DeliveredList, DeliveredWhole, RanOver}
 use Rattle.checker_steps.proofs.DeliveryLemmas.{beginning-first, beginning-second, ran-append, ran-none}
 use Rattle.checker_steps.proofs.OutcomeLemmas.{and_then-accepted, and_then-refused}
 
@@ -111,7 +111,7 @@ module _ {P T : Type 0} (took faulted : P → NamedStep → P → Type 0) (took_
     unit-refused : (cause : Cause) → (step_unit r p).refused ≡ Some cause → step s (unit_clauses us) ≡ refuse cause (step_unit r p).after
     unit-refused cause e = step-unit_clauses s us ∙ far.same_outcome ∙ and_then-refused (step_unit r p) (λ u. step_unit_clauses u rest) cause e
 
-    pub so-far-refused : (e : CheckerError) (t : State) → AnswersParts {A = Unit {0}} (Err e) (step_unit r p) t → AnswersParts {A = Unit {0}} (Err e) (step s (unit_clauses us)) t
+    pub so-far-refused : (e : StepFault) (t : State) → AnswersOutcome {A = Unit {0}} (Err e) (step_unit r p) t → AnswersOutcome {A = Unit {0}} (Err e) (step s (unit_clauses us)) t
     so-far-refused e t h = answers-part e (step_unit r p) (step s (unit_clauses us)) t unit-refused h
 
     later : List NamedStep
@@ -121,27 +121,23 @@ module _ {P T : Type 0} (took faulted : P → NamedStep → P → Type 0) (took_
     unfolding later
     all-steps = far.same_steps ∙ ap (λ xs. far.told ++ xs) (steps-split r p rest)
 
-    whole-refused : (cause : Cause) (number : ℕ) (t : State) (new : Listeners P T) → IsRefusal cause number (step_unit r p) t →
+    whole-refused : (cause : Cause) (t : State) (new : Listeners P T) → (step_unit r p).refused ≡ Some cause →
         DeliveredWhole (λ es. es ≡ unit_steps r p) took took_image mid new →
         DeliveredWhole (λ es. es ≡ traced_units s us) took took_image old new
     unfolding later
-    whole-refused cause number t new h more =
-        let none : later ≡ [] = ap (λ (x : Option Cause). later_steps x (traced_units (step_unit r p).after rest)) h.0 in (
+    whole-refused cause t new h more =
+        let none : later ≡ [] = ap (λ (x : Option Cause). later_steps x (traced_units (step_unit r p).after rest)) h in (
           far.told ++ more.0,
           ap (λ xs. far.told ++ xs) (more.1 ∙ sym (ap (λ xs. unit_steps r p ++ xs) none ∙ append-nil (unit_steps r p))) ∙ sym all-steps,
           ran-append took faulted took_image faulted_image far.told more.0 old mid new far.ran more.2,
         )
 
-    pub so-far-stopped : (e : CheckerError) (t : State) (new : Listeners P T) → AnswersParts {A = Unit {0}} (Err e) (step_unit r p) t →
-        Delivered {A = Unit {0}} (Err e) (λ es. es ≡ unit_steps r p) took faulted took_image faulted_image mid new
-        → Delivered {A = Unit {0}} (Err e) (λ es. es ≡ traced_units s us) took faulted took_image faulted_image old new
-    so-far-stopped (CheckFailed number msg debug_step) t new h more = whole-refused (cause_of msg) number t new h more
-    so-far-stopped (ProofIncomplete number) t new h more = absurd h
-    so-far-stopped (IoError number cause) t new h more = absurd h
-    so-far-stopped (ParseError number cause) t new h more = absurd h
-    so-far-stopped (ProofProcessorError cause) t new h more =
+    pub so-far-stopped : (e : StepFault) (t : State) (new : Listeners P T) → AnswersOutcome {A = Unit {0}} (Err e) (step_unit r p) t →
+        DeliveredList {A = Unit {0}} (Err e) (λ es. es ≡ unit_steps r p) took faulted took_image faulted_image mid new
+        → DeliveredList {A = Unit {0}} (Err e) (λ es. es ≡ traced_units s us) took faulted took_image faulted_image old new
+    so-far-stopped (Refused cause) t new h more = whole-refused (cause_of cause) t new h.0 more
+    so-far-stopped Processor t new h more =
         beginning-second took faulted took_image faulted_image (λ es. es ≡ unit_steps r p ++ later) (λ es. es ≡ traced_units s us) far.told
         old mid new far.ran (λ es e. ap (λ xs. far.told ++ xs) e ∙ sym all-steps)
         (beginning-first took faulted took_image faulted_image (λ es. es ≡ unit_steps r p) (λ es. es ≡ unit_steps r p ++ later) later mid new (λ es e. ap (λ xs. xs ++ later) e) more)
     so-far-stopped OutOfMemory t new h more = tt
-    so-far-stopped Failed t new h more = absurd h

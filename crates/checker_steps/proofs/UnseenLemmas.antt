@@ -5,8 +5,8 @@ use Rattle.checker_rules.specs.CheckedSteps.{NamedStep, checked_at_clause}
 use Rattle.checker_rules.specs.Ran.{AllRan, AllTook, BothRan, OneStopped}
 use Rattle.checker_rules.specs.State.{Known}
 use Rattle.checker_rules.specs.Transcript.{TranscriptStep, and_images, image, image_of}
-use Rattle.checker_parts.specs.declared.error.CheckerError.{CheckerError}
-use Rattle.checker_parts.specs.declared.error.CheckerError.TheVariants.{ProofIncomplete, IoError, ParseError, CheckFailed, ProofProcessorError, OutOfMemory, Failed}
+use Rattle.checker_parts.specs.declared.error.StepFault.{StepFault}
+use Rattle.checker_parts.specs.declared.error.StepFault.TheVariants.{Refused, Processor, OutOfMemory}
 use Rattle.checker_steps.specs.Derived.{IsTraceFor}
 use Rattle.checker_steps.specs.Delivered.{Listeners, DeliveredStep}
 
@@ -45,20 +45,16 @@ module _ {P T : Type 0} (took faulted : P → NamedStep → P → Type 0) (took_
   stopped-unseen d e (p ∷ ps) qs ts us none same h = absurd cc
 
   -- with no processor, a step with the same image
-  pub delivers-unseen : {A : Type 0} (r : Result A CheckerError) (d e : NamedStep) (old new : Listeners P T) → old.processors ≡ [] →
+  pub delivers-unseen : {A : Type 0} (r : Result A StepFault) (d e : NamedStep) (old new : Listeners P T) → old.processors ≡ [] →
       image d ≡ image e → DeliveredStep r d took faulted took_image faulted_image old new →
       DeliveredStep r e took faulted took_image faulted_image old new
   delivers-unseen (Ok done) d e old new none same h = ran-unseen d e old.processors new.processors old.transcripts new.transcripts none same h
-  delivers-unseen (Err (ProofProcessorError cause)) d e old new none same h = stopped-unseen d e old.processors new.processors old.transcripts new.transcripts none same h
+  delivers-unseen (Err Processor) d e old new none same h = stopped-unseen d e old.processors new.processors old.transcripts new.transcripts none same h
   delivers-unseen (Err OutOfMemory) d e old new none same h = tt
-  delivers-unseen (Err (ProofIncomplete number)) d e old new none same h = h
-  delivers-unseen (Err (IoError number cause)) d e old new none same h = h
-  delivers-unseen (Err (ParseError number cause)) d e old new none same h = h
-  delivers-unseen (Err (CheckFailed number cause debug_step)) d e old new none same h = h
-  delivers-unseen (Err Failed) d e old new none same h = h
+  delivers-unseen (Err (Refused cause)) d e old new none same h = h
 
   -- a step that shows a list of ids, which only processors see
-  pub delivers-seen : {A : Type 0} (r : Result A CheckerError) (e : List ℕ → NamedStep) (ids told : List ℕ) (old new : Listeners P T) →
+  pub delivers-seen : {A : Type 0} (r : Result A StepFault) (e : List ℕ → NamedStep) (ids told : List ℕ) (old new : Listeners P T) →
       IsTraceFor old.processors told ids → image (e told) ≡ image (e ids)
       → DeliveredStep r (e told) took faulted took_image faulted_image old new → DeliveredStep r (e ids) took faulted took_image faulted_image old new
   delivers-seen r e ids told old new seen same h = by old.processors refl

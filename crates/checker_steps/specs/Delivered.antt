@@ -2,6 +2,7 @@
 --     Listeners P T, listeners_of p      the listeners in order of registration; those of the processing
 --     DeliveredStep r e .. old new      one step: every box took it, or one answered a fault at it
 --     DeliveredAll r es .. old new      several steps: every box took all of them, or one answered a fault
+--     DeliveredList r E .. old new      a whole step of a proof, with a list of E
 --     Delivered r E .. old new      a whole call: the listeners ran over a list of E, or over a beginning of one up to a fault
 use Rattle.std.specs.Prelude.{◌≡◌, List, [], ◌∷◌, ◌++◌, Result, Ok, Err}
 use Rattle.checker_rules.specs.CheckedSteps.{NamedStep}
@@ -9,6 +10,8 @@ use Rattle.checker_rules.specs.Ran.{BothRan, OneStopped, Stopped}
 use Rattle.checker_rules.specs.Transcript.{TranscriptStep}
 use Rattle.checker_parts.specs.declared.error.CheckerError.{CheckerError}
 use Rattle.checker_parts.specs.declared.error.CheckerError.TheVariants.{ProofIncomplete, IoError, ParseError, CheckFailed, ProofProcessorError, OutOfMemory, Failed}
+use Rattle.checker_parts.specs.declared.error.StepFault.{StepFault}
+use Rattle.checker_parts.specs.declared.error.StepFault.TheVariants as faults
 use Rattle.checker_steps.specs.declared.processing.ProcessingOf.{ProcessingOf}
 
 -- the registered processors and transcripts
@@ -30,22 +33,17 @@ RanOver took took_image es old new =
     BothRan took took_image old.processors old.transcripts es new.processors new.transcripts
 
 -- one step is delivered on; nothing is said where memory was refused
-abbrev pub DeliveredStep : {A P T : Type 0} → Result A CheckerError → NamedStep →
+abbrev pub DeliveredStep : {A P T : Type 0} → Result A StepFault → NamedStep →
     (took faulted : P → NamedStep → P → Type 0) →
     (took_image faulted_image : T → TranscriptStep → T → Type 0) → Listeners P T → Listeners P T →
     Type 0
 DeliveredStep (Ok done) e took faulted took_image faulted_image old new =
     RanOver took took_image (e ∷ []) old new
-DeliveredStep (Err (ProofProcessorError cause)) e took faulted took_image faulted_image old new =
+DeliveredStep (Err faults.Processor) e took faulted took_image faulted_image old new =
     OneStopped took faulted took_image faulted_image old.processors old.transcripts e new.processors
     new.transcripts
-DeliveredStep (Err OutOfMemory) e took faulted took_image faulted_image old new = Unit {0}
-DeliveredStep (Err (ProofIncomplete number)) e took faulted took_image faulted_image old new = ⊥
-DeliveredStep (Err (IoError number cause)) e took faulted took_image faulted_image old new = ⊥
-DeliveredStep (Err (ParseError number cause)) e took faulted took_image faulted_image old new = ⊥
-DeliveredStep (Err (CheckFailed number cause debug_step)) e took faulted took_image faulted_image
-    old new = ⊥
-DeliveredStep (Err Failed) e took faulted took_image faulted_image old new = ⊥
+DeliveredStep (Err faults.OutOfMemory) e took faulted took_image faulted_image old new = Unit {0}
+DeliveredStep (Err (faults.Refused cause)) e took faulted took_image faulted_image old new = ⊥
 
 -- the listeners ran over such a list
 abbrev pub DeliveredWhole : {P T : Type 0} → (List NamedStep → Type 0) →
@@ -65,21 +63,29 @@ DeliveredBeginning E took faulted took_image faulted_image old new =
     new.processors new.transcripts
 
 -- these steps are delivered on, up to a fault; nothing is said where memory was refused
-abbrev pub DeliveredAll : {A P T : Type 0} → Result A CheckerError → List NamedStep →
+abbrev pub DeliveredAll : {A P T : Type 0} → Result A StepFault → List NamedStep →
     (took faulted : P → NamedStep → P → Type 0) →
     (took_image faulted_image : T → TranscriptStep → T → Type 0) → Listeners P T → Listeners P T →
     Type 0
 DeliveredAll (Ok done) es took faulted took_image faulted_image old new =
     RanOver took took_image es old new
-DeliveredAll (Err (ProofProcessorError cause)) es took faulted took_image faulted_image old new =
+DeliveredAll (Err faults.Processor) es took faulted took_image faulted_image old new =
     DeliveredBeginning (λ xs. xs ≡ es) took faulted took_image faulted_image old new
-DeliveredAll (Err OutOfMemory) es took faulted took_image faulted_image old new = Unit {0}
-DeliveredAll (Err (ProofIncomplete number)) es took faulted took_image faulted_image old new = ⊥
-DeliveredAll (Err (IoError number cause)) es took faulted took_image faulted_image old new = ⊥
-DeliveredAll (Err (ParseError number cause)) es took faulted took_image faulted_image old new = ⊥
-DeliveredAll (Err (CheckFailed number cause debug_step)) es took faulted took_image faulted_image
-    old new = ⊥
-DeliveredAll (Err Failed) es took faulted took_image faulted_image old new = ⊥
+DeliveredAll (Err faults.OutOfMemory) es took faulted took_image faulted_image old new = Unit {0}
+DeliveredAll (Err (faults.Refused cause)) es took faulted took_image faulted_image old new = ⊥
+
+-- a list of E is delivered on, accepted or refused, up to a fault; nothing is said where memory was refused
+abbrev pub DeliveredList : {A P T : Type 0} → Result A StepFault → (List NamedStep → Type 0) →
+    (took faulted : P → NamedStep → P → Type 0) →
+    (took_image faulted_image : T → TranscriptStep → T → Type 0) → Listeners P T → Listeners P T →
+    Type 0
+DeliveredList (Ok done) E took faulted took_image faulted_image old new =
+    DeliveredWhole E took took_image old new
+DeliveredList (Err (faults.Refused cause)) E took faulted took_image faulted_image old new =
+    DeliveredWhole E took took_image old new
+DeliveredList (Err faults.Processor) E took faulted took_image faulted_image old new =
+    DeliveredBeginning E took faulted took_image faulted_image old new
+DeliveredList (Err faults.OutOfMemory) E took faulted took_image faulted_image old new = Unit {0}
 
 -- a call that emits a list of E, accepted or refused; nothing is said where memory was refused, and a checker that had failed delivers nothing on
 abbrev pub Delivered : {A P T : Type 0} → Result A CheckerError → (List NamedStep → Type 0) →

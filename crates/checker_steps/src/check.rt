@@ -1,21 +1,23 @@
 //! How steps and proofs are checked.
-ghost use Rattle.std.specs.Prelude.{◌≡◌, ◌≤◌, true, false};
+ghost use Rattle.std.specs.Prelude.{◌≡◌, ◌≢◌, ◌≤◌, Err, Ok, true, false};
 ghost use Rattle.checker_rules.specs.CallEmissions.{EmitsCall};
 ghost use Rattle.checker_rules.specs.Calls.{attempt, checks, closes, closing_conflict, step_limit};
 ghost use Rattle.checker_rules.specs.Emits.{Emits};
+ghost use Rattle.checker_rules.specs.Step as steps;
 ghost use Rattle.checker_rules.specs.Steps as rules;
 ghost use Rattle.checker_parts.specs.Answers.{AnswersParts, UnlessFailed};
+ghost use Rattle.checker_parts.specs.Faults.{AnswersOutcome, IsErrorOf, UnlessStopped, has_stopped};
 ghost use Rattle.checker_parts.specs.Memory.{NeedsNoMemory};
+ghost use Rattle.checker_parts.specs.declared.error.StepFault.TheVariants.{OutOfMemory, Refused};
 ghost use Rattle.proof_bytes.specs.NextStep.{view};
-ghost use Rattle.clause_store.specs.Refusal.{IsSameFault};
 ghost use Rattle.checker_steps.specs.Context.{ContextInvariant, context_state};
 ghost use Rattle.checker_steps.specs.Failing.{has_failed};
-ghost use Rattle.checker_steps.specs.Delivered.{Delivered, listeners_of};
+ghost use Rattle.checker_steps.specs.Delivered.{Delivered, DeliveredList, listeners_of};
 ghost use Rattle.checker_steps.specs.Idle.{wants_no_memory};
 
 use crate::context::ContextOf;
 use crate::emit::emit_at_clause;
-use crate::steps::add_clause::add_clause;
+use crate::processing::ProcessingOf;
 use crate::steps::assumptions::assumptions;
 use crate::steps::at_clause::at_clause;
 use crate::steps::change_hash_bits::change_hash_bits;
@@ -27,14 +29,35 @@ use crate::steps::model::model;
 use crate::steps::solver_var_name::solver_var_name;
 use crate::steps::unit_clauses::unit_clauses;
 use crate::steps::user_var_name::user_var_name;
-use checker_parts::error::{CheckCause, CheckerError};
+use checker_parts::error::{CheckCause, CheckerError, StepFault};
 use checker_parts::processor::{ProofProcessor, ProofTranscriptProcessor};
-use clause_store::refusal::refusal;
+use clause_store::state::CheckerState;
 use proof_bytes::ProofStep;
+use sat_formula::Lit;
 use std::alloc::Global;
 
+/// Adds an input clause.
+pub fn add_clause<P: ProofProcessor, T: ProofTranscriptProcessor>(
+    alloc: Global,
+    ctx: &mut ContextOf<P, T>,
+    lits: &[Lit],
+) -> Result<(), CheckerError>
+    requires { ContextInvariant ctx.old }
+    ensures step { AnswersParts result
+        (rules.step (context_state ctx.old) (steps.add_clause lits.now)) (context_state ctx.new) }
+    ensures kept { UnlessFailed result (ContextInvariant ctx.new) }
+    ensures delivered { Delivered result
+        (Emits (context_state ctx.old) (steps.add_clause lits.now))
+        P.took P.faulted T.took T.faulted (listeners_of ctx.old.processing)
+        (listeners_of ctx.new.processing) }
+    ensures after_unsat { (context_state ctx.old).unsat ≡ true →
+        (result ≡ Ok tt) × (ctx.new ≡ ctx.old) }
+{
+    let taken = crate::steps::add_clause::add_clause(alloc, ctx, lits);
+    ctx.processing.answer(alloc, ctx.checker_state.step, taken)
+}
+
 /// Checks one step. Its callers count it.
-#[inline(always)]
 pub fn check_step<P: ProofProcessor, T: ProofTranscriptProcessor>(
     alloc: Global,
     ctx: &mut ContextOf<P, T>,
@@ -50,13 +73,34 @@ pub fn check_step<P: ProofProcessor, T: ProofTranscriptProcessor>(
     ensures idle { wants_no_memory (context_state ctx.old).unsat (view step.now) ≡ true →
         has_failed result ≡ false }
 {
+    let taken = take_step(alloc, ctx, step);
+    ctx.processing.answer(alloc, ctx.checker_state.step, taken)
+}
+
+/// Takes one step, up to its fault.
+#[inline(always)]
+fn take_step<P: ProofProcessor, T: ProofTranscriptProcessor>(
+    alloc: Global,
+    ctx: &mut ContextOf<P, T>,
+    step: &ProofStep,
+) -> Result<(), StepFault>
+    requires { ContextInvariant ctx.old }
+    ensures step { AnswersOutcome result (rules.step (context_state ctx.old) (view step.now))
+        (context_state ctx.new) }
+    ensures kept { UnlessStopped result (ContextInvariant ctx.new) }
+    ensures delivered { DeliveredList result (Emits (context_state ctx.old) (view step.now))
+        P.took P.faulted T.took T.faulted (listeners_of ctx.old.processing)
+        (listeners_of ctx.new.processing) }
+    ensures idle { wants_no_memory (context_state ctx.old).unsat (view step.now) ≡ true →
+        has_stopped result ≡ false }
+{
     match step {
         ProofStep::SolverVarName { global, solver } => solver_var_name(ctx, *global, *solver),
-        ProofStep::UserVarName { global, user } => user_var_name(alloc, ctx, *global, *user),
-        ProofStep::ChangeSamplingMode { var, sample } => {
-            change_sampling_mode(alloc, ctx, *var, *sample)
+        ProofStep::UserVarName { global, user } => user_var_name(ctx, *global, *user),
+        ProofStep::ChangeSamplingMode { var, sample } => change_sampling_mode(ctx, *var, *sample),
+        ProofStep::AddClause { clause } => {
+            crate::steps::add_clause::add_clause(alloc, ctx, clause)
         }
-        ProofStep::AddClause { clause } => add_clause(alloc, ctx, clause),
         ProofStep::AtClause {
             redundant,
             clause,
@@ -64,10 +108,10 @@ pub fn check_step<P: ProofProcessor, T: ProofTranscriptProcessor>(
         } => at_clause(alloc, ctx, *redundant, clause, propagation_hashes),
         ProofStep::UnitClauses { units } => unit_clauses(alloc, ctx, units),
         ProofStep::DeleteClause { clause, proof } => delete_clause(alloc, ctx, *proof, clause),
-        ProofStep::DeleteVar { var } => delete_var(alloc, ctx, *var),
-        ProofStep::Model { assignment } => model(alloc, ctx, assignment),
+        ProofStep::DeleteVar { var } => delete_var(ctx, *var),
+        ProofStep::Model { assignment } => model(ctx, assignment),
         ProofStep::ChangeHashBits { bits } => change_hash_bits(alloc, ctx, *bits),
-        ProofStep::Assumptions { assumptions: lits } => assumptions(alloc, ctx, lits),
+        ProofStep::Assumptions { assumptions: lits } => assumptions(ctx, lits),
         ProofStep::FailedAssumptions {
             failed_core,
             propagation_hashes,
@@ -79,8 +123,49 @@ pub fn check_step<P: ProofProcessor, T: ProofTranscriptProcessor>(
     }
 }
 
-/// Counts a step and checks it. Where no step number is left it is refused before anything of it is looked at.
+/// Counts a step and takes it, up to its fault. Where no step number is left it is refused before anything of it is looked at.
 #[inline(always)]
+pub fn take_counted<P: ProofProcessor, T: ProofTranscriptProcessor>(
+    alloc: Global,
+    ctx: &mut ContextOf<P, T>,
+    step: &ProofStep,
+) -> Result<(), StepFault>
+    requires { ContextInvariant ctx.old }
+    ensures step { AnswersOutcome result (attempt (context_state ctx.old) (view step.now))
+        (context_state ctx.new) }
+    ensures kept { UnlessStopped result (ContextInvariant ctx.new) }
+    ensures delivered { DeliveredList result
+        (EmitsCall (context_state ctx.old) (checks (view step.now)))
+        P.took P.faulted T.took T.faulted (listeners_of ctx.old.processing)
+        (listeners_of ctx.new.processing) }
+    ensures idle { wants_no_memory (context_state ctx.old).unsat (view step.now) ≡ true →
+        has_stopped result ≡ false }
+    ensures exhausted { step_limit ≤ (context_state ctx.old).steps → has_stopped result ≡ false }
+{
+    if ctx.checker_state.step == u64::MAX {
+        return Err(StepFault::Refused(CheckCause::StepsExhausted));
+    }
+    ctx.checker_state.step += 1;
+    take_step(alloc, ctx, step)
+}
+
+/// The error of a step's fault at this number. A step that was refused is shown in it, where it was looked at.
+#[inline(never)]
+pub fn step_error<P: ProofProcessor, T: ProofTranscriptProcessor>(
+    alloc: Global,
+    processing: &mut ProcessingOf<P, T>,
+    number: u64,
+    fault: StepFault,
+    step: &ProofStep,
+) -> CheckerError
+    ensures error { IsErrorOf number fault result }
+    ensures listeners { listeners_of processing.new ≡ listeners_of processing.old }
+{
+    let text = refused_text(alloc, fault, step);
+    processing.error(number, fault, text)
+}
+
+/// Counts a step and checks it. Where no step number is left it is refused before anything of it is looked at.
 pub fn attempt_step<P: ProofProcessor, T: ProofTranscriptProcessor>(
     alloc: Global,
     ctx: &mut ContextOf<P, T>,
@@ -98,13 +183,12 @@ pub fn attempt_step<P: ProofProcessor, T: ProofTranscriptProcessor>(
         has_failed result ≡ false }
     ensures exhausted { step_limit ≤ (context_state ctx.old).steps → has_failed result ≡ false }
 {
-    if ctx.checker_state.step == u64::MAX {
-        return Err(refusal(alloc, &ctx.checker_state, CheckCause::StepsExhausted));
-    }
-    ctx.checker_state.step += 1;
-    match check_step(alloc, ctx, step) {
+    match take_counted(alloc, ctx, step) {
         Ok(()) => Ok(()),
-        Err(fault) => Err(with_step(alloc, fault, step)),
+        Err(fault) => {
+            let number = ctx.checker_state.step;
+            Err(step_error(alloc, &mut ctx.processing, number, fault, step))
+        }
     }
 }
 
@@ -122,6 +206,23 @@ pub fn process_unit_conflicts<P: ProofProcessor, T: ProofTranscriptProcessor>(
         (listeners_of ctx.new.processing) }
     ensures memory { NeedsNoMemory result }
 {
+    let closed = close_unit_conflict(ctx);
+    ctx.processing.answer(alloc, ctx.checker_state.step, closed)
+}
+
+/// The same, up to its fault.
+fn close_unit_conflict<P: ProofProcessor, T: ProofTranscriptProcessor>(
+    ctx: &mut ContextOf<P, T>,
+) -> Result<(), StepFault>
+    requires { ContextInvariant ctx.old }
+    ensures answer { AnswersOutcome result (closing_conflict (context_state ctx.old))
+        (context_state ctx.new) }
+    ensures kept { UnlessStopped result (ContextInvariant ctx.new) }
+    ensures delivered { DeliveredList result (EmitsCall (context_state ctx.old) closes)
+        P.took P.faulted T.took T.faulted (listeners_of ctx.old.processing)
+        (listeners_of ctx.new.processing) }
+    ensures memory { result ≢ Err OutOfMemory }
+{
     let Some((stored, refuting)) = ctx.clauses.unit_conflict else {
         return Ok(());
     };
@@ -134,27 +235,31 @@ pub fn process_unit_conflicts<P: ProofProcessor, T: ProofTranscriptProcessor>(
             &[],
             &[stored, refuting],
         ),
-        None => Err(refusal(alloc, &ctx.checker_state, CheckCause::IdsExhausted)),
+        None => Err(StepFault::Refused(CheckCause::IdsExhausted)),
     }
 }
 
-/// The fault with the text of the step that it refuses, where memory for it is found.
-#[inline(always)]
-fn with_step(alloc: Global, fault: CheckerError, refused: &ProofStep) -> CheckerError
-    ensures { IsSameFault fault result }
+/// A refusal at the present step, without the text of a step. Takes no memory.
+pub fn refusal(alloc: Global, state: &CheckerState, msg: CheckCause) -> CheckerError
+    ensures { IsErrorOf state.now.step (Refused msg) result }
 {
+    CheckerError::CheckFailed {
+        step: state.step,
+        msg,
+        debug_step: String::new(alloc),
+    }
+}
+
+/// The text of a step that is refused, where memory for it is found. Of another fault none is shown.
+fn refused_text(alloc: Global, fault: StepFault, refused: &ProofStep) -> String {
     match fault {
-        CheckerError::CheckFailed { step, msg, .. } => CheckerError::CheckFailed {
-            step,
-            msg,
-            debug_step: step_text(alloc, refused),
-        },
-        other => other,
+        StepFault::Refused(CheckCause::StepsExhausted) => String::new(alloc),
+        StepFault::Refused(_) => step_text(alloc, refused),
+        _ => String::new(alloc),
     }
 }
 
 /// The text of a step, or none where memory for it was refused. Refused user names and assumptions show none.
-#[inline(never)]
 fn step_text(alloc: Global, step: &ProofStep) -> String {
     if let ProofStep::UserVarName { .. } | ProofStep::Assumptions { .. } = step {
         return String::new(alloc);

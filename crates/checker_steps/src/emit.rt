@@ -1,15 +1,15 @@
 //! Checked steps made and handed on, one function a kind.
 //!
 //! Each makes its step alone: a function above that held one would have to name the types behind its references.
-ghost use Rattle.std.specs.Prelude.{false};
+ghost use Rattle.std.specs.Prelude.{◌≢◌, Err, false};
 ghost use Rattle.sat_formula.specs.Vars.{index_of};
 ghost use Rattle.checker_rules.specs.CheckedSteps.{checked_add_clause, checked_assumptions, checked_at_clause, checked_delete_at_clause, checked_delete_clause, checked_delete_rat_clause, checked_duplicated_clause, checked_failed_assumptions, checked_make_irredundant, checked_model, checked_tautological_clause, checked_user_var};
 ghost use Rattle.checker_parts.specs.CheckedSteps.{user_vars_of};
-ghost use Rattle.checker_parts.specs.Memory.{NeedsNoMemory};
+ghost use Rattle.checker_parts.specs.declared.error.StepFault.TheVariants.{OutOfMemory};
 ghost use Rattle.checker_steps.specs.Delivered.{DeliveredStep, listeners_of};
 
 use crate::processing::ProcessingOf;
-use checker_parts::error::CheckerError;
+use checker_parts::error::StepFault;
 use checker_parts::processor::{CheckerData, ProofProcessor, ProofTranscriptProcessor};
 use checker_parts::step::{CheckedProofStep, CheckedUserVar, ResolutionPropagations};
 use checker_parts::variables::Variables;
@@ -21,7 +21,7 @@ pub(crate) fn emit_add_clause<P: ProofProcessor, T: ProofTranscriptProcessor>(
     variables: &Variables,
     id: u64,
     clause: &[Lit],
-) -> Result<(), CheckerError>
+) -> Result<(), StepFault>
     ensures { DeliveredStep result (record {
       step = checked_add_clause id clause.now;
       names = variables.now;
@@ -40,7 +40,7 @@ pub(crate) fn emit_duplicated_clause<P: ProofProcessor, T: ProofTranscriptProces
     id: u64,
     same_as_id: u64,
     clause: &[Lit],
-) -> Result<(), CheckerError>
+) -> Result<(), StepFault>
     ensures { DeliveredStep result (record
         { step = checked_duplicated_clause id same_as_id clause.now; names = variables.now })
         P.took P.faulted T.took T.faulted (listeners_of processing.old)
@@ -61,7 +61,7 @@ pub(crate) fn emit_tautological_clause<P: ProofProcessor, T: ProofTranscriptProc
     variables: &Variables,
     id: u64,
     clause: &[Lit],
-) -> Result<(), CheckerError>
+) -> Result<(), StepFault>
     ensures { DeliveredStep result (record {
       step = checked_tautological_clause id clause.now;
       names = variables.now;
@@ -82,14 +82,14 @@ pub(crate) fn emit_at_clause<P: ProofProcessor, T: ProofTranscriptProcessor>(
     redundant: bool,
     clause: &[Lit],
     propagations: &[u64],
-) -> Result<(), CheckerError>
+) -> Result<(), StepFault>
     ensures delivers { DeliveredStep result
         (record {
           step = checked_at_clause id redundant clause.now propagations.now;
           names = variables.now;
         }) P.took P.faulted T.took T.faulted (listeners_of processing.old)
         (listeners_of processing.new) }
-    ensures memory { NeedsNoMemory result }
+    ensures memory { result ≢ Err OutOfMemory }
 {
     let _propagations = ResolutionPropagations {};
     let step = CheckedProofStep::AtClause {
@@ -107,7 +107,7 @@ pub(crate) fn emit_make_irredundant<P: ProofProcessor, T: ProofTranscriptProcess
     variables: &Variables,
     id: u64,
     clause: &[Lit],
-) -> Result<(), CheckerError>
+) -> Result<(), StepFault>
     ensures { DeliveredStep result (record {
       step = checked_make_irredundant id clause.now;
       names = variables.now;
@@ -126,7 +126,7 @@ pub(crate) fn emit_delete_clause<P: ProofProcessor, T: ProofTranscriptProcessor>
     variables: &Variables,
     id: u64,
     clause: &[Lit],
-) -> Result<(), CheckerError>
+) -> Result<(), StepFault>
     ensures { DeliveredStep result (record {
       step = checked_delete_clause id clause.now;
       names = variables.now;
@@ -147,7 +147,7 @@ pub(crate) fn emit_delete_at_clause<P: ProofProcessor, T: ProofTranscriptProcess
     keep_as_redundant: bool,
     clause: &[Lit],
     propagations: &[u64],
-) -> Result<(), CheckerError>
+) -> Result<(), StepFault>
     ensures { DeliveredStep result (record {
       step = checked_delete_at_clause id keep_as_redundant clause.now propagations.now;
       names = variables.now;
@@ -171,7 +171,7 @@ pub(crate) fn emit_delete_rat_clause<P: ProofProcessor, T: ProofTranscriptProces
     id: u64,
     clause: &[Lit],
     pivot: Lit,
-) -> Result<(), CheckerError>
+) -> Result<(), StepFault>
     ensures { DeliveredStep result (record
         { step = checked_delete_rat_clause id false clause.now pivot; names = variables.now })
         P.took P.faulted T.took T.faulted (listeners_of processing.old)
@@ -194,7 +194,7 @@ pub(crate) fn emit_user_var<P: ProofProcessor, T: ProofTranscriptProcessor>(
     variables: &Variables,
     var: Var,
     user_var: Option<CheckedUserVar>,
-) -> Result<(), CheckerError>
+) -> Result<(), StepFault>
     ensures { DeliveredStep result (record
         { step = checked_user_var (index_of var) (user_vars_of user_var); names = variables.now })
         P.took P.faulted T.took T.faulted (listeners_of processing.old)
@@ -210,7 +210,7 @@ pub(crate) fn emit_model<P: ProofProcessor, T: ProofTranscriptProcessor>(
     processing: &mut ProcessingOf<P, T>,
     variables: &Variables,
     assignment: &[Lit],
-) -> Result<(), CheckerError>
+) -> Result<(), StepFault>
     ensures { DeliveredStep result (record {
       step = checked_model assignment.now;
       names = variables.now;
@@ -227,7 +227,7 @@ pub(crate) fn emit_assumptions<P: ProofProcessor, T: ProofTranscriptProcessor>(
     processing: &mut ProcessingOf<P, T>,
     variables: &Variables,
     assumptions: &[Lit],
-) -> Result<(), CheckerError>
+) -> Result<(), StepFault>
     ensures { DeliveredStep result (record {
       step = checked_assumptions assumptions.now;
       names = variables.now;
@@ -245,7 +245,7 @@ pub(crate) fn emit_failed_assumptions<P: ProofProcessor, T: ProofTranscriptProce
     variables: &Variables,
     failed_core: &[Lit],
     propagations: &[u64],
-) -> Result<(), CheckerError>
+) -> Result<(), StepFault>
     ensures { DeliveredStep result (record {
       step = checked_failed_assumptions failed_core.now propagations.now;
       names = variables.now;

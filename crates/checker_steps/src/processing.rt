@@ -1,16 +1,18 @@
 //! The processors and transcripts that checked steps are handed to.
-ghost use Rattle.std.specs.Prelude.{◌≡◌, [], IfErr, OnOk, false};
+ghost use Rattle.std.specs.Prelude.{◌≡◌, ◌≢◌, [], Err, IfErr, Ok, OnOk, false};
 ghost use Rattle.checker_rules.specs.Ran.{AllTook, OneFaulted};
 ghost use Rattle.checker_parts.specs.CheckedSteps.{step_of, told, transcript_of};
-ghost use Rattle.checker_parts.specs.Errors.{IsFaultOrMemory};
-ghost use Rattle.checker_parts.specs.Memory.{NeedsNoMemory, lists_literals};
+ghost use Rattle.checker_parts.specs.Faults.{IsAnswerOf, IsErrorOf, IsFaultOrMemory};
+ghost use Rattle.checker_parts.specs.Memory.{lists_literals};
+ghost use Rattle.checker_parts.specs.declared.error.StepFault.TheVariants.{OutOfMemory};
 ghost use Rattle.checker_steps.specs.Delivered.{DeliveredStep, listeners_of};
 
-use checker_parts::error::CheckerError;
+use checker_parts::error::{CheckerError, StepFault};
 use checker_parts::processor::{CheckerData, ProofProcessor, ProofTranscriptProcessor};
 use checker_parts::step::{CheckedProofStep, ProofTranscriptStep};
 use checker_parts::transcript::Transcript;
 use std::alloc::Global;
+use std::mem::replace;
 
 /// The registered processors and transcripts, each in order of registration.
 #[derive(Drop)]
@@ -18,6 +20,8 @@ pub struct ProcessingOf<P, T> {
     pub processors: Vec<P>,
     pub transcript_processors: Vec<T>,
     transcript: Transcript,
+    /// What a processor or a transcript answered last in place of Ok.
+    fault: anyhow::Error,
 }
 
 /// The registered boxes.
@@ -32,36 +36,95 @@ impl<P: ProofProcessor, T: ProofTranscriptProcessor> ProcessingOf<P, T> {
             processors: Vec::new(alloc),
             transcript_processors: Vec::new(alloc),
             transcript: Transcript::new(alloc),
+            fault: no_fault(),
         }
     }
 
     /// Delivers a step to the processors, and then its image to the transcripts, each in order of registration, up to the first fault.
     ///
-    /// Where memory was refused, nothing is known of what the boxes took.
+    /// Where memory was refused, nothing is known of what the boxes took. A fault that one answers stays here until `error` takes it.
     #[inline(always)]
-    pub fn step(&mut self, step: &CheckedProofStep, names: CheckerData) -> Result<(), CheckerError>
+    pub fn step(&mut self, step: &CheckedProofStep, names: CheckerData) -> Result<(), StepFault>
         ensures delivers { DeliveredStep result (told step.now names.entry.0.now)
             P.took P.faulted T.took T.faulted (listeners_of self.old) (listeners_of self.new) }
-        ensures memory { lists_literals (step_of step.now) ≡ false → NeedsNoMemory result }
+        ensures memory { lists_literals (step_of step.now) ≡ false → result ≢ Err OutOfMemory }
     {
-        tell(&mut self.processors, step, names)?;
+        // Most runs register nothing, and then the step need not even be made.
+        if self.processors.is_empty() && self.transcript_processors.is_empty() {
+            Ok(())
+        } else {
+            self.deliver(step, names)
+        }
+    }
+
+    /// The same, whatever is registered.
+    #[inline(never)]
+    fn deliver(&mut self, step: &CheckedProofStep, names: CheckerData) -> Result<(), StepFault>
+        ensures delivers { DeliveredStep result (told step.now names.entry.0.now)
+            P.took P.faulted T.took T.faulted (listeners_of self.old) (listeners_of self.new) }
+        ensures memory { lists_literals (step_of step.now) ≡ false → result ≢ Err OutOfMemory }
+    {
+        tell(&mut self.processors, step, names, &mut self.fault)?;
         if self.transcript_processors.is_empty() {
             return Ok(());
         }
-        match self.transcript.transcript_step(step, names)? {
+        let Ok(image) = self.transcript.transcript_step(step, names) else {
+            return Err(StepFault::OutOfMemory);
+        };
+        match image {
             None => Ok(()),
-            Some(image) => tell_image(&mut self.transcript_processors, &image),
+            Some(image) => tell_image(&mut self.transcript_processors, &image, &mut self.fault),
+        }
+    }
+
+    /// The answer of a call whose step at this number answered so, without the text of a step.
+    pub(crate) fn answer(
+        &mut self,
+        alloc: Global,
+        number: u64,
+        taken: Result<(), StepFault>,
+    ) -> Result<(), CheckerError>
+        ensures answer { IsAnswerOf number taken result }
+        ensures listeners { listeners_of self.new ≡ listeners_of self.old }
+        ensures same { taken ≡ Ok tt → self.new ≡ self.old }
+    {
+        match taken {
+            Ok(()) => Ok(()),
+            Err(fault) => Err(self.error(number, fault, String::new(alloc))),
+        }
+    }
+
+    /// The error of a fault at this step number, with the text of the step that is refused.
+    pub fn error(&mut self, number: u64, fault: StepFault, debug_step: String) -> CheckerError
+        ensures error { IsErrorOf number fault result }
+        ensures listeners { listeners_of self.new ≡ listeners_of self.old }
+    {
+        match fault {
+            StepFault::Refused(msg) => CheckerError::CheckFailed {
+                step: number,
+                msg,
+                debug_step,
+            },
+            StepFault::Processor => CheckerError::ProofProcessorError {
+                cause: replace(&mut self.fault, no_fault()),
+            },
+            StepFault::OutOfMemory => CheckerError::OutOfMemory,
         }
     }
 }
 
+/// What stands where no fault was answered.
+fn no_fault() -> anyhow::Error {
+    anyhow::Error::msg("no fault")
+}
+
 /// Delivers a step to each processor, up to the first fault.
-#[inline(always)]
 fn tell<P: ProofProcessor>(
     processors: &mut [P],
     step: &CheckedProofStep,
     names: CheckerData,
-) -> Result<(), CheckerError>
+    fault: &mut anyhow::Error,
+) -> Result<(), StepFault>
     ensures ok { OnOk result (AllTook P.took processors.old (told step.now names.entry.0.now)
         processors.new) }
     ensures fault { IfErr result (λ e. IsFaultOrMemory e
@@ -70,7 +133,8 @@ fn tell<P: ProofProcessor>(
 {
     for processor in processors.iter_mut() {
         if let Err(cause) = processor.process_step(step, names) {
-            return Err(CheckerError::ProofProcessorError { cause });
+            *fault = cause;
+            return Err(StepFault::Processor);
         }
     }
     Ok(())
@@ -80,7 +144,8 @@ fn tell<P: ProofProcessor>(
 fn tell_image<T: ProofTranscriptProcessor>(
     transcripts: &mut [T],
     image: &ProofTranscriptStep,
-) -> Result<(), CheckerError>
+    fault: &mut anyhow::Error,
+) -> Result<(), StepFault>
     ensures ok { OnOk result (AllTook T.took transcripts.old (transcript_of image.now)
         transcripts.new) }
     ensures fault { IfErr result (λ e. IsFaultOrMemory e
@@ -88,7 +153,8 @@ fn tell_image<T: ProofTranscriptProcessor>(
 {
     for transcript in transcripts.iter_mut() {
         if let Err(cause) = transcript.process_step(image) {
-            return Err(CheckerError::ProofProcessorError { cause });
+            *fault = cause;
+            return Err(StepFault::Processor);
         }
     }
     Ok(())

@@ -4,10 +4,10 @@ ghost use Rattle.checker_rules.specs.Emits.{Emits};
 ghost use Rattle.checker_rules.specs.KnownVars.{is_sample, some_not_sampling};
 ghost use Rattle.checker_rules.specs.Step as rules;
 ghost use Rattle.checker_rules.specs.Steps.{step};
-ghost use Rattle.checker_parts.specs.Answers.{AnswersParts, UnlessFailed};
+ghost use Rattle.checker_parts.specs.Faults.{AnswersOutcome, UnlessStopped};
 ghost use Rattle.checker_parts.specs.CheckedSteps.{samples};
 ghost use Rattle.checker_parts.specs.Variables.{mode_of};
-ghost use Rattle.checker_parts.specs.declared.error.CheckerError.TheVariants.{OutOfMemory};
+ghost use Rattle.checker_parts.specs.declared.error.StepFault.TheVariants.{OutOfMemory};
 ghost use Rattle.sat_formula.specs.Vars.{index_of};
 ghost use Rattle.clause_store.specs.StateOf.{state_of};
 ghost use Rattle.clause_store.specs.declared.clauses.Clauses.{Clauses};
@@ -15,21 +15,18 @@ ghost use Rattle.clause_store.specs.declared.hash.ClauseHasher.{ClauseHasher};
 ghost use Rattle.clause_store.specs.declared.state.CheckerState.{CheckerState};
 ghost use Rattle.clause_store.specs.Growth.{KnowsVars};
 ghost use Rattle.clause_store.specs.Store.{IsStore};
-ghost use Rattle.checker_steps.specs.Delivered.{Delivered, listeners_of};
+ghost use Rattle.checker_steps.specs.Delivered.{DeliveredList, listeners_of};
 ghost use Rattle.checker_steps.specs.Naming.{IsNamingCause, sampling_var};
 
 use crate::emit::emit_user_var;
 use crate::processing::ProcessingOf;
-use checker_parts::error::{CheckCause, CheckerError};
+use checker_parts::error::{CheckCause, StepFault};
 use checker_parts::processor::{ProofProcessor, ProofTranscriptProcessor};
 use checker_parts::step::{CheckedSamplingMode, CheckedUserVar};
 pub use checker_parts::variables::{LitData, SamplingMode, VarData, Variables};
 use clause_store::clauses::Clauses;
-use clause_store::refusal::refusal;
-use clause_store::state::CheckerState;
 pub use clause_store::variables::ensure_vars;
 use sat_formula::{Lit, Var};
-use std::alloc::Global;
 
 /// Whether some known variable of the literals is not in mode `Sample`.
 pub(crate) fn some_not_sampling(variables: &Variables, lits: &[Lit]) -> bool
@@ -49,68 +46,62 @@ pub fn ensure_var(
     clauses: &mut Clauses,
     variables: &mut Variables,
     var: Var,
-) -> Result<(), CheckerError>
+) -> Result<(), StepFault>
     requires { length clauses.old.unit_clauses ≡ length variables.old }
     ensures known { OnOk result (KnowsVars (suc (index_of var)) clauses.old variables.old
         clauses.new variables.new) }
     ensures memory { OnErr result (result ≡ Err OutOfMemory) }
 {
-    match ensure_vars(clauses, variables, var.index() + 1) {
-        Ok(()) => Ok(()),
-        Err(_) => Err(CheckerError::OutOfMemory),
-    }
+    ensure_vars(clauses, variables, var.index() + 1)?;
+    Ok(())
 }
 
 /// Makes a variable known as `ensure_var` does, unless it is known and in another mode than `Sample`.
 pub fn ensure_sampling_var(
-    alloc: Global,
-    state: &CheckerState,
     clauses: &mut Clauses,
     variables: &mut Variables,
     var: Var,
-) -> Result<(), CheckerError>
+) -> Result<(), StepFault>
     requires { length clauses.old.unit_clauses ≡ length variables.old }
-    ensures answer { (h : ClauseHasher) →
-        AnswersParts result (sampling_var (index_of var)
-        (state_of state.now h clauses.old variables.old))
-        (state_of state.now h clauses.new variables.new) }
+    ensures answer { (st : CheckerState) (h : ClauseHasher) →
+        AnswersOutcome result (sampling_var (index_of var)
+        (state_of st h clauses.old variables.old))
+        (state_of st h clauses.new variables.new) }
     ensures store { (h : ClauseHasher) → IsStore h clauses.old →
-        UnlessFailed result (IsStore h clauses.new) }
-    ensures known { UnlessFailed result (length clauses.new.unit_clauses ≡ length variables.new) }
+        UnlessStopped result (IsStore h clauses.new) }
+    ensures known { UnlessStopped result (length clauses.new.unit_clauses ≡ length variables.new) }
 {
     if variables.get(var).sampling_mode != SamplingMode::Sample {
-        return Err(refusal(alloc, state, CheckCause::NotSampling));
+        return Err(StepFault::Refused(CheckCause::NotSampling));
     }
     ensure_var(clauses, variables, var)
 }
 
 /// Gives a variable a user name, and hands that on with the names after it.
 pub fn add_user_mapping<P: ProofProcessor, T: ProofTranscriptProcessor>(
-    alloc: Global,
-    state: &CheckerState,
     clauses: &mut Clauses,
     variables: &mut Variables,
     processing: &mut ProcessingOf<P, T>,
     global: Var,
     user_var: Var,
-) -> Result<(), CheckerError>
+) -> Result<(), StepFault>
     requires { length clauses.old.unit_clauses ≡ length variables.old }
-    ensures step { (h : ClauseHasher) →
-        AnswersParts result (step (state_of state.now h clauses.old variables.old)
+    ensures step { (st : CheckerState) (h : ClauseHasher) →
+        AnswersOutcome result (step (state_of st h clauses.old variables.old)
         (rules.user_var_name (index_of global) (Some (index_of user_var))))
-        (state_of state.now h clauses.new variables.new) }
+        (state_of st h clauses.new variables.new) }
     ensures store { (h : ClauseHasher) → IsStore h clauses.old →
-        UnlessFailed result (IsStore h clauses.new) }
-    ensures known { UnlessFailed result (length clauses.new.unit_clauses ≡ length variables.new) }
-    ensures delivered { (h : ClauseHasher) →
-        Delivered result (Emits (state_of state.now h clauses.old variables.old)
+        UnlessStopped result (IsStore h clauses.new) }
+    ensures known { UnlessStopped result (length clauses.new.unit_clauses ≡ length variables.new) }
+    ensures delivered { (st : CheckerState) (h : ClauseHasher) →
+        DeliveredList result (Emits (state_of st h clauses.old variables.old)
         (rules.user_var_name (index_of global) (Some (index_of user_var))))
         P.took P.faulted T.took T.faulted (listeners_of processing.old)
         (listeners_of processing.new) }
 {
     ensure_var(clauses, variables, global)?;
-    if let Some(msg) = naming_cause(variables, global, user_var) {
-        return Err(refusal(alloc, state, msg));
+    if let Some(cause) = naming_cause(variables, global, user_var) {
+        return Err(StepFault::Refused(cause));
     }
     let named = CheckedUserVar {
         user_var,
@@ -123,29 +114,27 @@ pub fn add_user_mapping<P: ProofProcessor, T: ProofTranscriptProcessor>(
 
 /// Takes the user name from a variable and hides it. That is handed on with the names before it.
 pub fn remove_user_mapping<P: ProofProcessor, T: ProofTranscriptProcessor>(
-    alloc: Global,
-    state: &CheckerState,
     clauses: &mut Clauses,
     variables: &mut Variables,
     processing: &mut ProcessingOf<P, T>,
     global: Var,
-) -> Result<(), CheckerError>
+) -> Result<(), StepFault>
     requires { length clauses.old.unit_clauses ≡ length variables.old }
-    ensures step { (h : ClauseHasher) →
-        AnswersParts result (step (state_of state.now h clauses.old variables.old)
+    ensures step { (st : CheckerState) (h : ClauseHasher) →
+        AnswersOutcome result (step (state_of st h clauses.old variables.old)
         (rules.user_var_name (index_of global) None))
-        (state_of state.now h clauses.new variables.new) }
+        (state_of st h clauses.new variables.new) }
     ensures store { (h : ClauseHasher) → IsStore h clauses.old →
-        UnlessFailed result (IsStore h clauses.new) }
-    ensures known { UnlessFailed result (length clauses.new.unit_clauses ≡ length variables.new) }
-    ensures delivered { (h : ClauseHasher) →
-        Delivered result (Emits (state_of state.now h clauses.old variables.old)
+        UnlessStopped result (IsStore h clauses.new) }
+    ensures known { UnlessStopped result (length clauses.new.unit_clauses ≡ length variables.new) }
+    ensures delivered { (st : CheckerState) (h : ClauseHasher) →
+        DeliveredList result (Emits (state_of st h clauses.old variables.old)
         (rules.user_var_name (index_of global) None)) P.took P.faulted T.took T.faulted
         (listeners_of processing.old) (listeners_of processing.new) }
 {
     ensure_var(clauses, variables, global)?;
     if variables.get(global).user_var.is_none() {
-        return Err(refusal(alloc, state, CheckCause::NoNameToRemove));
+        return Err(StepFault::Refused(CheckCause::NoNameToRemove));
     }
     emit_user_var(processing, variables, global, None)?;
     variables.hide(global);

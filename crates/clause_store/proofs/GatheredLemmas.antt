@@ -45,7 +45,7 @@ module _ (buffer : List ℕ) (m : Buckets) where
       ∙ ap (λ xs. xs ++ map (stored_of buffer) (flat_map (λ b. b.items) (values_of es))) (ap (λ o. map (stored_of buffer) (bucket_items o)) (sym (found 0 e (omega arith))))
       ∙ ap (λ xs. stored_in buffer m e.0 ++ xs) (flat_map-entries es (λ k d l. found (suc k) d (omega (arith, l))))
 
-  found_all : IsUnique nat_eq m → All (λ e. get nat_eq m e.0 ≡ Some e.1) m.entries
+  pub found_all : IsUnique nat_eq m → All (λ e. get nat_eq m e.0 ≡ Some e.1) m.entries
   found_all unique i d l = hash_map_get_place nat_eq_equiv m i _ _ unique (slice_get-get_or m.entries i d l)
 
 ids_rise-by : (all : List Clause) → IsNonDecreasingBy (λ c. c.id) all → IsNonDecreasing (map (λ c. c.id) all)

@@ -4,7 +4,7 @@ use Rattle.std.specs.List.{list_all}
 use Rattle.std.specs.Option.{option_map}
 use Rattle.std.proofs.lemmas.Grind.{common_steps}
 use Rattle.std.proofs.lemmas.Bool.{and_from, and_parts}
-use Rattle.std.proofs.lemmas.List.{length-map, length-replicate, map-append}
+use Rattle.std.proofs.lemmas.List.{append-nil, length-map, length-replicate, map-append}
 use Rattle.checker_rules.specs.KnownVars.{new_known}
 use Rattle.checker_rules.specs.State.{Known}
 use Rattle.clause_store.specs.declared.clauses.Clauses.{Clauses}
@@ -40,6 +40,16 @@ knows_vars count cs known us counts known' same grown counted more = record {
   same = rw (grown, more) (grind (arith, common_steps, same));
   enough = rw grown (grind (arith, common_steps));
 }
+
+-- where they are known already
+none-more : {A : Type 0} (x : A) (xs : List A) (n : ℕ) → n ≡ 0 → xs ≡ xs ++ replicate n x
+none-more x xs n none = sym (append-nil xs) ∙ ap (λ k. xs ++ replicate k x) (sym none)
+
+pub knows_none : (count : ℕ) (cs : Clauses) (known : List Known) → length cs.unit_clauses ≡ length known → length cs.lit_counts ≡ 2 * length cs.unit_clauses →
+    count ≤ length cs.unit_clauses → KnowsVars count cs known cs known
+knows_none count cs known same counted enough =
+    knows_vars count cs known cs.unit_clauses cs.lit_counts known same (none-more None cs.unit_clauses _ (omega (arith, enough)))
+    (none-more 0 cs.lit_counts _ (omega (arith, enough, counted))) (none-more new_known known _ (omega (arith, enough, same)))
 
 all-free : (n : ℕ) → list_all is_stored_unit (replicate n None) ≡ true
 all-free zero = refl

@@ -1,10 +1,17 @@
 -- Hashes, literal by literal.
-use Rattle.std.proofs.Common.{◌≡◌, ℕ, ◌+◌, ◌-◌, ◌*◌, ◌/◌, ◌%◌, ◌^◌, ◌<◌, cond, not, eqb, List, Option, Some, None, length, get_or, drop, refl, sym, ap, ◌∙◌, arith}
+use Rattle.std.proofs.Common.{◌≡◌, ℕ, ◌+◌, ◌-◌, ◌*◌, ◌/◌, ◌%◌, ◌^◌, ◌<◌, cond, not, eqb, nat_eq, List, Option, Some, None, length, get_or, drop, refl, sym, ap, ◌∙◌, arith}
+use Rattle.std.specs.HashMap.{HashMap, hash_map_len}
 use Rattle.std.specs.Int.Bits.{bit_xor, xor_assoc, xor_zero_r}
+use Rattle.std.specs.Map.{lookup}
+use Rattle.std.specs.declared.hash.BuildHasherDefault.{BuildHasherDefault}
+use Rattle.std.specs.declared.hash.FoldHasher.{FoldHasher}
 use Rattle.std.proofs.lemmas.Bool.Decides.{nat_tests}
-use Rattle.std.proofs.lemmas.List.{at_drop_more, at_drop_all}
+use Rattle.std.proofs.lemmas.List.{at_drop_more, at_drop_all, nil_from_length}
+use Rattle.sat_formula.specs.Vars.{indexes_of}
+use Rattle.sat_formula.specs.declared.lit.Var.{Var}
 use Rattle.checker_rules.specs.Clauses.{is_negative, var_of}
 use Rattle.checker_rules.specs.State.{clause_hash, lit_code_hash, named_hash, xor_hash}
+use Rattle.clause_store.specs.Names.{names_of}
 
 pub named_hash-Some : (v m : ℕ) → named_hash (Some v) m ≡ lit_code_hash (2 * v + cond (not (is_negative m)) 0 1)
 unfolding named_hash
@@ -31,6 +38,13 @@ module _ (names : ℕ → Option ℕ) where
   pub xor_hash-all : (c : List ℕ) (i n : ℕ) → i ≡ length c → bit_xor n (xor_hash names (drop i c)) ≡ xor_hash names c → n ≡ xor_hash names c
   unfolding xor_hash
   xor_hash-all c i n e h = sym (xor_zero_r n) ∙ ap (bit_xor n) (sym (at_drop_all (xor_hash names) c i (omega (arith, e)))) ∙ h
+
+-- where no variable has a name
+pub names_of-empty : (m : HashMap ℕ Var (BuildHasherDefault FoldHasher)) → hash_map_len m ≡ 0 → (v : ℕ) → names_of m v ≡ None
+names_of-empty m none v = ap (λ es. indexes_of (lookup (nat_eq v) es)) (nil_from_length m.entries none)
+
+pub xor_hash-unnamed : (names : ℕ → Option ℕ) (c : List ℕ) → ((v : ℕ) → names v ≡ None) → xor_hash names c ≡ xor_hash (λ v. None) c
+xor_hash-unnamed names c none = λ i. xor_hash (λ v. none v i) c
 
 pub clause_hash-is : (names : ℕ → Option ℕ) (width : ℕ) (c : List ℕ) → clause_hash names width c ≡ xor_hash names c / 2 ^ (64 - width)
 unfolding clause_hash

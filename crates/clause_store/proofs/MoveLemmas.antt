@@ -1,9 +1,14 @@
 -- Clauses moved to another buffer.
-use Rattle.std.proofs.Common.{◌≡◌, ℕ, zero, suc, ◌+◌, ◌<◌, ◌≤◌, true, false, not, List, [], ◌∷◌, ◌++◌, length, get_or, take, map, All, sym, ap, ◌∙◌, arith}
-use Rattle.std.specs.List.{list_all}
-use Rattle.std.proofs.lemmas.Bool.{and_parts, not-true}
-use Rattle.std.proofs.lemmas.List.{map-append, map_more}
+use Rattle.std.proofs.Common.{◌≡◌, ℕ, zero, suc, ◌+◌, ◌<◌, ◌≤◌, true, false, cond, not, nat_eq, List, [], ◌∷◌, ◌++◌, length, get_or, take, map, Some, None, All, refl, sym, ap, ◌∙◌, arith, ⊎_elim}
+use Rattle.std.specs.HashMap.{get}
+use Rattle.std.specs.List.{flat_map, list_all, sum_by}
+use Rattle.std.specs.List.Sorted.{IsPermutation}
+use Rattle.std.specs.Map.{lookup, values_of}
+use Rattle.std.proofs.lemmas.Bool.{and_parts, cases_eq, ne_eqb, not-true}
+use Rattle.std.proofs.lemmas.List.{length-take, map-append, map_more, take-take}
 use Rattle.std.proofs.lemmas.List.Elements.{All-push}
+use Rattle.std.proofs.lemmas.List.Sorted.{sum_by-IsPermutation}
+use Rattle.std.proofs.lemmas.List.Sums.{sum_by-cons}
 use Rattle.checker_rules.specs.Buckets.{of_hash}
 use Rattle.checker_rules.specs.DeleteClause.{is_short}
 use Rattle.checker_rules.specs.LiveLiterals.{live_literals, live_of}
@@ -12,11 +17,13 @@ use Rattle.checker_rules.specs.Store.{is_gone}
 use Rattle.checker_rules.proofs.Orders.{live_literals_add}
 use Rattle.clause_store.specs.declared.clauses.Clause.{Clause}
 use Rattle.clause_store.specs.declared.clauses.lits.ClauseLits.{ClauseLits}
-use Rattle.clause_store.specs.Buckets.{Buckets}
+use Rattle.smallvec.specs.SmallVec.{SmallVec}
+use Rattle.clause_store.specs.Buckets.{AreWithin, Buckets, bucket_items, clauses_at}
 use Rattle.clause_store.specs.Lits.{IsWithin, lits_of}
 use Rattle.clause_store.specs.Store.{is_whole}
 use Rattle.clause_store.specs.View.{stored_in, stored_of}
 use Rattle.clause_store.proofs.BufferLemmas.{stored_of-kept}
+use Rattle.clause_store.proofs.EditLemmas.{within_others}
 
 long_from : (c : List ℕ) → is_short c ≡ false → 1 < length c
 long_from [] h = cc
@@ -45,13 +52,63 @@ module _ (buffer old new : List ℕ) (all moved : List Clause) (i : ℕ) (c : Cl
   pub moved-within : All (λ c. IsWithin c.lits old) moved → length old ≤ length new → IsWithin ls new → All (λ c. IsWithin c.lits new) (moved ++ record c { lits = ls } ∷ [])
   moved-within within longer inside = All-push (λ c. IsWithin c.lits new) moved (record c { lits = ls }) (λ k d l. let w = within k d l in omega (arith, w, longer)) inside
 
-  pub moved-used : length new ≡ length old + live_of (lits_of c.lits buffer) →
-      length old ≡ live_literals (map (stored_of buffer) (take i all)) →
-      length new ≡ live_literals (map (stored_of buffer) (take (i + 1) all))
-  moved-used grown used =
-      let live = live_literals_add.pushed (map (stored_of buffer) (take i all)) (stored_of buffer c) in
-      grown ∙ ap (λ n. n + live_of (lits_of c.lits buffer)) used ∙ sym live
-      ∙ ap (λ x. live_literals (map (stored_of buffer) (take i all) ++ stored_of buffer x ∷ [])) here ∙ sym (ap live_literals (map_more (stored_of buffer) all i c before))
+  pub moved-used : (base : ℕ) → length new ≡ length old + live_of (lits_of c.lits buffer) →
+      length old ≡ base + live_literals (map (stored_of buffer) (take i all)) →
+      length new ≡ base + live_literals (map (stored_of buffer) (take (i + 1) all))
+  moved-used base grown used =
+      let more : live_literals (map (stored_of buffer) (take i all)) + live_of (lits_of c.lits buffer) ≡ live_literals (map (stored_of buffer) (take (i + 1) all)) =
+      sym (live_literals_add.pushed (map (stored_of buffer) (take i all)) (stored_of buffer c))
+      ∙ ap (λ x. live_literals (map (stored_of buffer) (take i all) ++ stored_of buffer x ∷ [])) here
+      ∙ sym (ap live_literals (map_more (stored_of buffer) all i c before)) in
+      omega (arith, grown, used, more)
+
+-- what stood first stays so
+pub kept-further : (first old new : List ℕ) → take (length first) old ≡ first → take (length old) new ≡ old → take (length first) new ≡ first
+kept-further first old new kept more =
+    let least : length first ≤ length old = let n = ap length kept in let m = length-take (length first) old in omega (arith, n, m) in
+    sym (take-take (length first) (length old) new least) ∙ ap (take (length first)) more ∙ kept
+
+-- the live literals of two lists, and of the same in another order
+live_literals-append : (es fs : List Stored) → live_literals (es ++ fs) ≡ live_literals es + live_literals fs
+live_literals-append [] fs = omega arith
+live_literals-append (e ∷ es) fs = let rest = live_literals-append es fs in omega (arith, rest)
+
+live_literals-sum : (es : List Stored) → live_literals es ≡ sum_by (λ e. live_of e.lits) es
+live_literals-sum [] = refl
+live_literals-sum (e ∷ es) = ap (λ n. live_of e.lits + n) (live_literals-sum es) ∙ sym (sum_by-cons (λ (e' : Stored). live_of e'.lits) e es)
+
+pub live_literals-order : (es fs : List Stored) → IsPermutation es fs → live_literals fs ≡ live_literals es
+live_literals-order es fs p = live_literals-sum fs ∙ sum_by-IsPermutation (λ e. live_of e.lits) es fs p ∙ sym (live_literals-sum es)
+
+-- the clauses of a list of buckets
+abbrev pub clauses_in : List (ℕ × SmallVec Clause) → List Clause
+clauses_in es = flat_map (λ b. b.items) (values_of es)
+
+-- one bucket more is moved, and the others still are to be
+module _ (buffer old new : List ℕ) (m moved moved' : Buckets) (hash : ℕ) (b : SmallVec Clause) (rest : List (ℕ × SmallVec Clause))
+    (within : AreWithin old moved) (kept : take (length old) new ≡ old)
+    (others : (k : ℕ) → (k ≡ hash → ⊥) → clauses_at moved' k ≡ clauses_at moved k) where
+  pub bucket-same : get nat_eq m hash ≡ Some b → stored_in new moved' hash ≡ map (stored_of buffer) b.items →
+      ((k : ℕ) → lookup (nat_eq k) ((hash, b) ∷ rest) ≡ None → stored_in old moved k ≡ stored_in buffer m k) →
+      (k : ℕ) → lookup (nat_eq k) rest ≡ None → stored_in new moved' k ≡ stored_in buffer m k
+  bucket-same found here same k none =
+      ⊎_elim {C = stored_in new moved' k ≡ stored_in buffer m k}
+      (λ e. ap (stored_in new moved') e ∙ here ∙ ap (λ o. map (stored_of buffer) (bucket_items o)) (sym found) ∙ ap (stored_in buffer m) (sym e))
+      (λ ne. ap (map (stored_of new)) (others k ne) ∙ stored_of-kept old new kept (clauses_at moved k) (within k)
+      ∙ same k (ap (λ t. cond t (Some b) (lookup (nat_eq k) rest)) (ne_eqb k hash ne) ∙ none))
+      (cases_eq k hash)
+
+  pub bucket-within : length old ≤ length new → All (λ c. IsWithin c.lits new) (clauses_at moved' hash) → AreWithin new moved'
+  bucket-within longer here = within_others new moved moved' hash (λ k i c l. let w = within k i c l in omega (arith, w, longer)) here others
+
+  pub bucket-used : (before : ℕ) → length new ≡ length old + live_literals (map (stored_of buffer) b.items) →
+      length old + live_literals (map (stored_of buffer) (clauses_in ((hash, b) ∷ rest))) ≡ before →
+      length new + live_literals (map (stored_of buffer) (clauses_in rest)) ≡ before
+  bucket-used before grown used =
+      let parts : live_literals (map (stored_of buffer) (clauses_in ((hash, b) ∷ rest))) ≡
+      live_literals (map (stored_of buffer) b.items) + live_literals (map (stored_of buffer) (clauses_in rest)) =
+      ap live_literals (map-append (stored_of buffer) b.items (clauses_in rest)) ∙ live_literals-append (map (stored_of buffer) b.items) (map (stored_of buffer) (clauses_in rest)) in
+      omega (arith, grown, used, parts)
 
 -- new buckets hold the clauses by their hashes, where they were made of the same clauses
 pub rebuilt_by : (f : List ℕ → ℕ) (m : Buckets) (es : List Stored) (buffer b : List ℕ) (all xs : List Clause) → b ≡ buffer → xs ≡ all →

@@ -4,14 +4,10 @@ use Rattle.checker_rules.specs.DeleteClause.{delete_justified}
 use Rattle.checker_rules.specs.Outcome.{accept, delete_irredundant_is_redundant, delete_redundant_is_irredundant, delete_unit_or_empty, delete_unknown, refuse}
 use Rattle.checker_rules.specs.State.{State}
 use Rattle.checker_rules.specs.Store.{count_of, id_among}
-use Rattle.checker_parts.specs.declared.error.CheckCause.TheVariants as causes
-use Rattle.checker_parts.specs.declared.error.CheckerError.{CheckerError}
-use Rattle.checker_parts.specs.declared.error.CheckerError.TheVariants as errors
 use Rattle.clause_store.specs.declared.clauses.DeleteClauseResult.{DeleteClauseResult}
 use Rattle.clause_store.specs.declared.clauses.DeleteClauseResult.TheVariants.{Unchanged, NewlyRedundant, Removed}
 use Rattle.clause_store.specs.declared.clauses.delete.DeleteFault.{DeleteFault}
 use Rattle.clause_store.specs.declared.clauses.delete.DeleteFault.TheVariants.{OutOfMemory, UnitOrEmpty, Unknown, NoCopy}
-use Rattle.clause_store.specs.Refusal.{RefusesWith}
 
 -- what the deletion of a copy did to a clause of which so many copies are left
 abbrev pub deleted_as : Bool → ℕ → ℕ → DeleteClauseResult
@@ -49,12 +45,3 @@ UnlessOutOfMemory (Err OutOfMemory) P = Unit {0}
 UnlessOutOfMemory (Err UnitOrEmpty) P = P
 UnlessOutOfMemory (Err Unknown) P = P
 UnlessOutOfMemory (Err NoCopy) P = P
-
--- the error for a copy that was not deleted, at this step
-abbrev pub IsDeleteError : DeleteFault → Bool → ℕ → CheckerError → Type 0
-IsDeleteError OutOfMemory redundant n e = e ≡ errors.OutOfMemory
-IsDeleteError UnitOrEmpty redundant n e = RefusesWith n causes.DeleteUnitOrEmpty e
-IsDeleteError Unknown redundant n e = RefusesWith n causes.DeleteUnknown e
-IsDeleteError NoCopy redundant n e =
-    RefusesWith n (if redundant then causes.DeleteRedundantIsIrredundant
-    else causes.DeleteIrredundantIsRedundant) e

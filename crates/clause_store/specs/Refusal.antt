@@ -1,34 +1,24 @@
--- Refusals as errors.
-use Rattle.std.specs.Prelude.{◌≡◌, ℕ}
-use Rattle.checker_parts.specs.declared.error.CheckCause.{CheckCause}
+-- Why a step is not taken where the store refuses.
+use Rattle.std.specs.Prelude.{Bool, if◌then◌else◌}
 use Rattle.checker_parts.specs.declared.error.CheckCause.TheVariants as causes
-use Rattle.checker_parts.specs.declared.error.CheckerError.{CheckerError}
-use Rattle.checker_parts.specs.declared.error.CheckerError.TheVariants.{ProofIncomplete, IoError, ParseError, CheckFailed, ProofProcessorError, OutOfMemory, Failed}
+use Rattle.checker_parts.specs.declared.error.StepFault.{StepFault}
+use Rattle.checker_parts.specs.declared.error.StepFault.TheVariants.{Refused, OutOfMemory}
+use Rattle.clause_store.specs.declared.clauses.delete.DeleteFault.{DeleteFault}
+use Rattle.clause_store.specs.declared.clauses.delete.DeleteFault.TheVariants as deletion
 use Rattle.clause_store.specs.declared.clauses.store.StoreFault.{StoreFault}
-use Rattle.clause_store.specs.declared.clauses.store.StoreFault.TheVariants as faults
+use Rattle.clause_store.specs.declared.clauses.store.StoreFault.TheVariants as storing
 
--- the error is a refusal with this cause at this step, whatever text it shows
-abbrev pub RefusesWith : ℕ → CheckCause → CheckerError → Type 0
-RefusesWith n cause (CheckFailed step msg debug_step) = (step ≡ n) × (msg ≡ cause)
-RefusesWith n cause (ProofIncomplete step) = ⊥
-RefusesWith n cause (IoError step read) = ⊥
-RefusesWith n cause (ParseError step kind) = ⊥
-RefusesWith n cause (ProofProcessorError fault) = ⊥
-RefusesWith n cause OutOfMemory = ⊥
-RefusesWith n cause Failed = ⊥
+-- where a clause is not stored
+abbrev pub store_fault : StoreFault → StepFault
+store_fault storing.OutOfMemory = OutOfMemory
+store_fault storing.IdsExhausted = Refused causes.IdsExhausted
+store_fault storing.CountExhausted = Refused causes.CountExhausted
 
--- the same but for the text of the step
-abbrev pub IsSameFault : CheckerError → CheckerError → Type 0
-IsSameFault (CheckFailed step msg debug_step) e = RefusesWith step msg e
-IsSameFault (ProofIncomplete step) e = e ≡ ProofIncomplete step
-IsSameFault (IoError step read) e = e ≡ IoError step read
-IsSameFault (ParseError step kind) e = e ≡ ParseError step kind
-IsSameFault (ProofProcessorError fault) e = e ≡ ProofProcessorError fault
-IsSameFault OutOfMemory e = e ≡ OutOfMemory
-IsSameFault Failed e = e ≡ Failed
-
--- the error where a clause is not stored, at this step
-abbrev pub IsStoreRefusal : StoreFault → ℕ → CheckerError → Type 0
-IsStoreRefusal faults.OutOfMemory n e = e ≡ OutOfMemory
-IsStoreRefusal faults.IdsExhausted n e = RefusesWith n causes.IdsExhausted e
-IsStoreRefusal faults.CountExhausted n e = RefusesWith n causes.CountExhausted e
+-- where a copy of this kind is not deleted
+abbrev pub delete_fault : DeleteFault → Bool → StepFault
+delete_fault deletion.OutOfMemory redundant = OutOfMemory
+delete_fault deletion.UnitOrEmpty redundant = Refused causes.DeleteUnitOrEmpty
+delete_fault deletion.Unknown redundant = Refused causes.DeleteUnknown
+delete_fault deletion.NoCopy redundant =
+    Refused (if redundant then causes.DeleteRedundantIsIrredundant
+    else causes.DeleteIrredundantIsRedundant)

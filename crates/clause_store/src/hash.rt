@@ -1,7 +1,7 @@
 //! The hash of a clause under the solver's names for its variables.
 ghost use Rattle.std.specs.Prelude.{◌≡◌, ◌<◌, ◌≤◌, ◌/◌, [], ℕ, List, None, IfOk, OnOk, false, map};
 ghost use Rattle.checker_rules.specs.Check.{apply_if_named, apply_name, apply_names, apply_pending};
-ghost use Rattle.checker_rules.specs.State.{Known, named_hash};
+ghost use Rattle.checker_rules.specs.State.{Known, named_hash, xor_hash};
 ghost use Rattle.sat_formula.specs.Vars.{indexes_of};
 ghost use Rattle.clause_store.specs.StateOf.{state_of};
 ghost use Rattle.clause_store.specs.Store.{IsStore};
@@ -48,11 +48,22 @@ impl ClauseHasher {
         requires bits { self.now.hash_bits ≤ 64 }
         ensures { result ≡ hash_of self.now lits.now }
     {
+        self.full_hash(lits) >> (64 - self.hash_bits)
+    }
+
+    /// All 64 bits of the hash of a clause.
+    fn full_hash(&self, lits: &[Lit]) -> ClauseHash
+        ensures { result ≡ xor_hash (applied_of self.now) lits.now }
+    {
+        // Most proofs apply no name, and then no key need be hashed.
+        if self.solver_names.is_empty() {
+            return unnamed_hash(lits);
+        }
         let mut hash = 0;
         for lit in lits {
             hash ^= self.named_lit_hash(*lit);
         }
-        hash >> (64 - self.hash_bits)
+        hash
     }
 
     /// The hash of a literal by the applied name of its variable.
@@ -61,7 +72,7 @@ impl ClauseHasher {
     {
         match self.name_of(lit.index()) {
             Some(name) => lit_hash(name.lit(lit.is_positive())),
-            None => lit_code_hash(lit.code() + 2 * Var::MAX_COUNT),
+            None => unnamed_lit_hash(lit),
         }
     }
 
@@ -69,12 +80,26 @@ impl ClauseHasher {
     fn name_of(&self, index: usize) -> Option<Var>
         ensures { indexes_of result ≡ applied_of self.now index }
     {
-        // Most proofs apply no name, and then no key need be hashed.
-        if self.solver_names.is_empty() {
-            return None;
-        }
         self.solver_names.get(&index).copied()
     }
+}
+
+/// All 64 bits of the hash of a clause, where no name is applied.
+fn unnamed_hash(lits: &[Lit]) -> ClauseHash
+    ensures { result ≡ xor_hash (λ v. None) lits.now }
+{
+    let mut hash = 0;
+    for lit in lits {
+        hash ^= unnamed_lit_hash(*lit);
+    }
+    hash
+}
+
+/// The hash of a literal whose variable has no name.
+fn unnamed_lit_hash(lit: Lit) -> ClauseHash
+    ensures { result ≡ named_hash None lit }
+{
+    lit_code_hash(lit.code() + 2 * Var::MAX_COUNT)
 }
 
 /// Sets the width, applies the pending names and removals, and puts every clause into the bucket of its hash.

@@ -5,7 +5,6 @@ pub mod clauses;
 pub mod hash;
 pub mod laws;
 pub mod pending;
-pub mod refusal;
 pub mod rup;
 pub mod state;
 pub mod variables;

@@ -1,5 +1,5 @@
 //! The solver names that wait.
-ghost use Rattle.std.specs.Prelude.{◌≡◌, ◌++◌, ◌∷◌, [], OnOk, is_some};
+ghost use Rattle.std.specs.Prelude.{◌≡◌, ◌++◌, ◌∷◌, [], OnErr, OnOk, is_some};
 ghost use Rattle.std.specs.List.{list_any};
 
 use sat_formula::lit::Var;
@@ -35,8 +35,9 @@ impl PendingNames {
 
     /// Adds a name of a variable, or that its name goes.
     pub fn push(&mut self, var: Var, name: Option<Var>) -> Result<(), AllocError>
-        ensures { OnOk result (self.new.entries.items ≡
+        ensures ok { OnOk result (self.new.entries.items ≡
             self.old.entries.items ++ (var, name) ∷ []) }
+        ensures err { OnErr result (self.new.entries.items ≡ self.old.entries.items) }
     {
         self.entries.push((var, name))?;
         self.named |= name.is_some();

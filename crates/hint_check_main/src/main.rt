@@ -3,10 +3,10 @@
 //! Without arguments it checks a small fixed example.
 #![tactic(auto)]
 
+use hint_check::{RunFault, Verdict, exit_status, run_check};
 use std::fs::File;
 use std::process::ExitCode;
 use std::{env, io};
-use varisat_check::{HintRunFault, HintVerdict, hint_exit_status, run_hints};
 
 /// The exit status of a call that can't be run.
 const NOT_RUN: u8 = 2;
@@ -41,7 +41,7 @@ fn check_files(rt: &HostRuntime, cnf_name: &str, lrat_name: &str) -> u8 {
     let Some(lrat) = open(rt, lrat_name) else {
         return NOT_RUN;
     };
-    let outcome = run_hints(rt.alloc(), cnf, lrat, &mut io::writer(rt));
+    let outcome = run_check(rt.alloc(), cnf, lrat, &mut io::writer(rt));
     report(rt, &outcome)
 }
 
@@ -49,7 +49,7 @@ fn check_files(rt: &HostRuntime, cnf_name: &str, lrat_name: &str) -> u8 {
 fn check_example(rt: &HostRuntime) -> u8 {
     let cnf = "1 0\n-1 0\n".as_bytes();
     let lrat = "3 0 1 2 0\n".as_bytes();
-    let outcome = run_hints(rt.alloc(), cnf, lrat, &mut io::writer(rt));
+    let outcome = run_check(rt.alloc(), cnf, lrat, &mut io::writer(rt));
     report(rt, &outcome)
 }
 
@@ -65,9 +65,9 @@ fn open(rt: &HostRuntime, name: &str) -> Option<File> {
 }
 
 /// Says why there is no verdict, and gives the exit status.
-fn report(rt: &HostRuntime, outcome: &Result<HintVerdict, HintRunFault>) -> u8 {
+fn report(rt: &HostRuntime, outcome: &Result<Verdict, RunFault>) -> u8 {
     if let Err(fault) = outcome {
         let _ = eprintln!(rt; "{fault}");
     }
-    hint_exit_status(outcome)
+    exit_status(outcome)
 }

@@ -2,7 +2,6 @@
 #![tactic(auto)]
 
 mod fault;
-mod formula;
 mod run;
 mod status;
 #[cfg(test)]
@@ -10,7 +9,6 @@ mod tests;
 mod verdict;
 
 pub use fault::RunFault;
-pub use formula::read_formula;
 pub use run::{run_check, run_proof};
 pub use status::exit_status;
 pub use verdict::Verdict;

@@ -7,10 +7,9 @@ ghost use Rattle.lrat_check.specs.Verdicts.{shown_line};
 ghost use Rattle.lrat_check.specs.declared.verdict.Verdict.TheVariants.{Verified};
 
 use crate::fault::RunFault;
-use crate::formula::read_formula;
 use crate::verdict::Verdict;
 use lrat_checker::{LratChecker, LratFault};
-use sat_formula::CnfFormula;
+use sat_formula::{CnfFormula, read_formula};
 use std::alloc::Global;
 use std::io;
 use std::io::{Read, Write};

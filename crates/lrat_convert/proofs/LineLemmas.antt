@@ -105,7 +105,8 @@ module _ (known left : Option (List ℕ)) (number width : ℕ) (c : Converted) (
     so.stands,
   )
     where
-      says : (o : Bool) (ls : List (ℕ × Line)) → Follows known left 0 o (λ more. with_lines ls (outcome_after number more)) → (o ≡ false → Follows left new number true (λ more. ([], Ended))) → SaysAll known ls Ended
+      says : (o : Bool) (ls : List (ℕ × Line)) → Follows known left 0 o (λ more. with_lines ls (outcome_after number more)) →
+          (o ≡ false → Follows left new number true (λ more. ([], Ended))) → SaysAll known ls Ended
       says false ls t f = text_ends known left ls number new true Ended t (f refl)
       says true ls t f = text_ended known left ls number t
 

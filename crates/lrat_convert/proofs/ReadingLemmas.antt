@@ -42,7 +42,8 @@ module _ {R : Type 0} (remaining : R → Option (List ℕ)) (old new : LineReade
   is_fault fault e = absurd (cc)
 
   -- how the text goes on with a line
-  goes : (line : LratLine) → Gives remaining old new (Ok (Some line)) → Follows (bytes_left remaining old) (bytes_left remaining new) (line_number old) (has_ended new) (λ more. with_line (line_number new) (view line) (outcome_after (line_number new) more))
+  goes : (line : LratLine) → Gives remaining old new (Ok (Some line)) → Follows (bytes_left remaining old) (bytes_left remaining new) (line_number old)
+      (has_ended new) (λ more. with_line (line_number new) (view line) (outcome_after (line_number new) more))
   goes line gives = (gives.reads (open_still (Ok (Some line)) (is_line line) gives)).0
 
   module _ (known : Option (List ℕ)) (width : ℕ) (c : Converted) (start now : Option (List ℕ)) (x : Converter)
@@ -58,16 +59,19 @@ module _ {R : Type 0} (remaining : R → Option (List ℕ)) (old new : LineReade
         SoFar known (bytes_left remaining new) (line_number new) (has_ended new) width c start later y
     next_more line gives later y more =
         let s = still (Ok (Some line)) (is_line line) gives in
-        so_far_more known (bytes_left remaining old) (line_number old) width c start now x s (open_at false s) (bytes_left remaining new) (has_ended new) (line_number new) (view line) (goes line gives) later y (more s.after s.stands)
+        so_far_more known (bytes_left remaining old) (line_number old) width c start now x s (open_at false s) (bytes_left remaining new) (has_ended new)
+        (line_number new) (view line) (goes line gives) later y (more s.after s.stands)
 
     pub next_refused : (line : LratLine) → Gives remaining old new (Ok (Some line)) → (stop : Stop) →
         ((d : Converted) → HasConverted width start now d x → IsCause stop (next width d (view line))) → IsStopped known width c (in_line stop (line_number new))
     next_refused line gives stop cause =
         let s = still (Ok (Some line)) (is_line line) gives in
-        so_far_refused known (bytes_left remaining old) (line_number old) width c start now x s (open_at false s) (bytes_left remaining new) (has_ended new) (line_number new) (view line) (goes line gives) stop (cause s.after s.stands)
+        so_far_refused known (bytes_left remaining old) (line_number old) width c start now x s (open_at false s) (bytes_left remaining new) (has_ended new)
+        (line_number new) (view line) (goes line gives) stop (cause s.after s.stands)
 
     pub next_ended : Gives remaining old new (Ok None) → ConvertsLines known width c start now x (Ok tt)
-    next_ended gives = so_far_ended known (bytes_left remaining old) (line_number old) width c start now x (has_ended old) so (open_at (has_ended old) so) (bytes_left remaining new) (λ o. (gives.reads o).0)
+    next_ended gives = so_far_ended known (bytes_left remaining old) (line_number old) width c start now x (has_ended old) so (open_at (has_ended old) so)
+        (bytes_left remaining new) (λ o. (gives.reads o).0)
 
     pub next_unread : (fault : LratTextFault) → Gives remaining old new (Err fault) → IsStopped known width c (of_text fault)
     next_unread (reads.Line n kind) gives =

@@ -9,9 +9,8 @@ use crate::converter::Converter;
 use crate::fault::ConvertFault;
 use crate::status::Conversion;
 use crate::width::HashWidth;
-use lrat_check::read_formula;
 use lrat_text::LineReader;
-use sat_formula::CnfFormula;
+use sat_formula::{CnfFormula, read_formula};
 use std::alloc::Global;
 use std::io::{Read, Write};
 

@@ -15,7 +15,8 @@ use Rattle.lrat_rules.specs.Maps.{ids_once}
 use Rattle.lrat_rules.specs.Propagation.{Ending, conflict, open_at, propagate, stuck}
 use Rattle.lrat_rules.specs.Refusals.{cause_at, cause_of_line, groups_cause, is_failed, unmet}
 use Rattle.lrat_rules.specs.Stores.{find, formula_store, numbered, without_ids}
-use Rattle.lrat_rules.specs.Tables.{IsTableOf, Table, TablesDecide, add_id, cause_by_table, drop_all, drop_one, empty_table, groups_cause_by, met_by_clause, met_by_groups, met_cause, missing, no_id, put, put_from, table_after}
+use Rattle.lrat_rules.specs.Tables.{IsTableOf, Table, TablesDecide, add_id, cause_by_table, drop_all, drop_one, empty_table}
+use Rattle.lrat_rules.specs.Tables.{groups_cause_by, met_by_clause, met_by_groups, met_cause, missing, no_id, put, put_from, table_after}
 use Rattle.lrat_rules.proofs.Counting.{all_uses, counts_cover, held_counts, not_held_counts, uses_without}
 use Rattle.lrat_rules.proofs.Mapping.{below_none, found_left, left_once, met_at, met_from, numbered_once}
 

@@ -1,5 +1,6 @@
 -- The number in front of a line.
-use Rattle.std.proofs.Common.{◌≡◌, ℕ, zero, suc, ◌+◌, ◌-◌, ◌*◌, ◌^◌, ◌<◌, ◌≤◌, Bool, true, false, List, [], ◌∷◌, ◌++◌, length, length-take, get_or, take, drop, Option, Some, None, refl, sym, ap, ◌∙◌, arith, length-drop, subst}
+use Rattle.std.proofs.Common.{◌≡◌, ℕ, zero, suc, ◌+◌, ◌-◌, ◌*◌, ◌^◌, ◌<◌, ◌≤◌, Bool, true, false, List, [], ◌∷◌, ◌++◌, length}
+use Rattle.std.proofs.Common.{length-take, get_or, take, drop, Option, Some, None, refl, sym, ap, ◌∙◌, arith, length-drop, subst}
 use Rattle.std.proofs.Math.Nat.{pow-le-pow_right, pow-suc}
 use Rattle.std.proofs.lemmas.Bool.{eqb-true}
 use Rattle.std.specs.Prelude.{◌==◌, slice_index}
@@ -131,7 +132,8 @@ negative_says (b ∷ bytes) (suc n) v h some fits other = rw h.value (judged-exa
 pub first_negative : (bytes rest : List ℕ) (v : ℕ) → IsDigitsWord bytes v rest → (v ≡ 0 → ⊥) → IsFirst (words_of (45 ∷ bytes)) (Exact true v) (words_of rest)
 first_negative bytes rest v w other = record {
   word = 45 ∷ take w.len bytes;
-  words = words_of-first (45 ∷ bytes) (suc w.len) (omega arith) (let le = w.digits.within in omega (arith, le)) free (λ lt. w.end (omega (arith, lt))) ∙ ap (λ ws. (45 ∷ take w.len bytes) ∷ ws) (sym w.words);
+  words = words_of-first (45 ∷ bytes) (suc w.len) (omega arith) (let le = w.digits.within in omega (arith, le)) free (λ lt. w.end (omega (arith, lt))) ∙
+      ap (λ ws. (45 ∷ take w.len bytes) ∷ ws) (sym w.words);
   says = negative_says bytes w.len v w.digits w.some w.digits.fits other;
 }
   where

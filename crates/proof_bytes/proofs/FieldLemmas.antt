@@ -20,6 +20,10 @@ pub below_fails : {a b : Known} {e : Stop} (limit : ℕ) → Faults a b e number
 unfolding below_at
 below_fails limit p = faults_bind (in_range limit) p
 
+pub below_read : (limit n : ℕ) (bytes more : List ℕ) → number_at bytes ≡ Ok (n, more) → n < limit → below_at limit bytes ≡ Ok (n, more)
+unfolding below_at
+below_read limit n bytes more read lt = ap (λ r. r >>= in_range limit) read ∙ ap (λ c. cond c (Ok (n, more)) (Err (Wrong OutOfRange))) (lt-ltb n limit lt)
+
 module _ {a b : Known} (limit n : ℕ) (read : Leads a b number_at (λ more. Ok (n, more))) where
   below : Leads a b (below_at limit) (λ more. in_range limit (n, more))
   unfolding below_at
@@ -87,7 +91,7 @@ pub list_fails : {A : Type 0} {a b : Known} {e : Stop} (item : List ℕ → Foun
 unfolding list_at
 list_fails item p = faults_bind (λ n. many_at item n.0 n.1) p
 
-nothing_before : {A : Type 0} (read : Found (List A)) → read ≡ with_front [] read
+pub nothing_before : {A : Type 0} (read : Found (List A)) → read ≡ with_front [] read
 nothing_before (Ok x) = refl
 nothing_before (Err e) = refl
 

@@ -1,7 +1,8 @@
 -- How texts begin, and texts of many steps.
 use Rattle.std.proofs.Common.{◌≡◌, ◌≢◌, ℕ, suc, List, [], ◌∷◌, ◌++◌, Err, refl, sym, ap, subst, ◌∙◌, inl, append_assoc, append-nil, arith}
 use Rattle.std.proofs.lemmas.Bool.{ne_eqb}
-use Rattle.checker_rules.specs.Step.{Step, solver_var_name, user_var_name, delete_var, change_sampling_mode, add_clause, at_clause, delete_clause, unit_clauses, change_hash_bits, model, assumptions, failed_assumptions, end_proof}
+use Rattle.checker_rules.specs.Step.{Step, solver_var_name, user_var_name, delete_var, change_sampling_mode, add_clause, at_clause}
+use Rattle.checker_rules.specs.Step.{delete_clause, unit_clauses, change_hash_bits, model, assumptions, failed_assumptions, end_proof}
 use Rattle.proof_bytes.specs.declared.fault.MalformedStep.TheVariants.{UnknownTag}
 use Rattle.proof_bytes.specs.declared.format.Format.{Format}
 use Rattle.proof_bytes.specs.declared.format.Format.TheVariants as formats

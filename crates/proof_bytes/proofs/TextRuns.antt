@@ -10,7 +10,8 @@ use Rattle.checker_rules.specs.Calls.{attempt, closing_conflict, count_step, ste
 use Rattle.checker_rules.specs.Outcome.{Cause, Outcome, steps_exhausted}
 use Rattle.checker_rules.specs.Run.{Runs, Stop, after_attempt, after_read, as_answer, move}
 use Rattle.checker_rules.specs.State.{State}
-use Rattle.checker_rules.specs.Step.{Step, solver_var_name, user_var_name, delete_var, change_sampling_mode, add_clause, at_clause, delete_clause, unit_clauses, change_hash_bits, model, assumptions, failed_assumptions, end_proof}
+use Rattle.checker_rules.specs.Step.{Step, solver_var_name, user_var_name, delete_var, change_sampling_mode, add_clause, at_clause}
+use Rattle.checker_rules.specs.Step.{delete_clause, unit_clauses, change_hash_bits, model, assumptions, failed_assumptions, end_proof}
 use Rattle.checker_rules.proofs.Openings.{attempt-counted}
 use Rattle.checker_rules.proofs.StepKinds.{step-end_proof}
 use Rattle.proof_bytes.specs.declared.fault.ProofFault.{ProofFault}

@@ -1,5 +1,7 @@
--- Groups of seven bits, one in each byte of a number.
-use Rattle.std.specs.Prelude.{◌≡◌, ℕ, ◌+◌, ◌*◌, ◌<◌}
+-- What is read out of the bytes ahead: groups of seven bits, one in each byte of a number, and the items in front.
+use Rattle.std.specs.Prelude.{◌≡◌, ℕ, ◌+◌, ◌*◌, ◌<◌, List, ◌++◌, Ok, length}
+use Rattle.proof_bytes.specs.Reading.{Found}
+use Rattle.proof_bytes.specs.Fields.{many_at}
 
 -- eight groups, the lowest first: each byte of the number is below 128
 pub record AreGroups (n : ℕ) : Type 0 where
@@ -28,3 +30,8 @@ abbrev pub Joins : ℕ → ℕ → Type 0
 Joins n joined = (g : AreGroups n) →
     joined ≡ g.c0 + 128 * (g.c1 + 128 * (g.c2 + 128 * (g.c3 + 128
     * (g.c4 + 128 * (g.c5 + 128 * (g.c6 + 128 * g.c7))))))
+
+-- the bytes are read as these items, one after the other, whatever comes after them
+abbrev pub ReadAs : {A : Type 0} → (List ℕ → Found A) → List ℕ → List A → Type 0
+ReadAs item bytes items =
+    (more : List ℕ) → many_at item (length items) (bytes ++ more) ≡ Ok (items, more)

@@ -1,8 +1,9 @@
 -- A step as it is read: what it says beside its lists, and the lists.
 use Rattle.std.specs.Prelude.{ℕ, Bool, true, List, Option, Result, Ok, Err}
 use Rattle.sat_formula.specs.Vars.{index_of, indexes_of}
-use Rattle.checker_rules.specs.Step.{Step, solver_var_name, user_var_name, delete_var, change_sampling_mode, add_clause, at_clause, delete_clause, unit_clauses, change_hash_bits, model, assumptions, failed_assumptions, end_proof}
-use Rattle.proof_bytes.specs.declared.fault.ProofFault.{ProofFault}
+use Rattle.checker_rules.specs.Step.{Step, solver_var_name, user_var_name, delete_var, change_sampling_mode, add_clause, at_clause}
+use Rattle.checker_rules.specs.Step.{delete_clause, unit_clauses, change_hash_bits, model, assumptions, failed_assumptions, end_proof}
+use Rattle.proof_bytes.specs.declared.fault.Stop.{Stop}
 use Rattle.proof_bytes.specs.declared.fault.Stop.{Stop}
 use Rattle.proof_bytes.specs.declared.body.BodyReader.{BodyReader}
 use Rattle.proof_bytes.specs.declared.body.Head.{Head}
@@ -35,7 +36,7 @@ abbrev pub step_of : {R : Type 0} → Head → BodyReader R → Step
 step_of head r = step_with head r.lits.items r.hashes.items r.units.items
 
 -- whether nothing is read after this answer
-abbrev pub is_last : {R : Type 0} → Result Head ProofFault → BodyReader R → Bool
+abbrev pub is_last : {R : Type 0} → Result Head Stop → BodyReader R → Bool
 is_last (Ok head) r = is_end (step_of head r)
 is_last (Err e) r = true
 

@@ -1,11 +1,12 @@
 //! Fields read out of the bytes that are read ahead, where enough are.
-ghost use Rattle.std.specs.Prelude.{◌≡◌, ◌≤◌, ◌<◌, ◌*◌, ◌%◌, ◌^◌, ◌++◌, ℕ, List, Ok, IfSome, length, take};
-ghost use Rattle.proof_bytes.specs.Ahead.{AreGroups, Joins};
-ghost use Rattle.proof_bytes.specs.Fields.{bytes_at, wide_at};
+ghost use Rattle.std.specs.Prelude.{◌≡◌, ◌≤◌, ◌<◌, ◌*◌, ◌%◌, ◌^◌, ◌++◌, ◌∷◌, [], ℕ, List, Ok, IfSome, length, take, vec_len};
+ghost use Rattle.proof_bytes.specs.Ahead.{AreGroups, Joins, ReadAs};
+ghost use Rattle.proof_bytes.specs.Fields.{bytes_at, lit_at, wide_at};
 ghost use Rattle.proof_bytes.specs.Reading.{number_at};
 ghost use Rattle.proof_bytes.specs.Taking.{IsBytes};
 
 use crate::format::fits_width;
+use sat_formula::Lit;
 
 /// A number has at most so many bytes.
 const LONGEST_NUMBER: usize = 10;
@@ -44,6 +45,52 @@ pub(crate) fn number_ahead(bytes: &[u8]) -> Option<(u64, usize)>
     } else {
         None
     }
+}
+
+/// Puts literals that the bytes begin with into an empty vector, and gives how many bytes spell them.
+///
+/// It ends before a literal of more than two bytes, and before what is none. It reads `most` at most;
+/// as many as the vector has room for, so that it asks for no memory; and half as many as there are
+/// bytes, so that each finds two bytes without a test.
+#[inline(always)]
+pub(crate) fn lits_ahead(bytes: &[u8], most: u64, into: &mut Vec<Lit>) -> usize
+    requires { into.old.items ≡ [] }
+    ensures bytes { IsBytes bytes.now }
+    ensures within { result ≤ length bytes.now }
+    ensures count { vec_len into.new ≤ most }
+    ensures read { ReadAs lit_at (take result bytes.now) into.new.items }
+{
+    let room = into.capacity() as u64;
+    let pairs = bytes.len() as u64 / 2;
+    let mut at = 0;
+    'items: for _ in 0..most.min(room).min(pairs) {
+        match short_lit(bytes[at], bytes[at + 1]) {
+            Some((lit, len)) => {
+                into.push_reserved(lit);
+                at += len;
+            }
+            None => return at,
+        }
+    }
+    at
+}
+
+/// The literal that two bytes begin with, and how many of them spell it. None where they begin with
+/// a longer one, and where they begin with none.
+#[inline(always)]
+fn short_lit(first: u8, second: u8) -> Option<(Lit, usize)>
+    ensures within { IfSome result (λ r. r.1 ≤ 2) }
+    ensures read { IfSome result (λ r. (more : List ℕ) →
+        lit_at (take r.1 (first ∷ second ∷ []) ++ more) ≡ Ok (r.0, more)) }
+{
+    if first < 128 {
+        return Some((Lit::from_code(first as usize)?, 1));
+    }
+    if second == 0 || second >= 128 {
+        return None;
+    }
+    let code = (first - 128) as usize + 128 * second as usize;
+    Some((Lit::from_code(code)?, 2))
 }
 
 /// The top bit of each of eight bytes.

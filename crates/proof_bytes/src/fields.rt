@@ -1,7 +1,7 @@
 //! The fields of steps, read one after the other.
 ghost use Rattle.std.specs.Prelude.{◌≡◌, ◌<◌, ◌≤◌, ◌^◌, IfOk};
 
-use crate::ahead::{long_number_ahead, number_ahead, wide_ahead};
+use crate::ahead::{lits_ahead, long_number_ahead, number_ahead, wide_ahead};
 use crate::fault::{MalformedStep, ProofFault, Stop};
 use crate::format::{Format, fits_width};
 use crate::hash::ClauseHash;
@@ -109,6 +109,7 @@ impl<R: Read> Fields<R> {
         Ok(value + weight)
     }
 
+    #[inline(always)]
     pub(crate) fn below(&mut self, limit: u64) -> Result<u64, Stop>
         ensures read { Reads R.remaining (λ n. n) self.old self.new result (below_at limit) }
         ensures bound { IfOk result (λ n. n < limit) }
@@ -223,7 +224,10 @@ impl<R: Read> Fields<R> {
     {
         into.clear();
         let count = self.number()?;
-        'items: for _ in 0..count {
+        // Those ahead together, the others one by one: that asks for memory and finds the faults.
+        let taken = lits_ahead(self.source.ahead(), count, into);
+        self.source.take_ahead(taken);
+        'items: for _ in into.len() as u64..count {
             let lit = self.lit()?;
             into.push(lit)?;
         }

@@ -14,7 +14,8 @@ use Rattle.sat_formula.specs.Bytes.{is_lf, is_blank, is_digit}
 use Rattle.sat_formula.specs.Outcome.{Ending, Outcome, Faulty, finish, next_line, with_clause}
 use Rattle.sat_formula.specs.Words.{begun_by, number_after, token_of, header_after, is_whole}
 use Rattle.sat_formula.specs.Text.{State, At, Place, Start, Between, Comment, InHeader, InNumber, After, Goes, Gives, Stops, step, header_ends, number_ends, number_last, at_end, outcome_at, start}
-use Rattle.sat_formula.specs.Lines.{has_bytes, words_of, value_from, value_of, judged, token_of_word, all_pass, is_digits, is_header, LineKind, EmptyLine, CommentLine, EndMark, HeaderLine, TokenLine, kind_of_line, token_then, tokens_from, header_then, line_then, lines_from, outcome_of}
+use Rattle.sat_formula.specs.Lines.{has_bytes, words_of, value_from, value_of, judged, token_of_word, all_pass, is_digits, is_header, LineKind, EmptyLine, CommentLine}
+use Rattle.sat_formula.specs.Lines.{EndMark, HeaderLine, TokenLine, kind_of_line, token_then, tokens_from, header_then, line_then, lines_from, outcome_of}
 use Rattle.sat_formula.proofs.Steps.{word_blank, word_number, number_blank, number_goes}
 
 -- ---- a list cut at bytes: the part that is open, and the others

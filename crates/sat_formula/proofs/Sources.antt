@@ -1,6 +1,7 @@
 -- Bytes read ahead, one after the other.
-use Rattle.std.proofs.Common.{◌≡◌, ℕ, suc, ◌+◌, ◌-◌, ◌<◌, ◌≤◌, List, [], ◌∷◌, ◌++◌, length, get_or, slice_range, Option, Some, None, sym, ap, ◌∙◌, refl, arith, drop-cons, add-one, append_assoc, take, drop}
-use Rattle.std.proofs.lemmas.List.{take-append-drop, drop-take, drop-drop, length-take}
+use Rattle.std.proofs.Common.{◌≡◌, ℕ, suc, ◌+◌, ◌-◌, ◌<◌, ◌≤◌, List, [], ◌∷◌, ◌++◌, length, get_or, slice_range, Option}
+use Rattle.std.proofs.Common.{Some, None, sym, ap, ◌∙◌, refl, arith, drop-cons, add-one, append_assoc, take, drop}
+use Rattle.std.proofs.lemmas.List.{take-append-drop, drop-take, drop-drop}
 use Rattle.std.specs.Option.{option_map}
 use Rattle.std.specs.Io.KnownBytes.{prepend_known, Consumes, Keeps}
 

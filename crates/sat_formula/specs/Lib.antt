@@ -14,3 +14,4 @@ pub mod ShortNumbers
 pub mod DimacsReader
 pub mod Whole
 pub mod LineLaws
+pub mod Refuted

@@ -1,4 +1,3 @@
-pub mod HintRunLemmas
 pub mod LratLemmas
 pub mod ReadFormulaLemmas
 pub mod Unfailed

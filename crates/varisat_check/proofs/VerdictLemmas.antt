@@ -24,7 +24,8 @@ use Rattle.checker_steps.specs.Delivered.{Listeners}
 use Rattle.varisat_checker.specs.ProofRun.{ProofAnswer, ProofRun}
 use Rattle.varisat_checker.specs.TextRun.{EndsText, TextAnswer, TextRun, outcome_of}
 use Rattle.checker_steps.specs.Failing.{IsFailed}
-use Rattle.varisat_check.specs.Runs.{CheckRun, IsRefuted, OnProof, RefusedText}
+use Rattle.sat_formula.specs.Refuted.{IsRefuted}
+use Rattle.varisat_check.specs.Runs.{CheckRun, OnProof, RefusedText}
 use Rattle.varisat_check.specs.declared.fault.RunFault.{RunFault}
 use Rattle.varisat_check.specs.declared.fault.RunFault.TheVariants.{Formula, Proof, Write}
 use Rattle.varisat_check.specs.Verdicts.{verdict_of}

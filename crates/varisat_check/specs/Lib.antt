@@ -1,4 +1,3 @@
-pub mod HintRuns
 pub mod LratRuns
 pub mod ReadFormula
 pub mod Runs

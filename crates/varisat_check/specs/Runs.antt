@@ -3,15 +3,12 @@
 --     IsFailedRun r, IsRefusedRun r      the checker had failed before; the formula or the proof was refused
 --     AddedRun cnf proof r      the proof was run where the formula was added whole; what the verdict says of the clauses that were added
 --     CheckRun cnf proof r      the run over both texts
---     IsRefuted text      no assignment satisfies the clauses of the text
 use Rattle.std.specs.Prelude.{◌≡◌, ℕ, Bool, false, List, Option, Result, Ok, Err, IfOk}
 use Rattle.checker_rules.specs.Calls.{shown_inputs}
 use Rattle.checker_rules.specs.Clauses.{all_true}
 use Rattle.checker_rules.specs.State.{State}
 use Rattle.checker_rules.specs.Steps.{new_state}
 use Rattle.checker_rules.specs.Step.{Step}
-use Rattle.sat_formula.specs.Lines.{outcome_of}
-use Rattle.sat_formula.specs.Outcome.{Ended}
 use Rattle.checker_parts.specs.declared.error.CheckerError.{CheckerError}
 use Rattle.checker_parts.specs.declared.error.CheckerError.TheVariants.{Failed}
 use Rattle.checker_parts.specs.declared.error.DimacsError.{DimacsError}
@@ -65,8 +62,3 @@ CheckRun cnf proof (Ok verdict) = AddedRun cnf proof (Ok verdict)
 CheckRun cnf proof (Err (Write cause)) = AddedRun cnf proof (Err (Write cause))
 CheckRun cnf proof (Err (Proof e)) = AddedRun cnf proof (Err (Proof e))
 CheckRun cnf proof (Err (Formula e)) = RefusedText cnf e
-
--- the text has no fault, and no assignment makes all its clauses true
-abbrev pub IsRefuted : List ℕ → Type 0
-IsRefuted text = (clauses : List (List ℕ)) × (outcome_of text ≡ (clauses, Ended))
-    × ((a : ℕ → Bool) → all_true a clauses ≡ false)

@@ -4,30 +4,20 @@ ghost use Rattle.varisat_check.specs.ReadFormula.{ReadsFormula, fault_of};
 
 use crate::fault::RunFault;
 use checker_parts::error::{CheckerError, DimacsError};
-use sat_formula::{CnfFormula, DimacsFault, DimacsReader};
+use sat_formula::{CnfFormula, DimacsFault};
 use std::alloc::Global;
 use std::io::Read;
 
-/// Reads a formula as DIMACS text, the whole of it, or answers the first fault.
+/// Reads a formula as DIMACS text, the whole of it, or answers the first fault, as that of a run.
 ///
 /// A failed read and want of memory are answered where they come. On a fault the clauses before it are dropped.
 pub fn read_formula<F: Read + Drop>(alloc: Global, cnf: F) -> Result<CnfFormula, RunFault>
     ensures { ReadsFormula (F.remaining cnf) result }
 {
-    let mut reader = DimacsReader::new(alloc, cnf);
-    let mut clause = Vec::new(alloc);
-    let mut formula = CnfFormula::new(alloc);
-    'clauses: loop {
-        match reader.next_clause(&mut clause) {
-            Ok(true) => {}
-            Ok(false) => break,
-            Err(fault) => return Err(text_fault(fault)),
-        }
-        if formula.add_clause(&clause).is_err() {
-            return Err(text_fault(DimacsFault::OutOfMemory));
-        }
+    match sat_formula::read_formula(alloc, cnf) {
+        Ok(formula) => Ok(formula),
+        Err(fault) => Err(text_fault(fault)),
     }
-    Ok(formula)
 }
 
 /// The answer for a fault of a formula's text.

@@ -1,9 +1,8 @@
-//! Whether a proof, or a text of hints, shows a formula to be unsatisfiable, said in one line.
+//! Whether a proof shows a formula to be unsatisfiable, said in one line.
 #![tactic(auto)]
 
 pub mod fault;
 pub mod formula;
-pub mod hints;
 mod line;
 pub mod lrat;
 pub mod run;
@@ -12,7 +11,6 @@ pub mod verdict;
 
 pub use fault::RunFault;
 pub use formula::read_formula;
-pub use hints::{HintRunFault, HintVerdict, hint_exit_status, run_hints};
 pub use lrat::run_lrat;
 pub use run::{run_check, run_proof};
 pub use status::exit_status;

@@ -8,7 +8,8 @@ ghost use Rattle.checker_parts.specs.Answers.{IsCovered};
 ghost use Rattle.checker_steps.specs.Failing.{RecordsFailure};
 ghost use Rattle.varisat_checker.specs.ProofRun.{ProofRun};
 ghost use Rattle.varisat_checker.specs.Shown.{listeners, state};
-ghost use Rattle.varisat_check.specs.Runs.{CheckRun, IsFailedRun, IsRefuted, IsRefusedRun, OnProof};
+ghost use Rattle.sat_formula.specs.Refuted.{IsRefuted};
+ghost use Rattle.varisat_check.specs.Runs.{CheckRun, IsFailedRun, IsRefusedRun, OnProof};
 ghost use Rattle.varisat_check.specs.Verdicts.{shown_line, verdict_of};
 ghost use Rattle.varisat_check.specs.declared.verdict.Verdict.TheVariants.{Unsatisfiable};
 

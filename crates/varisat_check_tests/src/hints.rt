@@ -1,19 +1,19 @@
 //! Runs of the checker of hints: their lines and statuses, texts of faults, readers and writers that fail.
 use crate::four_clauses::FOUR;
 use crate::streams::{Full, broken, byte_by_byte, without_memory};
+use hint_check::{RunFault, Verdict, exit_status, run_check};
 use std::alloc::Global;
 use std::io;
 use std::io::{ErrorKind, Read};
 use std::process::Abort;
 use std::test::Fail;
-use varisat_check::{HintRunFault, HintVerdict, hint_exit_status, run_hints};
 
 // What a run answers: its verdict or the text of its fault, what it wrote, and its exit status.
-type Outcome<'a> = (Result<HintVerdict, &'a str>, &'a str, u8);
+type Outcome<'a> = (Result<Verdict, &'a str>, &'a str, u8);
 
-const VERIFIED: Outcome<'static> = (Ok(HintVerdict::Verified), "s VERIFIED UNSAT\n", 0);
+const VERIFIED: Outcome<'static> = (Ok(Verdict::Verified), "s VERIFIED UNSAT\n", 0);
 
-const NOT_VERIFIED: Outcome<'static> = (Ok(HintVerdict::NotVerified), "s NOT VERIFIED\n", 3);
+const NOT_VERIFIED: Outcome<'static> = (Ok(Verdict::NotVerified), "s NOT VERIFIED\n", 3);
 
 // Where the formula or the hints are refused nothing is written.
 fn refused(text: &str) -> Outcome<'_> {
@@ -25,11 +25,11 @@ const UNITS: &str = "1 0\n-1 0\n";
 fn is_answered(
     rt: &impl Abort,
     alloc: Global,
-    answer: Result<HintVerdict, HintRunFault>,
+    answer: Result<Verdict, RunFault>,
     written: &[u8],
     (verdict, line, status): Outcome<'_>,
 ) -> Result<(), Fail> {
-    assert_eq!(rt; hint_exit_status(&answer), status);
+    assert_eq!(rt; exit_status(&answer), status);
     assert_eq!(rt; written, line.as_bytes());
     match (answer, verdict) {
         (Ok(found), Ok(expected)) => assert_eq!(rt; found, expected),
@@ -50,7 +50,7 @@ fn check<F: Read + Drop, H: Read + Drop>(
     expected: Outcome<'_>,
 ) -> Result<(), Fail> {
     let mut out = Vec::new(alloc);
-    let answer = run_hints(alloc, cnf, hints, &mut out);
+    let answer = run_check(alloc, cnf, hints, &mut out);
     is_answered(rt, alloc, answer, &out, expected)
 }
 
@@ -113,7 +113,7 @@ fn lines_that_cannot_be_written(rt: HostRuntime) -> Result<(), Fail> {
     let alloc = rt.alloc();
     let cause = io::Error::from(ErrorKind::StorageFull);
     let hints = "5 0 1 2 0\n".as_bytes();
-    let answer = run_hints(alloc, UNITS.as_bytes(), hints, &mut Full);
+    let answer = run_check(alloc, UNITS.as_bytes(), hints, &mut Full);
     let text = format!(in alloc; "error writing: {cause}")?;
     is_answered(&rt, alloc, answer, &[], refused(&text))
 }

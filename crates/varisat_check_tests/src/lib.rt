@@ -10,6 +10,8 @@ mod four_clauses;
 #[cfg(test)]
 mod hints;
 #[cfg(test)]
+mod library;
+#[cfg(test)]
 mod lrat;
 #[cfg(test)]
 mod outcomes;

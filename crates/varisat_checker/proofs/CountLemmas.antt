@@ -15,16 +15,21 @@ use Rattle.checker_rules.specs.DeleteVar.{close_conflict, drop_unit, free_var, h
 use Rattle.checker_rules.specs.FailedAssumptions.{step_failed_assumptions}
 use Rattle.checker_rules.specs.KnownVars.{is_hide, is_known, know, know_clause, known_of, name_taken, set_known, some_not_sampling, user_from_proof_var}
 use Rattle.checker_rules.specs.Model.{has_some, model_cause, model_whole, step_model}
-use Rattle.checker_rules.specs.Outcome.{Cause, Outcome, accept, and_then, and_then_by, at_check_failed, core_var_hidden, count_exhausted, deleted_var_has_clauses, deleted_var_named, hash_bits, name_in_use, no_name_to_remove, not_assumed, sample_hidden, still_hidden, user_name_taken, delete_irredundant_is_redundant, delete_redundant_is_irredundant, delete_unit_or_empty, delete_unknown, ids_exhausted, model_after_unsat, model_misses_assumption, model_misses_clause, no_clause_for_hash, not_sampling, not_satisfied, not_subsumed, refuse, tautology}
+use Rattle.checker_rules.specs.Outcome.{Cause, Outcome, accept, and_then, and_then_by, at_check_failed, core_var_hidden, count_exhausted, deleted_var_has_clauses}
+use Rattle.checker_rules.specs.Outcome.{deleted_var_named, hash_bits, name_in_use, no_name_to_remove, not_assumed, sample_hidden, still_hidden, user_name_taken}
+use Rattle.checker_rules.specs.Outcome.{delete_irredundant_is_redundant, delete_redundant_is_irredundant, delete_unit_or_empty, delete_unknown, ids_exhausted, model_after_unsat}
+use Rattle.checker_rules.specs.Outcome.{model_misses_assumption, model_misses_clause, no_clause_for_hash, not_sampling, not_satisfied, not_subsumed, refuse, tautology}
 use Rattle.checker_rules.specs.Passes.{none_empty}
 use Rattle.checker_rules.specs.State.{State, StoredUnit, hide, sample, witness, buckets, clause_passes, makes_true, some_true_unit, unit_of}
-use Rattle.checker_rules.specs.Step.{Justification, Step, add_clause, assumptions, at_clause, by_redundant, by_satisfied, by_simplified, change_hash_bits, change_sampling_mode, delete_clause, delete_var, end_proof, failed_assumptions, model, solver_var_name, unit_clauses, user_var_name}
+use Rattle.checker_rules.specs.Step.{Justification, Step, add_clause, assumptions, at_clause, by_redundant, by_satisfied, by_simplified, change_hash_bits}
+use Rattle.checker_rules.specs.Step.{change_sampling_mode, delete_clause, delete_var, end_proof, failed_assumptions, model, solver_var_name, unit_clauses, user_var_name}
 use Rattle.checker_rules.specs.Steps.{step}
 use Rattle.checker_rules.specs.Store.{count_limit, count_of, counters, id_limit, is_stored, new_stored, raise, stands, store, store_unit, take_id}
 use Rattle.checker_rules.specs.UnitClauses.{step_unit, step_unit_clauses}
 use Rattle.checker_rules.specs.UserVarName.{step_user_var_name}
 use Rattle.checker_rules.proofs.Openings.{attempt-counted}
-use Rattle.checker_rules.proofs.StepKinds.{step-add_clause, step-assumptions, step-at_clause, step-change_hash_bits, step-change_sampling_mode, step-delete_clause, step-delete_var, step-end_proof, step-failed_assumptions, step-model, step-solver_var_name, step-unit_clauses, step-user_var_name}
+use Rattle.checker_rules.proofs.StepKinds.{step-add_clause, step-assumptions, step-at_clause, step-change_hash_bits, step-change_sampling_mode, step-delete_clause}
+use Rattle.checker_rules.proofs.StepKinds.{step-delete_var, step-end_proof, step-failed_assumptions, step-model, step-solver_var_name, step-unit_clauses, step-user_var_name}
 
 -- what steps leave
 abbrev left : State → ℕ × Bool

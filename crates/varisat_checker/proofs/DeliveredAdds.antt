@@ -2,7 +2,7 @@
 --     AddedDelivered      the clauses added so far, and what was delivered on of them
 --     adds-none, adds-more, adds-stop, adds-all      the loop's start, a turn of it, and its end, at a clause that is refused or meets a fault or after all
 --     formula-none, formula-more, formula-stops, formula-all      the same over a formula
-use Rattle.std.proofs.Common.{◌≡◌, ℕ, false, List, [], ◌∷◌, ◌++◌, map, Option, Some, None, Result, Ok, Err, refl, sym, ap, ◌∙◌, subst, append-nil, append_assoc}
+use Rattle.std.proofs.Common.{◌≡◌, ℕ, false, List, [], ◌∷◌, ◌++◌, map, Option, Some, None, Ok, Err, refl, sym, ap, ◌∙◌, subst, append-nil, append_assoc}
 use Rattle.checker_rules.specs.AddFormula.{added, added_by}
 use Rattle.checker_rules.specs.CallEmissions.{EmitsCall, EmitsCalls}
 use Rattle.checker_rules.specs.Calls.{Call, adds, calls_after}
@@ -19,8 +19,8 @@ use Rattle.checker_parts.specs.Answers.{AnswersStep, IsRefusal}
 use Rattle.checker_parts.specs.Causes.{cause_of}
 use Rattle.checker_parts.specs.declared.error.CheckerError.{CheckerError}
 use Rattle.checker_parts.specs.declared.error.CheckerError.TheVariants.{ProofIncomplete, IoError, ParseError, CheckFailed, ProofProcessorError, OutOfMemory, Failed}
-use Rattle.checker_steps.specs.Delivered.{Listeners, Delivered, DeliveredBeginning, DeliveredWhole}
-use Rattle.checker_steps.proofs.DeliveryLemmas.{delivered-second, ran-append, ran-none}
+use Rattle.checker_steps.specs.Delivered.{Listeners, Delivered, DeliveredBeginning, DeliveredWhole, RanOver}
+use Rattle.checker_steps.proofs.DeliveryLemmas.{beginning-second, ran-append, ran-none}
 use Rattle.varisat_checker.proofs.AddedSoFar.{AddedOf, AddedSoFar, added-more, added-none}
 
 -- some list is emitted by each clause
@@ -138,8 +138,18 @@ module _ {P T : Type 0} (took faulted : P → NamedStep → P → Type 0) (took_
   not-failed OutOfMemory o w a h = cc
   not-failed Failed o w a h = a
 
-  error-of : (e f : CheckerError) → ◌≡◌ {A = Result (Unit {0}) CheckerError} (Err e) (Err f) → e ≡ f
-  error-of e f h = cc
+  -- after a first part, a second one that stops
+  stopped-second : (E F : List NamedStep → Type 0) (first : List NamedStep) (old mid new : Listeners P T) (e : CheckerError) →
+      RanOver took took_image first old mid → ((es : List NamedStep) → E es → F (first ++ es)) → (e ≡ Failed → ⊥) →
+      Delivered {A = Unit {0}} (Err e) E took faulted took_image faulted_image mid new →
+      Delivered {A = Unit {0}} (Err e) F took faulted took_image faulted_image old new
+  stopped-second E F first old mid new (CheckFailed number cause debug_step) a f n h = (first ++ h.0, f h.0 h.1, ran-append took faulted took_image faulted_image first h.0 old mid new a h.2)
+  stopped-second E F first old mid new (ProofIncomplete number) a f n h = (first ++ h.0, f h.0 h.1, ran-append took faulted took_image faulted_image first h.0 old mid new a h.2)
+  stopped-second E F first old mid new (IoError number cause) a f n h = (first ++ h.0, f h.0 h.1, ran-append took faulted took_image faulted_image first h.0 old mid new a h.2)
+  stopped-second E F first old mid new (ParseError number cause) a f n h = (first ++ h.0, f h.0 h.1, ran-append took faulted took_image faulted_image first h.0 old mid new a h.2)
+  stopped-second E F first old mid new (ProofProcessorError cause) a f n h = beginning-second took faulted took_image faulted_image E F first old mid new a f h
+  stopped-second E F first old mid new OutOfMemory a f n h = tt
+  stopped-second E F first old mid new Failed a f n h = absurd (n refl)
 
   -- a clause at which the loop stops
   pub adds-stop : (s u w : State) (cs ds : List (List ℕ)) (c : List ℕ) (e : CheckerError) (old mid new : Listeners P T) →
@@ -149,8 +159,8 @@ module _ {P T : Type 0} (took faulted : P → NamedStep → P → Type 0) (took_
       Delivered {A = Unit {0}} (Err e) (EmitsCalls s (map adds (added s (cs ++ c ∷ ds)))) took faulted took_image faulted_image old new
   adds-stop s u w cs ds c e old mid new p h a k =
       subst (λ (accepted : List (List ℕ)). Delivered {A = Unit {0}} (Err e) (EmitsCalls s (map adds accepted)) took faulted took_image faulted_image old new) (sym (added-on s u cs (c ∷ ds) p))
-      (delivered-second took faulted took_image faulted_image (EmitsCalls u (map adds (added u (c ∷ ds)))) (EmitsCalls s (map adds (cs ++ added u (c ∷ ds)))) h.0 old mid new (Err e) h.2
-      (λ es emits. joined s u cs (added u (c ∷ ds)) h.0 es p h.1 emits) (λ failed. not-failed e (step u (add_clause c)) w a (error-of e Failed failed)) (stops-at u w c ds e mid new a k))
+      (stopped-second (EmitsCalls u (map adds (added u (c ∷ ds)))) (EmitsCalls s (map adds (cs ++ added u (c ∷ ds)))) h.0 old mid new e h.2
+      (λ es emits. joined s u cs (added u (c ∷ ds)) h.0 es p h.1 emits) (not-failed e (step u (add_clause c)) w a) (stops-at u w c ds e mid new a k))
 
   -- all were accepted
   pub adds-all : (s u : State) (cs : List (List ℕ)) (old new : Listeners P T) → AddedSoFar s cs u →

@@ -28,13 +28,15 @@ use Rattle.proof_bytes.proofs.Leading.{bytes_on}
 use Rattle.proof_bytes.proofs.TextRuns.{MayRead, SoFar, all_taken, found_fault, found_step, move_closed, move_exhausted, move_fault, move_step, nothing_yet, of_text, one_more, run_ends, some_taken}
 use Rattle.checker_parts.specs.Answers.{AnswersParts}
 use Rattle.checker_parts.specs.Causes.{cause_of}
+use Rattle.checker_parts.specs.declared.error.CheckCause.{CheckCause}
 use Rattle.checker_parts.specs.declared.error.CheckCause.TheVariants.{StepsExhausted}
 use Rattle.checker_parts.specs.declared.error.CheckerError.{CheckerError}
 use Rattle.checker_parts.specs.declared.error.CheckerError.TheVariants.{ProofIncomplete, IoError, ParseError, CheckFailed, ProofProcessorError, OutOfMemory, Failed}
 use Rattle.checker_steps.specs.Delivered.{Listeners, Delivered, DeliveredBeginning, DeliveredWhole, RanOver}
 use Rattle.varisat_checker.specs.ProofRun.{EmitsProof, EndsProof, IsReadText, PartsRun}
 use Rattle.varisat_checker.specs.ReadFault.{IsReadFault}
-use Rattle.clause_store.specs.Refusal.{RefusesWith}
+use Rattle.checker_parts.specs.Faults.{IsErrorOf}
+use Rattle.checker_parts.specs.declared.error.StepFault.TheVariants.{Refused}
 use Rattle.checker_steps.proofs.DeliveryLemmas.{beginning-second, ran-append, ran-none}
 use Rattle.varisat_checker.proofs.ProofRuns.{AnswerSets, SoFarSets, sets-begin, sets-close, sets-counted, sets-go, sets-refused, sets-stand}
 use Rattle.varisat_checker.proofs.RunMachines.{certifies-proof}
@@ -119,7 +121,8 @@ record LastAt (s : State) (steps : List Step) (t : State) (text : List ℕ) (cal
   pub last : last_calls next_of t there ≡ calls
 
 module _ {P T : Type 0} (took faulted : P → NamedStep → P → Type 0) (took_image faulted_image : T → TranscriptStep → T → Type 0) where
-  pub delivered-begins : (known bytes : Known) (s : State) (format : Format) (old : Listeners P T) → bytes ≡ known → format ≡ formats.Start → RunDelivered took took_image known bytes s s format old old
+  pub delivered-begins : (known bytes : Known) (s : State) (format : Format) (old : Listeners P T) → bytes ≡ known → format ≡ formats.Start →
+      RunDelivered took took_image known bytes s s format old old
   delivered-begins known bytes s format old e starts = record {
     steps = [];
     reads = nothing_yet known bytes s format e starts;
@@ -234,7 +237,7 @@ module _ {P T : Type 0} (took faulted : P → NamedStep → P → Type 0) (took_
       runs-here answer u text calls k moved = run_ends s (start_of text) p.steps t k.there answer u k.goes (moved k.there)
 
       -- no step number was left
-      pub delivered-exhausted : (e : CheckerError) → RefusesWith t.steps StepsExhausted e → t.ended ≡ false →
+      pub delivered-exhausted : (e : CheckerError) → IsErrorOf t.steps (Refused StepsExhausted) e → t.ended ≡ false →
           ltb t.steps step_limit ≡ false → PartsRun {A = Unit {0}} known s (Err e) t took faulted took_image faulted_image old mid
       delivered-exhausted e h going none =
           let k = last-here [] (λ there. last-exhausted t there going none) in
@@ -242,13 +245,16 @@ module _ {P T : Type 0} (took faulted : P → NamedStep → P → Type 0) (took_
           (runs-here (Some (inl steps_exhausted)) t k.0 [] k.2 (λ there. move_exhausted t there going none))
           (ends-silent k.0 k.2.there k.2.goes k.2.last)
         where
-          names : (e : CheckerError) → RefusesWith t.steps StepsExhausted e → IsNamed e t.steps steps_exhausted
-          names (CheckFailed number msg debug_step) h = (h.0, ap cause_of h.1)
+          same : (msg : CheckCause) → Refused StepsExhausted ≡ Refused msg → msg ≡ StepsExhausted
+          same msg e = cc
+
+          names : (e : CheckerError) → IsErrorOf t.steps (Refused StepsExhausted) e → IsNamed e t.steps steps_exhausted
+          names (CheckFailed number msg debug_step) h = (h.0, ap cause_of (same msg h.1))
           names (ProofIncomplete number) h = absurd h
           names (IoError number read) h = absurd h
           names (ParseError number kind) h = absurd h
-          names (ProofProcessorError fault) h = absurd h
-          names OutOfMemory h = absurd h
+          names (ProofProcessorError fault) h = absurd cc
+          names OutOfMemory h = absurd cc
           names Failed h = absurd h
 
       -- `End` was accepted, now or before

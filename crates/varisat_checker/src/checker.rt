@@ -8,10 +8,9 @@ use crate::internal::SelfChecker;
 use crate::proof;
 use checker_parts::error::{CheckerError, DimacsError};
 use checker_parts::processor::{ProofProcessor, ProofTranscriptProcessor};
-use checker_steps::check::{attempt_step, process_unit_conflicts};
+use checker_steps::check::{add_clause, attempt_step, process_unit_conflicts};
 use checker_steps::context::ContextOf;
 use checker_steps::processing::ProcessingOf;
-use checker_steps::steps::add_clause;
 use log::{Log, info};
 use proof_bytes::ProofStep;
 use sat_formula::{CnfFormula, DimacsFault, DimacsReader, Lit};
@@ -87,7 +86,7 @@ impl<P: ProofProcessor, T: ProofTranscriptProcessor> CheckerOf<P, T> {
         if self.ctx.checker_state.failed {
             return Err(CheckerError::Failed);
         }
-        let answer = add_clause::add_clause(self.alloc, &mut self.ctx, clause);
+        let answer = add_clause(self.alloc, &mut self.ctx, clause);
         if fails(&answer) {
             self.ctx.checker_state.failed = true;
         }
@@ -300,7 +299,8 @@ impl<P: ProofProcessor, T: ProofTranscriptProcessor> SelfChecker for CheckerOf<P
 
     ghost shown = { λ c. state c };
 
-    ghost delivers = { λ answer emitted old new. Delivered answer emitted P.took P.faulted T.took T.faulted (listeners old) (listeners new) };
+    ghost delivers = { λ answer emitted old new. Delivered answer emitted
+        P.took P.faulted T.took T.faulted (listeners old) (listeners new) };
 
     fn self_check_step(&mut self, step: ProofStep) -> Result<(), CheckerError> {
         if self.ctx.checker_state.failed {

@@ -10,9 +10,8 @@ ghost use Rattle.varisat_checker.specs.ReadFault.{IsReadFault};
 
 use checker_parts::error::{CheckCause, CheckerError};
 use checker_parts::processor::{ProofProcessor, ProofTranscriptProcessor};
-use checker_steps::check::{attempt_step, process_unit_conflicts};
+use checker_steps::check::{process_unit_conflicts, refusal, step_error, take_counted};
 use checker_steps::context::ContextOf;
-use clause_store::refusal::refusal;
 use log::{Log, info};
 use proof_bytes::{ProofFault, StepReader};
 use std::alloc::Global;
@@ -46,8 +45,10 @@ pub fn check_proof<P: ProofProcessor, T: ProofTranscriptProcessor, L: Log, R: Re
         }
         match reader.next_step() {
             Ok(step) => {
-                if let Err(fault) = attempt_step(alloc, ctx, &step) {
-                    return Err(fault);
+                // The error is made where the loop is left: it is long, and costs each step otherwise.
+                if let Err(fault) = take_counted(alloc, ctx, &step) {
+                    let number = ctx.checker_state.step;
+                    return Err(step_error(alloc, &mut ctx.processing, number, fault, &step));
                 }
             }
             Err(fault) => {
@@ -72,8 +73,14 @@ fn read_fault(step: u64, fault: ProofFault) -> CheckerError
     }
 }
 
+#[inline(always)]
 fn tell_progress<L: Log>(rt: &L, step: u64) {
     if step % STEPS_A_LINE == 0 {
-        info!(rt; "checking step {}k", step / 1000);
+        log_step(rt, step);
     }
+}
+
+#[inline(never)]
+fn log_step<L: Log>(rt: &L, step: u64) {
+    info!(rt; "checking step {}k", step / 1000);
 }

@@ -10,14 +10,14 @@ ghost use Rattle.checker_rules.specs.State.{Known};
 ghost use Rattle.checker_rules.specs.Step as rules;
 ghost use Rattle.checker_rules.specs.Steps.{step};
 ghost use Rattle.checker_rules.specs.Store.{id_limit};
-ghost use Rattle.checker_parts.specs.Answers.{AnswersParts, UnlessFailed};
+ghost use Rattle.checker_parts.specs.Faults.{AnswersOutcome, UnlessStopped};
 ghost use Rattle.clause_store.specs.PartsInvariant.{PartsInvariant};
 ghost use Rattle.clause_store.specs.StateOf.{state_of};
 ghost use Rattle.clause_store.specs.Store.{IsStore};
 ghost use Rattle.clause_store.specs.declared.state.CheckerState.{CheckerState};
 ghost use Rattle.checker_steps.specs.Added.{emitted_of};
 ghost use Rattle.checker_steps.specs.Context.{ContextInvariant, context_state};
-ghost use Rattle.checker_steps.specs.Delivered.{Delivered, DeliveredAll, listeners_of};
+ghost use Rattle.checker_steps.specs.Delivered.{DeliveredAll, DeliveredList, listeners_of};
 ghost use Rattle.checker_steps.specs.InputCause.{IsInputCause, HasCapacity, taken};
 ghost use Rattle.checker_steps.specs.declared.steps.add_clause.Added.TheVariants.{Duplicate};
 
@@ -27,14 +27,13 @@ use crate::emit::{
 };
 use crate::processing::ProcessingOf;
 use crate::variables::some_not_sampling;
-use checker_parts::error::{CheckCause, CheckerError};
+use checker_parts::error::{CheckCause, StepFault};
 use checker_parts::processor::{ProofProcessor, ProofTranscriptProcessor};
 use checker_parts::sorted_lits::copy_canonical;
 use checker_parts::variables::Variables;
 use clause_store::clauses::store::{StoreFault, copies, store_clause};
 use clause_store::clauses::{Clauses, StoreClauseResult};
 use clause_store::hash::ClauseHasher;
-use clause_store::refusal::refusal;
 use clause_store::state::CheckerState;
 use clause_store::variables::{ensure_vars, var_bound};
 use sat_formula::Lit;
@@ -45,12 +44,13 @@ pub fn add_clause<P: ProofProcessor, T: ProofTranscriptProcessor>(
     alloc: Global,
     ctx: &mut ContextOf<P, T>,
     lits: &[Lit],
-) -> Result<(), CheckerError>
+) -> Result<(), StepFault>
     requires { ContextInvariant ctx.old }
-    ensures step { AnswersParts result (step (context_state ctx.old) (rules.add_clause lits.now))
+    ensures step { AnswersOutcome result (step (context_state ctx.old) (rules.add_clause lits.now))
         (context_state ctx.new) }
-    ensures kept { UnlessFailed result (ContextInvariant ctx.new) }
-    ensures delivered { Delivered result (Emits (context_state ctx.old) (rules.add_clause lits.now))
+    ensures kept { UnlessStopped result (ContextInvariant ctx.new) }
+    ensures delivered { DeliveredList result
+        (Emits (context_state ctx.old) (rules.add_clause lits.now))
         P.took P.faulted T.took T.faulted (listeners_of ctx.old.processing)
         (listeners_of ctx.new.processing) }
     ensures after_unsat { (context_state ctx.old).unsat ≡ true →
@@ -60,11 +60,11 @@ pub fn add_clause<P: ProofProcessor, T: ProofTranscriptProcessor>(
         return Ok(());
     }
     let Ok(tautology) = copy_canonical(&mut ctx.tmp_data.tmp, lits) else {
-        return Err(CheckerError::OutOfMemory);
+        return Err(StepFault::OutOfMemory);
     };
     let clause = ctx.tmp_data.tmp.as_slice();
-    if let Some(msg) = cause(&ctx.clause_hasher, &ctx.clauses, &ctx.variables, clause) {
-        return Err(refusal(alloc, &ctx.checker_state, msg));
+    if let Some(cause) = cause(&ctx.clause_hasher, &ctx.clauses, &ctx.variables, clause) {
+        return Err(StepFault::Refused(cause));
     }
     let taken = take_clause(
         alloc,
@@ -77,7 +77,7 @@ pub fn add_clause<P: ProofProcessor, T: ProofTranscriptProcessor>(
     );
     match taken {
         Ok(added) => emit_added(&mut ctx.processing, &ctx.variables, clause, added),
-        Err(_) => Err(CheckerError::OutOfMemory),
+        Err(_) => Err(StepFault::OutOfMemory),
     }
 }
 
@@ -104,7 +104,7 @@ fn emit_added<P: ProofProcessor, T: ProofTranscriptProcessor>(
     variables: &Variables,
     clause: &[Lit],
     added: Added,
-) -> Result<(), CheckerError>
+) -> Result<(), StepFault>
     ensures { DeliveredAll result (emitted_of added clause.now variables.now)
         P.took P.faulted T.took T.faulted (listeners_of processing.old)
         (listeners_of processing.new) }

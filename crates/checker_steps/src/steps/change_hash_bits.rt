@@ -2,15 +2,14 @@
 ghost use Rattle.checker_rules.specs.Emits.{Emits};
 ghost use Rattle.checker_rules.specs.Step as rules;
 ghost use Rattle.checker_rules.specs.Steps.{step};
-ghost use Rattle.checker_parts.specs.Answers.{AnswersParts, UnlessFailed};
+ghost use Rattle.checker_parts.specs.Faults.{AnswersOutcome, UnlessStopped};
 ghost use Rattle.checker_steps.specs.Context.{ContextInvariant, context_state};
-ghost use Rattle.checker_steps.specs.Delivered.{Delivered, listeners_of};
+ghost use Rattle.checker_steps.specs.Delivered.{DeliveredList, listeners_of};
 
 use crate::context::ContextOf;
-use checker_parts::error::{CheckCause, CheckerError};
+use checker_parts::error::{CheckCause, StepFault};
 use checker_parts::processor::{ProofProcessor, ProofTranscriptProcessor};
 use clause_store::hash::rehash;
-use clause_store::refusal::refusal;
 use std::alloc::Global;
 
 /// Sets the width of hashes and applies the pending names and removals.
@@ -18,21 +17,21 @@ pub fn change_hash_bits<P: ProofProcessor, T: ProofTranscriptProcessor>(
     alloc: Global,
     ctx: &mut ContextOf<P, T>,
     bits: u32,
-) -> Result<(), CheckerError>
+) -> Result<(), StepFault>
     requires { ContextInvariant ctx.old }
-    ensures step { AnswersParts result (step (context_state ctx.old) (rules.change_hash_bits bits))
-        (context_state ctx.new) }
-    ensures kept { UnlessFailed result (ContextInvariant ctx.new) }
-    ensures delivered { Delivered result
+    ensures step { AnswersOutcome result
+        (step (context_state ctx.old) (rules.change_hash_bits bits)) (context_state ctx.new) }
+    ensures kept { UnlessStopped result (ContextInvariant ctx.new) }
+    ensures delivered { DeliveredList result
         (Emits (context_state ctx.old) (rules.change_hash_bits bits))
         P.took P.faulted T.took T.faulted (listeners_of ctx.old.processing)
         (listeners_of ctx.new.processing) }
 {
     if bits == 0 || bits > u64::BITS {
-        return Err(refusal(alloc, &ctx.checker_state, CheckCause::HashBits));
+        return Err(StepFault::Refused(CheckCause::HashBits));
     }
     match rehash(alloc, &mut ctx.clause_hasher, &mut ctx.clauses, bits) {
         Ok(()) => Ok(()),
-        Err(_) => Err(CheckerError::OutOfMemory),
+        Err(_) => Err(StepFault::OutOfMemory),
     }
 }

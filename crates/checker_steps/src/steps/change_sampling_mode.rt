@@ -4,36 +4,33 @@ ghost use Rattle.checker_rules.specs.Emits.{Emits};
 ghost use Rattle.checker_rules.specs.State.{sample as sampled, witness};
 ghost use Rattle.checker_rules.specs.Step as rules;
 ghost use Rattle.checker_rules.specs.Steps.{step};
-ghost use Rattle.checker_parts.specs.Answers.{AnswersParts, UnlessFailed};
+ghost use Rattle.checker_parts.specs.Faults.{AnswersOutcome, UnlessStopped};
 ghost use Rattle.checker_parts.specs.Variables.{mode_of};
 ghost use Rattle.sat_formula.specs.Vars.{index_of};
 ghost use Rattle.checker_steps.specs.Context.{ContextInvariant, context_state};
-ghost use Rattle.checker_steps.specs.Delivered.{Delivered, listeners_of};
+ghost use Rattle.checker_steps.specs.Delivered.{DeliveredList, listeners_of};
 ghost use Rattle.checker_steps.specs.Naming.{AnswersMode};
 
 use crate::context::ContextOf;
 use crate::emit::emit_user_var;
 use crate::variables::{SamplingMode, Variables, ensure_var, shown_mode};
-use checker_parts::error::{CheckCause, CheckerError};
+use checker_parts::error::{CheckCause, StepFault};
 use checker_parts::processor::{ProofProcessor, ProofTranscriptProcessor};
 use checker_parts::step::CheckedUserVar;
-use clause_store::refusal::refusal;
 use sat_formula::Var;
-use std::alloc::Global;
 
 /// Changes the mode of a variable. Without a user name it may become `Witness`, but not `Sample`.
 pub fn change_sampling_mode<P: ProofProcessor, T: ProofTranscriptProcessor>(
-    alloc: Global,
     ctx: &mut ContextOf<P, T>,
     var: Var,
     sample: bool,
-) -> Result<(), CheckerError>
+) -> Result<(), StepFault>
     requires { ContextInvariant ctx.old }
-    ensures step { AnswersParts result
+    ensures step { AnswersOutcome result
         (step (context_state ctx.old) (rules.change_sampling_mode (index_of var) sample))
         (context_state ctx.new) }
-    ensures kept { UnlessFailed result (ContextInvariant ctx.new) }
-    ensures delivered { Delivered result
+    ensures kept { UnlessStopped result (ContextInvariant ctx.new) }
+    ensures delivered { DeliveredList result
         (Emits (context_state ctx.old) (rules.change_sampling_mode (index_of var) sample))
         P.took P.faulted T.took T.faulted (listeners_of ctx.old.processing)
         (listeners_of ctx.new.processing) }
@@ -49,7 +46,7 @@ pub fn change_sampling_mode<P: ProofProcessor, T: ProofTranscriptProcessor>(
             };
             emit_user_var(&mut ctx.processing, &ctx.variables, var, Some(changed))
         }
-        Err(msg) => Err(refusal(alloc, &ctx.checker_state, msg)),
+        Err(cause) => Err(StepFault::Refused(cause)),
     }
 }
 

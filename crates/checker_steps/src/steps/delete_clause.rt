@@ -6,28 +6,27 @@ ghost use Rattle.checker_rules.specs.State.{Known};
 ghost use Rattle.checker_rules.specs.Step as rules;
 ghost use Rattle.checker_rules.specs.Steps.{step};
 ghost use Rattle.checker_rules.specs.WellFormed.{is_previous_canonical};
-ghost use Rattle.checker_parts.specs.Answers.{AnswersParts, UnlessFailed};
+ghost use Rattle.checker_parts.specs.Faults.{AnswersOutcome, UnlessStopped};
 ghost use Rattle.checker_parts.specs.declared.error.CheckCause.TheVariants.{DeleteIrredundantIsRedundant, DeleteRedundantIsIrredundant};
 ghost use Rattle.proof_bytes.specs.NextStep.{why};
-ghost use Rattle.clause_store.specs.Delete.{IsDeleteError};
+ghost use Rattle.clause_store.specs.Refusal.{delete_fault};
 ghost use Rattle.clause_store.specs.StateOf.{state_of};
 ghost use Rattle.clause_store.specs.Trace.{AreStored};
 ghost use Rattle.clause_store.specs.declared.hash.ClauseHasher.{ClauseHasher};
 ghost use Rattle.checker_steps.specs.Context.{ContextInvariant, context_state};
 ghost use Rattle.checker_steps.specs.DeletionSteps.{deletion_steps};
-ghost use Rattle.checker_steps.specs.Delivered.{Delivered, DeliveredAll, listeners_of};
+ghost use Rattle.checker_steps.specs.Delivered.{DeliveredAll, DeliveredList, listeners_of};
 ghost use Rattle.checker_steps.specs.Justified.{AnswersJustified, previous_of, subsuming_id};
 
 use crate::context::ContextOf;
 use crate::emit::{emit_delete_at_clause, emit_delete_clause};
 use crate::processing::ProcessingOf;
-use checker_parts::error::{CheckCause, CheckerError};
+use checker_parts::error::{CheckCause, StepFault};
 use checker_parts::processor::{ProofProcessor, ProofTranscriptProcessor};
 use checker_parts::sorted_lits::{copy_canonical, is_subset};
 use checker_parts::variables::Variables;
 use clause_store::clauses::delete::{self, DeleteFault};
 use clause_store::clauses::{Clauses, DeleteClauseResult};
-use clause_store::refusal::refusal;
 use clause_store::state::CheckerState;
 use proof_bytes::DeleteClauseProof;
 use sat_formula::Lit;
@@ -40,27 +39,27 @@ pub fn delete_clause<P: ProofProcessor, T: ProofTranscriptProcessor>(
     ctx: &mut ContextOf<P, T>,
     proof: DeleteClauseProof,
     lits: &[Lit],
-) -> Result<(), CheckerError>
+) -> Result<(), StepFault>
     requires { ContextInvariant ctx.old }
-    ensures step { AnswersParts result
+    ensures step { AnswersOutcome result
         (step (context_state ctx.old) (rules.delete_clause (why proof) lits.now))
         (context_state ctx.new) }
-    ensures kept { UnlessFailed result (ContextInvariant ctx.new) }
-    ensures delivered { Delivered result
+    ensures kept { UnlessStopped result (ContextInvariant ctx.new) }
+    ensures delivered { DeliveredList result
         (Emits (context_state ctx.old) (rules.delete_clause (why proof) lits.now))
         P.took P.faulted T.took T.faulted (listeners_of ctx.old.processing)
         (listeners_of ctx.new.processing) }
 {
     let Ok(tautology) = copy_canonical(&mut ctx.tmp_data.tmp, lits) else {
-        return Err(CheckerError::OutOfMemory);
+        return Err(StepFault::OutOfMemory);
     };
     if tautology {
-        return Err(refusal(alloc, &ctx.checker_state, CheckCause::Tautology));
+        return Err(StepFault::Refused(CheckCause::Tautology));
     }
     let clause = ctx.tmp_data.tmp.as_slice();
     let implying = match justify(&ctx.checker_state, &ctx.clauses, clause, proof) {
         Ok(id) => id,
-        Err(msg) => return Err(refusal(alloc, &ctx.checker_state, msg)),
+        Err(cause) => return Err(StepFault::Refused(cause)),
     };
     let redundant = implying.is_none();
     ctx.checker_state.previous_id = None;
@@ -80,7 +79,7 @@ pub fn delete_clause<P: ProofProcessor, T: ProofTranscriptProcessor>(
             did,
             implying,
         ),
-        Err(fault) => Err(delete_error(alloc, &ctx.checker_state, fault, redundant)),
+        Err(fault) => Err(delete_fault(fault, redundant)),
     }
 }
 
@@ -124,21 +123,15 @@ fn subsuming_id(state: &CheckerState, clause: &[Lit]) -> Option<u64>
     }
 }
 
-/// The error for a copy that was not deleted.
-#[inline(always)]
-fn delete_error(
-    alloc: Global,
-    state: &CheckerState,
-    fault: DeleteFault,
-    redundant: bool,
-) -> CheckerError
-    ensures { IsDeleteError fault redundant state.now.step result }
+/// Why the step is not taken where a copy was not deleted.
+fn delete_fault(fault: DeleteFault, redundant: bool) -> StepFault
+    ensures { result ≡ delete_fault fault redundant }
 {
     match fault {
-        DeleteFault::OutOfMemory => CheckerError::OutOfMemory,
-        DeleteFault::UnitOrEmpty => refusal(alloc, state, CheckCause::DeleteUnitOrEmpty),
-        DeleteFault::Unknown => refusal(alloc, state, CheckCause::DeleteUnknown),
-        DeleteFault::NoCopy => refusal(alloc, state, no_copy(redundant)),
+        DeleteFault::OutOfMemory => StepFault::OutOfMemory,
+        DeleteFault::UnitOrEmpty => StepFault::Refused(CheckCause::DeleteUnitOrEmpty),
+        DeleteFault::Unknown => StepFault::Refused(CheckCause::DeleteUnknown),
+        DeleteFault::NoCopy => StepFault::Refused(no_copy(redundant)),
     }
 }
 
@@ -163,7 +156,7 @@ fn emit_deletion<P: ProofProcessor, T: ProofTranscriptProcessor>(
     clause: &[Lit],
     did: DeleteClauseResult,
     implying: Option<u64>,
-) -> Result<(), CheckerError>
+) -> Result<(), StepFault>
     ensures { DeliveredAll result (deletion_steps variables.now implying did id clause.now)
         P.took P.faulted T.took T.faulted (listeners_of processing.old)
         (listeners_of processing.new) }

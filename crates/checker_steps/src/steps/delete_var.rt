@@ -8,7 +8,7 @@ ghost use Rattle.checker_rules.specs.Step as rules;
 ghost use Rattle.checker_rules.specs.Steps.{step};
 ghost use Rattle.checker_rules.specs.Transcript.{known_at};
 ghost use Rattle.sat_formula.specs.Vars.{index_of};
-ghost use Rattle.checker_parts.specs.Answers.{AnswersParts, UnlessFailed, UnlessGivenUp};
+ghost use Rattle.checker_parts.specs.Faults.{AnswersOutcome, UnlessStopped};
 ghost use Rattle.clause_store.specs.Counts.{AreCounts};
 ghost use Rattle.clause_store.specs.StateOf.{state_of, stored_units};
 ghost use Rattle.clause_store.specs.Store.{IsStore};
@@ -17,55 +17,45 @@ ghost use Rattle.clause_store.specs.declared.hash.ClauseHasher.{ClauseHasher};
 ghost use Rattle.clause_store.specs.declared.state.CheckerState.{CheckerState};
 ghost use Rattle.checker_steps.specs.Context.{ContextInvariant, context_state};
 ghost use Rattle.checker_steps.specs.DeletedVar.{close_on, conflict_on, emits_close, emits_dropped};
-ghost use Rattle.checker_steps.specs.Delivered.{Delivered, listeners_of};
+ghost use Rattle.checker_steps.specs.Delivered.{DeliveredList, listeners_of};
 
 use crate::context::ContextOf;
 use crate::emit::{emit_at_clause, emit_delete_rat_clause};
 use crate::processing::ProcessingOf;
 use crate::variables::ensure_var;
-use checker_parts::error::{CheckCause, CheckerError};
+use checker_parts::error::{CheckCause, StepFault};
 use checker_parts::processor::{ProofProcessor, ProofTranscriptProcessor};
 use checker_parts::variables::{SamplingMode, Variables};
 use clause_store::clauses::Clauses;
 use clause_store::clauses::counts::LitCounts;
 use clause_store::clauses::store::global_id;
-use clause_store::refusal::refusal;
 use clause_store::state::CheckerState;
 use sat_formula::{Lit, Var};
-use std::alloc::Global;
 
 /// Deletes an unnamed variable that no clause of two or more literals holds: its unit goes, and it is as a new variable is.
 ///
 /// A conflict on its unit is closed first. A previous clause with the variable is forgotten.
 pub fn delete_var<P: ProofProcessor, T: ProofTranscriptProcessor>(
-    alloc: Global,
     ctx: &mut ContextOf<P, T>,
     var: Var,
-) -> Result<(), CheckerError>
+) -> Result<(), StepFault>
     requires { ContextInvariant ctx.old }
-    ensures step { AnswersParts result
+    ensures step { AnswersOutcome result
         (step (context_state ctx.old) (rules.delete_var (index_of var))) (context_state ctx.new) }
-    ensures kept { UnlessFailed result (ContextInvariant ctx.new) }
-    ensures delivered { Delivered result
+    ensures kept { UnlessStopped result (ContextInvariant ctx.new) }
+    ensures delivered { DeliveredList result
         (Emits (context_state ctx.old) (rules.delete_var (index_of var)))
         P.took P.faulted T.took T.faulted (listeners_of ctx.old.processing)
         (listeners_of ctx.new.processing) }
 {
     ensure_var(&mut ctx.clauses, &mut ctx.variables, var)?;
     if ctx.variables.get(var).user_var.is_some() {
-        return Err(refusal(alloc, &ctx.checker_state, CheckCause::DeletedVarNamed));
+        return Err(StepFault::Refused(CheckCause::DeletedVarNamed));
     }
     if is_held(&ctx.clauses.lit_counts, var) {
-        return Err(refusal(alloc, &ctx.checker_state, CheckCause::DeletedVarHasClauses));
+        return Err(StepFault::Refused(CheckCause::DeletedVarHasClauses));
     }
-    close_conflict_on(
-        alloc,
-        &ctx.checker_state,
-        &mut ctx.clauses,
-        &ctx.variables,
-        &mut ctx.processing,
-        var,
-    )?;
+    close_conflict_on(&mut ctx.clauses, &ctx.variables, &mut ctx.processing, var)?;
     emit_unit(&mut ctx.processing, &ctx.clauses, &ctx.variables, var)?;
     free_var(
         &mut ctx.checker_state,
@@ -86,29 +76,27 @@ fn is_held(counts: &LitCounts, var: Var) -> bool
 
 /// Closes a conflict on the variable's unit: an id is taken for it, and it is forgotten.
 fn close_conflict_on<P: ProofProcessor, T: ProofTranscriptProcessor>(
-    alloc: Global,
-    state: &CheckerState,
     clauses: &mut Clauses,
     variables: &Variables,
     processing: &mut ProcessingOf<P, T>,
     var: Var,
-) -> Result<(), CheckerError>
-    ensures answer { (h : ClauseHasher) →
-        AnswersParts result (close_on (index_of var)
-        (state_of state.now h clauses.old variables.now))
-        (state_of state.now h clauses.new variables.now) }
+) -> Result<(), StepFault>
+    ensures answer { (st : CheckerState) (h : ClauseHasher) →
+        AnswersOutcome result (close_on (index_of var)
+        (state_of st h clauses.old variables.now))
+        (state_of st h clauses.new variables.now) }
     ensures store { (h : ClauseHasher) → IsStore h clauses.old → IsStore h clauses.new }
     ensures units { clauses.new.unit_clauses ≡ clauses.old.unit_clauses }
-    ensures delivered { (h : ClauseHasher) →
-        Delivered result (λ es. es ≡ emits_close (index_of var)
-        (state_of state.now h clauses.old variables.now)) P.took P.faulted T.took T.faulted
+    ensures delivered { (st : CheckerState) (h : ClauseHasher) →
+        DeliveredList result (λ es. es ≡ emits_close (index_of var)
+        (state_of st h clauses.old variables.now)) P.took P.faulted T.took T.faulted
         (listeners_of processing.old) (listeners_of processing.new) }
 {
     let Some((unit, negation)) = conflict_on(clauses, var) else {
         return Ok(());
     };
     let Some(id) = clauses.take_id() else {
-        return Err(refusal(alloc, state, CheckCause::IdsExhausted));
+        return Err(StepFault::Refused(CheckCause::IdsExhausted));
     };
     clauses.unit_conflict = None;
     emit_at_clause(processing, variables, id, false, &[], &[unit, negation])
@@ -134,10 +122,10 @@ fn emit_unit<P: ProofProcessor, T: ProofTranscriptProcessor>(
     clauses: &Clauses,
     variables: &Variables,
     var: Var,
-) -> Result<(), CheckerError>
-    ensures not_refused { UnlessGivenUp result (IsOk result) }
+) -> Result<(), StepFault>
+    ensures not_refused { UnlessStopped result (IsOk result) }
     ensures delivered { (st : CheckerState) (h : ClauseHasher) →
-        Delivered result (λ es. es ≡ emits_dropped (index_of var)
+        DeliveredList result (λ es. es ≡ emits_dropped (index_of var)
         (state_of st h clauses.now variables.now)) P.took P.faulted T.took T.faulted
         (listeners_of processing.old) (listeners_of processing.new) }
 {

@@ -3,26 +3,22 @@ ghost use Rattle.std.specs.Prelude.{◌≡◌, ℕ, List, IfOk, false, true};
 ghost use Rattle.checker_rules.specs.Check.{ready};
 ghost use Rattle.checker_rules.specs.Clauses.{is_canonical, is_tautology};
 ghost use Rattle.checker_rules.specs.Store.{id_of};
-ghost use Rattle.checker_parts.specs.Answers.{AnswersParts, UnlessFailed};
-ghost use Rattle.clause_store.specs.PartsInvariant.{PartsInvariant};
-ghost use Rattle.clause_store.specs.Refusal.{IsStoreRefusal};
-ghost use Rattle.clause_store.specs.StateOf.{state_of};
+ghost use Rattle.checker_parts.specs.Faults.{AnswersOutcome, UnlessStopped};
+ghost use Rattle.clause_store.specs.Refusal.{store_fault};
 ghost use Rattle.clause_store.specs.Store.{IsStore};
+ghost use Rattle.checker_steps.specs.Context.{ContextInvariant, context_state};
 ghost use Rattle.checker_steps.specs.Derived.{IsTraceFor, derived, derived_steps, stored_steps};
-ghost use Rattle.checker_steps.specs.Delivered.{Delivered, DeliveredAll, listeners_of};
+ghost use Rattle.checker_steps.specs.Delivered.{DeliveredAll, DeliveredList, listeners_of};
 
+use crate::context::ContextOf;
 use crate::emit::{emit_at_clause, emit_make_irredundant};
 use crate::processing::ProcessingOf;
-use checker_parts::error::{CheckCause, CheckerError};
+use checker_parts::error::{CheckCause, StepFault};
 use checker_parts::processor::{ProofProcessor, ProofTranscriptProcessor};
 use checker_parts::variables::Variables;
+use clause_store::clauses::StoreClauseResult;
 use clause_store::clauses::store::{StoreFault, store_clause};
-use clause_store::clauses::{Clauses, StoreClauseResult};
-use clause_store::hash::ClauseHasher;
-use clause_store::refusal::refusal;
-use clause_store::rup::RupCheck;
 use clause_store::rup::check::check_clause_with_hashes;
-use clause_store::state::CheckerState;
 use proof_bytes::ClauseHash;
 use sat_formula::Lit;
 use std::alloc::Global;
@@ -33,41 +29,51 @@ use std::alloc::Global;
 #[inline(always)]
 pub(crate) fn derive<P: ProofProcessor, T: ProofTranscriptProcessor>(
     alloc: Global,
-    state: &mut CheckerState,
-    hasher: &mut ClauseHasher,
-    clauses: &mut Clauses,
-    variables: &mut Variables,
-    rup: &mut RupCheck,
-    processing: &mut ProcessingOf<P, T>,
+    ctx: &mut ContextOf<P, T>,
     redundant: bool,
     clause: &[Lit],
     hashes: &[ClauseHash],
-) -> Result<u64, CheckerError>
-    requires kept { PartsInvariant state.old hasher.old clauses.old variables.old }
+) -> Result<u64, StepFault>
+    requires kept { ContextInvariant ctx.old }
     requires canonical { is_canonical clause.now ≡ true }
     requires no_tautology { is_tautology clause.now ≡ false }
-    ensures answer { AnswersParts result
-        (derived (state_of state.old hasher.old clauses.old variables.old) redundant clause.now
-        hashes.now) (state_of state.new hasher.new clauses.new variables.new) }
+    ensures answer { AnswersOutcome result
+        (derived (context_state ctx.old) redundant clause.now hashes.now)
+        (context_state ctx.new) }
     ensures id { IfOk result (λ id. id ≡
-        id_of clause.now (ready (state_of state.old hasher.old clauses.old variables.old)
-        clause.now)) }
-    ensures store { UnlessFailed result (IsStore hasher.new clauses.new) }
-    ensures delivered { Delivered result
-        (λ steps. steps ≡ derived_steps (state_of state.old hasher.old clauses.old variables.old)
-        redundant clause.now hashes.now) P.took P.faulted T.took T.faulted
-        (listeners_of processing.old) (listeners_of processing.new) }
+        id_of clause.now (ready (context_state ctx.old) clause.now)) }
+    ensures store { UnlessStopped result (IsStore ctx.new.clause_hasher ctx.new.clauses) }
+    ensures delivered { DeliveredList result
+        (λ steps. steps ≡ derived_steps (context_state ctx.old) redundant clause.now hashes.now)
+        P.took P.faulted T.took T.faulted (listeners_of ctx.old.processing)
+        (listeners_of ctx.new.processing) }
 {
-    let traced = !processing.processors.is_empty();
+    let traced = !ctx.processing.processors.is_empty();
     check_clause_with_hashes(
-        alloc, state, hasher, clauses, variables, rup, traced, clause, hashes,
+        alloc,
+        &ctx.checker_state,
+        &mut ctx.clause_hasher,
+        &mut ctx.clauses,
+        &mut ctx.variables,
+        &mut ctx.rup_check,
+        traced,
+        clause,
+        hashes,
     )?;
-    match store_clause(alloc, state, hasher, clauses, clause, redundant) {
+    match store_clause(
+        alloc,
+        &mut ctx.checker_state,
+        &ctx.clause_hasher,
+        &mut ctx.clauses,
+        clause,
+        redundant,
+    ) {
         Ok((id, did)) => {
+            let rup = &ctx.rup_check;
             let propagations = rup.trace_ids.as_slice();
             emit_derived(
-                processing,
-                variables,
+                &mut ctx.processing,
+                &ctx.variables,
                 did,
                 id,
                 redundant,
@@ -76,19 +82,18 @@ pub(crate) fn derive<P: ProofProcessor, T: ProofTranscriptProcessor>(
             )?;
             Ok(id)
         }
-        Err(fault) => Err(store_refusal(alloc, state, fault)),
+        Err(fault) => Err(store_fault(fault)),
     }
 }
 
-/// The error where a clause is not stored.
-#[inline(always)]
-fn store_refusal(alloc: Global, state: &CheckerState, fault: StoreFault) -> CheckerError
-    ensures { IsStoreRefusal fault state.now.step result }
+/// Why the step is not taken where its clause is not stored.
+fn store_fault(fault: StoreFault) -> StepFault
+    ensures { result ≡ store_fault fault }
 {
     match fault {
-        StoreFault::OutOfMemory => CheckerError::OutOfMemory,
-        StoreFault::IdsExhausted => refusal(alloc, state, CheckCause::IdsExhausted),
-        StoreFault::CountExhausted => refusal(alloc, state, CheckCause::CountExhausted),
+        StoreFault::OutOfMemory => StepFault::OutOfMemory,
+        StoreFault::IdsExhausted => StepFault::Refused(CheckCause::IdsExhausted),
+        StoreFault::CountExhausted => StepFault::Refused(CheckCause::CountExhausted),
     }
 }
 
@@ -102,7 +107,7 @@ fn emit_derived<P: ProofProcessor, T: ProofTranscriptProcessor>(
     redundant: bool,
     clause: &[Lit],
     propagations: &[u64],
-) -> Result<(), CheckerError>
+) -> Result<(), StepFault>
     ensures { (ids : List ℕ) → IsTraceFor processing.old.processors.items propagations.now ids →
         DeliveredAll result (stored_steps did variables.now id redundant clause.now ids)
         P.took P.faulted T.took T.faulted (listeners_of processing.old)

@@ -8,33 +8,28 @@ ghost use Rattle.checker_rules.specs.Outcome.{accept};
 ghost use Rattle.checker_rules.specs.Step as rules;
 ghost use Rattle.checker_rules.specs.Steps.{step};
 ghost use Rattle.checker_rules.specs.Transcript.{user_of};
-ghost use Rattle.checker_parts.specs.Answers.{AnswersParts, UnlessFailed};
-ghost use Rattle.clause_store.specs.PartsInvariant.{PartsInvariant};
+ghost use Rattle.checker_parts.specs.Faults.{AnswersOutcome, UnlessStopped};
 ghost use Rattle.clause_store.specs.StateOf.{state_of};
 ghost use Rattle.clause_store.specs.Store.{IsStore};
 ghost use Rattle.clause_store.specs.declared.clauses.Clauses.{Clauses};
 ghost use Rattle.clause_store.specs.declared.hash.ClauseHasher.{ClauseHasher};
 ghost use Rattle.checker_steps.specs.Context.{ContextInvariant, context_state};
 ghost use Rattle.checker_steps.specs.FailedCore.{core_cause, core_clause, core_steps};
-ghost use Rattle.checker_steps.specs.Delivered.{Delivered, listeners_of};
+ghost use Rattle.checker_steps.specs.Delivered.{DeliveredList, listeners_of};
 ghost use Rattle.checker_steps.specs.ModelCause.{IsJudged};
 
 use crate::context::ContextOf;
 use crate::emit::emit_failed_assumptions;
-use crate::processing::ProcessingOf;
-use checker_parts::error::{CheckCause, CheckerError};
+use checker_parts::error::{CheckCause, StepFault};
 use checker_parts::processor::{CheckerData, ProofProcessor, ProofTranscriptProcessor};
 use checker_parts::sorted_lits::{copy_canonical, is_subset};
 use checker_parts::variables::Variables;
-use clause_store::clauses::Clauses;
-use clause_store::hash::ClauseHasher;
-use clause_store::refusal::refusal;
-use clause_store::rup::RupCheck;
 use clause_store::rup::check::check_clause_with_hashes;
 use clause_store::state::CheckerState;
 use proof_bytes::ClauseHash;
 use sat_formula::Lit;
 use std::alloc::{AllocError, Global};
+use std::mem::replace;
 
 /// Checks that assumptions fail together: the clause of their negations follows by propagation. It is not stored.
 ///
@@ -44,38 +39,31 @@ pub fn failed_assumptions<P: ProofProcessor, T: ProofTranscriptProcessor>(
     ctx: &mut ContextOf<P, T>,
     failed_core: &[Lit],
     hashes: &[ClauseHash],
-) -> Result<(), CheckerError>
+) -> Result<(), StepFault>
     requires { ContextInvariant ctx.old }
-    ensures step { AnswersParts result
+    ensures step { AnswersOutcome result
         (step (context_state ctx.old) (rules.failed_assumptions failed_core.now hashes.now))
         (context_state ctx.new) }
-    ensures kept { UnlessFailed result (ContextInvariant ctx.new) }
-    ensures delivered { Delivered result
+    ensures kept { UnlessStopped result (ContextInvariant ctx.new) }
+    ensures delivered { DeliveredList result
         (Emits (context_state ctx.old) (rules.failed_assumptions failed_core.now hashes.now))
         P.took P.faulted T.took T.faulted (listeners_of ctx.old.processing)
         (listeners_of ctx.new.processing) }
 {
     let Ok(has_opposites) = copy_canonical(&mut ctx.tmp_data.tmp, failed_core) else {
-        return Err(CheckerError::OutOfMemory);
+        return Err(StepFault::OutOfMemory);
     };
     let core = ctx.tmp_data.tmp.as_slice();
-    if let Err(msg) = judge(&ctx.checker_state, &ctx.variables, core) {
-        return Err(refusal(alloc, &ctx.checker_state, msg));
+    if let Err(cause) = judge(&ctx.checker_state, &ctx.variables, core) {
+        return Err(StepFault::Refused(cause));
     }
     if has_opposites {
         return emit_failed_assumptions(&mut ctx.processing, &ctx.variables, core, &[]);
     }
-    check_core(
-        alloc,
-        &ctx.checker_state,
-        &mut ctx.clause_hasher,
-        &mut ctx.clauses,
-        &mut ctx.variables,
-        &mut ctx.rup_check,
-        &mut ctx.processing,
-        core,
-        hashes,
-    )
+    let core = replace(&mut ctx.tmp_data.tmp, Vec::new(alloc));
+    let answer = check_core(alloc, ctx, &core, hashes);
+    ctx.tmp_data.tmp = core;
+    answer
 }
 
 /// Why a core is refused before its check: its literals are to be assumptions with user variables.
@@ -113,37 +101,40 @@ fn is_hidden(variables: &Variables, lit: Lit) -> bool
 /// Checks that a core without opposite literals fails, and hands it on.
 fn check_core<P: ProofProcessor, T: ProofTranscriptProcessor>(
     alloc: Global,
-    state: &CheckerState,
-    hasher: &mut ClauseHasher,
-    clauses: &mut Clauses,
-    variables: &mut Variables,
-    rup: &mut RupCheck,
-    processing: &mut ProcessingOf<P, T>,
+    ctx: &mut ContextOf<P, T>,
     core: &[Lit],
     hashes: &[ClauseHash],
-) -> Result<(), CheckerError>
-    requires kept { PartsInvariant state.now hasher.old clauses.old variables.old }
+) -> Result<(), StepFault>
+    requires kept { ContextInvariant ctx.old }
     requires canonical { IsTrue (is_canonical core.now) }
     requires no_tautology { is_tautology core.now ≡ false }
-    ensures answer { AnswersParts result
-        (check (state_of state.now hasher.old clauses.old variables.old)
-        (core_clause core.now) hashes.now accept)
-        (state_of state.now hasher.new clauses.new variables.new) }
-    ensures store { UnlessFailed result (IsStore hasher.new clauses.new) }
-    ensures delivered { Delivered result
-        (λ steps. steps ≡ core_steps (state_of state.now hasher.old clauses.old variables.old)
-        core.now hashes.now) P.took P.faulted T.took T.faulted (listeners_of processing.old)
-        (listeners_of processing.new) }
+    ensures answer { AnswersOutcome result
+        (check (context_state ctx.old) (core_clause core.now) hashes.now accept)
+        (context_state ctx.new) }
+    ensures store { UnlessStopped result (IsStore ctx.new.clause_hasher ctx.new.clauses) }
+    ensures delivered { DeliveredList result
+        (λ steps. steps ≡ core_steps (context_state ctx.old) core.now hashes.now)
+        P.took P.faulted T.took T.faulted (listeners_of ctx.old.processing)
+        (listeners_of ctx.new.processing) }
 {
     let Ok(clause) = negations(alloc, core) else {
-        return Err(CheckerError::OutOfMemory);
+        return Err(StepFault::OutOfMemory);
     };
-    let traced = !processing.processors.is_empty();
+    let traced = !ctx.processing.processors.is_empty();
     check_clause_with_hashes(
-        alloc, state, hasher, clauses, variables, rup, traced, &clause, hashes,
+        alloc,
+        &ctx.checker_state,
+        &mut ctx.clause_hasher,
+        &mut ctx.clauses,
+        &mut ctx.variables,
+        &mut ctx.rup_check,
+        traced,
+        &clause,
+        hashes,
     )?;
+    let rup = &ctx.rup_check;
     let propagations = rup.trace_ids.as_slice();
-    emit_failed_assumptions(processing, variables, core, propagations)
+    emit_failed_assumptions(&mut ctx.processing, &ctx.variables, core, propagations)
 }
 
 /// The negations of the literals, in their order.

@@ -6,7 +6,7 @@ ghost use Rattle.checker_rules.specs.Emits.{Emits};
 ghost use Rattle.checker_rules.specs.Model.{model_cause};
 ghost use Rattle.checker_rules.specs.Step as rules;
 ghost use Rattle.checker_rules.specs.Steps.{step};
-ghost use Rattle.checker_parts.specs.Answers.{AnswersParts, UnlessFailed};
+ghost use Rattle.checker_parts.specs.Faults.{AnswersOutcome, UnlessStopped};
 ghost use Rattle.clause_store.specs.Lits.{IsWithin};
 ghost use Rattle.clause_store.specs.StateOf.{state_of};
 ghost use Rattle.clause_store.specs.Store.{IsIndexed};
@@ -14,42 +14,39 @@ ghost use Rattle.clause_store.specs.View.{stored_list, stored_of};
 ghost use Rattle.clause_store.specs.declared.hash.ClauseHasher.{ClauseHasher};
 ghost use Rattle.clause_store.specs.declared.state.CheckerState.{CheckerState};
 ghost use Rattle.checker_steps.specs.Context.{ContextInvariant, context_state};
-ghost use Rattle.checker_steps.specs.Delivered.{Delivered, listeners_of};
+ghost use Rattle.checker_steps.specs.Delivered.{DeliveredList, listeners_of};
 ghost use Rattle.checker_steps.specs.Marks.{HasPlaces, MarksOnly, is_marked};
 ghost use Rattle.checker_steps.specs.ModelCause.{IsJudged, has_marked, list_cause, lit_cause};
 
 use crate::context::ContextOf;
 use crate::emit::emit_model;
 use crate::marks::Marks;
-use checker_parts::error::{CheckCause, CheckerError};
+use checker_parts::error::{CheckCause, StepFault};
 use checker_parts::processor::{ProofProcessor, ProofTranscriptProcessor};
 use checker_parts::variables::Variables;
 use clause_store::clauses::{Clause, Clauses};
-use clause_store::refusal::refusal;
 use clause_store::state::CheckerState;
 use sat_formula::Lit;
-use std::alloc::Global;
 
 /// Checks a model: its literals go together and with the units, and it has every assumption and a literal of each stored clause.
 pub fn model<P: ProofProcessor, T: ProofTranscriptProcessor>(
-    alloc: Global,
     ctx: &mut ContextOf<P, T>,
     assignment: &[Lit],
-) -> Result<(), CheckerError>
+) -> Result<(), StepFault>
     requires { ContextInvariant ctx.old }
-    ensures step { AnswersParts result (step (context_state ctx.old) (rules.model assignment.now))
+    ensures step { AnswersOutcome result (step (context_state ctx.old) (rules.model assignment.now))
         (context_state ctx.new) }
-    ensures kept { UnlessFailed result (ContextInvariant ctx.new) }
-    ensures delivered { Delivered result
+    ensures kept { UnlessStopped result (ContextInvariant ctx.new) }
+    ensures delivered { DeliveredList result
         (Emits (context_state ctx.old) (rules.model assignment.now))
         P.took P.faulted T.took T.faulted (listeners_of ctx.old.processing)
         (listeners_of ctx.new.processing) }
 {
     if ctx.checker_state.unsat {
-        return Err(refusal(alloc, &ctx.checker_state, CheckCause::ModelAfterUnsat));
+        return Err(StepFault::Refused(CheckCause::ModelAfterUnsat));
     }
     let Ok(()) = ctx.tmp_data.marks.make_places(&ctx.variables) else {
-        return Err(CheckerError::OutOfMemory);
+        return Err(StepFault::OutOfMemory);
     };
     let judged = judge(
         &ctx.checker_state,
@@ -60,7 +57,7 @@ pub fn model<P: ProofProcessor, T: ProofTranscriptProcessor>(
     );
     match judged {
         Ok(()) => emit_model(&mut ctx.processing, &ctx.variables, assignment),
-        Err(msg) => Err(refusal(alloc, &ctx.checker_state, msg)),
+        Err(cause) => Err(StepFault::Refused(cause)),
     }
 }
 

@@ -2,13 +2,13 @@
 ghost use Rattle.checker_rules.specs.Emits.{Emits};
 ghost use Rattle.checker_rules.specs.Step as rules;
 ghost use Rattle.checker_rules.specs.Steps.{step};
-ghost use Rattle.checker_parts.specs.Answers.{AnswersParts, UnlessFailed};
+ghost use Rattle.checker_parts.specs.Faults.{AnswersOutcome, UnlessStopped};
 ghost use Rattle.sat_formula.specs.Vars.{index_of, indexes_of};
 ghost use Rattle.checker_steps.specs.Context.{ContextInvariant, context_state};
-ghost use Rattle.checker_steps.specs.Delivered.{Delivered, listeners_of};
+ghost use Rattle.checker_steps.specs.Delivered.{DeliveredList, listeners_of};
 
 use crate::context::ContextOf;
-use checker_parts::error::CheckerError;
+use checker_parts::error::StepFault;
 use checker_parts::processor::{ProofProcessor, ProofTranscriptProcessor};
 use sat_formula::Var;
 
@@ -17,13 +17,13 @@ pub fn solver_var_name<P: ProofProcessor, T: ProofTranscriptProcessor>(
     ctx: &mut ContextOf<P, T>,
     global: Var,
     solver: Option<Var>,
-) -> Result<(), CheckerError>
+) -> Result<(), StepFault>
     requires { ContextInvariant ctx.old }
-    ensures step { AnswersParts result
+    ensures step { AnswersOutcome result
         (step (context_state ctx.old) (rules.solver_var_name (index_of global) (indexes_of solver)))
         (context_state ctx.new) }
-    ensures kept { UnlessFailed result (ContextInvariant ctx.new) }
-    ensures delivered { Delivered result
+    ensures kept { UnlessStopped result (ContextInvariant ctx.new) }
+    ensures delivered { DeliveredList result
         (Emits (context_state ctx.old)
         (rules.solver_var_name (index_of global) (indexes_of solver)))
         P.took P.faulted T.took T.faulted (listeners_of ctx.old.processing)
@@ -31,6 +31,6 @@ pub fn solver_var_name<P: ProofProcessor, T: ProofTranscriptProcessor>(
 {
     match ctx.clause_hasher.pending.push(global, solver) {
         Ok(()) => Ok(()),
-        Err(_) => Err(CheckerError::OutOfMemory),
+        Err(_) => Err(StepFault::OutOfMemory),
     }
 }

@@ -2,13 +2,13 @@
 ghost use Rattle.checker_rules.specs.Emits.{Emits};
 ghost use Rattle.checker_rules.specs.Step as rules;
 ghost use Rattle.checker_rules.specs.Steps.{step};
-ghost use Rattle.checker_parts.specs.Answers.{AnswersParts, UnlessFailed};
+ghost use Rattle.checker_parts.specs.Faults.{AnswersOutcome, UnlessStopped};
 ghost use Rattle.checker_steps.specs.Context.{ContextInvariant, context_state};
-ghost use Rattle.checker_steps.specs.Delivered.{Delivered, listeners_of};
+ghost use Rattle.checker_steps.specs.Delivered.{DeliveredList, listeners_of};
 
 use crate::context::ContextOf;
 use crate::steps::derived::derive;
-use checker_parts::error::CheckerError;
+use checker_parts::error::StepFault;
 use checker_parts::processor::{ProofProcessor, ProofTranscriptProcessor};
 use proof_bytes::ClauseHash;
 use sat_formula::Lit;
@@ -21,29 +21,18 @@ pub fn unit_clauses<P: ProofProcessor, T: ProofTranscriptProcessor>(
     alloc: Global,
     ctx: &mut ContextOf<P, T>,
     units: &[(Lit, ClauseHash)],
-) -> Result<(), CheckerError>
+) -> Result<(), StepFault>
     requires { ContextInvariant ctx.old }
-    ensures step { AnswersParts result (step (context_state ctx.old) (rules.unit_clauses units.now))
-        (context_state ctx.new) }
-    ensures kept { UnlessFailed result (ContextInvariant ctx.new) }
-    ensures delivered { Delivered result
+    ensures step { AnswersOutcome result
+        (step (context_state ctx.old) (rules.unit_clauses units.now)) (context_state ctx.new) }
+    ensures kept { UnlessStopped result (ContextInvariant ctx.new) }
+    ensures delivered { DeliveredList result
         (Emits (context_state ctx.old) (rules.unit_clauses units.now))
         P.took P.faulted T.took T.faulted (listeners_of ctx.old.processing)
         (listeners_of ctx.new.processing) }
 {
     for (lit, hash) in units {
-        derive(
-            alloc,
-            &mut ctx.checker_state,
-            &mut ctx.clause_hasher,
-            &mut ctx.clauses,
-            &mut ctx.variables,
-            &mut ctx.rup_check,
-            &mut ctx.processing,
-            false,
-            &[*lit],
-            &[*hash],
-        )?;
+        derive(alloc, ctx, false, &[*lit], &[*hash])?;
     }
     Ok(())
 }

@@ -2,39 +2,35 @@
 ghost use Rattle.checker_rules.specs.Emits.{Emits};
 ghost use Rattle.checker_rules.specs.Step as rules;
 ghost use Rattle.checker_rules.specs.Steps.{step};
-ghost use Rattle.checker_parts.specs.Answers.{AnswersParts, UnlessFailed};
+ghost use Rattle.checker_parts.specs.Faults.{AnswersOutcome, UnlessStopped};
 ghost use Rattle.sat_formula.specs.Vars.{index_of, indexes_of};
 ghost use Rattle.checker_steps.specs.Context.{ContextInvariant, context_state};
-ghost use Rattle.checker_steps.specs.Delivered.{Delivered, listeners_of};
+ghost use Rattle.checker_steps.specs.Delivered.{DeliveredList, listeners_of};
 
 use crate::context::ContextOf;
 use crate::variables::{add_user_mapping, remove_user_mapping};
-use checker_parts::error::CheckerError;
+use checker_parts::error::StepFault;
 use checker_parts::processor::{ProofProcessor, ProofTranscriptProcessor};
 use sat_formula::Var;
-use std::alloc::Global;
 
 /// Gives a variable a user name, or takes its name away and hides it.
 pub fn user_var_name<P: ProofProcessor, T: ProofTranscriptProcessor>(
-    alloc: Global,
     ctx: &mut ContextOf<P, T>,
     global: Var,
     user: Option<Var>,
-) -> Result<(), CheckerError>
+) -> Result<(), StepFault>
     requires { ContextInvariant ctx.old }
-    ensures step { AnswersParts result
+    ensures step { AnswersOutcome result
         (step (context_state ctx.old) (rules.user_var_name (index_of global) (indexes_of user)))
         (context_state ctx.new) }
-    ensures kept { UnlessFailed result (ContextInvariant ctx.new) }
-    ensures delivered { Delivered result
+    ensures kept { UnlessStopped result (ContextInvariant ctx.new) }
+    ensures delivered { DeliveredList result
         (Emits (context_state ctx.old) (rules.user_var_name (index_of global) (indexes_of user)))
         P.took P.faulted T.took T.faulted (listeners_of ctx.old.processing)
         (listeners_of ctx.new.processing) }
 {
     match user {
         Some(user_var) => add_user_mapping(
-            alloc,
-            &ctx.checker_state,
             &mut ctx.clauses,
             &mut ctx.variables,
             &mut ctx.processing,
@@ -42,8 +38,6 @@ pub fn user_var_name<P: ProofProcessor, T: ProofTranscriptProcessor>(
             user_var,
         ),
         None => remove_user_mapping(
-            alloc,
-            &ctx.checker_state,
             &mut ctx.clauses,
             &mut ctx.variables,
             &mut ctx.processing,

@@ -99,9 +99,7 @@ pub fn push_clause(
             Ok(())
         }
         Entry::Vacant(entry) => {
-            let mut bucket = SmallVec::new(alloc);
-            bucket.push(clause)?;
-            entry.insert(bucket);
+            entry.insert(SmallVec::from_buf(alloc, [clause]));
             Ok(())
         }
     }

@@ -1,19 +1,24 @@
 //! Collecting the garbage of the literal buffer.
-ghost use Rattle.std.specs.Prelude.{◌≡◌, ◌<◌, ◌≤◌, ◌*◌, All, IfOk, OnOk, length, map};
+ghost use Rattle.std.specs.Prelude.{◌≡◌, ◌+◌, ◌<◌, ◌≤◌, ◌*◌, ℕ, All, IfOk, OnOk, length, map, take};
 ghost use Rattle.checker_rules.specs.LiveLiterals.{live_literals};
+ghost use Rattle.clause_store.specs.Buckets.{AreWithin, clauses_at};
 ghost use Rattle.clause_store.specs.Edits.{KeepsRest};
 ghost use Rattle.clause_store.specs.Lits.{IsWithin, lits_of};
 ghost use Rattle.clause_store.specs.Store.{IsIndexed};
-ghost use Rattle.clause_store.specs.View.{stored_list, stored_of};
+ghost use Rattle.clause_store.specs.View.{stored_at, stored_in, stored_list, stored_of};
 
+use crate::clauses::buckets::Buckets;
 use crate::clauses::lits::ClauseLits;
-use crate::clauses::rebuild::{gather, rebuild};
+use crate::clauses::rebuild::room_for;
 use crate::clauses::{Clause, Clauses};
 use crate::hash::ClauseHasher;
+use proof_bytes::hash::ClauseHash;
 use sat_formula::lit::Lit;
+use smallvec::SmallVec;
 use std::alloc::{AllocError, Global};
 
 /// Where more than half of the literal buffer is garbage, all clauses move to a buffer without any.
+// Each clause stays in its bucket, and `hasher` is read by the clauses of the contracts alone.
 pub fn collect_garbage(
     alloc: Global,
     hasher: &ClauseHasher,
@@ -29,34 +34,79 @@ pub fn collect_garbage(
     if clauses.garbage_size <= clauses.literal_buffer.len() / 2 {
         return Ok(());
     }
-    let all = gather(alloc, clauses)?;
-    let (moved, buffer) = move_clauses(alloc, &all, &clauses.literal_buffer)?;
-    clauses.buckets = rebuild(alloc, hasher, &moved, &buffer)?;
+    collect(alloc, hasher, clauses)
+}
+
+/// All clauses move to a buffer without garbage.
+#[inline(never)]
+fn collect(alloc: Global, hasher: &ClauseHasher, clauses: &mut Clauses) -> Result<(), AllocError>
+    requires { IsIndexed hasher.now clauses.old (stored_list clauses.old) }
+    ensures filed { OnOk result (IsIndexed hasher.now clauses.new (stored_list clauses.old)) }
+    ensures garbage { OnOk result (clauses.new.garbage_size ≡ 0) }
+    ensures rest { OnOk result (KeepsRest clauses.old clauses.new) }
+    ensures counts { OnOk result (clauses.new.lit_counts ≡ clauses.old.lit_counts) }
+{
+    let (buckets, buffer) = move_buckets(alloc, clauses)?;
+    clauses.buckets = buckets;
     clauses.literal_buffer = buffer;
     clauses.garbage_size = 0;
     Ok(())
 }
 
-/// The same clauses, with their literals in a new buffer.
-fn move_clauses(
-    alloc: Global,
-    all: &[Clause],
-    buffer: &[Lit],
-) -> Result<(Vec<Clause>, Vec<Lit>), AllocError>
-    requires within { All (λ c. IsWithin c.lits buffer.now) all.now }
-    requires long { All (λ c. 1 < length (lits_of c.lits buffer.now)) all.now }
-    ensures same { IfOk result (λ moved. map (stored_of moved.1.items) moved.0.items ≡
-        map (stored_of buffer.now) all.now) }
-    ensures within { IfOk result (λ moved. All (λ c. IsWithin c.lits moved.1.items) moved.0.items) }
+/// The same buckets, with the literals of their clauses in a new buffer.
+fn move_buckets(alloc: Global, clauses: &Clauses) -> Result<(Buckets, Vec<Lit>), AllocError>
+    requires { (h : ClauseHasher) × IsIndexed h clauses.now (stored_list clauses.now) }
+    ensures same { IfOk result (λ moved. (k : ℕ) →
+        stored_in moved.1.items moved.0 k ≡ stored_at clauses.now k) }
+    ensures within { IfOk result (λ moved. AreWithin moved.1.items moved.0) }
     ensures used { IfOk result (λ moved. length moved.1.items ≡
-        live_literals (map (stored_of buffer.now) all.now)) }
+        live_literals (stored_list clauses.now)) }
 {
-    let mut moved = Vec::with_capacity(alloc, all.len())?;
+    let buffer = clauses.literal_buffer.as_slice();
+    let mut moved = room_for(alloc, clauses.buckets.len())?;
     // more than half of the buffer is garbage
     let mut new = Vec::with_capacity(alloc, buffer.len() / 2)?;
-    for clause in all {
-        let lits = ClauseLits::new(clause.lits.slice(buffer), &mut new)?;
-        moved.push(Clause { lits, ..*clause })?;
+    for (hash, bucket) in &clauses.buckets {
+        let bucket = move_bucket(alloc, bucket.as_slice(), buffer, &mut new)?;
+        put_bucket(&mut moved, *hash, bucket)?;
     }
     Ok((moved, new))
+}
+
+/// The same clauses, with their literals in a new buffer, after those that it has.
+fn move_bucket(
+    alloc: Global,
+    bucket: &[Clause],
+    buffer: &[Lit],
+    new: &mut Vec<Lit>,
+) -> Result<SmallVec<Clause, 1>, AllocError>
+    requires within { All (λ c. IsWithin c.lits buffer.now) bucket.now }
+    requires long { All (λ c. 1 < length (lits_of c.lits buffer.now)) bucket.now }
+    ensures same { IfOk result (λ moved. map (stored_of new.new.items) moved.items ≡
+        map (stored_of buffer.now) bucket.now) }
+    ensures within { IfOk result (λ moved. All (λ c. IsWithin c.lits new.new.items) moved.items) }
+    ensures kept { OnOk result (take (length new.old.items) new.new.items ≡ new.old.items) }
+    ensures used { OnOk result (length new.new.items ≡ length new.old.items +
+        live_literals (map (stored_of buffer.now) bucket.now)) }
+{
+    let mut moved = SmallVec::new(alloc);
+    for clause in bucket {
+        let lits = ClauseLits::new(clause.lits.slice(buffer), new)?;
+        moved.push(Clause { lits, ..*clause })?;
+    }
+    Ok(moved)
+}
+
+/// Puts the bucket of a hash in its place.
+fn put_bucket(
+    buckets: &mut Buckets,
+    hash: ClauseHash,
+    bucket: SmallVec<Clause, 1>,
+) -> Result<(), AllocError>
+    ensures here { OnOk result (clauses_at buckets.new hash ≡ bucket.items) }
+    ensures others { OnOk result ((k : ℕ) → (k ≡ hash → ⊥) →
+        clauses_at buckets.new k ≡ clauses_at buckets.old k) }
+{
+    buckets.insert(hash, bucket)?;
+    Ok(())
 }

@@ -1,5 +1,5 @@
 //! Taking copies of clauses away.
-ghost use Rattle.std.specs.Prelude.{◌≡◌, ◌<◌, ℕ, All, IfErr, IfOk, OnErr, length, map, slice_set, true};
+ghost use Rattle.std.specs.Prelude.{◌≡◌, ◌<◌, ℕ, All, IfErr, IfOk, OnErr, length, map, remove, slice_set, true};
 ghost use Rattle.std.specs.List.{list_all};
 ghost use Rattle.std.specs.Option.{SomeIff};
 ghost use Rattle.checker_rules.specs.WellFormed.{are_apart};
@@ -80,6 +80,19 @@ fn replace(bucket: &mut [Clause], at: usize, clause: Clause)
     bucket[at] = clause;
 }
 
+/// Takes a clause out of its bucket.
+fn remove_clause(bucket: &mut SmallVec<Clause, 1>, at: usize)
+    requires { at < length bucket.old.items }
+    ensures { bucket.new.items ≡ remove bucket.old.items at }
+{
+    // Most clauses are alone in their bucket, and then none has to move up.
+    if at == bucket.len() - 1 {
+        bucket.pop();
+    } else {
+        bucket.remove(at);
+    }
+}
+
 /// Takes one copy of the clause with these literals away. The clause goes with its last copy.
 /// It answers what is left of the clause.
 fn lower_in(
@@ -105,7 +118,7 @@ fn lower_in(
     };
     let left = left_of(&clause);
     if left.is_gone() {
-        bucket.remove(at);
+        remove_clause(bucket, at);
         Ok(left)
     } else {
         replace(bucket.as_mut_slice(), at, clause);

@@ -31,7 +31,7 @@ pub fn gather(alloc: Global, clauses: &Clauses) -> Result<Vec<Clause>, AllocErro
 }
 
 /// No clauses, with room for so many buckets.
-fn room_for(alloc: Global, count: usize) -> Result<Buckets, AllocError>
+pub fn room_for(alloc: Global, count: usize) -> Result<Buckets, AllocError>
     ensures { IfOk result (λ m. (k : ℕ) → clauses_at m k ≡ []) }
 {
     let buckets = HashMap::with_capacity(alloc, count)?;

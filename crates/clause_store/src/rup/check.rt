@@ -5,7 +5,7 @@ ghost use Rattle.checker_rules.specs.Check.{check, ready};
 ghost use Rattle.checker_rules.specs.Clauses.{is_tautology};
 ghost use Rattle.checker_rules.specs.Outcome.{accept};
 ghost use Rattle.checker_rules.specs.Traced.{check_trace};
-ghost use Rattle.checker_parts.specs.Answers.{AnswersParts, UnlessFailed};
+ghost use Rattle.checker_parts.specs.Faults.{AnswersOutcome, UnlessStopped};
 ghost use Rattle.clause_store.specs.PartsInvariant.{PartsInvariant};
 ghost use Rattle.clause_store.specs.Quiet.{NoListenerFault};
 ghost use Rattle.clause_store.specs.StateOf.{state_of};
@@ -13,11 +13,10 @@ ghost use Rattle.clause_store.specs.Store.{IsStore};
 
 use crate::clauses::Clauses;
 use crate::hash::{ClauseHasher, apply_pending_names};
-use crate::refusal::refusal;
 use crate::rup::{Answer, RupCheck, check_clause};
 use crate::state::CheckerState;
-use crate::variables::{ensure_vars, var_bound};
-use checker_parts::error::{CheckCause, CheckerError};
+use crate::variables::ensure_lits;
+use checker_parts::error::{CheckCause, StepFault};
 use checker_parts::variables::Variables;
 use proof_bytes::ClauseHash;
 use sat_formula::Lit;
@@ -38,13 +37,13 @@ pub fn check_clause_with_hashes(
     traced: bool,
     lits: &[Lit],
     hashes: &[ClauseHash],
-) -> Result<(), CheckerError>
+) -> Result<(), StepFault>
     requires kept { PartsInvariant state.now hasher.old clauses.old variables.old }
     requires no_tautology { is_tautology lits.now ≡ false }
-    ensures answer { AnswersParts result
+    ensures answer { AnswersOutcome result
         (check (state_of state.now hasher.old clauses.old variables.old) lits.now hashes.now accept)
         (state_of state.now hasher.new clauses.new variables.new) }
-    ensures store { UnlessFailed result (IsStore hasher.new clauses.new) }
+    ensures store { UnlessStopped result (IsStore hasher.new clauses.new) }
     ensures known { OnOk result (var_bound lits.now ≤ length clauses.new.unit_clauses) }
     ensures trace { IsTrue traced → OnOk result
         (rup.new.trace_ids.items ≡ check_trace
@@ -52,10 +51,8 @@ pub fn check_clause_with_hashes(
         hashes.now) }
     ensures quiet { NoListenerFault result }
 {
-    let Ok(()) = make_ready(alloc, state, hasher, clauses, variables, lits) else {
-        return Err(CheckerError::OutOfMemory);
-    };
-    let Ok(answer) = check_clause(
+    make_ready(alloc, state, hasher, clauses, variables, lits)?;
+    let answer = check_clause(
         rup,
         &mut clauses.unit_clauses,
         &clauses.buckets,
@@ -63,13 +60,11 @@ pub fn check_clause_with_hashes(
         lits,
         hashes,
         traced,
-    ) else {
-        return Err(CheckerError::OutOfMemory);
-    };
+    )?;
     match answer {
         Answer::Passed => Ok(()),
-        Answer::NoClauseForHash => Err(refusal(alloc, state, CheckCause::NoClauseForHash)),
-        Answer::Failed => Err(refusal(alloc, state, CheckCause::AtCheckFailed)),
+        Answer::NoClauseForHash => Err(StepFault::Refused(CheckCause::NoClauseForHash)),
+        Answer::Failed => Err(StepFault::Refused(CheckCause::AtCheckFailed)),
     }
 }
 
@@ -89,5 +84,5 @@ fn make_ready(
     ensures known { OnOk result (var_bound lits.now ≤ length clauses.new.unit_clauses) }
 {
     apply_pending_names(alloc, hasher, clauses)?;
-    ensure_vars(clauses, variables, var_bound(lits))
+    ensure_lits(clauses, variables, lits)
 }

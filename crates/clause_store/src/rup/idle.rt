@@ -21,7 +21,10 @@ pub struct IdleBuckets {
 }
 
 impl IdleBuckets {
-    pub fn new(alloc: Global) -> IdleBuckets {
+    /// None is known to be idle.
+    pub fn new(alloc: Global) -> IdleBuckets
+        ensures { (h : ℕ) → idle_at result h ≡ None }
+    {
         IdleBuckets {
             alloc,
             found: HashMap::new(alloc),

@@ -3,7 +3,7 @@ ghost use Rattle.std.specs.Prelude.{◌≡◌, ◌+◌, ◌<◌, ◌∷◌, [], 
 ghost use Rattle.checker_rules.specs.Clauses.{is_tautology, var_of};
 ghost use Rattle.checker_rules.specs.Passes as rules;
 ghost use Rattle.checker_rules.specs.State.{some_true_unit, start_set};
-ghost use Rattle.clause_store.specs.Buckets.{AreWithin};
+ghost use Rattle.clause_store.specs.Buckets.{AreWithin, clauses_at};
 ghost use Rattle.clause_store.specs.Idle.{AreIdle, IsIdle, Lengthens, idle_at};
 ghost use Rattle.clause_store.specs.Lits.{IsWithin, lits_of};
 ghost use Rattle.clause_store.specs.Rup.{AreAllKnown, Walks, WalksFirst, check_answer, lits_at, lits_in, named_buckets, true_lits};
@@ -139,6 +139,47 @@ fn propagate_bucket(
     Ok(false)
 }
 
+/// Visits a long bucket, unless it is known to be idle. Answers what ends the walk there.
+///
+/// It is looked up again, so that short buckets, which are almost all, carry nothing for this.
+fn propagate_long(
+    units: &mut Units,
+    run: &mut FreePropagation,
+    buckets: &Buckets,
+    buffer: &[Lit],
+    hash: ClauseHash,
+) -> Result<Option<Answer>, AllocError>
+    requires within { AreWithin buffer.now buckets.now }
+    requires known { AreAllKnown units.old buffer.now buckets.now }
+    requires some { 0 < length (clauses_at buckets.now hash) }
+    requires trail { IsTrailFor units.old (freed run.old.trail.items) }
+    requires idle { AreIdle (idle_at run.old.idle) (length run.old.trail.items)
+        (λ h. IsIdle units.old (lits_at buffer.now buckets.now h)) }
+    ensures ok { let bucket = lits_at buffer.now buckets.now hash in
+        IfOk result (WalksFirst units.old bucket units.new) }
+    ensures idle { IfOk result (λ end. end ≡ None →
+        AreIdle (idle_at run.new.idle) (length run.new.trail.items)
+        (λ h. IsIdle units.new (lits_at buffer.now buckets.now h))) }
+    ensures undoable { IsUndoable units.old (freed run.old.trail.items)
+        units.new (freed run.new.trail.items) }
+{
+    let Some(bucket) = buckets.get(&hash) else {
+        return Ok(Some(Answer::NoClauseForHash));
+    };
+    let given = run.trail.len();
+    if run.idle.has(hash, given) {
+        return Ok(None);
+    }
+    if propagate_bucket(units, &mut run.trail, bucket.as_slice(), buffer)? {
+        return Ok(Some(Answer::Passed));
+    }
+    if run.trail.len() == given {
+        // Where memory is refused it is walked again.
+        let _refused = run.idle.add(hash, given);
+    }
+    Ok(None)
+}
+
 /// Visits the bucket of a hash, unless it is known to be idle. Answers what ends the walk there.
 #[inline]
 fn propagate_named(
@@ -168,19 +209,14 @@ fn propagate_named(
     if clauses.is_empty() {
         return Ok(Some(Answer::NoClauseForHash));
     }
-    let is_long = clauses.len() > LONG_BUCKET;
-    let given = run.trail.len();
-    if is_long && run.idle.has(hash, given) {
-        return Ok(None);
+    if clauses.len() > LONG_BUCKET {
+        return propagate_long(units, run, buckets, buffer, hash);
     }
     if propagate_bucket(units, &mut run.trail, clauses, buffer)? {
-        return Ok(Some(Answer::Passed));
+        Ok(Some(Answer::Passed))
+    } else {
+        Ok(None)
     }
-    if is_long && run.trail.len() == given {
-        // Where memory is refused it is walked again.
-        let _refused = run.idle.add(hash, given);
-    }
-    Ok(None)
 }
 
 /// Visits the buckets of the hashes in turn, up to a falsified clause or a missing bucket.

@@ -10,7 +10,8 @@ use Rattle.checker_rules.specs.Outcome.{Cause}
 use Rattle.checker_rules.specs.Run.{Runs, Stop, move}
 use Rattle.checker_rules.specs.RunEmissions.{EmitsRun, last_calls}
 use Rattle.checker_rules.specs.State.{State}
-use Rattle.checker_rules.specs.Step.{Step, add_clause, assumptions, at_clause, change_hash_bits, change_sampling_mode, delete_clause, delete_var, end_proof, failed_assumptions, model, solver_var_name, unit_clauses, user_var_name}
+use Rattle.checker_rules.specs.Step.{Step, add_clause, assumptions, at_clause, change_hash_bits, change_sampling_mode, delete_clause}
+use Rattle.checker_rules.specs.Step.{delete_var, end_proof, failed_assumptions, model, solver_var_name, unit_clauses, user_var_name}
 use Rattle.checker_rules.specs.Steps.{step}
 use Rattle.checker_rules.specs.Store.{stands}
 use Rattle.checker_rules.specs.UnitClauses.{step_unit}

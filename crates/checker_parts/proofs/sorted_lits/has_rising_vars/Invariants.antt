@@ -1,9 +1,7 @@
-use Rattle.std.proofs.Common.{◌≡◌, length}
+use Rattle.std.proofs.Common.{◌≡◌, drop}
 use Rattle.checker_parts.specs.RisingVars.{has_rising_vars}
+use Rattle.checker_parts.proofs.Rising.{rises_after}
 use Rattle.checker_parts.proofs.sorted_lits.has_rising_vars.Given as goal
 
-abbrev pub invariant-loop-first : goal.invariant-loop-first
-invariant-loop-first l = has_rising_vars l.rest ≡ has_rising_vars l.lits
-
-abbrev pub decreases-loop-first : goal.decreases-loop-first
-decreases-loop-first l = length l.rest
+abbrev pub invariant-loop-lit : goal.invariant-loop-lit
+invariant-loop-lit l = rises_after l.last (drop l.lit-index l.others) ≡ has_rising_vars l.lits

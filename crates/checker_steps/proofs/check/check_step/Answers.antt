@@ -1,21 +1,24 @@
-use Rattle.std.proofs.Common.{ap}
+use Rattle.std.proofs.Common.{refl, ◌∙◌}
 use Rattle.checker_rules.specs.Emits.{Emits}
 use Rattle.proof_bytes.specs.NextStep.{view}
-use Rattle.clause_store.specs.StateOf.{state_of}
+use Rattle.checker_steps.specs.Context.{context_state}
 use Rattle.checker_steps.specs.Delivered.{listeners_of}
-use Rattle.checker_steps.proofs.EmittedSteps.{emits-end}
-use Rattle.checker_steps.proofs.DeliveryLemmas.{whole-none}
-use Rattle.checker_steps.proofs.StepAnswers.{end-answers}
+use Rattle.checker_steps.proofs.CallAnswers.{call-answers, call-delivered, call-stopped, call-unless}
 use Rattle.checker_steps.proofs.check.check_step.Goals as goal
 
-pub returns-in-End-clause-step : goal.returns-in-End-clause-step
-returns-in-End-clause-step g c =
-    let ctx = c.args.ctx.now in
-    end-answers (state_of ctx.checker_state ctx.clause_hasher ctx.clauses ctx.variables) (view c.args.step.now) (ap view c.in-End.is)
+pub returns-clause-step : goal.returns-clause-step
+returns-clause-step g c =
+    call-answers c.take_step-taken.new.ctx.checker_state.step c.take_step-taken.result c.answer.result _ _ c.answer.ensures.answer refl c.take_step-taken.ensures.step
 
-pub returns-in-End-clause-delivered : goal.returns-in-End-clause-delivered
-returns-in-End-clause-delivered g c =
-    let ctx = c.args.ctx.now in
-    let s = state_of ctx.checker_state ctx.clause_hasher ctx.clauses ctx.variables in
-    whole-none g.P.ProofProcessor.took g.P.ProofProcessor.faulted g.T.ProofTranscriptProcessor.took g.T.ProofTranscriptProcessor.faulted
-    (Emits s (view c.args.step.now)) (listeners_of ctx.processing) (emits-end s (view c.args.step.now) (ap view c.in-End.is))
+pub returns-clause-kept : goal.returns-clause-kept
+returns-clause-kept g c = call-unless _ _ c.take_step-taken.result c.answer.result c.answer.ensures.answer c.take_step-taken.ensures.kept
+
+pub returns-clause-delivered : goal.returns-clause-delivered
+returns-clause-delivered g c =
+    let P = g.P.ProofProcessor in let T = g.T.ProofTranscriptProcessor in
+    rw c.answer.ensures.listeners
+    (call-delivered P.took P.faulted T.took T.faulted (Emits (context_state c.args.ctx.now) (view c.args.step.now)) _ c.take_step-taken.result c.answer.result
+    (listeners_of c.args.ctx.now.processing) (listeners_of c.take_step-taken.new.ctx.processing) c.answer.ensures.answer c.take_step-taken.ensures.delivered)
+
+pub returns-clause-idle : goal.returns-clause-idle
+returns-clause-idle g c = λ idle. call-stopped _ c.take_step-taken.result c.answer.result c.answer.ensures.answer ∙ c.take_step-taken.ensures.idle idle

@@ -1,87 +1,26 @@
-use Rattle.std.proofs.Common.{◌≡◌, ℕ, false, [], ◌∷◌, Option, None, Some, refl, sym, ap, ◌∙◌, subst}
+use Rattle.std.proofs.Common.{refl}
 use Rattle.checker_rules.specs.CallEmissions.{EmitsCall}
 use Rattle.checker_rules.specs.Calls.{closes}
-use Rattle.checker_rules.specs.CheckedSteps.{checked_at_clause, named_in}
-use Rattle.checker_rules.specs.Emits.{emits_closing}
-use Rattle.checker_rules.specs.Outcome.{Outcome, ids_exhausted}
-use Rattle.checker_rules.specs.WellFormed.{WellFormed}
-use Rattle.checker_rules.proofs.Openings.{closing_conflict-none}
-use Rattle.checker_rules.proofs.StepForms.{form-close}
-use Rattle.checker_parts.specs.declared.error.CheckCause.TheVariants.{IdsExhausted}
-use Rattle.clause_store.specs.declared.clauses.Clauses.{Clauses}
-use Rattle.clause_store.specs.StateOf.{state_of}
-use Rattle.clause_store.specs.Store.{IsStore}
-use Rattle.clause_store.specs.PartsInvariant.{PartsInvariant}
-use Rattle.clause_store.proofs.RefusalLemmas.{answers-refusal}
+use Rattle.checker_steps.specs.Context.{context_state}
 use Rattle.checker_steps.specs.Delivered.{listeners_of}
-use Rattle.checker_steps.proofs.EmissionLemmas.{answers-delivers, delivered-none, unless-failed}
-use Rattle.checker_steps.proofs.EmittedSteps.{emits-closed, emits-unclosed}
-use Rattle.checker_steps.proofs.DeliveryLemmas.{delivered-one, whole-none}
-use Rattle.checker_steps.proofs.InputLemmas.{is_store-next}
-use Rattle.checker_steps.proofs.StepAnswers.{closing-exhausted, closing-taken}
+use Rattle.checker_steps.proofs.CallAnswers.{call-answers, call-delivered, call-memory, call-unless}
 use Rattle.checker_steps.proofs.check.process_unit_conflicts.Goals as goal
 
-pub returns-in_default-clause-answer : goal.returns-in_default-clause-answer
-returns-in_default-clause-answer g c =
-    let ctx = c.args.ctx.now in
-    let o = closing_conflict-none (state_of ctx.checker_state ctx.clause_hasher ctx.clauses ctx.variables) c.in_default.is in
-    (ap (λ (x : Outcome). x.refused) o, sym (ap (λ (x : Outcome). x.after) o))
+pub returns-clause-answer : goal.returns-clause-answer
+returns-clause-answer g c =
+    call-answers c.close_unit_conflict-closed.new.ctx.checker_state.step c.close_unit_conflict-closed.result c.answer.result _ _ c.answer.ensures.answer refl
+    c.close_unit_conflict-closed.ensures.answer
 
-pub returns-in_default-clause-delivered : goal.returns-in_default-clause-delivered
-returns-in_default-clause-delivered g c =
-    let ctx = c.args.ctx.now in
-    let s = state_of ctx.checker_state ctx.clause_hasher ctx.clauses ctx.variables in
-    whole-none g.P.ProofProcessor.took g.P.ProofProcessor.faulted g.T.ProofTranscriptProcessor.took g.T.ProofTranscriptProcessor.faulted
-    (EmitsCall s closes) (listeners_of ctx.processing) (sym (ap (emits_closing s) c.in_default.is))
+pub returns-clause-kept : goal.returns-clause-kept
+returns-clause-kept g c = call-unless _ _ c.close_unit_conflict-closed.result c.answer.result c.answer.ensures.answer c.close_unit_conflict-closed.ensures.kept
 
-some-is : (o : Option (ℕ × ℕ)) (pair : ℕ × ℕ) → o ≡ Some pair → o ≡ None → ⊥
-some-is o pair e n = let no : Some pair ≡ None = sym e ∙ n in cc
+pub returns-clause-delivered : goal.returns-clause-delivered
+returns-clause-delivered g c =
+    let P = g.P.ProofProcessor in let T = g.T.ProofTranscriptProcessor in
+    rw c.answer.ensures.listeners
+    (call-delivered P.took P.faulted T.took T.faulted (EmitsCall (context_state c.args.ctx.now) closes) _ c.close_unit_conflict-closed.result c.answer.result
+    (listeners_of c.args.ctx.now.processing) (listeners_of c.close_unit_conflict-closed.new.ctx.processing) c.answer.ensures.answer
+    c.close_unit_conflict-closed.ensures.delivered)
 
-pub returns-in-Some-take_id-clause-answer : goal.returns-in-Some-take_id-clause-answer
-returns-in-Some-take_id-clause-answer g c =
-    let ctx = c.args.ctx.now in
-    let o = closing-taken (state_of ctx.checker_state ctx.clause_hasher ctx.clauses ctx.variables)
-    (some-is ctx.clauses.unit_conflict (c.in-Some.stored, c.in-Some.refuting) c.in-Some.is) c.in-Some-take_id.ensures.id.0 in
-    answers-delivers g.P.ProofProcessor.took g.P.ProofProcessor.faulted g.T.ProofTranscriptProcessor.took
-    g.T.ProofTranscriptProcessor.faulted _ _ _ c.emit_at_clause.result _ _ c.emit_at_clause.ensures.delivers (
-      ap (λ (x : Outcome). x.refused) o,
-      ap (λ (cs : Clauses). state_of ctx.checker_state ctx.clause_hasher cs ctx.variables) c.in-Some-take_id.ensures.taken ∙ sym (ap (λ (x : Outcome). x.after) o),
-    )
-
-pub returns-in-Some-take_id-clause-kept : goal.returns-in-Some-take_id-clause-kept
-returns-in-Some-take_id-clause-kept g c =
-    let ctx = c.args.ctx.now in
-    let s = state_of ctx.checker_state ctx.clause_hasher ctx.clauses ctx.variables in
-    let o = closing-taken s (some-is ctx.clauses.unit_conflict (c.in-Some.stored, c.in-Some.refuting) c.in-Some.is) c.in-Some-take_id.ensures.id.0 in
-    let is = ap (λ (cs : Clauses). state_of ctx.checker_state ctx.clause_hasher cs ctx.variables) c.in-Some-take_id.ensures.taken ∙ sym (ap (λ (x : Outcome). x.after) o) in
-    let kept : PartsInvariant ctx.checker_state ctx.clause_hasher c.take_id.new.self ctx.variables = record {
-      form = subst WellFormed (sym is) (form-close s c.requires.form);
-      store = subst (IsStore ctx.clause_hasher) (sym c.in-Some-take_id.ensures.taken) (is_store-next ctx.clause_hasher ctx.clauses c.requires.store);
-    } in
-    unless-failed c.emit_at_clause.result kept
-
-pub returns-in-Some-take_id-clause-delivered : goal.returns-in-Some-take_id-clause-delivered
-returns-in-Some-take_id-clause-delivered g c =
-    let ctx = c.args.ctx.now in
-    let s = state_of ctx.checker_state ctx.clause_hasher ctx.clauses ctx.variables in
-    let e = named_in s (checked_at_clause c.in-Some-take_id.id false [] (c.in-Some.stored ∷ c.in-Some.refuting ∷ [])) in
-    delivered-one g.P.ProofProcessor.took g.P.ProofProcessor.faulted g.T.ProofTranscriptProcessor.took g.T.ProofTranscriptProcessor.faulted
-    (EmitsCall s closes) e (listeners_of ctx.processing) (listeners_of c.emit_at_clause.new.processing) c.emit_at_clause.result
-    (emits-closed s c.in-Some-take_id.id c.in-Some.stored c.in-Some.refuting c.in-Some.is c.in-Some-take_id.ensures.id.0 c.in-Some-take_id.ensures.id.1)
-    c.emit_at_clause.ensures.delivers
-
-pub returns-in-None-clause-delivered : goal.returns-in-None-clause-delivered
-returns-in-None-clause-delivered g c =
-    let ctx = c.args.ctx.now in
-    let s = state_of ctx.checker_state ctx.clause_hasher ctx.clauses ctx.variables in
-    delivered-none g.P.ProofProcessor.took g.P.ProofProcessor.faulted g.T.ProofTranscriptProcessor.took g.T.ProofTranscriptProcessor.faulted
-    (EmitsCall s closes) c.refusal.result ctx.checker_state.step IdsExhausted (listeners_of ctx.processing) c.refusal.ensures
-    (emits-unclosed s c.in-None.ensures.id)
-
-pub returns-in-None-clause-answer : goal.returns-in-None-clause-answer
-returns-in-None-clause-answer g c =
-    let ctx = c.args.ctx.now in
-    let s = state_of ctx.checker_state ctx.clause_hasher ctx.clauses ctx.variables in
-    let o = closing-exhausted s (some-is ctx.clauses.unit_conflict (c.in-Some.stored, c.in-Some.refuting) c.in-Some.is) c.in-None.ensures.id in
-    answers-refusal c.refusal.result ctx.checker_state.step IdsExhausted ids_exhausted _ _ c.refusal.ensures refl (ap (λ (x : Outcome). x.refused) o)
-    (ap (λ (cs : Clauses). state_of ctx.checker_state ctx.clause_hasher cs ctx.variables) c.in-None.ensures.unchanged ∙ sym (ap (λ (x : Outcome). x.after) o)) refl
+pub returns-clause-memory : goal.returns-clause-memory
+returns-clause-memory g c = call-memory _ c.close_unit_conflict-closed.result c.answer.result c.answer.ensures.answer c.close_unit_conflict-closed.ensures.memory

@@ -6,13 +6,15 @@ use Rattle.lrat_text.proofs.number.digits_up_to.Goals as goal
 pub overflow_mul-value : goal.overflow_mul-value
 overflow_mul-value c =
     let inv = c.digits.invariant in
-    let fits = digit_fits_after c.digits.len c.digits.value (slice_index c.args.bytes.now c.digits.len) (omega (arith, c.digits-test.true, c.requires.few)) inv.small (sym c.is_digit.ensures ∙ c.if-is_digit.true) in
+    let fits = digit_fits_after c.digits.len c.digits.value (slice_index c.args.bytes.now c.digits.len)
+    (omega (arith, c.digits-test.true, c.requires.few)) inv.small (sym c.is_digit.ensures ∙ c.if-is_digit.true) in
     omega (arith, fits)
 
 pub overflow_add-value : goal.overflow_add-value
 overflow_add-value c =
     let inv = c.digits.invariant in
-    let fits = digit_fits_after c.digits.len c.digits.value (slice_index c.args.bytes.now c.digits.len) (omega (arith, c.digits-test.true, c.requires.few)) inv.small (sym c.is_digit.ensures ∙ c.if-is_digit.true) in
+    let fits = digit_fits_after c.digits.len c.digits.value (slice_index c.args.bytes.now c.digits.len)
+    (omega (arith, c.digits-test.true, c.requires.few)) inv.small (sym c.is_digit.ensures ∙ c.if-is_digit.true) in
     omega (arith, fits)
 
 pub digits-preserved : goal.digits-preserved

@@ -1,10 +1,13 @@
 use Rattle.std.proofs.Common.{◌≡◌, ℕ, ◌+◌, ◌-◌, ◌<◌, ◌^◌, refl, sym, ap, ◌∙◌, arith}
 use Rattle.std.proofs.lemmas.Bool.{true≢false}
+use Rattle.checker_rules.specs.CallEmissions.{EmitsCall}
+use Rattle.checker_rules.specs.Calls.{attempt, checks}
 use Rattle.checker_rules.specs.State.{State}
 use Rattle.proof_bytes.specs.NextStep.{view}
 use Rattle.proof_bytes.proofs.TextRuns.{MayRead, reader_open}
 use Rattle.checker_steps.specs.Context.{context_state}
 use Rattle.checker_steps.specs.Delivered.{listeners_of}
+use Rattle.checker_steps.proofs.CallAnswers.{error-answers, error-delivered, error-unless}
 use Rattle.checker_steps.proofs.StepAnswers.{no-number, not-exhausted, some-number}
 use Rattle.varisat_checker.proofs.CountLemmas.{attempt-steps}
 use Rattle.varisat_checker.proofs.RunDelivered.{delivered-begins, delivered-closes, delivered-exhausted, delivered-faulted, delivered-goes, delivered-refused}
@@ -25,25 +28,25 @@ fewer-left a b fits some e = omega (arith, fits, some, e)
 
 pub steps-smaller : goal.steps-smaller
 steps-smaller g c =
-    let t = context_state c.steps.ctx in let u = context_state c.attempt_step.new.ctx in
+    let t = context_state c.steps.ctx in let u = context_state c.take_counted.new.ctx in
     let counted = some-number c.steps.ctx.checker_state.step (omega arith) c.if-ctx.false in
-    let h = rw c.in_default.is at c.attempt_step.ensures.step in
+    let h = rw c.in_default.is at c.take_counted.ensures.step in
     let more : u.steps ≡ t.steps + 1 = ap (λ (x : State). x.steps) h.1 ∙ attempt-steps t (view c.in-Ok.step) counted in
-    fewer-left c.steps.ctx.checker_state.step c.attempt_step.new.ctx.checker_state.step (omega arith) c.if-ctx.false more
+    fewer-left c.steps.ctx.checker_state.step c.take_counted.new.ctx.checker_state.step (omega arith) c.if-ctx.false more
 
 pub steps-preserved : goal.steps-preserved
 steps-preserved g c =
-    let t = context_state c.steps.ctx in let u = context_state c.attempt_step.new.ctx in
+    let t = context_state c.steps.ctx in let u = context_state c.take_counted.new.ctx in
     let may : MayRead t = record { going = c.steps-test.true; counted = some-number c.steps.ctx.checker_state.step (omega arith) c.if-ctx.false } in
     let gave = rw c.in-Ok.is at c.next_step.follows.holds-at-none in
-    let h = rw c.in_default.is at c.attempt_step.ensures.step in
+    let h = rw c.in_default.is at c.take_counted.ensures.step in
     record {
       open_reader = λ still. reader_open _ (view c.in-Ok.step) gave.ended may h.1 still;
       kept = c.in_default.ensures.kept;
       so_far = delivered-goes g.P.ProofProcessor.took g.P.ProofProcessor.faulted g.T.ProofTranscriptProcessor.took
-          g.T.ProofTranscriptProcessor.faulted c.steps.invariant.so_far u (listeners_of c.attempt_step.new.ctx.processing)
+          g.T.ProofTranscriptProcessor.faulted c.steps.invariant.so_far u (listeners_of c.take_counted.new.ctx.processing)
           (gave.reads (c.steps.invariant.open_reader c.steps-test.true)) may h
-          (rw c.in_default.is at c.attempt_step.ensures.delivered);
+          (rw c.in_default.is at c.take_counted.ensures.delivered);
       ended = λ e. absurd (true≢false (sym (c.steps.invariant.ended e) ∙ c.steps-test.true));
       exhausted = λ none. absurd (not-exhausted c.steps.ctx.checker_state.step (omega arith) c.if-ctx.false (c.steps.invariant.exhausted none));
     }
@@ -54,15 +57,22 @@ returns-then-ctx-clause-run g c =
     g.T.ProofTranscriptProcessor.faulted c.steps.invariant.so_far c.requires.form c.refusal.result c.refusal.ensures c.steps-test.true
     (no-number c.steps.ctx.checker_state.step c.if-ctx.true)
 
-pub returns-in-Err-attempt_step-clause-run : goal.returns-in-Err-attempt_step-clause-run
-returns-in-Err-attempt_step-clause-run g c =
-    let may : MayRead (context_state c.steps.ctx) = record { going = c.steps-test.true; counted = some-number c.steps.ctx.checker_state.step (omega arith) c.if-ctx.false } in
+pub returns-in-Err-take_counted-clause-run : goal.returns-in-Err-take_counted-clause-run
+returns-in-Err-take_counted-clause-run g c =
+    let P = g.P.ProofProcessor in let T = g.T.ProofTranscriptProcessor in
+    let t = context_state c.steps.ctx in let u = context_state c.take_counted.new.ctx in let fault = c.in-Err-take_counted.fault in
+    let may : MayRead t = record { going = c.steps-test.true; counted = some-number c.steps.ctx.checker_state.step (omega arith) c.if-ctx.false } in
     let gave = rw c.in-Ok.is at c.next_step.follows.holds-at-none in
-    delivered-refused g.P.ProofProcessor.took g.P.ProofProcessor.faulted g.T.ProofTranscriptProcessor.took
-    g.T.ProofTranscriptProcessor.faulted c.steps.invariant.so_far c.requires.form
-    (gave.reads (c.steps.invariant.open_reader c.steps-test.true)) may (context_state c.attempt_step.new.ctx)
-    (listeners_of c.attempt_step.new.ctx.processing) c.in-Err-attempt_step.fault
-    c.in-Err-attempt_step.ensures.step c.in-Err-attempt_step.ensures.delivered
+    let answers = error-answers u.steps fault c.step_error.result (attempt t (view c.in-Ok.step)) u c.step_error.ensures.error refl c.in-Err-take_counted.ensures.step in
+    let delivered = error-delivered P.took P.faulted T.took T.faulted (EmitsCall t (checks (view c.in-Ok.step))) u.steps fault c.step_error.result
+    (listeners_of c.steps.ctx.processing) (listeners_of c.take_counted.new.ctx.processing) c.step_error.ensures.error c.in-Err-take_counted.ensures.delivered in
+    rw c.step_error.ensures.listeners
+    (delivered-refused P.took P.faulted T.took T.faulted c.steps.invariant.so_far c.requires.form
+    (gave.reads (c.steps.invariant.open_reader c.steps-test.true)) may u (listeners_of c.take_counted.new.ctx.processing) c.step_error.result answers delivered)
+
+pub returns-in-Err-take_counted-clause-kept : goal.returns-in-Err-take_counted-clause-kept
+returns-in-Err-take_counted-clause-kept g c =
+    error-unless _ _ c.in-Err-take_counted.fault c.step_error.result c.step_error.ensures.error c.in-Err-take_counted.ensures.kept
 
 pub returns-in-Err-clause-run : goal.returns-in-Err-clause-run
 returns-in-Err-clause-run g c =

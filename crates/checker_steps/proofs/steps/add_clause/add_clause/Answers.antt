@@ -12,7 +12,7 @@ use Rattle.checker_steps.specs.InputCause.{input_cause, taken}
 use Rattle.checker_steps.specs.Added.{emitted_of}
 use Rattle.checker_steps.specs.Delivered.{listeners_of}
 use Rattle.checker_steps.proofs.AddClauseLemmas.{add-accepts, add-unsat, answers-input}
-use Rattle.checker_steps.proofs.EmissionLemmas.{answers-all, delivered-all, delivered-refused, unless-failed}
+use Rattle.checker_steps.proofs.EmissionLemmas.{answers-all, delivered-all, delivered-refused, unless-stopped}
 use Rattle.checker_steps.proofs.EmittedInputs.{emits-added, emits-unsat}
 use Rattle.checker_steps.proofs.DeliveryLemmas.{whole-none}
 use Rattle.checker_steps.proofs.steps.add_clause.add_clause.Goals as goal
@@ -28,8 +28,8 @@ returns-in-Some-clause-step g c =
     let ctx = c.args.ctx.now in
     let s = state_of ctx.checker_state ctx.clause_hasher ctx.clauses ctx.variables in
     let list = c.as_slice-clause.ensures.value ∙ c.in-Ok.ensures.items in
-    answers-input c.refusal.result c.in-Some.msg s c.args.lits.now c.refusal.ensures c.if-ctx.false
-    (subst (λ (x : List ℕ). input_cause s x ≡ Some (cause_of c.in-Some.msg)) list (c.in-Some.ensures ctx.checker_state))
+    answers-input c.in-Some.cause s c.args.lits.now c.if-ctx.false
+    (subst (λ (x : List ℕ). input_cause s x ≡ Some (cause_of c.in-Some.cause)) list (c.in-Some.ensures ctx.checker_state))
 
 pub take_clause-taken-requires-clause-canonical : goal.take_clause-taken-requires-clause-canonical
 take_clause-taken-requires-clause-canonical g c = ap is_canonical (c.as_slice-clause.ensures.value ∙ c.in-Ok.ensures.items) ∙ canonical-is c.args.lits.now
@@ -48,7 +48,7 @@ returns-in-Ok-taken-clause-kept g c =
     let ctx = c.args.ctx.now in
     kept-answer c.emit_added.result ctx.checker_state c.take_clause-taken.new.state ctx.clause_hasher ctx.clause_hasher ctx.clauses
     c.take_clause-taken.new.clauses ctx.variables c.take_clause-taken.new.variables
-    (add_clause c.args.lits.now) c.requires (returns-in-Ok-taken-clause-step g c) (unless-failed c.emit_added.result c.in-Ok-taken.ensures.store)
+    (add_clause c.args.lits.now) c.requires (returns-in-Ok-taken-clause-step g c) (unless-stopped c.emit_added.result c.in-Ok-taken.ensures.store)
 
 pub returns-in-Ok-taken-clause-delivered : goal.returns-in-Ok-taken-clause-delivered
 returns-in-Ok-taken-clause-delivered g c =
@@ -72,7 +72,5 @@ pub returns-in-Some-clause-delivered : goal.returns-in-Some-clause-delivered
 returns-in-Some-clause-delivered g c =
     let ctx = c.args.ctx.now in
     let s = state_of ctx.checker_state ctx.clause_hasher ctx.clauses ctx.variables in
-    delivered-refused g.P.ProofProcessor.took g.P.ProofProcessor.faulted g.T.ProofTranscriptProcessor.took
-    g.T.ProofTranscriptProcessor.faulted s s (add_clause c.args.lits.now) c.refusal.result ctx.checker_state.step c.in-Some.msg
-    (listeners_of ctx.processing)
-    c.refusal.ensures (returns-in-Some-clause-step g c) refl
+    delivered-refused g.P.ProofProcessor.took g.P.ProofProcessor.faulted g.T.ProofTranscriptProcessor.took g.T.ProofTranscriptProcessor.faulted s s
+    (add_clause c.args.lits.now) c.in-Some.cause (listeners_of ctx.processing) (returns-in-Some-clause-step g c) refl

@@ -11,9 +11,9 @@ use Rattle.checker_rules.proofs.StepKinds.{step-assumptions}
 use Rattle.checker_parts.specs.declared.error.CheckCause.TheVariants.{NotSampling}
 use Rattle.clause_store.specs.StateOf.{state_of}
 use Rattle.clause_store.proofs.GrowthLemmas.{is_store-known}
-use Rattle.clause_store.proofs.RefusalLemmas.{answers-refusal, kept-answer}
+use Rattle.clause_store.proofs.RefusalLemmas.{kept-answer}
 use Rattle.checker_steps.specs.Delivered.{listeners_of}
-use Rattle.checker_steps.proofs.EmissionLemmas.{answers-delivers, delivered-refused, unless-failed}
+use Rattle.checker_steps.proofs.EmissionLemmas.{answers-delivers, delivered-refused, unless-stopped}
 use Rattle.checker_steps.proofs.EmitLemmas.{emits-accepted}
 use Rattle.checker_steps.proofs.DeliveryLemmas.{delivered-one}
 use Rattle.checker_steps.proofs.steps.assumptions.assumptions.Goals as goal
@@ -36,15 +36,14 @@ returns-then-some_not_sampling-clause-step g c =
     let o = assumptions-refused s c.args.lits.now
     (ap (some_not_sampling s) (sym list) ∙ sym (c.some_not_sampling.ensures ctx.checker_state ctx.clause_hasher ctx.clauses) ∙
     c.if-some_not_sampling.true) in
-    answers-refusal c.refusal.result ctx.checker_state.step NotSampling not_sampling _ _ c.refusal.ensures refl (ap (λ (y : Outcome). y.refused) o) (sym (ap (λ (y : Outcome). y.after) o)) refl
+    (ap (λ (y : Outcome). y.refused) o, sym (ap (λ (y : Outcome). y.after) o))
 
 pub returns-then-some_not_sampling-clause-delivered : goal.returns-then-some_not_sampling-clause-delivered
 returns-then-some_not_sampling-clause-delivered g c =
     let ctx = c.args.ctx.now in
     let s = state_of ctx.checker_state ctx.clause_hasher ctx.clauses ctx.variables in
-    delivered-refused g.P.ProofProcessor.took g.P.ProofProcessor.faulted g.T.ProofTranscriptProcessor.took
-    g.T.ProofTranscriptProcessor.faulted s s (assumptions c.args.lits.now) c.refusal.result ctx.checker_state.step NotSampling
-    (listeners_of ctx.processing) c.refusal.ensures (returns-then-some_not_sampling-clause-step g c) refl
+    delivered-refused g.P.ProofProcessor.took g.P.ProofProcessor.faulted g.T.ProofTranscriptProcessor.took g.T.ProofTranscriptProcessor.faulted s s
+    (assumptions c.args.lits.now) NotSampling (listeners_of ctx.processing) (returns-then-some_not_sampling-clause-step g c) refl
 
 pub returns-clause-step : goal.returns-clause-step
 returns-clause-step g c =
@@ -65,7 +64,7 @@ returns-clause-kept g c =
     let ctx = c.args.ctx.now in let cs = c.ensure_vars.new.clauses in let known = c.ensure_vars.new.variables in
     kept-answer c.emit_assumptions.result ctx.checker_state (record ctx.checker_state { assumptions = c.swap.new.x }) ctx.clause_hasher
     ctx.clause_hasher ctx.clauses cs ctx.variables known (assumptions c.args.lits.now) c.requires (returns-clause-step g c)
-    (unless-failed c.emit_assumptions.result (is_store-known c.var_bound.result ctx.clause_hasher ctx.clauses cs ctx.variables known c.in-Ok-ensure_vars.ensures c.requires.store))
+    (unless-stopped c.emit_assumptions.result (is_store-known c.var_bound.result ctx.clause_hasher ctx.clauses cs ctx.variables known c.in-Ok-ensure_vars.ensures c.requires.store))
 
 pub returns-clause-delivered : goal.returns-clause-delivered
 returns-clause-delivered g c =

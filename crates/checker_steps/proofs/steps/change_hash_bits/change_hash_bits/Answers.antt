@@ -11,7 +11,6 @@ use Rattle.checker_rules.proofs.StepForms.{steps_keep_form}
 use Rattle.checker_rules.proofs.StepKinds.{step-change_hash_bits}
 use Rattle.checker_parts.specs.declared.error.CheckCause.TheVariants.{HashBits}
 use Rattle.clause_store.specs.StateOf.{state_of}
-use Rattle.clause_store.proofs.RefusalLemmas.{answers-refusal}
 use Rattle.checker_steps.specs.Delivered.{listeners_of}
 use Rattle.checker_steps.proofs.EmissionLemmas.{delivered-refused}
 use Rattle.checker_steps.proofs.EmitLemmas.{emits-accepted}
@@ -43,15 +42,14 @@ returns-then-bits-eq0-clause-step g c =
       | then-bits-eq0-via-else-bits-eq0+then-bits-gt-BITS w ↦ inr w.if-bits-gt-BITS.true
     ] in
     let o = bits-refused s c.args.bits wrong in
-    answers-refusal c.refusal.result ctx.checker_state.step HashBits hash_bits _ _ c.refusal.ensures refl (ap (λ (x : Outcome). x.refused) o) (sym (ap (λ (x : Outcome). x.after) o)) refl
+    (ap (λ (x : Outcome). x.refused) o, sym (ap (λ (x : Outcome). x.after) o))
 
 pub returns-then-bits-eq0-clause-delivered : goal.returns-then-bits-eq0-clause-delivered
 returns-then-bits-eq0-clause-delivered g c =
     let ctx = c.args.ctx.now in
     let s = state_of ctx.checker_state ctx.clause_hasher ctx.clauses ctx.variables in
-    delivered-refused g.P.ProofProcessor.took g.P.ProofProcessor.faulted g.T.ProofTranscriptProcessor.took
-    g.T.ProofTranscriptProcessor.faulted s s (change_hash_bits c.args.bits) c.refusal.result ctx.checker_state.step HashBits
-    (listeners_of ctx.processing) c.refusal.ensures (returns-then-bits-eq0-clause-step g c) refl
+    delivered-refused g.P.ProofProcessor.took g.P.ProofProcessor.faulted g.T.ProofTranscriptProcessor.took g.T.ProofTranscriptProcessor.faulted s s
+    (change_hash_bits c.args.bits) HashBits (listeners_of ctx.processing) (returns-then-bits-eq0-clause-step g c) refl
 
 pub returns-in-Ok-clause-step : goal.returns-in-Ok-clause-step
 returns-in-Ok-clause-step g c =

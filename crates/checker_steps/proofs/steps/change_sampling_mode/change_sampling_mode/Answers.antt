@@ -5,12 +5,13 @@ use Rattle.checker_rules.specs.Outcome.{Outcome, refuse}
 use Rattle.checker_rules.specs.Step.{change_sampling_mode}
 use Rattle.checker_rules.specs.Steps.{step}
 use Rattle.sat_formula.specs.Vars.{index_of}
+use Rattle.checker_parts.specs.declared.error.StepFault.TheVariants.{Refused}
 use Rattle.clause_store.specs.StateOf.{state_of}
 use Rattle.clause_store.proofs.GrowthLemmas.{is_store-known}
 use Rattle.clause_store.proofs.RefusalLemmas.{kept-answer}
 use Rattle.checker_steps.specs.Delivered.{listeners_of}
 use Rattle.checker_steps.specs.Naming.{mode_cause}
-use Rattle.checker_steps.proofs.EmissionLemmas.{answers-delivers, delivered-refused, unless-failed}
+use Rattle.checker_steps.proofs.EmissionLemmas.{answers-delivers, delivered-refused, unless-stopped}
 use Rattle.checker_steps.proofs.EmitLemmas.{answers-found}
 use Rattle.checker_steps.proofs.DeliveryLemmas.{delivered-one, whole-none}
 use Rattle.checker_steps.proofs.NamingLemmas.{emits-change, is_sample-asked, mode-changed, mode-refused}
@@ -64,7 +65,7 @@ returns-in-Ok-Some-clause-kept g c =
     c.ensure_var.new.clauses ctx.variables c.change_mode.new.variables (change_sampling_mode (index_of c.args.var) c.args.sample)
     c.requires
     (returns-in-Ok-Some-clause-step g c)
-    (unless-failed c.emit_user_var.result (is_store-known (suc (index_of c.args.var)) ctx.clause_hasher ctx.clauses c.ensure_var.new.clauses
+    (unless-stopped c.emit_user_var.result (is_store-known (suc (index_of c.args.var)) ctx.clause_hasher ctx.clauses c.ensure_var.new.clauses
     ctx.variables c.ensure_var.new.variables c.in_ok-ensure_var.ensures.known c.requires.store))
 
 pub returns-in-Ok-Some-clause-delivered : goal.returns-in-Ok-Some-clause-delivered
@@ -78,7 +79,7 @@ returns-in-Ok-Some-clause-delivered g c =
     c.emit_user_var.result
     (emits-change s r x c.args.sample _ (Some (index_of c.in-Ok-Some.user_var)) c.change_mode.new.variables
     (c.in_ok-ensure_var.ensures.known.state ctx.checker_state ctx.clause_hasher) changed.0 changed.1 changed.2
-    (c.shown_mode.ensures ∙ ap is_sample c.asked_mode.ensures ∙ is_sample-asked c.args.sample)) (rw c.in-Ok-Some.field-0-is at c.emit_user_var.ensures)
+    (c.shown_mode.ensures ∙ ap is_sample c.asked_mode.ensures ∙ is_sample-asked c.args.sample)) c.emit_user_var.ensures
 
 pub returns-in-Err-clause-step : goal.returns-in-Err-clause-step
 returns-in-Err-clause-step g c =
@@ -86,29 +87,25 @@ returns-in-Err-clause-step g c =
     let s = state_of ctx.checker_state ctx.clause_hasher ctx.clauses ctx.variables in
     let r = state_of ctx.checker_state ctx.clause_hasher c.ensure_var.new.clauses known in
     let same = ap (state_of ctx.checker_state ctx.clause_hasher c.ensure_var.new.clauses) c.in-Err.ensures.1 in
-    answers-found c.refusal.result ctx.checker_state.step c.in-Err.msg (mode_cause known x c.args.sample)
-    (step s (change_sampling_mode x c.args.sample))
-    (state_of ctx.checker_state ctx.clause_hasher c.ensure_var.new.clauses c.change_mode.new.variables) c.refusal.ensures
-    c.in-Err.ensures.0
-    (λ cause found. mode-refused s r x c.args.sample cause (c.in_ok-ensure_var.ensures.known.state ctx.checker_state ctx.clause_hasher) found ∙ ap (refuse cause) (sym same)) refl
+    answers-found c.in-Err.cause (mode_cause known x c.args.sample) (step s (change_sampling_mode x c.args.sample))
+    (state_of ctx.checker_state ctx.clause_hasher c.ensure_var.new.clauses c.change_mode.new.variables) c.in-Err.ensures.0
+    (λ cause found. mode-refused s r x c.args.sample cause (c.in_ok-ensure_var.ensures.known.state ctx.checker_state ctx.clause_hasher) found ∙ ap
+    (refuse cause) (sym same))
 
 pub returns-in-Err-clause-kept : goal.returns-in-Err-clause-kept
 returns-in-Err-clause-kept g c =
     let ctx = c.args.ctx.now in
-    kept-answer {A = Unit {0}} (Err c.refusal.result) ctx.checker_state ctx.checker_state ctx.clause_hasher ctx.clause_hasher ctx.clauses
+    kept-answer {A = Unit {0}} (Err (Refused c.in-Err.cause)) ctx.checker_state ctx.checker_state ctx.clause_hasher ctx.clause_hasher ctx.clauses
     c.ensure_var.new.clauses ctx.variables c.change_mode.new.variables (change_sampling_mode (index_of c.args.var) c.args.sample)
     c.requires
     (returns-in-Err-clause-step g c)
-    (unless-failed {A = Unit {0}} (Err c.refusal.result)
     (is_store-known (suc (index_of c.args.var)) ctx.clause_hasher ctx.clauses c.ensure_var.new.clauses ctx.variables
-    c.ensure_var.new.variables c.in_ok-ensure_var.ensures.known c.requires.store))
+    c.ensure_var.new.variables c.in_ok-ensure_var.ensures.known c.requires.store)
 
 pub returns-in-Err-clause-delivered : goal.returns-in-Err-clause-delivered
 returns-in-Err-clause-delivered g c =
     let ctx = c.args.ctx.now in
     let s = state_of ctx.checker_state ctx.clause_hasher ctx.clauses ctx.variables in
     let u = state_of ctx.checker_state ctx.clause_hasher c.ensure_var.new.clauses c.change_mode.new.variables in
-    delivered-refused g.P.ProofProcessor.took g.P.ProofProcessor.faulted g.T.ProofTranscriptProcessor.took
-    g.T.ProofTranscriptProcessor.faulted s u (change_sampling_mode (index_of c.args.var) c.args.sample) c.refusal.result
-    ctx.checker_state.step c.in-Err.msg (listeners_of ctx.processing) c.refusal.ensures
-    (returns-in-Err-clause-step g c) refl
+    delivered-refused g.P.ProofProcessor.took g.P.ProofProcessor.faulted g.T.ProofTranscriptProcessor.took g.T.ProofTranscriptProcessor.faulted s u
+    (change_sampling_mode (index_of c.args.var) c.args.sample) c.in-Err.cause (listeners_of ctx.processing) (returns-in-Err-clause-step g c) refl

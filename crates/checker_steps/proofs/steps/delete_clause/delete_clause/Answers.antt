@@ -2,36 +2,35 @@ use Rattle.std.proofs.Common.{◌≡◌, None, Err, sym, ap, ◌∙◌, subst, r
 use Rattle.checker_rules.specs.Canonical.{canonical}
 use Rattle.checker_rules.specs.DeleteClause.{forget, justified}
 use Rattle.checker_rules.specs.Emits.{Emits, emits_deletion}
-use Rattle.checker_rules.specs.Outcome.{Outcome, tautology}
+use Rattle.checker_rules.specs.Outcome.{Outcome}
 use Rattle.checker_rules.specs.Step.{delete_clause}
 use Rattle.checker_rules.specs.Steps.{step}
-use Rattle.checker_parts.specs.Answers.{AnswersParts}
+use Rattle.checker_parts.specs.Faults.{AnswersOutcome}
 use Rattle.checker_parts.specs.declared.error.CheckCause.TheVariants.{Tautology}
 use Rattle.proof_bytes.specs.NextStep.{why}
 use Rattle.clause_store.specs.Delete.{Deletes}
+use Rattle.clause_store.specs.Refusal.{delete_fault}
 use Rattle.clause_store.specs.StateOf.{state_of}
 use Rattle.clause_store.specs.Store.{IsStore}
 use Rattle.clause_store.specs.declared.state.CheckerState.{CheckerState}
-use Rattle.clause_store.proofs.RefusalLemmas.{answers-refusal, kept-answer}
+use Rattle.clause_store.proofs.RefusalLemmas.{kept-answer}
 use Rattle.checker_steps.specs.DeletionSteps.{deletion_steps}
 use Rattle.checker_steps.specs.Delivered.{listeners_of}
 use Rattle.checker_steps.proofs.DeleteStepLemmas.{answers-fault, answers-unjustified, delete-asked, delete-justified, delete-tautology, emits-accepted, emits-by, delivered-fault, unless-fault}
-use Rattle.checker_steps.proofs.EmissionLemmas.{answers-all, delivered-all, delivered-refused, unless-failed}
+use Rattle.checker_steps.proofs.EmissionLemmas.{answers-all, delivered-all, delivered-refused, unless-stopped}
 use Rattle.checker_steps.proofs.steps.delete_clause.delete_clause.Goals as goal
 
 pub returns-then-tautology-clause-step : goal.returns-then-tautology-clause-step
 returns-then-tautology-clause-step g c =
     let ctx = c.args.ctx.now in let s = state_of ctx.checker_state ctx.clause_hasher ctx.clauses ctx.variables in
     let o = delete-tautology s (why c.args.proof) c.args.lits.now (sym c.in-Ok.ensures.tautology ∙ c.if-tautology.true) in
-    answers-refusal c.refusal.result ctx.checker_state.step Tautology tautology _ _ c.refusal.ensures refl (ap (λ (x : Outcome). x.refused) o) (sym (ap (λ (x : Outcome). x.after) o)) refl
+    (ap (λ (x : Outcome). x.refused) o, sym (ap (λ (x : Outcome). x.after) o))
 
 pub returns-then-tautology-clause-delivered : goal.returns-then-tautology-clause-delivered
 returns-then-tautology-clause-delivered g c =
     let ctx = c.args.ctx.now in let s = state_of ctx.checker_state ctx.clause_hasher ctx.clauses ctx.variables in
-    delivered-refused g.P.ProofProcessor.took g.P.ProofProcessor.faulted g.T.ProofTranscriptProcessor.took
-    g.T.ProofTranscriptProcessor.faulted s s (delete_clause (why c.args.proof) c.args.lits.now) c.refusal.result ctx.checker_state.step
-    Tautology (listeners_of ctx.processing)
-    c.refusal.ensures (returns-then-tautology-clause-step g c) refl
+    delivered-refused g.P.ProofProcessor.took g.P.ProofProcessor.faulted g.T.ProofTranscriptProcessor.took g.T.ProofTranscriptProcessor.faulted s s
+    (delete_clause (why c.args.proof) c.args.lits.now) Tautology (listeners_of ctx.processing) (returns-then-tautology-clause-step g c) refl
 
 pub returns-in-Err-clause-step : goal.returns-in-Err-clause-step
 returns-in-Err-clause-step g c =
@@ -39,15 +38,13 @@ returns-in-Err-clause-step g c =
     let list : c.as_slice-clause.result.now ≡ canonical ls = c.as_slice-clause.ensures.value ∙ c.in-Ok.ensures.items in
     let asked : step s (delete_clause j ls) ≡ justified j c.as_slice-clause.result.now s =
     delete-asked s j ls (sym c.in-Ok.ensures.tautology ∙ c.if-tautology.false) ∙ ap (λ x. justified j x s) (sym list) in
-    answers-unjustified c.refusal-in-Err.result c.in-Err.msg (step s (delete_clause j ls)) s c.refusal-in-Err.ensures (asked ∙ c.in-Err.ensures ctx.clause_hasher ctx.variables)
+    answers-unjustified c.in-Err.cause (step s (delete_clause j ls)) s (asked ∙ c.in-Err.ensures ctx.clause_hasher ctx.variables)
 
 pub returns-in-Err-clause-delivered : goal.returns-in-Err-clause-delivered
 returns-in-Err-clause-delivered g c =
     let ctx = c.args.ctx.now in let s = state_of ctx.checker_state ctx.clause_hasher ctx.clauses ctx.variables in
-    delivered-refused g.P.ProofProcessor.took g.P.ProofProcessor.faulted g.T.ProofTranscriptProcessor.took
-    g.T.ProofTranscriptProcessor.faulted s s (delete_clause (why c.args.proof) c.args.lits.now) c.refusal-in-Err.result
-    ctx.checker_state.step c.in-Err.msg (listeners_of ctx.processing)
-    c.refusal-in-Err.ensures (returns-in-Err-clause-step g c) refl
+    delivered-refused g.P.ProofProcessor.took g.P.ProofProcessor.faulted g.T.ProofTranscriptProcessor.took g.T.ProofTranscriptProcessor.faulted s s
+    (delete_clause (why c.args.proof) c.args.lits.now) c.in-Err.cause (listeners_of ctx.processing) (returns-in-Err-clause-step g c) refl
 
 pub returns-in-Ok-deleted-clause-step : goal.returns-in-Ok-deleted-clause-step
 returns-in-Ok-deleted-clause-step g c =
@@ -68,7 +65,7 @@ pub returns-in-Ok-deleted-clause-kept : goal.returns-in-Ok-deleted-clause-kept
 returns-in-Ok-deleted-clause-kept g c =
     let ctx = c.args.ctx.now in let st : CheckerState = record ctx.checker_state { previous_id = None } in
     kept-answer c.emit_deletion.result ctx.checker_state st ctx.clause_hasher ctx.clause_hasher ctx.clauses c.delete_clause-deleted.new.clauses ctx.variables ctx.variables
-    (delete_clause (why c.args.proof) c.args.lits.now) c.requires (returns-in-Ok-deleted-clause-step g c) (unless-failed c.emit_deletion.result c.in-Ok-deleted.ensures.store)
+    (delete_clause (why c.args.proof) c.args.lits.now) c.requires (returns-in-Ok-deleted-clause-step g c) (unless-stopped c.emit_deletion.result c.in-Ok-deleted.ensures.store)
 
 pub returns-in-Ok-deleted-clause-delivered : goal.returns-in-Ok-deleted-clause-delivered
 returns-in-Ok-deleted-clause-delivered g c =
@@ -96,23 +93,21 @@ returns-in-Err-deleted-clause-step g c =
     let asked = delete-justified s j ls cl c.in-Ok-justify.id r (sym c.in-Ok.ensures.tautology ∙ c.if-tautology.false) list
     (c.in-Ok-justify.ensures ctx.clause_hasher ctx.variables) c.is_none-redundant.ensures in
     let t = state_of st ctx.clause_hasher c.delete_clause-deleted.new.clauses ctx.variables in
-    subst (λ (o : Outcome). AnswersParts {A = Unit {0}} (Err c.delete_error.result) o t) (sym asked.0)
-    (answers-fault r cl (forget s) t c.delete_error.result c.in-Err-deleted.fault (c.in-Err-deleted.ensures.answer st ctx.variables)
-    c.delete_error.ensures)
+    rw c.delete_fault.ensures (subst (λ (o : Outcome). AnswersOutcome {A = Unit {0}} (Err (delete_fault c.in-Err-deleted.fault r)) o t) (sym asked.0)
+    (answers-fault r cl (forget s) t c.in-Err-deleted.fault (c.in-Err-deleted.ensures.answer st ctx.variables)))
 
 pub returns-in-Err-deleted-clause-kept : goal.returns-in-Err-deleted-clause-kept
 returns-in-Err-deleted-clause-kept g c =
     let ctx = c.args.ctx.now in let st : CheckerState = record ctx.checker_state { previous_id = None } in
-    kept-answer {A = Unit {0}} (Err c.delete_error.result) ctx.checker_state st ctx.clause_hasher ctx.clause_hasher ctx.clauses c.delete_clause-deleted.new.clauses ctx.variables ctx.variables
+    kept-answer {A = Unit {0}} (Err c.delete_fault.result) ctx.checker_state st ctx.clause_hasher ctx.clause_hasher ctx.clauses c.delete_clause-deleted.new.clauses ctx.variables ctx.variables
     (delete_clause (why c.args.proof) c.args.lits.now) c.requires (returns-in-Err-deleted-clause-step g c)
-    (unless-fault (IsStore ctx.clause_hasher c.delete_clause-deleted.new.clauses) c.in-Err-deleted.fault c.is_none-redundant.result
-    st.step c.delete_error.result c.delete_error.ensures c.in-Err-deleted.ensures.store)
+    (rw c.delete_fault.ensures (unless-fault (IsStore ctx.clause_hasher c.delete_clause-deleted.new.clauses) c.in-Err-deleted.fault c.is_none-redundant.result
+    c.in-Err-deleted.ensures.store))
 
 pub returns-in-Err-deleted-clause-delivered : goal.returns-in-Err-deleted-clause-delivered
 returns-in-Err-deleted-clause-delivered g c =
     let ctx = c.args.ctx.now in let s = state_of ctx.checker_state ctx.clause_hasher ctx.clauses ctx.variables in
     let st : CheckerState = record ctx.checker_state { previous_id = None } in let t = state_of st ctx.clause_hasher c.delete_clause-deleted.new.clauses ctx.variables in
-    delivered-fault g.P.ProofProcessor.took g.P.ProofProcessor.faulted g.T.ProofTranscriptProcessor.took
+    rw c.delete_fault.ensures (delivered-fault g.P.ProofProcessor.took g.P.ProofProcessor.faulted g.T.ProofTranscriptProcessor.took
     g.T.ProofTranscriptProcessor.faulted s t (why c.args.proof) c.args.lits.now c.in-Err-deleted.fault c.is_none-redundant.result
-    c.delete_error.result st.step (listeners_of ctx.processing)
-    c.delete_error.ensures (returns-in-Err-deleted-clause-step g c)
+    (listeners_of ctx.processing) (rw c.delete_fault.ensures at (returns-in-Err-deleted-clause-step g c)))

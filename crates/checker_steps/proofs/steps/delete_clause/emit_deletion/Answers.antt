@@ -8,7 +8,6 @@ use Rattle.checker_steps.specs.Delivered.{DeliveredAll, RanOver, listeners_of}
 use Rattle.checker_steps.proofs.EmissionLemmas.{all-one}
 use Rattle.checker_steps.proofs.DeliveryLemmas.{ran-none}
 use Rattle.checker_steps.proofs.steps.delete_clause.emit_deletion.Goals as goal
-use Rattle.checker_steps.proofs.steps.delete_clause.emit_deletion.Goals.{in_default-via-in-None+in_default, in_default-via-in-Some+in_default}
 
 kept_redundant : (names : List Known) (implying : Option ℕ) (did : DeleteClauseResult) (id : ℕ) (c : List ℕ) → implying ≡ None → (did ≡ Removed → ⊥) → [] ≡ deletion_steps names implying did id c
 kept_redundant names (Some n) did id c e gone = cc
@@ -56,9 +55,13 @@ returns-in-Some-NewlyRedundant g c =
 pub returns-in_default : goal.returns-in_default
 returns-in_default g c =
     let names = c.args.variables.now in let ls = c.args.clause.now in let id = c.args.id in let old = listeners_of c.args.processing.now in
-    let none = ran-none g.P.ProofProcessor.took g.P.ProofProcessor.faulted g.T.ProofTranscriptProcessor.took g.T.ProofTranscriptProcessor.faulted old in
-    let P : List NamedStep → Type 0 = λ es. RanOver g.P.ProofProcessor.took g.T.ProofTranscriptProcessor.took es old old in
-    elim c.in_default.branch [
-      | in_default-via-in-None+in_default w ↦ subst P (kept_redundant names c.args.implying c.args.did id ls w.in_default.is-0 w.in_default.not-Removed-1) none
-      | in_default-via-in-Some+in_default w ↦ subst P (kept_irredundant names c.args.implying c.args.did id ls w.in_default.is-1) none
-    ]
+    subst (λ (es : List NamedStep). RanOver g.P.ProofProcessor.took g.T.ProofTranscriptProcessor.took es old old)
+    (kept_redundant names c.args.implying c.args.did id ls c.in_default.is-0 c.in_default.not-Removed-1)
+    (ran-none g.P.ProofProcessor.took g.P.ProofProcessor.faulted g.T.ProofTranscriptProcessor.took g.T.ProofTranscriptProcessor.faulted old)
+
+pub returns-in_default-2 : goal.returns-in_default-2
+returns-in_default-2 g c =
+    let names = c.args.variables.now in let ls = c.args.clause.now in let id = c.args.id in let old = listeners_of c.args.processing.now in
+    subst (λ (es : List NamedStep). RanOver g.P.ProofProcessor.took g.T.ProofTranscriptProcessor.took es old old)
+    (kept_irredundant names c.args.implying c.args.did id ls c.in_default.is-1)
+    (ran-none g.P.ProofProcessor.took g.P.ProofProcessor.faulted g.T.ProofTranscriptProcessor.took g.T.ProofTranscriptProcessor.faulted old)

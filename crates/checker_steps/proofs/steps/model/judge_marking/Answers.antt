@@ -1,4 +1,4 @@
-use Rattle.std.proofs.Common.{◌≡◌, true, false, ap, ◌∙◌}
+use Rattle.std.proofs.Common.{true, false, ap, ◌∙◌}
 use Rattle.std.specs.List.{list_all}
 use Rattle.clause_store.specs.StateOf.{state_of}
 use Rattle.checker_steps.specs.Marks.{is_marked}

@@ -1,12 +1,11 @@
 use Rattle.std.proofs.Common.{refl, sym, ap}
 use Rattle.checker_rules.specs.Emits.{Emits}
-use Rattle.checker_rules.specs.Outcome.{Outcome, model_after_unsat}
+use Rattle.checker_rules.specs.Outcome.{Outcome}
 use Rattle.checker_rules.specs.Step.{model}
 use Rattle.checker_rules.specs.Steps.{step}
 use Rattle.checker_parts.specs.Causes.{cause_of}
 use Rattle.checker_parts.specs.declared.error.CheckCause.TheVariants.{ModelAfterUnsat}
 use Rattle.clause_store.specs.StateOf.{state_of}
-use Rattle.clause_store.proofs.RefusalLemmas.{answers-refusal}
 use Rattle.checker_steps.specs.Delivered.{listeners_of}
 use Rattle.checker_steps.proofs.EmissionLemmas.{answers-delivers, delivered-refused}
 use Rattle.checker_steps.proofs.DeliveryLemmas.{delivered-one}
@@ -18,14 +17,14 @@ returns-then-ctx-clause-step g c =
     let ctx = c.args.ctx.now in
     let s = state_of ctx.checker_state ctx.clause_hasher ctx.clauses ctx.variables in
     let o = model-unsat s c.args.assignment.now c.if-ctx.true in
-    answers-refusal c.refusal.result s.steps ModelAfterUnsat model_after_unsat (step s (model c.args.assignment.now)) s c.refusal.ensures
-    refl (ap (λ (x : Outcome). x.refused) o) (sym (ap (λ (x : Outcome). x.after) o)) refl
+    (ap (λ (x : Outcome). x.refused) o, sym (ap (λ (x : Outcome). x.after) o))
 
 pub returns-then-ctx-clause-delivered : goal.returns-then-ctx-clause-delivered
 returns-then-ctx-clause-delivered g c =
     let ctx = c.args.ctx.now in
     let s = state_of ctx.checker_state ctx.clause_hasher ctx.clauses ctx.variables in
-    delivered-refused _ _ _ _ s s (model c.args.assignment.now) c.refusal.result s.steps ModelAfterUnsat (listeners_of ctx.processing) c.refusal.ensures (returns-then-ctx-clause-step g c) refl
+    delivered-refused g.P.ProofProcessor.took g.P.ProofProcessor.faulted g.T.ProofTranscriptProcessor.took
+    g.T.ProofTranscriptProcessor.faulted s s (model c.args.assignment.now) ModelAfterUnsat (listeners_of ctx.processing) (returns-then-ctx-clause-step g c) refl
 
 pub returns-in-Ok-judged-clause-step : goal.returns-in-Ok-judged-clause-step
 returns-in-Ok-judged-clause-step g c =
@@ -45,12 +44,12 @@ pub returns-in-Err-clause-step : goal.returns-in-Err-clause-step
 returns-in-Err-clause-step g c =
     let ctx = c.args.ctx.now in
     let s = state_of ctx.checker_state ctx.clause_hasher ctx.clauses ctx.variables in
-    let r = model-refuses s c.args.assignment.now (cause_of c.in-Err.msg) c.if-ctx.false (c.in-Err.ensures ctx.clause_hasher) in
-    answers-refusal c.refusal-in-Err.result s.steps c.in-Err.msg (cause_of c.in-Err.msg) (step s (model c.args.assignment.now)) s
-    c.refusal-in-Err.ensures refl (ap (λ (x : Outcome). x.refused) r) (sym (ap (λ (x : Outcome). x.after) r)) refl
+    let r = model-refuses s c.args.assignment.now (cause_of c.in-Err.cause) c.if-ctx.false (c.in-Err.ensures ctx.clause_hasher) in
+    (ap (λ (x : Outcome). x.refused) r, sym (ap (λ (x : Outcome). x.after) r))
 
 pub returns-in-Err-clause-delivered : goal.returns-in-Err-clause-delivered
 returns-in-Err-clause-delivered g c =
     let ctx = c.args.ctx.now in
     let s = state_of ctx.checker_state ctx.clause_hasher ctx.clauses ctx.variables in
-    delivered-refused _ _ _ _ s s (model c.args.assignment.now) c.refusal-in-Err.result s.steps c.in-Err.msg (listeners_of ctx.processing) c.refusal-in-Err.ensures (returns-in-Err-clause-step g c) refl
+    delivered-refused g.P.ProofProcessor.took g.P.ProofProcessor.faulted g.T.ProofTranscriptProcessor.took
+    g.T.ProofTranscriptProcessor.faulted s s (model c.args.assignment.now) c.in-Err.cause (listeners_of ctx.processing) (returns-in-Err-clause-step g c) refl

@@ -17,7 +17,7 @@ returns-in-Ok-clause-step g c =
     let ctx = c.args.ctx.now in
     let s = state_of ctx.checker_state ctx.clause_hasher ctx.clauses ctx.variables in
     let o = step-solver_var_name s (index_of c.args.global) (indexes_of c.args.solver) in
-    let more = ap (map indexes) c.in-Ok.ensures ∙ map-append indexes ctx.clause_hasher.pending.entries.items ((c.args.global, c.args.solver) ∷ []) in
+    let more = ap (map indexes) c.in-Ok.ensures.ok ∙ map-append indexes ctx.clause_hasher.pending.entries.items ((c.args.global, c.args.solver) ∷ []) in
     (ap (λ (x : Outcome). x.refused) o, ap (λ ps. record s { pending = ps }) more ∙ sym (ap (λ (x : Outcome). x.after) o))
 
 pub returns-in-Ok-clause-delivered : goal.returns-in-Ok-clause-delivered

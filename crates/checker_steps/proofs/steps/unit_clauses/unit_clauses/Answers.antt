@@ -27,11 +27,11 @@ loop-lit-init g c =
 
 pub returns-in_err-derive-clause-step : goal.returns-in_err-derive-clause-step
 returns-in_err-derive-clause-step g c =
-    let ctx = c.args.ctx.now in let mid = c.loop-lit.ctx in let new = c.derive.new in let us = c.args.units.now in let p =
+    let ctx = c.args.ctx.now in let mid = c.loop-lit.ctx in let new = c.derive.new.ctx in let us = c.args.units.now in let p =
     c.loop-lit-item.result in let i = c.loop-lit.lit-index in let P = g.P.ProofProcessor in let T = g.T.ProofTranscriptProcessor in
     let s = state_of ctx.checker_state ctx.clause_hasher ctx.clauses ctx.variables in let r =
     state_of mid.checker_state mid.clause_hasher mid.clauses mid.variables in let t =
-    state_of new.state new.hasher new.clauses new.variables in
+    state_of new.checker_state new.clause_hasher new.clauses new.variables in
     let far = subst (λ (rest : List (ℕ × ℕ)). UnitsSoFar P.took T.took s us (listeners_of ctx.processing) r rest
     (listeners_of mid.processing)) (drop-pair us i p c.loop-lit-test.true c.loop-lit-item.is) c.loop-lit.invariant.so_far in
     let e = c.in_err-derive.field-0.0 in
@@ -41,19 +41,19 @@ returns-in_err-derive-clause-step g c =
 
 pub returns-in_err-derive-clause-kept : goal.returns-in_err-derive-clause-kept
 returns-in_err-derive-clause-kept g c =
-    let ctx = c.args.ctx.now in let new = c.derive.new in
+    let ctx = c.args.ctx.now in let new = c.derive.new.ctx in
     let q = err_from_is_err_and c.from_residual.result c.from_residual.ensures.1 in
-    kept-answer c.from_residual.result ctx.checker_state new.state ctx.clause_hasher new.hasher ctx.clauses new.clauses ctx.variables new.variables
+    kept-answer c.from_residual.result ctx.checker_state new.checker_state ctx.clause_hasher new.clause_hasher ctx.clauses new.clauses ctx.variables new.variables
     (unit_clauses c.args.units.now) c.requires (returns-in_err-derive-clause-step g c)
-    (rw (q.1, q.2) (unless-as ℕ (Unit {0}) c.in_err-derive.field-0.0 (IsStore new.hasher new.clauses) c.in_err-derive.ensures.store))
+    (rw (q.1, q.2) (unless-as ℕ (Unit {0}) c.in_err-derive.field-0.0 (IsStore new.clause_hasher new.clauses) c.in_err-derive.ensures.store))
 
 pub returns-in_err-derive-clause-delivered : goal.returns-in_err-derive-clause-delivered
 returns-in_err-derive-clause-delivered g c =
-    let ctx = c.args.ctx.now in let mid = c.loop-lit.ctx in let new = c.derive.new in let us = c.args.units.now in let p =
+    let ctx = c.args.ctx.now in let mid = c.loop-lit.ctx in let new = c.derive.new.ctx in let us = c.args.units.now in let p =
     c.loop-lit-item.result in let i = c.loop-lit.lit-index in let P = g.P.ProofProcessor in let T = g.T.ProofTranscriptProcessor in
     let s = state_of ctx.checker_state ctx.clause_hasher ctx.clauses ctx.variables in let r =
     state_of mid.checker_state mid.clause_hasher mid.clauses mid.variables in let t =
-    state_of new.state new.hasher new.clauses new.variables in
+    state_of new.checker_state new.clause_hasher new.clauses new.variables in
     let far = subst (λ (rest : List (ℕ × ℕ)). UnitsSoFar P.took T.took s us (listeners_of ctx.processing) r rest
     (listeners_of mid.processing)) (drop-pair us i p c.loop-lit-test.true c.loop-lit-item.is) c.loop-lit.invariant.so_far in
     let e = c.in_err-derive.field-0.0 in
@@ -68,11 +68,11 @@ returns-in_err-derive-clause-delivered g c =
 
 pub loop-lit-preserved : goal.loop-lit-preserved
 loop-lit-preserved g c =
-    let ctx = c.args.ctx.now in let mid = c.loop-lit.ctx in let new = c.derive.new in let us = c.args.units.now in let p =
+    let ctx = c.args.ctx.now in let mid = c.loop-lit.ctx in let new = c.derive.new.ctx in let us = c.args.units.now in let p =
     c.loop-lit-item.result in let i = c.loop-lit.lit-index in let P = g.P.ProofProcessor in let T = g.T.ProofTranscriptProcessor in
     let s = state_of ctx.checker_state ctx.clause_hasher ctx.clauses ctx.variables in let r =
     state_of mid.checker_state mid.clause_hasher mid.clauses mid.variables in let t =
-    state_of new.state new.hasher new.clauses new.variables in
+    state_of new.checker_state new.clause_hasher new.clauses new.variables in
     let far = subst (λ (rest : List (ℕ × ℕ)). UnitsSoFar P.took T.took s us (listeners_of ctx.processing) r rest
     (listeners_of mid.processing)) (drop-pair us i p c.loop-lit-test.true c.loop-lit-item.is) c.loop-lit.invariant.so_far in
     record {

@@ -40,8 +40,8 @@ returns-then-is_gone-clause-lowered c =
     let here : d ≡ get_or cs i d = c.index-as_slice-at.is ∙ ap (λ xs. get_or xs i d) c.as_slice-2.ensures in
     let gone : is_gone (left_of clause) ≡ true = ap is_gone (sym c.left_of-left.ensures) ∙ sym c.is_gone.ensures ∙ c.if-is_gone.true in
     record {
-      here = ap (map (stored_of b)) c.remove.ensures.items ∙ removed-place b ls cs i d at here r clause c.in-Some-lower.ensures.1 gone c.requires.apart c.requires.whole;
-      within = subst (All P) (sym c.remove.ensures.items) (All-append P (take i cs) (drop (suc i) cs) (All-take P i cs c.requires.within) (All-drop P (suc i) cs c.requires.within));
+      here = ap (map (stored_of b)) c.remove_clause.ensures ∙ removed-place b ls cs i d at here r clause c.in-Some-lower.ensures.1 gone c.requires.apart c.requires.whole;
+      within = subst (All P) (sym c.remove_clause.ensures) (All-append P (take i cs) (drop (suc i) cs) (All-take P i cs c.requires.within) (All-drop P (suc i) cs c.requires.within));
       is_left = subst (IsLeft r ls (map (stored_of b) cs)) (sym (c.left_of-left.ensures ∙ ap left_of c.in-Some-lower.ensures.1)) (left-place b ls cs i d at here r c.in-Some-lower.ensures.0);
     }
 

@@ -1,7 +1,7 @@
-use Rattle.std.proofs.Common.{◌+◌, ◌*◌, ◌^◌, cond, sym, ap, ◌∙◌}
+use Rattle.std.proofs.Common.{◌+◌, ◌*◌, cond, sym, ap, ◌∙◌}
 use Rattle.checker_rules.specs.State.{lit_code_hash, named_hash}
 use Rattle.clause_store.specs.StateOf.{applied_of}
-use Rattle.clause_store.proofs.HashLemmas.{named_hash-None, named_hash-Some}
+use Rattle.clause_store.proofs.HashLemmas.{named_hash-Some}
 use Rattle.clause_store.proofs.hash.ClauseHasher.named_lit_hash.Goals as goal
 
 pub returns-in-Some : goal.returns-in-Some
@@ -12,5 +12,4 @@ returns-in-Some c =
 
 pub returns-in-None : goal.returns-in-None
 returns-in-None c =
-    c.lit_code_hash.ensures ∙ ap (λ m. lit_code_hash (m + 2 ^ 29)) c.code.ensures.value ∙ sym (named_hash-None c.args.lit)
-    ∙ ap (λ o. named_hash o c.args.lit) (c.in-None.ensures ∙ ap (applied_of c.args.self.now) c.index.ensures.value)
+    c.unnamed_lit_hash.ensures ∙ ap (λ o. named_hash o c.args.lit) (c.in-None.ensures ∙ ap (applied_of c.args.self.now) c.index.ensures.value)

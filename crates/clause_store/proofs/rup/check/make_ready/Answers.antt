@@ -1,15 +1,19 @@
 use Rattle.std.proofs.lemmas.Result.{on_ok_weaker}
+use Rattle.checker_rules.specs.Canonical.{var_bound}
 use Rattle.clause_store.proofs.GrowthLemmas.{is_store-known}
 use Rattle.clause_store.proofs.ReadyLemmas.{pending-length}
 use Rattle.clause_store.proofs.rup.check.make_ready.Goals as goal
 
-pub ensure_vars-requires : goal.ensure_vars-requires
-ensure_vars-requires c =
+pub ensure_lits-requires-clause-same : goal.ensure_lits-requires-clause-same
+ensure_lits-requires-clause-same c =
     pending-length c.args.state.now c.args.hasher.now c.apply_pending_names.new.hasher c.args.clauses.now c.apply_pending_names.new.clauses c.args.variables.now c.requires.form
     (c.in_ok-apply_pending_names.ensures.state c.args.state.now c.args.variables.now)
 
 pub returns-clause-store : goal.returns-clause-store
 returns-clause-store c =
-    on_ok_weaker c.ensure_vars.result (λ grown. is_store-known c.var_bound.result c.apply_pending_names.new.hasher
-    c.apply_pending_names.new.clauses c.ensure_vars.new.clauses c.args.variables.now c.ensure_vars.new.variables grown
-    c.in_ok-apply_pending_names.ensures.store) c.ensure_vars.ensures
+    on_ok_weaker c.ensure_lits.result (λ grown. is_store-known (var_bound c.args.lits.now) c.apply_pending_names.new.hasher
+    c.apply_pending_names.new.clauses c.ensure_lits.new.clauses c.args.variables.now c.ensure_lits.new.variables grown
+    c.in_ok-apply_pending_names.ensures.store) c.ensure_lits.ensures
+
+pub ensure_lits-requires-clause-counts : goal.ensure_lits-requires-clause-counts
+ensure_lits-requires-clause-counts c = c.in_ok-apply_pending_names.ensures.store.counts.known

@@ -1,4 +1,4 @@
-use Rattle.std.proofs.Common.{◌≡◌, ◌<◌, ℕ, None, length, ap, sym, ◌∙◌, subst}
+use Rattle.std.proofs.Common.{◌<◌, ℕ, None, length, ap, sym, ◌∙◌, subst}
 use Rattle.clause_store.specs.Trail.{IsTrailFor, freed}
 use Rattle.clause_store.proofs.TrailLemmas.{freed-push, trail-last, trail-rest, undone-step}
 use Rattle.clause_store.proofs.rup.untraced.free_again.Goals as goal

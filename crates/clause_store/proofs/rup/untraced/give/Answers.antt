@@ -1,5 +1,4 @@
-use Rattle.std.proofs.Common.{◌≡◌, ℕ, Bool, List, Option, None, Some, sym, ap, ◌∙◌, subst}
-use Rattle.clause_store.specs.declared.clauses.units.UnitClause.{UnitClause}
+use Rattle.std.proofs.Common.{ℕ, None, sym, ap, ◌∙◌, subst}
 use Rattle.clause_store.specs.Trail.{freed}
 use Rattle.clause_store.specs.Units.{IsGiven, unit_at}
 use Rattle.clause_store.proofs.TrailLemmas.{freed-push, is_undoable-overwritten}

@@ -21,6 +21,7 @@ returns-clause-ok g c = λ width start d h.
     converted_add width start (g.W.Write.contents c.args.out.now) d x h c.args.id c.args.clause.now (map hint_of c.args.hints.now) (sym c.contains.ensures ∙ c.if-contains.false)
     now _ c.gather.new.hashes.items c.in_ok-gather.ensures.ok
     (subst (λ (e : Entry). HasWritten start now (d.steps ++ derivation e.lits c.gather.new.hashes.items) c.derive.new.self) made
-    (subst (λ hashes. HasWritten start now (d.steps ++ derivation c.in_ok-clause.clause.lits.items hashes) c.derive.new.self) c.deref.ensures.value (c.in_ok-derive.ensures.ok start d.steps h.written)))
+    (subst (λ hashes. HasWritten start now (d.steps ++ derivation c.in_ok-clause.clause.lits.items hashes) c.derive.new.self) c.deref.ensures.value
+    (c.in_ok-derive.ensures.ok start d.steps h.written)))
     (c.in_ok-put.ensures ∙ ap (λ e. hold c.args.id e (holding_of x.held)) made)
     refl

@@ -1,14 +1,18 @@
-use Rattle.std.proofs.Common.{arith, ◌-◌, ◌+◌, ◌^◌}
+use Rattle.std.proofs.Common.{arith, refl, ◌-◌, ◌+◌, ◌^◌}
 use Rattle.proof_bytes.specs.Fields.{below_at}
 use Rattle.proof_bytes.proofs.Leading.{exits, no_memory}
 use Rattle.proof_bytes.proofs.FieldLemmas.{list_fails, list_begins, item_fails, item_read, list_ends}
+use Rattle.proof_bytes.proofs.ListFronts.{front_taken}
 use Rattle.proof_bytes.proofs.fields.Fields.lits.Goals as goal
 
 pub returns-in_err-count : goal.returns-in_err-count
 returns-in_err-count g c = exits _ _ c.from_residual.ensures.1 (list_fails (below_at (2 ^ 29)) c.in_err-count.ensures.0, c.in_err-count.ensures.1)
 
 pub items-init : goal.items-init
-items-init g c = rw c.clear.ensures.items (list_begins (below_at (2 ^ 29)) c.in_ok-count.count _ (omega arith) c.in_ok-count.ensures)
+items-init g c = front_taken (below_at (2 ^ 29)) c.lits_ahead-taken.new.into.items c.in_ok-count.count _
+    (omega (arith, c.lits_ahead-taken.ensures.count, c.lits_ahead-taken.new.into.ok.0))
+    (list_begins (below_at (2 ^ 29)) c.in_ok-count.count _ refl c.in_ok-count.ensures)
+    c.ahead.result.now _ c.lits_ahead-taken.result c.lits_ahead-taken.ensures.read c.ahead.ensures c.lits_ahead-taken.ensures.bytes c.take_ahead.ensures.bytes
 
 pub returns-in_err-lit : goal.returns-in_err-lit
 returns-in_err-lit g c = exits _ _ c.from_residual-in_err-lit.ensures.1 (

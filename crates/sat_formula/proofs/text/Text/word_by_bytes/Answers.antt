@@ -1,7 +1,8 @@
 use Rattle.std.proofs.Common.{rules, sym, ◌∙◌}
 use Rattle.sat_formula.specs.Text.{At}
 use Rattle.sat_formula.specs.Reading.{place_of}
-use Rattle.sat_formula.proofs.Steps.{word_exits, no_byte, byte_goes, byte_stops, leads_nil, leads_on, faults_on, word_on, word_end, word_lf, word_blank, word_comment, word_mark, word_header, word_number}
+use Rattle.sat_formula.proofs.Steps.{word_exits, no_byte, byte_goes, byte_stops, leads_nil, leads_on, faults_on, word_on}
+use Rattle.sat_formula.proofs.Steps.{word_end, word_lf, word_blank, word_comment, word_mark, word_header, word_number}
 use Rattle.sat_formula.proofs.text.Text.word_by_bytes.Goals as goal
 use Rattle.sat_formula.proofs.text.Text.word_by_bytes.Goals.{then-not-self+else-byte-eq99+else-byte-eq37+else-byte-eq112, else-not-self}
 

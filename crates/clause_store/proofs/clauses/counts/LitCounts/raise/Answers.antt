@@ -1,21 +1,17 @@
-use Rattle.std.proofs.Common.{◌<◌, ◌+◌, ◌∙◌, ℕ, List, length, get_or, set, take, ap, sym, subst, arith}
-use Rattle.std.proofs.lemmas.List.{length-set}
+use Rattle.std.proofs.Common.{◌∙◌, List, ℕ, ◌+◌, get_or, length, take, ap, sym, arith}
 use Rattle.clause_store.specs.Counts.{HoldOneMore}
-use Rattle.clause_store.proofs.HeldLemmas.{below-bound, item_is, raised-more}
+use Rattle.clause_store.specs.CountsByCode.{counts_in}
+use Rattle.clause_store.specs.declared.clauses.counts.LitCounts.{LitCounts}
+use Rattle.clause_store.proofs.HeldLemmas.{held-written}
 use Rattle.clause_store.proofs.clauses.counts.LitCounts.raise.Goals as goal
+use Rattle.clause_store.proofs.clauses.counts.LitCounts.raise.Goals.{in-Narrow-1, in-Wide-1}
 
-pub add_one-requires : goal.add_one-requires
-add_one-requires c =
-    let lits = c.args.lits.now in let i = c.loop-lit.lit-index in
-    let bound = below-bound lits i c.loop-lit-test.true in let is = item_is lits i c.lit-item.result c.loop-lit-test.true c.lit-item.is in omega (arith, c.requires.known, bound, is)
-
-pub loop-lit-preserved : goal.loop-lit-preserved
-loop-lit-preserved c =
-    let lits = c.args.lits.now in let i = c.loop-lit.lit-index in let now : List ℕ = c.loop-lit.self in
-    let is = item_is lits i c.lit-item.result c.loop-lit-test.true c.lit-item.is in
-    let bound = below-bound lits i c.loop-lit-test.true in let known : get_or lits i 0 < length now = omega (arith, c.requires.known, bound) in
-    let added = c.in_ok-add_one.ensures ∙ ap (λ l. set now l (get_or now l 0 + 1)) is in
-    record {
-      held = subst (HoldOneMore (take (i + 1) lits) c.args.self.now) (sym added) (raised-more lits i c.loop-lit-test.true c.requires.canonical c.args.self.now now known c.loop-lit.invariant.held);
-      known = ap length added ∙ length-set now (get_or lits i 0) (get_or now (get_or lits i 0) 0 + 1) ∙ c.loop-lit.invariant.known;
-    }
+pub returns-in_ok-widened-in-Narrow-clause-held : goal.returns-in_ok-widened-in-Narrow-clause-held
+returns-in_ok-widened-in-Narrow-clause-held c =
+    let n = c.in-Narrow.counts in
+    let same = c.as_mut_slice.ensures.value ∙ ap counts_in (sym c.in-Narrow.is) ∙ c.self.view_is in
+    let first = held-written (take c.raise_narrow-raised.result c.args.lits.now) c.args.self.now c.as_mut_slice.result.now c.raise_narrow-raised.new.counts
+    n.items n.len c.raise_narrow-raised.ensures.held same (omega (arith, c.raise_narrow-raised.ensures.known, c.as_mut_slice.ensures.len)) in
+    let raised = c.in_ok-widened-in-Narrow.ensures.held c.args.self.now first in
+    elim c.match-self-2.branch
+    [ in-Narrow-1 w ↦ λ l. ap (λ (xs : List ℕ). get_or xs l 0) w.self-is ∙ raised l | in-Wide-1 w ↦ λ l. ap (λ (xs : List ℕ). get_or xs l 0) w.self-is ∙ raised l ]

@@ -1,11 +1,10 @@
-use Rattle.std.proofs.Common.{◌≡◌, ℕ, ◌<◌, length, Option, sym, ap, ◌∙◌, subst}
+use Rattle.std.proofs.Common.{◌<◌, length, Option, sym, ap, ◌∙◌}
 use Rattle.std.proofs.lemmas.List.{get_or_default}
-use Rattle.checker_rules.specs.Clauses.{var_of}
 use Rattle.clause_store.specs.declared.clauses.units.UnitClause.{UnitClause}
 use Rattle.clause_store.specs.declared.clauses.units.Value.{Value}
 use Rattle.clause_store.specs.declared.clauses.units.Value.TheVariants as values
 use Rattle.clause_store.specs.Units.{id_by, unit_at, unit_by}
-use Rattle.clause_store.proofs.ColumnLemmas.{IsPlace, is_place, unit_at-units_by}
+use Rattle.clause_store.proofs.ColumnLemmas.{is_place, unit_at-units_by}
 use Rattle.clause_store.proofs.clauses.units.Units.kept.Goals as goal
 
 pub index-requires : goal.index-requires

@@ -1,0 +1,14 @@
+use Rattle.std.proofs.Common.{◌+◌, None, drop, ap, ◌∙◌, arith}
+use Rattle.std.specs.Int.Bits.{bit_xor}
+use Rattle.checker_rules.specs.State.{xor_hash}
+use Rattle.clause_store.proofs.HashLemmas.{xor_hash-all, xor_hash-from}
+use Rattle.clause_store.proofs.hash.unnamed_hash.Goals as goal
+
+pub loop-lit-preserved : goal.loop-lit-preserved
+loop-lit-preserved c =
+    let i = c.loop-lit.lit-index in
+    ap (λ x. bit_xor (bit_xor c.loop-lit.hash x) (xor_hash (λ v. None) (drop (i + 1) c.args.lits.now))) c.unnamed_lit_hash-hash.ensures
+    ∙ xor_hash-from (λ v. None) c.args.lits.now i c.lit-item.result c.loop-lit.hash (omega arith) c.lit-item.is ∙ c.loop-lit.invariant
+
+pub returns : goal.returns
+returns c = xor_hash-all (λ v. None) c.args.lits.now c.loop-lit.lit-index c.loop-lit.hash (omega arith) c.loop-lit.invariant

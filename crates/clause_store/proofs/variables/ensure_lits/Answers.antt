@@ -1,0 +1,8 @@
+use Rattle.std.proofs.Common.{refl}
+use Rattle.checker_rules.specs.Canonical.{var_bound}
+use Rattle.clause_store.proofs.GrowthLemmas.{knows_none}
+use Rattle.clause_store.proofs.variables.ensure_lits.Goals as goal
+
+pub returns-then-are_known : goal.returns-then-are_known
+returns-then-are_known c =
+    knows_none (var_bound c.args.lits.now) c.args.clauses.now c.args.variables.now c.requires.same c.requires.counts (c.if-are_known.ensures.0 refl)

@@ -1,0 +1,68 @@
+-- Runs over a formula and a text of hints.
+--     GivesText known text      a reader with these bytes gave this text
+--     AcceptsHints, ChecksHints      all lines were accepted; the answer of checking a text of hints over a formula
+--     CheckRun cnf lrat r      the run over both texts
+--     IsRefusedRun r      the formula or the hints were not accepted
+use Rattle.std.specs.Prelude.{◌≡◌, ◌≢◌, ℕ, Bool, false, List, Option, IfSome, Result, Ok, Err}
+use Rattle.std.specs.IoError.{error_kind}
+use Rattle.std.specs.Option.{option_map}
+use Rattle.std.specs.declared.io.ErrorKind.TheVariants.{OutOfMemory}
+use Rattle.checker_rules.specs.Clauses.{all_true}
+use Rattle.checker_rules.specs.HintLines.{Listed, listing}
+use Rattle.sat_formula.specs.Lines.{outcome_of}
+use Rattle.sat_formula.specs.Outcome.{Ended}
+use Rattle.sat_formula.specs.Whole.{FailsAfter, IsOutcome}
+use Rattle.hint_checker.specs.Checked.{Accepts, IsRefusal}
+use Rattle.hint_check.specs.Verdicts.{verdict_of}
+use Rattle.hint_check.specs.declared.fault.RunFault.{RunFault}
+use Rattle.hint_check.specs.declared.fault.RunFault.TheVariants.{Formula, Hints, Read, Write}
+use Rattle.hint_check.specs.declared.verdict.Verdict.{Verdict}
+use Rattle.hint_check.specs.declared.verdict.Verdict.TheVariants.{Verified}
+
+-- a reader with these bytes gave this text
+abbrev pub GivesText : Option (List ℕ) → List ℕ → Type 0
+GivesText known text = IfSome known (λ bytes. text ≡ bytes)
+
+-- all lines of a text are accepted after a formula's clauses; the verdict says whether one adds the empty clause, and then no assignment satisfies the formula
+pub record AcceptsHints (lrat : Option (List ℕ)) (formula : List (List ℕ))
+    (verdict : Verdict) : Type 0 where
+  pub text : List ℕ
+  pub gives : GivesText lrat text
+  pub held : Listed
+  pub accepts : Accepts (listing formula) text held
+  pub verdict_is : verdict ≡ verdict_of held.added_empty
+  pub refutes : verdict ≡ Verified → (a : ℕ → Bool) → all_true a formula ≡ false
+
+-- all lines are accepted, or the first that is not is named; a failed read wanted no memory
+abbrev pub ChecksHints : Option (List ℕ) → List (List ℕ) → Result Verdict RunFault → Type 0
+ChecksHints lrat formula (Ok verdict) = AcceptsHints lrat formula verdict
+ChecksHints lrat formula (Err (Hints fault)) = (text : List ℕ) × GivesText lrat text
+    × IsRefusal (listing formula) text fault
+ChecksHints lrat formula (Err (Read cause)) = error_kind cause ≢ OutOfMemory
+ChecksHints lrat formula (Err (Formula fault)) = ⊥
+ChecksHints lrat formula (Err (Write cause)) = ⊥
+
+-- the formula's text was read whole, and the text of hints was checked over its clauses with this answer
+pub record ReadAndChecked (cnf lrat : Option (List ℕ)) (r : Result Verdict RunFault) : Type
+    0 where
+  pub clauses : List (List ℕ)
+  pub whole : IsOutcome (option_map outcome_of cnf) (clauses, Ended)
+  pub checks : ChecksHints lrat clauses r
+
+-- a formula that was not read whole is answered, and else the check
+abbrev pub CheckRun : Option (List ℕ) → Option (List ℕ) → Result Verdict RunFault → Type 0
+CheckRun cnf lrat (Ok verdict) = ReadAndChecked cnf lrat (Ok verdict)
+CheckRun cnf lrat (Err (Hints fault)) = ReadAndChecked cnf lrat (Err (Hints fault))
+CheckRun cnf lrat (Err (Read cause)) = ReadAndChecked cnf lrat (Err (Read cause))
+CheckRun cnf lrat (Err (Formula fault)) = (clauses : List (List ℕ))
+    × FailsAfter (option_map outcome_of cnf) clauses fault
+CheckRun cnf lrat (Err (Write cause)) =
+    (verdict : Verdict) × ReadAndChecked cnf lrat (Ok verdict)
+
+-- the formula or the hints were not accepted
+abbrev pub IsRefusedRun : Result Verdict RunFault → Type 0
+IsRefusedRun (Ok verdict) = ⊥
+IsRefusedRun (Err (Write cause)) = ⊥
+IsRefusedRun (Err (Formula fault)) = Unit {0}
+IsRefusedRun (Err (Hints fault)) = Unit {0}
+IsRefusedRun (Err (Read cause)) = Unit {0}

@@ -1,0 +1,89 @@
+//! Runs: a text of hints is checked over a formula, and the verdict is written.
+ghost use Rattle.std.specs.Prelude.{◌≡◌, ◌↔◌, List, ℕ, Some, Ok, IfOk, IsTrue};
+ghost use Rattle.std.specs.IoError.{error_kind};
+ghost use Rattle.std.specs.Io.KnownBytes.{Appends};
+ghost use Rattle.sat_formula.specs.Refuted.{IsRefuted};
+ghost use Rattle.hint_check.specs.Runs.{ChecksHints, CheckRun, IsRefusedRun};
+ghost use Rattle.hint_check.specs.Verdicts.{shown_line};
+ghost use Rattle.hint_check.specs.declared.verdict.Verdict.TheVariants.{Verified};
+
+use crate::fault::RunFault;
+use crate::verdict::Verdict;
+use hint_checker::{HintChecker, HintFault};
+use sat_formula::{CnfFormula, read_formula};
+use std::alloc::Global;
+use std::io;
+use std::io::{ErrorKind, Read, Write};
+
+/// Reads a formula as DIMACS text and a text of hints, checks the hints over the formula, and writes the verdict's line.
+///
+/// Nothing is written unless all lines are accepted. The checker of proofs takes no part in it.
+pub fn run_check<F: Read + Drop, H: Read + Drop, W: Write>(
+    alloc: Global,
+    cnf: F,
+    hints: H,
+    out: &mut W,
+) -> Result<Verdict, RunFault>
+    ensures run { CheckRun (F.remaining cnf) (H.remaining hints) result }
+    ensures line { IfOk result (λ verdict.
+        Appends (W.contents out.old) (W.contents out.new) (shown_line verdict)) }
+    ensures silent { IsRefusedRun result → out.new ≡ out.old }
+    ensures refutes { (text : List ℕ) → F.remaining cnf ≡ Some text →
+        result ≡ Ok Verified → IsRefuted text }
+{
+    let formula = match read_formula(alloc, cnf) {
+        Ok(formula) => formula,
+        Err(fault) => return Err(RunFault::Formula(fault)),
+    };
+    let verdict = match check_hints(alloc, &formula, hints) {
+        Ok(verdict) => verdict,
+        Err(fault) => return Err(fault),
+    };
+    match write_line(out, verdict) {
+        Ok(()) => Ok(verdict),
+        Err(fault) => Err(RunFault::Write(fault)),
+    }
+}
+
+/// Reads a text of hints and checks it over a formula.
+fn check_hints<H: Read + Drop>(
+    alloc: Global,
+    formula: &CnfFormula,
+    hints: H,
+) -> Result<Verdict, RunFault>
+    ensures { ChecksHints (H.remaining hints) formula.now result }
+{
+    let mut input = hints;
+    let mut text = Vec::new(alloc);
+    if let Err(fault) = input.read_to_end(&mut text) {
+        if is_want_of_memory(&fault) {
+            return Err(RunFault::Hints(HintFault::OutOfMemory));
+        }
+        return Err(RunFault::Read(fault));
+    }
+    let mut checker = match HintChecker::new(alloc, formula) {
+        Ok(checker) => checker,
+        Err(fault) => return Err(RunFault::Hints(fault)),
+    };
+    match checker.check(&text) {
+        Ok(refuted) => Ok(Verdict::of(refuted)),
+        Err(fault) => Err(RunFault::Hints(fault)),
+    }
+}
+
+/// Whether there was no memory for what a read gave, or for the read.
+fn is_want_of_memory(fault: &io::Error) -> bool
+    ensures { IsTrue result ↔ (error_kind fault.now ≡ ErrorKind.OutOfMemory) }
+{
+    fault.kind() == ErrorKind::OutOfMemory
+}
+
+/// Writes a verdict's line at once, so that no fault between two writes leaves a part of it, and out
+/// of a writer's buffer.
+fn write_line<W: Write>(out: &mut W, verdict: Verdict) -> io::Result<()>
+    ensures { IfOk result (λ done.
+        Appends (W.contents out.old) (W.contents out.new) (shown_line verdict)) }
+{
+    out.write_all(verdict.line())?;
+    out.flush()
+}

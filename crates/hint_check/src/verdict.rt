@@ -1,0 +1,52 @@
+//! Verdicts and their lines.
+ghost use Rattle.std.specs.Prelude.{Some};
+ghost use Rattle.hint_check.specs.Verdicts.{line_of};
+
+use std::fmt;
+
+/// What lines of hints that were all accepted have shown.
+#[derive(Clone, Copy, Debug, PartialEq, Eq)]
+pub enum Verdict {
+    /// A line adds the empty clause: no assignment satisfies the formula.
+    Verified,
+    /// No line adds the empty clause. The formula may be satisfiable or not.
+    NotVerified,
+}
+
+impl Verdict {
+    ghost use Rattle.std.specs.Prelude.{◌≡◌};
+    ghost use Rattle.hint_check.specs.Verdicts.{shown_line, verdict_of};
+
+    /// The verdict of lines that were accepted, one of which adds the empty clause or not.
+    pub(crate) fn of(refuted: bool) -> Verdict
+        ensures { result ≡ verdict_of refuted }
+    {
+        if refuted {
+            Verdict::Verified
+        } else {
+            Verdict::NotVerified
+        }
+    }
+
+    /// The bytes of its line, with the line feed.
+    pub(crate) fn line(self) -> &'static [u8]
+        ensures { result.now ≡ shown_line self }
+    {
+        match self {
+            Verdict::Verified => b"s VERIFIED UNSAT\n",
+            Verdict::NotVerified => b"s NOT VERIFIED\n",
+        }
+    }
+}
+
+/// Writes the verdict's line, without a line feed.
+impl fmt::Display for Verdict {
+    ghost output = { λ verdict. Some (line_of verdict) };
+
+    fn fmt<W: fmt::Write>(&self, f: &mut fmt::Formatter<W>) -> fmt::Result {
+        match *self {
+            Verdict::Verified => write!(f, "s VERIFIED UNSAT"),
+            Verdict::NotVerified => write!(f, "s NOT VERIFIED"),
+        }
+    }
+}
