@@ -105,40 +105,6 @@ sets_fold-closing s ts r u g f h = unless_failed (IsFold ts) (closing_conflict s
 pub covers_fold-closing : (s : State) (ts : List Step) (r : Result (Unit {0}) CheckerError) (u : State) → IsCovered ts s → AnswersStep r (closing_conflict s) u → UnlessFailed r (IsCovered ts u)
 covers_fold-closing s ts r u k h = unless_failed (IsCovered ts) (closing_conflict s) (covers_close (holds ts) s k) r u h
 
--- a list of steps
-set-all : (s : State) (before ts : List Step) → EntailsRedundant s → IsFold before s → IsFold (before ++ first_accepted s ts) (all_steps s ts).after
-set-all s before [] g f = λ a. f a ∙ ap (λ l. holds l a) (sym (append_none before))
-set-all s before (t ∷ ts) g f = go (step s t).refused (step_keeps s t g).1 (λ h. set-all (step s t).after (before ++ t ∷ []) ts (step_keeps s t g).0 h)
-  where
-    rest : State
-    rest = (step s t).after
-
-    go : (x : Option Cause) → SetAfter (sat s) t x rest → (IsFold (before ++ t ∷ []) rest → IsFold ((before ++ t ∷ []) ++ first_accepted rest ts) (all_steps rest ts).after)
-        → IsFold (before ++ unless_refused x t (first_accepted rest ts)) (and_then_by x rest (λ r. all_steps r ts)).after
-    go None k on = λ a. on (fold-last before t (sat s) rest f k) a ∙ ap (λ l. holds l a) (append_step before t (first_accepted rest ts))
-    go (Some c) k on = λ a. k a ∙ f a ∙ ap (λ l. holds l a) (sym (append_none before))
-
-covers-all : (s : State) (before ts : List Step) → IsCovered before s → IsCovered (before ++ first_accepted s ts) (all_steps s ts).after
-covers-all s before [] k = covers_same (holds before) (holds (before ++ [])) s (λ a. ap (λ l. holds l a) (sym (append_none before))) k
-covers-all s before (t ∷ ts) k = go (step s t).refused (steps_cover (holds before) s t k) (λ h. covers-all (step s t).after (before ++ t ∷ []) ts h)
-  where
-    rest : State
-    rest = (step s t).after
-
-    go : (x : Option Cause) → CoversAfter (holds before) t x rest → (IsCovered (before ++ t ∷ []) rest → IsCovered ((before ++ t ∷ []) ++ first_accepted rest ts) (all_steps rest ts).after)
-        → IsCovered (before ++ unless_refused x t (first_accepted rest ts)) (and_then_by x rest (λ r. all_steps r ts)).after
-    go None k on = covers_same (holds ((before ++ t ∷ []) ++ first_accepted rest ts)) (holds (before ++ t ∷ first_accepted rest ts)) (all_steps rest ts).after
-        (λ a. ap (λ l. holds l a) (append_step before t (first_accepted rest ts))) (on (covers-last before t rest k))
-    go (Some c) k on = covers_same (holds before) (holds (before ++ [])) rest (λ a. ap (λ l. holds l a) (sym (append_none before))) k
-
-pub sets_fold-all : (s : State) (before ts : List Step) (r : Result (Unit {0}) CheckerError) (u : State) → EntailsRedundant s →
-    IsFold before s → AnswersStep r (all_steps s ts) u → UnlessFailed r (IsFold (before ++ first_accepted s ts) u)
-sets_fold-all s before ts r u g f h = unless_failed (IsFold (before ++ first_accepted s ts)) (all_steps s ts) (set-all s before ts g f) r u h
-
-pub covers_fold-all : (s : State) (before ts : List Step) (r : Result (Unit {0}) CheckerError) (u : State) → IsCovered before s →
-    AnswersStep r (all_steps s ts) u → UnlessFailed r (IsCovered (before ++ first_accepted s ts) u)
-covers_fold-all s before ts r u k h = unless_failed (IsCovered (before ++ first_accepted s ts)) (all_steps s ts) (covers-all s before ts k) r u h
-
 -- the clauses of a text
 pub sets_text : {P : Type 0} (o : Outcome) (u : State) → ((r : Result (Unit {0}) CheckerError) → AnswersStep r o u → UnlessFailed r P) →
     (r : Result (Unit {0}) DimacsError) → AnswersText r o u → UnlessTextFailed r P
@@ -146,14 +112,6 @@ sets_text o u k (Ok x) h = k ok_answer h
 sets_text o u k (Err (Read cause)) h = k ok_answer h
 sets_text o u k (Err (Malformed line kind)) h = k ok_answer h
 sets_text o u k (Err (Checker e)) h = k (err_answer e) h
-
-pub sets_fold-text : (s : State) (before ts : List Step) (r : Result (Unit {0}) DimacsError) (u : State) → EntailsRedundant s →
-    IsFold before s → AnswersText r (all_steps s ts) u → UnlessTextFailed r (IsFold (before ++ first_accepted s ts) u)
-sets_fold-text s before ts r u g f h = sets_text (all_steps s ts) u (λ r h. sets_fold-all s before ts r u g f h) r h
-
-pub covers_fold-text : (s : State) (before ts : List Step) (r : Result (Unit {0}) DimacsError) (u : State) → IsCovered before s →
-    AnswersText r (all_steps s ts) u → UnlessTextFailed r (IsCovered (before ++ first_accepted s ts) u)
-covers_fold-text s before ts r u k h = sets_text (all_steps s ts) u (λ r h. covers_fold-all s before ts r u k h) r h
 
 -- a run
 pub ends : {X : Type 0} (P : List Step → State → Type 0) (next : X → (Step × X) ⊎ Fault) (s : State) (x : X) →
@@ -167,32 +125,3 @@ ends P next s x k (Err (ParseError number cause)) ts u h = k ts (Some (inr (Wron
 ends P next s x k (Err (ProofProcessorError cause)) ts u h = tt
 ends P next s x k (Err OutOfMemory) ts u h = tt
 ends P next s x k (Err Failed) ts u h = tt
-
-pub sets_fold-run : {X : Type 0} (next : X → (Step × X) ⊎ Fault) (s : State) (x : X) (before : List Step) → EntailsRedundant s → IsFold before s
-    → (r : Result (Unit {0}) CheckerError) (ts : List Step) (u : State) → EndsRun r next s x ts u → UnlessFailed r (IsFold (before ++ ts) u)
-sets_fold-run {X} next s x before g f r ts u h = ends (λ ts u. IsFold (before ++ ts) u) next s x (λ ts answer u run. (runs_are_fold X Fault next s x before ts answer u g f run).1) r ts u h
-
-pub covers_fold-run : {X : Type 0} (next : X → (Step × X) ⊎ Fault) (s : State) (x : X) (before : List Step) → IsCovered before s
-    → (r : Result (Unit {0}) CheckerError) (ts : List Step) (u : State) → EndsRun r next s x ts u → UnlessFailed r (IsCovered (before ++ ts) u)
-covers_fold-run {X} next s x before k r ts u h = ends (λ ts u. IsCovered (before ++ ts) u) next s x (λ ts answer u run. (runs_cover X Fault next s x before ts answer u k run).0) r ts u h
-
--- a loop over the steps of a list: what follows from the rest follows from all
-pub all_steps-accepted : (s : State) (t : Step) (ts : List Step) → (step s t).refused ≡ None → all_steps s (t ∷ ts) ≡ all_steps (step s t).after ts
-all_steps-accepted s t ts h = ap (λ x. and_then_by x (step s t).after (λ r. all_steps r ts)) h
-
-pub all_steps-refused : (s : State) (t : Step) (ts : List Step) (cause : Cause) → (step s t).refused ≡ Some cause → all_steps s (t ∷ ts) ≡ refuse cause (step s t).after
-all_steps-refused s t ts cause h = ap (λ x. and_then_by x (step s t).after (λ r. all_steps r ts)) h
-
-pub answers_on : (s : State) (t : Step) (ts : List Step) (u : State) → AnswersStep ok_answer (step s t) u →
-    (r : Result (Unit {0}) CheckerError) (w : State) → AnswersStep r (all_steps u ts) w → AnswersStep r (all_steps s (t ∷ ts)) w
-answers_on s t ts u k r w h = subst (λ o. AnswersStep r o w) (ap (λ v. all_steps v ts) k.1 ∙ sym (all_steps-accepted s t ts k.0)) h
-
-pub answers_stop : (s : State) (t : Step) (ts : List Step) (e : CheckerError) (u : State) → AnswersStep (err_answer e) (step s t) u → AnswersStep (err_answer e) (all_steps s (t ∷ ts)) u
-answers_stop s t ts (CheckFailed number cause debug_step) u h = let e = all_steps-refused s t ts (cause_of cause) h.0 in
-    (ap (λ (o : Outcome). o.refused) e, h.1 ∙ ap (λ (o : Outcome). o.after) (sym e), h.2)
-answers_stop s t ts (ProofIncomplete number) u h = h
-answers_stop s t ts (IoError number cause) u h = h
-answers_stop s t ts (ParseError number cause) u h = h
-answers_stop s t ts (ProofProcessorError cause) u h = h
-answers_stop s t ts OutOfMemory u h = h
-answers_stop s t ts Failed u h = h

@@ -58,9 +58,6 @@ taken-mark ks ts u m = go (get_or ts u false) (m u)
     ] refl
     go false e = taken-times ks u e
 
-pub distinct-marks : (ks : List Known) (ts : List Bool) → IsMarked ks ts → AreDistinct ks
-distinct-marks ks ts m u = let one = mark-le-one (get_or ts u false) in let same = m u in omega arith
-
 -- the name stays
 pub marked_same : (ks : List Known) (ts : List Bool) (i : ℕ) (k : Known) → IsMarked ks ts → i < length ks → k.name ≡ (known_at ks i).name → IsMarked (set ks i k) ts
 marked_same ks ts i k m h name u =

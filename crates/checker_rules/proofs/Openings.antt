@@ -8,27 +8,9 @@ use Rattle.checker_rules.specs.Step.{Step}
 use Rattle.checker_rules.specs.Steps.{new_state, step}
 use Rattle.checker_rules.specs.Store.{id_limit, take_id}
 
--- the satisfying set
-pub sat-satisfies : (s : State) (a : ℕ → Bool) → sat s a ≡ satisfies s.unsat s.units s.clauses a
-unfolding sat
-sat-satisfies s a = refl
-
-pub sat-unsat : (s : State) (a : ℕ → Bool) → s.unsat ≡ true → sat s a ≡ false
-unfolding sat
-sat-unsat s a h = ap (λ b. not b && (irredundant_true a s.clauses && units_true a s.units)) h
-
 pub sat-count_step : (s : State) (a : ℕ → Bool) → sat (count_step s) a ≡ sat s a
 unfolding sat
 sat-count_step s a = refl
-
-pub sat-new_state : (a : ℕ → Bool) → sat new_state a ≡ true
-unfolding sat
-sat-new_state a = refl
-
--- the fold
-pub holds-none : (a : ℕ → Bool) → holds [] a ≡ true
-unfolding holds
-holds-none a = refl
 
 -- a proof step, counted
 pub attempt-counted : (s : State) (t : Step) → ltb s.steps step_limit ≡ true → attempt s t ≡ step (count_step s) t

@@ -21,9 +21,6 @@ sound-new_state = record { good = new_good; form = new_form }
 pub sound-count_step : (s : State) → Sound s → Sound (count_step s)
 sound-count_step s h = record { good = h.good; form = h.form }
 
-pub sound-fail : (s : State) → Sound s → Sound (fail s)
-sound-fail s h = record { good = h.good; form = h.form }
-
 pub sound_after : (s : State) (t : Step) → Sound s → Sound (step s t).after
 sound_after s t h = record { good = (step_keeps s t h.good).0; form = steps_keep_form s t h.form }
 

@@ -46,23 +46,8 @@ add-accepts s ls live e = add-by s ls live ∙ ap (λ o. by_cause o s (accept (t
 pub add-refuses : (s : State) (ls : List ℕ) (cause : Cause) → s.unsat ≡ false → Some cause ≡ input_cause s (canonical ls) → step s (add_clause ls) ≡ refuse cause s
 add-refuses s ls cause live e = add-by s ls live ∙ ap (λ o. by_cause o s (accept (taken s (canonical ls)))) (sym e)
 
-none-parts : (a b d : Bool) (x y z : Cause) → cond a (Some x) (cond b (Some y) (cond d (Some z) None)) ≡ None → (a ≡ false) × (b ≡ false) × (d ≡ false)
-none-parts true b d x y z e = cc
-none-parts false true d x y z e = cc
-none-parts false false true x y z e = cc
-none-parts false false false x y z e = (refl, refl, refl)
-
-below_from : (n m : ℕ) → not (ltb n m) ≡ false → n < m
-below_from n m h = grind (arith, h)
-
 less_from : (n m : ℕ) → leb m n ≡ false → n < m
 less_from n m h = grind (arith, h)
-
--- where nothing refuses there is an id, and a copy can be counted
-pub add-room : (s : State) (c : List ℕ) → input_cause s c ≡ None → HasCapacity s c
-add-room s c e =
-    let p = none-parts (some_not_sampling s c) (not (ltb s.next id_limit)) (leb count_limit (count_of false c s.clauses)) not_sampling ids_exhausted count_exhausted e in
-    record { ids = below_from s.next id_limit p.1; copies = less_from (count_of false c s.clauses) count_limit p.2 }
 
 -- the causes in turn
 pub cause-sampling : (s : State) (c : List ℕ) → true ≡ some_not_sampling s c → Some not_sampling ≡ input_cause s c

@@ -99,18 +99,6 @@ module _ (x : ℕ) (s : State) where
   closed : Outcome
   closed = cond (ltb s.next id_limit) (accept (close_conflict s)) (refuse ids_exhausted s)
 
-  pub close-none : is_conflict_on (unit_of s.units x) s.conflict ≡ false → close_on x s ≡ accept s
-  unfolding closed
-  close-none none = ap (λ b. cond b closed (accept s)) none
-
-  pub close-taken : is_conflict_on (unit_of s.units x) s.conflict ≡ true → ltb s.next id_limit ≡ true → close_on x s ≡ accept (close_conflict s)
-  unfolding closed
-  close-taken some room = ap (λ b. cond b closed (accept s)) some ∙ ap (λ b. cond b (accept (close_conflict s)) (refuse ids_exhausted s)) room
-
-  pub close-exhausted : is_conflict_on (unit_of s.units x) s.conflict ≡ true → ltb s.next id_limit ≡ false → close_on x s ≡ refuse ids_exhausted s
-  unfolding closed
-  close-exhausted some room = ap (λ b. cond b closed (accept s)) some ∙ ap (λ b. cond b (accept (close_conflict s)) (refuse ids_exhausted s)) room
-
   -- and what that emits
   pub emits-none : is_conflict_on (unit_of s.units x) s.conflict ≡ false → emits_close x s ≡ []
   emits-none none = ap (λ b. cond b (emits_closing s s.conflict) []) none

@@ -104,9 +104,6 @@ module _ (s : State) (redundant : Bool) (c hs : List ℕ) where
       pub derived-answer : ((derived s redundant c hs).refused ≡ None) × (u ≡ (derived s redundant c hs).after)
       derived-answer = (ap (λ (x : Outcome). x.refused) derived-is, stored.after ∙ sym (ap (λ (x : Outcome). x.after) derived-is))
 
-      pub derived-id : id ≡ id_of c (ready s c)
-      derived-id = stored.id_is ∙ ap (id_of c) here
-
       pub derived-steps : stored_steps did t.known id redundant c (check_trace (ready s c) c hs) ≡ derived_steps s redundant c hs
       derived-steps =
           stored_steps-is t redundant c (check_trace (ready s c) c hs) did id stored.result_is stored.id_is

@@ -65,11 +65,3 @@ attempt-refused s t none = answers-refuse steps_exhausted (attempt s t) s s (att
 -- a counted step
 pub counted-answers : (r : Result (Unit {0}) StepFault) (s u : State) (t : Step) → ltb s.steps step_limit ≡ true → AnswersOutcome r (step (count_step s) t) u → AnswersOutcome r (attempt s t) u
 counted-answers r s u t room h = subst (λ (o : Outcome). AnswersOutcome r o u) (sym (attempt-counted s t room)) h
-
-pub none-of : (o : Option (ℕ × ℕ)) → is_some o ≡ false → o ≡ None
-none-of None h = refl
-none-of (Some pair) h = absurd cc
-
-pub some-of : (o : Option (ℕ × ℕ)) → is_some o ≡ true → o ≡ None → ⊥
-some-of None h e = cc
-some-of (Some pair) h e = cc

@@ -115,12 +115,3 @@ answers-new (Err CountExhausted) c r s t u h only ok err other stored = cc
 pub either_way : {A E P : Type 0} (res : Result A E) → OnOk res P → OnErr res P → P
 either_way (Ok x) ok err = ok
 either_way (Err e) ok err = err
-
--- what comes after the counters, where they do not refuse
-pub counters-then : (r : Bool) (c : List ℕ) (takes : Bool) (s : State) (next : State → Outcome) → counters r c takes s next ≡ and_then (counters r c takes s accept) next
-counters-then r c takes s next = cases (takes && not (ltb s.next id_limit)) (leb count_limit (count_of r c s.clauses))
-  where
-    cases : (b d : Bool) → cond b (refuse ids_exhausted s) (cond d (refuse count_exhausted s) (next s)) ≡ and_then (cond b (refuse ids_exhausted s) (cond d (refuse count_exhausted s) (accept s))) next
-    cases true d = refl
-    cases false true = refl
-    cases false false = refl

@@ -2,9 +2,9 @@
 use Rattle.std.proofs.Common.{◌≡◌, ℕ, zero, suc, ◌+◌, ◌<◌, ◌≤◌, Bool, true, false, not, ◌&&◌, ◌||◌, eqb, List, [], ◌∷◌, ◌++◌}
 use Rattle.std.proofs.Common.{length, take, set, get_or, Option, None, Some, ⊎_elim, refl, sym, ap, ◌∙◌, subst, arith, inl, inr}
 use Rattle.std.specs.List.{list_any}
-use Rattle.std.proofs.lemmas.Bool.{both_ways, cases_eq, eq-eqb, eqb-true, false_from_ne_true, false≢true, ne_eqb, or_cases, or_from, or_left, or_right}
+use Rattle.std.proofs.lemmas.Bool.{both_ways, cases_eq, eq-eqb, eqb-true, false_from_ne_true, false≢true, ne_eqb, or_cases, or_from, or_left, or_right, true_from_ne_false}
 use Rattle.std.proofs.lemmas.List.{take_all, take_more}
-use Rattle.std.proofs.lemmas.List.Folds.{list_any-append, list_any_at}
+use Rattle.std.proofs.lemmas.List.Folds.{list_any-append, list_any_at, list_any_more}
 use Rattle.checker_rules.specs.Canonical.{var_bound}
 use Rattle.checker_rules.specs.Clauses.{has, is_negative, is_tautology, negate, var_of}
 use Rattle.checker_rules.specs.DeleteVar.{holds_var}
@@ -51,12 +51,12 @@ start_set-free us c i m less is free apart =
 -- one literal more is taken as false
 pub assume-step : (us vs : List (Option UnitClause)) (ss : List (Option StoredUnit)) (c : List ℕ) (i m : ℕ) (u : UnitClause) →
     i < length c → m ≡ get_or c i m → var_of m < length us → u.value ≡ is_negative m
-    → vs ≡ set us (var_of m) (Some u) → some_true_unit ss c ≡ false → is_tautology c ≡ false →
+    → vs ≡ set us (var_of m) (Some u) → true_lits us m ≡ false →
     ((k : ℕ) → true_lits us k ≡ start_set ss (take i c) k) → (k : ℕ) → true_lits vs k ≡ start_set ss (take (i + 1) c) k
-assume-step us vs ss c i m u less is known v e free apart same k =
+assume-step us vs ss c i m u less is known v e off same k =
     let p : ℕ → Bool = λ l. eqb k (negate l) in
     let added = true_lits-set us (negate m) u (rw var-negate known) (v ∙ sym (ap not (negative_negate m) ∙ not_not (is_negative m)))
-    (ap (true_lits us) (negate-negate m) ∙ same m ∙ start_set-free ss c i m less is free apart) in
+    (ap (true_lits us) (negate-negate m) ∙ off) in
     let cut : take (i + 1) c ≡ take i c ++ m ∷ [] = take_more c i m less ∙ ap (λ x. take i c ++ x ∷ []) (sym is) in
     ap (λ ws. true_lits ws k) e ∙ ap (λ v. true_lits (set us v (Some u)) k) (sym (var-negate m)) ∙ ap (λ (s : ℕ → Bool). s k) added
     ∙ ap (λ b. p m || b) (same k) ∙ move (p m) (lit_by_unit ss k) (list_any p (take i c))
@@ -111,13 +111,12 @@ unlisted-all us vs c i stored over h = λ j k. point k j
     point : (k : ℕ) → unlisted_lits vs k ≡ unlisted_at (stored_units us) c k
     point k = h k ∙ ap (λ ls. unlisted_lits us k && not (holds_var (var_of k) ls)) (take_all i c over) ∙ ap (λ b. b && not (holds_var (var_of k) c)) (unlisted_lits-at_rest us k stored)
 
--- a literal with a value is false already
-pub assume-skip : (vs : List (Option UnitClause)) (ss : List (Option StoredUnit)) (c : List ℕ) (i m : ℕ) (b : Bool) → i < length c → m ≡ get_or c i m → lit_value vs m ≡ Some b
-    → some_true_unit ss c ≡ false → is_tautology c ≡ false → ((k : ℕ) → true_lits vs k ≡ start_set ss (take i c) k) → (k : ℕ) → true_lits vs k ≡ start_set ss (take (i + 1) c) k
-assume-skip vs ss c i m b less is v free apart same k =
+-- a literal that is false already
+pub assume-skip : (vs : List (Option UnitClause)) (ss : List (Option StoredUnit)) (c : List ℕ) (i m : ℕ) → i < length c → m ≡ get_or c i m → lit_value vs m ≡ Some false
+    → ((k : ℕ) → true_lits vs k ≡ start_set ss (take i c) k) → (k : ℕ) → true_lits vs k ≡ start_set ss (take (i + 1) c) k
+assume-skip vs ss c i m less is v same k =
     let p : ℕ → Bool = λ l. eqb k (negate l) in
-    let value : b ≡ false = sym (true_lits-truth vs m ∙ ap truth v) ∙ same m ∙ start_set-free ss c i m less is free apart in
-    let turned : true_lits vs (negate m) ≡ true = true_lits-falsity vs m ∙ ap falsity v ∙ ap not value in
+    let turned : true_lits vs (negate m) ≡ true = true_lits-falsity vs m ∙ ap falsity v in
     let cut : take (i + 1) c ≡ take i c ++ m ∷ [] = take_more c i m less ∙ ap (λ x. take i c ++ x ∷ []) (sym is) in
     absorb (p m) (true_lits vs k) (λ e. ap (true_lits vs) (eqb-true k (negate m) e) ∙ turned)
     ∙ ap (λ b. p m || b) (same k) ∙ move (p m) (lit_by_unit ss k) (list_any p (take i c))
@@ -134,3 +133,22 @@ assume-skip vs ss c i m b less is v free apart same k =
     move false true b = refl
     move false false true = refl
     move false false false = refl
+
+-- a literal that is true already is so by a stored unit
+pub assume-met : (vs : List (Option UnitClause)) (ss : List (Option StoredUnit)) (c : List ℕ) (i m : ℕ) → i < length c → m ≡ get_or c i m → lit_value vs m ≡ Some true
+    → is_tautology c ≡ false → ((k : ℕ) → true_lits vs k ≡ start_set ss (take i c) k) → true ≡ some_true_unit ss c
+assume-met vs ss c i m less is v apart same =
+    sym (true_from_ne_false (some_true_unit ss c) (λ none. both_ways (start_set ss (take i c) m)
+    (start_set-free ss c i m less is none apart) (sym (same m) ∙ true_lits-truth vs m ∙ ap truth v)))
+
+-- the literals before it are not true by stored units, nor is it
+pub none_true-step : (vs : List (Option UnitClause)) (ss : List (Option StoredUnit)) (c : List ℕ) (i m : ℕ) → i < length c → m ≡ get_or c i m → true_lits vs m ≡ false
+    → ((k : ℕ) → true_lits vs k ≡ start_set ss (take i c) k) → some_true_unit ss (take i c) ≡ false → some_true_unit ss (take (i + 1) c) ≡ false
+none_true-step vs ss c i m less is off same none =
+    list_any_more (lit_by_unit ss) c i m less
+    ∙ or_from (some_true_unit ss (take i c)) (lit_by_unit ss (get_or c i m)) none
+    (ap (lit_by_unit ss) (sym is) ∙ left_of (lit_by_unit ss m) (negated_set (take i c) m) (sym (same m) ∙ off))
+  where
+    left_of : (a b : Bool) → (a || b) ≡ false → a ≡ false
+    left_of true b e = e
+    left_of false b e = refl

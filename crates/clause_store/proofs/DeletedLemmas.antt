@@ -32,10 +32,6 @@ module _ (r : Bool) (c : List ℕ) (s : State) where
   stored : Outcome
   stored = cond (eqb (count_of r c s.clauses) 0) none gone
 
-  pub delete-short : is_short c ≡ true → delete_justified r c s ≡ refuse delete_unit_or_empty s
-  unfolding gone none stored
-  delete-short short = ap (λ b. cond b (refuse delete_unit_or_empty s) (cond (not (is_stored c s.clauses)) (refuse delete_unknown s) stored)) short
-
   pub delete-unknown : is_short c ≡ false → is_stored c s.clauses ≡ false → delete_justified r c s ≡ refuse delete_unknown s
   unfolding gone none stored
   delete-unknown long new =

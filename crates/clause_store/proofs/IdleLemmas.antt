@@ -1,6 +1,6 @@
 -- Buckets that are looked up, and walked as long as that changes something.
 use Rattle.std.proofs.Common.{◌≡◌, ℕ, ◌+◌, ◌<◌, nat_eq, Bool, true, false, cond, List, drop, get_or, length, map, Option}
-use Rattle.std.proofs.Common.{None, Some, Result, Ok, Err, OnOk, OnErr, IsTrue, refl, sym, ap, ◌∙◌, subst, arith}
+use Rattle.std.proofs.Common.{None, Some, Result, Ok, Err, OnOk, OnErr, refl, sym, ap, ◌∙◌, subst, arith}
 use Rattle.std.specs.HashMap.{get}
 use Rattle.std.proofs.lemmas.Bool.{eqb-true}
 use Rattle.std.proofs.lemmas.List.{drop_more}
@@ -39,37 +39,35 @@ lengthens_then_longer x y z n m k h longer = record {
 
 -- what was idle before a walk is so after it, or the trail grew
 pub are_idle-walked : (us vs : List (Option UnitClause)) (run now : Propagation) (buffer : List ℕ) (b : Buckets) → LengthensRun us run vs now →
-    now.idle ≡ run.idle → now.traced ≡ run.traced →
-    AreIdle (idle_at run.idle) (length run.trail.items) (λ h. IsIdleRun run.traced run.trace.items us (stored_in buffer b h)) →
-    AreIdle (idle_at now.idle) (length now.trail.items) (λ h. IsIdleRun now.traced now.trace.items vs (stored_in buffer b h))
-are_idle-walked us vs run now buffer b g same_idle same_traced f h n e =
+    now.idle ≡ run.idle →
+    AreIdle (idle_at run.idle) (length run.trail.items) (λ h. IsIdleRun run.trace.items us (stored_in buffer b h)) →
+    AreIdle (idle_at now.idle) (length now.trail.items) (λ h. IsIdleRun now.trace.items vs (stored_in buffer b h))
+are_idle-walked us vs run now buffer b g same_idle f h n e =
     let since = f h n (ap (λ (x : IdleBuckets). idle_at x h) (sym same_idle) ∙ e) in
     record {
       no_later = omega (arith, since.no_later, g.units.no_shorter);
       idle = λ (at : n ≡ length now.trail.items).
           let still : length now.trail.items ≡ length run.trail.items = omega (arith, since.no_later, g.units.no_shorter) in
-          subst (λ (t : Bool). IsIdleRun t now.trace.items vs (stored_in buffer b h)) (sym same_traced)
-          (subst (λ (ids : List ℕ). IsIdleRun run.traced ids vs (stored_in buffer b h)) (sym (g.ids.still still))
-          (subst (λ (ws : List (Option UnitClause)). IsIdleRun run.traced run.trace.items ws (stored_in buffer b h)) (sym (g.units.still still))
-          (since.idle (at ∙ still))));
+          subst (λ (ids : List ℕ). IsIdleRun ids vs (stored_in buffer b h)) (sym (g.ids.still still))
+          (subst (λ (ws : List (Option UnitClause)). IsIdleRun run.trace.items ws (stored_in buffer b h)) (sym (g.units.still still))
+          (since.idle (at ∙ still)));
     }
 
 -- a bucket is idle after its walk, or the trail grew
 pub is_idle_since-walked : (us vs : List (Option UnitClause)) (run now : Propagation) (cs : List Clause) (buffer : List ℕ) (b : Buckets) (h : ℕ)
-    (falsified : Bool) → clauses_at b h ≡ cs → LengthensRun us run vs now → now.traced ≡ run.traced → falsified ≡ false →
-    Walks us (lits_in buffer cs) vs falsified →
-    (IsTrue run.traced → Lists run.trace.items us (map (stored_of buffer) cs) now.trace.items vs falsified) →
-    IsIdleSince (length run.trail.items) (length now.trail.items) (IsIdleRun now.traced now.trace.items vs (stored_in buffer b h))
-is_idle_since-walked us vs run now cs buffer b h falsified found g same_traced none w l = record {
+    (falsified : Bool) → clauses_at b h ≡ cs → LengthensRun us run vs now → falsified ≡ false →
+    Walks us (lits_in buffer cs) vs falsified → Lists run.trace.items us (map (stored_of buffer) cs) now.trace.items vs falsified →
+    IsIdleSince (length run.trail.items) (length now.trail.items) (IsIdleRun now.trace.items vs (stored_in buffer b h))
+is_idle_since-walked us vs run now cs buffer b h falsified found g none w l = record {
   no_later = g.units.no_shorter;
   idle = λ (e : length run.trail.items ≡ length now.trail.items).
       let u : us ≡ vs = sym (g.units.still (sym e)) in
       let i : run.trace.items ≡ now.trace.items = sym (g.ids.still (sym e)) in
-      subst (λ (xs : List Clause). IsIdleRun now.traced now.trace.items vs (map (stored_of buffer) xs)) (sym found) (record {
+      subst (λ (xs : List Clause). IsIdleRun now.trace.items vs (map (stored_of buffer) xs)) (sym found) (record {
         walk = subst (λ (ws : List (Option UnitClause)). Walks ws (lits_in buffer cs) vs false) u (subst (λ (f : Bool). Walks us (lits_in buffer cs) vs f) none w);
-        listed = λ t. subst (λ (ws : List (Option UnitClause)). Lists now.trace.items ws (map (stored_of buffer) cs) now.trace.items vs false) u
+        listed = subst (λ (ws : List (Option UnitClause)). Lists now.trace.items ws (map (stored_of buffer) cs) now.trace.items vs false) u
             (subst (λ (ids : List ℕ). Lists ids us (map (stored_of buffer) cs) now.trace.items vs false) i
-            (subst (λ (f : Bool). Lists run.trace.items us (map (stored_of buffer) cs) now.trace.items vs f) none (l (sym same_traced ∙ t))));
+            (subst (λ (f : Bool). Lists run.trace.items us (map (stored_of buffer) cs) now.trace.items vs f) none l));
       });
 }
 

@@ -98,10 +98,6 @@ true_lits-renamed us m w known found same = λ i k. point k i
         (get_or-set_other us (var_of m) (var_of k) (Some w) None ne) ∙ sym (true_lits-by us k))
         (cases_eq (var_of k) (var_of m))
 
--- the look at a clause under values, literal by literal
-pub looked-nil : (ids : List ℕ) (us : List (Option UnitClause)) → looked ids us [] ≡ (ids, unlisted_lits us)
-looked-nil ids us = ap (λ xs. (xs, unlisted_lits us)) (append-nil ids)
-
 pub looked-free : (ids : List ℕ) (us : List (Option UnitClause)) (m : ℕ) (c : List ℕ) → lit_value us m ≡ None → looked ids us (m ∷ c) ≡ looked ids us c
 looked-free ids us m c h = ap (λ v. (ids ++ item_ids v.items, v.unlisted))
     (visit-free (stored_units us) (true_lits us) (unlisted_lits us) m c (true_lits-truth us m ∙ ap truth h)

@@ -1,7 +1,8 @@
 -- Putting values back.
-use Rattle.std.proofs.Common.{◌≡◌, ℕ, suc, ◌<◌, List, [], ◌∷◌, ◌++◌, Option, None, length, set, set-set, length-set, refl, sym, ap, ◌∙◌, arith}
+use Rattle.std.proofs.Common.{◌≡◌, ℕ, zero, suc, ◌<◌, List, [], ◌∷◌, ◌++◌, Option, None, length, get_or, set, set-set, length-set, ⊎_elim, refl, sym, ap, ◌∙◌, arith}
 use Rattle.std.proofs.lemmas.Grind.{common_steps}
-use Rattle.std.proofs.lemmas.List.{set-get_or}
+use Rattle.std.proofs.lemmas.Bool.{cases_eq}
+use Rattle.std.proofs.lemmas.List.{set-get_or, set_comm}
 use Rattle.std.proofs.lemmas.List.Elements.{All-push}
 use Rattle.checker_rules.specs.Clauses.{var_of}
 use Rattle.clause_store.specs.declared.clauses.units.UnitClause.{UnitClause}
@@ -46,3 +47,17 @@ freed-push (k ∷ ms) m = ap (λ ts. (k, None) ∷ ts) (freed-push ms m)
 pub trail-last : (us : List (Option UnitClause)) (rest : List (ℕ × Option UnitClause)) (t : ℕ × Option UnitClause) → IsTrailFor us (rest ++ t ∷ []) → var_of t.0 < length us
 trail-last us [] t known = known 0 t (omega arith)
 trail-last us (x ∷ rest) t known = trail-last us rest t (λ k d h. known (suc k) d (omega (arith, h)))
+
+-- a variable of the trail is known
+pub freed-known : (us : List (Option UnitClause)) (ms : List ℕ) (i m : ℕ) → IsTrailFor us (freed ms) → i < length ms → m ≡ get_or ms i m → var_of m < length us
+freed-known us [] i m known less is = absurd (omega (arith, less))
+freed-known us (k ∷ ks) zero m known less is = rw is (known 0 (k, None) (omega arith))
+freed-known us (k ∷ ks) (suc i) m known less is = freed-known us ks i m (λ j d h. known (suc j) d (omega (arith, h))) (omega (arith, less)) is
+
+-- a variable is freed before the others as well as after them
+pub freed-first : (us : List (Option UnitClause)) (m : ℕ) (ms : List ℕ) → undone (set us (var_of m) None) (freed ms) ≡ undone us (freed (m ∷ ms))
+freed-first us m [] = refl
+freed-first us m (k ∷ ks) = ap (λ vs. set vs (var_of k) None) (freed-first us m ks) ∙ swap (undone us (freed ks)) (var_of m) (var_of k)
+  where
+    swap : (vs : List (Option UnitClause)) (i j : ℕ) → set (set vs i None) j None ≡ set (set vs j None) i None
+    swap vs i j = ⊎_elim {C = set (set vs i None) j None ≡ set (set vs j None) i None} (λ (e : i ≡ j). rw e refl) (λ (ne : i ≡ j → ⊥). set_comm vs i j None None ne) (cases_eq i j)

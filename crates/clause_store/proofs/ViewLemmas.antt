@@ -27,10 +27,6 @@ above_from low next [] h = tt
 above_from low next (e ∷ es) h =
     let p = and_parts (leb low e.id) (ids_rise (suc e.id) es next) h in (grind (arith, p.0), above_from (suc e.id) next es p.1)
 
-above_lower : (low k : ℕ) (es : List Stored) → k ≤ low → Above low es → Above k es
-above_lower low k [] le h = tt
-above_lower low k (e ∷ es) le h = (omega (arith, h.0), h.1)
-
 in_above : (low : ℕ) (x : Stored) (es : List Stored) → Above low es → In x es → low ≤ x.id
 in_above low x [] h i = absurd i
 in_above low x (e ∷ es) h (inl same) = subst (λ (y : Stored). low ≤ y.id) (sym same) h.0

@@ -1,9 +1,9 @@
 -- Buckets whose walk changes nothing.
 --     idle_at x h      the length of the trail at which the bucket of a hash was found idle
 --     IsIdle us cs      a walk over these clauses from these values gives none and falsifies none
---     IsIdleRun      the same, and where it is traced it lists nothing
+--     IsIdleRun      the same, and it lists nothing
 --     AreIdle      what was found idle is so while the trail is no longer
-use Rattle.std.specs.Prelude.{◌≡◌, ℕ, ◌≤◌, Bool, false, nat_eq, List, Option, Some, length, IsTrue}
+use Rattle.std.specs.Prelude.{◌≡◌, ℕ, ◌≤◌, false, nat_eq, List, Option, Some, length}
 use Rattle.std.specs.HashMap.{get}
 use Rattle.checker_rules.specs.State.{Stored, all_lits}
 use Rattle.clause_store.specs.declared.clauses.units.UnitClause.{UnitClause}
@@ -20,11 +20,11 @@ idle_at x h = get nat_eq x.found h
 abbrev pub IsIdle : List (Option UnitClause) → List (List ℕ) → Type 0
 IsIdle us cs = Walks us cs us false
 
--- the same, and where the walk is traced it lists nothing after these ids
-pub record IsIdleRun (traced : Bool) (ids : List ℕ) (us : List (Option UnitClause))
-    (es : List Stored) : Type 0 where
-  pub walk : IsIdle us (all_lits es)
-  pub listed : IsTrue traced → Lists ids us es ids us false
+-- the same, and it lists nothing after these ids
+pub record IsIdleRun (ids : List ℕ) (us : List (Option UnitClause)) (es : List Stored) : Type 0
+  where
+    pub walk : IsIdle us (all_lits es)
+    pub listed : Lists ids us es ids us false
 
 -- found at a trail of length n, and idle while its length is that
 pub record IsIdleSince (n now : ℕ) (Idle : Type 0) : Type 0 where

@@ -8,7 +8,7 @@ mod trail;
 mod untraced;
 mod walk;
 
-ghost use Rattle.std.specs.Prelude.{◌≡◌, [], false, length, IfOk, IsTrue};
+ghost use Rattle.std.specs.Prelude.{◌≡◌, [], false, length, true, IfOk};
 ghost use Rattle.checker_rules.specs.Clauses.{is_tautology};
 ghost use Rattle.checker_rules.specs.Passes as rules;
 ghost use Rattle.checker_rules.specs.State.{some_true_unit, start_set};
@@ -91,48 +91,44 @@ pub fn check_clause(
         IfOk result (λ a.
         rup.new.trace_ids.items ≡ last_trace traced a ids rup.old.trace_ids.items) }
 {
-    if let Some(id) = units.true_unit_id(lits) {
-        if traced {
-            rup.trace_ids.clear();
-            rup.trace_ids.push(id)?;
-        }
-        return Ok(Answer::Passed);
+    if traced {
+        check_traced(rup, units, buckets, buffer, lits, hashes)
+    } else {
+        check_untraced(units, &mut rup.free, buckets, buffer, lits, hashes)
     }
-    check_open_clause(rup, units, buckets, buffer, lits, hashes, traced)
 }
 
-/// The same for a clause without a true literal.
-fn check_open_clause(
+/// The same, traced.
+fn check_traced(
     rup: &mut RupCheck,
     units: &mut Units,
     buckets: &Buckets,
     buffer: &[Lit],
     lits: &[Lit],
     hashes: &[ClauseHash],
-    traced: bool,
 ) -> Result<Answer, AllocError>
     requires within { AreWithin buffer.now buckets.now }
     requires known { AreKnown units.old lits.now }
     requires all_known { AreAllKnown units.old buffer.now buckets.now }
     requires stored { AreStored units.old }
-    requires free { some_true_unit (stored_units units.old) lits.now ≡ false }
     requires no_tautology { is_tautology lits.now ≡ false }
     ensures answer { let named = named_buckets buffer.now buckets.now hashes.now in
-        IfOk result (λ a. check_answer a
-        ≡ rules.walk_buckets (start_set (stored_units units.old) lits.now) named) }
+        IfOk result (λ a. check_answer a ≡ clause_answer (stored_units units.old) lits.now named) }
     ensures units { units.new ≡ units.old }
     ensures trace_ids { let named = named_clauses buffer.now buckets.now hashes.now in
-        let ids = ids_of (open_trace (stored_units units.old) lits.now named) in
+        let ids = clause_trace (stored_units units.old) lits.now named in
         IfOk result (λ a.
-        rup.new.trace_ids.items ≡ last_trace traced a ids rup.old.trace_ids.items) }
+        rup.new.trace_ids.items ≡ last_trace true a ids rup.old.trace_ids.items) }
 {
-    if !traced {
-        return check_untraced(units, &mut rup.free, buckets, buffer, lits, hashes);
+    if let Some(id) = units.true_unit_id(lits) {
+        rup.trace_ids.clear();
+        rup.trace_ids.push(id)?;
+        return Ok(Answer::Passed);
     }
-    rup.propagation.begin(traced);
+    rup.propagation.trace.clear();
     let answer = walk_negated(units, &mut rup.propagation, buckets, buffer, lits, hashes);
     undo(units, &mut rup.propagation.trail);
-    if let (true, Ok(Answer::Passed)) = (traced, &answer) {
+    if let Ok(Answer::Passed) = answer {
         swap(&mut rup.propagation.trace, &mut rup.trace_ids);
     }
     answer
@@ -159,7 +155,7 @@ fn walk_negated(
         IfOk result (λ a. check_answer a
         ≡ rules.walk_buckets (start_set (stored_units units.old) lits.now) named) }
     ensures listed { let named = named_clauses buffer.now buckets.now hashes.now in
-        IsTrue run.old.traced → IfOk result (λ a. a ≡ Answer.Passed →
+        IfOk result (λ a. a ≡ Answer.Passed →
         run.new.trace.items ≡ ids_of (open_trace (stored_units units.old) lits.now named)) }
     ensures undoable { IsUndoable units.old run.old.trail.items units.new run.new.trail.items }
 {

@@ -85,13 +85,6 @@ so_far_next h all rest line n k f e =
     length_more [] y = refl
     length_more (x ∷ xs) y = let rest = length_more xs y in omega arith
 
-pub so_far_end : (h : Listed) (bytes : List ℕ) (n : ℕ) (k : Listed) → SoFar h (lines_of bytes) [] n k → Accepts h bytes k
-so_far_end h bytes n k f = record { lines = f.lines; said = ap said_all (f.cut ∙ append-nil f.before) ∙ f.said; follow = f.follow }
-  where
-    append-nil : (xs : List (List ℕ)) → xs ++ [] ≡ xs
-    append-nil [] = refl
-    append-nil (x ∷ xs) = ap (λ ys. x ∷ ys) (append-nil xs)
-
 pub so_far_refused : (h : Listed) (bytes line : List ℕ) (rest : List (List ℕ)) (n : ℕ) (k : Listed) → SoFar h (lines_of bytes) (line ∷ rest) n k → (fault : LineFault) →
     IsCause fault (refusal k (said_by line)) → IsRefusal h bytes (in_line fault (n + 1))
 so_far_refused h bytes line rest n k f fault e = go fault e

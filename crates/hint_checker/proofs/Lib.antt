@@ -1,6 +1,5 @@
 pub mod CheckLemmas
 pub mod LineLemmas
-pub mod ListingLemmas
 pub mod NumberLemmas
 pub mod OneAnswer
 pub mod Parts

@@ -164,11 +164,5 @@ module _ (s : ℕ → Bool) (c : List ℕ) (i m : ℕ) (w : i < length c) (e : m
   here : (f : List ℕ → Option ℕ) → f (drop i c) ≡ f (m ∷ drop (i + 1) c)
   here f = at_drop_more f c i m w ∙ ap (λ k. f (k ∷ drop (i + 1) c)) (sym e)
 
-  pub search_skips : (u x : Option ℕ) → s (negate m) ≡ true → search s u (drop i c) ≡ x → search s u (drop (i + 1) c) ≡ x
-  search_skips u x t h = sym (here (search s u) ∙ rw t refl) ∙ h
-
   pub search_stops : (u x : Option ℕ) → s (negate m) ≡ false → (s m || is_other u m) ≡ true → search s u (drop i c) ≡ x → x ≡ None
   search_stops u x f t h = sym h ∙ here (search s u) ∙ rw f (rw t refl)
-
-  pub search_takes : (u x : Option ℕ) → s (negate m) ≡ false → (s m || is_other u m) ≡ false → search s u (drop i c) ≡ x → search s (Some m) (drop (i + 1) c) ≡ x
-  search_takes u x f t h = sym (here (search s u) ∙ rw f (rw t refl)) ∙ h

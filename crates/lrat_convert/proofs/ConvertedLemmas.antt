@@ -28,11 +28,6 @@ module _ (width : ℕ) (start old : Option (List ℕ)) (c : Converted) (x : Conv
   gathered hints = ap (λ hash. gather hash (holding_of x.held) [] hints) hash-is ∙ ap (λ held. gather (clause_hash no_name width) held [] hints) h.held
 
   module _ (i : ℕ) (lits : List ℕ) (hints : List Hint) where
-    -- an id that is taken
-    pub cause_taken : is_some ((holding_of x.held).entries i) ≡ true → add_line width c i lits hints ≡ Err IdTaken
-    cause_taken taken = ap (λ b. cond b (Err IdTaken) (added c i (from_line lits) (gather (clause_hash no_name width) c.held [] hints)))
-        (ap (λ (held : Holding). is_some (held.entries i)) (sym h.held) ∙ taken)
-
     module _ (free : is_some ((holding_of x.held).entries i) ≡ false) where
       on_free : add_line width c i lits hints ≡ added c i (from_line lits) (gather (clause_hash no_name width) c.held [] hints)
       on_free = ap (λ b. cond b (Err IdTaken) (added c i (from_line lits) (gather (clause_hash no_name width) c.held [] hints))) (ap (λ (held : Holding). is_some (held.entries i)) (sym h.held) ∙ free)

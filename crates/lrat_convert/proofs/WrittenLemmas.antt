@@ -12,10 +12,6 @@ use Rattle.proof_bytes.proofs.TextLaws.{text_grows}
 use Rattle.lrat_convert.specs.Standing.{HasWritten}
 use Rattle.lrat_convert.specs.declared.steps.StepWriter.{StepWriter}
 
--- nothing yet
-pub written_start : (start : Option (List ℕ)) (w : StepWriter) → format_in w.writer ≡ formats.Start → HasWritten start start [] w
-written_start start w f = record { bytes = Appends-nil start; format = f; fits = tt }
-
 module _ (start old new : Option (List ℕ)) (steps : List Step) where
   -- one step more
   pub written_more : (s : Step) (v w : StepWriter) (bytes : List ℕ) → HasWritten start old steps v →
@@ -27,11 +23,3 @@ module _ (start old new : Option (List ℕ)) (steps : List Step) where
     format = format ∙ ap (λ f. after s (writing f)) h.format ∙ sym (text_grows.format steps s);
     fits = text_grows.fits_2 steps s h.fits (subst (λ f. IsStep (writing f) s) h.format fits);
   }
-
-  -- what was written is kept
-  pub written_kept : (w : StepWriter) → HasWritten start old steps w → Keeps old new → HasWritten start new steps w
-  written_kept w h kept = record { bytes = Appends-kept start old new (text_2 steps) h.bytes kept; format = h.format; fits = h.fits }
-
--- no step more
-pub written_same : (start now : Option (List ℕ)) (steps : List Step) (w : StepWriter) → HasWritten start now steps w → HasWritten start now (steps ++ []) w
-written_same start now steps w h = subst (λ ss. HasWritten start now ss w) (sym (append-nil steps)) h

@@ -80,36 +80,6 @@ digits_more bytes n v h lt few small e = record {
     at_or_before k true p below = subst (λ i. is_digit (slice_index bytes i) ≡ true) (sym (eqb-true k n p)) e
     at_or_before k false p below = h.digits k (grind (arith, nat_tests, p, below))
 
--- ---- words of digits
-
--- the word goes to the end of the bytes
-pub word_to_end : (bytes : List ℕ) (n v : ℕ) → HasDigits bytes n v → (n ≡ 0 → ⊥) → n ≡ length bytes → IsDigitsWord bytes v (take (length bytes - n) (drop n bytes))
-word_to_end bytes n v h some all = record {
-  len = n;
-  digits = h;
-  some = omega (arith, some);
-  end = λ lt. absurd (omega (arith, lt, all));
-  words = ap words_of (take_all (length bytes - n) (drop n bytes) (omega (arith, length-drop n bytes)));
-  shorter = omega (arith, some, all, length-take (length bytes - n) (drop n bytes));
-}
-
--- a blank follows the word
-pub word_to_blank : (bytes : List ℕ) (n v : ℕ) → HasDigits bytes n v → (n ≡ 0 → ⊥) → n < length bytes → is_blank (slice_index bytes n) ≡ true →
-    IsDigitsWord bytes v (take (length bytes - (n + 1)) (drop (n + 1) bytes))
-word_to_blank bytes n v h some lt e = record {
-  len = n;
-  digits = h;
-  some = omega (arith, some);
-  end = λ l. e;
-  words = ap words_of (take_all (length bytes - (n + 1)) (drop (n + 1) bytes) (omega (arith, length-drop (n + 1) bytes))) ∙ ap (λ m. words_of (drop m bytes)) (suc-is n) ∙ words_after bytes n lt e;
-  shorter = omega (arith, some, length-drop (n + 1) bytes, length-take (length bytes - (n + 1)) (drop (n + 1) bytes));
-}
-  where
-    words_after : (bs : List ℕ) (m : ℕ) → m < length bs → is_blank (get_or bs m 0) ≡ true → words_of (drop (suc m) bs) ≡ words_of (drop m bs)
-    words_after [] m l f = absurd (omega arith)
-    words_after (b ∷ bs) zero l f = words_of-drop (b ∷ bs) l f
-    words_after (b ∷ bs) (suc m) l f = words_after bs m (omega arith) f
-
 -- ---- the number in front
 
 plain_says : (bytes : List ℕ) (n v : ℕ) → HasDigits bytes n v → 0 < n → v < 2 ^ 64 → number_of (take n bytes) ≡ Exact false v

@@ -21,27 +21,9 @@ pub record SoFar (digits left : List ℕ) (kept : ℕ) (large : Bool) : Type 0 w
 pub none_read : (digits : List ℕ) → SoFar digits digits 0 false
 none_read digits = record { value = 0; same = refl; is_kept = refl }
 
-pub no_digit : {digits : List ℕ} {kept : ℕ} {large : Bool} (d : ℕ) (left : List ℕ) → SoFar digits (d ∷ left) kept large → is_digit d ≡ false → value_from 0 digits ≡ None
-no_digit d left p e = p.same ∙ rw e refl
-
 one_more : {digits : List ℕ} {kept : ℕ} {large : Bool} (d : ℕ) (left : List ℕ) (p : SoFar digits (d ∷ left) kept large) →
     is_digit d ≡ true → value_from 0 digits ≡ value_from (p.value * 10 + (d - 48)) left
 one_more d left p e = p.same ∙ rw e refl
-
--- a digit more, and the value still fits
-pub digit_fits : {digits : List ℕ} (kept d : ℕ) (left : List ℕ) → SoFar digits (d ∷ left) kept false → is_digit d ≡ true → SoFar digits left (kept * 10 + (d - 48)) false
-digit_fits kept d left p e = record { value = p.value * 10 + (d - 48); same = one_more d left p e; is_kept = ap (λ v. v * 10 + (d - 48)) p.is_kept }
-
--- a digit more, and the value no longer fits
-pub digit_over : {digits : List ℕ} (kept d : ℕ) (left : List ℕ) → SoFar digits (d ∷ left) kept false → is_digit d ≡ true → 2 ^ 64 ≤ kept * 10 + (d - 48) → (any : ℕ) → SoFar digits left any true
-digit_over kept d left p e over any = record { value = p.value * 10 + (d - 48); same = one_more d left p e; is_kept = rw (← p.is_kept) over }
-
--- a digit more after a value that no longer fits
-pub digit_large : {digits : List ℕ} (kept d : ℕ) (left : List ℕ) → SoFar digits (d ∷ left) kept true → is_digit d ≡ true → (any : ℕ) → SoFar digits left any true
-digit_large kept d left p e any = record { value = p.value * 10 + (d - 48); same = one_more d left p e; is_kept = omega (arith, p.is_kept) }
-
-pub all_read : {digits : List ℕ} {kept : ℕ} {large : Bool} (p : SoFar digits [] kept large) → value_from 0 digits ≡ Some p.value
-all_read p = p.same
 
 -- digits have the value that is read
 pub value_of-digits : (digits : List ℕ) → (digits ≡ [] → ⊥) → value_of digits ≡ value_from 0 digits

@@ -51,16 +51,6 @@ module _ {R : Type 0} (remaining : R → Option (List ℕ)) (old new : LineReade
   line_judged whole (Err stops.Read) p number over said = absurd said
   line_judged whole (Err stops.OutOfMemory) p number over said = tt
 
-  not_held : (e : Stop) → HoldsLine (bytes_left remaining old) (bytes_left remaining new) new.lines.source line (Err e) → line_number new ≡ line_number old → JudgesLine remaining old new (Err e)
-  not_held (stops.Wrong kind) p number = absurd p
-  not_held stops.Read p number = (record { passed = []; begun = line; consumed = p.1; same = λ more. ap (λ n. outcome_after n more) (sym number); is_open = p.0 }, p.2)
-  not_held stops.OutOfMemory p number = tt
-
-  pub line_broken : (e : Stop) (r : Result (Option Head) Stop) → IsErrAnd r (λ d. d ≡ e) →
-      HoldsLine (bytes_left remaining old) (bytes_left remaining new) new.lines.source line (Err e) → line_number new ≡ line_number old →
-      JudgesLine remaining old new r
-  line_broken e r h p number = let q = err_from_is_err_and r h in rw (q.1, q.2) (not_held e p number)
-
 -- ---- line after line
 
 module _ {R : Type 0} (remaining : R → Option (List ℕ)) (old now new : LineReader R) where

@@ -1,5 +1,7 @@
 -- The front of a list, read at once.
-use Rattle.std.proofs.Common.{◌≡◌, ℕ, zero, suc, ◌+◌, ◌<◌, ◌≤◌, List, [], ◌∷◌, ◌++◌, length, get_or, take, Ok, Err, refl, sym, ap, ◌∙◌, arith, append_assoc, zero-add, length-append}
+use Rattle.std.proofs.Common.{◌≡◌, ℕ, zero, suc, ◌+◌, ◌-◌, ◌<◌, ◌≤◌, List, [], ◌∷◌, ◌++◌, length, get_or, take, drop, Ok, Err, refl, sym, ap, ◌∙◌, arith, append_assoc, zero-add, length-append}
+use Rattle.std.proofs.Math.Seq.{take-add}
+use Rattle.std.proofs.lemmas.List.{length-drop, take_rest}
 use Rattle.std.specs.Io.KnownBytes.{Consumes}
 use Rattle.proof_bytes.specs.Reading.{Found, ◌>>=◌}
 use Rattle.proof_bytes.specs.Fields.{many_at}
@@ -22,6 +24,14 @@ two_more (x ∷ y ∷ xs) (suc i) n lt le =
     let e : suc i + n ≡ suc (i + n) = omega arith in
     let f : suc i + 1 ≡ suc (i + 1) = omega arith in
     rw (e, f) (ap (λ (l : List ℕ). x ∷ l) (two_more (y ∷ xs) i n (omega arith) le))
+
+-- after so many of the bytes that are left
+module _ (xs : List ℕ) (i n : ℕ) where
+  pub rest_more : take (i + n) xs ≡ take i xs ++ take n (take (length xs - i) (drop i xs))
+  rest_more = take-add i n xs ∙ ap (λ (l : List ℕ). take i xs ++ take n l) (sym (take_rest xs i))
+
+  pub rest_within : i ≤ length xs → n ≤ length (take (length xs - i) (drop i xs)) → i + n ≤ length xs
+  rest_within le lt = let rest = ap length (take_rest xs i) ∙ length-drop i xs in omega arith
 
 module _ {A : Type 0} (item : List ℕ → Found A) where
   -- the first n, and what comes after them

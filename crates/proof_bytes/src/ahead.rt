@@ -1,11 +1,13 @@
 //! Fields read out of the bytes that are read ahead, where enough are.
 ghost use Rattle.std.specs.Prelude.{◌≡◌, ◌≤◌, ◌<◌, ◌*◌, ◌%◌, ◌^◌, ◌++◌, ◌∷◌, [], ℕ, List, Ok, IfSome, length, take, vec_len};
 ghost use Rattle.proof_bytes.specs.Ahead.{AreGroups, Joins, ReadAs};
-ghost use Rattle.proof_bytes.specs.Fields.{bytes_at, lit_at, wide_at};
+ghost use Rattle.proof_bytes.specs.Fields.{bytes_at, hash_at, lit_at, wide_at};
+ghost use Rattle.proof_bytes.specs.Formats.{IsFormat};
 ghost use Rattle.proof_bytes.specs.Reading.{number_at};
 ghost use Rattle.proof_bytes.specs.Taking.{IsBytes};
 
-use crate::format::fits_width;
+use crate::format::{Format, fits_width};
+use crate::hash::ClauseHash;
 use sat_formula::Lit;
 
 /// A number has at most so many bytes.
@@ -91,6 +93,55 @@ fn short_lit(first: u8, second: u8) -> Option<(Lit, usize)>
     }
     let code = (first - 128) as usize + 128 * second as usize;
     Some((Lit::from_code(code)?, 2))
+}
+
+/// Puts hashes that the bytes begin with into an empty vector, and gives how many bytes spell them.
+///
+/// It ends before a hash for which fewer bytes are there than the longest has, and before what is
+/// none. It reads `most` at most, and as many as the vector has room for, so that it asks for no
+/// memory.
+#[inline(always)]
+pub(crate) fn hashes_ahead(
+    bytes: &[u8],
+    most: u64,
+    format: Format,
+    into: &mut Vec<ClauseHash>,
+) -> usize
+    requires in_force { IsFormat format }
+    requires empty { into.old.items ≡ [] }
+    ensures bytes { IsBytes bytes.now }
+    ensures within { result ≤ length bytes.now }
+    ensures count { vec_len into.new ≤ most }
+    ensures read { ReadAs (hash_at format) (take result bytes.now) into.new.items }
+{
+    let room = into.capacity() as u64;
+    let mut at = 0;
+    'hashes: for _ in 0..most.min(room) {
+        match hash_ahead(&bytes[at..], format) {
+            Some((hash, len)) => {
+                into.push_reserved(hash);
+                at += len;
+            }
+            None => return at,
+        }
+    }
+    at
+}
+
+/// The hash that the bytes begin with, and how many bytes spell it. None where fewer bytes are
+/// there than the longest has, where it is a short number, and where they begin with none.
+#[inline(always)]
+fn hash_ahead(bytes: &[u8], format: Format) -> Option<(ClauseHash, usize)>
+    requires { IsFormat format }
+    ensures bytes { IsBytes bytes.now }
+    ensures within { IfSome result (λ r. r.1 ≤ length bytes.now) }
+    ensures read { IfSome result (λ r.
+        (more : List ℕ) → hash_at format (take r.1 bytes.now ++ more) ≡ Ok (r.0, more)) }
+{
+    match format {
+        Format::Bytes { width } => wide_ahead(bytes, width),
+        _ => long_number_ahead(bytes),
+    }
 }
 
 /// The top bit of each of eight bytes.

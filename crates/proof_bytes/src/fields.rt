@@ -1,7 +1,7 @@
 //! The fields of steps, read one after the other.
 ghost use Rattle.std.specs.Prelude.{◌≡◌, ◌<◌, ◌≤◌, ◌^◌, IfOk};
 
-use crate::ahead::{lits_ahead, long_number_ahead, number_ahead, wide_ahead};
+use crate::ahead::{hashes_ahead, lits_ahead, long_number_ahead, number_ahead, wide_ahead};
 use crate::fault::{MalformedStep, ProofFault, Stop};
 use crate::format::{Format, fits_width};
 use crate::hash::ClauseHash;
@@ -241,7 +241,10 @@ impl<R: Read> Fields<R> {
     {
         into.clear();
         let count = self.number()?;
-        'items: for _ in 0..count {
+        // As the literals: those ahead together, the others one by one.
+        let spelled = hashes_ahead(self.source.ahead(), count, format, into);
+        self.source.take_ahead(spelled);
+        'hashes: for _ in into.len() as u64..count {
             let hash = self.hash(format)?;
             into.push(hash)?;
         }

@@ -10,17 +10,6 @@ use Rattle.checker_steps.specs.Failing.{has_failed}
 abbrev Answer : Type 0
 Answer = Result (Unit {0}) CheckerError
 
--- the call gave up, and its failure is recorded
-pub gave-up : (r : Answer) (o : Outcome) (t u : State) → has_failed r ≡ true → AnswersParts r o t → u.failed ≡ true → AnswersStep r o u
-gave-up (Ok x) o t u h a f = absurd cc
-gave-up (Err (CheckFailed number msg debug_step)) o t u h a f = absurd cc
-gave-up (Err (ProofIncomplete number)) o t u h a f = absurd cc
-gave-up (Err (IoError number cause)) o t u h a f = absurd cc
-gave-up (Err (ParseError number cause)) o t u h a f = absurd cc
-gave-up (Err (ProofProcessorError cause)) o t u h a f = f
-gave-up (Err OutOfMemory) o t u h a f = f
-gave-up (Err Failed) o t u h a f = a
-
 -- it did not
 pub went-on : (r : Answer) (o : Outcome) (t : State) → has_failed r ≡ false → AnswersParts r o t → AnswersStep r o t
 went-on (Ok x) o t h a = a

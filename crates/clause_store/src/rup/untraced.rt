@@ -6,7 +6,7 @@ ghost use Rattle.checker_rules.specs.State.{some_true_unit, start_set};
 ghost use Rattle.clause_store.specs.Buckets.{AreWithin, clauses_at};
 ghost use Rattle.clause_store.specs.Idle.{AreIdle, IsIdle, Lengthens, idle_at};
 ghost use Rattle.clause_store.specs.Lits.{IsWithin, lits_of};
-ghost use Rattle.clause_store.specs.Rup.{AreAllKnown, Walks, WalksFirst, check_answer, lits_at, lits_in, named_buckets, true_lits};
+ghost use Rattle.clause_store.specs.Rup.{AreAllKnown, Walks, WalksFirst, check_answer, clause_answer, lits_at, lits_in, named_buckets, true_lits};
 ghost use Rattle.clause_store.specs.StateOf.{stored_units};
 ghost use Rattle.clause_store.specs.Trail.{IsTrailFor, IsUndoable, freed, undone};
 ghost use Rattle.clause_store.specs.Units.{AreKnown, IsGiven, unit_at};
@@ -58,23 +58,25 @@ fn give(units: &mut Units, trail: &mut FreeTrail, lit: Lit, value: bool) -> Resu
     Ok(())
 }
 
-/// Takes every literal as false.
-fn assume_free(units: &mut Units, trail: &mut FreeTrail, lits: &[Lit]) -> Result<(), AllocError>
+/// Takes the literals as false, up to one that is true already. Answers whether there is one.
+fn assume_free(units: &mut Units, trail: &mut FreeTrail, lits: &[Lit]) -> Result<bool, AllocError>
     requires known { AreKnown units.old lits.now }
-    requires free { some_true_unit (stored_units units.old) lits.now ≡ false }
     requires no_tautology { is_tautology lits.now ≡ false }
     requires trail { IsTrailFor units.old (freed trail.old.items) }
-    ensures ok { OnOk result (true_lits units.new ≡ start_set (stored_units units.old) lits.now) }
+    ensures met { IfOk result (λ met. met ≡ some_true_unit (stored_units units.old) lits.now) }
+    ensures ok { IfOk result (λ met. met ≡ false →
+        true_lits units.new ≡ start_set (stored_units units.old) lits.now) }
     ensures undoable { IsUndoable units.old (freed trail.old.items)
         units.new (freed trail.new.items) }
 {
     for lit in lits {
         match units.known_lit_value(*lit) {
-            Some(_) => {}
+            Some(true) => return Ok(true),
+            Some(false) => {}
             None => give(units, trail, *lit, lit.is_negative())?,
         }
     }
-    Ok(())
+    Ok(false)
 }
 
 /// Frees the variables of the trail.
@@ -83,7 +85,16 @@ fn free_again(units: &mut Units, trail: &mut FreeTrail)
     ensures units { units.new ≡ undone units.old (freed trail.old.items) }
     ensures trail { trail.new.items ≡ [] }
 {
-    while let Some(lit) = trail.pop() {
+    free_all(units, trail.as_slice());
+    trail.clear();
+}
+
+/// Takes the values of the literals' variables away, in any order.
+fn free_all(units: &mut Units, lits: &[Lit])
+    requires { IsTrailFor units.old (freed lits.now) }
+    ensures { units.new ≡ undone units.old (freed lits.now) }
+{
+    for lit in lits {
         units.free(lit.index());
     }
 }
@@ -116,6 +127,7 @@ fn propagate_clause(
 }
 
 /// Visits the clauses in turn, and answers whether one is falsified.
+#[inline(always)]
 fn propagate_bucket(
     units: &mut Units,
     trail: &mut FreeTrail,
@@ -244,7 +256,7 @@ fn propagate_buckets(
     Ok(Answer::Failed)
 }
 
-/// The walk with the literals taken as false, whose values stay.
+/// The walk with the literals taken as false, whose values stay. A true literal ends it before.
 fn propagate_negated(
     units: &mut Units,
     run: &mut FreePropagation,
@@ -256,20 +268,20 @@ fn propagate_negated(
     requires within { AreWithin buffer.now buckets.now }
     requires known { AreKnown units.old lits.now }
     requires all_known { AreAllKnown units.old buffer.now buckets.now }
-    requires free { some_true_unit (stored_units units.old) lits.now ≡ false }
     requires no_tautology { is_tautology lits.now ≡ false }
     requires trail { IsTrailFor units.old (freed run.old.trail.items) }
     ensures answer { let named = named_buckets buffer.now buckets.now hashes.now in
-        IfOk result (λ a. check_answer a
-        ≡ rules.walk_buckets (start_set (stored_units units.old) lits.now) named) }
+        IfOk result (λ a. check_answer a ≡ clause_answer (stored_units units.old) lits.now named) }
     ensures undoable { IsUndoable units.old (freed run.old.trail.items)
         units.new (freed run.new.trail.items) }
 {
-    assume_free(units, &mut run.trail, lits)?;
+    if assume_free(units, &mut run.trail, lits)? {
+        return Ok(Answer::Passed);
+    }
     propagate_buckets(units, run, buckets, buffer, hashes)
 }
 
-/// The check of a clause without a true literal, not traced.
+/// The check of a clause, not traced.
 pub fn check_untraced(
     units: &mut Units,
     run: &mut FreePropagation,
@@ -281,12 +293,10 @@ pub fn check_untraced(
     requires within { AreWithin buffer.now buckets.now }
     requires known { AreKnown units.old lits.now }
     requires all_known { AreAllKnown units.old buffer.now buckets.now }
-    requires free { some_true_unit (stored_units units.old) lits.now ≡ false }
     requires no_tautology { is_tautology lits.now ≡ false }
     requires trail { run.old.trail.items ≡ [] }
     ensures answer { let named = named_buckets buffer.now buckets.now hashes.now in
-        IfOk result (λ a. check_answer a
-        ≡ rules.walk_buckets (start_set (stored_units units.old) lits.now) named) }
+        IfOk result (λ a. check_answer a ≡ clause_answer (stored_units units.old) lits.now named) }
     ensures units { units.new ≡ units.old }
     ensures trail { run.new.trail.items ≡ [] }
 {

@@ -1,5 +1,5 @@
-//! The walk over the named clauses.
-ghost use Rattle.std.specs.Prelude.{◌≡◌, ◌∷◌, [], All, IfOk, IsTrue, None, Some, false, length, map};
+//! The walk over the named clauses that lists what it uses.
+ghost use Rattle.std.specs.Prelude.{◌≡◌, ◌∷◌, [], All, IfOk, None, Some, false, length, map};
 ghost use Rattle.checker_rules.specs.Passes as rules;
 ghost use Rattle.clause_store.specs.Buckets.{AreWithin};
 ghost use Rattle.clause_store.specs.Idle.{AreIdle, IsIdleRun, LengthensRun, idle_at};
@@ -17,6 +17,7 @@ use crate::rup::Answer;
 use crate::rup::idle::LONG_BUCKET;
 use crate::rup::propagation::Propagation;
 use crate::rup::status::{ClauseStatus, clause_status};
+use crate::rup::trace::list_units;
 use crate::rup::trail::overwrite;
 use proof_bytes::hash::ClauseHash;
 use sat_formula::lit::Lit;
@@ -33,20 +34,19 @@ pub fn visit_clause(
     requires known { AreKnown units.old (lits_of clause.now.lits buffer.now) }
     requires trail { IsTrailFor units.old run.old.trail.items }
     ensures ok { IfOk result (Walks units.old (lits_in buffer.now (clause.now ∷ [])) units.new) }
-    ensures listed { IsTrue run.old.traced → IfOk result (Lists run.old.trace.items units.old
+    ensures listed { IfOk result (Lists run.old.trace.items units.old
         (stored_of buffer.now clause.now ∷ []) run.new.trace.items units.new) }
     ensures lengthens { IfOk result (λ falsified. falsified ≡ false →
         LengthensRun units.old run.old units.new run.new) }
     ensures undoable { IsUndoable units.old run.old.trail.items units.new run.new.trail.items }
-    ensures traced { run.new.traced ≡ run.old.traced }
     ensures idle { run.new.idle ≡ run.old.idle }
 {
     let lits = clause.lits.slice(buffer);
     let status = clause_status(units, lits);
-    run.list_units(units, lits)?;
+    list_units(units, &mut run.trail, &mut run.trace, lits)?;
     match status {
         ClauseStatus::Falsified => {
-            run.list_clause(clause.id)?;
+            run.trace.push(clause.id)?;
             Ok(true)
         }
         ClauseStatus::Unit(lit) => {
@@ -54,7 +54,7 @@ pub fn visit_clause(
                 id: UnitId::TracePos(run.trace.len()),
                 value: lit.is_positive(),
             };
-            run.list_clause(clause.id)?;
+            run.trace.push(clause.id)?;
             overwrite(units, &mut run.trail, lit, unit)?;
             Ok(false)
         }
@@ -73,12 +73,11 @@ pub fn visit_bucket(
     requires known { All (λ c. AreKnown units.old (lits_of c.lits buffer.now)) bucket.now }
     requires trail { IsTrailFor units.old run.old.trail.items }
     ensures ok { IfOk result (Walks units.old (lits_in buffer.now bucket.now) units.new) }
-    ensures listed { IsTrue run.old.traced → IfOk result (Lists run.old.trace.items units.old
+    ensures listed { IfOk result (Lists run.old.trace.items units.old
         (map (stored_of buffer.now) bucket.now) run.new.trace.items units.new) }
     ensures lengthens { IfOk result (λ falsified. falsified ≡ false →
         LengthensRun units.old run.old units.new run.new) }
     ensures undoable { IsUndoable units.old run.old.trail.items units.new run.new.trail.items }
-    ensures traced { run.new.traced ≡ run.old.traced }
     ensures idle { run.new.idle ≡ run.old.idle }
 {
     for clause in bucket {
@@ -101,18 +100,15 @@ fn visit_named(
     requires known { AreAllKnown units.old buffer.now buckets.now }
     requires trail { IsTrailFor units.old run.old.trail.items }
     requires idle { AreIdle (idle_at run.old.idle) (length run.old.trail.items)
-        (λ h. IsIdleRun run.old.traced run.old.trace.items units.old
-        (stored_in buffer.now buckets.now h)) }
+        (λ h. IsIdleRun run.old.trace.items units.old (stored_in buffer.now buckets.now h)) }
     ensures ok { let bucket = lits_at buffer.now buckets.now hash in
         IfOk result (WalksFirst units.old bucket units.new) }
-    ensures listed { IsTrue run.old.traced → IfOk result (ListsFirst run.old.trace.items units.old
+    ensures listed { IfOk result (ListsFirst run.old.trace.items units.old
         (stored_in buffer.now buckets.now hash) run.new.trace.items units.new) }
     ensures idle { IfOk result (λ end. end ≡ None →
         AreIdle (idle_at run.new.idle) (length run.new.trail.items)
-        (λ h. IsIdleRun run.new.traced run.new.trace.items units.new
-        (stored_in buffer.now buckets.now h))) }
+        (λ h. IsIdleRun run.new.trace.items units.new (stored_in buffer.now buckets.now h))) }
     ensures undoable { IsUndoable units.old run.old.trail.items units.new run.new.trail.items }
-    ensures traced { run.new.traced ≡ run.old.traced }
 {
     let Some(bucket) = buckets.get(&hash) else {
         return Ok(Some(Answer::NoClauseForHash));
@@ -150,10 +146,9 @@ pub fn walk_buckets(
     ensures ok { let named = named_buckets buffer.now buckets.now hashes.now in
         IfOk result (λ a. check_answer a ≡ rules.walk_buckets (true_lits units.old) named) }
     ensures listed { let named = named_clauses buffer.now buckets.now hashes.now in
-        IsTrue run.old.traced → IfOk result (λ a. a ≡ Answer.Passed →
+        IfOk result (λ a. a ≡ Answer.Passed →
         ids_after run.old.trace.items units.old named ≡ Some run.new.trace.items) }
     ensures undoable { IsUndoable units.old run.old.trail.items units.new run.new.trail.items }
-    ensures traced { run.new.traced ≡ run.old.traced }
 {
     run.idle.forget();
     for hash in hashes {

@@ -1,6 +1,6 @@
-use Rattle.std.proofs.Common.{length, refl, sym, subst}
+use Rattle.std.proofs.Common.{◌∙◌, length, refl, sym, subst}
 use Rattle.clause_store.specs.Trace.{KeepsStored}
-use Rattle.clause_store.proofs.AssumeLemmas.{assume-all, assume-step, known-at, unlisted-all, unlisted-step}
+use Rattle.clause_store.proofs.AssumeLemmas.{assume-all, assume-step, known-at, start_set-free, unlisted-all, unlisted-step}
 use Rattle.clause_store.proofs.TraceLemmas.{keeps-set, keeps-then}
 use Rattle.clause_store.proofs.TrailLemmas.{is_undoable_then}
 use Rattle.clause_store.proofs.rup.trail.assume_false.Goals as goal
@@ -15,7 +15,8 @@ loop-lit-preserved c =
     let known = known-at c.args.lits.now c.loop-lit.lit-index m (length us) (rw c.loop-lit.invariant.undoable.known c.requires.known) c.loop-lit-test.true c.lit-item.is in
     record {
       same = assume-step us _ _ c.args.lits.now c.loop-lit.lit-index m _ c.loop-lit-test.true c.lit-item.is known c.is_negative.ensures
-          written c.requires.free c.requires.no_tautology c.loop-lit.invariant.same;
+          written (c.loop-lit.invariant.same m ∙ start_set-free _ c.args.lits.now c.loop-lit.lit-index m c.loop-lit-test.true c.lit-item.is c.requires.free c.requires.no_tautology)
+          c.loop-lit.invariant.same;
       unlisted = unlisted-step us _ _ c.args.lits.now c.loop-lit.lit-index m _ c.loop-lit-test.true c.lit-item.is known refl written c.loop-lit.invariant.unlisted;
       kept = keeps-then _ us _ c.loop-lit.invariant.kept (subst (KeepsStored us) (sym written) (keeps-set us _ _ known refl));
       undoable = is_undoable_then _ _ _ _ _ _ c.loop-lit.invariant.undoable c.overwrite.ensures.undoable;

@@ -1,4 +1,4 @@
-use Rattle.std.proofs.Common.{◌≡◌, List, ◌++◌, drop, map, IsTrue}
+use Rattle.std.proofs.Common.{◌≡◌, List, ◌++◌, drop, map}
 use Rattle.checker_rules.specs.Passes.{walk}
 use Rattle.checker_rules.specs.State.{Stored}
 use Rattle.clause_store.specs.Idle.{LengthensRun}
@@ -11,11 +11,10 @@ use Rattle.clause_store.proofs.rup.walk.visit_bucket.Given as goal
 abbrev pub invariant-loop-clause : goal.invariant-loop-clause
 invariant-loop-clause l = record {
   same : walk (true_lits l.units) (lits_in l.buffer (drop l.clause-index l.bucket)) ≡ walk (true_lits l.initial.units) (lits_in l.buffer l.bucket);
-  listed : IsTrue l.initial.run.traced → (rest : List Stored) →
+  listed : (rest : List Stored) →
       ids_after l.run.trace.items l.units (map (stored_of l.buffer) (drop l.clause-index l.bucket) ++ rest) ≡
       ids_after l.initial.run.trace.items l.initial.units (map (stored_of l.buffer) l.bucket ++ rest);
   lengthens : LengthensRun l.initial.units l.initial.run l.units l.run;
   undoable : IsUndoable l.initial.units l.initial.run.trail.items l.units l.run.trail.items;
-  traced : l.run.traced ≡ l.initial.run.traced;
   idle : l.run.idle ≡ l.initial.run.idle;
 }

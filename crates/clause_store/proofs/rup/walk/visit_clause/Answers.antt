@@ -13,12 +13,12 @@ overwrite-requires-clause-known c =
     let status = c.in-Unit.ensures ∙ ap (status_of (true_lits c.args.units.now)) c.slice-lits.ensures in
     unit-known c.args.units.now _ c.in-Unit.lit _ (rw c.list_units.ensures.undoable.known c.requires.known) status
 
-pub returns-in_ok-list_clause-in-Falsified-clause-listed : goal.returns-in_ok-list_clause-in-Falsified-clause-listed
-returns-in_ok-list_clause-in-Falsified-clause-listed c = λ traced.
+pub returns-in_ok-push-in-Falsified-clause-listed : goal.returns-in_ok-push-in-Falsified-clause-listed
+returns-in_ok-push-in-Falsified-clause-listed c =
     let e = stored_of c.args.buffer.now c.args.clause.now in
     let seen = is_looked _ _ c.args.units.now c.list_units.new.units e _ _ c.slice-lits.ensures c.in-Falsified.ensures
-    (c.in_ok-list_units.ensures.listed traced) c.list_units.ensures.kept c.list_units.ensures.true_lits in
-    lists-falsified _ _ _ _ _ e seen (c.in_ok-list_clause-in-Falsified.ensures.listed (c.list_units.ensures.traced ∙ traced))
+    c.in_ok-list_units.ensures.listed c.list_units.ensures.kept c.list_units.ensures.true_lits in
+    lists-falsified _ _ _ _ _ e seen c.in_ok-push-in-Falsified.ensures.items
 
 pub returns-in_ok-overwrite-in-Unit-clause-ok : goal.returns-in_ok-overwrite-in-Unit-clause-ok
 returns-in_ok-overwrite-in-Unit-clause-ok c =
@@ -29,27 +29,26 @@ returns-in_ok-overwrite-in-Unit-clause-ok c =
     c.is_positive.ensures c.in_ok-overwrite-in-Unit.ensures.ok)
 
 pub returns-in_ok-overwrite-in-Unit-clause-listed : goal.returns-in_ok-overwrite-in-Unit-clause-listed
-returns-in_ok-overwrite-in-Unit-clause-listed c = λ traced.
+returns-in_ok-overwrite-in-Unit-clause-listed c =
     let e = stored_of c.args.buffer.now c.args.clause.now in
     let status = c.in-Unit.ensures ∙ ap (status_of (true_lits c.args.units.now)) c.slice-lits.ensures in
     let known : AreKnown c.list_units.new.units (lits_of c.args.clause.now.lits c.args.buffer.now) = rw c.list_units.ensures.undoable.known c.requires.known in
     let seen = is_looked _ _ c.args.units.now c.list_units.new.units e _ _ c.slice-lits.ensures c.in-Unit.ensures
-    (c.in_ok-list_units.ensures.listed traced) c.list_units.ensures.kept c.list_units.ensures.true_lits in
+    c.in_ok-list_units.ensures.listed c.list_units.ensures.kept c.list_units.ensures.true_lits in
     let added = unit-added c.args.units.now c.list_units.new.units _ _ c.in-Unit.lit _ known status c.list_units.ensures.true_lits c.is_positive.ensures c.in_ok-overwrite-in-Unit.ensures.ok in
-    lists-unit _ _ _ _ _ _ e c.in-Unit.lit _ known seen (c.in_ok-list_clause-in-Unit.ensures.listed (c.list_units.ensures.traced ∙ traced)) refl added c.in_ok-overwrite-in-Unit.ensures.ok
+    lists-unit _ _ _ _ _ _ e c.in-Unit.lit _ known seen c.in_ok-push-in-Unit.ensures.items refl added c.in_ok-overwrite-in-Unit.ensures.ok
 
 pub returns-in-Idle-clause-listed : goal.returns-in-Idle-clause-listed
-returns-in-Idle-clause-listed c = λ traced.
+returns-in-Idle-clause-listed c =
     let e = stored_of c.args.buffer.now c.args.clause.now in
     lists-idle _ _ _ _ e (is_looked _ _ c.args.units.now c.list_units.new.units e _ _ c.slice-lits.ensures c.in-Idle.ensures
-    (c.in_ok-list_units.ensures.listed traced) c.list_units.ensures.kept c.list_units.ensures.true_lits)
+    c.in_ok-list_units.ensures.listed c.list_units.ensures.kept c.list_units.ensures.true_lits)
 
 pub clause_status-status-requires : goal.clause_status-status-requires
 clause_status-status-requires c = rw c.slice-lits.ensures c.requires.known
 
 pub returns-in_ok-overwrite-in-Unit-clause-lengthens : goal.returns-in_ok-overwrite-in-Unit-clause-lengthens
 returns-in_ok-overwrite-in-Unit-clause-lengthens c = λ _.
-    let listed = c.in_ok-list_units.ensures.lengthens in
-    let same : length c.list_clause-in-Unit.new.self.trail.items ≡ length c.list_units.new.self.trail.items = cc (c.list_clause-in-Unit.ensures.trail) in
-    let longer = c.in_ok-overwrite-in-Unit.ensures.longer ∙ ap (λ (n : ℕ). n + 1) same in
-    record { units = lengthens_then_longer _ _ _ _ _ _ listed.units longer; ids = lengthens_then_longer _ _ _ _ _ _ listed.ids longer }
+    let listed = c.in_ok-list_units.ensures in
+    let longer = c.in_ok-overwrite-in-Unit.ensures.longer in
+    record { units = lengthens_then_longer _ _ _ _ _ _ listed.lengthens longer; ids = lengthens_then_longer _ _ _ _ _ _ listed.lengthens_ids longer }

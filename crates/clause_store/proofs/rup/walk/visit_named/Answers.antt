@@ -20,7 +20,7 @@ visit_bucket-requires-clause-known c =
 pub returns-else-is_long-2-clause-idle : goal.returns-else-is_long-2-clause-idle
 returns-else-is_long-2-clause-idle c = λ _.
     are_idle-walked c.args.units.now c.visit_bucket.new.units c.args.run.now c.visit_bucket.new.run c.args.buffer.now c.args.buckets.now
-    (c.in_ok-visit_bucket.ensures.lengthens c.if-branch.false) c.visit_bucket.ensures.idle c.visit_bucket.ensures.traced c.requires.idle
+    (c.in_ok-visit_bucket.ensures.lengthens c.if-branch.false) c.visit_bucket.ensures.idle c.requires.idle
 
 pub returns-then-len-given-clause-idle : goal.returns-then-len-given-clause-idle
 returns-then-len-given-clause-idle c = λ _.
@@ -28,9 +28,9 @@ returns-then-len-given-clause-idle c = λ _.
     let lengthens = c.in_ok-visit_bucket.ensures.lengthens c.if-branch.false in
     let found = clauses_at-found buckets c.args.hash _ _ c.in-Some.ensures.value c.as_slice-clauses.ensures in
     let walked = is_idle_since-walked c.args.units.now vs c.args.run.now now c.as_slice-clauses.result.now buffer buckets c.args.hash _ found lengthens
-    c.visit_bucket.ensures.traced c.if-branch.false c.in_ok-visit_bucket.ensures.ok c.in_ok-visit_bucket.ensures.listed in
-    let here = subst (λ (n : ℕ). IsIdleSince n (length now.trail.items) (IsIdleRun now.traced now.trace.items vs (stored_in buffer buckets c.args.hash)))
+    c.if-branch.false c.in_ok-visit_bucket.ensures.ok c.in_ok-visit_bucket.ensures.listed in
+    let here = subst (λ (n : ℕ). IsIdleSince n (length now.trail.items) (IsIdleRun now.trace.items vs (stored_in buffer buckets c.args.hash)))
     (sym (c.len-given.ensures ∙ c.args.run.now.trail.ok.0)) walked in
     are_idle-noted c.add-refused.result (idle_at now.idle) (idle_at c.add-refused.new.self) c.len-given.result (length now.trail.items) c.args.hash
-    (λ h. IsIdleRun now.traced now.trace.items vs (stored_in buffer buckets h)) c.add-refused.ensures.ok c.add-refused.ensures.err here
-    (are_idle-walked c.args.units.now vs c.args.run.now now buffer buckets lengthens c.visit_bucket.ensures.idle c.visit_bucket.ensures.traced c.requires.idle)
+    (λ h. IsIdleRun now.trace.items vs (stored_in buffer buckets h)) c.add-refused.ensures.ok c.add-refused.ensures.err here
+    (are_idle-walked c.args.units.now vs c.args.run.now now buffer buckets lengthens c.visit_bucket.ensures.idle c.requires.idle)

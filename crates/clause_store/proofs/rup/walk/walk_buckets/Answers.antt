@@ -9,19 +9,18 @@ returns-in-Some-clause-ok c =
     c.loop-hash-test.true c.in-Some.is c.in_ok-answer.ensures.ok c.loop-hash.invariant.same
 
 pub returns-in-Some-clause-listed : goal.returns-in-Some-clause-listed
-returns-in-Some-clause-listed c = λ traced passed.
+returns-in-Some-clause-listed c = λ passed.
     listed-ended c.args.buffer.now c.args.buckets.now c.loop-hash.run.trace.items c.visit_named.new.run.trace.items c.loop-hash.units c.visit_named.new.units
     c.args.hashes.now c.loop-hash.hash-index _ c.loop-hash-test.true
-    ((c.in_ok-answer.ensures.listed (c.loop-hash.invariant.traced ∙ traced)).passed (c.in-Some.is ∙ ap Some passed)) (c.loop-hash.invariant.listed traced)
+    (c.in_ok-answer.ensures.listed.passed (c.in-Some.is ∙ ap Some passed)) c.loop-hash.invariant.listed
 
 pub loop-hash-preserved : goal.loop-hash-preserved
 loop-hash-preserved c = record {
   same = first-walked c.args.buffer.now c.args.buckets.now c.loop-hash.units c.visit_named.new.units c.args.hashes.now c.loop-hash.hash-index _ _
       c.loop-hash-test.true c.in_default.is c.in_ok-answer.ensures.ok c.loop-hash.invariant.same;
-  listed = λ traced. listed-walked c.args.buffer.now c.args.buckets.now c.loop-hash.run.trace.items c.visit_named.new.run.trace.items c.loop-hash.units
+  listed = listed-walked c.args.buffer.now c.args.buckets.now c.loop-hash.run.trace.items c.visit_named.new.run.trace.items c.loop-hash.units
       c.visit_named.new.units c.args.hashes.now c.loop-hash.hash-index _ c.loop-hash-test.true
-      ((c.in_ok-answer.ensures.listed (c.loop-hash.invariant.traced ∙ traced)).goes_on c.in_default.is) (c.loop-hash.invariant.listed traced);
+      (c.in_ok-answer.ensures.listed.goes_on c.in_default.is) c.loop-hash.invariant.listed;
   idle = c.in_ok-answer.ensures.idle c.in_default.is;
   undoable = is_undoable_then _ _ _ _ _ _ c.loop-hash.invariant.undoable c.visit_named.ensures.undoable;
-  traced = c.visit_named.ensures.traced ∙ c.loop-hash.invariant.traced;
 }
