@@ -56,6 +56,11 @@ abbrev pub stored_id : Option UnitClause → Option ℕ
 stored_id None = None
 stored_id (Some u) = number_of u.id
 
+-- the value of a literal, by that of its variable
+abbrev pub signed : Option Bool → ℕ → Option Bool
+signed None m = None
+signed (Some b) m = Some (same_bool b (not (is_negative m)))
+
 -- the value of a literal, where its variable has this one
 abbrev pub value_by : Option UnitClause → ℕ → Option Bool
 value_by None m = None

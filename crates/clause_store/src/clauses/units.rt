@@ -27,11 +27,13 @@ pub struct UnitClause {
 }
 
 /// Whether a variable has a value, in one byte.
-#[derive(Clone, Copy)]
+///
+/// The first two stand in the order of `bool`, so that one comparison tells whether a value makes a literal false.
+#[derive(Clone, Copy, PartialEq, Eq)]
 enum Value {
-    Free,
     False,
     True,
+    Free,
 }
 
 impl Value {
@@ -48,6 +50,20 @@ impl Value {
             Value::Free => None,
             Value::False => Some(false),
             Value::True => Some(true),
+        }
+    }
+
+    /// The value of a literal whose variable has this one. A false literal, as most are that a check looks at, is told first.
+    #[inline(always)]
+    fn of_lit(self, lit: Lit) -> Option<bool>
+        ensures { result ≡ spec.signed (spec.known self) lit }
+    {
+        if self == Value::of(lit.is_negative()) {
+            Some(false)
+        } else if self == Value::Free {
+            None
+        } else {
+            Some(true)
         }
     }
 }
@@ -198,19 +214,7 @@ impl Units {
         requires { var_of lit < length self.now }
         ensures { result ≡ spec.lit_value self.now lit }
     {
-        match self.known_value(lit.index()) {
-            Some(value) => Some(value == lit.is_positive()),
-            None => None,
-        }
-    }
-
-    /// The value of a known variable.
-    #[inline]
-    fn known_value(&self, index: usize) -> Option<bool>
-        requires { index < length self.now }
-        ensures { result ≡ option_map (λ u. u.value) (unit_at self.now index) }
-    {
-        self.values[index].known()
+        self.values[lit.index()].of_lit(lit)
     }
 
     fn is_true(&self, lit: Lit) -> bool

@@ -100,6 +100,7 @@ fn free_all(units: &mut Units, lits: &[Lit])
 }
 
 /// Makes the literal true that alone is free. Answers whether the clause is falsified.
+#[inline(always)]
 fn propagate_clause(
     units: &mut Units,
     trail: &mut FreeTrail,
