@@ -1,11 +1,12 @@
 -- The step of a failed core, part by part.
-use Rattle.std.proofs.Common.{◌≡◌, ℕ, ◌+◌, ◌-◌, ◌%◌, ◌<◌, Bool, true, false, cond, not, eqb, ltb, List, [], ◌∷◌, map, Option, None, Some, is_none, refl, sym, ap, ◌∙◌, subst, arith}
+use Rattle.std.proofs.Common.{◌≡◌, ℕ, ◌<◌, Bool, true, false, cond, not, eqb, ltb, List, [], ◌∷◌, map, Option, None, Some, is_none, refl, sym, ap, ◌∙◌, subst, arith}
 use Rattle.std.specs.List.{list_any, list_all}
-use Rattle.std.proofs.lemmas.Bool.{and_parts, both_ways, eq-eqb, eqb-false, eqb-true, false_from_ne_true, lt-ltb, ltb-true, or_left, or_right}
+use Rattle.std.proofs.lemmas.Bool.Decides.{nat_tests}
+use Rattle.std.proofs.lemmas.Bool.{and_parts, both_ways, eq-eqb, false_from_ne_true, lt-ltb, ltb-true, or_left, or_right}
 use Rattle.checker_rules.specs.Canonical.{canonical, insert_lit, is_subset}
 use Rattle.checker_rules.specs.Check.{check, ready}
-use Rattle.checker_rules.specs.CheckedSteps.{checked_failed_assumptions, named_in}
-use Rattle.checker_rules.specs.Clauses.{has, is_canonical, is_negative, is_tautology, negate, var_of}
+use Rattle.checker_rules.specs.CheckedSteps.{NamedStep, checked_failed_assumptions, named_in}
+use Rattle.checker_rules.specs.Clauses.{has, is_canonical, is_tautology, negate, var_of}
 use Rattle.checker_rules.specs.KnownVars.{user_from_proof_var}
 use Rattle.checker_rules.specs.Outcome.{Cause, Outcome, accept, core_var_hidden, not_assumed, refuse}
 use Rattle.checker_rules.specs.State.{State}
@@ -20,26 +21,8 @@ use Rattle.checker_steps.specs.FailedCore.{core_cause, core_clause, core_steps}
 use Rattle.checker_steps.proofs.DerivedLemmas.{check-after}
 
 -- negations keep the order of literals of different variables
-odd-odd : (l m : ℕ) → l % 2 ≡ 1 → l < m → l - 1 < m - 1
-odd-odd l m e h = omega arith
-
-even-odd : (l m : ℕ) → (l % 2 ≡ 1 → ⊥) → m % 2 ≡ 1 → l < m → (m ≡ l + 1 → ⊥) → l + 1 < m - 1
-even-odd l m e f h apart = omega (arith, e, apart)
-
 negate-below : (l m : ℕ) → l < m → (m ≡ negate l → ⊥) → negate l < negate m
-negate-below l m h apart = by (is_negative l) refl (is_negative m) refl
-  where
-    negated : (k : ℕ) (b : Bool) → is_negative k ≡ b → negate k ≡ cond b (k - 1) (k + 1)
-    negated k b e = ap (λ (x : Bool). cond x (k - 1) (k + 1)) e
-
-    less : (i j : ℕ) → negate l ≡ i → negate m ≡ j → i < j → negate l < negate m
-    less i j e f k = subst (λ x. x < negate m) (sym e) (subst (λ x. i < x) (sym f) k)
-
-    by : (b : Bool) → is_negative l ≡ b → (d : Bool) → is_negative m ≡ d → negate l < negate m
-    by true e true f = less (l - 1) (m - 1) (negated l true e) (negated m true f) (odd-odd l m (eqb-true (l % 2) 1 e) h)
-    by true e false f = less (l - 1) (m + 1) (negated l true e) (negated m false f) (omega arith)
-    by false e true f = less (l + 1) (m - 1) (negated l false e) (negated m true f) (even-odd l m (eqb-false (l % 2) 1 e) (eqb-true (m % 2) 1 f) h (λ k. apart (k ∙ sym (negated l false e))))
-    by false e false f = less (l + 1) (m + 1) (negated l false e) (negated m false f) (omega arith)
+negate-below l m h apart = grind (arith, nat_tests, h, apart)
 
 apart-tail : (l : ℕ) (c : List ℕ) → is_tautology (l ∷ c) ≡ false → is_tautology c ≡ false
 apart-tail l c h = false_from_ne_true _ (λ t.
@@ -74,67 +57,57 @@ by_cause None s o = o
 by_cause (Some cause) s o = refuse cause s
 
 choose : (b d : Bool) (x y : Cause) (s : State) (o : Outcome) → cond b (refuse x s) (cond d (refuse y s) o) ≡ by_cause (cond b (Some x) (cond d (Some y) None)) s o
-choose true d x y s o = refl
-choose false true x y s o = refl
-choose false false x y s o = refl
+choose b d x y s o = grind arith
+
+-- the outcome of a core that is allowed
+abbrev ended_by : Bool → State → (c hs : List ℕ) → Outcome
+ended_by opposite s c hs = cond opposite (accept s) (check s (core_clause c) hs accept)
+
+-- a core that was checked, with the names of t
+abbrev core_shown : State → State → (c hs : List ℕ) → List NamedStep
+core_shown t s c hs = named_in t (checked_failed_assumptions c (check_trace (ready s (core_clause c)) (core_clause c) hs)) ∷ []
 
 -- c is the canonical list of the core
 module _ (s : State) (ls hs c : List ℕ) (list : c ≡ canonical ls) where
-  core-by : step s (failed_assumptions ls hs) ≡ by_cause (core_cause s c) s (cond (is_tautology c) (accept s) (check s (core_clause c) hs accept))
-  core-by =
+  core-by : (cause : Option Cause) → core_cause s c ≡ cause → step s (failed_assumptions ls hs) ≡ by_cause cause s (ended_by (is_tautology c) s c hs)
+  core-by cause e =
       step-failed_assumptions s ls hs
       ∙ ap (λ (x : List ℕ). cond (not (is_subset x s.assumed)) (refuse not_assumed s)
-      (cond (list_any (λ l. is_none (user_from_proof_var s (var_of l))) x) (refuse core_var_hidden s)
-      (cond (is_tautology x) (accept s) (check s (core_clause x) hs accept)))) (sym list)
-      ∙ choose (not (is_subset c s.assumed)) (list_any (λ l. is_none (user_from_proof_var s (var_of l))) c) not_assumed core_var_hidden s
-      (cond (is_tautology c) (accept s) (check s (core_clause c) hs accept))
+      (cond (list_any (λ l. is_none (user_from_proof_var s (var_of l))) x) (refuse core_var_hidden s) (ended_by (is_tautology x) s x hs))) (sym list)
+      ∙ choose (not (is_subset c s.assumed)) (list_any (λ l. is_none (user_from_proof_var s (var_of l))) c) _ _ s _
+      ∙ ap (λ (x : Option Cause). by_cause x s (ended_by (is_tautology c) s c hs)) e
 
   -- it is refused before its check
   pub core-refused : (cause : Cause) → core_cause s c ≡ Some cause → step s (failed_assumptions ls hs) ≡ refuse cause s
-  core-refused cause e = core-by ∙ ap (λ (x : Option Cause). by_cause x s (cond (is_tautology c) (accept s) (check s (core_clause c) hs accept))) e
+  core-refused cause e = core-by (Some cause) e
 
   module _ (allowed : core_cause s c ≡ None) where
-    core-allowed : step s (failed_assumptions ls hs) ≡ cond (is_tautology c) (accept s) (check s (core_clause c) hs accept)
-    core-allowed = core-by ∙ ap (λ (x : Option Cause). by_cause x s (cond (is_tautology c) (accept s) (check s (core_clause c) hs accept))) allowed
+    core-ended : (opposite : Bool) → is_tautology c ≡ opposite → step s (failed_assumptions ls hs) ≡ ended_by opposite s c hs
+    core-ended opposite e = core-by None allowed ∙ ap (λ b. ended_by b s c hs) e
 
     -- it has opposite literals
     pub core-opposites : is_tautology c ≡ true → step s (failed_assumptions ls hs) ≡ accept s
-    core-opposites e = core-allowed ∙ ap (λ b. cond b (accept s) (check s (core_clause c) hs accept)) e
+    core-opposites e = core-ended true e
 
     -- it has none
     pub core-checked : is_tautology c ≡ false → step s (failed_assumptions ls hs) ≡ check s (core_clause c) hs accept
-    core-checked e = core-allowed ∙ ap (λ b. cond b (accept s) (check s (core_clause c) hs accept)) e
+    core-checked e = core-ended false e
 
     pub core-opposites-steps : is_tautology c ≡ true → named_in s (checked_failed_assumptions c []) ∷ [] ≡ traced s (failed_assumptions ls hs)
-    core-opposites-steps e =
-        let r = ready s (core_clause c) in
-        sym (ap (λ b. cond b (named_in s (checked_failed_assumptions c []) ∷ []) (named_in r (checked_failed_assumptions c (check_trace r (core_clause c) hs)) ∷ [])) e)
-        ∙ ap (λ (x : List ℕ). traced_core s x hs) list
-        ∙ sym (ap (λ (x : Option Cause). traced_when x s (failed_assumptions ls hs)) (ap (λ (o : Outcome). o.refused) (core-opposites e)))
+    core-opposites-steps e = rw (core-opposites e, ← list, e)
 
-    same-when : is_tautology c ≡ false → (x : Option Cause) → steps_unless x (traced_core s c hs) ≡ traced_when x s (failed_assumptions ls hs)
-    same-when e None = ap (λ (x : List ℕ). traced_core s x hs) list
+    same-when : is_tautology c ≡ false → (x : Option Cause) → steps_unless x (core_shown (ready s (core_clause c)) s c hs) ≡ traced_when x s (failed_assumptions ls hs)
+    same-when e None = rw (← list, e)
     same-when e (Some cause) = refl
 
     pub core-traced : is_tautology c ≡ false → core_steps s c hs ≡ traced s (failed_assumptions ls hs)
-    core-traced e =
-        let refused = (check s (core_clause c) hs accept).refused in
-        let r = ready s (core_clause c) in
-        sym (ap (λ b. steps_unless refused (cond b (named_in s (checked_failed_assumptions c []) ∷ []) (named_in r (checked_failed_assumptions c (check_trace r (core_clause c) hs)) ∷ []))) e)
-        ∙ same-when e refused
-        ∙ ap (λ (x : Option Cause). traced_when x s (failed_assumptions ls hs)) (sym (ap (λ (o : Outcome). o.refused) (core-checked e)))
+    core-traced e = rw (core-checked e) (same-when e (check s (core_clause c) hs accept).refused)
 
 -- the check refuses
 pub core-unchecked : (s : State) (c hs : List ℕ) (cause : Cause) → (check s (core_clause c) hs accept).refused ≡ Some cause → [] ≡ core_steps s c hs
-core-unchecked s c hs cause e =
-    let r = ready s (core_clause c) in
-    sym (ap (λ (x : Option Cause). steps_unless x (named_in r (checked_failed_assumptions c (check_trace r (core_clause c) hs)) ∷ [])) e)
+core-unchecked s c hs cause e = rw e
 
 -- the check passes, and leaves t
 pub core-told : (s t : State) (c hs : List ℕ) → ((check s (core_clause c) hs accept).refused ≡ None) × (t ≡ (check s (core_clause c) hs accept).after)
     → named_in t (checked_failed_assumptions c (check_trace (ready s (core_clause c)) (core_clause c) hs)) ∷ [] ≡ core_steps s c hs
-core-told s t c hs h =
-    let r = ready s (core_clause c) in
-    let step = checked_failed_assumptions c (check_trace r (core_clause c) hs) in
-    ap (λ (u : State). named_in u step ∷ []) (h.1 ∙ check-after s (core_clause c) hs)
-    ∙ sym (ap (λ (x : Option Cause). steps_unless x (named_in r step ∷ [])) h.0)
+core-told s t c hs h = rw h.0 (ap (λ u. core_shown u s c hs) (h.1 ∙ check-after s (core_clause c) hs))

@@ -1,5 +1,5 @@
 -- What a call delivers on, put together from the steps that it delivers on.
-use Rattle.std.proofs.Common.{◌≡◌, List, [], ◌∷◌, ◌++◌, Some, Result, Ok, Err, OnOk, IfErr, sym, subst, append_assoc, inr}
+use Rattle.std.proofs.Common.{arith, ◌≡◌, List, [], ◌∷◌, ◌++◌, Some, Result, Ok, Err, OnOk, IfErr, sym, subst, append_assoc, inr}
 use Rattle.checker_rules.specs.CheckedSteps.{NamedStep}
 use Rattle.checker_rules.specs.Ran.{AllTook, OneFaulted}
 use Rattle.checker_rules.specs.Transcript.{TranscriptStep, image}
@@ -15,15 +15,11 @@ pub delivers-image : {P T : Type 0} (took faulted : P → NamedStep → P → Ty
     (r : Result Unit StepFault) → OnOk r (AllTook took_image old.transcripts t new.transcripts) →
     IfErr r (λ x. IsFaultOrMemory x (OneFaulted took_image faulted_image old.transcripts t new.transcripts) ⊥) →
     DeliveredStep r e took faulted took_image faulted_image old new
-delivers-image took faulted took_image faulted_image e t old new a i (Ok done) ok err = both_ran_line took took_image e t old.processors new.processors old.transcripts new.transcripts a i ok
-delivers-image took faulted took_image faulted_image e t old new a i (Err Processor) ok err = inr (record { processors = a; transcribed = t; is_image = i; transcripts = err })
-delivers-image took faulted took_image faulted_image e t old new a i (Err OutOfMemory) ok err = tt
-delivers-image took faulted took_image faulted_image e t old new a i (Err (Refused cause)) ok err = err
+delivers-image took faulted took_image faulted_image e t old new a i r ok err =
+    grind (arith, i, ok, err, both_ran_line took took_image e t old.processors new.processors old.transcripts new.transcripts a i)
 
 pub fault-weaker : {P Q : Type 0} (R : Type 0) → (P → Q) → (e : StepFault) → IsFaultOrMemory e P R → IsFaultOrMemory e Q R
-fault-weaker R f Processor h = f h
-fault-weaker R f OutOfMemory h = h
-fault-weaker R f (Refused cause) h = h
+fault-weaker R f e h = grind (arith, f, h)
 
 module _ {P T : Type 0} (took faulted : P → NamedStep → P → Type 0) (took_image faulted_image : T → TranscriptStep → T → Type 0) where
   -- nothing is delivered on
@@ -40,19 +36,7 @@ module _ {P T : Type 0} (took faulted : P → NamedStep → P → Type 0) (took_
   pub delivered-one : {A : Type 0} (E : List NamedStep → Type 0) (e : NamedStep) (old new : Listeners P T) (r : Result A StepFault) →
       E (e ∷ []) → DeliveredStep r e took faulted took_image faulted_image old new →
       DeliveredList r E took faulted took_image faulted_image old new
-  delivered-one E e old new (Ok done) h a = (e ∷ [], h, a)
-  delivered-one E e old new (Err Processor) h a = ([], e, [], h, (old.processors, old.transcripts, ran-none old, a))
-  delivered-one E e old new (Err OutOfMemory) h a = tt
-  delivered-one E e old new (Err (Refused cause)) h a = absurd a
-
-  -- the lists of another kind
-  pub delivered-weaker : {A : Type 0} (E F : List NamedStep → Type 0) (old new : Listeners P T) (r : Result A StepFault) →
-      ((es : List NamedStep) → E es → F es) → DeliveredList r E took faulted took_image faulted_image old new →
-      DeliveredList r F took faulted took_image faulted_image old new
-  delivered-weaker E F old new (Ok done) f a = (a.0, f a.0 a.1, a.2)
-  delivered-weaker E F old new (Err (Refused cause)) f a = (a.0, f a.0 a.1, a.2)
-  delivered-weaker E F old new (Err Processor) f a = (a.0, a.1, a.2, f (a.0 ++ a.1 ∷ a.2) a.3, a.4)
-  delivered-weaker E F old new (Err OutOfMemory) f a = tt
+  delivered-one E e old new r h a = grind (arith, h, a, ran-none old)
 
   -- a fault at the first of two parts
   pub beginning-first : (E F : List NamedStep → Type 0) (rest : List NamedStep) (old new : Listeners P T) →
@@ -82,3 +66,9 @@ module _ {P T : Type 0} (took faulted : P → NamedStep → P → Type 0) (took_
   delivered-second E F first old mid new (Err (Refused cause)) a f h = (first ++ h.0, f h.0 h.1, ran-append first h.0 old mid new a h.2)
   delivered-second E F first old mid new (Err Processor) a f h = beginning-second E F first old mid new a f h
   delivered-second E F first old mid new (Err OutOfMemory) a f h = tt
+
+  -- the lists of another kind
+  pub delivered-weaker : {A : Type 0} (E F : List NamedStep → Type 0) (old new : Listeners P T) (r : Result A StepFault) →
+      ((es : List NamedStep) → E es → F es) → DeliveredList r E took faulted took_image faulted_image old new →
+      DeliveredList r F took faulted took_image faulted_image old new
+  delivered-weaker E F old new r f a = delivered-second E F [] old old new r (ran-none old) f a

@@ -2,10 +2,10 @@
 --     all-one, all-fault, all-second      steps delivered on one after the other
 --     delivered-all, answers-delivers, answers-all, unless-stopped      the clauses of a step that ends with them
 --     delivered-refused      the clause of a refusal
-use Rattle.std.proofs.Common.{◌≡◌, List, [], ◌∷◌, ◌++◌, Option, None, Some, Result, Ok, Err, refl, sym, ap, subst}
+use Rattle.std.proofs.Common.{arith, ◌≡◌, List, [], ◌∷◌, ◌++◌, None, Result, Ok, Err, refl, sym, ap, subst}
 use Rattle.checker_rules.specs.CheckedSteps.{NamedStep}
-use Rattle.checker_rules.specs.Emits.{Emits, EmitsBy, EmitsRefused}
-use Rattle.checker_rules.specs.Outcome.{Cause, Outcome}
+use Rattle.checker_rules.specs.Emits.{Emits, EmitsRefused}
+use Rattle.checker_rules.specs.Outcome.{Outcome}
 use Rattle.checker_rules.specs.State.{State}
 use Rattle.checker_rules.specs.Step.{Step}
 use Rattle.checker_rules.specs.Steps.{step}
@@ -16,25 +16,21 @@ use Rattle.checker_parts.specs.declared.error.CheckCause.{CheckCause}
 use Rattle.checker_parts.specs.declared.error.StepFault.{StepFault}
 use Rattle.checker_parts.specs.declared.error.StepFault.TheVariants.{Refused, Processor, OutOfMemory}
 use Rattle.checker_steps.specs.Delivered.{Listeners, DeliveredList, DeliveredStep, DeliveredAll, DeliveredWhole, RanOver}
-use Rattle.checker_steps.proofs.DeliveryLemmas.{beginning-second, ran-append, ran-none}
+use Rattle.checker_steps.proofs.DeliveryLemmas.{beginning-second, ran-append, ran-none, whole-none}
+use Rattle.checker_steps.proofs.EmitLemmas.{emits-refused}
 
 module _ {P T : Type 0} (took faulted : P → NamedStep → P → Type 0) (took_image faulted_image : T → TranscriptStep → T → Type 0) where
-  -- one step
-  pub all-one : {A : Type 0} (e : NamedStep) (old new : Listeners P T) (r : Result A StepFault) →
-      DeliveredStep r e took faulted took_image faulted_image old new →
-      DeliveredAll r (e ∷ []) took faulted took_image faulted_image old new
-  all-one e old new (Ok done) h = h
-  all-one e old new (Err Processor) h = ([], e, [], refl, (old.processors, old.transcripts, ran-none took faulted took_image faulted_image old, h))
-  all-one e old new (Err OutOfMemory) h = tt
-  all-one e old new (Err (Refused cause)) h = h
-
   -- a fault at the first step
   pub all-fault : (e : NamedStep) (es : List NamedStep) (old new : Listeners P T) (x : StepFault) →
       DeliveredStep {A = Unit {0}} (Err x) e took faulted took_image faulted_image old new →
       DeliveredAll {A = Unit {0}} (Err x) (e ∷ es) took faulted took_image faulted_image old new
-  all-fault e es old new Processor h = ([], e, es, refl, (old.processors, old.transcripts, ran-none took faulted took_image faulted_image old, h))
-  all-fault e es old new OutOfMemory h = tt
-  all-fault e es old new (Refused cause) h = h
+  all-fault e es old new x h = grind (arith, h, ran-none took faulted took_image faulted_image old)
+
+  -- one step
+  pub all-one : {A : Type 0} (e : NamedStep) (old new : Listeners P T) (r : Result A StepFault) →
+      DeliveredStep r e took faulted took_image faulted_image old new →
+      DeliveredAll r (e ∷ []) took faulted took_image faulted_image old new
+  all-one e old new r h = grind (arith, h, ran-none took faulted took_image faulted_image old)
 
   -- after some steps, more of them
   pub all-second : {A : Type 0} (first es : List NamedStep) (old mid new : Listeners P T) (r : Result A StepFault) →
@@ -50,42 +46,24 @@ module _ {P T : Type 0} (took faulted : P → NamedStep → P → Type 0) (took_
   pub delivered-all : {A : Type 0} (E : List NamedStep → Type 0) (es : List NamedStep) (old new : Listeners P T)
       (r : Result A StepFault) → E es → DeliveredAll r es took faulted took_image faulted_image old new →
       DeliveredList r E took faulted took_image faulted_image old new
-  delivered-all E es old new (Ok done) h a = (es, h, a)
-  delivered-all E es old new (Err Processor) h a = (a.0, a.1, a.2, subst E (sym a.3) h, a.4)
-  delivered-all E es old new (Err OutOfMemory) h a = tt
-  delivered-all E es old new (Err (Refused cause)) h a = absurd a
+  delivered-all E es old new r h a = grind (arith, h, a)
 
-  -- the answer of a step that is accepted, if its one step is delivered on
-  pub answers-delivers : {A : Type 0} (e : NamedStep) (old new : Listeners P T) (r : Result A StepFault) (o : Outcome) (s : State) →
-      DeliveredStep r e took faulted took_image faulted_image old new → (o.refused ≡ None) × (s ≡ o.after) → AnswersOutcome r o s
-  answers-delivers e old new (Ok done) o s a h = h
-  answers-delivers e old new (Err Processor) o s a h = tt
-  answers-delivers e old new (Err OutOfMemory) o s a h = tt
-  answers-delivers e old new (Err (Refused cause)) o s a h = absurd a
-
-  -- the same where several are delivered on
+  -- the answer of a step that is accepted, if its steps are delivered on
   pub answers-all : {A : Type 0} (es : List NamedStep) (old new : Listeners P T) (r : Result A StepFault) (o : Outcome) (s : State) →
       DeliveredAll r es took faulted took_image faulted_image old new → (o.refused ≡ None) × (s ≡ o.after) → AnswersOutcome r o s
-  answers-all es old new (Ok done) o s a h = h
-  answers-all es old new (Err Processor) o s a h = tt
-  answers-all es old new (Err OutOfMemory) o s a h = tt
-  answers-all es old new (Err (Refused cause)) o s a h = absurd a
+  answers-all es old new r o s a h = grind (arith, a, h)
 
-  -- a refused step delivers on what it emitted before
-  pub whole-refused : (s : State) (t : Step) (cause : Cause) (es : List NamedStep) (old new : Listeners P T) →
-      (step s t).refused ≡ Some cause → EmitsRefused s t es → RanOver took took_image es old new →
-      DeliveredWhole (Emits s t) took took_image old new
-  whole-refused s t cause es old new refused h a = (es, subst (λ (x : Option Cause). EmitsBy x s t es) (sym refused) h, a)
+  -- the same with its one step
+  pub answers-delivers : {A : Type 0} (e : NamedStep) (old new : Listeners P T) (r : Result A StepFault) (o : Outcome) (s : State) →
+      DeliveredStep r e took faulted took_image faulted_image old new → (o.refused ≡ None) × (s ≡ o.after) → AnswersOutcome r o s
+  answers-delivers e old new r o s a h = answers-all (e ∷ []) old new r o s (all-one e old new r a) h
 
   -- a refusal that emitted nothing
   pub delivered-refused : (s u : State) (t : Step) (msg : CheckCause) (old : Listeners P T) →
       AnswersOutcome {A = Unit {0}} (Err (Refused msg)) (step s t) u → EmitsRefused s t [] →
       DeliveredWhole (Emits s t) took took_image old old
-  delivered-refused s u t msg old h k = whole-refused s t (cause_of msg) [] old old h.0 k (ran-none took faulted took_image faulted_image old)
+  delivered-refused s u t msg old h k = whole-none took faulted took_image faulted_image (Emits s t) old (emits-refused s t [] (cause_of msg) h.0 k)
 
 -- what holds anyway holds unless the step gave up
 pub unless-stopped : {A : Type 0} {P : Type 0} (r : Result A StepFault) → P → UnlessStopped r P
-unless-stopped (Ok done) h = h
-unless-stopped (Err (Refused cause)) h = h
-unless-stopped (Err Processor) h = tt
-unless-stopped (Err OutOfMemory) h = tt
+unless-stopped r h = grind (arith, h)

@@ -1,6 +1,7 @@
 pub mod AddClauseLemmas
 pub mod AtClauseLemmas
 pub mod CallAnswers
+pub mod ClauseLemmas
 pub mod CoreLemmas
 pub mod DeleteStepLemmas
 pub mod DeleteVarLemmas
@@ -18,7 +19,6 @@ pub mod MetLemmas
 pub mod ModelLemmas
 pub mod NamingLemmas
 pub mod NewLemmas
-pub mod OutcomeLemmas
 pub mod PassedLemmas
 pub mod QuietLemmas
 pub mod StepAnswers

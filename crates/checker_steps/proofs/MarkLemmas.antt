@@ -1,16 +1,13 @@
 -- Judging the literals of a model one after the other, those before being marked.
-use Rattle.std.proofs.Common.{◌≡◌, ℕ, ◌<◌, Bool, true, false, cond, not, ◌&&◌, ◌||◌, eqb, ltb, List, [], ◌∷◌, Option, None, Some, refl, sym, ap, ◌∙◌, arith}
+use Rattle.std.proofs.Common.{◌≡◌, ℕ, Bool, true, false, cond, not, ◌&&◌, ◌||◌, eqb, List, [], ◌∷◌, Option, None, Some, refl, sym, ap, ◌∙◌, arith}
 use Rattle.std.specs.List.{list_all}
 use Rattle.checker_rules.specs.Clauses.{add_lit, has, negate, var_of}
 use Rattle.checker_rules.specs.KnownVars.{is_known}
-use Rattle.checker_rules.specs.Model.{has_some, is_false_by_unit, model_cause}
+use Rattle.checker_rules.specs.Model.{is_false_by_unit, model_cause}
 use Rattle.checker_rules.specs.Outcome.{Cause, model_against_itself, model_against_unit, model_misses_assumption, model_misses_clause, unknown_var}
 use Rattle.checker_rules.specs.State.{State}
 use Rattle.checker_steps.specs.Marks.{MarksOnly, is_marked}
 use Rattle.checker_steps.specs.ModelCause.{first_cause, has_marked, list_cause, lit_cause, missing_cause}
-
-pub less : (n m : ℕ) → n < m → ltb n m ≡ true
-less n m h = grind (arith, h)
 
 -- one literal
 pub lit-against_unit : (s : State) (f : ℕ → Bool) (l : ℕ) → is_known s (var_of l) ≡ true → is_false_by_unit s.units l ≡ true → lit_cause s f l ≡ Some model_against_unit
@@ -28,49 +25,32 @@ causes_from s f [] = None
 causes_from s f (l ∷ ls) = first_cause (lit_cause s f l) (causes_from s (add_lit l f) ls)
 
 chain : (a b d : Bool) (x y z : Cause) (later : Option Cause) → first_cause (cond a (Some x) (cond b (Some y) (cond d (Some z) None))) later ≡ cond a (Some x) (cond b (Some y) (cond d (Some z) later))
-chain true b d x y z later = refl
-chain false true d x y z later = refl
-chain false false true x y z later = refl
-chain false false false x y z later = refl
+chain a b d x y z later = grind arith
 
 pub causes_from-listed : (s : State) (earlier ls : List ℕ) → causes_from s (λ k. has k earlier) ls ≡ model_cause s earlier ls
 causes_from-listed s earlier [] = refl
-causes_from-listed s earlier (l ∷ ls) =
-    chain (not (is_known s (var_of l))) (is_false_by_unit s.units l) (has (negate l) earlier) unknown_var model_against_unit model_against_itself (causes_from s (λ k. has k (l ∷ earlier)) ls)
-    ∙ ap (λ later. cond (not (is_known s (var_of l))) (Some unknown_var)
-    (cond (is_false_by_unit s.units l) (Some model_against_unit) (cond (has (negate l) earlier) (Some model_against_itself) later)))
-    (causes_from-listed s (l ∷ earlier) ls)
+causes_from-listed s earlier (l ∷ ls) = grind (arith, causes_from-listed s (l ∷ earlier) ls)
 
 pub causes_from-none : (s : State) (f : ℕ → Bool) (ls : List ℕ) → ((k : ℕ) → f k ≡ false) → causes_from s f ls ≡ model_cause s [] ls
-causes_from-none s f ls none = ap (λ g. causes_from s g ls) (same f none) ∙ causes_from-listed s [] ls
-  where
-    same : (f : ℕ → Bool) → ((k : ℕ) → f k ≡ false) → f ≡ (λ k. has k [])
-    same f none = λ i k. none k i
+causes_from-none s f ls none = let same : f ≡ (λ k. has k []) = λ i k. none k i in ap (λ g. causes_from s g ls) same ∙ causes_from-listed s [] ls
 
 -- one literal after those of a set
 pub causes_from-goes : (s : State) (f g : ℕ → Bool) (l : ℕ) (ls : List ℕ) → lit_cause s f l ≡ None → g ≡ add_lit l f → causes_from s g ls ≡ causes_from s f (l ∷ ls)
 causes_from-goes s f g l ls none marked = ap (λ h. causes_from s h ls) marked ∙ sym (ap (λ c. first_cause c (causes_from s (add_lit l f) ls)) none)
 
-pub first-is : (cause : Cause) (found later : Option Cause) → found ≡ Some cause → first_cause found later ≡ Some cause
-first-is cause found later h = ap (λ o. first_cause o later) h
-
 -- a literal that is refused is the first one
 pub cause-first : (cause : Cause) (s : State) (f : ℕ → Bool) (l : ℕ) (ls : List ℕ) (found : Option Cause) → causes_from s f (l ∷ ls) ≡ found → lit_cause s f l ≡ Some cause → found ≡ Some cause
-cause-first cause s f l ls found e h = sym e ∙ first-is cause (lit_cause s f l) (causes_from s (add_lit l f) ls) h
+cause-first cause s f l ls found e h = sym e ∙ ap (λ o. first_cause o (causes_from s (add_lit l f) ls)) h
 
 -- what is marked, and what is still to be
 pub marked-none : (f : ℕ → Bool) (ls : List ℕ) (k : ℕ) → ((k : ℕ) → f k ≡ false) → (f k || has k ls) ≡ has k ls
 marked-none f ls k none = ap (λ b. b || has k ls) (none k)
 
 or-turn : (a m r : Bool) → ((a || m) || r) ≡ (m || (a || r))
-or-turn true true r = refl
-or-turn true false r = refl
-or-turn false true r = refl
-or-turn false false r = refl
+or-turn a m r = grind arith
 
 or-none : (b : Bool) → (b || false) ≡ b
-or-none true = refl
-or-none false = refl
+or-none b = grind arith
 
 pub marked-turn : (f g : ℕ → Bool) (l : ℕ) (ls : List ℕ) (k : ℕ) → g ≡ add_lit l f → (g k || has k ls) ≡ (f k || has k (l ∷ ls))
 marked-turn f g l ls k marked = ap (λ h. h k || has k ls) marked ∙ or-turn (eqb k l) (f k) (has k ls)
@@ -85,32 +65,18 @@ pub judged-whole : (s : State) (f : ℕ → Bool) (m : List ℕ) (a b : Bool) �
     list_cause s m ≡ cond (not a) (Some model_misses_assumption)
     (cond (not b) (Some model_misses_clause) None)
 judged-whole s f m a b marked none assumed clauses =
+    let same : f ≡ (λ k. has k m) = λ i k. marked k i in
     ap (λ c. first_cause c (missing_cause s m)) none
-    ∙ ap (λ x. cond (not x) (Some model_misses_assumption)
-    (cond (not (list_all (λ e. has_some e.lits m) s.clauses)) (Some model_misses_clause) None))
-    (sym (assumed ∙ ap (λ g. list_all g s.assumed) (same f m marked)))
-    ∙ ap (λ x. cond (not a) (Some model_misses_assumption)
-    (cond (not x) (Some model_misses_clause) None))
-    (sym (clauses ∙ ap (λ g. list_all (has_marked g) s.clauses) (same f m marked)))
-  where
-    same : (f : ℕ → Bool) (m : List ℕ) → ((k : ℕ) → f k ≡ has k m) → f ≡ (λ k. has k m)
-    same f m marked = λ i k. marked k i
+    ∙ sym (λ i. cond (not ((assumed ∙ ap (λ g. list_all g s.assumed) same) i)) (Some model_misses_assumption)
+    (cond (not ((clauses ∙ ap (λ g. list_all (has_marked g) s.clauses) same) i)) (Some model_misses_clause) None))
 
 -- only what is listed is marked
 pub marks_only : (marks : List Bool) (whole ls : List ℕ) → ((k : ℕ) → (is_marked marks k || has k ls) ≡ has k whole) → MarksOnly marks whole
-marks_only marks whole ls marked = λ k away. by (is_marked marks k) (has k ls) (marked k ∙ away)
-  where
-    by : (b c : Bool) → (b || c) ≡ false → b ≡ false
-    by true c h = h
-    by false c h = refl
+marks_only marks whole ls marked = λ k away. grind (arith, marked k, away)
 
 -- the marks that are still to be taken back, and those of an empty list
 pub unmarked-turn : (old new : List Bool) (l : ℕ) (ls : List ℕ) → MarksOnly old (l ∷ ls) → ((k : ℕ) → is_marked new k ≡ (not (eqb k l) && is_marked old k)) → MarksOnly new ls
-unmarked-turn old new l ls only taken = λ k away. taken k ∙ by k away (eqb k l) refl
-  where
-    by : (k : ℕ) → has k ls ≡ false → (b : Bool) → eqb k l ≡ b → (not b && is_marked old k) ≡ false
-    by k away true e = refl
-    by k away false e = only k (ap (λ c. c || has k ls) e ∙ away)
+unmarked-turn old new l ls only taken = λ k away. grind (arith, taken k, only k, away)
 
 pub unmarked-all : (marks : List Bool) (ls : List ℕ) → ls ≡ [] → MarksOnly marks ls → (k : ℕ) → is_marked marks k ≡ false
 unmarked-all marks ls done only k = only k (ap (has k) done)

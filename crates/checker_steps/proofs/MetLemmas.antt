@@ -1,5 +1,5 @@
 -- The walk over all buckets, by which every stored clause is tested.
-use Rattle.std.proofs.Common.{◌≡◌, ℕ, ◌+◌, Bool, true, false, not, ◌&&◌, ◌||◌, List, [], ◌∷◌, ◌++◌, length, map, All, nat_eq, refl, sym, ap, ◌∙◌, subst, arith, length-append}
+use Rattle.std.proofs.Common.{◌≡◌, ℕ, ◌+◌, Bool, not, ◌&&◌, ◌||◌, List, [], ◌∷◌, ◌++◌, length, map, All, nat_eq, refl, sym, ap, ◌∙◌, subst, arith, length-append}
 use Rattle.std.proofs.Math.ListN.{get_or-append}
 use Rattle.std.specs.List.{flat_map, list_all, list_any}
 use Rattle.std.specs.HashMap.{IsUnique, values}
@@ -37,32 +37,20 @@ all-right P xs ys h k d less = subst P (get_or-append-add xs ys k d) (h (length 
 
 -- the first bucket
 module _ (listed : ℕ → Bool) (buffer : List ℕ) (bs : List (SmallVec Clause)) (b : SmallVec Clause) (rest : List (SmallVec Clause)) (first : bs ≡ b ∷ rest) where
-  within : AllWithin buffer bs → All (λ c. IsWithin c.lits buffer) (b.items ++ clauses_in rest)
-  within h = subst (AllWithin buffer) first h
-
   pub within-first : AllWithin buffer bs → All (λ c. IsWithin c.lits buffer) b.items
-  within-first h = all-left (λ c. IsWithin c.lits buffer) b.items (clauses_in rest) (within h)
+  within-first h = all-left (λ c. IsWithin c.lits buffer) b.items (clauses_in rest) (subst (AllWithin buffer) first h)
 
   pub within-rest : AllWithin buffer bs → AllWithin buffer rest
-  within-rest h = all-right (λ c. IsWithin c.lits buffer) b.items (clauses_in rest) (within h)
+  within-rest h = all-right (λ c. IsWithin c.lits buffer) b.items (clauses_in rest) (subst (AllWithin buffer) first h)
 
-  met : all_met listed buffer bs ≡ (list_all (λ c. has_marked listed (stored_of buffer c)) b.items && all_met listed buffer rest)
-  met = ap (all_met listed buffer) first ∙ list_all-append (λ c. has_marked listed (stored_of buffer c)) b.items (clauses_in rest)
-
-  pub met-rest : list_all (λ c. has_marked listed (stored_of buffer c)) b.items ≡ true → all_met listed buffer rest ≡ all_met listed buffer bs
-  met-rest h = sym (met ∙ ap (λ a. a && all_met listed buffer rest) h)
-
-  pub met-not : list_all (λ c. has_marked listed (stored_of buffer c)) b.items ≡ false → all_met listed buffer bs ≡ false
-  met-not h = met ∙ ap (λ a. a && all_met listed buffer rest) h
+  pub met-by : (all : Bool) → list_all (λ c. has_marked listed (stored_of buffer c)) b.items ≡ all → all_met listed buffer bs ≡ (all && all_met listed buffer rest)
+  met-by all h =
+      ap (all_met listed buffer) first ∙ list_all-append (λ c. has_marked listed (stored_of buffer c)) b.items (clauses_in rest) ∙ ap (λ a. a && all_met listed buffer rest) h
 
 -- all buckets
 all-any : (p : Stored → Bool) (es : List Stored) → list_all p es ≡ not (list_any (λ e. not (p e)) es)
 all-any p [] = refl
-all-any p (e ∷ es) = by (p e) (all-any p es)
-  where
-    by : (b : Bool) → list_all p es ≡ not (list_any (λ e. not (p e)) es) → (b && list_all p es) ≡ not (not b || list_any (λ e. not (p e)) es)
-    by true h = h
-    by false h = refl
+all-any p (e ∷ es) = grind (arith, all-any p es)
 
 pub met-stored : (h : ClauseHasher) (cs : Clauses) (es : List Stored) → IsIndexed h cs es → IsUnique nat_eq cs.buckets →
     (listed : ℕ → Bool) → all_met listed cs.literal_buffer.items (values cs.buckets) ≡ list_all (has_marked listed) es

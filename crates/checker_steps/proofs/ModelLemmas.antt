@@ -1,5 +1,5 @@
 -- The step of a model, by its cause.
-use Rattle.std.proofs.Common.{◌≡◌, ℕ, Bool, true, false, cond, not, List, [], ◌∷◌, Option, None, Some, refl, sym, ap, ◌∙◌, subst}
+use Rattle.std.proofs.Common.{◌≡◌, ℕ, Bool, true, false, cond, not, List, [], ◌∷◌, Option, None, Some, refl, sym, ap, ◌∙◌, subst, arith}
 use Rattle.std.specs.List.{list_all}
 use Rattle.checker_rules.specs.Canonical.{is_subset}
 use Rattle.checker_rules.specs.CheckedSteps.{checked_model, named_in}
@@ -17,14 +17,8 @@ abbrev by_cause : Option Cause → State → Outcome
 by_cause None s = accept s
 by_cause (Some cause) s = refuse cause s
 
-whole-by : (a b : Bool) (x y : Cause) (s : State) → cond a (refuse x s) (cond b (refuse y s) (accept s)) ≡ by_cause (cond a (Some x) (cond b (Some y) None)) s
-whole-by true b x y s = refl
-whole-by false true x y s = refl
-whole-by false false x y s = refl
-
 list-by : (o : Option Cause) (s : State) (m : List ℕ) → and_then_by o s (λ r. model_whole r m) ≡ by_cause (first_cause o (missing_cause s m)) s
-list-by None s m = whole-by (not (is_subset s.assumed m)) (not (list_all (λ e. has_some e.lits m) s.clauses)) model_misses_assumption model_misses_clause s
-list-by (Some cause) s m = refl
+list-by o s m = grind arith
 
 model-by : (s : State) (m : List ℕ) → s.unsat ≡ false → step s (model m) ≡ by_cause (list_cause s m) s
 model-by s m live =

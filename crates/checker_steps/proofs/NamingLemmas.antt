@@ -1,5 +1,5 @@
 -- The steps on user names and modes, part by part. Each is told over the state r in which the variable is known.
-use Rattle.std.proofs.Common.{◌≡◌, ℕ, suc, Bool, true, false, cond, not, ◌&&◌, ◌||◌, List, [], ◌∷◌, set, Option, None, Some, is_none, is_some, refl, sym, ap, ◌∙◌, subst}
+use Rattle.std.proofs.Common.{◌≡◌, ℕ, suc, Bool, true, false, cond, not, ◌&&◌, ◌||◌, List, [], ◌∷◌, set, Option, None, Some, is_none, is_some, sym, ap, ◌∙◌, arith}
 use Rattle.sat_formula.specs.declared.lit.Var.{Var}
 use Rattle.sat_formula.specs.Vars.{indexes_of}
 use Rattle.checker_rules.specs.ChangeSamplingMode.{mode_is, step_change_sampling_mode}
@@ -23,18 +23,18 @@ named x u r = set_known x (record { name = Some u; mode = (known_of r x).mode })
 abbrev pub hidden : ℕ → State → State
 hidden x r = set_known x (record { name = None; mode = hide }) r
 
-name-step : (s r : State) (x u : ℕ) → r ≡ know (suc x) s → step s (user_var_name x (Some u)) ≡ by_cause (naming_cause r.known x u) r (accept (named x u r))
-name-step s r x u e =
+name-step : (s r : State) (x u : ℕ) (cause : Option Cause) → r ≡ know (suc x) s → naming_cause r.known x u ≡ cause →
+    step s (user_var_name x (Some u)) ≡ by_cause cause r (accept (named x u r))
+name-step s r x u cause e h =
     let k = know (suc x) s in
-    subst (λ (r : State). step s (user_var_name x (Some u)) ≡ by_cause (naming_cause r.known x u) r (accept (named x u r))) (sym e)
-    (step-user_var_name s x (Some u) ∙ conds-by_cause (not (is_known k u) || name_taken k u) (is_hide (known_of k x).mode)
+    rw (← h, e) (step-user_var_name s x (Some u) ∙ conds-by_cause (not (is_known k u) || name_taken k u) (is_hide (known_of k x).mode)
     (is_some (known_of k x).name) user_name_taken still_hidden name_in_use k (accept (named x u k)))
 
 pub name-refused : (s r : State) (x u : ℕ) (cause : Cause) → r ≡ know (suc x) s → naming_cause r.known x u ≡ Some cause → step s (user_var_name x (Some u)) ≡ refuse cause r
-name-refused s r x u cause e h = name-step s r x u e ∙ ap (λ o. by_cause o r (accept (named x u r))) h
+name-refused s r x u cause e h = name-step s r x u (Some cause) e h
 
 pub name-given : (s r : State) (x u : ℕ) → r ≡ know (suc x) s → naming_cause r.known x u ≡ None → step s (user_var_name x (Some u)) ≡ accept (named x u r)
-name-given s r x u e h = name-step s r x u e ∙ ap (λ o. by_cause o r (accept (named x u r))) h
+name-given s r x u e h = name-step s r x u None e h
 
 -- a name that is given, with the names that are shown with it
 abbrev pub name_shown : ℕ → ℕ → Bool → List Known → NamedStep
@@ -47,55 +47,48 @@ emits-name s r x u samples names e h mode is =
     let o = name-given s r x u e h in
     let after = ap (λ (y : Outcome). y.after) (sym (step-user_var_name s x (Some u)) ∙ o) in
     emits-accepted s (user_var_name x (Some u)) _ (ap (λ (y : Outcome). y.refused) o)
-    (ap (λ b. name_shown x u b names ∷ []) (mode ∙ ap (λ (y : State). is_sample (known_of y x).mode) e) ∙ ap
-    (λ ks. name_shown x u (is_sample (known_of (know (suc x) s) x).mode) ks ∷ []) (is ∙ sym (ap (λ (y : State). y.known) after)))
+    (λ i. name_shown x u ((mode ∙ ap (λ (y : State). is_sample (known_of y x).mode) e) i) ((is ∙ sym (ap (λ (y : State). y.known) after)) i) ∷ [])
 
-remove-step : (s r : State) (x : ℕ) → r ≡ know (suc x) s → step s (user_var_name x None) ≡ cond (is_none (known_of r x).name) (refuse no_name_to_remove r) (accept (hidden x r))
-remove-step s r x e =
-    subst (λ (r : State). step s (user_var_name x None) ≡ cond (is_none (known_of r x).name) (refuse no_name_to_remove r) (accept (hidden x r))) (sym e) (step-user_var_name s x None)
+remove-step : (s r : State) (x : ℕ) (none : Bool) → r ≡ know (suc x) s → is_none (known_of r x).name ≡ none →
+    step s (user_var_name x None) ≡ cond none (refuse no_name_to_remove r) (accept (hidden x r))
+remove-step s r x none e h = rw (← h, e) (step-user_var_name s x None)
 
 pub remove-refused : (s r : State) (x : ℕ) → r ≡ know (suc x) s → is_none (known_of r x).name ≡ true → step s (user_var_name x None) ≡ refuse no_name_to_remove r
-remove-refused s r x e h = remove-step s r x e ∙ ap (λ b. cond b (refuse no_name_to_remove r) (accept (hidden x r))) h
+remove-refused s r x e h = remove-step s r x true e h
 
 pub name-removed : (s r : State) (x : ℕ) → r ≡ know (suc x) s → is_none (known_of r x).name ≡ false → step s (user_var_name x None) ≡ accept (hidden x r)
-name-removed s r x e h = remove-step s r x e ∙ ap (λ b. cond b (refuse no_name_to_remove r) (accept (hidden x r))) h
+name-removed s r x e h = remove-step s r x false e h
 
 -- a removal shows the names before it
 pub emits-removal : (s r : State) (x : ℕ) → r ≡ know (suc x) s → is_none (known_of r x).name ≡ false → Emits s (user_var_name x None) (named_in r (checked_user_var x None) ∷ [])
 emits-removal s r x e h = emits-accepted s (user_var_name x None) _ (ap (λ (y : Outcome). y.refused) (name-removed s r x e h)) (ap (λ (y : State). named_in y (checked_user_var x None) ∷ []) e)
 
 pub is_none-unnamed : (o : Option Var) → is_some o ≡ false → is_none (indexes_of o) ≡ true
-is_none-unnamed None h = refl
-is_none-unnamed (Some v) h = cc
+is_none-unnamed o h = grind arith
 
 pub is_none-named : (o : Option Var) → is_some o ≡ true → is_none (indexes_of o) ≡ false
-is_none-named None h = cc
-is_none-named (Some v) h = refl
+is_none-named o h = grind arith
 
 mode-choose : (a b : Bool) (cause : Cause) (r : State) (known : List Known) →
     cond a (accept r) (cond b (refuse cause r) (accept (record r { known = known }))) ≡
     by_cause (cond a None (cond b (Some cause) None)) r (accept (record r { known = cond a r.known known }))
-mode-choose true b cause r known = refl
-mode-choose false true cause r known = refl
-mode-choose false false cause r known = refl
+mode-choose a b cause r known = grind arith
 
-mode-step : (s r : State) (x : ℕ) (to_sample : Bool) → r ≡ know (suc x) s →
-    step s (change_sampling_mode x to_sample) ≡
-    by_cause (mode_cause r.known x to_sample) r (accept (record r { known = in_mode r.known x to_sample }))
-mode-step s r x to_sample e =
+mode-step : (s r : State) (x : ℕ) (to_sample : Bool) (cause : Option Cause) → r ≡ know (suc x) s → mode_cause r.known x to_sample ≡ cause →
+    step s (change_sampling_mode x to_sample) ≡ by_cause cause r (accept (record r { known = in_mode r.known x to_sample }))
+mode-step s r x to_sample cause e h =
     let k = know (suc x) s in
-    subst (λ (r : State). step s (change_sampling_mode x to_sample) ≡ by_cause (mode_cause r.known x to_sample) r (accept (record r { known = in_mode r.known x to_sample }))) (sym e)
-    (step-change_sampling_mode s x to_sample
+    rw (← h, e) (step-change_sampling_mode s x to_sample
     ∙ mode-choose (mode_is (known_of k x).mode to_sample) (to_sample && is_none (known_of k x).name) sample_hidden k
     (set k.known x (record { name = (known_of k x).name; mode = cond to_sample sample witness })))
 
 pub mode-refused : (s r : State) (x : ℕ) (to_sample : Bool) (cause : Cause) → r ≡ know (suc x) s →
     mode_cause r.known x to_sample ≡ Some cause → step s (change_sampling_mode x to_sample) ≡ refuse cause r
-mode-refused s r x to_sample cause e h = mode-step s r x to_sample e ∙ ap (λ o. by_cause o r (accept (record r { known = in_mode r.known x to_sample }))) h
+mode-refused s r x to_sample cause e h = mode-step s r x to_sample (Some cause) e h
 
 pub mode-changed : (s r : State) (x : ℕ) (to_sample : Bool) → r ≡ know (suc x) s → mode_cause r.known x to_sample ≡ None →
     step s (change_sampling_mode x to_sample) ≡ accept (record r { known = in_mode r.known x to_sample })
-mode-changed s r x to_sample e h = mode-step s r x to_sample e ∙ ap (λ o. by_cause o r (accept (record r { known = in_mode r.known x to_sample }))) h
+mode-changed s r x to_sample e h = mode-step s r x to_sample None e h
 
 -- a change that is shown, or none, with the names that are shown with it
 abbrev pub change_shown : ℕ → Bool → Option ℕ → List Known → List NamedStep
@@ -103,9 +96,7 @@ change_shown x samples None names = []
 change_shown x samples (Some u) names = record { step = checked_user_var x (Some (record { user_var = u; samples = samples; new_var = false })); names = names } ∷ []
 
 mode-shown : (same : Bool) (x : ℕ) (to_sample : Bool) (name : Option ℕ) (after : State) → change_shown x to_sample (cond same None name) after.known ≡ cond same [] (emits_mode after x to_sample name)
-mode-shown true x to_sample name after = refl
-mode-shown false x to_sample None after = refl
-mode-shown false x to_sample (Some u) after = refl
+mode-shown same x to_sample name after = grind arith
 
 pub emits-change : (s r : State) (x : ℕ) (to_sample samples : Bool) (name : Option ℕ) (names : List Known) → r ≡ know (suc x) s →
     mode_cause r.known x to_sample ≡ None → names ≡ in_mode r.known x to_sample → name ≡ changed_name r.known x to_sample →
@@ -116,11 +107,8 @@ emits-change s r x to_sample samples name names e h is shown same =
     let o = mode-changed s r x to_sample e h in
     let after = ap (λ (y : Outcome). y.after) (sym (step-change_sampling_mode s x to_sample) ∙ o) in
     emits-accepted s (change_sampling_mode x to_sample) _ (ap (λ (y : Outcome). y.refused) o)
-    (ap (λ b. change_shown x b name names) same ∙ ap (λ u. change_shown x to_sample u names)
-    (shown ∙ ap (λ (y : State). changed_name y.known x to_sample) e) ∙ ap (change_shown x to_sample (changed_name k.known x to_sample))
-    (is ∙ sym (ap (λ (y : State). y.known) after))
+    ((λ i. change_shown x (same i) ((shown ∙ ap (λ (y : State). changed_name y.known x to_sample) e) i) ((is ∙ sym (ap (λ (y : State). y.known) after)) i))
     ∙ mode-shown (mode_is (known_of k x).mode to_sample) x to_sample (known_of k x).name (step_change_sampling_mode s x to_sample).after)
 
 pub is_sample-asked : (to_sample : Bool) → is_sample (cond to_sample sample witness) ≡ to_sample
-is_sample-asked true = refl
-is_sample-asked false = refl
+is_sample-asked to_sample = grind arith

@@ -22,8 +22,7 @@ use Rattle.clause_store.specs.Store.{AnswersStore, Stores, is_whole, store_count
 pub counters-accept : (r : Bool) (c : List ℕ) (takes : Bool) (s : State) (next : State → Outcome) → (takes ≡ true → s.next < id_limit) →
     count_of r c s.clauses < count_limit → counters r c takes s next ≡ next s
 counters-accept r c takes s next room few =
-    ap (λ b. cond b (refuse ids_exhausted s) (cond (leb count_limit (count_of r c s.clauses)) (refuse count_exhausted s) (next s))) (free takes room)
-    ∙ ap (λ b. cond b (refuse count_exhausted s) (next s)) (not_more (count_of r c s.clauses) count_limit few)
+    cc (free takes room, not_more (count_of r c s.clauses) count_limit few)
   where
     free : (takes : Bool) → (takes ≡ true → s.next < id_limit) → (takes && not (ltb s.next id_limit)) ≡ false
     free true room = less s.next id_limit (room refl)
@@ -37,8 +36,7 @@ counters-accept r c takes s next room few =
 
 pub counters-ids : (r : Bool) (c : List ℕ) (takes : Bool) (s : State) (next : State → Outcome) → takes ≡ true → id_limit ≤ s.next → counters r c takes s next ≡ refuse ids_exhausted s
 counters-ids r c takes s next h none =
-    ap (λ b. cond b (refuse ids_exhausted s) (cond (leb count_limit (count_of r c s.clauses)) (refuse count_exhausted s) (next s)))
-    (ap (λ b. b && not (ltb s.next id_limit)) h ∙ more s.next id_limit none)
+    cc (more s.next id_limit none)
   where
     more : (n m : ℕ) → m ≤ n → not (ltb n m) ≡ true
     more n m h = grind (arith, nat_tests)
@@ -46,8 +44,7 @@ counters-ids r c takes s next h none =
 pub counters-count : (r : Bool) (c : List ℕ) (takes : Bool) (s : State) (next : State → Outcome) → takes ≡ false →
     count_limit ≤ count_of r c s.clauses → counters r c takes s next ≡ refuse count_exhausted s
 counters-count r c takes s next h many =
-    ap (λ b. cond (b && not (ltb s.next id_limit)) (refuse ids_exhausted s) (cond (leb count_limit (count_of r c s.clauses)) (refuse count_exhausted s) (next s))) h
-    ∙ ap (λ b. cond b (refuse count_exhausted s) (next s)) (more (count_of r c s.clauses) count_limit many)
+    cc (more (count_of r c s.clauses) count_limit many)
   where
     more : (n m : ℕ) → m ≤ n → leb m n ≡ true
     more n m h = grind (arith, nat_tests)
@@ -56,10 +53,10 @@ counters-count r c takes s next h many =
 pub is_stored-short : (c : List ℕ) (es : List Stored) → is_short c ≡ true → list_all is_whole es ≡ true → is_stored c es ≡ false
 is_stored-short c [] h all = refl
 is_stored-short c (e ∷ es) h all =
-    let p = and_parts (is_whole e) (list_all is_whole es) all in
-    let long : is_short e.lits ≡ false = not-true (is_short e.lits) (and_parts (not (is_short e.lits)) (not (is_gone e)) p.0).0 in
-    let other : same_list e.lits c ≡ false = false_from_ne_true (same_list e.lits c) (λ y. let q : is_short e.lits ≡ is_short c = ap is_short (same_list-eq e.lits c y) in cc) in
-    ap (λ b. b || is_stored c es) other ∙ is_stored-short c es h p.1
+    let p = and_parts _ _ all in
+    let long : is_short e.lits ≡ false = not-true _ (and_parts (not (is_short e.lits)) (not (is_gone e)) p.0).0 in
+    let other : same_list e.lits c ≡ false = false_from_ne_true _ (λ y. let q : is_short e.lits ≡ is_short c = cc (same_list-eq e.lits c y) in cc) in
+    cc (is_stored-short c es h p.1)
 
 -- the empty clause
 pub empty-stored : (r : Bool) (s : State) → s.next < id_limit → count_of r [] s.clauses < count_limit → Stores [] r s (record s { unsat = true; next = s.next + 1 }) s.next New
@@ -70,43 +67,43 @@ module _ (l : ℕ) (r : Bool) (s : State) (few : count_of r (l ∷ []) s.clauses
   pub unit-new : unit_of s.units (var_of l) ≡ None → s.next < id_limit
       → Stores (l ∷ []) r s (record s { units = set s.units (var_of l) (Some (record { value = not (is_negative l); id = s.next })); next = s.next + 1 }) s.next New
   unit-new none room = record {
-    room = counters-accept r (l ∷ []) (not (stands (l ∷ []) s)) s accept (λ e. room) few;
-    after = ap (λ u. store_unit l u s) (sym none);
-    id_is = sym (ap (λ u. cond (makes_true u l) (unit_id u) s.next) none);
-    result_is = sym (ap (λ u. cond (makes_true u l) Duplicate New) none);
+    room = counters-accept r _ _ s accept (λ e. room) few;
+    after = cc;
+    id_is = cc;
+    result_is = cc;
   }
 
   pub unit-stands : (u : StoredUnit) → unit_of s.units (var_of l) ≡ Some u → same_bool u.value (not (is_negative l)) ≡ true → Stores (l ∷ []) r s s u.id Duplicate
   unit-stands u here same =
-      let true_by : makes_true (unit_of s.units (var_of l)) l ≡ true = ap (λ o. makes_true o l) here ∙ same in
+      let true_by : makes_true (unit_of s.units (var_of l)) l ≡ true = cc in
       record {
-        room = counters-accept r (l ∷ []) (not (stands (l ∷ []) s)) s accept (λ e. let q = ap not true_by in cc) few;
-        after = sym (ap (λ o. store_unit l o s) here ∙ ap (λ b. cond b s (record s { unsat = true; conflict = Some (u.id, s.next); next = s.next + 1 })) same);
-        id_is = sym (ap (λ b. cond b (unit_id (unit_of s.units (var_of l))) s.next) true_by ∙ ap unit_id here);
-        result_is = sym (ap (λ b. cond b Duplicate New) true_by);
+        room = counters-accept r _ _ s accept (λ e. let q = ap not true_by in cc) few;
+        after = cc;
+        id_is = cc;
+        result_is = cc;
       }
 
   pub unit-conflict : (u : StoredUnit) → unit_of s.units (var_of l) ≡ Some u → same_bool u.value (not (is_negative l)) ≡ false → s.next < id_limit
       → Stores (l ∷ []) r s (record s { unsat = true; conflict = Some (u.id, s.next); next = s.next + 1 }) s.next New
   unit-conflict u here other room =
-      let false_by : makes_true (unit_of s.units (var_of l)) l ≡ false = ap (λ o. makes_true o l) here ∙ other in
+      let false_by : makes_true (unit_of s.units (var_of l)) l ≡ false = cc in
       record {
-        room = counters-accept r (l ∷ []) (not (stands (l ∷ []) s)) s accept (λ e. room) few;
-        after = sym (ap (λ o. store_unit l o s) here ∙ ap (λ b. cond b s (record s { unsat = true; conflict = Some (u.id, s.next); next = s.next + 1 })) other);
-        id_is = sym (ap (λ b. cond b (unit_id (unit_of s.units (var_of l))) s.next) false_by);
-        result_is = sym (ap (λ b. cond b Duplicate New) false_by);
+        room = counters-accept r _ _ s accept (λ e. room) few;
+        after = cc;
+        id_is = cc;
+        result_is = cc;
       }
 
 -- no id is left for a clause that does not stand
 pub answers-ids : (c : List ℕ) (r : Bool) (s : State) → stands c s ≡ false → id_limit ≤ s.next → store_counters c r s ≡ refuse ids_exhausted s
-answers-ids c r s other none = counters-ids r c (not (stands c s)) s accept (ap not other) none
+answers-ids c r s other none = counters-ids r c _ s accept (cc) none
 
 -- a clause that does not stand takes an id, if one is left
 pub answers-new : (res : Result (ℕ × StoreClauseResult) StoreFault) (c : List ℕ) (r : Bool) (s t u : State) →
     OkIff res (s.next < id_limit) (s.next, New) → IfErr res (λ f. f ≡ IdsExhausted) → OnOk res (t ≡ u) → OnErr res (t ≡ s)
     → stands c s ≡ false → (s.next < id_limit → Stores c r s u s.next New) → AnswersStore res c r s t
 answers-new (Ok p) c r s t u h only ok err other stored =
-    subst (λ x. Stores c r s x p.0 p.1) (sym ok) (subst (λ (x : ℕ × StoreClauseResult). Stores c r s u x.0 x.1) (sym h.1) (stored h.0))
+    subst (λ x. Stores c r s x p.0 p.1) (cc) (subst (λ (x : ℕ × StoreClauseResult). Stores c r s u x.0 x.1) (cc) (stored h.0))
 answers-new (Err OutOfMemory) c r s t u h only ok err other stored = tt
 answers-new (Err IdsExhausted) c r s t u h only ok err other stored = (answers-ids c r s other (omega (arith, h)), err)
 answers-new (Err CountExhausted) c r s t u h only ok err other stored = cc

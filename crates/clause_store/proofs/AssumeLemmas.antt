@@ -24,29 +24,29 @@ use Rattle.clause_store.proofs.UnitsLemmas.{falsity, true_lits-falsity, true_lit
 
 -- a literal of the list has a known variable
 pub known-at : (c : List ℕ) (i m n : ℕ) → var_bound c ≤ n → i < length c → m ≡ get_or c i m → var_of m < n
-known-at [] i m n h less is = absurd (omega (arith, less))
+known-at [] i m n h less is = absurd (omega arith)
 known-at (l ∷ ls) zero m n h less is = rw is (omega arith)
 known-at (l ∷ ls) (suc i) m n h less is = known-at ls i m n (omega arith) (omega arith) is
 
 -- no element passes where none does
 pub none-at : (p : ℕ → Bool) (c : List ℕ) (i m : ℕ) → i < length c → m ≡ get_or c i m → list_any p c ≡ false → p m ≡ false
-none-at p c i m less is h = false_from_ne_true (p m) (λ e. both_ways (list_any p c) h (list_any_at p c i m less (ap p (sym is) ∙ e)))
+none-at p c i m less is h = false_from_ne_true (p m) (λ e. both_ways _ h (list_any_at p c i m less (cc)))
 
 has-take : (c : List ℕ) (i l : ℕ) → has l (take i c) ≡ true → has l c ≡ true
 has-take [] i l h = subst (λ xs. has l xs ≡ true) (take_all i [] (omega arith)) h
 has-take (m ∷ ms) zero l h = absurd (false≢true h)
 has-take (m ∷ ms) (suc i) l h = elim (or_cases (eqb l m) (has l (take i ms)) h) [
-  | inl here ↦ or_left (eqb l m) (has l ms) here
+  | inl here ↦ or_left _ (has l ms) here
   | inr later ↦ or_right (eqb l m) (has l ms) (has-take ms i l later)
 ]
 
 -- a literal that is to be taken as false is not true by the earlier ones
 pub start_set-free : (us : List (Option StoredUnit)) (c : List ℕ) (i m : ℕ) → i < length c → m ≡ get_or c i m → some_true_unit us c ≡ false → is_tautology c ≡ false → start_set us (take i c) m ≡ false
 start_set-free us c i m less is free apart =
-    or_from (lit_by_unit us m) (negated_set (take i c) m) (none-at (lit_by_unit us) c i m less is free) (false_from_ne_true (negated_set (take i c) m) (λ e.
+    or_from _ _ (none-at (lit_by_unit us) c i m less is free) (false_from_ne_true (negated_set (take i c) m) (λ e.
     let k = any_at (λ l. eqb m (negate l)) (take i c) e in
-    let here : has m c ≡ true = list_any_at (eqb m) c i m less (ap (eqb m) (sym is) ∙ eq-eqb m m refl) in
-    both_ways (is_tautology c) apart (any_from (λ l. has (negate l) c) c k.0 (has-take c i k.0 k.1) (ap (λ x. has x c) (sym (eqb-true m (negate k.0) k.2)) ∙ here))))
+    let here : has m c ≡ true = list_any_at (eqb m) c i m less (cc (eq-eqb m m refl)) in
+    both_ways (is_tautology c) apart (any_from (λ l. has (negate l) c) c k.0 (has-take c i k.0 k.1) (cc (eqb-true m (negate k.0) k.2)))))
 
 -- one literal more is taken as false
 pub assume-step : (us vs : List (Option UnitClause)) (ss : List (Option StoredUnit)) (c : List ℕ) (i m : ℕ) (u : UnitClause) →
@@ -55,12 +55,12 @@ pub assume-step : (us vs : List (Option UnitClause)) (ss : List (Option StoredUn
     ((k : ℕ) → true_lits us k ≡ start_set ss (take i c) k) → (k : ℕ) → true_lits vs k ≡ start_set ss (take (i + 1) c) k
 assume-step us vs ss c i m u less is known v e off same k =
     let p : ℕ → Bool = λ l. eqb k (negate l) in
-    let added = true_lits-set us (negate m) u (rw var-negate known) (v ∙ sym (ap not (negative_negate m) ∙ not_not (is_negative m)))
-    (ap (true_lits us) (negate-negate m) ∙ off) in
-    let cut : take (i + 1) c ≡ take i c ++ m ∷ [] = take_more c i m less ∙ ap (λ x. take i c ++ x ∷ []) (sym is) in
-    ap (λ ws. true_lits ws k) e ∙ ap (λ v. true_lits (set us v (Some u)) k) (sym (var-negate m)) ∙ ap (λ (s : ℕ → Bool). s k) added
+    let added = true_lits-set us _ u (rw var-negate known) (cc (negative_negate m, not_not (is_negative m)))
+    (cc (negate-negate m)) in
+    let cut : take (i + 1) c ≡ take i c ++ m ∷ [] = cc (take_more c i m less) in
+    ap (λ ws. true_lits ws k) e ∙ ap (λ v. true_lits (set us v (Some u)) k) (sym (var-negate m)) ∙ ap (λ s. s k) added
     ∙ ap (λ b. p m || b) (same k) ∙ move (p m) (lit_by_unit ss k) (list_any p (take i c))
-    ∙ sym (ap (λ ls. lit_by_unit ss k || list_any p ls) cut ∙ ap (λ b. lit_by_unit ss k || b) (list_any-append p (take i c) (m ∷ [])))
+    ∙ sym (cc (list_any-append p (take i c) (m ∷ [])))
   where
     not_not : (b : Bool) → not (not b) ≡ b
     not_not true = refl
@@ -79,7 +79,7 @@ pub assume-all : (ss : List (Option StoredUnit)) (vs : List (Option UnitClause))
 assume-all ss vs c i over h = λ j k. point k j
   where
     point : (k : ℕ) → true_lits vs k ≡ start_set ss c k
-    point k = h k ∙ ap (λ ls. start_set ss ls k) (take_all i c over)
+    point k = cc (h k, take_all i c over)
 
 -- the stored units of variables that are not in the clause stay unlisted
 pub unlisted-step : (us vs ws : List (Option UnitClause)) (c : List ℕ) (i m : ℕ) (u : UnitClause) → i < length c → m ≡ get_or c i m →
@@ -88,14 +88,11 @@ pub unlisted-step : (us vs ws : List (Option UnitClause)) (c : List ℕ) (i m : 
     unlisted_lits vs k ≡ (unlisted_lits ws k && not (holds_var (var_of k) (take (i + 1) c)))
 unlisted-step us vs ws c i m u less is known new e same k =
     let p : ℕ → Bool = λ l. eqb (var_of l) (var_of k) in
-    let cut : take (i + 1) c ≡ take i c ++ m ∷ [] = take_more c i m less ∙ ap (λ x. take i c ++ x ∷ []) (sym is) in
-    ap (λ ws. unlisted_lits ws k) e ∙ unlisted_lits-set us (var_of m) k u known new ∙ ap (λ b. b && not (eqb (var_of k) (var_of m))) (same k)
-    ∙ ap (λ b. (unlisted_lits ws k && not (list_any p (take i c))) && not b) (eqb_comm (var_of k) (var_of m))
-    ∙ move (unlisted_lits ws k) (list_any p (take i c)) (p m)
-    ∙ sym (ap (λ ls. unlisted_lits ws k && not (list_any p ls)) cut ∙ ap (λ b. unlisted_lits ws k && not b) (list_any-append p (take i c) (m ∷ [])))
+    let cut : take (i + 1) c ≡ take i c ++ m ∷ [] = cc (take_more c i m less) in
+    cc (unlisted_lits-set us (var_of m) k u known new, same k, eqb_comm (var_of k) (var_of m), move (unlisted_lits ws k) (list_any p (take i c)) (p m), list_any-append p (take i c) (m ∷ []))
   where
     eqb_comm : (a b : ℕ) → eqb a b ≡ eqb b a
-    eqb_comm a b = ⊎_elim {C = eqb a b ≡ eqb b a} (λ (h : a ≡ b). eq-eqb a b h ∙ sym (eq-eqb b a (sym h))) (λ (h : a ≡ b → ⊥). ne_eqb a b h ∙ sym (ne_eqb b a (λ g. h (sym g)))) (cases_eq a b)
+    eqb_comm a b = ⊎_elim (λ h. eq-eqb a b h ∙ sym (eq-eqb b a (sym h))) (λ h. ne_eqb a b h ∙ sym (ne_eqb b a (λ g. h (sym g)))) (cases_eq a b)
 
     move : (g a b : Bool) → ((g && not a) && not b) ≡ (g && not (a || (b || false)))
     move true true b = refl
@@ -109,18 +106,16 @@ pub unlisted-all : (us vs : List (Option UnitClause)) (c : List ℕ) (i : ℕ) �
 unlisted-all us vs c i stored over h = λ j k. point k j
   where
     point : (k : ℕ) → unlisted_lits vs k ≡ unlisted_at (stored_units us) c k
-    point k = h k ∙ ap (λ ls. unlisted_lits us k && not (holds_var (var_of k) ls)) (take_all i c over) ∙ ap (λ b. b && not (holds_var (var_of k) c)) (unlisted_lits-at_rest us k stored)
+    point k = cc (h k, take_all i c over, unlisted_lits-at_rest us k stored)
 
 -- a literal that is false already
 pub assume-skip : (vs : List (Option UnitClause)) (ss : List (Option StoredUnit)) (c : List ℕ) (i m : ℕ) → i < length c → m ≡ get_or c i m → lit_value vs m ≡ Some false
     → ((k : ℕ) → true_lits vs k ≡ start_set ss (take i c) k) → (k : ℕ) → true_lits vs k ≡ start_set ss (take (i + 1) c) k
 assume-skip vs ss c i m less is v same k =
     let p : ℕ → Bool = λ l. eqb k (negate l) in
-    let turned : true_lits vs (negate m) ≡ true = true_lits-falsity vs m ∙ ap falsity v in
-    let cut : take (i + 1) c ≡ take i c ++ m ∷ [] = take_more c i m less ∙ ap (λ x. take i c ++ x ∷ []) (sym is) in
-    absorb (p m) (true_lits vs k) (λ e. ap (true_lits vs) (eqb-true k (negate m) e) ∙ turned)
-    ∙ ap (λ b. p m || b) (same k) ∙ move (p m) (lit_by_unit ss k) (list_any p (take i c))
-    ∙ sym (ap (λ ls. lit_by_unit ss k || list_any p ls) cut ∙ ap (λ b. lit_by_unit ss k || b) (list_any-append p (take i c) (m ∷ [])))
+    let turned : true_lits vs (negate m) ≡ true = cc (true_lits-falsity vs m) in
+    let cut : take (i + 1) c ≡ take i c ++ m ∷ [] = cc (take_more c i m less) in
+    cc (absorb (p m) (true_lits vs k) (λ e. ap (true_lits vs) (eqb-true k (negate m) e) ∙ turned), same k, move (p m) (lit_by_unit ss k) (list_any p (take i c)), list_any-append p (take i c) (m ∷ []))
   where
     absorb : (x y : Bool) → (x ≡ true → y ≡ true) → y ≡ (x || y)
     absorb true y h = h refl
@@ -138,16 +133,13 @@ assume-skip vs ss c i m less is v same k =
 pub assume-met : (vs : List (Option UnitClause)) (ss : List (Option StoredUnit)) (c : List ℕ) (i m : ℕ) → i < length c → m ≡ get_or c i m → lit_value vs m ≡ Some true
     → is_tautology c ≡ false → ((k : ℕ) → true_lits vs k ≡ start_set ss (take i c) k) → true ≡ some_true_unit ss c
 assume-met vs ss c i m less is v apart same =
-    sym (true_from_ne_false (some_true_unit ss c) (λ none. both_ways (start_set ss (take i c) m)
-    (start_set-free ss c i m less is none apart) (sym (same m) ∙ true_lits-truth vs m ∙ ap truth v)))
+    cc (true_from_ne_false (some_true_unit ss c) (λ none. both_ways (start_set ss (take i c) m) (start_set-free ss c i m less is none apart) (sym (same m) ∙ true_lits-truth vs m ∙ ap truth v)))
 
 -- the literals before it are not true by stored units, nor is it
 pub none_true-step : (vs : List (Option UnitClause)) (ss : List (Option StoredUnit)) (c : List ℕ) (i m : ℕ) → i < length c → m ≡ get_or c i m → true_lits vs m ≡ false
     → ((k : ℕ) → true_lits vs k ≡ start_set ss (take i c) k) → some_true_unit ss (take i c) ≡ false → some_true_unit ss (take (i + 1) c) ≡ false
 none_true-step vs ss c i m less is off same none =
-    list_any_more (lit_by_unit ss) c i m less
-    ∙ or_from (some_true_unit ss (take i c)) (lit_by_unit ss (get_or c i m)) none
-    (ap (lit_by_unit ss) (sym is) ∙ left_of (lit_by_unit ss m) (negated_set (take i c) m) (sym (same m) ∙ off))
+    cc (list_any_more (lit_by_unit ss) c i m less, or_from (some_true_unit ss (take i c)) (lit_by_unit ss (get_or c i m)) none (ap (lit_by_unit ss) (sym is) ∙ left_of (lit_by_unit ss m) (negated_set (take i c) m) (sym (same m) ∙ off)))
   where
     left_of : (a b : Bool) → (a || b) ≡ false → a ≡ false
     left_of true b e = e

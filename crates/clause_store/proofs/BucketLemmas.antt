@@ -36,86 +36,82 @@ list_any-no_position p xs h =
       | true ↦ λ t e. cc
       | false ↦ λ t e. grind (arith, t)
     ] refl h in
-    list_any_none p xs (λ k d l. fails_before_first p xs k d (omega (arith, all, l)))
+    list_any_none p xs (λ k d l. fails_before_first p xs k d (omega arith))
 
 list_any-map : {X Y : Type 0} (p : Y → Bool) (f : X → Y) (xs : List X) → list_any p (map f xs) ≡ list_any (λ x. p (f x)) xs
 list_any-map p f [] = refl
-list_any-map p f (x ∷ xs) = ap (λ b. p (f x) || b) (list_any-map p f xs)
+list_any-map p f (x ∷ xs) = cc (list_any-map p f xs)
 
 module _ (buffer c : List ℕ) (cs : List Clause) where
   pub not_stored : position (is_of buffer c) cs ≡ None → is_stored c (map (stored_of buffer) cs) ≡ false
-  not_stored h = list_any-map (λ e. same_list e.lits c) (stored_of buffer) cs ∙ list_any-no_position (is_of buffer c) cs h
+  not_stored h = list_any-map (λ e. same_list e.lits c) _ cs ∙ list_any-no_position _ cs h
 
   module _ (i : ℕ) (d : Clause) (h : position (is_of buffer c) cs ≡ Some i) (here : d ≡ get_or cs i d) where
     at : (k : ℕ) → get_or (map (stored_of buffer) cs) k (stored_of buffer d) ≡ stored_of buffer (get_or cs k d)
-    at k = get_or-map (stored_of buffer) cs k d
+    at k = get_or-map _ cs k d
 
     within : i < length (map (stored_of buffer) cs)
     within = omega (arith, length-map cs (stored_of buffer), (position-Some (is_of buffer c) cs i d h).0)
 
     stands : stored_of buffer d ≡ get_or (map (stored_of buffer) cs) i (stored_of buffer d)
-    stands = ap (stored_of buffer) here ∙ sym (at i)
+    stands = cc (at i)
 
     pub same : same_list (stored_of buffer d).lits c ≡ true
-    same = ap (is_of buffer c) here ∙ (position-Some (is_of buffer c) cs i d h).1
+    same = cc ((position-Some (is_of buffer c) cs i d h).1)
 
     before : (k : ℕ) → k < i → same_list (get_or (map (stored_of buffer) cs) k (stored_of buffer d)).lits c ≡ false
-    before k l = ap (λ (e : Stored). same_list e.lits c) (at k) ∙ (position-Some (is_of buffer c) cs i d h).2 k l
+    before k l = cc (at k, (position-Some (is_of buffer c) cs i d h).2 k l)
 
     pub found_in-place : found_in c (map (stored_of buffer) cs) ≡ Some (d.id, d.irredundant)
     found_in-place =
         let e = stored_of buffer d in let es = map (stored_of buffer) cs in
-        ap (λ b. cond b (Some (id_among c es, count_of false c es)) None) (is_stored-at c e same es i within stands)
-        ∙ ap (λ n. Some (n, count_of false c es)) (id_among-at c e same es i within stands before)
-        ∙ ap (λ n. Some (d.id, n)) (count_of-at c e same false es i within stands before)
+        cc (is_stored-at c e same es i within stands, id_among-at c e same es i within stands before, count_of-at c e same false es i within stands before)
 
     raised_same : (r : Bool) → stored_of buffer (raised r d) ≡ raise r c (stored_of buffer d)
-    raised_same true = sym (ap (λ b. cond b (record (stored_of buffer d) { redundant = d.redundant + 1 }) (stored_of buffer d)) same)
-    raised_same false = sym (ap (λ b. cond b (record (stored_of buffer d) { irredundant = d.irredundant + 1 }) (stored_of buffer d)) same)
+    raised_same true = cc (same)
+    raised_same false = cc (same)
 
     pub count_of-place : (r : Bool) → count_of r c (map (stored_of buffer) cs) ≡ copies_of r d
-    count_of-place r = count_of-at c (stored_of buffer d) same r (map (stored_of buffer) cs) i within stands before
+    count_of-place r = count_of-at c _ same r _ i within stands before
 
     pub is_stored-place : is_stored c (map (stored_of buffer) cs) ≡ true
-    is_stored-place = is_stored-at c (stored_of buffer d) same (map (stored_of buffer) cs) i within stands
+    is_stored-place = is_stored-at c _ same _ i within stands
 
     pub id_among-place : id_among c (map (stored_of buffer) cs) ≡ d.id
-    id_among-place = id_among-at c (stored_of buffer d) same (map (stored_of buffer) cs) i within stands before
+    id_among-place = id_among-at c _ same _ i within stands before
 
     -- one copy less, which may be the last
     lowered_same : (r : Bool) → stored_of buffer (lowered r d) ≡ lower r c (stored_of buffer d)
-    lowered_same true = sym (ap (λ b. cond b (record (stored_of buffer d) { redundant = d.redundant - 1 }) (stored_of buffer d)) same)
-    lowered_same false = sym (ap (λ b. cond b (record (stored_of buffer d) { irredundant = d.irredundant - 1 }) (stored_of buffer d)) same)
+    lowered_same true = cc (same)
+    lowered_same false = cc (same)
 
     lowered_at : (r : Bool) → are_apart (map (stored_of buffer) cs) ≡ true →
         remaining (map (lower r c) (map (stored_of buffer) cs)) ≡
         remaining (set (map (stored_of buffer) cs) i (stored_of buffer (lowered r d)))
     lowered_at r a =
         let e = stored_of buffer d in let es = map (stored_of buffer) cs in
-        ap remaining (lower-at c e same r es i within stands before a ∙ ap (set es i) (sym (lowered_same r)))
+        cc (lower-at c e same r es i within stands before a, lowered_same r)
 
     pub lowered-place : (r : Bool) (left : Clause) → left ≡ lowered r d → is_gone (stored_of buffer left) ≡ false →
         are_apart (map (stored_of buffer) cs) ≡ true → list_all is_whole (map (stored_of buffer) cs) ≡ true →
         map (stored_of buffer) (set cs i left) ≡ remaining (map (lower r c) (map (stored_of buffer) cs))
     lowered-place r left e g a w =
         let es = map (stored_of buffer) cs in let x = stored_of buffer left in
-        map-set (stored_of buffer) cs i left ∙ sym (lowered_at r a ∙ ap (λ y. remaining (set es i (stored_of buffer y))) (sym e) ∙ remaining-set x es i g w)
+        cc (map-set (stored_of buffer) cs i left, lowered_at r a, remaining-set x es i g w)
 
     pub removed-place : (r : Bool) (left : Clause) → left ≡ lowered r d → is_gone (stored_of buffer left) ≡ true →
         are_apart (map (stored_of buffer) cs) ≡ true → list_all is_whole (map (stored_of buffer) cs) ≡ true →
         map (stored_of buffer) (take i cs ++ drop (suc i) cs) ≡ remaining (map (lower r c) (map (stored_of buffer) cs))
     removed-place r left e g a w =
         let es = map (stored_of buffer) cs in let x = stored_of buffer left in
-        map-append (stored_of buffer) (take i cs) (drop (suc i) cs)
-        ∙ ap (λ xs. xs ++ map (stored_of buffer) (drop (suc i) cs)) (sym (take-map (stored_of buffer) i cs)) ∙ ap (λ xs. take i es ++ xs) (sym (drop-map (stored_of buffer) (suc i) cs))
-        ∙ sym (lowered_at r a ∙ ap (λ y. remaining (set es i (stored_of buffer y))) (sym e) ∙ remaining-gone x es i within g w)
+        cc (map-append (stored_of buffer) (take i cs) (drop (suc i) cs), take-map (stored_of buffer) i cs, drop-map (stored_of buffer) (suc i) cs, lowered_at r a, remaining-gone x es i within g w)
 
     pub left-place : (r : Bool) → 0 < copies_of r d → IsLeft r c (map (stored_of buffer) cs) (left_of (lowered r d))
     left-place r had = record {
-      copy = subst (λ n. 0 < n) (sym (count_of-place r)) had;
+      copy = rw (count_of-place r) had;
       id = id_is r ∙ sym id_among-place;
-      irredundant = irredundant_is r ∙ ap (λ n. n - cond r 0 1) (sym (count_of-place false));
-      redundants = redundant_is r ∙ ap (λ n. n - cond r 1 0) (sym (count_of-place true));
+      irredundant = cc (irredundant_is r, count_of-place false);
+      redundants = cc (redundant_is r, count_of-place true);
     }
       where
         id_is : (r : Bool) → (lowered r d).id ≡ d.id
@@ -133,5 +129,4 @@ module _ (buffer c : List ℕ) (cs : List Clause) where
     pub raised-place : (r : Bool) → are_apart (map (stored_of buffer) cs) ≡ true → map (stored_of buffer) (set cs i (raised r d)) ≡ map (raise r c) (map (stored_of buffer) cs)
     raised-place r a =
         let e = stored_of buffer d in let es = map (stored_of buffer) cs in
-        map-set (stored_of buffer) cs i (raised r d)
-        ∙ ap (λ x. set es i x) (raised_same r) ∙ sym (raise-at c e same r es i within stands before a)
+        cc (map-set (stored_of buffer) cs i (raised r d), raised_same r, raise-at c e same r es i within stands before a)

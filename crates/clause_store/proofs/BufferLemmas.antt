@@ -17,31 +17,27 @@ module _ (old new : List ℕ) (kept : take (length old) new ≡ old) where
   lits_of-kept (Three ls) w = refl
   lits_of-kept (Long start len) w =
       let n : length old ≡ start + (length old - start) = omega (arith, w) in
-      let cut = ap (drop start) (sym kept ∙ ap (λ k. take k new) n) ∙ drop-take start (length old - start) new in
+      let cut = ap (drop start) (cc) ∙ drop-take start (length old - start) new in
       sym (ap (take len) cut ∙ take-take len (length old - start) (drop start new) (omega (arith, w)))
 
   pub stored_of-kept : (cs : List Clause) → All (λ c. IsWithin c.lits old) cs → map (stored_of new) cs ≡ map (stored_of old) cs
   stored_of-kept [] w = refl
   stored_of-kept (c ∷ cs) w =
-      ap (λ ls. record { lits = ls; id = c.id; irredundant = c.irredundant; redundant = c.redundant } ∷ map (stored_of new) cs) (lits_of-kept c.lits (w 0 c (omega arith)))
-      ∙ ap (λ es. stored_of old c ∷ es) (stored_of-kept cs (λ k d l. w (suc k) d (omega (arith, l))))
+      cc (lits_of-kept c.lits (w 0 c (omega arith)), stored_of-kept cs (λ k d l. w (suc k) d (omega (arith, l))))
 
   -- one clause more in a bucket
   module _ (m m' : Buckets) (hash : ℕ) (d : Clause) (within : AreWithin old m) (longer : length old ≤ length new) (here : IsWithin d.lits new)
       (pushed : clauses_at m' hash ≡ clauses_at m hash ++ d ∷ []) (others : (k : ℕ) → (k ≡ hash → ⊥) → clauses_at m' k ≡ clauses_at m k) where
     pub stored_in-pushed : stored_in new m' hash ≡ stored_in old m hash ++ stored_of new d ∷ []
-    stored_in-pushed = ap (map (stored_of new)) pushed ∙ map-append (stored_of new) (clauses_at m hash) (d ∷ []) ∙ ap
-        (λ es. es ++ stored_of new d ∷ []) (stored_of-kept (clauses_at m hash) (within hash))
+    stored_in-pushed = cc (map-append (stored_of new) (clauses_at m hash) (d ∷ []), stored_of-kept (clauses_at m hash) (within hash))
 
     pub stored_in-others : (k : ℕ) → (k ≡ hash → ⊥) → stored_in new m' k ≡ stored_in old m k
-    stored_in-others k ne = ap (map (stored_of new)) (others k ne) ∙ stored_of-kept (clauses_at m k) (within k)
+    stored_in-others k ne = cc (others k ne, stored_of-kept (clauses_at m k) (within k))
 
     still_within : (k : ℕ) → All (λ c. IsWithin c.lits new) (clauses_at m k)
-    still_within k i c l = let w = within k i c l in omega (arith, w, longer)
+    still_within k i c l = let w = within k i c l in omega arith
 
     pub within-pushed : AreWithin new m'
-    within-pushed k = ⊎_elim {C = All (λ c. IsWithin c.lits new) (clauses_at m' k)}
-        (λ e. subst (λ n. All (λ c. IsWithin c.lits new) (clauses_at m' n)) (sym e)
-        (subst (All (λ c. IsWithin c.lits new)) (sym pushed)
-        (All-push (λ c. IsWithin c.lits new) (clauses_at m hash) d (still_within hash) here)))
-        (λ ne. subst (All (λ c. IsWithin c.lits new)) (sym (others k ne)) (still_within k)) (cases_eq k hash)
+    within-pushed k = ⊎_elim
+        (λ e. rw e (subst (All (λ c. IsWithin c.lits new)) (sym pushed) (All-push (λ c. IsWithin c.lits new) (clauses_at m hash) d (still_within hash) here)))
+        (λ ne. rw (others k ne) (still_within k)) (cases_eq k hash)

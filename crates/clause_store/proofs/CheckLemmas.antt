@@ -32,11 +32,11 @@ use Rattle.clause_store.specs.View.{stored_list, stored_of}
 
 fine_parts : (n : ℕ) (e : Stored) → is_fine n e ≡ true → (is_canonical e.lits ≡ true) × (var_bound e.lits ≤ n)
 fine_parts n e h =
-    let p = and_parts (is_canonical e.lits) _ h in
+    let p = and_parts _ _ h in
     let q = and_parts (not (is_tautology e.lits)) _ p.1 in
     let r = and_parts (not (is_short e.lits)) _ q.1 in
-    let t = and_parts (not (is_gone e)) (leb (var_bound e.lits) n) r.1 in
-    (p.0, leb-true (var_bound e.lits) n t.1)
+    let t = and_parts (not (is_gone e)) _ r.1 in
+    (p.0, leb-true _ n t.1)
 
 all_canonical : (n : ℕ) (es : List Stored) → list_all (is_fine n) es ≡ true → list_all (λ e. is_canonical e.lits) es ≡ true
 all_canonical n [] h = refl
@@ -47,9 +47,9 @@ all_canonical n (e ∷ es) h =
 list_all-filter : {A : Type 0} (p q : A → Bool) (xs : List A) → list_all p xs ≡ true → list_all p (filter q xs) ≡ true
 list_all-filter p q [] h = refl
 list_all-filter p q (x ∷ xs) h =
-    let t = and_parts (p x) (list_all p xs) h in
+    let t = and_parts (p x) _ h in
     elim (q x) as (λ b. list_all p (cond b (x ∷ filter q xs) (filter q xs)) ≡ true) [
-      | true ↦ and_from (p x) (list_all p (filter q xs)) t.0 (list_all-filter p q xs t.1)
+      | true ↦ and_from (p x) _ t.0 (list_all-filter p q xs t.1)
       | false ↦ list_all-filter p q xs t.1
     ]
 
@@ -57,26 +57,25 @@ known-fine : (us : List (Option UnitClause)) (n : ℕ) (buffer : List ℕ) (xs :
     list_all (is_fine n) (map (stored_of buffer) xs) ≡ true → All (λ c. AreKnown us (lits_of c.lits buffer)) xs
 known-fine us n buffer [] e h = All-nil (λ c. AreKnown us (lits_of c.lits buffer))
 known-fine us n buffer (x ∷ xs) e h =
-    let p = and_parts (is_fine n (stored_of buffer x)) _ h in
-    All-cons (λ c. AreKnown us (lits_of c.lits buffer)) x xs (subst (λ k. var_bound (lits_of x.lits buffer) ≤ k) e (fine_parts n (stored_of buffer x) p.0).1) (known-fine us n buffer xs e p.1)
+    let p = and_parts _ _ h in
+    All-cons (λ c. AreKnown us (lits_of c.lits buffer)) x xs (rw (← e) (fine_parts n (stored_of buffer x) p.0).1) (known-fine us n buffer xs e p.1)
 
 all_known : (st : CheckerState) (h : ClauseHasher) (cs : Clauses) (known : List Known) → IsBucketed h cs →
     WellFormed (state_of st h cs known) → AreAllKnown cs.unit_clauses cs.literal_buffer.items cs.buckets
 all_known st h cs known tied form k =
-    known-fine cs.unit_clauses (length known) cs.literal_buffer.items (clauses_at cs.buckets k) (sym form.same_known ∙ length-map cs.unit_clauses (option_map stored_unit))
-    (subst (λ es. list_all (is_fine (length known)) es ≡ true) (sym (tied k)) (list_all-filter (is_fine (length known)) _ (stored_list cs) form.fine))
+    known-fine cs.unit_clauses (length known) cs.literal_buffer.items (clauses_at cs.buckets k) (cc (length-map cs.unit_clauses (option_map stored_unit)))
+    (rw (tied k) (list_all-filter (is_fine (length known)) _ (stored_list cs) form.fine))
 
 named-is : (st : CheckerState) (h : ClauseHasher) (cs : Clauses) (known : List Known) (hs : List ℕ) → IsBucketed h cs →
     named_buckets cs.literal_buffer.items cs.buckets hs ≡ buckets (state_of st h cs known) hs
 unfolding bucket
 named-is st h cs known [] tied = refl
-named-is st h cs known (k ∷ hs) tied = ap (λ es. all_lits es ∷ named_buckets cs.literal_buffer.items cs.buckets hs) (tied k) ∙ ap
-    (λ bs. bucket (state_of st h cs known) k ∷ bs) (named-is st h cs known hs tied)
+named-is st h cs known (k ∷ hs) tied = cc (tied k, named-is st h cs known hs tied)
 
 walk-is : (st : CheckerState) (h : ClauseHasher) (cs : Clauses) (known : List Known) (c hs : List ℕ) → IsBucketed h cs →
     clause_answer (stored_units cs.unit_clauses) c (named_buckets cs.literal_buffer.items cs.buckets hs) ≡
     walk_check (state_of st h cs known) c hs
-walk-is st h cs known c hs tied = ap (clause_answer (stored_units cs.unit_clauses) c) (named-is st h cs known hs tied)
+walk-is st h cs known c hs tied = cc (named-is st h cs known hs tied)
 
 answers : (s : State) (c hs : List ℕ) (a : Answer) → AllCanonical s → is_tautology c ≡ false → check_answer a ≡ walk_check s c hs → AnswersCheck s c hs a
 answers s c hs Passed can apart e = (check_exact s c hs can apart).passes.0 (sym e)
@@ -88,13 +87,12 @@ named-walked : (st : CheckerState) (h : ClauseHasher) (cs : Clauses) (known : Li
 unfolding bucket_entries
 named-walked st h cs known [] tied = refl
 named-walked st h cs known (k ∷ hs) tied =
-    ap (λ es. es ++ named_clauses cs.literal_buffer.items cs.buckets hs) (tied k) ∙ ap
-    (λ es. bucket_entries (state_of st h cs known) k ++ es) (named-walked st h cs known hs tied)
+    cc (tied k, named-walked st h cs known hs tied)
 
 pub check_is_by_rules : CheckIsByRules
 check_is_by_rules = record {
   all_known = all_known;
   walk = walk-is;
-  answers = λ st h cs known c hs a tied form apart e. answers (state_of st h cs known) c hs a (all_canonical (length known) (stored_list cs) form.fine) apart (e ∙ walk-is st h cs known c hs tied);
-  trace = λ st h cs known c hs tied. ap (clause_trace (stored_units cs.unit_clauses) c) (named-walked st h cs known hs tied);
+  answers = λ st h cs known c hs a tied form apart e. answers _ c hs a (all_canonical (length known) (stored_list cs) form.fine) apart (e ∙ walk-is st h cs _ c hs tied);
+  trace = λ st h cs known c hs tied. cc (named-walked st h cs known hs tied);
 }

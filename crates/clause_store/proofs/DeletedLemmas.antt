@@ -35,23 +35,18 @@ module _ (r : Bool) (c : List ℕ) (s : State) where
   pub delete-unknown : is_short c ≡ false → is_stored c s.clauses ≡ false → delete_justified r c s ≡ refuse delete_unknown s
   unfolding gone none stored
   delete-unknown long new =
-      ap (λ b. cond b (refuse delete_unit_or_empty s) (cond (not (is_stored c s.clauses)) (refuse delete_unknown s) stored)) long
-      ∙ ap (λ b. cond (not b) (refuse delete_unknown s) stored) new
+      cc
 
   pub delete-no_copy : is_short c ≡ false → is_stored c s.clauses ≡ true → count_of r c s.clauses ≡ 0 →
       delete_justified r c s ≡ refuse (cond r delete_redundant_is_irredundant delete_irredundant_is_redundant) s
   unfolding gone none stored
   delete-no_copy long old zero =
-      ap (λ b. cond b (refuse delete_unit_or_empty s) (cond (not (is_stored c s.clauses)) (refuse delete_unknown s) stored)) long
-      ∙ ap (λ b. cond (not b) (refuse delete_unknown s) stored) old
-      ∙ ap (λ n. cond (eqb n 0) none gone) zero
+      cc
 
   pub delete-copy : is_short c ≡ false → is_stored c s.clauses ≡ true → 0 < count_of r c s.clauses → delete_justified r c s ≡ accept (delete_copy r c s)
   unfolding gone none stored
   delete-copy long old some =
-      ap (λ b. cond b (refuse delete_unit_or_empty s) (cond (not (is_stored c s.clauses)) (refuse delete_unknown s) stored)) long
-      ∙ ap (λ b. cond (not b) (refuse delete_unknown s) stored) old
-      ∙ ap (λ b. cond b none gone) (positive (count_of r c s.clauses) some)
+      cc (positive (count_of r c s.clauses) some)
     where
       positive : (n : ℕ) → 0 < n → eqb n 0 ≡ false
       positive n h = grind (arith, common_steps)
@@ -62,32 +57,32 @@ pub state_of-rest : (st : CheckerState) (h : ClauseHasher) (cs cs' : Clauses) (k
 state_of-rest st h cs cs' known es p same = λ i. record (state_of st h cs known) { clauses = same i; units = stored_units (p.units i); conflict = p.conflict i; next = p.next i }
 
 pub both_rest : (a b c : Clauses) → KeepsRest a b → KeepsRest b c → KeepsRest a c
-both_rest a b c p q = record { next = q.next ∙ p.next; units = q.units ∙ p.units; conflict = q.conflict ∙ p.conflict }
+both_rest a b c p q = record { next = cc; units = cc; conflict = cc }
 
 -- other buckets alone
 pub rest_of-buckets : (cs cs' : Clauses) → cs' ≡ record cs { buckets = cs'.buckets } → KeepsRest cs cs'
 rest_of-buckets cs cs' e = record {
-  next = ap (λ (x : Clauses). x.next_clause_id) e;
-  units = ap (λ (x : Clauses). x.unit_clauses) e;
-  conflict = ap (λ (x : Clauses). x.unit_conflict) e;
+  next = cc;
+  units = cc;
+  conflict = cc;
 }
 
 -- in order after a change of the stored clauses alone
 pub store-rest : (h : ClauseHasher) (cs cs' : Clauses) (es : List Stored) → IsIndexed h cs' es →
     2 * cs'.garbage_size ≤ length cs'.literal_buffer.items → KeepsRest cs cs' → AreCounts cs'.lit_counts (length cs'.unit_clauses) es →
     IsStore h cs → IsStore h cs'
-store-rest h cs cs' es f garbage rest counts s = is_store-by h cs' es f garbage (subst (λ us. list_all is_stored_unit us ≡ true) (sym rest.units) s.units) counts
+store-rest h cs cs' es f garbage rest counts s = is_store-by h cs' es f garbage (rw rest.units s.units) counts
 
 module _ (h : ClauseHasher) (cs : Clauses) where
   -- nothing goes
   pub state-unchanged : (st : CheckerState) (known : List Known) (cs' : Clauses) → IsIndexed h cs' (stored_list cs) →
       cs' ≡ record cs { buckets = cs'.buckets } → state_of st h cs' known ≡ state_of st h cs known
-  state-unchanged st known cs' f e = state_of-rest st h cs cs' known (stored_list cs) (rest_of-buckets cs cs' e) (stored_list-is h cs' (stored_list cs) f)
+  state-unchanged st known cs' f e = state_of-rest st h cs cs' _ _ (rest_of-buckets cs cs' e) (stored_list-is h cs' _ f)
 
   pub store-unchanged : (cs' : Clauses) → IsIndexed h cs' (stored_list cs) → cs' ≡ record cs { buckets = cs'.buckets } → IsStore h cs → IsStore h cs'
   store-unchanged cs' f e s =
-      store-rest h cs cs' (stored_list cs) f (subst (λ (x : Clauses). 2 * x.garbage_size ≤ length x.literal_buffer.items) (sym e) s.garbage) (rest_of-buckets cs cs' e)
-      (subst (λ (x : Clauses). AreCounts x.lit_counts (length x.unit_clauses) (stored_list cs)) (sym e) s.counts) s
+      store-rest h cs cs' _ f (rw e s.garbage) (rest_of-buckets cs cs' e)
+      (rw e s.counts) s
 
   -- a copy goes, and then the garbage
   pub deletes : (r : Bool) (c : List ℕ) → is_short c ≡ false →
@@ -97,9 +92,8 @@ module _ (h : ClauseHasher) (cs : Clauses) where
       → Deletes c r (state_of st h cs known) (state_of st h after known) left.id (deleted_as r left.irredundant left.redundant)
   deletes r c long st known taken after left p filed rest still rest' =
       let s = state_of st h cs known in let es = stored_list cs in
-      let same : stored_list after ≡ remaining (map (lower r c) es) = stored_list-is h after (stored_list taken) still ∙ stored_list-is h taken (remaining (map (lower r c) es)) filed in record {
-        after = delete-copy r c s long (stored_with-copy r c es p.copy) p.copy ∙ ap accept
-            (sym (state_of-rest st h cs after known (remaining (map (lower r c) es)) (both_rest cs taken after rest rest') same));
+      let same : stored_list after ≡ remaining (map (lower r c) es) = stored_list-is h _ _ still ∙ stored_list-is h taken _ filed in record {
+        after = cc (delete-copy r c s long (stored_with-copy r c es p.copy) p.copy, state_of-rest st h cs after known (remaining (map (lower r c) es)) (both_rest cs taken after rest rest') same);
         id_is = p.id;
-        result_is = ap (λ n. deleted_as r n left.redundant) p.irredundant ∙ ap (deleted_as r (count_of false c es - cond r 0 1)) p.redundants;
+        result_is = cc;
       }

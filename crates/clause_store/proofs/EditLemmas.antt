@@ -28,22 +28,22 @@ use Rattle.clause_store.proofs.ViewLemmas.{above_from, list_is}
 
 -- buckets that hold a list by rising ids
 pub stored_list-is : (h : ClauseHasher) (cs : Clauses) (es : List Stored) → IsIndexed h cs es → stored_list cs ≡ es
-stored_list-is h cs es f = list_is cs.literal_buffer.items cs.buckets (hash_of h) es (above_from 0 cs.next_clause_id es f.rise) f.bucketed
+stored_list-is h cs es f = list_is _ _ _ es (above_from 0 _ es f.rise) f.bucketed
 
 pub is_store-by : (h : ClauseHasher) (cs : Clauses) (es : List Stored) → IsIndexed h cs es → 2 * cs.garbage_size ≤ length cs.literal_buffer.items → list_all is_stored_unit cs.unit_clauses ≡ true
     → AreCounts cs.lit_counts (length cs.unit_clauses) es → IsStore h cs
 is_store-by h cs es f garbage units counts =
     let same = sym (stored_list-is h cs es f) in
     record {
-      filed = subst (IsIndexed h cs) same f;
+      filed = rw (← same) f;
       garbage = garbage;
       units = units;
-      counts = subst (AreCounts cs.lit_counts (length cs.unit_clauses)) same counts;
+      counts = rw (← same) counts;
     }
 
 -- a change in one bucket
 pub here_or_there : (k n : ℕ) (xs ys : List Stored) → (k ≡ n → xs ≡ ys) → ((k ≡ n → ⊥) → xs ≡ ys) → xs ≡ ys
-here_or_there k n xs ys here there = ⊎_elim {C = xs ≡ ys} here there (cases_eq k n)
+here_or_there k n xs ys here there = ⊎_elim here there (cases_eq k n)
 
 pub not_equal : (a b : ℕ) → (b ≡ a → ⊥) → eqb a b ≡ false
 not_equal a b e = grind (arith, nat_tests)
@@ -52,9 +52,9 @@ pub within_others : (buffer : List ℕ) (m n : Buckets) (hash : ℕ) → AreWith
     All (λ d. IsWithin d.lits buffer) (clauses_at n hash) → ((k : ℕ) → (k ≡ hash → ⊥) → clauses_at n k ≡ clauses_at m k) →
     AreWithin buffer n
 within_others buffer m n hash all here others k =
-    ⊎_elim {C = All (λ d. IsWithin d.lits buffer) (clauses_at n k)}
-    (λ e. subst (λ x. All (λ d. IsWithin d.lits buffer) (clauses_at n x)) (sym e) here)
-    (λ ne. subst (All (λ d. IsWithin d.lits buffer)) (sym (others k ne)) (all k)) (cases_eq k hash)
+    ⊎_elim
+    (λ e. rw e here)
+    (λ ne. rw (others k ne) (all k)) (cases_eq k hash)
 
 -- a copy more is counted
 one_more : (n : ℕ) → eqb (n + 1) 0 ≡ false
@@ -62,12 +62,12 @@ one_more n = grind (arith, nat_tests)
 
 gone_raised : (r b : Bool) (e : Stored) → is_gone e ≡ false → is_gone (cond b (cond r (record e { redundant = e.redundant + 1 }) (record e { irredundant = e.irredundant + 1 })) e) ≡ false
 gone_raised r false e h = h
-gone_raised true true e h = ap (λ b. eqb e.irredundant 0 && b) (one_more e.redundant) ∙ none (eqb e.irredundant 0)
+gone_raised true true e h = cc (one_more e.redundant, none (eqb e.irredundant 0))
   where
     none : (b : Bool) → (b && false) ≡ false
     none true = refl
     none false = refl
-gone_raised false true e h = ap (λ b. b && eqb e.redundant 0) (one_more e.irredundant)
+gone_raised false true e h = cc (one_more e.irredundant)
 
 whole-raise : (r : Bool) (c : List ℕ) (es : List Stored) → list_all is_whole es ≡ true → list_all is_whole (map (raise r c) es) ≡ true
 whole-raise r c [] h = refl
@@ -84,22 +84,18 @@ files-raised h cs es m r c f p = record {
   bucketed = λ k.
       let serve = (buckets_serve (hash_of h) es).raised k r c in
       here_or_there k (hash_of h c) _ _
-      (λ e. ap (stored_in cs.literal_buffer.items m) e ∙ p.here ∙ ap (map (raise r c)) (f.bucketed (hash_of h c)) ∙ ap (λ n. map (raise r c) (of_hash (hash_of h) n es)) (sym e)
-      ∙ ap (λ b. cond b (map (raise r c) (of_hash (hash_of h) k es)) (of_hash (hash_of h) k es)) (sym (eq-eqb (hash_of h c) k (sym e))) ∙ sym serve)
-      (λ ne. ap (map (stored_of cs.literal_buffer.items)) (p.others k ne) ∙ f.bucketed k
-      ∙ ap (λ b. cond b (map (raise r c) (of_hash (hash_of h) k es)) (of_hash (hash_of h) k es)) (sym (not_equal (hash_of h c) k ne)) ∙ sym serve);
-  rise = rise_map (raise r c) (raise_id r c) 0 es cs.next_clause_id ∙ f.rise;
-  apart = apart_map (raise r c) (raise-lits r c) es ∙ f.apart;
+      (λ e. cc (e, p.here, f.bucketed (hash_of h c), eq-eqb (hash_of h c) k (sym e), serve))
+      (λ ne. cc (p.others k ne, f.bucketed k, not_equal (hash_of h c) k ne, serve));
+  rise = cc (rise_map (raise r c) (raise_id r c) 0 es cs.next_clause_id);
+  apart = cc (apart_map (raise r c) (raise-lits r c) es);
   whole = whole-raise r c es f.whole;
-  used = f.used ∙ ap (λ n. n + cs.garbage_size) (sym (live_literals_add.raised r c es));
+  used = cc (live_literals_add.raised r c es);
 }
 
 -- a clause more is stored
 whole-push : (es : List Stored) (r : Bool) (c : List ℕ) (id : ℕ) → list_all is_whole es ≡ true → is_short c ≡ false → list_all is_whole (es ++ new_stored r c id ∷ []) ≡ true
 whole-push es r c id all long =
-    list_all-append is_whole es (new_stored r c id ∷ []) ∙ ap (λ b. b && (is_whole (new_stored r c id) && true)) all
-    ∙ (elim r as (λ r. ((not (is_short c) && not (eqb (cond r 0 1) 0 && eqb (cond r 1 0) 0)) && true) ≡ true)
-    [ true ↦ ap (λ b. (not b && true) && true) long | false ↦ ap (λ b. (not b && true) && true) long ])
+    cc (list_all-append is_whole es (new_stored r c id ∷ []), elim r as (λ r. ((not (is_short c) && not (eqb (cond r 0 1) 0 && eqb (cond r 1 0) 0)) && true) ≡ true) [ true ↦ ap (λ b. (not b && true) && true) long | false ↦ ap (λ b. (not b && true) && true) long ])
 
 pub files-pushed : (h : ClauseHasher) (cs cs' : Clauses) (es : List Stored) (r : Bool) (c : List ℕ) → IsIndexed h cs es →
     IsPushed (hash_of h c) (new_stored r c cs.next_clause_id) cs cs' → is_stored c es ≡ false → is_short c ≡ false →
@@ -111,11 +107,9 @@ files-pushed h cs cs' es r c f p new long = let e = new_stored r c cs.next_claus
   bucketed = λ k.
       let serve = (buckets_serve (hash_of h) es).push k e in
       here_or_there k (hash_of h c) _ _
-      (λ q. ap (stored_at cs') q ∙ p.here ∙ ap (λ xs. xs ++ e ∷ []) (f.bucketed (hash_of h c)) ∙ ap (λ n. of_hash (hash_of h) n es ++ e ∷ []) (sym q)
-      ∙ ap (λ b. of_hash (hash_of h) k es ++ cond b (e ∷ []) []) (sym (eq-eqb (hash_of h c) k (sym q))) ∙ sym serve)
-      (λ ne. p.others k ne ∙ f.bucketed k ∙ sym (append-nil (of_hash (hash_of h) k es))
-      ∙ ap (λ b. of_hash (hash_of h) k es ++ cond b (e ∷ []) []) (sym (not_equal (hash_of h c) k ne)) ∙ sym serve);
-  rise = subst (λ n. ids_rise 0 (es ++ e ∷ []) n ≡ true) (sym p.next) (rise_push 0 es r c cs.next_clause_id f.rise);
+      (λ q. cc (q, p.here, f.bucketed (hash_of h c), eq-eqb (hash_of h c) k (sym q), serve))
+      (λ ne. cc (p.others k ne, f.bucketed k, append-nil (of_hash (hash_of h) k es), not_equal (hash_of h c) k ne, serve));
+  rise = subst (λ n. ids_rise 0 (es ++ e ∷ []) n ≡ true) (cc) (rise_push 0 es r c cs.next_clause_id f.rise);
   apart = apart_push es e f.apart new;
   whole = whole-push es r c cs.next_clause_id f.whole long;
   used = let live = live_literals_add.pushed es e in let old = f.used in omega (arith, p.used, p.garbage, live, old);
@@ -125,11 +119,9 @@ pub is_store-pushed : (h : ClauseHasher) (cs cs' : Clauses) (r : Bool) (c : List
     IsPushed (hash_of h c) (new_stored r c cs.next_clause_id) cs cs' → is_stored c (stored_list cs) ≡ false → is_short c ≡ false →
     IsStore h cs'
 is_store-pushed h cs cs' r c s p new long =
-    is_store-by h cs' (stored_list cs ++ new_stored r c cs.next_clause_id ∷ []) (files-pushed h cs cs' (stored_list cs) r c s.filed p new long) (omega (arith, p.used, p.garbage, s.garbage))
-    (subst (λ us. list_all is_stored_unit us ≡ true) (sym p.units) s.units)
-    (subst (λ us. AreCounts cs'.lit_counts (length us) (stored_list cs ++ new_stored r c cs.next_clause_id ∷ [])) (sym p.units)
-    (counts-pushed cs.lit_counts cs'.lit_counts (length cs.unit_clauses) (stored_list cs) (new_stored r c cs.next_clause_id) s.counts
-    p.held p.counted))
+    is_store-by h cs' _ (files-pushed h cs cs' _ r c s.filed p new long) (omega arith)
+    (rw p.units s.units)
+    (rw p.units (counts-pushed cs.lit_counts cs'.lit_counts (length cs.unit_clauses) (stored_list cs) (new_stored r c cs.next_clause_id) s.counts p.held p.counted))
 
 -- nothing is changed
 pub files-same : (h : ClauseHasher) (cs : Clauses) (es : List Stored) (m : Buckets) → IsIndexed h cs es →
@@ -137,8 +129,8 @@ pub files-same : (h : ClauseHasher) (cs : Clauses) (es : List Stored) (m : Bucke
 files-same h cs es m f same = record {
   some_bits = f.some_bits;
   bits = f.bits;
-  within = λ k. subst (All (λ d. IsWithin d.lits cs.literal_buffer.items)) (sym (same k)) (f.within k);
-  bucketed = λ k. ap (map (stored_of cs.literal_buffer.items)) (same k) ∙ f.bucketed k;
+  within = λ k. rw (same k) (f.within k);
+  bucketed = λ k. cc (same k, f.bucketed k);
   rise = f.rise;
   apart = f.apart;
   whole = f.whole;

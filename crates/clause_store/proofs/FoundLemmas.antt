@@ -14,95 +14,92 @@ use Rattle.clause_store.specs.Found.{found_in}
 use Rattle.clause_store.specs.Store.{is_whole}
 
 raise-other : (r : Bool) (c : List ℕ) (e : Stored) → same_list e.lits c ≡ false → raise r c e ≡ e
-raise-other r c e n = ap (λ b. cond b (cond r (record e { redundant = e.redundant + 1 }) (record e { irredundant = e.irredundant + 1 })) e) n
+raise-other r c e n = cc
 
 module _ (c : List ℕ) where
   -- a clause that is not stored
   pub count_of-absent : (r : Bool) (es : List Stored) → is_stored c es ≡ false → count_of r c es ≡ 0
   count_of-absent r [] h = refl
   count_of-absent r (e ∷ es) h = let p = or_parts (same_list e.lits c) (is_stored c es) h in
-      ap (λ b. cond b (cond r e.redundant e.irredundant) (count_of r c es)) p.0 ∙ count_of-absent r es p.1
+      cc (p.0, count_of-absent r es p.1)
 
   pub found_in-absent : (es : List Stored) → is_stored c es ≡ false → found_in c es ≡ None
-  found_in-absent es h = ap (λ b. cond b (Some (id_among c es, count_of false c es)) None) h
+  found_in-absent es h = cc
 
   -- the clause e stands at i, and none of these literals before it
   module _ (e : Stored) (same : same_list e.lits c ≡ true) where
     pub is_stored-at : (es : List Stored) (i : ℕ) → i < length es → e ≡ get_or es i e → is_stored c es ≡ true
-    is_stored-at [] i w h = absurd (omega (arith, w))
-    is_stored-at (x ∷ es) zero w h = ap (λ y. same_list y.lits c || is_stored c es) (sym h) ∙ ap (λ b. b || is_stored c es) same
-    is_stored-at (x ∷ es) (suc i) w h = let k = is_stored-at es i (omega (arith, w)) h in
+    is_stored-at [] i w h = absurd (omega arith)
+    is_stored-at (x ∷ es) zero w h = cc
+    is_stored-at (x ∷ es) (suc i) w h = let k = is_stored-at es i (omega arith) h in
         elim (same_list x.lits c) as (λ b. (b || is_stored c es) ≡ true) [ true ↦ refl | false ↦ k ]
 
     pub id_among-at : (es : List Stored) (i : ℕ) → i < length es → e ≡ get_or es i e → ((k : ℕ) → k < i → same_list (get_or es k e).lits c ≡ false) → id_among c es ≡ e.id
-    id_among-at [] i w h before = absurd (omega (arith, w))
-    id_among-at (x ∷ es) zero w h before = ap (λ y. cond (same_list y.lits c) y.id (id_among c es)) (sym h) ∙ ap (λ b. cond b e.id (id_among c es)) same
+    id_among-at [] i w h before = absurd (omega arith)
+    id_among-at (x ∷ es) zero w h before = cc
     id_among-at (x ∷ es) (suc i) w h before =
-        ap (λ b. cond b x.id (id_among c es)) (before 0 (omega arith)) ∙ id_among-at es i (omega (arith, w)) h (λ k l. before (suc k) (omega (arith, l)))
+        cc (before 0 (omega arith), id_among-at es i (omega (arith, w)) h (λ k l. before (suc k) (omega (arith, l))))
 
     pub count_of-at : (r : Bool) (es : List Stored) (i : ℕ) → i < length es → e ≡ get_or es i e →
         ((k : ℕ) → k < i → same_list (get_or es k e).lits c ≡ false) → count_of r c es ≡ cond r e.redundant e.irredundant
-    count_of-at r [] i w h before = absurd (omega (arith, w))
+    count_of-at r [] i w h before = absurd (omega arith)
     count_of-at r (x ∷ es) zero w h before =
-        ap (λ y. cond (same_list y.lits c) (cond r y.redundant y.irredundant) (count_of r c es)) (sym h) ∙ ap
-        (λ b. cond b (cond r e.redundant e.irredundant) (count_of r c es)) same
+        cc
     count_of-at r (x ∷ es) (suc i) w h before =
-        ap (λ b. cond b (cond r x.redundant x.irredundant) (count_of r c es)) (before 0 (omega arith)) ∙ count_of-at r es i (omega (arith, w)) h (λ k l. before (suc k) (omega (arith, l)))
+        cc (before 0 (omega arith), count_of-at r es i (omega (arith, w)) h (λ k l. before (suc k) (omega (arith, l))))
 
 -- a change of the entries of the list alone
 module _ (c : List ℕ) (f : Stored → Stored) (other : (e : Stored) → same_list e.lits c ≡ false → f e ≡ e) where
   change-absent : (es : List Stored) → is_stored c es ≡ false → map f es ≡ es
   change-absent [] h = refl
-  change-absent (e ∷ es) h = let p = or_parts (same_list e.lits c) (is_stored c es) h in ap (λ x. x ∷ map f es) (other e p.0) ∙ ap (λ xs. e ∷ xs) (change-absent es p.1)
+  change-absent (e ∷ es) h = let p = or_parts _ _ h in cc (other e p.0, change-absent es p.1)
 
   change-at : (e : Stored) → same_list e.lits c ≡ true → (es : List Stored) (i : ℕ) → i < length es → e ≡ get_or es i e →
       ((k : ℕ) → k < i → same_list (get_or es k e).lits c ≡ false) → are_apart es ≡ true → map f es ≡ set es i (f e)
-  change-at e same [] i w h before a = absurd (omega (arith, w))
+  change-at e same [] i w h before a = absurd (omega arith)
   change-at e same (x ∷ es) zero w h before a =
-      let once : is_stored x.lits es ≡ false = not-true (is_stored x.lits es) (and_parts (not (is_stored x.lits es)) (are_apart es) a).0 in
-      let none : is_stored c es ≡ false = subst (λ d. is_stored d es ≡ false) (ap (λ y. y.lits) (sym h) ∙ same_list-eq e.lits c same) once in
-      ap (λ y. f y ∷ map f es) (sym h) ∙ ap (λ ys. f e ∷ ys) (change-absent es none)
+      let once : is_stored x.lits es ≡ false = not-true _ (and_parts (not (is_stored x.lits es)) (are_apart es) a).0 in
+      let none : is_stored c es ≡ false = subst (λ d. is_stored d es ≡ false) (cc (same_list-eq e.lits c same)) once in
+      cc (change-absent es none)
   change-at e same (x ∷ es) (suc i) w h before a =
-      ap (λ y. y ∷ map f es) (other x (before 0 (omega arith)))
-      ∙ ap (λ ys. x ∷ ys) (change-at e same es i (omega (arith, w)) h (λ k l. before (suc k) (omega (arith, l))) (and_parts (not (is_stored x.lits es)) (are_apart es) a).1)
+      cc (other x (before 0 (omega arith)), change-at e same es i (omega (arith, w)) h (λ k l. before (suc k) (omega (arith, l))) (and_parts (not (is_stored x.lits es)) (are_apart es) a).1)
 
 pub lower-other : (r : Bool) (c : List ℕ) (e : Stored) → same_list e.lits c ≡ false → lower r c e ≡ e
-lower-other r c e n = ap (λ b. cond b (cond r (record e { redundant = e.redundant - 1 }) (record e { irredundant = e.irredundant - 1 })) e) n
+lower-other r c e n = cc
 
 pub raise-absent : (c : List ℕ) (r : Bool) (es : List Stored) → is_stored c es ≡ false → map (raise r c) es ≡ es
-raise-absent c r = change-absent c (raise r c) (raise-other r c)
+raise-absent c r = change-absent c _ (raise-other r c)
 
 pub lower-absent : (c : List ℕ) (r : Bool) (es : List Stored) → is_stored c es ≡ false → map (lower r c) es ≡ es
-lower-absent c r = change-absent c (lower r c) (lower-other r c)
+lower-absent c r = change-absent c _ (lower-other r c)
 
 pub raise-at : (c : List ℕ) (e : Stored) → same_list e.lits c ≡ true → (r : Bool) (es : List Stored) (i : ℕ) → i < length es →
     e ≡ get_or es i e → ((k : ℕ) → k < i → same_list (get_or es k e).lits c ≡ false) → are_apart es ≡ true →
     map (raise r c) es ≡ set es i (raise r c e)
-raise-at c e same r = change-at c (raise r c) (raise-other r c) e same
+raise-at c e same r = change-at c _ (raise-other r c) e same
 
 pub lower-at : (c : List ℕ) (e : Stored) → same_list e.lits c ≡ true → (r : Bool) (es : List Stored) (i : ℕ) → i < length es →
     e ≡ get_or es i e → ((k : ℕ) → k < i → same_list (get_or es k e).lits c ≡ false) → are_apart es ≡ true →
     map (lower r c) es ≡ set es i (lower r c e)
-lower-at c e same r = change-at c (lower r c) (lower-other r c) e same
+lower-at c e same r = change-at c _ (lower-other r c) e same
 
 -- the entries that are left
 pub remaining-whole : (es : List Stored) → list_all is_whole es ≡ true → remaining es ≡ es
 remaining-whole [] h = refl
 remaining-whole (e ∷ es) h =
-    let p = and_parts (is_whole e) (list_all is_whole es) h in
-    ap (λ b. cond b (e ∷ remaining es) (remaining es)) (and_parts (not (is_short e.lits)) (not (is_gone e)) p.0).1 ∙ ap (λ xs. e ∷ xs) (remaining-whole es p.1)
+    let p = and_parts _ _ h in
+    cc ((and_parts (not (is_short e.lits)) (not (is_gone e)) p.0).1, remaining-whole es p.1)
 
 pub remaining-set : (x : Stored) (es : List Stored) (i : ℕ) → is_gone x ≡ false → list_all is_whole es ≡ true → remaining (set es i x) ≡ set es i x
 remaining-set x [] i g h = refl
-remaining-set x (e ∷ es) zero g h = ap (λ b. cond (not b) (x ∷ remaining es) (remaining es)) g ∙ ap (λ xs. x ∷ xs) (remaining-whole es (and_parts (is_whole e) (list_all is_whole es) h).1)
+remaining-set x (e ∷ es) zero g h = cc (remaining-whole es (and_parts (is_whole e) (list_all is_whole es) h).1)
 remaining-set x (e ∷ es) (suc i) g h =
-    let p = and_parts (is_whole e) (list_all is_whole es) h in
-    ap (λ b. cond b (e ∷ remaining (set es i x)) (remaining (set es i x))) (and_parts (not (is_short e.lits)) (not (is_gone e)) p.0).1 ∙ ap (λ xs. e ∷ xs) (remaining-set x es i g p.1)
+    let p = and_parts _ _ h in
+    cc ((and_parts (not (is_short e.lits)) (not (is_gone e)) p.0).1, remaining-set x es i g p.1)
 
 pub remaining-gone : (x : Stored) (es : List Stored) (i : ℕ) → i < length es → is_gone x ≡ true → list_all is_whole es ≡ true → remaining (set es i x) ≡ take i es ++ drop (suc i) es
-remaining-gone x [] i w g h = absurd (omega (arith, w))
-remaining-gone x (e ∷ es) zero w g h = ap (λ b. cond (not b) (x ∷ remaining es) (remaining es)) g ∙ remaining-whole es (and_parts (is_whole e) (list_all is_whole es) h).1
+remaining-gone x [] i w g h = absurd (omega arith)
+remaining-gone x (e ∷ es) zero w g h = cc (remaining-whole es (and_parts (is_whole e) (list_all is_whole es) h).1)
 remaining-gone x (e ∷ es) (suc i) w g h =
-    let p = and_parts (is_whole e) (list_all is_whole es) h in
-    ap (λ b. cond b (e ∷ remaining (set es i x)) (remaining (set es i x))) (and_parts (not (is_short e.lits)) (not (is_gone e)) p.0).1 ∙ ap
-    (λ xs. e ∷ xs) (remaining-gone x es i (omega (arith, w)) g p.1)
+    let p = and_parts _ _ h in
+    cc ((and_parts (not (is_short e.lits)) (not (is_gone e)) p.0).1, remaining-gone x es i (omega (arith, w)) g p.1)

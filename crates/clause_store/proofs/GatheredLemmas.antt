@@ -29,7 +29,7 @@ use Rattle.clause_store.proofs.ViewLemmas.{In, above_from, in_filter, some_here}
 
 flat_map-same : (f g : ℕ → List Stored) → ((k : ℕ) → f k ≡ g k) → (ks : List ℕ) → flat_map f ks ≡ flat_map g ks
 flat_map-same f g same [] = refl
-flat_map-same f g same (k ∷ ks) = ap (λ xs. xs ++ flat_map f ks) (same k) ∙ ap (λ xs. g k ++ xs) (flat_map-same f g same ks)
+flat_map-same f g same (k ∷ ks) = cc (same k, flat_map-same f g same ks)
 
 all_in : (p : Stored → Bool) (es : List Stored) → ((x : Stored) → In x es → p x ≡ true) → list_all p es ≡ true
 all_in p [] f = refl
@@ -41,57 +41,53 @@ module _ (buffer : List ℕ) (m : Buckets) where
       map (stored_of buffer) (flat_map (λ b. b.items) (values_of es)) ≡ flat_map (stored_in buffer m) (keys_of es)
   flat_map-entries [] found = refl
   flat_map-entries (e ∷ es) found =
-      map-append (stored_of buffer) e.1.items (flat_map (λ b. b.items) (values_of es))
-      ∙ ap (λ xs. xs ++ map (stored_of buffer) (flat_map (λ b. b.items) (values_of es))) (ap (λ o. map (stored_of buffer) (bucket_items o)) (sym (found 0 e (omega arith))))
-      ∙ ap (λ xs. stored_in buffer m e.0 ++ xs) (flat_map-entries es (λ k d l. found (suc k) d (omega (arith, l))))
+      cc (map-append (stored_of buffer) e.1.items (flat_map (λ b. b.items) (values_of es)), found 0 e (omega arith), flat_map-entries es (λ k d l. found (suc k) d (omega (arith, l))))
 
   pub found_all : IsUnique nat_eq m → All (λ e. get nat_eq m e.0 ≡ Some e.1) m.entries
   found_all unique i d l = hash_map_get_place nat_eq_equiv m i _ _ unique (slice_get-get_or m.entries i d l)
 
 ids_rise-by : (all : List Clause) → IsNonDecreasingBy (λ c. c.id) all → IsNonDecreasing (map (λ c. c.id) all)
-ids_rise-by [] up i j d le l = absurd (omega (arith, l))
+ids_rise-by [] up i j d le l = absurd (omega arith)
 ids_rise-by (x ∷ xs) up i j d le l =
-    let f : Clause → ℕ = λ (c : Clause). c.id in
-    let lj : j < length (x ∷ xs) = omega (arith, length-map (x ∷ xs) f, l) in
-    let li : i < length (x ∷ xs) = omega (arith, le, lj) in
-    let a = get_or-map f (x ∷ xs) i x d li in let b = get_or-map f (x ∷ xs) j x d lj in let c = up i j x le lj in omega (arith, a, b, c)
+    let f : Clause → ℕ = λ c. c.id in
+    let lj : j < length (x ∷ xs) = omega (arith, length-map (x ∷ xs) f) in
+    let li : i < length (x ∷ xs) = omega arith in
+    let a = get_or-map f (x ∷ xs) i x d li in let b = get_or-map f (x ∷ xs) j x d lj in let c = up i j x le lj in omega arith
 
 module _ (h : ClauseHasher) (cs : Clauses) (es : List Stored) (f : IsIndexed h cs es) (unique : IsUnique nat_eq cs.buckets) where
   covered : list_all (λ e. list_any (eqb (hash_of h e.lits)) (keys cs.buckets)) es ≡ true
   covered = all_in (λ e. list_any (eqb (hash_of h e.lits)) (keys cs.buckets)) es (λ x i.
       let k = hash_of h x.lits in
-      let here : In x (stored_in cs.literal_buffer.items cs.buckets k) = subst (In x) (sym (f.bucketed k)) (in_filter (λ e. eqb (hash_of h e.lits) k) x es (grind arith) i) in
+      let here : In x (stored_in cs.literal_buffer.items cs.buckets k) = rw (f.bucketed k) (in_filter (λ e. eqb (hash_of h e.lits) k) x es (grind arith) i) in
       list_any-from_Contains nat_eq_equiv k (keys cs.buckets) ((hash_map_contains_key_iff nat_eq_equiv exact_unsigned_eq cs.buckets k).0 (some_here cs.literal_buffer.items cs.buckets k x here)))
 
   pub in_other_order : IsPermutation es (map (stored_of cs.literal_buffer.items) (flat_map (λ b. b.items) (values cs.buckets)))
   in_other_order =
-      subst (IsPermutation es) (sym (flat_map-entries cs.literal_buffer.items cs.buckets cs.buckets.entries
-      (found_all cs.literal_buffer.items cs.buckets unique) ∙ flat_map-same (stored_in cs.literal_buffer.items cs.buckets)
-      (λ k. of_hash (hash_of h) k es) f.bucketed (keys cs.buckets)))
-      (covers (hash_of h) (keys cs.buckets) es unique covered)
+      subst (IsPermutation es) (cc (flat_map-entries cs.literal_buffer.items cs.buckets cs.buckets.entries (found_all cs.literal_buffer.items cs.buckets unique), flat_map-same (stored_in cs.literal_buffer.items cs.buckets) (λ k. of_hash (hash_of h) k es) f.bucketed (keys cs.buckets)))
+      (covers _ _ es unique covered)
 
   -- sorted by their ids
   pub gathered : (all : List Clause) → IsPermutation (flat_map (λ b. b.items) (values cs.buckets)) all → IsNonDecreasingBy (λ c. c.id) all → map (stored_of cs.literal_buffer.items) all ≡ es
   gathered all p up =
-      same_from_permutation es (map (stored_of cs.literal_buffer.items) all) (above_from 0 cs.next_clause_id es f.rise)
-      (IsPermutation-trans es _ (map (stored_of cs.literal_buffer.items) all) in_other_order (IsPermutation-map (stored_of cs.literal_buffer.items) _ all p))
-      (subst IsNonDecreasing (ids-same all) (ids_rise-by all up))
+      same_from_permutation es _ (above_from 0 _ es f.rise)
+      (IsPermutation-trans es _ _ in_other_order (IsPermutation-map (stored_of cs.literal_buffer.items) _ all p))
+      (rw (← ids-same all) (ids_rise-by all up))
     where
       ids-same : (xs : List Clause) → map (λ c. c.id) xs ≡ map (λ e. e.id) (map (stored_of cs.literal_buffer.items) xs)
       ids-same [] = refl
-      ids-same (x ∷ xs) = ap (λ ks. x.id ∷ ks) (ids-same xs)
+      ids-same (x ∷ xs) = cc (ids-same xs)
 
   -- they lie in the buffer
   all_within : (xs : List (ℕ × SmallVec Clause)) → All (λ e. get nat_eq cs.buckets e.0 ≡ Some e.1) xs → All (λ c. IsWithin c.lits cs.literal_buffer.items) (flat_map (λ b. b.items) (values_of xs))
-  all_within [] found = All-nil (λ (c : Clause). IsWithin c.lits cs.literal_buffer.items)
+  all_within [] found = All-nil (λ c. IsWithin c.lits cs.literal_buffer.items)
   all_within (e ∷ xs) found =
       let P : Clause → Type 0 = λ c. IsWithin c.lits cs.literal_buffer.items in
-      All-append P e.1.items (flat_map (λ b. b.items) (values_of xs))
+      All-append P _ _
       (subst (λ o. All P (bucket_items o)) (found 0 e (omega arith)) (f.within e.0))
-      (all_within xs (λ k d l. found (suc k) d (omega (arith, l))))
+      (all_within xs (λ k d l. found (suc k) d (omega arith)))
 
   pub walked_within : All (λ c. IsWithin c.lits cs.literal_buffer.items) (flat_map (λ b. b.items) (values cs.buckets))
-  walked_within = all_within cs.buckets.entries (found_all cs.literal_buffer.items cs.buckets unique)
+  walked_within = all_within _ (found_all cs.literal_buffer.items cs.buckets unique)
 
   pub gathered_within : (all : List Clause) → IsPermutation (flat_map (λ b. b.items) (values cs.buckets)) all → All (λ c. IsWithin c.lits cs.literal_buffer.items) all
-  gathered_within all p = All-permutation (λ (c : Clause). IsWithin c.lits cs.literal_buffer.items) (flat_map (λ b. b.items) (values cs.buckets)) all p walked_within
+  gathered_within all p = All-permutation (λ c. IsWithin c.lits cs.literal_buffer.items) _ all p walked_within

@@ -19,20 +19,20 @@ use Rattle.clause_store.proofs.HeldEdits.{counts-known}
 
 map-free : (n : ℕ) → map (option_map stored_unit) (replicate n None) ≡ replicate n None
 map-free zero = refl
-map-free (suc n) = ap (λ xs. None ∷ xs) (map-free n)
+map-free (suc n) = cc (map-free n)
 
 free-units : (us : List (Option UnitClause)) (n : ℕ) → stored_units (us ++ replicate n None) ≡ stored_units us ++ replicate n None
-free-units us n = map-append (option_map stored_unit) us (replicate n None) ∙ ap (λ xs. stored_units us ++ xs) (map-free n)
+free-units us n = cc (map-append (option_map stored_unit) us (replicate n None), map-free n)
 
 grown-units : (us : List (Option UnitClause)) (count : ℕ) → stored_units (us ++ replicate (count - length us) None) ≡ stored_units us ++ replicate (count - length (stored_units us)) None
-grown-units us count = free-units us (count - length us) ∙ ap (λ n. stored_units us ++ replicate (count - n) None) (sym (length-map us (option_map stored_unit)))
+grown-units us count = cc (free-units us (count - length us), length-map us (option_map stored_unit))
 
 pub knows_vars : (count : ℕ) (cs : Clauses) (known : List Known) (us : List (Option UnitClause)) (counts : List ℕ) (known' : List Known) → length cs.unit_clauses ≡ length known
     → us ≡ cs.unit_clauses ++ replicate (count - length cs.unit_clauses) None →
     counts ≡ cs.lit_counts ++ replicate (2 * count - length cs.lit_counts) 0 → known' ≡ known ++ replicate (count - length known) new_known
     → KnowsVars count cs known (record cs { unit_clauses = us; lit_counts = counts }) known'
 knows_vars count cs known us counts known' same grown counted more = record {
-  state = λ st h. rw (grown, more) (ap (λ xs. record (state_of st h cs known) { units = xs; known = known ++ replicate (count - length known) new_known }) (grown-units cs.unit_clauses count));
+  state = λ st h. rw (grown, more) (cc (grown-units cs.unit_clauses count));
   others = refl;
   units = grown;
   counts = counted;
@@ -43,13 +43,13 @@ knows_vars count cs known us counts known' same grown counted more = record {
 
 -- where they are known already
 none-more : {A : Type 0} (x : A) (xs : List A) (n : ℕ) → n ≡ 0 → xs ≡ xs ++ replicate n x
-none-more x xs n none = sym (append-nil xs) ∙ ap (λ k. xs ++ replicate k x) (sym none)
+none-more x xs n none = cc (append-nil xs)
 
 pub knows_none : (count : ℕ) (cs : Clauses) (known : List Known) → length cs.unit_clauses ≡ length known → length cs.lit_counts ≡ 2 * length cs.unit_clauses →
     count ≤ length cs.unit_clauses → KnowsVars count cs known cs known
 knows_none count cs known same counted enough =
-    knows_vars count cs known cs.unit_clauses cs.lit_counts known same (none-more None cs.unit_clauses _ (omega (arith, enough)))
-    (none-more 0 cs.lit_counts _ (omega (arith, enough, counted))) (none-more new_known known _ (omega (arith, enough, same)))
+    knows_vars _ cs _ _ _ _ same (none-more None cs.unit_clauses _ (omega arith))
+    (none-more 0 cs.lit_counts _ (omega arith)) (none-more new_known known _ (omega arith))
 
 all-free : (n : ℕ) → list_all is_stored_unit (replicate n None) ≡ true
 all-free zero = refl
@@ -57,7 +57,7 @@ all-free (suc n) = all-free n
 
 all-more : (us : List (Option UnitClause)) (n : ℕ) → list_all is_stored_unit us ≡ true → list_all is_stored_unit (us ++ replicate n None) ≡ true
 all-more [] n h = all-free n
-all-more (u ∷ us) n h = let p = and_parts (is_stored_unit u) (list_all is_stored_unit us) h in and_from (is_stored_unit u) (list_all is_stored_unit (us ++ replicate n None)) p.0 (all-more us n p.1)
+all-more (u ∷ us) n h = let p = and_parts (is_stored_unit u) (list_all is_stored_unit us) h in and_from _ (list_all is_stored_unit (us ++ replicate n None)) p.0 (all-more us n p.1)
 
 in_order : (h : ClauseHasher) (cs : Clauses) (us : List (Option UnitClause)) (counts : List ℕ) → IsStore h cs →
     list_all is_stored_unit us ≡ true → AreCounts counts (length us) (stored_list cs) →

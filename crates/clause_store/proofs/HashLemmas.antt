@@ -15,7 +15,7 @@ use Rattle.clause_store.specs.Names.{names_of}
 
 pub named_hash-Some : (v m : ℕ) → named_hash (Some v) m ≡ lit_code_hash (2 * v + cond (not (is_negative m)) 0 1)
 unfolding named_hash
-named_hash-Some v m = ap (λ n. lit_code_hash (2 * v + n)) (sign m)
+named_hash-Some v m = cc (sign m)
   where
     sign : (m : ℕ) → m % 2 ≡ cond (not (eqb (m % 2) 1)) 0 1
     sign m = grind (arith, nat_tests)
@@ -31,17 +31,16 @@ module _ (names : ℕ → Option ℕ) where
   unfolding xor_hash
   xor_hash-from c i m n w here =
       let rest = xor_hash names (drop (i + 1) c) in
-      xor_assoc n (named_hash (names (var_of m)) m) rest
-      ∙ ap (bit_xor n) (ap (λ l. bit_xor (named_hash (names (var_of l)) l) rest) here ∙ sym (at_drop_more (xor_hash names) c i m w))
+      cc (xor_assoc n (named_hash (names (var_of m)) m) rest, at_drop_more (xor_hash names) c i m w)
 
   -- at the end nothing is
   pub xor_hash-all : (c : List ℕ) (i n : ℕ) → i ≡ length c → bit_xor n (xor_hash names (drop i c)) ≡ xor_hash names c → n ≡ xor_hash names c
   unfolding xor_hash
-  xor_hash-all c i n e h = sym (xor_zero_r n) ∙ ap (bit_xor n) (sym (at_drop_all (xor_hash names) c i (omega (arith, e)))) ∙ h
+  xor_hash-all c i n e h = cc (xor_zero_r n, at_drop_all (xor_hash names) c i (omega (arith, e)))
 
 -- where no variable has a name
 pub names_of-empty : (m : HashMap ℕ Var (BuildHasherDefault FoldHasher)) → hash_map_len m ≡ 0 → (v : ℕ) → names_of m v ≡ None
-names_of-empty m none v = ap (λ es. indexes_of (lookup (nat_eq v) es)) (nil_from_length m.entries none)
+names_of-empty m none v = cc (nil_from_length m.entries none)
 
 pub xor_hash-unnamed : (names : ℕ → Option ℕ) (c : List ℕ) → ((v : ℕ) → names v ≡ None) → xor_hash names c ≡ xor_hash (λ v. None) c
 xor_hash-unnamed names c none = λ i. xor_hash (λ v. none v i) c

@@ -13,13 +13,13 @@ use Rattle.clause_store.specs.Counts.{HoldOneMore}
 
 -- a literal with a count is one of a known variable
 pub known_from-count : (counts : List ℕ) (l : ℕ) → 0 < get_or counts l 0 → l < length counts
-known_from-count counts l held = ⊎_elim {C = l < length counts} (λ less. less) (λ more. absurd (let none = get_or-eq_default counts 0 more in omega (arith, none, held))) (cases_lt l (length counts))
+known_from-count counts l held = ⊎_elim (λ less. less) (λ more. absurd (let none = get_or-eq_default _ 0 more in omega arith)) (cases_lt l _)
 
 -- a test that all pass, at one
 test_at : (p : ℕ → Bool) (xs : List ℕ) (i : ℕ) → i < length xs → list_all p xs ≡ true → p (get_or xs i 0) ≡ true
-test_at p [] i less h = absurd (omega (arith, less))
-test_at p (x ∷ xs) zero less h = (and_parts (p x) (list_all p xs) h).0
-test_at p (x ∷ xs) (suc i) less h = test_at p xs i (omega (arith, less)) (and_parts (p x) (list_all p xs) h).1
+test_at p [] i less h = absurd (omega arith)
+test_at p (x ∷ xs) zero less h = (and_parts (p x) _ h).0
+test_at p (x ∷ xs) (suc i) less h = test_at p xs i (omega arith) (and_parts (p x) _ h).1
 
 -- a literal of a list, read at its place
 pub item_is : (c : List ℕ) (i l : ℕ) → i < length c → l ≡ get_or c i l → l ≡ get_or c i 0
@@ -27,23 +27,23 @@ item_is c i l less e = e ∙ get_or_default c i l 0 less
 
 -- no literal of a canonical list stands before itself
 pub has-before : (c : List ℕ) (i : ℕ) → i < length c → is_canonical c ≡ true → has (get_or c i 0) (take i c) ≡ false
-has-before [] i less h = absurd (omega (arith, less))
+has-before [] i less h = absurd (omega arith)
 has-before (x ∷ xs) zero less h = refl
 has-before (x ∷ xs) (suc i) less h =
-    let p = and_parts (list_all (ltb x) xs) (is_canonical xs) h in let later : i < length xs = omega (arith, less) in
+    let p = and_parts (list_all (ltb x) xs) (is_canonical xs) h in let later : i < length xs = omega arith in
     let above = ltb-true x (get_or xs i 0) (test_at (ltb x) xs i later p.0) in
     ap (λ b. b || has (get_or xs i 0) (take i xs)) (ne_eqb (get_or xs i 0) x (λ e. omega arith)) ∙ has-before xs i later p.1
 
 -- a literal of a list lies below twice the bound of its variables
 pub below-bound : (c : List ℕ) (i : ℕ) → i < length c → get_or c i 0 < 2 * var_bound c
-below-bound [] i less = absurd (omega (arith, less))
+below-bound [] i less = absurd (omega arith)
 below-bound (x ∷ xs) zero less = omega arith
-below-bound (x ∷ xs) (suc i) less = let k = below-bound xs i (omega (arith, less)) in omega (arith, k)
+below-bound (x ∷ xs) (suc i) less = let k = below-bound xs i (omega arith) in omega arith
 
 pub has-at : (c : List ℕ) (i : ℕ) → i < length c → has (get_or c i 0) c ≡ true
-has-at [] i less = absurd (omega (arith, less))
-has-at (x ∷ xs) zero less = ap (λ b. b || has x xs) (eq-eqb x x refl)
-has-at (x ∷ xs) (suc i) less = ap (λ b. eqb (get_or xs i 0) x || b) (has-at xs i (omega (arith, less))) ∙ either (eqb (get_or xs i 0) x)
+has-at [] i less = absurd (omega arith)
+has-at (x ∷ xs) zero less = cc (eq-eqb x x refl)
+has-at (x ∷ xs) (suc i) less = cc (has-at xs i (omega (arith, less)), either (eqb (get_or xs i 0) x))
   where
     either : (b : Bool) → (b || true) ≡ true
     either true = refl
@@ -51,7 +51,7 @@ has-at (x ∷ xs) (suc i) less = ap (λ b. eqb (get_or xs i 0) x || b) (has-at x
 
 -- one literal more of a list, which is held once more
 has-more : (c : List ℕ) (i m : ℕ) → i < length c → has m (take (i + 1) c) ≡ (has m (take i c) || eqb m (get_or c i 0))
-has-more c i m less = list_any_more (eqb m) c i 0 less
+has-more c i m less = list_any_more _ c i 0 less
 
 -- once where it is so
 abbrev once : Bool → ℕ
@@ -69,25 +69,23 @@ module _ (c : List ℕ) (i : ℕ) (less : i < length c) (canonical : is_canonica
   held-here = ap once (has-more c i l less) ∙ (λ j. once (has-before c i less canonical j || eq-eqb l l refl j))
 
   held-before : once (has l (take i c)) ≡ 0
-  held-before = ap once (has-before c i less canonical)
+  held-before = cc (has-before c i less canonical)
 
   held-other : (m : ℕ) → m ≢ l → once (has m (take (i + 1) c)) ≡ once (has m (take i c))
-  held-other m ne = ap once (has-more c i m less) ∙ ap (λ b. once (has m (take i c) || b)) (ne_eqb m l ne) ∙ one_more-if (has m (take i c))
+  held-other m ne = cc (has-more c i m less, ne_eqb m l ne, one_more-if (has m (take i c)))
 
   pub raised-more : (old now : List ℕ) → l < length now → HoldOneMore (take i c) old now → HoldOneMore (take (i + 1) c) old (set now l (get_or now l 0 + 1))
   raised-more old now known held m =
-      ⊎_elim {C = get_or (set now l (get_or now l 0 + 1)) m 0 ≡ get_or old m 0 + once (has m (take (i + 1) c))}
-      (λ e. subst (λ m. get_or (set now l (get_or now l 0 + 1)) m 0 ≡ get_or old m 0 + once (has m (take (i + 1) c))) (sym e)
-      (let here = get_or-set_same now l (get_or now l 0 + 1) 0 known in let before = held l in omega (arith, here, before, held-here, held-before)))
-      (λ ne. let there = get_or-set_other now l m (get_or now l 0 + 1) 0 ne in let before = held m in omega (arith, there, before, held-other m ne))
+      ⊎_elim
+      (λ e. rw e (let here = get_or-set_same now l (get_or now l 0 + 1) 0 known in let before = held l in omega (arith, here, before, held-here, held-before)))
+      (λ ne. let there = get_or-set_other now l m (get_or now l 0 + 1) 0 ne in let before = held m in omega (arith, held-other m ne))
       (cases_eq m l)
 
   pub lowered-more : (old now : List ℕ) → 0 < get_or now l 0 → HoldOneMore (take i c) now old → HoldOneMore (take (i + 1) c) (set now l (get_or now l 0 - 1)) old
   lowered-more old now some held m =
-      ⊎_elim {C = get_or old m 0 ≡ get_or (set now l (get_or now l 0 - 1)) m 0 + once (has m (take (i + 1) c))}
-      (λ e. subst (λ m. get_or old m 0 ≡ get_or (set now l (get_or now l 0 - 1)) m 0 + once (has m (take (i + 1) c))) (sym e)
-      (let here = get_or-set_same now l (get_or now l 0 - 1) 0 (known_from-count now l some) in let before = held l in omega (arith, some, here, before, held-here, held-before)))
-      (λ ne. let there = get_or-set_other now l m (get_or now l 0 - 1) 0 ne in let before = held m in omega (arith, there, before, held-other m ne))
+      ⊎_elim
+      (λ e. rw e (let here = get_or-set_same now l (get_or now l 0 - 1) 0 (known_from-count now l some) in let before = held l in omega (arith, some, here, before, held-here, held-before)))
+      (λ ne. let there = get_or-set_other now l m (get_or now l 0 - 1) 0 ne in let before = held m in omega (arith, held-other m ne))
       (cases_eq m l)
 
   -- the count of the next literal is as it was
@@ -98,5 +96,4 @@ module _ (c : List ℕ) (i : ℕ) (less : i < length c) (canonical : is_canonica
 pub held-written : (c old before new items : List ℕ) (len : ℕ) → HoldOneMore c before new → before ≡ old → length new ≡ len →
     HoldOneMore c old (take len (new ++ drop (length new) items))
 held-written c old before new items len held same whole l =
-    ap (λ n. get_or (take n (new ++ drop (length new) items)) l 0) (sym whole) ∙ ap (λ xs. get_or xs l 0) (take-append_seam new (drop (length new) items))
-    ∙ held l ∙ ap (λ xs. get_or xs l 0 + once (has l c)) same
+    cc (take-append_seam new (drop (length new) items), held l)

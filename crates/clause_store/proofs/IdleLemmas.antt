@@ -19,22 +19,22 @@ use Rattle.clause_store.specs.View.{stored_in, stored_of}
 
 -- the clauses of the bucket that was found
 pub clauses_at-found : (m : Buckets) (h : ℕ) (b : SmallVec Clause) (cs : List Clause) → Some b ≡ get nat_eq m h → cs ≡ b.items → clauses_at m h ≡ cs
-clauses_at-found m h b cs found is = sym (ap bucket_items found) ∙ sym is
+clauses_at-found m h b cs found is = cc
 
 -- one walk after another
 pub lengthens_then : {A : Type 0} (x y z : A) (n m k : ℕ) → Lengthens x n y m → Lengthens y m z k → Lengthens x n z k
 lengthens_then x y z n m k h g = record {
-  no_shorter = omega (arith, h.no_shorter, g.no_shorter);
-  still = λ (e : k ≡ n).
-      let p : k ≡ m = omega (arith, h.no_shorter, g.no_shorter) in
-      let q : m ≡ n = omega (arith, h.no_shorter, g.no_shorter) in
+  no_shorter = omega arith;
+  still = λ e.
+      let p : k ≡ m = omega arith in
+      let q : m ≡ n = omega arith in
       g.still p ∙ h.still q;
 }
 
 pub lengthens_then_longer : {A : Type 0} (x y z : A) (n m k : ℕ) → Lengthens x n y m → k ≡ m + 1 → Lengthens x n z k
 lengthens_then_longer x y z n m k h longer = record {
-  no_shorter = omega (arith, h.no_shorter);
-  still = λ (e : k ≡ n). absurd (omega (arith, h.no_shorter));
+  no_shorter = omega arith;
+  still = λ e. absurd (omega arith);
 }
 
 -- what was idle before a walk is so after it, or the trail grew
@@ -43,14 +43,14 @@ pub are_idle-walked : (us vs : List (Option UnitClause)) (run now : Propagation)
     AreIdle (idle_at run.idle) (length run.trail.items) (λ h. IsIdleRun run.trace.items us (stored_in buffer b h)) →
     AreIdle (idle_at now.idle) (length now.trail.items) (λ h. IsIdleRun now.trace.items vs (stored_in buffer b h))
 are_idle-walked us vs run now buffer b g same_idle f h n e =
-    let since = f h n (ap (λ (x : IdleBuckets). idle_at x h) (sym same_idle) ∙ e) in
+    let since = f h n (cc) in
     record {
-      no_later = omega (arith, since.no_later, g.units.no_shorter);
-      idle = λ (at : n ≡ length now.trail.items).
-          let still : length now.trail.items ≡ length run.trail.items = omega (arith, since.no_later, g.units.no_shorter) in
-          subst (λ (ids : List ℕ). IsIdleRun ids vs (stored_in buffer b h)) (sym (g.ids.still still))
-          (subst (λ (ws : List (Option UnitClause)). IsIdleRun run.trace.items ws (stored_in buffer b h)) (sym (g.units.still still))
-          (since.idle (at ∙ still)));
+      no_later = omega arith;
+      idle = λ at.
+          let still : length now.trail.items ≡ length run.trail.items = omega arith in
+          subst (λ ids. IsIdleRun ids vs (stored_in buffer b h)) (sym (g.ids.still still))
+          (subst (λ ws. IsIdleRun run.trace.items ws (stored_in buffer b h)) (sym (g.units.still still))
+          (since.idle (cc)));
     }
 
 -- a bucket is idle after its walk, or the trail grew
@@ -60,15 +60,10 @@ pub is_idle_since-walked : (us vs : List (Option UnitClause)) (run now : Propaga
     IsIdleSince (length run.trail.items) (length now.trail.items) (IsIdleRun now.trace.items vs (stored_in buffer b h))
 is_idle_since-walked us vs run now cs buffer b h falsified found g none w l = record {
   no_later = g.units.no_shorter;
-  idle = λ (e : length run.trail.items ≡ length now.trail.items).
+  idle = λ e.
       let u : us ≡ vs = sym (g.units.still (sym e)) in
       let i : run.trace.items ≡ now.trace.items = sym (g.ids.still (sym e)) in
-      subst (λ (xs : List Clause). IsIdleRun now.trace.items vs (map (stored_of buffer) xs)) (sym found) (record {
-        walk = subst (λ (ws : List (Option UnitClause)). Walks ws (lits_in buffer cs) vs false) u (subst (λ (f : Bool). Walks us (lits_in buffer cs) vs f) none w);
-        listed = subst (λ (ws : List (Option UnitClause)). Lists now.trace.items ws (map (stored_of buffer) cs) now.trace.items vs false) u
-            (subst (λ (ids : List ℕ). Lists ids us (map (stored_of buffer) cs) now.trace.items vs false) i
-            (subst (λ (f : Bool). Lists run.trace.items us (map (stored_of buffer) cs) now.trace.items vs f) none l));
-      });
+      rw found (record { walk = subst (λ (ws : List (Option UnitClause)). Walks ws (lits_in buffer cs) vs false) u (subst (λ (f : Bool). Walks us (lits_in buffer cs) vs f) none w); listed = subst (λ (ws : List (Option UnitClause)). Lists now.trace.items ws (map (stored_of buffer) cs) now.trace.items vs false) u (subst (λ (ids : List ℕ). Lists ids us (map (stored_of buffer) cs) now.trace.items vs false) i (subst (λ (f : Bool). Lists run.trace.items us (map (stored_of buffer) cs) now.trace.items vs f) none l)) });
 }
 
 are_idle-added : (found more : ℕ → Option ℕ) (n now h : ℕ) (Idle : ℕ → Type 0) → ((k : ℕ) → more k ≡ cond (nat_eq h k) (Some n) (found k)) →
@@ -79,15 +74,15 @@ are_idle-added found more n now h Idle added here f k m e = by (nat_eq h k) refl
     by true s =
         let same : h ≡ k = eqb-true h k s in
         let at : n ≡ m = cc (added k, e, s) in
-        subst (λ (i : ℕ). IsIdleSince m now (Idle i)) same (subst (λ (i : ℕ). IsIdleSince i now (Idle h)) at here)
+        subst (λ i. IsIdleSince m now (Idle i)) same (rw (← at) here)
     by false s = f k m (cc (added k, e, s))
 
 -- a bucket is noted, unless memory is refused
 pub are_idle-noted : {T E : Type 0} (r : Result T E) (found more : ℕ → Option ℕ) (n now h : ℕ) (Idle : ℕ → Type 0) →
     OnOk r ((k : ℕ) → more k ≡ cond (nat_eq h k) (Some n) (found k)) → OnErr r ((k : ℕ) → more k ≡ found k) →
     IsIdleSince n now (Idle h) → AreIdle found now Idle → AreIdle more now Idle
-are_idle-noted (Ok x) found more n now h Idle ok err here f = are_idle-added found more n now h Idle ok here f
-are_idle-noted (Err y) found more n now h Idle ok err here f = λ k m e. f k m (sym (err k) ∙ e)
+are_idle-noted (Ok x) found more n now h Idle ok err here f = are_idle-added _ _ n now h _ ok here f
+are_idle-noted (Err y) found more n now h Idle ok err here f = λ k m e. f k m (cc (err k))
 
 -- the walk over the bucket at hand, before those that are left
 first-cut : (buffer : List ℕ) (m : Buckets) (us vs : List (Option UnitClause)) (hs : List ℕ) (i : ℕ) (end : Option Answer) (answer : CheckAnswer) →
@@ -95,30 +90,30 @@ first-cut : (buffer : List ℕ) (m : Buckets) (us vs : List (Option UnitClause))
     walk_buckets (true_lits us) (named_buckets buffer m (drop i hs)) ≡ answer →
     answer_or end (walk_buckets (true_lits vs) (named_buckets buffer m (drop (i + 1) hs))) ≡ answer
 first-cut buffer m us vs hs i end answer less h e =
-    sym (h (named_buckets buffer m (drop (i + 1) hs))) ∙ sym (ap (λ (ks : List ℕ). walk_buckets (true_lits us) (named_buckets buffer m ks)) (drop_more hs i 0 less)) ∙ e
+    cc (h (named_buckets buffer m (drop (i + 1) hs)), drop_more hs i 0 less)
 
 pub first-ended : (buffer : List ℕ) (m : Buckets) (us vs : List (Option UnitClause)) (hs : List ℕ) (i : ℕ) (end : Option Answer) (a : Answer) (answer : CheckAnswer) →
     i < length hs → end ≡ Some a → WalksFirst us (lits_at buffer m (get_or hs i 0)) vs end →
     walk_buckets (true_lits us) (named_buckets buffer m (drop i hs)) ≡ answer → check_answer a ≡ answer
 first-ended buffer m us vs hs i end a answer less is h e =
-    ap (λ (o : Option Answer). answer_or o (walk_buckets (true_lits vs) (named_buckets buffer m (drop (i + 1) hs)))) (sym is) ∙ first-cut buffer m us vs hs i end answer less h e
+    cc (first-cut buffer m us vs hs i end answer less h e)
 
 pub first-walked : (buffer : List ℕ) (m : Buckets) (us vs : List (Option UnitClause)) (hs : List ℕ) (i : ℕ) (end : Option Answer) (answer : CheckAnswer) →
     i < length hs → end ≡ None → WalksFirst us (lits_at buffer m (get_or hs i 0)) vs end →
     walk_buckets (true_lits us) (named_buckets buffer m (drop i hs)) ≡ answer →
     walk_buckets (true_lits vs) (named_buckets buffer m (drop (i + 1) hs)) ≡ answer
 first-walked buffer m us vs hs i end answer less is h e =
-    ap (λ (o : Option Answer). answer_or o (walk_buckets (true_lits vs) (named_buckets buffer m (drop (i + 1) hs)))) (sym is) ∙ first-cut buffer m us vs hs i end answer less h e
+    cc (first-cut buffer m us vs hs i end answer less h e)
 
 -- what is listed of the bucket at hand
 pub listed-ended : (buffer : List ℕ) (m : Buckets) (ids now : List ℕ) (us vs : List (Option UnitClause)) (hs : List ℕ) (i : ℕ) (last : Option (List ℕ)) →
     i < length hs → Lists ids us (stored_in buffer m (get_or hs i 0)) now vs true →
     ids_after ids us (named_clauses buffer m (drop i hs)) ≡ last → last ≡ Some now
 listed-ended buffer m ids now us vs hs i last less h e =
-    sym e ∙ ap (λ (ks : List ℕ). ids_after ids us (named_clauses buffer m ks)) (drop_more hs i 0 less) ∙ h (named_clauses buffer m (drop (i + 1) hs))
+    cc (drop_more hs i 0 less, h (named_clauses buffer m (drop (i + 1) hs)))
 
 pub listed-walked : (buffer : List ℕ) (m : Buckets) (ids now : List ℕ) (us vs : List (Option UnitClause)) (hs : List ℕ) (i : ℕ) (last : Option (List ℕ)) →
     i < length hs → Lists ids us (stored_in buffer m (get_or hs i 0)) now vs false →
     ids_after ids us (named_clauses buffer m (drop i hs)) ≡ last → ids_after now vs (named_clauses buffer m (drop (i + 1) hs)) ≡ last
 listed-walked buffer m ids now us vs hs i last less h e =
-    sym (h (named_clauses buffer m (drop (i + 1) hs))) ∙ sym (ap (λ (ks : List ℕ). ids_after ids us (named_clauses buffer m ks)) (drop_more hs i 0 less)) ∙ e
+    cc (h (named_clauses buffer m (drop (i + 1) hs)), drop_more hs i 0 less)

@@ -32,11 +32,11 @@ long_from (l ∷ k ∷ ls) h = omega arith
 
 -- stored clauses have two literals or more
 pub long_all : (buffer : List ℕ) (cs : List Clause) → list_all is_whole (map (stored_of buffer) cs) ≡ true → All (λ c. 1 < length (lits_of c.lits buffer)) cs
-long_all buffer [] h k d l = absurd (omega (arith, l))
+long_all buffer [] h k d l = absurd (omega arith)
 long_all buffer (c ∷ cs) h zero d l =
     let ls = lits_of c.lits buffer in let p = and_parts (is_whole (stored_of buffer c)) (list_all is_whole (map (stored_of buffer) cs)) h in
-    long_from ls (not-true (is_short ls) (and_parts (not (is_short ls)) (not (is_gone (stored_of buffer c))) p.0).0)
-long_all buffer (c ∷ cs) h (suc k) d l = long_all buffer cs (and_parts (is_whole (stored_of buffer c)) (list_all is_whole (map (stored_of buffer) cs)) h).1 k d (omega (arith, l))
+    long_from ls (not-true _ (and_parts (not (is_short ls)) (not (is_gone (stored_of buffer c))) p.0).0)
+long_all buffer (c ∷ cs) h (suc k) d l = long_all buffer cs (and_parts _ _ h).1 k d (omega arith)
 
 -- one clause more is moved
 module _ (buffer old new : List ℕ) (all moved : List Clause) (i : ℕ) (c : Clause) (ls : ClauseLits) (here : c ≡ get_or all i c)
@@ -44,41 +44,36 @@ module _ (buffer old new : List ℕ) (all moved : List Clause) (i : ℕ) (c : Cl
   pub moved-same : All (λ c. IsWithin c.lits old) moved → map (stored_of old) moved ≡ map (stored_of buffer) (take i all) →
       map (stored_of new) (moved ++ record c { lits = ls } ∷ []) ≡ map (stored_of buffer) (take (i + 1) all)
   moved-same within same =
-      map-append (stored_of new) moved (record c { lits = ls } ∷ []) ∙ ap (λ es. es ++ stored_of new (record c { lits = ls }) ∷ []) (stored_of-kept old new kept moved within ∙ same)
-      ∙ ap (λ xs. map (stored_of buffer) (take i all) ++ record (stored_of buffer c) { lits = xs } ∷ []) lits
-      ∙ ap (λ x. map (stored_of buffer) (take i all) ++ stored_of buffer x ∷ []) here
-      ∙ sym (map_more (stored_of buffer) all i c before)
+      cc (map-append (stored_of new) moved (record c { lits = ls } ∷ []), stored_of-kept old new kept moved within, map_more (stored_of buffer) all i c before)
 
   pub moved-within : All (λ c. IsWithin c.lits old) moved → length old ≤ length new → IsWithin ls new → All (λ c. IsWithin c.lits new) (moved ++ record c { lits = ls } ∷ [])
-  moved-within within longer inside = All-push (λ c. IsWithin c.lits new) moved (record c { lits = ls }) (λ k d l. let w = within k d l in omega (arith, w, longer)) inside
+  moved-within within longer inside = All-push (λ c. IsWithin c.lits new) moved _ (λ k d l. let w = within k d l in omega arith) inside
 
   pub moved-used : (base : ℕ) → length new ≡ length old + live_of (lits_of c.lits buffer) →
       length old ≡ base + live_literals (map (stored_of buffer) (take i all)) →
       length new ≡ base + live_literals (map (stored_of buffer) (take (i + 1) all))
   moved-used base grown used =
       let more : live_literals (map (stored_of buffer) (take i all)) + live_of (lits_of c.lits buffer) ≡ live_literals (map (stored_of buffer) (take (i + 1) all)) =
-      sym (live_literals_add.pushed (map (stored_of buffer) (take i all)) (stored_of buffer c))
-      ∙ ap (λ x. live_literals (map (stored_of buffer) (take i all) ++ stored_of buffer x ∷ [])) here
-      ∙ sym (ap live_literals (map_more (stored_of buffer) all i c before)) in
-      omega (arith, grown, used, more)
+      cc (live_literals_add.pushed (map (stored_of buffer) (take i all)) (stored_of buffer c), map_more (stored_of buffer) all i c before) in
+      omega arith
 
 -- what stood first stays so
 pub kept-further : (first old new : List ℕ) → take (length first) old ≡ first → take (length old) new ≡ old → take (length first) new ≡ first
 kept-further first old new kept more =
-    let least : length first ≤ length old = let n = ap length kept in let m = length-take (length first) old in omega (arith, n, m) in
-    sym (take-take (length first) (length old) new least) ∙ ap (take (length first)) more ∙ kept
+    let least : length first ≤ length old = let n = ap length kept in let m = length-take (length first) old in omega arith in
+    cc (take-take (length first) (length old) new least)
 
 -- the live literals of two lists, and of the same in another order
 live_literals-append : (es fs : List Stored) → live_literals (es ++ fs) ≡ live_literals es + live_literals fs
 live_literals-append [] fs = omega arith
-live_literals-append (e ∷ es) fs = let rest = live_literals-append es fs in omega (arith, rest)
+live_literals-append (e ∷ es) fs = let rest = live_literals-append es fs in omega arith
 
 live_literals-sum : (es : List Stored) → live_literals es ≡ sum_by (λ e. live_of e.lits) es
 live_literals-sum [] = refl
-live_literals-sum (e ∷ es) = ap (λ n. live_of e.lits + n) (live_literals-sum es) ∙ sym (sum_by-cons (λ (e' : Stored). live_of e'.lits) e es)
+live_literals-sum (e ∷ es) = cc (live_literals-sum es, sum_by-cons (λ (e' : Stored). live_of e'.lits) e es)
 
 pub live_literals-order : (es fs : List Stored) → IsPermutation es fs → live_literals fs ≡ live_literals es
-live_literals-order es fs p = live_literals-sum fs ∙ sum_by-IsPermutation (λ e. live_of e.lits) es fs p ∙ sym (live_literals-sum es)
+live_literals-order es fs p = cc (live_literals-sum fs, sum_by-IsPermutation (λ e. live_of e.lits) es fs p, live_literals-sum es)
 
 -- the clauses of a list of buckets
 abbrev pub clauses_in : List (ℕ × SmallVec Clause) → List Clause
@@ -92,14 +87,13 @@ module _ (buffer old new : List ℕ) (m moved moved' : Buckets) (hash : ℕ) (b 
       ((k : ℕ) → lookup (nat_eq k) ((hash, b) ∷ rest) ≡ None → stored_in old moved k ≡ stored_in buffer m k) →
       (k : ℕ) → lookup (nat_eq k) rest ≡ None → stored_in new moved' k ≡ stored_in buffer m k
   bucket-same found here same k none =
-      ⊎_elim {C = stored_in new moved' k ≡ stored_in buffer m k}
-      (λ e. ap (stored_in new moved') e ∙ here ∙ ap (λ o. map (stored_of buffer) (bucket_items o)) (sym found) ∙ ap (stored_in buffer m) (sym e))
-      (λ ne. ap (map (stored_of new)) (others k ne) ∙ stored_of-kept old new kept (clauses_at moved k) (within k)
-      ∙ same k (ap (λ t. cond t (Some b) (lookup (nat_eq k) rest)) (ne_eqb k hash ne) ∙ none))
+      ⊎_elim
+      (λ e. cc)
+      (λ ne. cc (others k ne, stored_of-kept old new kept (clauses_at moved k) (within k), same k (ap (λ t. cond t (Some b) (lookup (nat_eq k) rest)) (ne_eqb k hash ne) ∙ none)))
       (cases_eq k hash)
 
   pub bucket-within : length old ≤ length new → All (λ c. IsWithin c.lits new) (clauses_at moved' hash) → AreWithin new moved'
-  bucket-within longer here = within_others new moved moved' hash (λ k i c l. let w = within k i c l in omega (arith, w, longer)) here others
+  bucket-within longer here = within_others new moved moved' hash (λ k i c l. let w = within k i c l in omega arith) here others
 
   pub bucket-used : (before : ℕ) → length new ≡ length old + live_literals (map (stored_of buffer) b.items) →
       length old + live_literals (map (stored_of buffer) (clauses_in ((hash, b) ∷ rest))) ≡ before →
@@ -107,13 +101,12 @@ module _ (buffer old new : List ℕ) (m moved moved' : Buckets) (hash : ℕ) (b 
   bucket-used before grown used =
       let parts : live_literals (map (stored_of buffer) (clauses_in ((hash, b) ∷ rest))) ≡
       live_literals (map (stored_of buffer) b.items) + live_literals (map (stored_of buffer) (clauses_in rest)) =
-      ap live_literals (map-append (stored_of buffer) b.items (clauses_in rest)) ∙ live_literals-append (map (stored_of buffer) b.items) (map (stored_of buffer) (clauses_in rest)) in
-      omega (arith, grown, used, parts)
+      cc (map-append (stored_of buffer) b.items (clauses_in rest), live_literals-append (map (stored_of buffer) b.items) (map (stored_of buffer) (clauses_in rest))) in
+      omega arith
 
 -- new buckets hold the clauses by their hashes, where they were made of the same clauses
 pub rebuilt_by : (f : List ℕ → ℕ) (m : Buckets) (es : List Stored) (buffer b : List ℕ) (all xs : List Clause) → b ≡ buffer → xs ≡ all →
     map (stored_of buffer) all ≡ es → ((k : ℕ) → stored_in b m k ≡ of_hash f k (map (stored_of b) xs)) → (k : ℕ) →
     stored_in buffer m k ≡ of_hash f k es
 rebuilt_by f m es buffer b all xs p q r t k =
-    ap (λ y. stored_in y m k) (sym p) ∙ t k ∙ ap (λ y. of_hash f k (map (stored_of y) xs)) p ∙ ap
-    (λ ys. of_hash f k (map (stored_of buffer) ys)) q ∙ ap (of_hash f k) r
+    cc (t k)

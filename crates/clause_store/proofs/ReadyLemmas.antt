@@ -28,7 +28,7 @@ pub pending-units : (s : State) → (apply_if_named s).units ≡ s.units
 pending-units s = elim (some_pending_name s) as (λ b. (cond b (apply_pending s) s).units ≡ s.units) [ true ↦ refl | false ↦ refl ]
 
 length-stored : (us : List (Option UnitClause)) → length (stored_units us) ≡ length us
-length-stored us = length-map us (option_map stored_unit)
+length-stored us = length-map us _
 
 -- the units and the variables are as many after names were applied
 pub pending-length : (st : CheckerState) (h h' : ClauseHasher) (cs cs' : Clauses) (known : List Known) →
@@ -36,12 +36,12 @@ pub pending-length : (st : CheckerState) (h h' : ClauseHasher) (cs cs' : Clauses
     length cs'.unit_clauses ≡ length known
 pending-length st h h' cs cs' known form e =
     let s = state_of st h cs known in
-    let same : stored_units cs'.unit_clauses ≡ stored_units cs.unit_clauses = ap (λ (x : State). x.units) e ∙ pending-units s in
-    sym (length-stored cs'.unit_clauses) ∙ ap (λ (us : List (Option StoredUnit)). length us) same ∙ form.same_known
+    let same : stored_units cs'.unit_clauses ≡ stored_units cs.unit_clauses = cc (pending-units s) in
+    cc (length-stored cs'.unit_clauses)
 
 -- the form of the state in which the clause is checked
 pub ready-form : (s t : State) (c : List ℕ) → WellFormed s → t ≡ ready s c → WellFormed t
-ready-form s t c form e = subst WellFormed (sym e) (form-ready s c form)
+ready-form s t c form e = rw e (form-ready s c form)
 
 -- there the variables of the stored clauses are known
 pub ready-known : (st : CheckerState) (h : ClauseHasher) (cs : Clauses) (known : List Known) → IsStore h cs →
@@ -51,40 +51,32 @@ ready-known st h cs known store form = check_is_by_rules.all_known st h cs known
 -- the outcome by what was found
 pub check-passed : (s : State) (c hs : List ℕ) → clause_passes (ready s c) c hs ≡ true → check s c hs accept ≡ accept (ready s c)
 check-passed s c hs e =
-    let r = ready s c in
-    ap (λ b. cond b (accept r) (cond (none_empty (buckets r hs)) (refuse at_check_failed r) (refuse no_clause_for_hash r))) e
+    cc
 
 pub check-no_clause : (s : State) (c hs : List ℕ) → clause_passes (ready s c) c hs ≡ false → none_empty (buckets (ready s c) hs) ≡ false → check s c hs accept ≡ refuse no_clause_for_hash (ready s c)
 check-no_clause s c hs e n =
-    let r = ready s c in
-    ap (λ b. cond b (accept r) (cond (none_empty (buckets r hs)) (refuse at_check_failed r) (refuse no_clause_for_hash r))) e ∙ ap
-    (λ b. cond b (refuse at_check_failed r) (refuse no_clause_for_hash r)) n
+    cc
 
 pub check-failed : (s : State) (c hs : List ℕ) → clause_passes (ready s c) c hs ≡ false → none_empty (buckets (ready s c) hs) ≡ true → check s c hs accept ≡ refuse at_check_failed (ready s c)
 check-failed s c hs e n =
-    let r = ready s c in
-    ap (λ b. cond b (accept r) (cond (none_empty (buckets r hs)) (refuse at_check_failed r) (refuse no_clause_for_hash r))) e ∙ ap
-    (λ b. cond b (refuse at_check_failed r) (refuse no_clause_for_hash r)) n
+    cc
 
 -- what the check found, in the state in which the clause is checked
 pub ready-answers : (st : CheckerState) (h : ClauseHasher) (cs : Clauses) (known : List Known) (buffer c hs : List ℕ) (a : Answer)
     (s : State) → IsStore h cs → WellFormed s → state_of st h cs known ≡ ready s c → is_tautology c ≡ false
     → buffer ≡ cs.literal_buffer.items → check_answer a ≡ clause_answer (stored_units cs.unit_clauses) c (named_buckets buffer cs.buckets hs) → AnswersCheck (ready s c) c hs a
 ready-answers st h cs known buffer c hs a s store form here apart whole e =
-    let is = subst (λ (b : List ℕ). check_answer a ≡ clause_answer (stored_units cs.unit_clauses) c (named_buckets b cs.buckets hs)) whole e in
-    subst (λ (r : State). AnswersCheck r c hs a) here (check_is_by_rules.answers st h cs known c hs a store.filed.bucketed (ready-form s (state_of st h cs known) c form here) apart is)
+    let is = subst (λ b. check_answer a ≡ clause_answer (stored_units cs.unit_clauses) c (named_buckets b cs.buckets hs)) whole e in
+    rw (← here) (check_is_by_rules.answers st h cs known c hs a store.filed.bucketed (ready-form s (state_of st h cs known) c form here) apart is)
 
 -- the state with the units of before
 pub same-units : (st : CheckerState) (h : ClauseHasher) (cs : Clauses) (known : List Known) (us : List (Option UnitClause)) (t : State) →
     us ≡ cs.unit_clauses → state_of st h cs known ≡ t → state_of st h (record cs { unit_clauses = us }) known ≡ t
-same-units st h cs known us t e here = ap (λ (us : List (Option UnitClause)). state_of st h (record cs { unit_clauses = us }) known) e ∙ here
+same-units st h cs known us t e here = cc
 
 -- the ids that a traced check leaves where it passes
 pub ready-trace : (st : CheckerState) (h : ClauseHasher) (cs : Clauses) (known : List Known) (buffer c hs before now : List ℕ) (a : Answer)
     (traced : Bool) (s : State) → IsStore h cs → state_of st h cs known ≡ ready s c → buffer ≡ cs.literal_buffer.items
     → a ≡ Passed → traced ≡ true → now ≡ last_trace traced a (clause_trace (stored_units cs.unit_clauses) c (named_clauses buffer cs.buckets hs)) before → now ≡ check_trace (ready s c) c hs
 ready-trace st h cs known buffer c hs before now a traced s store here whole passed on e =
-    let ids = clause_trace (stored_units cs.unit_clauses) c (named_clauses buffer cs.buckets hs) in
-    e ∙ ap (λ (x : Answer). last_trace traced x ids before) passed ∙ ap (λ b. cond b ids before) on
-    ∙ ap (λ (b : List ℕ). clause_trace (stored_units cs.unit_clauses) c (named_clauses b cs.buckets hs)) whole
-    ∙ check_is_by_rules.trace st h cs known c hs store.filed.bucketed ∙ ap (λ (r : State). check_trace r c hs) here
+    cc (check_is_by_rules.trace st h cs known c hs store.filed.bucketed)

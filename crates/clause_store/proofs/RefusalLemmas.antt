@@ -20,7 +20,7 @@ use Rattle.checker_rules.proofs.StepForms.{steps_keep_form}
 
 -- a refusal answers an outcome that refuses with its cause
 pub answers-refuse : (cause : Cause) (o : Outcome) (s t : State) → o ≡ refuse cause s → t ≡ s → (o.refused ≡ Some cause) × (t ≡ o.after)
-answers-refuse cause o s t is same = (ap (λ (x : Outcome). x.refused) is, same ∙ sym (ap (λ (x : Outcome). x.after) is))
+answers-refuse cause o s t is same = (cc, cc)
 
 -- accepted, or want of memory
 pub answers-unless-memory : (r : Result (Unit {0}) StepFault) (o : Outcome) (s : State) →
@@ -32,20 +32,20 @@ answers-unless-memory (Err OutOfMemory) o s h e = tt
 
 refused-again : (cause : Cause) (o p : Outcome) (s : State) → ((cause : Cause) → o.refused ≡ Some cause → p ≡ refuse cause o.after) →
     (o.refused ≡ Some cause) × (s ≡ o.after) → (p.refused ≡ Some cause) × (s ≡ p.after)
-refused-again cause o p s f h = let e = f cause h.0 in (ap (λ (x : Outcome). x.refused) e, h.1 ∙ sym (ap (λ (x : Outcome). x.after) e))
+refused-again cause o p s f h = let e = f cause h.0 in (cc, cc)
 
 -- the refusal of a part is that of the whole
 pub answers-part : (e : StepFault) (o p : Outcome) (s : State) → ((cause : Cause) → o.refused ≡ Some cause → p ≡ refuse cause o.after) →
     AnswersOutcome {A = Unit {0}} (Err e) o s → AnswersOutcome {A = Unit {0}} (Err e) p s
-answers-part (Refused cause) o p s f h = refused-again (cause_of cause) o p s f h
+answers-part (Refused cause) o p s f h = refused-again _ o p s f h
 answers-part Processor o p s f h = tt
 answers-part OutOfMemory o p s f h = tt
 
 -- the form of the outcome, whatever the answer
 pub form-answer : {A : Type 0} (r : Result A StepFault) (o : Outcome) (s : State) → WellFormed o.after → AnswersOutcome r o s →
     UnlessStopped r (WellFormed s)
-form-answer (Ok done) o s k h = subst WellFormed (sym h.1) k
-form-answer (Err (Refused cause)) o s k h = subst WellFormed (sym h.1) k
+form-answer (Ok done) o s k h = rw h.1 k
+form-answer (Err (Refused cause)) o s k h = rw h.1 k
 form-answer (Err Processor) o s k h = tt
 form-answer (Err OutOfMemory) o s k h = tt
 
@@ -62,4 +62,4 @@ pub kept-answer : {A : Type 0} (r : Result A StepFault) (st st' : CheckerState) 
     UnlessStopped r (IsStore h' cs') → UnlessStopped r (PartsInvariant st' h' cs' known')
 kept-answer r st st' h h' cs cs' known known' t kept answers store =
     unless-both r (λ form store. record { form = form; store = store })
-    (form-answer r (step (state_of st h cs known) t) (state_of st' h' cs' known') (steps_keep_form (state_of st h cs known) t kept.form) answers) store
+    (form-answer r _ _ (steps_keep_form _ t kept.form) answers) store

@@ -8,4 +8,4 @@ pub same_list-bytes_eq : (xs ys : List ℕ) → bytes_eq xs ys ≡ same_list xs 
 same_list-bytes_eq [] [] = refl
 same_list-bytes_eq [] (y ∷ ys) = refl
 same_list-bytes_eq (x ∷ xs) [] = refl
-same_list-bytes_eq (x ∷ xs) (y ∷ ys) = ap (λ b. eqb x y && b) (same_list-bytes_eq xs ys)
+same_list-bytes_eq (x ∷ xs) (y ∷ ys) = cc (same_list-bytes_eq xs ys)

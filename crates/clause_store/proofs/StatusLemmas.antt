@@ -24,7 +24,7 @@ status_from s t c = cond (list_any s c) statuses.Idle (by_count (with_free t (un
 
 -- the literal at hand, before those that are left
 pub drop-at : {A : Type 0} (xs : List A) (i : ℕ) (x : A) → i < length xs → x ≡ get_or xs i x → drop i xs ≡ x ∷ drop (i + 1) xs
-drop-at xs i x h e = drop_more xs i x h ∙ ap (λ y. y ∷ drop (i + 1) xs) (sym e)
+drop-at xs i x h e = cc (drop_more xs i x h)
 
 pub status_from-false : (us : List (Option UnitClause)) (t : ClauseStatus) (m : ℕ) (c : List ℕ) → lit_value us m ≡ Some false → status_from (true_lits us) t (m ∷ c) ≡ status_from (true_lits us) t c
 status_from-false us t m c h = let s = true_lits-truth us m ∙ ap truth h in let n = true_lits-falsity us m ∙ ap falsity h in rw (s, n) refl
@@ -36,6 +36,6 @@ status_from-free us m c h = let s = true_lits-truth us m ∙ ap truth h in let n
 
 -- the variable of an element is below the bound of the list
 pub below_bound : (xs : List ℕ) (i m : ℕ) → i < length xs → m ≡ get_or xs i m → var_of m < var_bound xs
-below_bound [] i m lt e = absurd (omega (arith, lt))
-below_bound (x ∷ xs) zero m lt e = let same : var_of m ≡ var_of x = ap var_of e in omega (arith, same)
-below_bound (x ∷ xs) (suc i) m lt e = let up = below_bound xs i m (omega (arith, lt)) e in omega (arith, up)
+below_bound [] i m lt e = absurd (omega arith)
+below_bound (x ∷ xs) zero m lt e = let same : var_of m ≡ var_of x = cc in omega arith
+below_bound (x ∷ xs) (suc i) m lt e = let up = below_bound xs i m (omega arith) e in omega arith

@@ -28,22 +28,19 @@ use Rattle.clause_store.proofs.FoundLemmas.{count_of-absent}
 module _ (h : ClauseHasher) (cs : Clauses) (es : List Stored) (f : IsIndexed h cs es) where
   -- a bucket answers for all
   pub count_of-bucket : (r : Bool) (c : List ℕ) → count_of r c (stored_at cs (hash_of h c)) ≡ count_of r c es
-  count_of-bucket r c = ap (count_of r c) (f.bucketed (hash_of h c)) ∙ (buckets_serve (hash_of h) es).count r c
+  count_of-bucket r c = cc (f.bucketed (hash_of h c), (buckets_serve (hash_of h) es).count r c)
 
   pub found_in-bucket : (c : List ℕ) → found_in c (stored_at cs (hash_of h c)) ≡ found_in c es
   found_in-bucket c =
       let serve = buckets_serve (hash_of h) es in
-      ap (found_in c) (f.bucketed (hash_of h c))
-      ∙ ap (λ b. cond b (Some (id_among c (of_hash (hash_of h) (hash_of h c) es), count_of false c (of_hash (hash_of h) (hash_of h c) es))) None) (serve.look_up c)
-      ∙ ap (λ i. cond (is_stored c es) (Some (i, count_of false c (of_hash (hash_of h) (hash_of h c) es))) None) (serve.id c)
-      ∙ ap (λ n. cond (is_stored c es) (Some (id_among c es, n)) None) (serve.count false c)
+      cc (f.bucketed (hash_of h c), serve.look_up c, serve.id c, serve.count false c)
 
   pub are_apart-bucket : (k : ℕ) → are_apart (stored_at cs k) ≡ true
-  are_apart-bucket k = ap are_apart (f.bucketed k) ∙ apart_filter (λ e. eqb (hash_of h e.lits) k) es f.apart
+  are_apart-bucket k = cc (f.bucketed k, apart_filter (λ e. eqb (hash_of h e.lits) k) es f.apart)
 
   -- no copy of a short clause is counted
   pub few-short : (r : Bool) (c : List ℕ) → is_short c ≡ true → count_of r c es < count_limit
-  few-short r c short = subst (λ n. n < count_limit) (sym (count_of-absent c r es (is_stored-short c es short f.whole))) count_limit-some
+  few-short r c short = rw (count_of-absent c r es (is_stored-short c es short f.whole)) count_limit-some
 
 ids_rise-more : (a n m : ℕ) (es : List Stored) → n ≤ m → ids_rise a es n ≡ true → ids_rise a es m ≡ true
 ids_rise-more a n m [] le h = grind (arith, le, h)
@@ -59,33 +56,33 @@ is_store-units h cs us conflict n le units long s = record {
     bits = f.bits;
     within = f.within;
     bucketed = f.bucketed;
-    rise = ids_rise-more 0 cs.next_clause_id n (stored_list cs) le f.rise;
+    rise = ids_rise-more 0 _ n (stored_list cs) le f.rise;
     apart = f.apart;
     whole = f.whole;
     used = f.used;
   };
   garbage = s.garbage;
   units = units;
-  counts = subst (λ k. AreCounts cs.lit_counts k (stored_list cs)) (sym long) s.counts;
+  counts = subst (λ k. AreCounts cs.lit_counts k (stored_list cs)) (cc) s.counts;
 }
 
 -- one more value is a stored unit's
 pub list_all-set : {X : Type 0} (p : X → Bool) (xs : List X) (i : ℕ) (y : X) → p y ≡ true → list_all p xs ≡ true → list_all p (set xs i y) ≡ true
 list_all-set p [] i y h k = k
 list_all-set p (x ∷ xs) zero y h k = and_from _ _ h (and_parts (p x) (list_all p xs) k).1
-list_all-set p (x ∷ xs) (suc i) y h k = let q = and_parts (p x) (list_all p xs) k in and_from _ _ q.0 (list_all-set p xs i y h q.1)
+list_all-set p (x ∷ xs) (suc i) y h k = let q = and_parts (p x) _ k in and_from _ _ q.0 (list_all-set p xs i y h q.1)
 
 -- the unit of a variable
 pub unit_of-stored_units : (us : List (Option UnitClause)) (v : ℕ) → unit_of (stored_units us) v ≡ option_map stored_unit (unit_at us v)
-unit_of-stored_units us v = get_or-map (option_map stored_unit) us v None
+unit_of-stored_units us v = get_or-map _ us v None
 
 -- read at an index
 pub unit_is : (us : List (Option UnitClause)) (o : Option UnitClause) (i v : ℕ) → o ≡ unit_at us i → i ≡ v → unit_of (stored_units us) v ≡ option_map stored_unit o
-unit_is us o i v h e = unit_of-stored_units us v ∙ ap (λ k. option_map stored_unit (unit_at us k)) (sym e) ∙ ap (option_map stored_unit) (sym h)
+unit_is us o i v h e = cc (unit_of-stored_units us v)
 
 pub stored_units-set : (us : List (Option UnitClause)) (v : ℕ) (u : UnitClause) → stored_units (set us v (Some u)) ≡ set (stored_units us) v (Some (stored_unit u))
-stored_units-set us v u = map-set (option_map stored_unit) us v (Some u)
+stored_units-set us v u = map-set _ us v _
 
 -- what is true of the buffer that was read and of the hash that was computed is true of the store's
 pub read : (P : List ℕ → ℕ → Type 0) (b buffer : List ℕ) (k hash : ℕ) → b ≡ buffer → k ≡ hash → P b k → P buffer hash
-read P b buffer k hash e f p = subst (P buffer) f (subst (λ x. P x k) e p)
+read P b buffer k hash e f p = rw (← f) (subst (λ x. P x k) e p)

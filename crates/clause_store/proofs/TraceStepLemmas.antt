@@ -27,26 +27,24 @@ with_ids ids o = option_map (λ items. ids ++ item_ids items) o
 with_ids-prepend : (ids : List ℕ) (xs : List Item) (o : Option (List Item)) → with_ids ids (prepend xs o) ≡ with_ids (ids ++ item_ids xs) o
 unfolding with_ids
 with_ids-prepend ids xs None = refl
-with_ids-prepend ids xs (Some ys) = ap (λ zs. Some (ids ++ zs)) (map-append (λ (x : Item). x.id) xs ys) ∙ ap (λ zs. Some zs) (sym (append_assoc ids (item_ids xs) (item_ids ys)))
+with_ids-prepend ids xs (Some ys) = cc (map-append (λ (x : Item). x.id) xs ys, append_assoc ids (item_ids xs) (item_ids ys))
 
 -- the clause is listed after the units that it met
 named-last : (ids ids_now : List ℕ) (xs : List Item) (x : Item) → ids ++ item_ids xs ≡ ids_now → ids ++ item_ids (xs ++ x ∷ []) ≡ ids_now ++ x.id ∷ []
-named-last ids ids_now xs x e = ap (λ zs. ids ++ zs) (map-append (λ (y : Item). y.id) xs (x ∷ [])) ∙ sym (append_assoc ids (item_ids xs) (x.id ∷ [])) ∙ ap (λ zs. zs ++ x.id ∷ []) e
+named-last ids ids_now xs x e = cc (map-append (λ (y : Item). y.id) xs (x ∷ []), append_assoc ids (item_ids xs) (x.id ∷ []))
 
 -- the trace goes on from other values with the same stored units
 goes_on : (us vs : List (Option UnitClause)) (r h : ℕ → Bool) (rest : List Stored) → KeepsStored us vs → true_lits vs ≡ r →
     unlisted_lits vs ≡ h → trace (stored_units us) r h rest ≡ trace (stored_units vs) (true_lits vs) (unlisted_lits vs) rest
 goes_on us vs r h rest kept e f =
-    ap (λ t. trace (stored_units us) t h rest) (sym e) ∙ ap (λ g. trace (stored_units us) (true_lits vs) g rest) (sym f)
-    ∙ trace-agree (stored_units us) (stored_units vs) (true_lits vs) (unlisted_lits vs) rest (keeps-agree us vs kept)
+    cc (trace-agree (stored_units us) (stored_units vs) (true_lits vs) (unlisted_lits vs) rest (keeps-agree us vs kept))
 
 -- what the trace is after a clause with this status
 by_status : (ids : List ℕ) (us : List (Option UnitClause)) (e : Stored) (rest : List Stored) (t : ClauseStatus) → t ≡ status_of (true_lits us) e.lits
     → ids_after ids us (e ∷ rest) ≡ with_ids ids (on_status t (look us e.lits) (stored_item e) (true_lits us) (λ r h. trace (stored_units us) r h rest))
 unfolding with_ids
 by_status ids us e rest t h =
-    ap (with_ids ids) (on_visit-status (stored_units us) (true_lits us) (unlisted_lits us) e.lits (stored_item e) (λ r k. trace (stored_units us) r k rest)
-    ∙ ap (λ x. on_status x (look us e.lits) (stored_item e) (true_lits us) (λ r k. trace (stored_units us) r k rest)) (sym h))
+    cc (on_visit-status (stored_units us) (true_lits us) (unlisted_lits us) e.lits (stored_item e) (λ r k. trace (stored_units us) r k rest))
 
 -- what is known of a clause once its units are listed
 pub record IsLooked (ids ids_now : List ℕ) (us vs : List (Option UnitClause)) (e : Stored) (t : ClauseStatus) : Type 0 where
@@ -58,23 +56,23 @@ pub record IsLooked (ids ids_now : List ℕ) (us vs : List (Option UnitClause)) 
 pub is_looked : (ids ids_now : List ℕ) (us vs : List (Option UnitClause)) (e : Stored) (t : ClauseStatus) (c : List ℕ) → c ≡ e.lits →
     t ≡ status_of (true_lits us) c → looked ids us c ≡ (ids_now, unlisted_lits vs) → KeepsStored us vs → true_lits vs ≡ true_lits us →
     IsLooked ids ids_now us vs e t
-is_looked ids ids_now us vs e t c is status listed kept same = record { status = status ∙ ap (status_of (true_lits us)) is; listed = sym (ap (looked ids us) is) ∙ listed; kept = kept; same = same }
+is_looked ids ids_now us vs e t c is status listed kept same = record { status = cc; listed = cc; kept = kept; same = same }
 
 pub lists-falsified : (ids ids_now ids_last : List ℕ) (us vs : List (Option UnitClause)) (e : Stored) →
     IsLooked ids ids_now us vs e statuses.Falsified → ids_last ≡ ids_now ++ e.id ∷ [] → (rest : List Stored) →
     ids_after ids us (e ∷ rest) ≡ Some ids_last
 unfolding with_ids
 lists-falsified ids ids_now ids_last us vs e h last rest =
-    by_status ids us e rest statuses.Falsified h.status ∙ ap (λ xs. Some xs) (named-last ids ids_now (look us e.lits).items (stored_item e) (ap (λ p. p.0) h.listed) ∙ sym last)
+    cc (by_status ids us e rest statuses.Falsified h.status, named-last ids ids_now (look us e.lits).items (stored_item e) (ap (λ p. p.0) h.listed))
 
 pub lists-idle : (ids ids_now : List ℕ) (us vs : List (Option UnitClause)) (e : Stored) → IsLooked ids ids_now us vs e statuses.Idle →
     (rest : List Stored) → ids_after ids us (e ∷ rest) ≡ ids_after ids_now vs rest
 unfolding with_ids
 lists-idle ids ids_now us vs e h rest =
     let v = look us e.lits in
-    by_status ids us e rest statuses.Idle h.status ∙ with_ids-prepend ids v.items (trace (stored_units us) (true_lits us) v.unlisted rest)
+    by_status ids us e _ _ h.status ∙ with_ids-prepend ids _ _
     ∙ ap (λ xs. with_ids xs (trace (stored_units us) (true_lits us) v.unlisted rest)) (ap (λ p. p.0) h.listed)
-    ∙ ap (with_ids ids_now) (goes_on us vs (true_lits us) v.unlisted rest h.kept h.same (sym (ap (λ p. p.1) h.listed)))
+    ∙ ap (with_ids ids_now) (goes_on us vs _ _ _ h.kept h.same (sym (ap (λ p. p.1) h.listed)))
 
 -- a free literal that is made true is no stored unit's
 unlisted_lits-free : (us : List (Option UnitClause)) (m : ℕ) (w : UnitClause) → var_of m < length us → number_of w.id ≡ None →
@@ -82,9 +80,9 @@ unlisted_lits-free : (us : List (Option UnitClause)) (m : ℕ) (w : UnitClause) 
 unlisted_lits-free us m w known new free n = λ i k. point k i
   where
     none : (k : ℕ) → var_of k ≡ var_of m → unlisted_lits us k ≡ false
-    none k e = ⊎_elim {C = unlisted_lits us k ≡ false}
-        (λ (same : k ≡ m). and_right (is_some (stored_id (unit_at us (var_of k)))) (true_lits us k) (ap (true_lits us) same ∙ free))
-        (λ (ne : k ≡ m → ⊥). and_right (is_some (stored_id (unit_at us (var_of k)))) (true_lits us k) (ap (true_lits us) (negation_is m k e ne) ∙ n))
+    none k e = ⊎_elim
+        (λ same. and_right (is_some (stored_id (unit_at us (var_of k)))) (true_lits us k) (cc))
+        (λ ne. and_right (is_some (stored_id (unit_at us (var_of k)))) (true_lits us k) (cc (negation_is m k e ne)))
         (cases_eq k m)
 
     and_true : (a : Bool) → (a && true) ≡ a
@@ -92,10 +90,7 @@ unlisted_lits-free us m w known new free n = λ i k. point k i
     and_true false = refl
 
     point : (k : ℕ) → unlisted_lits (set us (var_of m) (Some w)) k ≡ unlisted_lits us k
-    point k = unlisted_lits-set us (var_of m) k w known new ∙ ⊎_elim {C = (unlisted_lits us k && not (eqb (var_of k) (var_of m))) ≡ unlisted_lits us k}
-        (λ (e : var_of k ≡ var_of m). ap (λ b. b && not (eqb (var_of k) (var_of m))) (none k e) ∙ sym (none k e))
-        (λ (ne : var_of k ≡ var_of m → ⊥). ap (λ b. unlisted_lits us k && not b) (ne_eqb (var_of k) (var_of m) ne) ∙ and_true (unlisted_lits us k))
-        (cases_eq (var_of k) (var_of m))
+    point k = cc (unlisted_lits-set us (var_of m) k w known new, ⊎_elim {C = (unlisted_lits us k && not (eqb (var_of k) (var_of m))) ≡ unlisted_lits us k} (λ (e : var_of k ≡ var_of m). ap (λ b. b && not (eqb (var_of k) (var_of m))) (none k e) ∙ sym (none k e)) (λ (ne : var_of k ≡ var_of m → ⊥). ap (λ b. unlisted_lits us k && not b) (ne_eqb (var_of k) (var_of m) ne) ∙ and_true (unlisted_lits us k)) (cases_eq (var_of k) (var_of m)))
 
 pub lists-unit : (ids ids_now ids_last : List ℕ) (us vs ws : List (Option UnitClause)) (e : Stored) (m : ℕ) (w : UnitClause) →
     AreKnown vs e.lits → IsLooked ids ids_now us vs e (statuses.Unit m) → ids_last ≡ ids_now ++ e.id ∷ []
@@ -103,24 +98,21 @@ pub lists-unit : (ids ids_now ids_last : List ℕ) (us vs ws : List (Option Unit
 unfolding with_ids
 lists-unit ids ids_now ids_last us vs ws e m w known h last new added written rest =
     let v = look us e.lits in
-    let free = is_free (true_lits us) e.lits m (is_unit (true_lits us) e.lits m (sym h.status)) in
+    let free = is_free (true_lits us) e.lits m (is_unit (true_lits us) e.lits m (cc)) in
     let less = known-has e.lits m (length vs) known free.member in
     let unlisted : unlisted_lits ws ≡ v.unlisted =
     ap unlisted_lits written ∙ unlisted_lits-free vs m w less new (ap (λ s. s m) h.same ∙ free.not_true)
     (ap (λ s. s (negate m)) h.same ∙ free.not_false) ∙ sym (ap (λ p. p.1) h.listed) in
-    let keeps : KeepsStored us ws = keeps-then us vs ws h.kept (subst (KeepsStored vs) (sym written) (keeps-set vs (var_of m) w less new)) in
-    by_status ids us e rest (statuses.Unit m) h.status ∙ with_ids-prepend ids (v.items ++ stored_item e ∷ []) (trace (stored_units us) (add_lit m (true_lits us)) v.unlisted rest)
-    ∙ ap (λ xs. with_ids xs (trace (stored_units us) (add_lit m (true_lits us)) v.unlisted rest)) (named-last ids ids_now v.items (stored_item e) (ap (λ p. p.0) h.listed) ∙ sym last)
-    ∙ ap (with_ids ids_last) (goes_on us ws (add_lit m (true_lits us)) v.unlisted rest keeps added unlisted)
+    let keeps : KeepsStored us ws = keeps-then us vs ws h.kept (subst (KeepsStored vs) (cc) (keeps-set vs (var_of m) w less new)) in
+    rw (by_status ids us e rest (statuses.Unit m) h.status, with_ids-prepend ids (v.items ++ stored_item e ∷ []) (trace (stored_units us) (add_lit m (true_lits us)) v.unlisted rest), named-last ids ids_now v.items (stored_item e) (ap (λ p. p.0) h.listed), ← last, goes_on us ws (add_lit m (true_lits us)) v.unlisted rest keeps added unlisted) refl
 
 -- the trace of the walk from the values with the negated clause
 pub open_trace-is : (ids t : List ℕ) (us vs : List (Option UnitClause)) (c : List ℕ) (es : List Stored) → ids ≡ [] → KeepsStored us vs →
     true_lits vs ≡ start_set (stored_units us) c → unlisted_lits vs ≡ unlisted_at (stored_units us) c → ids_after ids vs es ≡ Some t →
     t ≡ ids_of (open_trace (stored_units us) c es)
 open_trace-is ids t us vs c es none kept start unlisted h =
-    found (trace (stored_units vs) (true_lits vs) (unlisted_lits vs) es) (ap (λ xs. ids_after xs vs es) (sym none) ∙ h)
-    ∙ ap ids_of (sym (goes_on us vs (start_set (stored_units us) c) (unlisted_at (stored_units us) c) es kept start unlisted))
+    cc (found (trace (stored_units vs) (true_lits vs) (unlisted_lits vs) es) (ap (λ xs. ids_after xs vs es) (sym none) ∙ h), goes_on us vs (start_set (stored_units us) c) (unlisted_at (stored_units us) c) es kept start unlisted)
   where
     found : (o : Option (List Item)) → option_map (λ items. [] ++ item_ids items) o ≡ Some t → t ≡ ids_of o
     found None e = absurd (cc)
-    found (Some items) e = let same : item_ids items ≡ t = cc in sym same
+    found (Some items) e = let same : item_ids items ≡ t = cc in cc

@@ -12,12 +12,12 @@ use Rattle.clause_store.specs.Units.{unit_at}
 -- the newest value is put back first
 pub undone-push : (us : List (Option UnitClause)) (ts : List (ℕ × Option UnitClause)) (t : ℕ × Option UnitClause) → undone us (ts ++ t ∷ []) ≡ undone (set us (var_of t.0) t.1) ts
 undone-push us [] t = refl
-undone-push us (x ∷ ts) t = ap (λ vs. set vs (var_of x.0) x.1) (undone-push us ts t)
+undone-push us (x ∷ ts) t = cc (undone-push us ts t)
 
 -- one value is put back
 pub undone-step : (us vs : List (Option UnitClause)) (ts rest : List (ℕ × Option UnitClause)) (t : ℕ × Option UnitClause) (i : ℕ) →
     ts ≡ rest ++ t ∷ [] → i ≡ var_of t.0 → undone us ts ≡ vs → undone (set us i t.1) rest ≡ vs
-undone-step us vs ts rest t i e at same = ap (λ (k : ℕ). undone (set us k t.1) rest) at ∙ sym (undone-push us rest t) ∙ ap (undone us) (sym e) ∙ same
+undone-step us vs ts rest t i e at same = cc (undone-push us rest t)
 
 -- the rest of a trail is for the same variables
 pub trail-rest : (us : List (Option UnitClause)) (ts rest : List (ℕ × Option UnitClause)) (t : ℕ × Option UnitClause) (i : ℕ)
@@ -30,34 +30,33 @@ pub is_undoable-overwritten : (us vs : List (Option UnitClause)) (ts now : List 
     var_of m < length us → IsTrailFor us ts → IsUndoable us ts vs now
 is_undoable-overwritten us vs ts now m i old new at is e written less known = rw (written, e) (record {
   known = length-set us i new;
-  undone = undone-push (set us i new) ts (m, old)
-      ∙ ap (λ (ws : List (Option UnitClause)). undone ws ts) (ap (λ (k : ℕ). set (set us i new) k old) (sym at) ∙ set-set us i new old ∙ ap (set us i) is ∙ set-get_or us i None);
+  undone = cc (undone-push (set us i new) ts (m, old), set-set us i new old, set-get_or us i None);
   trail = rw length-set (All-push (λ t. var_of t.0 < length us) ts (m, old) known less);
 })
 
 -- one change after another
 pub is_undoable_then : (us vs ws : List (Option UnitClause)) (ts now last : List (ℕ × Option UnitClause)) → IsUndoable us ts vs now → IsUndoable vs now ws last → IsUndoable us ts ws last
-is_undoable_then us vs ws ts now last h k = record { known = k.known ∙ h.known; undone = k.undone ∙ h.undone; trail = k.trail }
+is_undoable_then us vs ws ts now last h k = record { known = cc; undone = cc; trail = k.trail }
 
 pub freed-push : (ms : List ℕ) (m : ℕ) → freed (ms ++ m ∷ []) ≡ freed ms ++ (m, None) ∷ []
 freed-push [] m = refl
-freed-push (k ∷ ms) m = ap (λ ts. (k, None) ∷ ts) (freed-push ms m)
+freed-push (k ∷ ms) m = cc (freed-push ms m)
 
 -- the variable of the newest literal is known
 pub trail-last : (us : List (Option UnitClause)) (rest : List (ℕ × Option UnitClause)) (t : ℕ × Option UnitClause) → IsTrailFor us (rest ++ t ∷ []) → var_of t.0 < length us
 trail-last us [] t known = known 0 t (omega arith)
-trail-last us (x ∷ rest) t known = trail-last us rest t (λ k d h. known (suc k) d (omega (arith, h)))
+trail-last us (x ∷ rest) t known = trail-last us rest t (λ k d h. known (suc k) d (omega arith))
 
 -- a variable of the trail is known
 pub freed-known : (us : List (Option UnitClause)) (ms : List ℕ) (i m : ℕ) → IsTrailFor us (freed ms) → i < length ms → m ≡ get_or ms i m → var_of m < length us
-freed-known us [] i m known less is = absurd (omega (arith, less))
+freed-known us [] i m known less is = absurd (omega arith)
 freed-known us (k ∷ ks) zero m known less is = rw is (known 0 (k, None) (omega arith))
-freed-known us (k ∷ ks) (suc i) m known less is = freed-known us ks i m (λ j d h. known (suc j) d (omega (arith, h))) (omega (arith, less)) is
+freed-known us (k ∷ ks) (suc i) m known less is = freed-known us ks i m (λ j d h. known (suc j) d (omega arith)) (omega arith) is
 
 -- a variable is freed before the others as well as after them
 pub freed-first : (us : List (Option UnitClause)) (m : ℕ) (ms : List ℕ) → undone (set us (var_of m) None) (freed ms) ≡ undone us (freed (m ∷ ms))
 freed-first us m [] = refl
-freed-first us m (k ∷ ks) = ap (λ vs. set vs (var_of k) None) (freed-first us m ks) ∙ swap (undone us (freed ks)) (var_of m) (var_of k)
+freed-first us m (k ∷ ks) = cc (freed-first us m ks, swap (undone us (freed ks)) (var_of m) (var_of k))
   where
     swap : (vs : List (Option UnitClause)) (i j : ℕ) → set (set vs i None) j None ≡ set (set vs j None) i None
-    swap vs i j = ⊎_elim {C = set (set vs i None) j None ≡ set (set vs j None) i None} (λ (e : i ≡ j). rw e refl) (λ (ne : i ≡ j → ⊥). set_comm vs i j None None ne) (cases_eq i j)
+    swap vs i j = ⊎_elim (λ e. rw e refl) (λ ne. set_comm vs i j None None ne) (cases_eq i j)

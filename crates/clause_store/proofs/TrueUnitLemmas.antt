@@ -27,8 +27,8 @@ stored_id-true (Some u) m h e = by_id u.id h
 
 pub true_unit_id-true : (us : List (Option UnitClause)) (m : ℕ) (c : List ℕ) → AreStored us → true_lits us m ≡ true → true_unit_id (stored_units us) (m ∷ c) ≡ stored_id (unit_at us (var_of m))
 true_unit_id-true us m c stored h =
-    let found = stored_id-true (unit_at us (var_of m)) m (at_rest us (var_of m) stored) (sym (true_lits-by us m) ∙ h) in
-    rw h (ap (λ o. Some (unit_id o)) (unit_of-stored_units us (var_of m)) ∙ sym found)
+    let found = stored_id-true (unit_at us (var_of m)) m (at_rest us (var_of m) stored) (cc (true_lits-by us m)) in
+    rw h (cc (unit_of-stored_units us (var_of m), found))
 
 pub true_unit_id-false : (us : List (Option UnitClause)) (m : ℕ) (c : List ℕ) → true_lits us m ≡ false → true_unit_id (stored_units us) (m ∷ c) ≡ true_unit_id (stored_units us) c
 true_unit_id-false us m c h = rw h refl

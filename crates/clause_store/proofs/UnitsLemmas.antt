@@ -40,17 +40,17 @@ same_bool-not false false = refl
 
 makes_true-falsity : (o : Option UnitClause) (m : ℕ) → makes_true (option_map stored_unit o) (negate m) ≡ falsity (value_by o m)
 makes_true-falsity None m = refl
-makes_true-falsity (Some u) m = ap (λ b. same_bool u.value (not b)) (negative_negate m) ∙ same_bool-not u.value (is_negative m)
+makes_true-falsity (Some u) m = cc (negative_negate m, same_bool-not u.value (is_negative m))
 
 -- by the value of the literal's variable
 pub true_lits-by : (us : List (Option UnitClause)) (m : ℕ) → true_lits us m ≡ makes_true (option_map stored_unit (unit_at us (var_of m))) m
-true_lits-by us m = ap (λ o. makes_true o m) (unit_of-stored_units us (var_of m))
+true_lits-by us m = cc (unit_of-stored_units us (var_of m))
 
 pub true_lits-truth : (us : List (Option UnitClause)) (m : ℕ) → true_lits us m ≡ truth (lit_value us m)
-true_lits-truth us m = true_lits-by us m ∙ makes_true-truth (unit_at us (var_of m)) m
+true_lits-truth us m = true_lits-by us m ∙ makes_true-truth _ m
 
 pub true_lits-falsity : (us : List (Option UnitClause)) (m : ℕ) → true_lits us (negate m) ≡ falsity (lit_value us m)
-true_lits-falsity us m = true_lits-by us (negate m) ∙ ap (λ v. makes_true (option_map stored_unit (unit_at us v)) (negate m)) (var-negate m) ∙ makes_true-falsity (unit_at us (var_of m)) m
+true_lits-falsity us m = cc (true_lits-by us (negate m), var-negate m, makes_true-falsity (unit_at us (var_of m)) m)
 
 by_sign : (m k : ℕ) → var_of k ≡ var_of m → same_bool (not (is_negative m)) (not (is_negative k)) ≡ eqb k m
 by_sign m k e = grind (arith, nat_tests)
@@ -60,9 +60,9 @@ negation_is m k e ne = grind (arith, nat_tests)
 
 absorbed : (s : ℕ → Bool) (m k : ℕ) → s (negate m) ≡ false → var_of k ≡ var_of m → eqb k m ≡ (eqb k m || s k)
 absorbed s m k free e =
-    ⊎_elim {C = eqb k m ≡ (eqb k m || s k)}
-    (λ (same : k ≡ m). rw (eq-eqb k m same) refl)
-    (λ (ne : k ≡ m → ⊥). rw (ne_eqb k m ne) (sym (ap s (negation_is m k e ne) ∙ free)))
+    ⊎_elim
+    (λ same. rw (eq-eqb k m same) refl)
+    (λ ne. rw (ne_eqb k m ne) (cc (negation_is m k e ne)))
     (cases_eq k m)
 
 -- a literal whose negation is not true joins the true ones
@@ -71,14 +71,10 @@ pub true_lits-set : (us : List (Option UnitClause)) (m : ℕ) (u : UnitClause) �
 true_lits-set us m u known v free = λ i k. point k i
   where
     here : (k : ℕ) → var_of k ≡ var_of m → true_lits (set us (var_of m) (Some u)) k ≡ add_lit m (true_lits us) k
-    here k e = true_lits-by (set us (var_of m) (Some u)) k
-        ∙ ap (λ o. makes_true (option_map stored_unit o) k) (get_or-set_at us (var_of m) (var_of k) (Some u) None e known)
-        ∙ ap (λ b. same_bool b (not (is_negative k))) v ∙ by_sign m k e ∙ absorbed (true_lits us) m k free e
+    here k e = cc (true_lits-by (set us (var_of m) (Some u)) k, get_or-set_at us (var_of m) (var_of k) (Some u) None e known, by_sign m k e, absorbed (true_lits us) m k free e)
 
     apart : (k : ℕ) → (var_of k ≡ var_of m → ⊥) → true_lits (set us (var_of m) (Some u)) k ≡ add_lit m (true_lits us) k
-    apart k ne = true_lits-by (set us (var_of m) (Some u)) k
-        ∙ ap (λ o. makes_true (option_map stored_unit o) k) (get_or-set_other us (var_of m) (var_of k) (Some u) None ne)
-        ∙ sym (true_lits-by us k) ∙ ap (λ b. b || true_lits us k) (sym (ne_eqb k m (λ e. ne (ap var_of e))))
+    apart k ne = cc (true_lits-by (set us (var_of m) (Some u)) k, get_or-set_other us (var_of m) (var_of k) (Some u) None ne, true_lits-by us k, ne_eqb k m (λ e. ne (ap var_of e)))
 
     point : (k : ℕ) → true_lits (set us (var_of m) (Some u)) k ≡ add_lit m (true_lits us) k
-    point k = ⊎_elim {C = true_lits (set us (var_of m) (Some u)) k ≡ add_lit m (true_lits us) k} (here k) (apart k) (cases_eq (var_of k) (var_of m))
+    point k = ⊎_elim (here k) (apart k) (cases_eq _ _)

@@ -29,8 +29,8 @@ above_from low next (e ∷ es) h =
 
 in_above : (low : ℕ) (x : Stored) (es : List Stored) → Above low es → In x es → low ≤ x.id
 in_above low x [] h i = absurd i
-in_above low x (e ∷ es) h (inl same) = subst (λ (y : Stored). low ≤ y.id) (sym same) h.0
-in_above low x (e ∷ es) h (inr i) = let k = in_above (suc e.id) x es h.1 i in omega (arith, k, h.0)
+in_above low x (e ∷ es) h (inl same) = rw same h.0
+in_above low x (e ∷ es) h (inr i) = let k = in_above _ x es h.1 i in omega arith
 
 in_put : (x y : Stored) (ys : List Stored) → In x (put_by_id y ys) → (x ≡ y) ⊎ In x ys
 in_put x y [] i = i
@@ -40,15 +40,15 @@ in_put x y (z ∷ zs) i = cases (in_put x y zs) (ltb y.id z.id) (eqb y.id z.id) 
     cases f true d i = i
     cases f false true i = inr i
     cases f false false (inl e) = inr (inl e)
-    cases f false false (inr i) = ⊎_elim {C = (x ≡ y) ⊎ In x (z ∷ zs)} (λ (e : x ≡ y). inl e) (λ (j : In x zs). inr (inr j)) (f i)
+    cases f false false (inr i) = ⊎_elim (λ e. inl e) (λ j. inr (inr j)) (f i)
 
 in_by_id : (x : Stored) (xs : List Stored) → In x (by_id xs) → In x xs
 in_by_id x [] i = i
-in_by_id x (y ∷ ys) i = ⊎_elim {C = In x (y ∷ ys)} (λ (e : x ≡ y). inl e) (λ (j : In x (by_id ys)). inr (in_by_id x ys j)) (in_put x y (by_id ys) i)
+in_by_id x (y ∷ ys) i = ⊎_elim (λ e. inl e) (λ j. inr (in_by_id x ys j)) (in_put x y _ i)
 
 above_put : (low : ℕ) (y : Stored) (ys : List Stored) → Above low ys → low ≤ y.id → Above low (put_by_id y ys)
 above_put low y [] h le = (le, tt)
-above_put low y (z ∷ zs) h le = cases (λ k. above_put (suc z.id) y zs h.1 k) (ltb y.id z.id) (eqb y.id z.id) refl refl
+above_put low y (z ∷ zs) h le = cases (λ k. above_put _ y zs h.1 k) (ltb y.id z.id) (eqb y.id z.id) refl refl
   where
     cases : (suc z.id ≤ y.id → Above (suc z.id) (put_by_id y zs)) → (b d : Bool) → ltb y.id z.id ≡ b → eqb y.id z.id ≡ d → Above low (cond b (y ∷ z ∷ zs) (cond d (z ∷ zs) (z ∷ put_by_id y zs)))
     cases f true d less same = (le, (grind (arith, less), h.1))
@@ -57,7 +57,7 @@ above_put low y (z ∷ zs) h le = cases (λ k. above_put (suc z.id) y zs h.1 k) 
 
 above_by_id : (xs : List Stored) → Above 0 (by_id xs)
 above_by_id [] = tt
-above_by_id (y ∷ ys) = above_put 0 y (by_id ys) (above_by_id ys) (omega arith)
+above_by_id (y ∷ ys) = above_put 0 y _ (above_by_id ys) (omega arith)
 
 put_keeps : (x y : Stored) (ys : List Stored) → In x ys → In x (put_by_id y ys)
 put_keeps x y [] i = absurd i
@@ -80,18 +80,18 @@ put_has y (z ∷ zs) f = cases (put_has y zs (λ w i. f w (inr i))) (ltb y.id z.
 
 by_id_has : (x : Stored) (xs : List Stored) → ((y z : Stored) → In y xs → In z xs → y.id ≡ z.id → y ≡ z) → In x xs → In x (by_id xs)
 by_id_has x [] f i = absurd i
-by_id_has x (y ∷ ys) f (inl e) = subst (λ w. In w (put_by_id y (by_id ys))) (sym e) (put_has y (by_id ys) (λ z i. f y z (inl refl) (inr (in_by_id z ys i))))
-by_id_has x (y ∷ ys) f (inr i) = put_keeps x y (by_id ys) (by_id_has x ys (λ v w j k. f v w (inr j) (inr k)) i)
+by_id_has x (y ∷ ys) f (inl e) = rw e (put_has y (by_id ys) (λ z i. f y z (inl refl) (inr (in_by_id z ys i))))
+by_id_has x (y ∷ ys) f (inr i) = put_keeps x y _ (by_id_has x ys (λ v w j k. f v w (inr j) (inr k)) i)
 
 -- of two lists with rising ids and the same members
 same_head : (x y : Stored) (xs ys : List Stored) → Above (suc x.id) xs → Above (suc y.id) ys → In x (y ∷ ys) → In y (x ∷ xs) → x ≡ y
 same_head x y xs ys a b (inl e) j = e
 same_head x y xs ys a b (inr i) (inl e) = sym e
-same_head x y xs ys a b (inr i) (inr j) = let p = in_above (suc y.id) x ys b i in let q = in_above (suc x.id) y xs a j in absurd (omega (arith, p, q))
+same_head x y xs ys a b (inr i) (inr j) = let p = in_above _ x ys b i in let q = in_above _ y xs a j in absurd (omega arith)
 
 later : (x y z : Stored) (xs ys : List Stored) → x ≡ y → Above (suc x.id) xs → In z xs → In z (y ∷ ys) → In z ys
 later x y z xs ys e a i (inr j) = j
-later x y z xs ys e a i (inl same) = let p = in_above (suc x.id) z xs a i in let q : z.id ≡ x.id = ap (λ (w : Stored). w.id) (same ∙ sym e) in absurd (omega (arith, p, q))
+later x y z xs ys e a i (inl same) = let p = in_above _ z xs a i in let q : z.id ≡ x.id = cc in absurd (omega arith)
 
 pub same_members : (low k : ℕ) (xs ys : List Stored) → Above low xs → Above k ys → ((x : Stored) → In x xs → In x ys) → ((x : Stored) → In x ys → In x xs) → xs ≡ ys
 same_members low k [] [] a b f g = refl
@@ -99,8 +99,8 @@ same_members low k [] (y ∷ ys) a b f g = absurd (g y (inl refl))
 same_members low k (x ∷ xs) [] a b f g = absurd (f x (inl refl))
 same_members low k (x ∷ xs) (y ∷ ys) a b f g =
     let e = same_head x y xs ys a.1 b.1 (f x (inl refl)) (g y (inl refl)) in
-    let t = same_members (suc x.id) (suc y.id) xs ys a.1 b.1 (λ z i. later x y z xs ys e a.1 i (f z (inr i))) (λ z i. later y x z ys xs (sym e) b.1 i (g z (inr i))) in
-    ap (λ w. w ∷ xs) e ∙ ap (λ ws. y ∷ ws) t
+    let t = same_members _ _ xs ys a.1 b.1 (λ z i. later x y z xs ys e a.1 i (f z (inr i))) (λ z i. later y x z ys xs (sym e) b.1 i (g z (inr i))) in
+    cc
 
 in_left : (x : Stored) (xs ys : List Stored) → In x xs → In x (xs ++ ys)
 in_left x [] ys i = absurd i
@@ -114,11 +114,11 @@ in_right x (z ∷ xs) ys i = inr (in_right x xs ys i)
 in_either : (x : Stored) (xs ys : List Stored) → In x (xs ++ ys) → In x xs ⊎ In x ys
 in_either x [] ys i = inr i
 in_either x (z ∷ xs) ys (inl e) = inl (inl e)
-in_either x (z ∷ xs) ys (inr i) = ⊎_elim {C = In x (z ∷ xs) ⊎ In x ys} (λ (j : In x xs). inl (inr j)) (λ (j : In x ys). inr j) (in_either x xs ys i)
+in_either x (z ∷ xs) ys (inr i) = ⊎_elim (λ j. inl (inr j)) (λ j. inr j) (in_either x xs ys i)
 
 in_some : (f : ℕ → List Stored) (x : Stored) (ks : List ℕ) → In x (flat_map f ks) → (k : ℕ) × In x (f k)
 in_some f x [] i = absurd i
-in_some f x (k ∷ ks) i = ⊎_elim {C = (k : ℕ) × In x (f k)} (λ (j : In x (f k)). (k, j)) (λ (j : In x (flat_map f ks)). in_some f x ks j) (in_either x (f k) (flat_map f ks) i)
+in_some f x (k ∷ ks) i = ⊎_elim (λ j. (k, j)) (λ j. in_some f x ks j) (in_either x _ _ i)
 
 in_all : (f : ℕ → List Stored) (x : Stored) (k : ℕ) (ks : List ℕ) (i : ℕ) → i < length ks → slice_index_or ks i k ≡ k → In x (f k) → In x (flat_map f ks)
 in_all f x k [] i less at h = absurd (omega (arith, less))
@@ -127,7 +127,7 @@ in_all f x k (l ∷ ks) (suc i) less at h = in_right x (f l) (flat_map f ks) (in
 
 pub in_filter : (p : Stored → Bool) (x : Stored) (es : List Stored) → p x ≡ true → In x es → In x (filter p es)
 in_filter p x [] h i = absurd i
-in_filter p x (e ∷ es) h (inl same) = subst (λ b. In x (cond b (e ∷ filter p es) (filter p es))) (sym (ap p (sym same) ∙ h)) (inl same)
+in_filter p x (e ∷ es) h (inl same) = subst (λ b. In x (cond b (e ∷ filter p es) (filter p es))) (sym (ap p (cc) ∙ h)) (inl same)
 in_filter p x (e ∷ es) h (inr i) = elim (p e) as (λ b. In x (cond b (e ∷ filter p es) (filter p es))) [ true ↦ inr (in_filter p x es h i) | false ↦ in_filter p x es h i ]
 
 filter_in : (p : Stored → Bool) (x : Stored) (es : List Stored) → In x (filter p es) → In x es
@@ -141,10 +141,10 @@ filter_in p x (e ∷ es) i = cases (filter_in p x es) (p e) i
 
 same_id : (low : ℕ) (es : List Stored) (y z : Stored) → Above low es → In y es → In z es → y.id ≡ z.id → y ≡ z
 same_id low [] y z a i j same = absurd i
-same_id low (e ∷ es) y z a (inl p) (inl q) same = p ∙ sym q
-same_id low (e ∷ es) y z a (inl p) (inr j) same = let k = in_above (suc e.id) z es a.1 j in let l : y.id ≡ e.id = ap (λ (w : Stored). w.id) p in absurd (omega (arith, k, l, same))
-same_id low (e ∷ es) y z a (inr i) (inl q) same = let k = in_above (suc e.id) y es a.1 i in let l : z.id ≡ e.id = ap (λ (w : Stored). w.id) q in absurd (omega (arith, k, l, same))
-same_id low (e ∷ es) y z a (inr i) (inr j) same = same_id (suc e.id) es y z a.1 i j same
+same_id low (e ∷ es) y z a (inl p) (inl q) same = cc
+same_id low (e ∷ es) y z a (inl p) (inr j) same = let k = in_above _ z es a.1 j in let l : y.id ≡ e.id = cc in absurd (omega arith)
+same_id low (e ∷ es) y z a (inr i) (inl q) same = let k = in_above _ y es a.1 i in let l : z.id ≡ e.id = cc in absurd (omega arith)
+same_id low (e ∷ es) y z a (inr i) (inr j) same = same_id _ es y z a.1 i j same
 
 pub some_here : (buffer : List ℕ) (m : Buckets) (k : ℕ) (x : Stored) → In x (stored_in buffer m k) → IsSome (get nat_eq m k)
 some_here buffer m k x i = cases (get nat_eq m k) i
@@ -159,10 +159,10 @@ unfolding list_of
 list_is buffer m h es a tied =
     let all = flat_map (stored_in buffer m) (keys m) in
     let from : (x : Stored) → In x all → In x es = λ x i. let s = in_some (stored_in buffer m) x (keys m) i in
-    filter_in (λ e. eqb (h e.lits) s.0) x es (subst (In x) (tied s.0) s.1) in
+    filter_in (λ e. eqb (h e.lits) s.0) x es (rw (← tied s.0) s.1) in
     let to : (x : Stored) → In x es → In x all = λ x i.
-    let here : In x (stored_in buffer m (h x.lits)) = subst (In x) (sym (tied (h x.lits))) (in_filter (λ e. eqb (h e.lits) (h x.lits)) x es (grind arith) i) in
-    let at = (hash_map_contains_key_iff nat_eq_equiv exact_unsigned_eq m (h x.lits)).0 (some_here buffer m (h x.lits) x here) in
-    in_all (stored_in buffer m) x (h x.lits) (keys m) at.0 at.1 at.2 here in
-    same_members 0 0 (by_id all) es (above_by_id all) a (λ x i. from x (in_by_id x all i))
+    let here : In x (stored_in buffer m (h x.lits)) = rw (tied (h x.lits)) (in_filter (λ e. eqb (h e.lits) (h x.lits)) x es (grind arith) i) in
+    let at = (hash_map_contains_key_iff nat_eq_equiv exact_unsigned_eq m _).0 (some_here _ m _ x here) in
+    in_all _ x _ _ _ at.1 at.2 here in
+    same_members 0 0 _ es (above_by_id all) a (λ x i. from x (in_by_id x all i))
     (λ x i. by_id_has x all (λ y z p q. same_id 0 es y z a (from y p) (from z q)) (to x i))

@@ -66,7 +66,7 @@ visit-unfalsified = by_cases (λ us s g c. list_any s c ≡ false → (visit us 
   here = λ h none. absurd (true≢false (rw h at none));
   listed = λ h n k e none. rw (h, n, k) (e (rw h at none));
   passed = λ h n k e none. rw (h, n, k) (e (rw h at none));
-  freed = λ h n e none. rw (h, n) (ap (λ ls. m ∷ ls) (e (rw h at none)));
+  freed = λ h n e none. rw (h, n) (cc (e (rw h at none)));
 })
 
 -- what is left unlisted was so before
@@ -84,11 +84,10 @@ AgreeOn g us vs = (k : ℕ) → g k ≡ true → unit_item us k ≡ unit_item vs
 
 pub visit-agree : (vs us : List (Option StoredUnit)) (s g : ℕ → Bool) (c : List ℕ) → AgreeOn g us vs → visit us s g c ≡ visit vs s g c
 visit-agree vs = by_cases (λ us s g c. AgreeOn g us vs → visit us s g c ≡ visit vs s g c) (λ us s g e. refl) (λ us s g m c. record {
-  here = λ h e. visit-true us s g m c h ∙ sym (visit-true vs s g m c h);
-  listed = λ h n l more e. visit-listed us s g m c h n l ∙ ap (λ x. listing x (visit us s (without_lit (negate m) g) c)) (e (negate m) l)
-      ∙ ap (listing (unit_item vs (negate m))) (more (λ k y. e k (and_parts (g k) (not (eqb k (negate m))) y).0)) ∙ sym (visit-listed vs s g m c h n l);
-  passed = λ h n l more e. visit-false us s g m c h n l ∙ more e ∙ sym (visit-false vs s g m c h n l);
-  freed = λ h n more e. visit-free us s g m c h n ∙ ap (freeing m) (more e) ∙ sym (visit-free vs s g m c h n);
+  here = λ h e. cc (visit-true us s g m c h, visit-true vs s g m c h);
+  listed = λ h n l more e. cc (visit-listed us s g m c h n l, e (negate m) l, more (λ k y. e k (and_parts (g k) (not (eqb k (negate m))) y).0), visit-listed vs s g m c h n l);
+  passed = λ h n l more e. cc (visit-false us s g m c h n l, more e, visit-false vs s g m c h n l);
+  freed = λ h n more e. cc (visit-free us s g m c h n, more e, visit-free vs s g m c h n);
 })
 
 on_visit-agree : (v : Visit) (x : Item) (s : ℕ → Bool) (go to : (ℕ → Bool) → (ℕ → Bool) → Option (List Item)) →
@@ -100,17 +99,15 @@ on_visit-agree v x s go to h = by_satisfied v.satisfied v.free
         (by_count ls (Some (v.items ++ x ∷ [])) (λ l. prepend (v.items ++ x ∷ []) (go (add_lit l s) v.unlisted))
         (prepend v.items (go s v.unlisted)))
         ≡ cond b (prepend v.items (to s v.unlisted)) (by_count ls (Some (v.items ++ x ∷ [])) (λ l. prepend (v.items ++ x ∷ []) (to (add_lit l s) v.unlisted)) (prepend v.items (to s v.unlisted)))
-    by_satisfied true ls = ap (prepend v.items) (h s)
+    by_satisfied true ls = cc (h s)
     by_satisfied false [] = refl
-    by_satisfied false (l ∷ []) = ap (prepend (v.items ++ x ∷ [])) (h (add_lit l s))
-    by_satisfied false (l ∷ k ∷ ls) = ap (prepend v.items) (h s)
+    by_satisfied false (l ∷ []) = cc (h (add_lit l s))
+    by_satisfied false (l ∷ k ∷ ls) = cc (h s)
 
 pub trace-agree : (us vs : List (Option StoredUnit)) (s g : ℕ → Bool) (es : List Stored) → AgreeOn g us vs → trace us s g es ≡ trace vs s g es
 trace-agree us vs s g [] h = refl
 trace-agree us vs s g (e ∷ es) h =
-    ap (λ v. on_visit v (stored_item e) s (λ r k. trace us r k es)) (visit-agree vs us s g e.lits h)
-    ∙ on_visit-agree (visit vs s g e.lits) (stored_item e) s (λ r k. trace us r k es) (λ r k. trace vs r k es)
-    (λ r. trace-agree us vs r (visit vs s g e.lits).unlisted es (λ k y. h k (visit-unlisted vs s g e.lits k y)))
+    cc (visit-agree vs us s g e.lits h, on_visit-agree (visit vs s g e.lits) (stored_item e) s (λ r k. trace us r k es) (λ r k. trace vs r k es) (λ r. trace-agree us vs r (visit vs s g e.lits).unlisted es (λ k y. h k (visit-unlisted vs s g e.lits k y))))
 
 -- how the trace goes on after a clause, by what follows from it
 abbrev pub on_status : ClauseStatus → Visit → Item → (ℕ → Bool) → ((ℕ → Bool) → (ℕ → Bool) → Option (List Item)) → Option (List Item)

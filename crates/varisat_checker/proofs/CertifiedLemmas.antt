@@ -1,59 +1,65 @@
--- Calls whose emissions are runs of the hint machine.
-use Rattle.std.proofs.Common.{◌≡◌, ℕ, false, List, [], ◌∷◌, map, Result, Ok, Err, refl, sym, ◌∙◌, subst, append-nil}
+-- Calls, and runs over a text, whose emissions are runs of the hint machine.
+use Rattle.std.proofs.Common.{◌≡◌, ℕ, false, List, [], ◌∷◌, map, refl, sym, subst, append-nil, None, Ok, Err}
 use Rattle.checker_rules.specs.AddFormula.{add_clauses, added}
 use Rattle.checker_rules.specs.CallEmissions.{EmitsCall, EmitsCalls}
-use Rattle.checker_rules.specs.Calls.{Call, adds, answer_of}
-use Rattle.checker_rules.specs.CheckedSteps.{NamedStep, hint_steps}
-use Rattle.checker_rules.specs.HintRun.{IsRun, machine_after}
+use Rattle.checker_rules.specs.Calls.{Call, adds, answer_of, calls_after, attempt, checks}
+use Rattle.checker_rules.specs.CheckedSteps.{hint_steps, NamedStep}
+use Rattle.checker_rules.specs.HintRun.{machine_after, IsRun}
 use Rattle.checker_rules.specs.Machine.{Mirrors, Machine}
-use Rattle.checker_rules.specs.Outcome.{Outcome}
 use Rattle.checker_rules.specs.State.{State}
 use Rattle.checker_rules.specs.WellFormed.{WellFormed}
 use Rattle.checker_rules.proofs.AddedClauses.{formulas_are_fold}
 use Rattle.checker_rules.proofs.CallRuns.{calls_run_machine}
 use Rattle.checker_parts.specs.Answers.{AnswersParts, AnswersStep, UnlessFailed}
-use Rattle.checker_parts.specs.declared.error.CheckerError.{CheckerError}
-use Rattle.checker_parts.specs.declared.error.CheckerError.TheVariants.{ProofIncomplete, IoError, ParseError, CheckFailed, ProofProcessorError, OutOfMemory, Failed}
+use Rattle.checker_parts.proofs.Headlines.{unless_failed}
 use Rattle.checker_steps.specs.Failing.{has_failed}
 use Rattle.varisat_checker.specs.Certified.{Certifies}
+use Rattle.varisat_checker.proofs.FailingLemmas.{Answer, after-parts}
+use Rattle.checker_rules.specs.Run.{Runs}
+use Rattle.checker_rules.specs.RunEmissions.{EmitsRun, last_calls}
+use Rattle.checker_rules.specs.Step.{Step}
+use Rattle.checker_rules.proofs.RunJoins.{runs_run_machine}
+use Rattle.proof_bytes.specs.Texts.{Place, next_of, start_of}
+use Rattle.checker_parts.specs.declared.error.CheckerError.TheVariants.{ProofProcessorError, OutOfMemory, Failed}
+use Rattle.varisat_checker.specs.ProofRun.{EmitsProof, EndsProof}
+use Rattle.proof_bytes.specs.TextRuns as runs
 
-abbrev Answer : Type 0
-Answer = Result (Unit {0}) CheckerError
+-- a list of calls
+certifies-calls : (r : Answer) (s u : State) (calls : List Call) → WellFormed s → ((P : State → Type 0) → P (calls_after s calls) → UnlessFailed r (P u)) →
+    Certifies r (EmitsCalls s calls) s u
+certifies-calls r s u calls form after m es tied emits =
+    let k = calls_run_machine _ _ _ _ tied form emits in (k.0, after (λ w. Mirrors (machine_after m (hint_steps es)) w) k.1)
 
--- what holds of the state that the rules leave holds of the state after the call
-pub after-step : (P : State → Type 0) (r : Answer) (o : Outcome) (u : State) → AnswersStep r o u → P o.after → UnlessFailed r (P u)
-after-step P (Ok done) o u h p = subst P (sym h.1) p
-after-step P (Err (CheckFailed number msg debug_step)) o u h p = subst P (sym h.1) p
-after-step P (Err (ProofIncomplete number)) o u h p = absurd h
-after-step P (Err (IoError number read)) o u h p = absurd h
-after-step P (Err (ParseError number kind)) o u h p = absurd h
-after-step P (Err (ProofProcessorError fault)) o u h p = tt
-after-step P (Err OutOfMemory) o u h p = tt
-after-step P (Err Failed) o u h p = absurd h
-
--- the same of the parts, and of the state after the call, which records where it gave up
-pub after-parts : (P : State → Type 0) (r : Answer) (o : Outcome) (t u : State) → AnswersParts r o t → (has_failed r ≡ false → u ≡ t) → P o.after → UnlessFailed r (P u)
-after-parts P (Ok done) o t u h same p = subst P (sym (same refl ∙ h.1)) p
-after-parts P (Err (CheckFailed number msg debug_step)) o t u h same p = subst P (sym (same refl ∙ h.1)) p
-after-parts P (Err (ProofIncomplete number)) o t u h same p = absurd h
-after-parts P (Err (IoError number read)) o t u h same p = absurd h
-after-parts P (Err (ParseError number kind)) o t u h same p = absurd h
-after-parts P (Err (ProofProcessorError fault)) o t u h same p = tt
-after-parts P (Err OutOfMemory) o t u h same p = tt
-after-parts P (Err Failed) o t u h same p = absurd h
-
--- one call
-call-run : (s : State) (call : Call) → WellFormed s → (m : Machine) (es : List NamedStep) → Mirrors m s → EmitsCall s call es →
-    IsRun m (hint_steps es) × Mirrors (machine_after m (hint_steps es)) (answer_of s call).after
-call-run s call form m es tied emits = let k = calls_run_machine m s (call ∷ []) es tied form (es, [], emits, refl, sym (append-nil es)) in (k.0, k.1)
-
-pub certifies-call : (r : Answer) (s t u : State) (call : Call) → WellFormed s → AnswersParts r (answer_of s call) t → (has_failed r ≡ false → u ≡ t) → Certifies r (EmitsCall s call) s u
+-- one call over parts, after which it is recorded where it gave up
+pub certifies-call : (r : Answer) (s t u : State) (call : Call) → WellFormed s → AnswersParts r (answer_of s call) t →
+    (has_failed r ≡ false → u ≡ t) → Certifies r (EmitsCall s call) s u
 certifies-call r s t u call form h same m es tied emits =
-    let k = call-run s call form m es tied emits in
-    (k.0, after-parts (λ w. Mirrors (machine_after m (hint_steps es)) w) r (answer_of s call) t u h same k.1)
+    certifies-calls r _ _ (call ∷ []) form (λ P. after-parts P r _ t u h same) m es tied (es, [], emits, refl, sym (append-nil es))
 
 -- clauses added in turn
-pub certifies-adds : (r : Answer) (s u : State) (cs : List (List ℕ)) → WellFormed s → AnswersStep r (add_clauses s cs) u → Certifies r (EmitsCalls s (map adds (added s cs))) s u
-certifies-adds r s u cs form h m es tied emits =
-    let k = calls_run_machine m s (map adds (added s cs)) es tied form emits in
-    (k.0, after-step (λ w. Mirrors (machine_after m (hint_steps es)) w) r (add_clauses s cs) u h (subst (λ w. Mirrors (machine_after m (hint_steps es)) w) (sym (formulas_are_fold.state s cs)) k.1))
+pub certifies-adds : (r : Answer) (s u : State) (cs : List (List ℕ)) → WellFormed s → AnswersStep r (add_clauses s cs) u →
+    Certifies r (EmitsCalls s (map adds (added s cs))) s u
+certifies-adds r s u cs form h =
+    certifies-calls r _ _ _ form (λ P p. unless_failed P _ (subst P (sym (formulas_are_fold.state s cs)) p) r u h)
+
+-- what a run emits is what some calls emit
+run-calls : (s : State) (here : Place) (steps : List Step) (es : List NamedStep) → EmitsRun next_of s here steps es → (calls : List Call) × EmitsCalls s calls es
+run-calls s here [] es h = (last_calls next_of s here, h)
+run-calls s here (step ∷ steps) es h =
+    let later = run-calls (attempt s step).after h.0 steps h.3 h.5 in (checks step ∷ later.0, (h.2, h.3, h.4, later.1, h.6))
+
+module _ (s t : State) (text : List ℕ) (steps : List Step) (form : WellFormed s) where
+  begun : (m : Machine) (es : List NamedStep) → Mirrors m s → EmitsRun next_of s (start_of text) steps es → IsRun m (hint_steps es) × Unit {0}
+  begun m es tied emits = let k = run-calls _ _ _ _ emits in ((calls_run_machine _ _ _ _ tied form k.1).0, tt)
+
+  whole : (answer : runs.Answer) → Runs next_of s (start_of text) steps answer t → (m : Machine) (es : List NamedStep) → Mirrors m s →
+      EmitsRun next_of s (start_of text) steps es → IsRun m (hint_steps es) × Mirrors (machine_after m (hint_steps es)) t
+  whole answer runs m es tied emits = let k = runs_run_machine _ _ _ _ _ _ _ _ _ _ tied form runs emits in (k.0, k.1)
+
+  -- what a run over a text emits, by its answer
+  pub certifies-proof : (r : Answer) → EndsProof r text s steps t → Certifies r (EmitsProof r s text steps) s t
+  certifies-proof (Ok done) runs = whole None runs
+  certifies-proof (Err (ProofProcessorError cause)) runs = begun
+  certifies-proof (Err OutOfMemory) runs = begun
+  certifies-proof (Err Failed) runs = absurd runs
+  certifies-proof (Err _) runs = whole _ runs.1

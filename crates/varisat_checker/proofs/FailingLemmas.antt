@@ -1,32 +1,65 @@
 -- A call over the parts of a checker, and what is recorded of its failure.
-use Rattle.std.proofs.Common.{◌≡◌, true, false, Result, Ok, Err}
+--     went-on, kept-on, gave-up      where it did not fail the checker, and where it did
+--     where-accepted      what holds where it accepted
+--     unless-always, unless-bind      what holds unless it did
+--     unless-moved, after-parts      the same of the state after the call, which records where it gave up
+use Rattle.std.proofs.Common.{◌≡◌, Bool, true, false, None, Result, Ok, Err, OnOk, refl, sym, subst}
 use Rattle.checker_rules.specs.Outcome.{Outcome}
 use Rattle.checker_rules.specs.State.{State}
-use Rattle.checker_parts.specs.Answers.{AnswersParts, AnswersStep, UnlessFailed}
+use Rattle.checker_parts.specs.Answers.{AnswersParts, AnswersStep, UnlessFailed, UnlessGivenUp}
 use Rattle.checker_parts.specs.declared.error.CheckerError.{CheckerError}
-use Rattle.checker_parts.specs.declared.error.CheckerError.TheVariants.{ProofIncomplete, IoError, ParseError, CheckFailed, ProofProcessorError, OutOfMemory, Failed}
+use Rattle.checker_parts.specs.declared.error.CheckerError.TheVariants.{ProofProcessorError, OutOfMemory, Failed}
+use Rattle.checker_parts.proofs.Headlines.{unless_failed}
 use Rattle.checker_steps.specs.Failing.{has_failed}
 
-abbrev Answer : Type 0
+abbrev pub Answer : Type 0
 Answer = Result (Unit {0}) CheckerError
 
--- it did not
-pub went-on : (r : Answer) (o : Outcome) (t : State) → has_failed r ≡ false → AnswersParts r o t → AnswersStep r o t
-went-on (Ok x) o t h a = a
-went-on (Err (CheckFailed number msg debug_step)) o t h a = a
-went-on (Err (ProofIncomplete number)) o t h a = a
-went-on (Err (IoError number cause)) o t h a = a
-went-on (Err (ParseError number cause)) o t h a = a
-went-on (Err (ProofProcessorError cause)) o t h a = absurd cc
-went-on (Err OutOfMemory) o t h a = absurd cc
-went-on (Err Failed) o t h a = absurd cc
+abbrev pub ok_answer : Answer
+ok_answer = Ok tt
 
-pub kept-on : {K : Type 0} (r : Answer) → has_failed r ≡ false → UnlessFailed r K → K
-kept-on (Ok x) h k = k
-kept-on (Err (CheckFailed number msg debug_step)) h k = k
-kept-on (Err (ProofIncomplete number)) h k = k
-kept-on (Err (IoError number cause)) h k = k
-kept-on (Err (ParseError number cause)) h k = k
-kept-on (Err (ProofProcessorError cause)) h k = absurd cc
-kept-on (Err OutOfMemory) h k = absurd cc
-kept-on (Err Failed) h k = absurd cc
+abbrev pub err_answer : CheckerError → Answer
+err_answer e = Err e
+
+-- whether it has failed the checker is tested in between
+pub went-on : (r : Answer) (o : Outcome) (t : State) {b : Bool} → b ≡ has_failed r → b ≡ false → AnswersParts r o t → AnswersStep r o t
+went-on (Err (ProofProcessorError cause)) o t e h a = absurd cc
+went-on (Err OutOfMemory) o t e h a = absurd cc
+went-on _ o t e h a = a
+
+pub kept-on : {P : Type 0} (r : Answer) {b : Bool} → b ≡ has_failed r → b ≡ false → UnlessFailed r P → P
+kept-on (Err (ProofProcessorError cause)) e h p = absurd cc
+kept-on (Err OutOfMemory) e h p = absurd cc
+kept-on (Err Failed) e h p = absurd cc
+kept-on _ e h p = p
+
+pub gave-up : (r : Answer) (t u : State) {b : Bool} → b ≡ has_failed r → b ≡ true → has_failed r ≡ false → u ≡ t
+gave-up r t u e h on = absurd cc
+
+-- what follows where it accepted
+pub where-accepted : {P : Type 0} (r : Answer) (o : Outcome) (u : State) → (o.refused ≡ None → P) → AnswersStep r o u → OnOk r P
+where-accepted (Ok done) o u f h = f h.0
+where-accepted (Err e) o u f h = tt
+
+-- what always holds
+pub unless-always : {P : Type 0} (r : Answer) → P → UnlessFailed r P
+unless-always (Err (ProofProcessorError cause)) p = tt
+unless-always (Err OutOfMemory) p = tt
+unless-always (Err Failed) p = tt
+unless-always _ p = p
+
+-- what follows where it did not give up
+pub unless-bind : {P : Type 0} (r : Answer) (Q : Type 0) → (P → UnlessFailed r Q) → UnlessGivenUp r P → UnlessFailed r Q
+unless-bind (Err (ProofProcessorError cause)) Q f p = tt
+unless-bind (Err OutOfMemory) Q f p = tt
+unless-bind _ Q f p = f p
+
+pub unless-moved : (P : State → Type 0) (r : Answer) (t u : State) → (has_failed r ≡ false → u ≡ t) → UnlessFailed r (P t) → UnlessFailed r (P u)
+unless-moved P (Err (ProofProcessorError cause)) t u same p = tt
+unless-moved P (Err OutOfMemory) t u same p = tt
+unless-moved P (Err Failed) t u same p = tt
+unless-moved P _ t u same p = subst P (sym (same refl)) p
+
+pub after-parts : (P : State → Type 0) (r : Answer) (o : Outcome) (t u : State) → AnswersParts r o t → (has_failed r ≡ false → u ≡ t) → P o.after
+    → UnlessFailed r (P u)
+after-parts P r o t u h same p = unless-moved P r t u same (unless-bind r (P t) (unless_failed P o p r t) h)

@@ -1,12 +1,8 @@
-pub mod AddedSoFar
 pub mod CertifiedLemmas
 pub mod CountLemmas
 pub mod DeliveredAdds
 pub mod EntailedLemmas
 pub mod FailingLemmas
 pub mod ProofRuns
-pub mod ProvenSteps
 pub mod ReadDelivered
-pub mod ReadSoFar
 pub mod RunDelivered
-pub mod RunMachines

@@ -9,6 +9,5 @@ use Rattle.checker_steps.proofs.variables.ensure_sampling_var.Goals as goal
 pub returns-clause-store : goal.returns-clause-store
 returns-clause-store c = λ h store.
     unless-memory (IsStore h c.ensure_var.new.clauses) c.ensure_var.result
-    (on_ok_weaker c.ensure_var.result (λ grown. is_store-known (suc (index_of c.args.var)) h c.args.clauses.now c.ensure_var.new.clauses
-    c.args.variables.now c.ensure_var.new.variables grown store) c.ensure_var.ensures.known)
+    (on_ok_weaker c.ensure_var.result (λ grown. is_store-known (suc (index_of c.args.var)) h _ _ _ _ grown store) c.ensure_var.ensures.known)
     c.ensure_var.ensures.memory

@@ -14,17 +14,14 @@ is_some-indexes_of (Some v) = refl
 
 list_any-indexes : (ps : List (Var × Option Var)) → list_any (λ p. is_some p.1) (map indexes ps) ≡ list_any (λ p. is_some p.1) ps
 list_any-indexes [] = refl
-list_any-indexes (p ∷ ps) = ap (λ b. b || list_any (λ p. is_some p.1) (map indexes ps)) (is_some-indexes_of p.1) ∙ ap (λ b. is_some p.1 || b) (list_any-indexes ps)
+list_any-indexes (p ∷ ps) = cc (is_some-indexes_of p.1, list_any-indexes ps)
 
 pub returns-then-some_name-clause-state : goal.returns-then-some_name-clause-state
 returns-then-some_name-clause-state c =
     on_ok_weaker c.rehash.result (λ after st known.
-    let s = state_of st c.args.hasher.now c.args.clauses.now known in
-    after st known ∙ sym (ap (λ b. cond b (apply_pending s) s)
-    (list_any-indexes c.args.hasher.now.pending.entries.items ∙ sym c.some_name.ensures ∙ c.if-some_name.true)))
+    cc (after st known, list_any-indexes c.args.hasher.now.pending.entries.items, c.some_name.ensures, c.if-some_name.true))
     c.rehash.ensures.state
 
 pub returns-else-some_name-clause-state : goal.returns-else-some_name-clause-state
 returns-else-some_name-clause-state c st known =
-    let s = state_of st c.args.hasher.now c.args.clauses.now known in
-    sym (ap (λ b. cond b (apply_pending s) s) (list_any-indexes c.args.hasher.now.pending.entries.items ∙ sym c.some_name.ensures ∙ c.if-some_name.false))
+    cc (list_any-indexes c.args.hasher.now.pending.entries.items, c.some_name.ensures, c.if-some_name.false)

@@ -7,8 +7,7 @@ use Rattle.clause_store.proofs.hash.unnamed_hash.Goals as goal
 pub loop-lit-preserved : goal.loop-lit-preserved
 loop-lit-preserved c =
     let i = c.loop-lit.lit-index in
-    ap (λ x. bit_xor (bit_xor c.loop-lit.hash x) (xor_hash (λ v. None) (drop (i + 1) c.args.lits.now))) c.unnamed_lit_hash-hash.ensures
-    ∙ xor_hash-from (λ v. None) c.args.lits.now i c.lit-item.result c.loop-lit.hash (omega arith) c.lit-item.is ∙ c.loop-lit.invariant
+    cc (c.unnamed_lit_hash-hash.ensures, xor_hash-from (λ v. None) c.args.lits.now i c.lit-item.result c.loop-lit.hash (omega arith) c.lit-item.is, c.loop-lit.invariant)
 
 pub returns : goal.returns
-returns c = xor_hash-all (λ v. None) c.args.lits.now c.loop-lit.lit-index c.loop-lit.hash (omega arith) c.loop-lit.invariant
+returns c = xor_hash-all (λ v. None) _ _ _ (omega arith) c.loop-lit.invariant

@@ -13,5 +13,5 @@ returns-clause-listed c =
     let es = named_clauses c.args.buffer.now c.args.buckets.now c.args.hashes.now in
     IfOk-weaker c.walk_buckets.result (λ a. a ≡ Passed → ids_after c.args.run.now.trace.items vs es ≡ Some c.walk_buckets.new.run.trace.items)
     (λ a. a ≡ Passed → c.walk_buckets.new.run.trace.items ≡ ids_of (open_trace (stored_units us) c.args.lits.now es))
-    (λ a h e. open_trace-is _ _ us vs c.args.lits.now es c.requires.trace before.kept before.ok before.unlisted (h e))
+    (λ a h e. open_trace-is _ _ us vs _ es c.requires.trace before.kept before.ok before.unlisted (h e))
     c.walk_buckets.ensures.listed

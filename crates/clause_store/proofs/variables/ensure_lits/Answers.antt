@@ -5,4 +5,4 @@ use Rattle.clause_store.proofs.variables.ensure_lits.Goals as goal
 
 pub returns-then-are_known : goal.returns-then-are_known
 returns-then-are_known c =
-    knows_none (var_bound c.args.lits.now) c.args.clauses.now c.args.variables.now c.requires.same c.requires.counts (c.if-are_known.ensures.0 refl)
+    knows_none _ _ _ c.requires.same c.requires.counts (c.if-are_known.ensures.0 refl)

@@ -4,22 +4,27 @@ use Rattle.checker_steps.proofs.AddClauseLemmas.{cause-copies, cause-ids, cause-
 use Rattle.checker_steps.proofs.steps.add_clause.cause.Goals as goal
 
 pub returns-then-some_not_sampling : goal.returns-then-some_not_sampling
-returns-then-some_not_sampling c st = sym
-    (cause-sampling (state_of st c.args.hasher.now c.args.clauses.now c.args.variables.now) c.args.clause.now
-    (sym c.if-some_not_sampling.true ∙ c.some_not_sampling.ensures st c.args.hasher.now c.args.clauses.now))
+returns-then-some_not_sampling c st =
+    let a = c.args in
+    sym (cause-sampling (state_of st a.hasher.now a.clauses.now a.variables.now) a.clause.now
+    (sym c.if-some_not_sampling.true ∙ c.some_not_sampling.ensures st a.hasher.now a.clauses.now))
 
 pub returns-then-clauses : goal.returns-then-clauses
-returns-then-clauses c st = sym (cause-ids (state_of st c.args.hasher.now c.args.clauses.now c.args.variables.now) c.args.clause.now
-    (sym c.if-some_not_sampling.false ∙ c.some_not_sampling.ensures st c.args.hasher.now c.args.clauses.now) c.if-clauses.true)
+returns-then-clauses c st =
+    let a = c.args in
+    sym (cause-ids (state_of st a.hasher.now a.clauses.now a.variables.now) a.clause.now
+    (sym c.if-some_not_sampling.false ∙ c.some_not_sampling.ensures st a.hasher.now a.clauses.now) c.if-clauses.true)
 
 pub returns-then-copies : goal.returns-then-copies
 returns-then-copies c st =
-    sym (cause-copies (state_of st c.args.hasher.now c.args.clauses.now c.args.variables.now) c.args.clause.now
-    (sym c.if-some_not_sampling.false ∙ c.some_not_sampling.ensures st c.args.hasher.now c.args.clauses.now)
-    (id-left c.args.clauses.now.next_clause_id (omega arith) c.if-clauses.false) (sym c.copies.ensures ∙ c.if-copies.true))
+    let a = c.args in
+    sym (cause-copies (state_of st a.hasher.now a.clauses.now a.variables.now) a.clause.now
+    (sym c.if-some_not_sampling.false ∙ c.some_not_sampling.ensures st a.hasher.now a.clauses.now)
+    (id-left a.clauses.now.next_clause_id (omega arith) c.if-clauses.false) (sym c.copies.ensures ∙ c.if-copies.true))
 
 pub returns : goal.returns
 returns c st =
-    cause-none (state_of st c.args.hasher.now c.args.clauses.now c.args.variables.now) c.args.clause.now
-    (sym c.if-some_not_sampling.false ∙ c.some_not_sampling.ensures st c.args.hasher.now c.args.clauses.now)
-    (id-left c.args.clauses.now.next_clause_id (omega arith) c.if-clauses.false) (rw (← c.copies.ensures) (omega arith)) (λ e. c.if-copies.false (c.copies.ensures ∙ e))
+    let a = c.args in
+    cause-none (state_of st a.hasher.now a.clauses.now a.variables.now) a.clause.now
+    (sym c.if-some_not_sampling.false ∙ c.some_not_sampling.ensures st a.hasher.now a.clauses.now)
+    (id-left a.clauses.now.next_clause_id (omega arith) c.if-clauses.false) (rw (← c.copies.ensures) (omega arith)) (λ e. c.if-copies.false (c.copies.ensures ∙ e))

@@ -1,13 +1,13 @@
-use Rattle.std.proofs.Common.{◌≤◌, sym, subst, ap, ◌∙◌}
+use Rattle.std.proofs.Common.{ap, ◌∙◌, arith}
 use Rattle.checker_rules.specs.Emits.{emits_input}
+use Rattle.checker_rules.specs.Store.{id_limit}
 use Rattle.clause_store.proofs.GrowthLemmas.{is_store-known}
-use Rattle.checker_steps.proofs.InputLemmas.{fits-input}
 use Rattle.checker_steps.proofs.steps.add_clause.take_clause.Goals as goal
 
 pub overflow_add-state : goal.overflow_add-state
+unfolding id_limit
 overflow_add-state c =
-    let le = subst (λ n. n ≤ c.args.clauses.now.next_clause_id) (sym c.in_ok-added.ensures.inputs) c.requires.kept.form.inputs_counted in
-    fits-input c.store_input_clause.new.state.input_clauses c.args.clauses.now.next_clause_id le c.requires.room.ids
+    let counted = c.requires.kept.form.inputs_counted in let same = c.in_ok-added.ensures.inputs in let room = c.requires.room.ids in omega arith
 
 pub store_input_clause-requires-clause-store : goal.store_input_clause-requires-clause-store
 store_input_clause-requires-clause-store c =

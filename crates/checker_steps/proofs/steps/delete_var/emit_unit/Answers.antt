@@ -1,21 +1,18 @@
-use Rattle.std.proofs.Common.{◌≡◌, ℕ, List, [], ◌∷◌, None, Some, false, sym, ap, ◌∙◌}
-use Rattle.checker_rules.specs.CheckedSteps.{NamedStep, checked_delete_rat_clause, named_in}
+use Rattle.std.proofs.Common.{ℕ, [], ◌∷◌, None, Some, false, sym, ap, ◌∙◌}
+use Rattle.checker_rules.specs.CheckedSteps.{checked_delete_rat_clause, named_in}
 use Rattle.checker_rules.specs.Emits.{emits_unit}
 use Rattle.sat_formula.specs.Vars.{index_of}
 use Rattle.clause_store.specs.StateOf.{state_of}
 use Rattle.clause_store.proofs.StoreLemmas.{unit_is}
-use Rattle.checker_steps.specs.DeletedVar.{emits_dropped}
-use Rattle.checker_steps.specs.Delivered.{listeners_of}
+use Rattle.checker_steps.proofs.ClauseLemmas.{told-nothing}
 use Rattle.checker_steps.proofs.DeleteVarLemmas.{unit_lit-is}
-use Rattle.checker_steps.proofs.DeliveryLemmas.{delivered-one, whole-none}
+use Rattle.checker_steps.proofs.DeliveryLemmas.{delivered-one}
 use Rattle.checker_steps.proofs.steps.delete_var.emit_unit.Goals as goal
 
 pub returns-in_default-clause-delivered : goal.returns-in_default-clause-delivered
 returns-in_default-clause-delivered g c st h =
     let s = state_of st h c.args.clauses.now c.args.variables.now in let x = index_of c.args.var in
-    let none = ap (emits_unit s x) (unit_is c.args.clauses.now.unit_clauses None c.index.result x c.in_default.ensures c.index.ensures.value) in
-    whole-none g.P.ProofProcessor.took g.P.ProofProcessor.faulted g.T.ProofTranscriptProcessor.took g.T.ProofTranscriptProcessor.faulted
-    (λ (es : List NamedStep). es ≡ emits_dropped x s) (listeners_of c.args.processing.now) (sym none)
+    told-nothing _ _ (sym (ap (emits_unit s x) (unit_is c.args.clauses.now.unit_clauses None c.index.result x c.in_default.ensures c.index.ensures.value)))
 
 pub returns-clause-delivered : goal.returns-clause-delivered
 returns-clause-delivered g c st h =
@@ -23,7 +20,4 @@ returns-clause-delivered g c st h =
     let lit = c.lit-pivot.ensures ∙ unit_lit-is x c.in-Some.unit.value in
     let some = ap (emits_unit s x) (unit_is c.args.clauses.now.unit_clauses (Some c.in-Some.unit) c.index.result x c.in-Some.ensures c.index.ensures.value) in
     let shown = λ (id : ℕ) (l : ℕ). named_in s (checked_delete_rat_clause id false (l ∷ []) l) ∷ [] in
-    delivered-one g.P.ProofProcessor.took g.P.ProofProcessor.faulted g.T.ProofTranscriptProcessor.took g.T.ProofTranscriptProcessor.faulted (λ (es : List NamedStep). es ≡ emits_dropped x s)
-    (named_in s (checked_delete_rat_clause c.global_id.result false (c.lit-pivot.result ∷ []) c.lit-pivot.result))
-    (listeners_of c.args.processing.now) (listeners_of c.emit_delete_rat_clause.new.processing) c.emit_delete_rat_clause.result
-    ((λ i. shown (c.global_id.ensures i) (lit i)) ∙ sym some) c.emit_delete_rat_clause.ensures
+    delivered-one _ _ _ _ _ _ _ _ c.emit_delete_rat_clause.result ((λ i. shown (c.global_id.ensures i) (lit i)) ∙ sym some) c.emit_delete_rat_clause.ensures

@@ -1,13 +1,12 @@
-use Rattle.std.proofs.Common.{◌≡◌, ℕ, List, set, Option, None, refl, sym, ap, ◌∙◌, subst, arith}
+use Rattle.std.proofs.Common.{◌≡◌, ℕ, List, set, Option, None, refl, ap, ◌∙◌, arith}
 use Rattle.std.specs.Option.{option_map}
 use Rattle.std.proofs.lemmas.List.{length-set, map-set}
 use Rattle.checker_rules.specs.DeleteVar.{forget_var}
 use Rattle.checker_rules.specs.State.{Known, sample}
 use Rattle.sat_formula.specs.Vars.{index_of}
 use Rattle.clause_store.specs.declared.clauses.Clauses.{Clauses}
-use Rattle.clause_store.specs.declared.clauses.units.UnitClause.{UnitClause}
 use Rattle.clause_store.specs.StateOf.{state_of, stored_unit, stored_units}
-use Rattle.clause_store.specs.Store.{IsStore, is_stored_unit}
+use Rattle.clause_store.specs.Store.{is_stored_unit}
 use Rattle.clause_store.proofs.StoreLemmas.{is_store-units, list_all-set}
 use Rattle.checker_steps.proofs.steps.delete_var.free_var.Goals as goal
 
@@ -23,7 +22,5 @@ returns-clause-state c h =
 
 pub returns-clause-store : goal.returns-clause-store
 returns-clause-store c h kept =
-    let cs = c.args.clauses.now in let us : List (Option UnitClause) = set cs.unit_clauses c.index.result None in
-    let all = list_all-set is_stored_unit cs.unit_clauses c.index.result None refl kept.units in
-    let store = is_store-units h cs us cs.unit_conflict cs.next_clause_id (omega arith) all (length-set cs.unit_clauses c.index.result None) kept in
-    subst (λ (x : List (Option UnitClause)). IsStore h (record cs { unit_clauses = x })) (sym c.set.ensures) store
+    let us = c.args.clauses.now.unit_clauses in let all = list_all-set is_stored_unit us c.index.result None refl kept.units in
+    rw c.set.ensures (is_store-units h c.args.clauses.now _ _ _ (omega arith) all (length-set us c.index.result None) kept)

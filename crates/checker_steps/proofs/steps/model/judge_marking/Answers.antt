@@ -7,20 +7,12 @@ use Rattle.checker_steps.proofs.steps.model.judge_marking.Goals as goal
 
 pub returns-then-not-meets_clauses-clause-cause : goal.returns-then-not-meets_clauses-clause-cause
 returns-then-not-meets_clauses-clause-cause c h =
-    judged-whole (state_of c.args.state.now h c.args.clauses.now c.args.variables.now)
-    (is_marked c.mark_literals.new.marks) c.args.assignment.now true false
-    c.in_ok-mark_literals.ensures.marked
-    (c.in_ok-mark_literals.ensures.cause c.args.state.now h)
-    (c.if-not-are_marked.ensures
-    ∙ ap (list_all (is_marked c.mark_literals.new.marks)) c.deref.ensures.value)
-    (c.if-not-meets_clauses.ensures)
+    let marked = c.in_ok-mark_literals.ensures in
+    judged-whole (state_of c.args.state.now h c.args.clauses.now c.args.variables.now) _ _ true false marked.marked (marked.cause c.args.state.now h)
+    (c.if-not-are_marked.ensures ∙ ap (list_all (is_marked c.mark_literals.new.marks)) c.deref.ensures.value) c.if-not-meets_clauses.ensures
 
 pub returns-clause-cause : goal.returns-clause-cause
 returns-clause-cause c h =
-    judged-whole (state_of c.args.state.now h c.args.clauses.now c.args.variables.now)
-    (is_marked c.mark_literals.new.marks) c.args.assignment.now true true
-    c.in_ok-mark_literals.ensures.marked
-    (c.in_ok-mark_literals.ensures.cause c.args.state.now h)
-    (c.if-not-are_marked.ensures
-    ∙ ap (list_all (is_marked c.mark_literals.new.marks)) c.deref.ensures.value)
-    (c.if-not-meets_clauses.ensures)
+    let marked = c.in_ok-mark_literals.ensures in
+    judged-whole (state_of c.args.state.now h c.args.clauses.now c.args.variables.now) _ _ true true marked.marked (marked.cause c.args.state.now h)
+    (c.if-not-are_marked.ensures ∙ ap (list_all (is_marked c.mark_literals.new.marks)) c.deref.ensures.value) c.if-not-meets_clauses.ensures

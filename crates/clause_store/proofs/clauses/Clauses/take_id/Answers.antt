@@ -5,5 +5,5 @@ use Rattle.clause_store.proofs.clauses.Clauses.take_id.Goals as goal
 pub returns-clause-store : goal.returns-clause-store
 returns-clause-store c h s =
     let cs = c.args.self.now in
-    let later : cs.next_clause_id ≤ c.in_ok-self.field-0 = omega (arith, c.in_ok-self.ensures.1) in
-    is_store-units h cs cs.unit_clauses cs.unit_conflict c.in_ok-self.field-0 later s.units refl s
+    let later : cs.next_clause_id ≤ c.in_ok-self.field-0 = omega arith in
+    is_store-units h cs _ _ _ later s.units refl s

@@ -4,4 +4,4 @@ use Rattle.clause_store.proofs.SameListLemmas.{same_list-bytes_eq}
 use Rattle.clause_store.proofs.clauses.buckets.has_lits.Goals as goal
 
 pub returns : goal.returns
-returns c = c.eq.ensures ∙ same_list-bytes_eq c.slice.result.now c.args.lits.now ∙ ap (λ xs. same_list xs c.args.lits.now) c.slice.ensures
+returns c = cc (c.eq.ensures, same_list-bytes_eq c.slice.result.now c.args.lits.now, c.slice.ensures)

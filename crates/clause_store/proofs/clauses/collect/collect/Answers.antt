@@ -15,5 +15,5 @@ returns-clause-filed c =
       rise = c.requires.rise;
       apart = c.requires.apart;
       whole = c.requires.whole;
-      used = omega (arith, moved.used);
+      used = omega arith;
     }

@@ -8,20 +8,19 @@ use Rattle.clause_store.proofs.clauses.collect.move_bucket.Goals as goal
 
 pub loop-clause-preserved : goal.loop-clause-preserved
 loop-clause-preserved c =
-    let b = c.args.buffer.now in let first = c.args.new.now.items in let old = c.loop-clause.new.items in let new = c.new.new.buffer.items in
+    let b = c.args.buffer.now in let old = c.loop-clause.new.items in let new = c.new.new.buffer.items in
     let all = c.args.bucket.now in let moved = c.loop-clause.moved.items in
     let i = c.loop-clause.clause-index in let x = c.clause-item.result in let e = c.in_ok-lits.ensures in let ls = c.in_ok-lits.lits in let v = c.loop-clause.invariant in
     let before : i < length all = omega arith in
-    let lits : lits_of ls new ≡ lits_of x.lits b = e.ok ∙ c.slice.ensures in
-    let longer : length old ≤ length new = omega (arith, e.buffer) in
+    let lits : lits_of ls new ≡ lits_of x.lits b = cc in
+    let longer : length old ≤ length new = omega arith in
     let long : 1 < length c.slice.result.now =
-    subst (λ n. 1 < n) (ap (λ (y : Clause). length (lits_of y.lits b)) (sym c.clause-item.is) ∙ ap length (sym c.slice.ensures))
+    subst (λ n. 1 < n) (cc)
     (c.requires.long i x before) in
-    let grown : length new ≡ length old + live_of (lits_of x.lits b) = e.buffer ∙ ap (λ n. length old + n) (e.used long ∙ ap live_of c.slice.ensures) in
+    let grown : length new ≡ length old + live_of (lits_of x.lits b) = cc (e.used long) in
     record {
-      same = ap (map (stored_of new)) c.in_ok-push.ensures.ok ∙ moved-same b old new all moved i x ls c.clause-item.is before e.kept lits v.within v.same;
-      within = subst (All (λ (d : Clause). IsWithin d.lits new)) (sym c.in_ok-push.ensures.ok)
-          (moved-within b old new all moved i x ls c.clause-item.is before e.kept lits v.within longer e.within);
-      kept = kept-further first old new v.kept e.kept;
-      used = moved-used b old new all moved i x ls c.clause-item.is before e.kept lits (length first) grown v.used;
+      same = cc (c.in_ok-push.ensures.ok, moved-same b old new all moved i x ls c.clause-item.is before e.kept lits v.within v.same);
+      within = rw c.in_ok-push.ensures.ok (moved-within b old new all moved i x ls c.clause-item.is before e.kept lits v.within longer e.within);
+      kept = kept-further _ old new v.kept e.kept;
+      used = moved-used b old new all moved i x ls c.clause-item.is before e.kept lits _ grown v.used;
     }

@@ -20,13 +20,13 @@ use Rattle.clause_store.proofs.clauses.collect.move_buckets.Goals as goal
 -- what the store says of each clause is true of those of a bucket that is found
 within_found : (h : ClauseHasher) (cs : Clauses) → IsIndexed h cs (stored_list cs) → (hash : ℕ) (b : SmallVec Clause) →
     get nat_eq cs.buckets hash ≡ Some b → All (λ (d : Clause). IsWithin d.lits cs.literal_buffer.items) b.items
-within_found h cs f hash b found = subst (λ o. All (λ (d : Clause). IsWithin d.lits cs.literal_buffer.items) (bucket_items o)) found (f.within hash)
+within_found h cs f hash b found = subst (λ o. All (λ d. IsWithin d.lits cs.literal_buffer.items) (bucket_items o)) found (f.within hash)
 
 long_found : (h : ClauseHasher) (cs : Clauses) → IsIndexed h cs (stored_list cs) → (hash : ℕ) (b : SmallVec Clause) →
     get nat_eq cs.buckets hash ≡ Some b → All (λ (d : Clause). 1 < length (lits_of d.lits cs.literal_buffer.items)) b.items
 long_found h cs f hash b found =
-    long_all cs.literal_buffer.items b.items
-    (subst (λ o. list_all is_whole (map (stored_of cs.literal_buffer.items) (bucket_items o)) ≡ true) found (whole-bucket h cs (stored_list cs) f hash))
+    long_all _ _
+    (cc (whole-bucket h cs (stored_list cs) f hash))
 
 -- the bucket at which the walk stands
 head_found : (cs : Clauses) (es rest : List (ℕ × SmallVec Clause)) (hash : ℕ) (b : SmallVec Clause) →
@@ -39,31 +39,30 @@ loop-hash-init c =
     let given = c.into_iter-hash-iterator.ensures.into_iter_gives in let new = c.in_ok-new.new.items in let empty = c.in_ok-moved.ensures in
     record {
       same = λ k gone.
-          ap (map (stored_of new)) (empty k)
-          ∙ sym (ap (λ o. map (stored_of b) (bucket_items o)) (subst (λ es. lookup (nat_eq k) es ≡ None) given.0 gone));
-      within = λ k. subst (All (λ (d : Clause). IsWithin d.lits new)) (sym (empty k)) (All-nil (λ (d : Clause). IsWithin d.lits new));
-      found = subst (All (λ e. get nat_eq m e.0 ≡ Some e.1)) (sym given.0) (found_all b m given.4);
+          simp (empty k, subst (λ es. lookup (nat_eq k) es ≡ None) given.0 gone);
+      within = λ k. rw (empty k) (All-nil (λ (d : Clause). IsWithin d.lits new));
+      found = subst (All (λ e. get nat_eq m e.0 ≡ Some e.1)) (cc) (found_all b m given.4);
       used =
           let none = ap length c.in_ok-new.ensures.items in
           let all = ap (λ es. live_literals (map (stored_of b) (clauses_in es))) given.0 in
-          omega (arith, none, all);
+          omega arith;
     }
 
 pub move_bucket-requires-clause-within : goal.move_bucket-requires-clause-within
 move_bucket-requires-clause-within c =
     let cs = c.args.clauses.now in let l = c.loop-hash in let x = c.in-Some.bucket.now in
-    let found = head_found cs l.hash-iterator c.next.new.self c.in-Some.hash.now x l.invariant.found c.in-Some.ensures.steps in
-    subst (λ b. All (λ (d : Clause). IsWithin d.lits b) c.as_slice.result.now) (sym c.as_slice-buffer.ensures.value)
-    (subst (All (λ (d : Clause). IsWithin d.lits cs.literal_buffer.items)) (sym c.as_slice.ensures)
-    (within_found c.requires.0 cs c.requires.1 c.in-Some.hash.now x found))
+    let found = head_found cs _ _ _ x l.invariant.found c.in-Some.ensures.steps in
+    subst (λ b. All (λ d. IsWithin d.lits b) c.as_slice.result.now) (cc)
+    (subst (All (λ d. IsWithin d.lits cs.literal_buffer.items)) (cc)
+    (within_found _ cs c.requires.1 _ x found))
 
 pub move_bucket-requires-clause-long : goal.move_bucket-requires-clause-long
 move_bucket-requires-clause-long c =
     let cs = c.args.clauses.now in let l = c.loop-hash in let x = c.in-Some.bucket.now in
-    let found = head_found cs l.hash-iterator c.next.new.self c.in-Some.hash.now x l.invariant.found c.in-Some.ensures.steps in
-    subst (λ b. All (λ (d : Clause). 1 < length (lits_of d.lits b)) c.as_slice.result.now) (sym c.as_slice-buffer.ensures.value)
-    (subst (All (λ (d : Clause). 1 < length (lits_of d.lits cs.literal_buffer.items))) (sym c.as_slice.ensures)
-    (long_found c.requires.0 cs c.requires.1 c.in-Some.hash.now x found))
+    let found = head_found cs _ _ _ x l.invariant.found c.in-Some.ensures.steps in
+    subst (λ b. All (λ d. 1 < length (lits_of d.lits b)) c.as_slice.result.now) (cc)
+    (subst (All (λ d. 1 < length (lits_of d.lits cs.literal_buffer.items))) (cc)
+    (long_found _ cs c.requires.1 _ x found))
 
 pub loop-hash-preserved : goal.loop-hash-preserved
 loop-hash-preserved c =
@@ -74,27 +73,27 @@ loop-hash-preserved c =
     let found = head_found cs l.hash-iterator left hash x v.found step in
     let e = c.in_ok-bucket.ensures in let p = c.in_ok-put_bucket.ensures in let moved = c.put_bucket.new.buckets in
     let read : map (stored_of c.as_slice-buffer.result.now) c.as_slice.result.now ≡ map (stored_of b) x.items =
-    ap (λ y. map (stored_of y) c.as_slice.result.now) c.as_slice-buffer.ensures.value ∙ ap (map (stored_of b)) c.as_slice.ensures in
-    let grown : length new ≡ length old + live_literals (map (stored_of b) x.items) = e.used ∙ ap (λ es. length old + live_literals es) read in
-    let longer : length old ≤ length new = omega (arith, e.used) in
+    cc in
+    let grown : length new ≡ length old + live_literals (map (stored_of b) x.items) = cc in
+    let longer : length old ≤ length new = omega arith in
     record {
       same = bucket-same b old new m l.moved moved hash x left v.within e.kept p.others found
-          (ap (map (stored_of new)) p.here ∙ e.same ∙ read)
-          (λ k gone. v.same k (ap (lookup (nat_eq k)) step ∙ gone));
+          (cc)
+          (λ k gone. v.same k (cc));
       within = bucket-within b old new m l.moved moved hash x left v.within e.kept p.others longer
-          (subst (All (λ (d : Clause). IsWithin d.lits new)) (sym p.here) e.within);
-      found = λ k d less. subst (All (λ e. get nat_eq m e.0 ≡ Some e.1)) step v.found (suc k) d (omega (arith, less));
+          (subst (All (λ d. IsWithin d.lits new)) (cc) e.within);
+      found = λ k d less. subst (All (λ e. get nat_eq m e.0 ≡ Some e.1)) step v.found (suc k) d (omega arith);
       used = bucket-used b old new m l.moved moved hash x left v.within e.kept p.others _ grown
-          (ap (λ es. length old + live_literals (map (stored_of b) (clauses_in es))) (sym step) ∙ v.used);
+          (cc);
     }
 
 pub returns-clause-same : goal.returns-clause-same
-returns-clause-same c k = c.loop-hash.invariant.same k (ap (lookup (nat_eq k)) c.in-None.ensures.steps.0)
+returns-clause-same c k = c.loop-hash.invariant.same k (cc (c.in-None.ensures.steps.0))
 
 pub returns-clause-used : goal.returns-clause-used
 returns-clause-used c =
     let cs = c.args.clauses.now in let b = cs.literal_buffer.items in let l = c.loop-hash in
-    let none : live_literals (map (stored_of b) (clauses_in l.hash-iterator)) ≡ 0 = ap (λ es. live_literals (map (stored_of b) (clauses_in es))) c.in-None.ensures.steps.0 in
+    let none : live_literals (map (stored_of b) (clauses_in l.hash-iterator)) ≡ 0 = cc (c.in-None.ensures.steps.0) in
     let all = live_literals-order (stored_list cs) (map (stored_of b) (clauses_in cs.buckets.entries))
     (in_other_order c.requires.0 cs (stored_list cs) c.requires.1 c.into_iter-hash-iterator.ensures.into_iter_gives.4) in
     omega (arith, l.invariant.used, none, all)

@@ -7,17 +7,17 @@ use Rattle.clause_store.proofs.clauses.counts.lower_wide.Goals as goal
 pub take_wide-requires : goal.take_wide-requires
 take_wide-requires c =
     let lits = c.args.lits.now in let i = c.loop-lit.lit-index in
-    let next = raised-next lits i c.loop-lit-test.true c.requires.canonical c.loop-lit.counts c.args.counts.now c.loop-lit.invariant.held in
-    rw (item_is lits i c.lit-item.result c.loop-lit-test.true c.lit-item.is, ← next) (c.requires.held (get_or lits i 0) (has-at lits i c.loop-lit-test.true))
+    let next = raised-next _ i c.loop-lit-test.true c.requires.canonical _ _ c.loop-lit.invariant.held in
+    rw (item_is lits i c.lit-item.result c.loop-lit-test.true c.lit-item.is, ← next) (c.requires.held (get_or lits i 0) (has-at _ i c.loop-lit-test.true))
 
 pub loop-lit-preserved : goal.loop-lit-preserved
 loop-lit-preserved c =
     let lits = c.args.lits.now in let i = c.loop-lit.lit-index in let now : List ℕ = c.loop-lit.counts in
-    let next = raised-next lits i c.loop-lit-test.true c.requires.canonical now c.args.counts.now c.loop-lit.invariant.held in
-    let some = subst (λ n. 0 < n) next (c.requires.held (get_or lits i 0) (has-at lits i c.loop-lit-test.true)) in
-    let taken = c.take_wide.ensures ∙ ap (λ l. set now l (get_or now l 0 - 1)) (item_is lits i c.lit-item.result c.loop-lit-test.true c.lit-item.is) in
+    let next = raised-next _ i c.loop-lit-test.true c.requires.canonical now _ c.loop-lit.invariant.held in
+    let some = subst (λ n. 0 < n) next (c.requires.held (get_or lits i 0) (has-at _ i c.loop-lit-test.true)) in
+    let taken = c.take_wide.ensures ∙ ap (λ l. set now l (get_or now l 0 - 1)) (item_is _ i _ c.loop-lit-test.true c.lit-item.is) in
     record {
-      held = subst (λ (counts : List ℕ). HoldOneMore (take (i + 1) lits) counts c.args.counts.now) (sym taken)
-          (lowered-more lits i c.loop-lit-test.true c.requires.canonical c.args.counts.now now some c.loop-lit.invariant.held);
-      known = ap length taken ∙ length-set now (get_or lits i 0) (get_or now (get_or lits i 0) 0 - 1) ∙ c.loop-lit.invariant.known;
+      held = subst (λ counts. HoldOneMore (take (i + 1) lits) counts c.args.counts.now) (cc)
+          (lowered-more _ i c.loop-lit-test.true c.requires.canonical _ now some c.loop-lit.invariant.held);
+      known = cc (length-set now (get_or lits i 0) (get_or now (get_or lits i 0) 0 - 1));
     }

@@ -6,17 +6,17 @@ use Rattle.clause_store.proofs.clauses.counts.raise_narrow.Goals as goal
 
 pub add_narrow-requires : goal.add_narrow-requires
 add_narrow-requires c =
-    let lits = c.args.lits.now in let i = c.loop-at.at in
-    let bound = below-bound lits i c.loop-at-test.true in let is = item_is lits i c.index-lits-at.result c.loop-at-test.true c.index-lits-at.is in
-    omega (arith, c.requires.known, bound, is, c.loop-at.invariant.known)
+    let i = c.loop-at.at in
+    let bound = below-bound _ i c.loop-at-test.true in let is = item_is _ i _ c.loop-at-test.true c.index-lits-at.is in
+    omega arith
 
 pub loop-at-preserved : goal.loop-at-preserved
 loop-at-preserved c =
     let lits = c.args.lits.now in let i = c.loop-at.at in let now : List ℕ = c.loop-at.counts in
-    let is = item_is lits i c.index-lits-at.result c.loop-at-test.true c.index-lits-at.is in
-    let bound = below-bound lits i c.loop-at-test.true in let known : get_or lits i 0 < length now = omega (arith, c.requires.known, bound, c.loop-at.invariant.known) in
+    let is = item_is _ i _ c.loop-at-test.true c.index-lits-at.is in
+    let bound = below-bound _ i c.loop-at-test.true in let known : get_or lits i 0 < length now = omega arith in
     let added = c.add_narrow.ensures.added c.if-not-add_narrow.false ∙ ap (λ l. set now l (get_or now l 0 + 1)) is in
     record {
-      held = subst (HoldOneMore (take (i + 1) lits) c.args.counts.now) (sym added) (raised-more lits i c.loop-at-test.true c.requires.canonical c.args.counts.now now known c.loop-at.invariant.held);
-      known = ap length added ∙ length-set now (get_or lits i 0) (get_or now (get_or lits i 0) 0 + 1) ∙ c.loop-at.invariant.known;
+      held = subst (HoldOneMore (take (i + 1) lits) c.args.counts.now) (cc) (raised-more _ i c.loop-at-test.true c.requires.canonical _ now known c.loop-at.invariant.held);
+      known = cc (length-set now (get_or lits i 0) (get_or now (get_or lits i 0) 0 + 1));
     }

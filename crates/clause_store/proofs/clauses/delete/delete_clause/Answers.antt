@@ -18,27 +18,26 @@ use Rattle.clause_store.proofs.clauses.delete.delete_clause.Goals as goal
 counts_after : (cs taken after : Clauses) (es rest : List Stored) → after.unit_clauses ≡ cs.unit_clauses →
     after.lit_counts ≡ taken.lit_counts → es ≡ rest → AreCounts taken.lit_counts (length cs.unit_clauses) rest →
     AreCounts after.lit_counts (length after.unit_clauses) es
-counts_after cs taken after es rest units counts same a = subst (AreCounts after.lit_counts (length after.unit_clauses)) (sym same)
-    (subst (λ us. AreCounts after.lit_counts (length us) rest) (sym units) (subst (λ (n : List ℕ). AreCounts n (length cs.unit_clauses) rest) (sym counts) a))
+counts_after cs taken after es rest units counts same a = subst (AreCounts after.lit_counts (length after.unit_clauses)) (cc)
+    (subst (λ us. AreCounts after.lit_counts (length us) rest) (cc) (subst (λ n. AreCounts n (length cs.unit_clauses) rest) (cc) a))
 
 pub collect_garbage-requires : goal.collect_garbage-requires
 collect_garbage-requires c =
     let h = c.args.hasher.now in let taken = c.take_copy.new.clauses in let es = remaining (map (lower c.args.redundant c.args.lits.now) (stored_list c.args.clauses.now)) in
-    subst (IsIndexed h taken) (sym (stored_list-is h taken es c.in-Ok.ensures.filed)) c.in-Ok.ensures.filed
+    rw (stored_list-is h taken es c.in-Ok.ensures.filed) c.in-Ok.ensures.filed
 
 pub returns-in_ok-collect_garbage-in-Ok-clause-answer : goal.returns-in_ok-collect_garbage-in-Ok-clause-answer
 returns-in_ok-collect_garbage-in-Ok-clause-answer c st known =
     let h = c.args.hasher.now in let cs = c.args.clauses.now in let ls = c.args.lits.now in let r = c.args.redundant in let after = c.collect_garbage.new.clauses in
     let p = c.in-Ok.ensures in let q = c.in_ok-collect_garbage-in-Ok.ensures in
-    subst (Deletes ls r (state_of st h cs known) (state_of st h after known) c.in-Ok.left.id) (sym c.deleted_as.ensures)
-    (deletes h cs r ls (long_is ls (omega arith)) st known c.take_copy.new.clauses after c.in-Ok.left p.left p.filed p.rest q.filed q.rest)
+    rw c.deleted_as.ensures (deletes h cs r ls (long_is ls (omega arith)) st known c.take_copy.new.clauses after c.in-Ok.left p.left p.filed p.rest q.filed q.rest)
 
 pub returns-in_ok-collect_garbage-in-Ok-clause-store : goal.returns-in_ok-collect_garbage-in-Ok-clause-store
 returns-in_ok-collect_garbage-in-Ok-clause-store c =
     let h = c.args.hasher.now in let cs = c.args.clauses.now in let taken = c.take_copy.new.clauses in let after = c.collect_garbage.new.clauses in
     let p = c.in-Ok.ensures in let q = c.in_ok-collect_garbage-in-Ok.ensures in
-    store-rest h cs after (stored_list taken) q.filed q.garbage (both_rest cs taken after p.rest q.rest)
-    (counts_after cs taken after (stored_list taken) (remaining (map (lower c.args.redundant c.args.lits.now) (stored_list cs)))
+    store-rest h cs _ _ q.filed q.garbage (both_rest cs taken _ p.rest q.rest)
+    (counts_after cs taken after _ (remaining (map (lower c.args.redundant c.args.lits.now) (stored_list cs)))
     (both_rest cs taken after p.rest q.rest).units q.counts
     (stored_list-is h taken (remaining (map (lower c.args.redundant c.args.lits.now) (stored_list cs))) p.filed) p.counts)
     c.requires.store
@@ -47,20 +46,20 @@ pub returns-in-Err-Clause-clause-answer : goal.returns-in-Err-Clause-clause-answ
 returns-in-Err-Clause-clause-answer c st known =
     let h = c.args.hasher.now in let cs = c.args.clauses.now in let ls = c.args.lits.now in let r = c.args.redundant in let p = c.in-Err-Clause.ensures in
     let long = long_is ls (omega arith) in let missing = subst (IsMissing r ls (stored_list cs)) c.in-Err-Clause.field-0-is p.missing in
-    (delete-unknown r ls (state_of st h cs known) long missing, state-unchanged h cs st known c.take_copy.new.clauses p.still_filed p.others)
+    (delete-unknown r ls _ long missing, state-unchanged h cs st _ _ p.still_filed p.others)
 
 pub returns-in-Err-Clause-clause-store : goal.returns-in-Err-Clause-clause-store
 returns-in-Err-Clause-clause-store c =
     let h = c.args.hasher.now in let cs = c.args.clauses.now in let p = c.in-Err-Clause.ensures in
-    store-unchanged h cs c.take_copy.new.clauses p.still_filed p.others c.requires.store
+    store-unchanged h cs _ p.still_filed p.others c.requires.store
 
 pub returns-in-Err-Copy-clause-answer : goal.returns-in-Err-Copy-clause-answer
 returns-in-Err-Copy-clause-answer c st known =
     let h = c.args.hasher.now in let cs = c.args.clauses.now in let ls = c.args.lits.now in let r = c.args.redundant in let p = c.in-Err-Copy.ensures in
     let long = long_is ls (omega arith) in let missing = subst (IsMissing r ls (stored_list cs)) c.in-Err-Copy.field-0-is p.missing in
-    (delete-no_copy r ls (state_of st h cs known) long missing.0 missing.1, state-unchanged h cs st known c.take_copy.new.clauses p.still_filed p.others)
+    (delete-no_copy r ls _ long missing.0 missing.1, state-unchanged h cs st _ _ p.still_filed p.others)
 
 pub returns-in-Err-Copy-clause-store : goal.returns-in-Err-Copy-clause-store
 returns-in-Err-Copy-clause-store c =
     let h = c.args.hasher.now in let cs = c.args.clauses.now in let p = c.in-Err-Copy.ensures in
-    store-unchanged h cs c.take_copy.new.clauses p.still_filed p.others c.requires.store
+    store-unchanged h cs _ p.still_filed p.others c.requires.store

@@ -21,45 +21,41 @@ lowered_within b false d h = h
 
 pub returns-in_default-clause-missing : goal.returns-in_default-clause-missing
 returns-in_default-clause-missing c =
-    let p = is_of c.args.buffer.now c.args.lits.now in
-    not_stored c.args.buffer.now c.args.lits.now c.args.bucket.now.items (sym (c.in_default.ensures ∙ ap (position p) c.as_slice.ensures))
+    not_stored c.args.buffer.now c.args.lits.now c.args.bucket.now.items (cc)
 
 pub returns-in_default-lower-clause-missing : goal.returns-in_default-lower-clause-missing
 returns-in_default-lower-clause-missing c =
     let p = is_of c.args.buffer.now c.args.lits.now in let cs = c.args.bucket.now.items in let d = c.index-as_slice-at.result in let r = c.args.redundant in
-    let at : position p cs ≡ Some c.in-Some.at = sym (c.in-Some.ensures ∙ ap (position p) c.as_slice.ensures) in
-    let here : d ≡ get_or cs c.in-Some.at d = c.index-as_slice-at.is ∙ ap (λ xs. get_or xs c.in-Some.at d) c.as_slice-2.ensures in
-    let none : copies_of r d ≡ 0 = omega (arith, c.in_default-lower.ensures) in
-    (is_stored-place c.args.buffer.now c.args.lits.now cs c.in-Some.at d at here, count_of-place c.args.buffer.now c.args.lits.now cs c.in-Some.at d at here r ∙ none)
+    let at : position p cs ≡ Some c.in-Some.at = cc in
+    let here : d ≡ get_or cs c.in-Some.at d = cc in
+    let none : copies_of r d ≡ 0 = omega arith in
+    (is_stored-place _ _ cs _ d at here, count_of-place _ _ cs _ d at here r ∙ none)
 
 pub returns-then-is_gone-clause-lowered : goal.returns-then-is_gone-clause-lowered
 returns-then-is_gone-clause-lowered c =
     let b = c.args.buffer.now in let ls = c.args.lits.now in let cs = c.args.bucket.now.items in let r = c.args.redundant in
     let d = c.index-as_slice-at.result in let i = c.in-Some.at in let clause = c.in-Some-lower.clause in let P : Clause → Type 0 = λ x. IsWithin x.lits b in
-    let at : position (is_of b ls) cs ≡ Some i = sym (c.in-Some.ensures ∙ ap (position (is_of b ls)) c.as_slice.ensures) in
-    let here : d ≡ get_or cs i d = c.index-as_slice-at.is ∙ ap (λ xs. get_or xs i d) c.as_slice-2.ensures in
-    let gone : is_gone (left_of clause) ≡ true = ap is_gone (sym c.left_of-left.ensures) ∙ sym c.is_gone.ensures ∙ c.if-is_gone.true in
+    let at : position (is_of b ls) cs ≡ Some i = cc in
+    let here : d ≡ get_or cs i d = cc in
+    let gone : is_gone (left_of clause) ≡ true = cc in
     record {
-      here = ap (map (stored_of b)) c.remove_clause.ensures ∙ removed-place b ls cs i d at here r clause c.in-Some-lower.ensures.1 gone c.requires.apart c.requires.whole;
-      within = subst (All P) (sym c.remove_clause.ensures) (All-append P (take i cs) (drop (suc i) cs) (All-take P i cs c.requires.within) (All-drop P (suc i) cs c.requires.within));
-      is_left = subst (IsLeft r ls (map (stored_of b) cs)) (sym (c.left_of-left.ensures ∙ ap left_of c.in-Some-lower.ensures.1)) (left-place b ls cs i d at here r c.in-Some-lower.ensures.0);
+      here = cc (removed-place b ls cs i d at here r clause c.in-Some-lower.ensures.1 gone c.requires.apart c.requires.whole);
+      within = rw c.remove_clause.ensures (All-append P (take i cs) (drop (suc i) cs) (All-take P i cs c.requires.within) (All-drop P (suc i) cs c.requires.within));
+      is_left = subst (IsLeft r ls (map (stored_of b) cs)) (cc (c.left_of-left.ensures, c.in-Some-lower.ensures.1)) (left-place b ls cs i d at here r c.in-Some-lower.ensures.0);
     }
 
 pub returns-else-is_gone-clause-lowered : goal.returns-else-is_gone-clause-lowered
 returns-else-is_gone-clause-lowered c =
     let b = c.args.buffer.now in let ls = c.args.lits.now in let cs = c.args.bucket.now.items in let r = c.args.redundant in
     let d = c.index-as_slice-at.result in let i = c.in-Some.at in let clause = c.in-Some-lower.clause in let P : Clause → Type 0 = λ x. IsWithin x.lits b in
-    let at : position (is_of b ls) cs ≡ Some i = sym (c.in-Some.ensures ∙ ap (position (is_of b ls)) c.as_slice.ensures) in
-    let here : d ≡ get_or cs i d = c.index-as_slice-at.is ∙ ap (λ xs. get_or xs i d) c.as_slice-2.ensures in
-    let kept : is_gone (left_of clause) ≡ false = ap is_gone (sym c.left_of-left.ensures) ∙ sym c.is_gone.ensures ∙ c.if-is_gone.false in
+    let at : position (is_of b ls) cs ≡ Some i = cc in
+    let here : d ≡ get_or cs i d = cc in
+    let kept : is_gone (left_of clause) ≡ false = cc in
     let written : refill (length cs) cs c.replace.new.bucket ≡ set cs i clause =
-    ap (refill (length cs) cs) (c.replace.ensures ∙ ap (λ xs. set xs i clause) c.as_mut_slice.ensures.value) ∙ refill-all cs
-    (set cs i clause) (length-set cs i clause) in
-    let inside : IsWithin clause.lits b = subst (λ (x : Clause). IsWithin x.lits b) (sym c.in-Some-lower.ensures.1)
-    (lowered_within b r d (subst (λ (x : Clause). IsWithin x.lits b) (sym here)
-    (c.requires.within i d (position-Some (is_of b ls) cs i d at).0))) in
+    cc (refill-all cs (set cs i clause) (length-set cs i clause)) in
+    let inside : IsWithin clause.lits b = rw c.in-Some-lower.ensures.1 (lowered_within b r d (subst (λ (x : Clause). IsWithin x.lits b) (sym here) (c.requires.within i d (position-Some (is_of b ls) cs i d at).0))) in
     record {
-      here = ap (map (stored_of b)) written ∙ lowered-place b ls cs i d at here r clause c.in-Some-lower.ensures.1 kept c.requires.apart c.requires.whole;
-      within = subst (All P) (sym written) (All-set P cs i clause inside c.requires.within);
-      is_left = subst (IsLeft r ls (map (stored_of b) cs)) (sym (c.left_of-left.ensures ∙ ap left_of c.in-Some-lower.ensures.1)) (left-place b ls cs i d at here r c.in-Some-lower.ensures.0);
+      here = cc (lowered-place b ls cs i d at here r clause c.in-Some-lower.ensures.1 kept c.requires.apart c.requires.whole);
+      within = subst (All P) (cc) (All-set P cs i clause inside c.requires.within);
+      is_left = subst (IsLeft r ls (map (stored_of b) cs)) (cc (c.left_of-left.ensures, c.in-Some-lower.ensures.1)) (left-place b ls cs i d at here r c.in-Some-lower.ensures.0);
     }

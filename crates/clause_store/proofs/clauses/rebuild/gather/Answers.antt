@@ -12,8 +12,8 @@ returns-clause-within c h es f =
     let xs = c.loop-bucket.all.items in
     let all : xs ≡ flat_map (λ b. b.items) (values c.args.clauses.now.buckets) =
     sym (append-nil xs) ∙ ap (λ it. xs ++ flat_map (λ b. b.items) it) (sym c.in-None.ensures.steps.0) ∙ c.loop-bucket.invariant in
-    gathered_within h c.args.clauses.now es f c.values-bucket-items.ensures.unique c.sort_unstable_by_key.new.self.items
-    (subst (λ ys. IsPermutation ys c.sort_unstable_by_key.new.self.items) all c.sort_unstable_by_key.ensures.permutation)
+    gathered_within h _ es f c.values-bucket-items.ensures.unique _
+    (rw (← all) c.sort_unstable_by_key.ensures.permutation)
 
 pub returns-clause-list : goal.returns-clause-list
 returns-clause-list c h es f =

@@ -14,21 +14,20 @@ use Rattle.clause_store.proofs.clauses.rebuild.rebuild.Goals as goal
 map-filter : (f : Clause → Stored) (p : Stored → Bool) (xs : List Clause) → map f (filter (λ x. p (f x)) xs) ≡ filter p (map f xs)
 map-filter f p [] = refl
 map-filter f p (x ∷ xs) = elim (p (f x)) as (λ b. map f (cond b (x ∷ filter (λ x. p (f x)) xs) (filter (λ x. p (f x)) xs)) ≡ cond b (f x ∷ filter p (map f xs)) (filter p (map f xs))) [
-  | true ↦ ap (λ ys. f x ∷ ys) (map-filter f p xs)
+  | true ↦ cc (map-filter f p xs)
   | false ↦ map-filter f p xs
 ]
 
 pub returns-clause-buckets : goal.returns-clause-buckets
 returns-clause-buckets c k =
     let h = hash_of c.args.hasher.now in let b = c.args.buffer.now in let all = c.args.all.now in
-    ap (map (stored_of b)) (c.loop-clause.invariant k ∙ ap (filter (has_hash h b k)) (take_all c.loop-clause.clause-index all (omega arith)))
-    ∙ map-filter (stored_of b) (λ e. eqb (h e.lits) k) all
+    cc (c.loop-clause.invariant k, take_all c.loop-clause.clause-index all (omega arith), map-filter (stored_of b) (λ e. eqb (h e.lits) k) all)
 
 pub returns-clause-within : goal.returns-clause-within
 returns-clause-within c k =
     let h = hash_of c.args.hasher.now in let b = c.args.buffer.now in let all = c.args.all.now in
-    subst (All (λ d. IsWithin d.lits b)) (sym (c.loop-clause.invariant k ∙ ap (filter (has_hash h b k)) (take_all c.loop-clause.clause-index all (omega arith))))
-    (All-filter (has_hash h b k) (λ (d : Clause). IsWithin d.lits b) all c.requires.within)
+    subst (All (λ d. IsWithin d.lits b)) (cc (c.loop-clause.invariant k, take_all c.loop-clause.clause-index all (omega arith)))
+    (All-filter (has_hash h b k) (λ d. IsWithin d.lits b) all c.requires.within)
 
 -- one clause more stands in the bucket of its hash
 bucket-step : (f : Clause → ℕ) (all : List Clause) (i : ℕ) (x : Clause) (old new : ℕ → List Clause) (hash : ℕ) → i < length all →
@@ -36,16 +35,12 @@ bucket-step : (f : Clause → ℕ) (all : List Clause) (i : ℕ) (x : Clause) (o
     → new hash ≡ old hash ++ x ∷ [] → ((k : ℕ) → (k ≡ hash → ⊥) → new k ≡ old k) → (k : ℕ) → new k ≡ filter (λ c. eqb (f c) k) (take (i + 1) all)
 bucket-step f all i x old new hash less is at same pushed others k =
     let p : Clause → Bool = λ c. eqb (f c) k in
-    let cut : take (i + 1) all ≡ take i all ++ x ∷ [] = take_more all i x less ∙ ap (λ y. take i all ++ y ∷ []) (sym is) in
-    ⊎_elim {C = new k ≡ filter p (take i all) ++ filter p (x ∷ [])}
-    (λ (e : k ≡ hash). ap new e ∙ pushed ∙ ap (λ j. old j ++ x ∷ []) (sym e) ∙ ap (λ ys. ys ++ x ∷ []) (same k) ∙ sym
-    (ap (λ b. filter p (take i all) ++ cond b (x ∷ []) []) (eq-eqb (f x) k (sym at ∙ sym e))))
-    (λ (ne : k ≡ hash → ⊥). others k ne ∙ same k ∙ sym (append-nil (filter p (take i all))) ∙ sym (ap (λ b. filter p (take i all) ++ cond b (x ∷ []) []) (ne_eqb (f x) k (λ g. ne (sym g ∙ sym at)))))
-    (cases_eq k hash) ∙ sym (ap (filter p) cut ∙ filter-append p (take i all) (x ∷ []))
+    let cut : take (i + 1) all ≡ take i all ++ x ∷ [] = cc (take_more all i x less) in
+    cc (⊎_elim {C = new k ≡ filter p (take i all) ++ filter p (x ∷ [])} (λ (e : k ≡ hash). ap new e ∙ pushed ∙ ap (λ j. old j ++ x ∷ []) (sym e) ∙ ap (λ ys. ys ++ x ∷ []) (same k) ∙ sym (ap (λ b. filter p (take i all) ++ cond b (x ∷ []) []) (eq-eqb (f x) k (sym at ∙ sym e)))) (λ (ne : k ≡ hash → ⊥). others k ne ∙ same k ∙ sym (append-nil (filter p (take i all))) ∙ sym (ap (λ b. filter p (take i all) ++ cond b (x ∷ []) []) (ne_eqb (f x) k (λ g. ne (sym g ∙ sym at))))) (cases_eq k hash), filter-append p (take i all) (x ∷ []))
 
 pub loop-clause-preserved : goal.loop-clause-preserved
 loop-clause-preserved c =
     let h = hash_of c.args.hasher.now in let b = c.args.buffer.now in
-    bucket-step (λ d. h (lits_of d.lits b)) c.args.all.now c.loop-clause.clause-index c.clause-item.result
-    (clauses_at c.loop-clause.buckets) (clauses_at c.push_clause.new.buckets) c.clause_hash-hash.result
+    bucket-step (λ d. h (lits_of d.lits b)) _ _ _
+    _ _ _
     c.loop-clause-test.true c.clause-item.is (c.clause_hash-hash.ensures ∙ ap h c.slice.ensures) c.loop-clause.invariant c.in_ok-push_clause.ensures.pushed c.in_ok-push_clause.ensures.others

@@ -16,8 +16,7 @@ use Rattle.clause_store.proofs.clauses.rebuild.rebuild_buckets.Goals as goal
 pub rebuild-requires-clause-within : goal.rebuild-requires-clause-within
 rebuild-requires-clause-within c =
     let s = c.requires.filed in
-    subst (λ b. All (λ (d : Clause). IsWithin d.lits b) c.deref.result.now) (sym c.deref-2.ensures.value)
-    (subst (All (λ (d : Clause). IsWithin d.lits c.args.clauses.now.literal_buffer.items)) (sym c.deref.ensures.value) (c.in_ok-all.ensures.within s.0 (stored_list c.args.clauses.now) s.1))
+    rw c.deref-2.ensures.value (subst (All (λ (d : Clause). IsWithin d.lits c.args.clauses.now.literal_buffer.items)) (sym c.deref.ensures.value) (c.in_ok-all.ensures.within s.0 (stored_list c.args.clauses.now) s.1))
 
 -- what does not hang on the buckets stays
 files : (h g : ClauseHasher) (cs : Clauses) (m : Buckets) (es : List Stored) → 0 < h.hash_bits → h.hash_bits ≤ 64 → IsIndexed g cs es →
@@ -37,14 +36,14 @@ files h g cs m es low high f within here = record {
 rebuilt : (c : goal.After-drop-all-2) → IsIndexed c.args.hasher.now (record c.args.clauses.now { buckets = c.in_ok-clauses.field-0 }) (stored_list c.args.clauses.now)
 rebuilt c =
     let h = c.args.hasher.now in let cs = c.args.clauses.now in let s = c.requires.filed in let m = c.in_ok-clauses.field-0 in let e = c.in_ok-clauses.ensures in
-    files h s.0 cs m (stored_list cs) c.requires.some_bits c.requires.bits s.1 (subst (λ b. AreWithin b m) c.deref-2.ensures.value e.within)
-    (rebuilt_by (hash_of h) m (stored_list cs) cs.literal_buffer.items c.deref-2.result.now c.in_ok-all.all.items c.deref.result.now
+    files h s.0 cs m _ c.requires.some_bits c.requires.bits s.1 (rw (← c.deref-2.ensures.value) e.within)
+    (rebuilt_by _ m _ _ _ _ _
     c.deref-2.ensures.value c.deref.ensures.value (c.in_ok-all.ensures.list s.0 (stored_list cs) s.1) e.buckets)
 
 pub returns-clause-filed : goal.returns-clause-filed
 returns-clause-filed c =
     let cs : Clauses = record c.args.clauses.now { buckets = c.in_ok-clauses.field-0 } in
-    subst (IsIndexed c.args.hasher.now cs) (sym (stored_list-is c.args.hasher.now cs (stored_list c.args.clauses.now) (rebuilt c))) (rebuilt c)
+    rw (stored_list-is c.args.hasher.now cs (stored_list c.args.clauses.now) (rebuilt c)) (rebuilt c)
 
 pub returns-clause-list : goal.returns-clause-list
-returns-clause-list c = stored_list-is c.args.hasher.now (record c.args.clauses.now { buckets = c.in_ok-clauses.field-0 }) (stored_list c.args.clauses.now) (rebuilt c)
+returns-clause-list c = stored_list-is _ _ _ (rebuilt c)

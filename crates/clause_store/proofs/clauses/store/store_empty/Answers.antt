@@ -12,11 +12,11 @@ pub returns-clause-answer : goal.returns-clause-answer
 returns-clause-answer c h known redundant kept =
     let st = c.args.state.now in let cs = c.args.clauses.now in let s = state_of st h cs known in
     let e = c.in-Some.ensures in
-    subst (λ (x : Clauses). Stores [] redundant s (state_of (record st { unsat = true }) h x known) c.in-Some.id New) (sym e.taken)
-    (subst (λ n. Stores [] redundant s (record s { unsat = true; next = s.next + 1 }) n New) (sym e.id.1)
-    (empty-stored redundant s e.id.0 (few-short h cs (stored_list cs) kept.filed redundant [] refl)))
+    subst (λ x. Stores [] redundant s (state_of (record st { unsat = true }) h x known) c.in-Some.id New) (sym e.taken)
+    (subst (λ n. Stores [] redundant s (record s { unsat = true; next = s.next + 1 }) n New) (cc)
+    (empty-stored _ s e.id.0 (few-short h cs _ kept.filed _ [] refl)))
 
 pub returns-clause-store : goal.returns-clause-store
 returns-clause-store c h kept =
     let cs = c.args.clauses.now in
-    subst (IsStore h) (sym c.in-Some.ensures.taken) (is_store-units h cs cs.unit_clauses cs.unit_conflict (cs.next_clause_id + 1) (omega arith) kept.units refl kept)
+    rw c.in-Some.ensures.taken (is_store-units h cs cs.unit_clauses cs.unit_conflict (cs.next_clause_id + 1) (omega arith) kept.units refl kept)

@@ -18,18 +18,18 @@ use Rattle.clause_store.proofs.clauses.store.store_long.Goals as goal
 
 raised_store : (h : ClauseHasher) (cs : Clauses) (m : Buckets) (r : Bool) (c : List ℕ) → IsStore h cs →
     IsRaised cs.literal_buffer.items (hash_of h c) r c cs.buckets m → IsStore h (record cs { buckets = m })
-raised_store h cs m r c s p = is_store-by h (record cs { buckets = m }) (map (raise r c) (stored_list cs))
-    (files-raised h cs (stored_list cs) m r c s.filed p) s.garbage s.units
-    (counts-raised cs.lit_counts (length cs.unit_clauses) r c (stored_list cs) s.counts)
+raised_store h cs m r c s p = is_store-by h _ _
+    (files-raised h cs _ m r c s.filed p) s.garbage s.units
+    (counts-raised _ _ r c _ s.counts)
 
 pub raise_clause-requires-clause-apart : goal.raise_clause-requires-clause-apart
 raise_clause-requires-clause-apart c =
     let h = c.args.hasher.now in let cs = c.args.clauses.now in
-    read (λ b k. are_apart (stored_in b cs.buckets k) ≡ true) _ _ _ _ (sym c.as_slice-buffer.ensures.value) (sym c.clause_hash-hash.ensures)
+    read (λ b k. are_apart (stored_in b cs.buckets k) ≡ true) _ _ _ _ (cc) (cc)
     (are_apart-bucket h cs (stored_list cs) c.requires.store.filed (hash_of h c.args.lits.now))
 
 pub push_new-requires-clause-known : goal.push_new-requires-clause-known
-push_new-requires-clause-known c = omega (arith, c.requires.known, c.requires.store.counts.known)
+push_new-requires-clause-known c = omega arith
 
 pub returns-in-Ok-Some-clause-answer : goal.returns-in-Ok-Some-clause-answer
 returns-in-Ok-Some-clause-answer c st known =
@@ -38,21 +38,17 @@ returns-in-Ok-Some-clause-answer c st known =
     let id = c.in-Ok-Some.id in let n = c.in-Ok-Some.irredundant in
     let raised = read (λ b k. IsRaised b k r ls cs.buckets m) _ _ _ _ e f p.raised in
     let found : Some (id, n) ≡ found_in ls (stored_list cs) =
-    sym c.in-Ok-Some.field-0-is ∙ read (λ b k. c.in-Ok-Some.field-0 ≡ found_in ls (stored_in b cs.buckets k)) _ _ _ _ e f p.found ∙
-    found_in-bucket h cs (stored_list cs) c.requires.store.filed ls in
+    cc (read (λ b k. c.in-Ok-Some.field-0 ≡ found_in ls (stored_in b cs.buckets k)) _ _ _ _ e f p.found, found_in-bucket h cs (stored_list cs) c.requires.store.filed ls) in
     let few : count_of r ls (stored_list cs) < count_limit =
-    subst (λ x. x < count_limit) (count_of-bucket h cs (stored_list cs) c.requires.store.filed r ls)
-    (read (λ b k. count_of r ls (stored_in b cs.buckets k) < count_limit) _ _ _ _ e f p.room) in
+    rw (← count_of-bucket h cs (stored_list cs) c.requires.store.filed r ls) (read (λ b k. count_of r ls (stored_in b cs.buckets k) < count_limit) _ _ _ _ e f p.room) in
     subst (λ t. Stores ls r s t id c.raised_as.result)
-    (sym (state_of-buckets st h cs known m (map (raise r ls) (stored_list cs))
-    (stored_list-is h (record cs { buckets = m }) (map (raise r ls) (stored_list cs))
-    (files-raised h cs (stored_list cs) m r ls c.requires.store.filed raised))))
-    (subst (λ x. Stores ls r s (record s { clauses = map (raise r ls) s.clauses }) id x) (sym c.raised_as.ensures) (long-stands ls r s id n c.requires.long found few))
+    (cc (state_of-buckets st h cs known m (map (raise r ls) (stored_list cs)) (stored_list-is h (record cs { buckets = m }) (map (raise r ls) (stored_list cs)) (files-raised h cs (stored_list cs) m r ls c.requires.store.filed raised))))
+    (subst (λ x. Stores ls r s (record s { clauses = map (raise r ls) s.clauses }) id x) (cc) (long-stands ls r s id n c.requires.long found few))
 
 pub returns-in-Ok-Some-clause-store : goal.returns-in-Ok-Some-clause-store
 returns-in-Ok-Some-clause-store c =
     let h = c.args.hasher.now in let cs = c.args.clauses.now in let ls = c.args.lits.now in let r = c.args.redundant in let m = c.raise_clause.new.buckets in
-    raised_store h cs m r ls c.requires.store (read (λ b k. IsRaised b k r ls cs.buckets m) _ _ _ _ c.as_slice-buffer.ensures.value c.clause_hash-hash.ensures c.in-Ok-Some.ensures.raised)
+    raised_store h cs m r ls c.requires.store (rw (← c.as_slice-buffer.ensures.value, ← c.clause_hash-hash.ensures) c.in-Ok-Some.ensures.raised)
 
 pub returns-in-Ok-None-clause-answer : goal.returns-in-Ok-None-clause-answer
 returns-in-Ok-None-clause-answer c st known =
@@ -60,15 +56,13 @@ returns-in-Ok-None-clause-answer c st known =
     let x : Clauses = record cs { buckets = m } in let p = c.in-Ok-None.ensures in let e = c.as_slice-buffer.ensures.value in let f = c.clause_hash-hash.ensures in
     let raised = read (λ b k. IsRaised b k r ls cs.buckets m) _ _ _ _ e f p.raised in
     let none : is_stored ls (stored_list cs) ≡ false =
-    absent_from ls (stored_list cs) (sym c.in-Ok-None.field-0-is ∙ read
-    (λ b k. c.in-Ok-None.field-0 ≡ found_in ls (stored_in b cs.buckets k)) _ _ _ _ e f p.found ∙ found_in-bucket h cs
-    (stored_list cs) c.requires.store.filed ls) in
+    absent_from ls _ (cc (read (λ b k. c.in-Ok-None.field-0 ≡ found_in ls (stored_in b cs.buckets k)) _ _ _ _ e f p.found, found_in-bucket h cs (stored_list cs) c.requires.store.filed ls)) in
     let same : stored_list x ≡ stored_list cs =
-    stored_list-is h x (map (raise r ls) (stored_list cs)) (files-raised h cs (stored_list cs) m r ls c.requires.store.filed raised) ∙
-    raise-absent ls r (stored_list cs) none in
+    stored_list-is h x _ (files-raised h cs _ m r ls c.requires.store.filed raised) ∙
+    raise-absent ls r _ none in
     let push = subst (λ k. AnswersPush c.push_new.result k ls r x c.push_new.new.clauses) f c.push_new.ensures in
-    subst (λ t. AnswersStore c.push_new.result ls r t (state_of st h c.push_new.new.clauses known)) (state_of-buckets st h cs known m (stored_list cs) same)
-    (answers-pushed h x c.push_new.new.clauses ls r c.requires.long (raised_store h cs m r ls c.requires.store raised) (ap (is_stored ls) same ∙ none) st known c.push_new.result push)
+    subst (λ t. AnswersStore c.push_new.result ls r t (state_of st h c.push_new.new.clauses known)) (state_of-buckets st h cs _ m _ same)
+    (answers-pushed h x _ ls r c.requires.long (raised_store h cs m r ls c.requires.store raised) (cc) st _ _ push)
 
 pub returns-in-Ok-None-clause-store : goal.returns-in-Ok-None-clause-store
 returns-in-Ok-None-clause-store c =
@@ -76,27 +70,24 @@ returns-in-Ok-None-clause-store c =
     let x : Clauses = record cs { buckets = m } in let p = c.in-Ok-None.ensures in let e = c.as_slice-buffer.ensures.value in let f = c.clause_hash-hash.ensures in
     let raised = read (λ b k. IsRaised b k r ls cs.buckets m) _ _ _ _ e f p.raised in
     let none : is_stored ls (stored_list cs) ≡ false =
-    absent_from ls (stored_list cs) (sym c.in-Ok-None.field-0-is ∙ read
-    (λ b k. c.in-Ok-None.field-0 ≡ found_in ls (stored_in b cs.buckets k)) _ _ _ _ e f p.found ∙ found_in-bucket h cs
-    (stored_list cs) c.requires.store.filed ls) in
+    absent_from ls _ (cc (read (λ b k. c.in-Ok-None.field-0 ≡ found_in ls (stored_in b cs.buckets k)) _ _ _ _ e f p.found, found_in-bucket h cs (stored_list cs) c.requires.store.filed ls)) in
     let same : stored_list x ≡ stored_list cs =
-    stored_list-is h x (map (raise r ls) (stored_list cs)) (files-raised h cs (stored_list cs) m r ls c.requires.store.filed raised) ∙
-    raise-absent ls r (stored_list cs) none in
+    stored_list-is h x _ (files-raised h cs _ m r ls c.requires.store.filed raised) ∙
+    raise-absent ls r _ none in
     let push = subst (λ k. AnswersPush c.push_new.result k ls r x c.push_new.new.clauses) f c.push_new.ensures in
-    is_store-answered h x c.push_new.new.clauses ls r c.requires.long (raised_store h cs m r ls c.requires.store raised) (ap (is_stored ls) same ∙ none) c.push_new.result push
+    is_store-answered h x _ ls r c.requires.long (raised_store h cs m r ls c.requires.store raised) (cc) _ push
 
 pub returns-in-Err-clause-answer : goal.returns-in-Err-clause-answer
 returns-in-Err-clause-answer c st known =
     let h = c.args.hasher.now in let cs = c.args.clauses.now in let ls = c.args.lits.now in let r = c.args.redundant in let m = c.raise_clause.new.buckets in
-    let many : count_limit ≤ count_of r ls (stored_list cs) = subst (λ x. count_limit ≤ x) (count_of-bucket h cs (stored_list cs) c.requires.store.filed r ls)
-    (read (λ b k. count_limit ≤ count_of r ls (stored_in b cs.buckets k)) _ _ _ _ c.as_slice-buffer.ensures.value c.clause_hash-hash.ensures c.in-Err.ensures.exhausted) in (
-      long-full ls r (state_of st h cs known) c.requires.long many,
-      state_of-buckets st h cs known m (stored_list cs)
-          (stored_list-is h (record cs { buckets = m }) (stored_list cs)
-          (files-same h cs (stored_list cs) m c.requires.store.filed c.in-Err.ensures.unchanged)),
+    let many : count_limit ≤ count_of r ls (stored_list cs) = rw (← count_of-bucket h cs (stored_list cs) c.requires.store.filed r ls) (read (λ b k. count_limit ≤ count_of r ls (stored_in b cs.buckets k)) _ _ _ _ c.as_slice-buffer.ensures.value c.clause_hash-hash.ensures c.in-Err.ensures.exhausted) in (
+      long-full ls r _ c.requires.long many,
+      state_of-buckets st h cs _ m _
+          (stored_list-is h _ _
+          (files-same h cs _ m c.requires.store.filed c.in-Err.ensures.unchanged)),
     )
 
 pub returns-in-Err-clause-store : goal.returns-in-Err-clause-store
 returns-in-Err-clause-store c =
     let h = c.args.hasher.now in let cs = c.args.clauses.now in let m = c.raise_clause.new.buckets in let s = c.requires.store in
-    is_store-by h (record cs { buckets = m }) (stored_list cs) (files-same h cs (stored_list cs) m s.filed c.in-Err.ensures.unchanged) s.garbage s.units s.counts
+    is_store-by h _ _ (files-same h cs _ m s.filed c.in-Err.ensures.unchanged) s.garbage s.units s.counts

@@ -14,10 +14,10 @@ use Rattle.clause_store.proofs.clauses.store.store_unit.Goals as goal
 
 -- equality of truth values
 same_is : (a b d e : Bool) → beq a b ≡ d → b ≡ e → same_bool a e ≡ d
-same_is true true d e h q = ap (same_bool true) (sym q) ∙ h
-same_is true false d e h q = ap (same_bool true) (sym q) ∙ h
-same_is false true d e h q = ap (same_bool false) (sym q) ∙ h
-same_is false false d e h q = ap (same_bool false) (sym q) ∙ h
+same_is true true d e h q = cc
+same_is true false d e h q = cc
+same_is false true d e h q = cc
+same_is false false d e h q = cc
 
 both_ok : {A E P Q R : Type 0} (res : Result A E) → (P → Q → R) → OnOk res P → OnOk res Q → OnOk res R
 both_ok (Ok x) f p q = f p q
@@ -26,13 +26,13 @@ both_ok (Err e) f p q = tt
 pub returns-in-None-clause-answer : goal.returns-in-None-clause-answer
 returns-in-None-clause-answer c h known redundant kept =
     let st = c.args.state.now in let cs = c.args.clauses.now in let l = c.args.lit in let s = state_of st h cs known in let e = c.put_unit.ensures in
-    let none : unit_of s.units (var_of l) ≡ None = unit_is cs.unit_clauses None c.index.result (l / 2) c.in-None.ensures c.index.ensures.value in
+    let none : unit_of s.units (var_of l) ≡ None = unit_is _ _ _ _ c.in-None.ensures c.index.ensures.value in
     let u : State = record s { units = set s.units (var_of l) (Some (record { value = not (is_negative l); id = s.next })); next = s.next + 1 } in
-    answers-new c.put_unit.result (l ∷ []) redundant s (state_of st h c.put_unit.new.clauses known) u e.answer e.exhausted
+    answers-new _ _ _ s _ u e.answer e.exhausted
     (on_ok_weaker c.put_unit.result (λ q. ap (λ x. state_of st h x known) q ∙ ap (λ us. record s { units = us; next = s.next + 1 })
     (stored_units-set cs.unit_clauses (l / 2) (unit_for l cs.next_clause_id))) e.stored)
     (on_err_weaker c.put_unit.result (λ q. ap (λ x. state_of st h x known) q) e.unchanged)
-    (ap (λ o. makes_true o l) none) (unit-new l redundant s (few-short h cs (stored_list cs) kept.filed redundant (l ∷ []) refl) none)
+    (cc) (unit-new l _ s (few-short h cs _ kept.filed _ _ refl) none)
 
 pub returns-in-None-clause-store : goal.returns-in-None-clause-store
 returns-in-None-clause-store c h kept =
@@ -40,15 +40,15 @@ returns-in-None-clause-store c h kept =
     let next = is_store-units h cs (slice_set cs.unit_clauses (l / 2) (Some (unit_for l cs.next_clause_id))) cs.unit_conflict
     (cs.next_clause_id + 1) (omega arith) (list_all-set is_stored_unit cs.unit_clauses (l / 2) (Some (unit_for l cs.next_clause_id))
     refl kept.units) (length-set cs.unit_clauses (l / 2) (Some (unit_for l cs.next_clause_id))) kept in
-    either_way res (on_ok_weaker res (λ q. subst (IsStore h) (sym q) next) c.put_unit.ensures.stored) (on_err_weaker res (λ q. subst (IsStore h) (sym q) kept) c.put_unit.ensures.unchanged)
+    either_way res (on_ok_weaker res (λ q. rw q next) c.put_unit.ensures.stored) (on_err_weaker res (λ q. rw q kept) c.put_unit.ensures.unchanged)
 
 pub returns-then-unit-is_positive-clause-answer : goal.returns-then-unit-is_positive-clause-answer
 returns-then-unit-is_positive-clause-answer c h known redundant kept =
     let st = c.args.state.now in let cs = c.args.clauses.now in let l = c.args.lit in let s = state_of st h cs known in let u = c.in-Some.unit in
-    let here : unit_of s.units (var_of l) ≡ Some (stored_unit u) = unit_is cs.unit_clauses (Some u) c.index.result (l / 2) c.in-Some.ensures c.index.ensures.value in
-    let same : same_bool u.value (not (is_negative l)) ≡ true = same_is u.value c.is_positive.result true (not (is_negative l)) c.if-unit-is_positive.true c.is_positive.ensures in
-    subst (λ n. Stores (l ∷ []) redundant s s n Duplicate) (sym c.global_id-stored.ensures)
-    (unit-stands l redundant s (few-short h cs (stored_list cs) kept.filed redundant (l ∷ []) refl) (stored_unit u) here same)
+    let here : unit_of s.units (var_of l) ≡ Some (stored_unit u) = unit_is _ _ _ _ c.in-Some.ensures c.index.ensures.value in
+    let same : same_bool u.value (not (is_negative l)) ≡ true = same_is _ _ _ _ c.if-unit-is_positive.true c.is_positive.ensures in
+    subst (λ n. Stores (l ∷ []) redundant s s n Duplicate) (cc)
+    (unit-stands l _ s (few-short h cs _ kept.filed _ _ refl) _ here same)
 
 pub returns-else-unit-is_positive-clause-answer : goal.returns-else-unit-is_positive-clause-answer
 returns-else-unit-is_positive-clause-answer c h known redundant kept =
@@ -62,10 +62,10 @@ returns-else-unit-is_positive-clause-answer c h known redundant kept =
     answers-new res (l ∷ []) redundant s (state_of c.put_conflict.new.state h c.put_conflict.new.clauses known) t e.answer e.exhausted
     (both_ok res (λ p q. ap (λ x. state_of x h c.put_conflict.new.clauses known) p ∙ q) e.unsat clauses_are)
     (on_err_weaker res (λ q. ap (λ x. state_of c.put_conflict.new.state h x known) q.0 ∙ ap (λ x. state_of x h cs known) q.1) e.unchanged)
-    (ap (λ o. makes_true o l) here ∙ other) (unit-conflict l redundant s (few-short h cs (stored_list cs) kept.filed redundant (l ∷ []) refl) (stored_unit u) here other)
+    (cc) (unit-conflict l redundant s (few-short h cs (stored_list cs) kept.filed redundant (l ∷ []) refl) (stored_unit u) here other)
 
 pub returns-else-unit-is_positive-clause-store : goal.returns-else-unit-is_positive-clause-store
 returns-else-unit-is_positive-clause-store c h kept =
     let cs = c.args.clauses.now in let res = c.put_conflict.result in
     let next = is_store-units h cs cs.unit_clauses (Some (c.global_id-stored.result, cs.next_clause_id)) (cs.next_clause_id + 1) (omega arith) kept.units refl kept in
-    either_way res (on_ok_weaker res (λ q. subst (IsStore h) (sym q) next) c.put_conflict.ensures.stored) (on_err_weaker res (λ q. subst (IsStore h) (sym q.0) kept) c.put_conflict.ensures.unchanged)
+    either_way res (on_ok_weaker res (λ q. rw q next) c.put_conflict.ensures.stored) (on_err_weaker res (λ q. rw q.0 kept) c.put_conflict.ensures.unchanged)

@@ -6,4 +6,4 @@ use Rattle.clause_store.proofs.hash.ClauseHasher.clause_hash.Goals as goal
 pub returns : goal.returns
 returns c =
     let h = c.args.self.now in
-    ap (λ n. n / 2 ^ (64 - h.hash_bits)) c.full_hash.ensures ∙ sym (clause_hash-is (applied_of h) h.hash_bits c.args.lits.now)
+    cc (c.full_hash.ensures, clause_hash-is (applied_of h) h.hash_bits c.args.lits.now)

@@ -12,55 +12,49 @@ pub check_clause-requires-clause-all_known : goal.check_clause-requires-clause-a
 check_clause-requires-clause-all_known c =
     let st = c.args.state.now in let h = c.make_ready.new.hasher in let cs = c.make_ready.new.clauses in let known = c.make_ready.new.variables in
     let s = state_of st c.args.hasher.now c.args.clauses.now c.args.variables.now in
-    let form = ready-form s (state_of st h cs known) c.args.lits.now c.requires.kept.form c.in_ok-make_ready.ensures.state in
-    subst (λ (buffer : List ℕ). AreAllKnown cs.unit_clauses buffer cs.buckets) (sym c.as_slice.ensures.value) (ready-known st h cs known c.in_ok-make_ready.ensures.store form)
+    let form = ready-form s _ _ c.requires.kept.form c.in_ok-make_ready.ensures.state in
+    rw c.as_slice.ensures.value (ready-known st h cs known c.in_ok-make_ready.ensures.store form)
 
 pub returns-in-Passed-clause-answer : goal.returns-in-Passed-clause-answer
 returns-in-Passed-clause-answer c =
-    let s = state_of c.args.state.now c.args.hasher.now c.args.clauses.now c.args.variables.now in
-    let passes = subst (λ (a : Answer). AnswersCheck (ready s c.args.lits.now) c.args.lits.now c.args.hashes.now a) c.in-Passed.is
-    (ready-answers c.args.state.now c.make_ready.new.hasher c.make_ready.new.clauses c.make_ready.new.variables c.as_slice.result.now
-    c.args.lits.now c.args.hashes.now c.in_ok-answer.answer s c.in_ok-make_ready.ensures.store c.requires.kept.form c.in_ok-make_ready.ensures.state
+    let st = c.args.state.now in let h = c.make_ready.new.hasher in let cs = c.make_ready.new.clauses in let vs = c.make_ready.new.variables in
+    let s = state_of st c.args.hasher.now c.args.clauses.now c.args.variables.now in
+    let passes = subst (λ a. AnswersCheck (ready s c.args.lits.now) c.args.lits.now c.args.hashes.now a) c.in-Passed.is
+    (ready-answers st h cs vs _ _ _ _ s c.in_ok-make_ready.ensures.store c.requires.kept.form c.in_ok-make_ready.ensures.state
     c.requires.no_tautology c.as_slice.ensures.value c.in_ok-answer.ensures.answer) in
-    let o = check-passed s c.args.lits.now c.args.hashes.now passes in (
-      ap (λ (x : Outcome). x.refused) o,
-      same-units c.args.state.now c.make_ready.new.hasher c.make_ready.new.clauses
-          c.make_ready.new.variables c.check_clause.new.units (ready s c.args.lits.now) c.in_ok-answer.ensures.units
-          c.in_ok-make_ready.ensures.state ∙ sym (ap (λ (x : Outcome). x.after) o),
+    let o = check-passed s _ _ passes in (
+      ap (λ x. x.refused) o,
+      same-units st h cs vs c.check_clause.new.units (ready s c.args.lits.now) c.in_ok-answer.ensures.units c.in_ok-make_ready.ensures.state ∙ sym (ap (λ x. x.after) o),
     )
 
 pub returns-in-Passed-clause-trace : goal.returns-in-Passed-clause-trace
 returns-in-Passed-clause-trace c = λ traced.
     let s = state_of c.args.state.now c.args.hasher.now c.args.clauses.now c.args.variables.now in
-    ready-trace c.args.state.now c.make_ready.new.hasher c.make_ready.new.clauses c.make_ready.new.variables c.as_slice.result.now
-    c.args.lits.now c.args.hashes.now c.args.rup.now.trace_ids.items c.check_clause.new.rup.trace_ids.items c.in_ok-answer.answer
-    c.args.traced s c.in_ok-make_ready.ensures.store c.in_ok-make_ready.ensures.state c.as_slice.ensures.value c.in-Passed.is traced
+    ready-trace c.args.state.now c.make_ready.new.hasher c.make_ready.new.clauses c.make_ready.new.variables _
+    _ _ _ _ _
+    _ s c.in_ok-make_ready.ensures.store c.in_ok-make_ready.ensures.state c.as_slice.ensures.value c.in-Passed.is traced
     c.in_ok-answer.ensures.trace_ids
 
 pub returns-in-NoClauseForHash-clause-answer : goal.returns-in-NoClauseForHash-clause-answer
 returns-in-NoClauseForHash-clause-answer c =
-    let s = state_of c.args.state.now c.args.hasher.now c.args.clauses.now c.args.variables.now in
-    let misses = subst (λ (a : Answer). AnswersCheck (ready s c.args.lits.now) c.args.lits.now c.args.hashes.now a) c.in-NoClauseForHash.is
-    (ready-answers c.args.state.now c.make_ready.new.hasher c.make_ready.new.clauses c.make_ready.new.variables c.as_slice.result.now
-    c.args.lits.now c.args.hashes.now c.in_ok-answer.answer s c.in_ok-make_ready.ensures.store c.requires.kept.form c.in_ok-make_ready.ensures.state
+    let st = c.args.state.now in let h = c.make_ready.new.hasher in let cs = c.make_ready.new.clauses in let vs = c.make_ready.new.variables in
+    let s = state_of st c.args.hasher.now c.args.clauses.now c.args.variables.now in
+    let misses = subst (λ a. AnswersCheck (ready s c.args.lits.now) c.args.lits.now c.args.hashes.now a) c.in-NoClauseForHash.is
+    (ready-answers st h cs vs _ _ _ _ s c.in_ok-make_ready.ensures.store c.requires.kept.form c.in_ok-make_ready.ensures.state
     c.requires.no_tautology c.as_slice.ensures.value c.in_ok-answer.ensures.answer) in
-    let o = check-no_clause s c.args.lits.now c.args.hashes.now misses.0 misses.1 in (
-      (ap (λ (x : Outcome). x.refused) o),
-      (same-units c.args.state.now c.make_ready.new.hasher c.make_ready.new.clauses
-          c.make_ready.new.variables c.check_clause.new.units (ready s c.args.lits.now) c.in_ok-answer.ensures.units
-          c.in_ok-make_ready.ensures.state ∙ sym (ap (λ (x : Outcome). x.after) o)),
+    let o = check-no_clause s _ _ misses.0 misses.1 in (
+      ap (λ x. x.refused) o,
+      same-units st h cs vs c.check_clause.new.units (ready s c.args.lits.now) c.in_ok-answer.ensures.units c.in_ok-make_ready.ensures.state ∙ sym (ap (λ x. x.after) o),
     )
 
 pub returns-in-Failed-clause-answer : goal.returns-in-Failed-clause-answer
 returns-in-Failed-clause-answer c =
-    let s = state_of c.args.state.now c.args.hasher.now c.args.clauses.now c.args.variables.now in
-    let fails = subst (λ (a : Answer). AnswersCheck (ready s c.args.lits.now) c.args.lits.now c.args.hashes.now a) c.in-Failed.is
-    (ready-answers c.args.state.now c.make_ready.new.hasher c.make_ready.new.clauses c.make_ready.new.variables c.as_slice.result.now
-    c.args.lits.now c.args.hashes.now c.in_ok-answer.answer s c.in_ok-make_ready.ensures.store c.requires.kept.form c.in_ok-make_ready.ensures.state
+    let st = c.args.state.now in let h = c.make_ready.new.hasher in let cs = c.make_ready.new.clauses in let vs = c.make_ready.new.variables in
+    let s = state_of st c.args.hasher.now c.args.clauses.now c.args.variables.now in
+    let fails = subst (λ a. AnswersCheck (ready s c.args.lits.now) c.args.lits.now c.args.hashes.now a) c.in-Failed.is
+    (ready-answers st h cs vs _ _ _ _ s c.in_ok-make_ready.ensures.store c.requires.kept.form c.in_ok-make_ready.ensures.state
     c.requires.no_tautology c.as_slice.ensures.value c.in_ok-answer.ensures.answer) in
-    let o = check-failed s c.args.lits.now c.args.hashes.now fails.0 fails.1 in (
-      (ap (λ (x : Outcome). x.refused) o),
-      (same-units c.args.state.now c.make_ready.new.hasher c.make_ready.new.clauses
-          c.make_ready.new.variables c.check_clause.new.units (ready s c.args.lits.now) c.in_ok-answer.ensures.units
-          c.in_ok-make_ready.ensures.state ∙ sym (ap (λ (x : Outcome). x.after) o)),
+    let o = check-failed s _ _ fails.0 fails.1 in (
+      ap (λ x. x.refused) o,
+      same-units st h cs vs c.check_clause.new.units (ready s c.args.lits.now) c.in_ok-answer.ensures.units c.in_ok-make_ready.ensures.state ∙ sym (ap (λ x. x.after) o),
     )

@@ -6,16 +6,15 @@ use Rattle.clause_store.proofs.rup.status.clause_status.Goals.{in-Some-false, in
 
 pub loop-lit-preserved : goal.loop-lit-preserved
 loop-lit-preserved c =
-    let us = c.args.units.now in let cut = drop-at c.args.lits.now c.loop-lit.lit-index c.lit-item.result c.loop-lit-test.true c.lit-item.is in
+    let us = c.args.units.now in let cut = drop-at _ _ _ c.loop-lit-test.true c.lit-item.is in
     elim c.match-known_lit_value.branch [
       | in-Some-false w ↦
-          let x = w.in-Some-false in
-          let v : lit_value us c.lit-item.result ≡ Some false = sym c.known_lit_value.ensures ∙ x.is ∙ ap Some x.field-0-test in
-          rw w.status-is (sym (status_from-false us c.loop-lit.status c.lit-item.result _ v) ∙ rw cut at c.loop-lit.invariant)
+          let v : lit_value us c.lit-item.result ≡ Some false = cc in
+          rw w.status-is (sym (status_from-false us _ _ _ v) ∙ rw cut at c.loop-lit.invariant)
       | in-None+in-Falsified w ↦
-          let v : lit_value us c.lit-item.result ≡ None = sym c.known_lit_value.ensures ∙ w.in-None.is in
-          rw w.status-is (sym (status_from-free us c.lit-item.result _ v) ∙ rw (cut, w.in-Falsified.is) at c.loop-lit.invariant)
+          let v : lit_value us c.lit-item.result ≡ None = cc in
+          rw w.status-is (sym (status_from-free us _ _ v) ∙ rw (cut, w.in-Falsified.is) at c.loop-lit.invariant)
     ]
 
 pub known_lit_value-requires : goal.known_lit_value-requires
-known_lit_value-requires c = let b = below_bound c.args.lits.now c.loop-lit.lit-index c.lit-item.result c.loop-lit-test.true c.lit-item.is in omega (arith, b)
+known_lit_value-requires c = let b = below_bound _ _ _ c.loop-lit-test.true c.lit-item.is in omega arith

@@ -8,9 +8,8 @@ use Rattle.clause_store.proofs.rup.trace.list_unit.Goals as goal
 pub returns-in_ok-overwrite-clause-listed : goal.returns-in_ok-overwrite-clause-listed
 returns-in_ok-overwrite-clause-listed c = λ rest.
     let us = c.args.units.now in
-    let found = sym (c.stored_id.ensures ∙ ap (λ v. stored_id (unit_at us v)) c.index.ensures.value) ∙ c.in-Some.is in
-    looked-listed c.args.trace.now.items us c.overwrite.new.units c.args.lit c.in-Some.id _ rest c.requires.known c.requires.is_false found c.is_negative.ensures refl c.in_ok-overwrite.ensures.ok
-    ∙ ap (λ ids. looked ids c.overwrite.new.units rest) (sym c.in_ok-push.ensures.items)
+    let found = sym (cc) ∙ c.in-Some.is in
+    cc (looked-listed c.args.trace.now.items us c.overwrite.new.units c.args.lit c.in-Some.id _ rest c.requires.known c.requires.is_false found c.is_negative.ensures refl c.in_ok-overwrite.ensures.ok, c.in_ok-push.ensures.items)
 
 pub returns-in_ok-overwrite-clause-true_lits : goal.returns-in_ok-overwrite-clause-true_lits
-returns-in_ok-overwrite-clause-true_lits c = ap true_lits c.in_ok-overwrite.ensures.ok ∙ true_lits-renamed _ c.args.lit _ c.requires.known c.requires.is_false c.is_negative.ensures
+returns-in_ok-overwrite-clause-true_lits c = ap true_lits c.in_ok-overwrite.ensures.ok ∙ true_lits-renamed _ _ _ c.requires.known c.requires.is_false c.is_negative.ensures

@@ -6,7 +6,7 @@ use Rattle.clause_store.proofs.TrailLemmas.{is_undoable_then}
 use Rattle.clause_store.proofs.rup.trail.assume_false.Goals as goal
 
 pub overwrite-requires-clause-known : goal.overwrite-requires-clause-known
-overwrite-requires-clause-known c = known-at c.args.lits.now c.loop-lit.lit-index c.lit-item.result (length c.loop-lit.units)
+overwrite-requires-clause-known c = known-at _ _ _ _
     (rw c.loop-lit.invariant.undoable.known c.requires.known) c.loop-lit-test.true c.lit-item.is
 
 pub loop-lit-preserved : goal.loop-lit-preserved
@@ -26,7 +26,7 @@ pub returns-in_err-overwrite-clause-undoable : goal.returns-in_err-overwrite-cla
 returns-in_err-overwrite-clause-undoable c = is_undoable_then _ _ _ _ _ _ c.loop-lit.invariant.undoable c.overwrite.ensures.undoable
 
 pub returns-clause-ok : goal.returns-clause-ok
-returns-clause-ok c = assume-all _ _ c.args.lits.now c.loop-lit.lit-index c.loop-lit-test.false c.loop-lit.invariant.same
+returns-clause-ok c = assume-all _ _ _ _ c.loop-lit-test.false c.loop-lit.invariant.same
 
 pub returns-clause-unlisted : goal.returns-clause-unlisted
-returns-clause-unlisted c = unlisted-all _ _ c.args.lits.now c.loop-lit.lit-index c.requires.stored c.loop-lit-test.false c.loop-lit.invariant.unlisted
+returns-clause-unlisted c = unlisted-all _ _ _ _ c.requires.stored c.loop-lit-test.false c.loop-lit.invariant.unlisted

@@ -16,7 +16,7 @@ overwrite-requires-clause-known c =
 pub returns-in_ok-push-in-Falsified-clause-listed : goal.returns-in_ok-push-in-Falsified-clause-listed
 returns-in_ok-push-in-Falsified-clause-listed c =
     let e = stored_of c.args.buffer.now c.args.clause.now in
-    let seen = is_looked _ _ c.args.units.now c.list_units.new.units e _ _ c.slice-lits.ensures c.in-Falsified.ensures
+    let seen = is_looked _ _ _ _ e _ _ c.slice-lits.ensures c.in-Falsified.ensures
     c.in_ok-list_units.ensures.listed c.list_units.ensures.kept c.list_units.ensures.true_lits in
     lists-falsified _ _ _ _ _ e seen c.in_ok-push-in-Falsified.ensures.items
 
@@ -24,8 +24,8 @@ pub returns-in_ok-overwrite-in-Unit-clause-ok : goal.returns-in_ok-overwrite-in-
 returns-in_ok-overwrite-in-Unit-clause-ok c =
     let status = c.in-Unit.ensures ∙ ap (status_of (true_lits c.args.units.now)) c.slice-lits.ensures in
     let known : AreKnown c.list_units.new.units (lits_of c.args.clause.now.lits c.args.buffer.now) = rw c.list_units.ensures.undoable.known c.requires.known in
-    unit-step c.args.units.now _ _ c.in-Unit.lit status
-    (unit-added c.args.units.now c.list_units.new.units _ _ c.in-Unit.lit _ known status c.list_units.ensures.true_lits
+    unit-step _ _ _ _ status
+    (unit-added _ _ _ _ _ _ known status c.list_units.ensures.true_lits
     c.is_positive.ensures c.in_ok-overwrite-in-Unit.ensures.ok)
 
 pub returns-in_ok-overwrite-in-Unit-clause-listed : goal.returns-in_ok-overwrite-in-Unit-clause-listed
@@ -33,15 +33,15 @@ returns-in_ok-overwrite-in-Unit-clause-listed c =
     let e = stored_of c.args.buffer.now c.args.clause.now in
     let status = c.in-Unit.ensures ∙ ap (status_of (true_lits c.args.units.now)) c.slice-lits.ensures in
     let known : AreKnown c.list_units.new.units (lits_of c.args.clause.now.lits c.args.buffer.now) = rw c.list_units.ensures.undoable.known c.requires.known in
-    let seen = is_looked _ _ c.args.units.now c.list_units.new.units e _ _ c.slice-lits.ensures c.in-Unit.ensures
+    let seen = is_looked _ _ _ _ e _ _ c.slice-lits.ensures c.in-Unit.ensures
     c.in_ok-list_units.ensures.listed c.list_units.ensures.kept c.list_units.ensures.true_lits in
-    let added = unit-added c.args.units.now c.list_units.new.units _ _ c.in-Unit.lit _ known status c.list_units.ensures.true_lits c.is_positive.ensures c.in_ok-overwrite-in-Unit.ensures.ok in
-    lists-unit _ _ _ _ _ _ e c.in-Unit.lit _ known seen c.in_ok-push-in-Unit.ensures.items refl added c.in_ok-overwrite-in-Unit.ensures.ok
+    let added = unit-added _ _ _ _ _ _ known status c.list_units.ensures.true_lits c.is_positive.ensures c.in_ok-overwrite-in-Unit.ensures.ok in
+    lists-unit _ _ _ _ _ _ e _ _ known seen c.in_ok-push-in-Unit.ensures.items refl added c.in_ok-overwrite-in-Unit.ensures.ok
 
 pub returns-in-Idle-clause-listed : goal.returns-in-Idle-clause-listed
 returns-in-Idle-clause-listed c =
     let e = stored_of c.args.buffer.now c.args.clause.now in
-    lists-idle _ _ _ _ e (is_looked _ _ c.args.units.now c.list_units.new.units e _ _ c.slice-lits.ensures c.in-Idle.ensures
+    lists-idle _ _ _ _ e (is_looked _ _ _ _ e _ _ c.slice-lits.ensures c.in-Idle.ensures
     c.in_ok-list_units.ensures.listed c.list_units.ensures.kept c.list_units.ensures.true_lits)
 
 pub clause_status-status-requires : goal.clause_status-status-requires

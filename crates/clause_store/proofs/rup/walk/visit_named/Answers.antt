@@ -9,17 +9,15 @@ use Rattle.clause_store.proofs.rup.walk.visit_named.Goals as goal
 
 pub visit_bucket-requires-clause-within : goal.visit_bucket-requires-clause-within
 visit_bucket-requires-clause-within c =
-    subst (λ (cs : List Clause). All (λ e. IsWithin e.lits c.args.buffer.now) cs)
-    (clauses_at-found c.args.buckets.now c.args.hash _ _ c.in-Some.ensures.value c.as_slice-clauses.ensures) (c.requires.within c.args.hash)
+    rw (← clauses_at-found c.args.buckets.now c.args.hash _ _ c.in-Some.ensures.value c.as_slice-clauses.ensures) (c.requires.within c.args.hash)
 
 pub visit_bucket-requires-clause-known : goal.visit_bucket-requires-clause-known
 visit_bucket-requires-clause-known c =
-    subst (λ (cs : List Clause). All (λ e. AreKnown c.args.units.now (lits_of e.lits c.args.buffer.now)) cs)
-    (clauses_at-found c.args.buckets.now c.args.hash _ _ c.in-Some.ensures.value c.as_slice-clauses.ensures) (c.requires.known c.args.hash)
+    rw (← clauses_at-found c.args.buckets.now c.args.hash _ _ c.in-Some.ensures.value c.as_slice-clauses.ensures) (c.requires.known c.args.hash)
 
 pub returns-else-is_long-2-clause-idle : goal.returns-else-is_long-2-clause-idle
 returns-else-is_long-2-clause-idle c = λ _.
-    are_idle-walked c.args.units.now c.visit_bucket.new.units c.args.run.now c.visit_bucket.new.run c.args.buffer.now c.args.buckets.now
+    are_idle-walked _ _ _ _ _ c.args.buckets.now
     (c.in_ok-visit_bucket.ensures.lengthens c.if-branch.false) c.visit_bucket.ensures.idle c.requires.idle
 
 pub returns-then-len-given-clause-idle : goal.returns-then-len-given-clause-idle
@@ -27,10 +25,10 @@ returns-then-len-given-clause-idle c = λ _.
     let vs = c.visit_bucket.new.units in let now = c.visit_bucket.new.run in let buffer = c.args.buffer.now in let buckets = c.args.buckets.now in
     let lengthens = c.in_ok-visit_bucket.ensures.lengthens c.if-branch.false in
     let found = clauses_at-found buckets c.args.hash _ _ c.in-Some.ensures.value c.as_slice-clauses.ensures in
-    let walked = is_idle_since-walked c.args.units.now vs c.args.run.now now c.as_slice-clauses.result.now buffer buckets c.args.hash _ found lengthens
+    let walked = is_idle_since-walked _ vs _ now _ _ buckets c.args.hash _ found lengthens
     c.if-branch.false c.in_ok-visit_bucket.ensures.ok c.in_ok-visit_bucket.ensures.listed in
-    let here = subst (λ (n : ℕ). IsIdleSince n (length now.trail.items) (IsIdleRun now.trace.items vs (stored_in buffer buckets c.args.hash)))
+    let here = subst (λ n. IsIdleSince n (length now.trail.items) (IsIdleRun now.trace.items vs (stored_in buffer buckets c.args.hash)))
     (sym (c.len-given.ensures ∙ c.args.run.now.trail.ok.0)) walked in
-    are_idle-noted c.add-refused.result (idle_at now.idle) (idle_at c.add-refused.new.self) c.len-given.result (length now.trail.items) c.args.hash
+    are_idle-noted _ _ _ _ _ _
     (λ h. IsIdleRun now.trace.items vs (stored_in buffer buckets h)) c.add-refused.ensures.ok c.add-refused.ensures.err here
-    (are_idle-walked c.args.units.now vs c.args.run.now now buffer buckets lengthens c.visit_bucket.ensures.idle c.requires.idle)
+    (are_idle-walked _ vs _ now _ buckets lengthens c.visit_bucket.ensures.idle c.requires.idle)

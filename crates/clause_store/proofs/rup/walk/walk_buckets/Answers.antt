@@ -5,21 +5,21 @@ use Rattle.clause_store.proofs.rup.walk.walk_buckets.Goals as goal
 
 pub returns-in-Some-clause-ok : goal.returns-in-Some-clause-ok
 returns-in-Some-clause-ok c =
-    first-ended c.args.buffer.now c.args.buckets.now c.loop-hash.units c.visit_named.new.units c.args.hashes.now c.loop-hash.hash-index _ _ _
+    first-ended _ c.args.buckets.now _ _ _ _ _ _ _
     c.loop-hash-test.true c.in-Some.is c.in_ok-answer.ensures.ok c.loop-hash.invariant.same
 
 pub returns-in-Some-clause-listed : goal.returns-in-Some-clause-listed
 returns-in-Some-clause-listed c = λ passed.
-    listed-ended c.args.buffer.now c.args.buckets.now c.loop-hash.run.trace.items c.visit_named.new.run.trace.items c.loop-hash.units c.visit_named.new.units
-    c.args.hashes.now c.loop-hash.hash-index _ c.loop-hash-test.true
-    (c.in_ok-answer.ensures.listed.passed (c.in-Some.is ∙ ap Some passed)) c.loop-hash.invariant.listed
+    listed-ended _ c.args.buckets.now _ _ _ c.visit_named.new.units
+    _ _ _ c.loop-hash-test.true
+    (c.in_ok-answer.ensures.listed.passed (cc (c.in-Some.is))) c.loop-hash.invariant.listed
 
 pub loop-hash-preserved : goal.loop-hash-preserved
 loop-hash-preserved c = record {
-  same = first-walked c.args.buffer.now c.args.buckets.now c.loop-hash.units c.visit_named.new.units c.args.hashes.now c.loop-hash.hash-index _ _
+  same = first-walked _ c.args.buckets.now _ _ _ _ _ _
       c.loop-hash-test.true c.in_default.is c.in_ok-answer.ensures.ok c.loop-hash.invariant.same;
-  listed = listed-walked c.args.buffer.now c.args.buckets.now c.loop-hash.run.trace.items c.visit_named.new.run.trace.items c.loop-hash.units
-      c.visit_named.new.units c.args.hashes.now c.loop-hash.hash-index _ c.loop-hash-test.true
+  listed = listed-walked _ c.args.buckets.now _ _ _
+      _ _ _ _ c.loop-hash-test.true
       (c.in_ok-answer.ensures.listed.goes_on c.in_default.is) c.loop-hash.invariant.listed;
   idle = c.in_ok-answer.ensures.idle c.in_default.is;
   undoable = is_undoable_then _ _ _ _ _ _ c.loop-hash.invariant.undoable c.visit_named.ensures.undoable;

@@ -1,79 +1,64 @@
 use Rattle.std.proofs.Common.{Ok}
 use Rattle.std.proofs.lemmas.Result.{err_from_is_err_and}
-use Rattle.checker_steps.specs.Context.{context_state}
-use Rattle.varisat_checker.specs.Shown.{listeners, state}
-use Rattle.varisat_checker.proofs.AddedSoFar.{covers-added, of-all, of-stops, sets-added}
+use Rattle.varisat_checker.specs.Shown.{state}
 use Rattle.varisat_checker.proofs.CertifiedLemmas.{certifies-adds}
-use Rattle.varisat_checker.proofs.DeliveredAdds.{formula-all, formula-more, formula-none, formula-stops}
+use Rattle.varisat_checker.proofs.DeliveredAdds.{covers-added, formula-all, formula-more, formula-none, formula-stops, of-all, of-stops, sets-added}
 use Rattle.varisat_checker.proofs.checker.CheckerOf.add_formula.Goals as goal
 
 pub clauses-init : goal.clauses-init
 unfolding state
-clauses-init g c =
-    formula-none g.P.ProofProcessor.took g.P.ProofProcessor.faulted g.T.ProofTranscriptProcessor.took g.T.ProofTranscriptProcessor.faulted
-    (state c.args.self.now) c.args.formula.now c.into_iter-clause-iterator.result (listeners c.args.self.now) c.if-self.false
-    c.into_iter-clause-iterator.ensures.into_iter_gives
+clauses-init g c = formula-none c.if-self.false c.into_iter-clause-iterator.ensures.into_iter_gives
 
 pub clauses-preserved : goal.clauses-preserved
 clauses-preserved g c =
     let p = c.clauses.invariant in
-    formula-more g.P.ProofProcessor.took g.P.ProofProcessor.faulted g.T.ProofTranscriptProcessor.took g.T.ProofTranscriptProcessor.faulted
-    (state c.args.self.now) (state c.clauses.self) (state c.add_clause.new.self) c.args.formula.now _ _ c.in-Some.clause.now
-    (listeners c.args.self.now) (listeners c.clauses.self) (listeners c.add_clause.new.self)
-    p c.in-Some.ensures.steps (rw c.in_ok-add_clause.was at (c.add_clause.ensures.step p.adding.so_far.running)) (rw c.in_ok-add_clause.was at (c.add_clause.ensures.delivered p.adding.so_far.running))
+    formula-more p c.in-Some.ensures.steps (rw c.in_ok-add_clause.was at (c.add_clause.ensures.step p.so_far.running))
+    (rw c.in_ok-add_clause.was at (c.add_clause.ensures.delivered p.so_far.running))
 
 pub returns-in_err-add_clause-clause-steps : goal.returns-in_err-add_clause-clause-steps
 returns-in_err-add_clause-clause-steps g c = λ running.
     let q = err_from_is_err_and c.from_residual.result c.from_residual.ensures.1 in
-    rw (q.1, q.2) (of-stops c.in_err-add_clause.field-0.0 (state c.add_clause.new.self) c.clauses.invariant.adding c.in-Some.ensures.steps
-    (rw c.in_err-add_clause.was at (c.add_clause.ensures.step c.clauses.invariant.adding.so_far.running)))
+    let p = c.clauses.invariant in
+    rw (q.1, q.2) (of-stops p c.in-Some.ensures.steps _ _ (rw c.in_err-add_clause.was at (c.add_clause.ensures.step p.so_far.running)))
 
 pub returns-in_err-add_clause-clause-headline : goal.returns-in_err-add_clause-clause-headline
 unfolding state
 returns-in_err-add_clause-clause-headline g c = λ running before fold.
-    sets-added (context_state c.args.self.now.ctx) before c.args.formula.now c.from_residual.result _
-    (c.args.self.now.entails running) fold (returns-in_err-add_clause-clause-steps g c running)
+    sets-added _ before _ _ _ (c.args.self.now.entails running) fold (returns-in_err-add_clause-clause-steps g c running)
 
 pub returns-in_err-add_clause-clause-covers : goal.returns-in_err-add_clause-clause-covers
 returns-in_err-add_clause-clause-covers g c = λ running before covered.
-    covers-added (state c.args.self.now) before c.args.formula.now c.from_residual.result _ covered (returns-in_err-add_clause-clause-steps g c running)
+    covers-added _ before _ _ _ covered (returns-in_err-add_clause-clause-steps g c running)
 
 pub returns-clause-steps : goal.returns-clause-steps
-returns-clause-steps g c = λ running. of-all c.clauses.invariant.adding c.in-None.ensures.steps.0
+returns-clause-steps g c = λ running. of-all c.clauses.invariant c.in-None.ensures.steps.0
 
 pub returns-clause-headline : goal.returns-clause-headline
 unfolding state
 returns-clause-headline g c = λ running before fold.
-    sets-added (context_state c.args.self.now.ctx) before c.args.formula.now (Ok tt) _ (c.args.self.now.entails running) fold (returns-clause-steps g c running)
+    sets-added _ before _ (Ok tt) _ (c.args.self.now.entails running) fold (returns-clause-steps g c running)
 
 pub returns-clause-covers : goal.returns-clause-covers
 returns-clause-covers g c = λ running before covered.
-    covers-added (state c.args.self.now) before c.args.formula.now (Ok tt) _ covered (returns-clause-steps g c running)
+    covers-added _ before _ (Ok tt) _ covered (returns-clause-steps g c running)
 
 pub returns-in_err-add_clause-clause-certified : goal.returns-in_err-add_clause-clause-certified
 unfolding state
 returns-in_err-add_clause-clause-certified g c = λ running.
-    certifies-adds c.from_residual.result (context_state c.args.self.now.ctx) (state c.add_clause.new.self) c.args.formula.now
-    (c.args.self.now.kept running).form (returns-in_err-add_clause-clause-steps g c running)
+    certifies-adds _ _ _ _ (c.args.self.now.kept running).form (returns-in_err-add_clause-clause-steps g c running)
 
 pub returns-clause-certified : goal.returns-clause-certified
 unfolding state
 returns-clause-certified g c = λ running.
-    certifies-adds (Ok tt) (context_state c.args.self.now.ctx) _ c.args.formula.now (c.args.self.now.kept running).form (returns-clause-steps g c running)
+    certifies-adds (Ok tt) _ _ _ (c.args.self.now.kept running).form (returns-clause-steps g c running)
 
 pub returns-in_err-add_clause-clause-delivered : goal.returns-in_err-add_clause-clause-delivered
 returns-in_err-add_clause-clause-delivered g c = λ running.
     let q = err_from_is_err_and c.from_residual.result c.from_residual.ensures.1 in
     let p = c.clauses.invariant in
     rw (q.1, q.2)
-    (formula-stops g.P.ProofProcessor.took g.P.ProofProcessor.faulted g.T.ProofTranscriptProcessor.took g.T.ProofTranscriptProcessor.faulted
-    (state c.args.self.now) (state c.clauses.self) (state c.add_clause.new.self) c.args.formula.now _ _ c.in-Some.clause.now
-    c.in_err-add_clause.field-0.0 (listeners c.args.self.now) (listeners c.clauses.self) (listeners c.add_clause.new.self)
-    p c.in-Some.ensures.steps (rw c.in_err-add_clause.was at (c.add_clause.ensures.step p.adding.so_far.running))
-    (rw c.in_err-add_clause.was at (c.add_clause.ensures.delivered p.adding.so_far.running)))
+    (formula-stops p c.in-Some.ensures.steps _ _ _ _ _ (rw c.in_err-add_clause.was at (c.add_clause.ensures.step p.so_far.running))
+    (rw c.in_err-add_clause.was at (c.add_clause.ensures.delivered p.so_far.running)))
 
 pub returns-clause-delivered : goal.returns-clause-delivered
-returns-clause-delivered g c = λ running.
-    formula-all g.P.ProofProcessor.took g.P.ProofProcessor.faulted g.T.ProofTranscriptProcessor.took g.T.ProofTranscriptProcessor.faulted
-    (state c.args.self.now) (state c.clauses.self) c.args.formula.now _ (listeners c.args.self.now)
-    (listeners c.clauses.self) c.clauses.invariant c.in-None.ensures.steps.0
+returns-clause-delivered g c = λ running. formula-all c.clauses.invariant c.in-None.ensures.steps.0

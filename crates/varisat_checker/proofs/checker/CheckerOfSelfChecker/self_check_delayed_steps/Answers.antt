@@ -1,43 +1,33 @@
-use Rattle.std.proofs.Common.{◌∙◌, refl, sym}
-use Rattle.std.proofs.lemmas.Bool.{true≢false}
+use Rattle.std.proofs.Common.{refl}
 use Rattle.checker_rules.specs.Calls.{closes, fail}
 use Rattle.checker_parts.proofs.Headlines.{covers_fold-closing, sets_fold-closing}
 use Rattle.checker_steps.specs.Context.{context_state}
 use Rattle.varisat_checker.specs.Shown.{state}
 use Rattle.varisat_checker.proofs.CertifiedLemmas.{certifies-call}
-use Rattle.varisat_checker.proofs.EntailedLemmas.{closing-entails}
-use Rattle.varisat_checker.proofs.FailingLemmas.{went-on}
+use Rattle.varisat_checker.proofs.EntailedLemmas.{entails-on}
+use Rattle.varisat_checker.proofs.FailingLemmas.{gave-up, went-on}
 use Rattle.varisat_checker.proofs.checker.CheckerOfSelfChecker.self_check_delayed_steps.Goals as goal
 
 pub returns-else-fails-clause-headline : goal.returns-else-fails-clause-headline
 unfolding state
 returns-else-fails-clause-headline g c = λ running before fold.
-    sets_fold-closing (context_state c.args.self.now.ctx) before c.process_unit_conflicts-answer.result
-    (context_state c.process_unit_conflicts-answer.new.ctx) (c.args.self.now.entails running) fold
-    (went-on c.process_unit_conflicts-answer.result _ _ (sym c.fails.ensures ∙ c.if-fails.false) c.process_unit_conflicts-answer.ensures.answer)
+    sets_fold-closing _ before _ _ (c.args.self.now.entails running) fold (went-on _ _ _ c.fails.ensures c.if-fails.false c.process_unit_conflicts-answer.ensures.answer)
 
 pub returns-else-fails-clause-covers : goal.returns-else-fails-clause-covers
 unfolding state
 returns-else-fails-clause-covers g c = λ running before covered.
-    covers_fold-closing (context_state c.args.self.now.ctx) before c.process_unit_conflicts-answer.result (context_state c.process_unit_conflicts-answer.new.ctx) covered
-    (went-on c.process_unit_conflicts-answer.result _ _ (sym c.fails.ensures ∙ c.if-fails.false) c.process_unit_conflicts-answer.ensures.answer)
+    covers_fold-closing _ before _ _ covered (went-on _ _ _ c.fails.ensures c.if-fails.false c.process_unit_conflicts-answer.ensures.answer)
 
 pub returns-then-fails-clause-certified : goal.returns-then-fails-clause-certified
 unfolding state
 returns-then-fails-clause-certified g c = λ running.
-    let s = context_state c.args.self.now.ctx in
-    let u = context_state c.process_unit_conflicts-answer.new.ctx in
-    certifies-call c.process_unit_conflicts-answer.result s u (fail u) closes (c.args.self.now.kept running).form c.process_unit_conflicts-answer.ensures.answer
-    (λ on. absurd (true≢false (sym (sym c.fails.ensures ∙ c.if-fails.true) ∙ on)))
+    certifies-call _ _ _ (fail (context_state c.process_unit_conflicts-answer.new.ctx)) closes (c.args.self.now.kept running).form c.process_unit_conflicts-answer.ensures.answer (gave-up _ _ _ c.fails.ensures c.if-fails.true)
 
 pub returns-else-fails-clause-certified : goal.returns-else-fails-clause-certified
 unfolding state
 returns-else-fails-clause-certified g c = λ running.
-    let s = context_state c.args.self.now.ctx in
-    let u = context_state c.process_unit_conflicts-answer.new.ctx in
-    certifies-call c.process_unit_conflicts-answer.result s u u closes (c.args.self.now.kept running).form c.process_unit_conflicts-answer.ensures.answer (λ on. refl)
+    certifies-call _ _ _ _ closes (c.args.self.now.kept running).form c.process_unit_conflicts-answer.ensures.answer (λ on. refl)
 
 pub invariant_of-self-else-fails-clause-entails : goal.invariant_of-self-else-fails-clause-entails
 invariant_of-self-else-fails-clause-entails g c = λ running.
-    closing-entails c.process_unit_conflicts-answer.result (context_state c.process_unit_conflicts-answer.new.ctx) (context_state c.args.self.now.ctx)
-    (c.args.self.now.entails c.if-self.false) (sym c.fails.ensures ∙ c.if-fails.false) c.process_unit_conflicts-answer.ensures.answer
+    entails-on _ (c.args.self.now.entails c.if-self.false) closes _ _ c.fails.ensures c.if-fails.false c.process_unit_conflicts-answer.ensures.answer

@@ -8,10 +8,9 @@ use Rattle.clause_store.proofs.clauses.counts.LitCounts.raise.Goals.{in-Narrow-1
 
 pub returns-in_ok-widened-in-Narrow-clause-held : goal.returns-in_ok-widened-in-Narrow-clause-held
 returns-in_ok-widened-in-Narrow-clause-held c =
-    let n = c.in-Narrow.counts in
     let same = c.as_mut_slice.ensures.value ∙ ap counts_in (sym c.in-Narrow.is) ∙ c.self.view_is in
-    let first = held-written (take c.raise_narrow-raised.result c.args.lits.now) c.args.self.now c.as_mut_slice.result.now c.raise_narrow-raised.new.counts
-    n.items n.len c.raise_narrow-raised.ensures.held same (omega (arith, c.raise_narrow-raised.ensures.known, c.as_mut_slice.ensures.len)) in
+    let first = held-written _ _ _ _
+    _ _ c.raise_narrow-raised.ensures.held same (omega arith) in
     let raised = c.in_ok-widened-in-Narrow.ensures.held c.args.self.now first in
     elim c.match-self-2.branch
-    [ in-Narrow-1 w ↦ λ l. ap (λ (xs : List ℕ). get_or xs l 0) w.self-is ∙ raised l | in-Wide-1 w ↦ λ l. ap (λ (xs : List ℕ). get_or xs l 0) w.self-is ∙ raised l ]
+    [ in-Narrow-1 w ↦ λ l. cc (raised l) | in-Wide-1 w ↦ λ l. cc (raised l) ]
