@@ -1,5 +1,6 @@
 #!/usr/bin/env bash
-# Lists the must-fail edits that are refused only because a proof file names what they took away: these say little of a contract.
+# Lists the must-fail edits that say little of a contract: those that can't be applied or read, and those that are refused
+# only because a proof file names what they took away.
 #
 # It reads what `rt ci` wrote, from the file that is named, or else tries all edits itself, which takes an hour.
 # It exits 1 if there is one.
@@ -11,8 +12,10 @@ trap 'rm -rf "$work"' EXIT
 if (($# == 0)); then
   rt must-fail > "$work/tried" 2>&1
 fi
-weak=$(sed -n 's/^rt: must-fail \([^:]*\): refused, .*this says little of the contract.*/\1/p' "${1:-$work/tried}")
-if [[ -n $weak ]]; then
-  echo "$weak"
+told=${1:-$work/tried}
+bad=$(sed -n 's/^rt: must-fail \([^:]*: BAD EDIT\).*/\1/p' "$told")
+weak=$(sed -n 's/^rt: must-fail \([^:]*\): refused, .*this says little of the contract.*/\1/p' "$told")
+if [[ -n $bad$weak ]]; then
+  printf '%s\n' 'edits that say little:' "$bad" "$weak" | sed '/^$/d'
   exit 1
 fi
