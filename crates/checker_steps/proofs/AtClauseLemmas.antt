@@ -1,18 +1,17 @@
 -- The step of a derived clause, part by part.
-use Rattle.std.proofs.Common.{◌≡◌, ℕ, Bool, true, false, cond, not, List, Option, Some, None, sym, ap, ◌∙◌, arith}
+use Rattle.std.proofs.Common.{◌≡◌, ℕ, Bool, true, false, cond, not, List, Some, None, ◌∙◌, arith}
 use Rattle.checker_rules.specs.AtClause.{set_previous, store_derived}
 use Rattle.checker_rules.specs.Canonical.{canonical}
 use Rattle.checker_rules.specs.Check.{ready}
 use Rattle.checker_rules.specs.Clauses.{is_tautology}
-use Rattle.checker_rules.specs.Outcome.{Cause, Outcome, accept, and_then, and_then_by, refuse, tautology}
+use Rattle.checker_rules.specs.Outcome.{Cause, Outcome, accept, and_then, refuse, tautology}
 use Rattle.checker_rules.specs.State.{State}
 use Rattle.checker_rules.specs.Step.{at_clause}
 use Rattle.checker_rules.specs.Steps.{step}
-use Rattle.checker_rules.specs.Store.{counters, id_of, stands, store}
-use Rattle.checker_rules.specs.Traced.{traced, traced_derived, traced_when}
+use Rattle.checker_rules.specs.Store.{counters, id_of, stands}
+use Rattle.checker_rules.specs.Traced.{traced}
 use Rattle.checker_rules.proofs.StepKinds.{step-at_clause}
-use Rattle.checker_steps.specs.Derived.{derived, derived_steps, steps_unless}
-use Rattle.checker_steps.proofs.EmitLemmas.{answers-accept}
+use Rattle.checker_steps.specs.Derived.{derived, derived_steps}
 
 -- an irredundant clause becomes the previous one, with its id
 abbrev pub kept_as_previous : Bool → List ℕ → ℕ → State → State

@@ -12,7 +12,7 @@ use Rattle.checker_rules.specs.Outcome.{Cause, Outcome, accept, core_var_hidden,
 use Rattle.checker_rules.specs.State.{State}
 use Rattle.checker_rules.specs.Step.{failed_assumptions}
 use Rattle.checker_rules.specs.Steps.{step}
-use Rattle.checker_rules.specs.Traced.{check_trace, traced, traced_core, traced_when}
+use Rattle.checker_rules.specs.Traced.{check_trace, traced, traced_when}
 use Rattle.checker_rules.proofs.StepKinds.{step-failed_assumptions}
 use Rattle.checker_rules.proofs.TracedSteps.{core_apart}
 use Rattle.checker_rules.proofs.Walks.{any_at, any_from}

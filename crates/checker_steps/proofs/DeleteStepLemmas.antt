@@ -1,18 +1,17 @@
 -- The step that deletes a clause, part by part.
-use Rattle.std.proofs.Common.{◌≡◌, ℕ, ◌-◌, Bool, true, false, cond, not, ◌&&◌, eqb, List, [], ◌∷◌, map, Option, None, Some, Ok, Err, is_some, refl, sym, ap, ◌∙◌, subst, arith}
+use Rattle.std.proofs.Common.{◌≡◌, ℕ, ◌-◌, Bool, true, false, cond, not, ◌&&◌, eqb, List, [], ◌∷◌, Option, None, Some, Ok, Err, is_some, sym, ap, ◌∙◌, subst, arith}
 use Rattle.std.specs.List.{list_all}
 use Rattle.std.proofs.lemmas.Grind.{common_steps}
-use Rattle.checker_rules.specs.Buckets.{remaining}
 use Rattle.checker_rules.specs.Canonical.{canonical}
 use Rattle.checker_rules.specs.CheckedSteps.{NamedStep, checked_delete_at_clause, checked_delete_clause, named_in}
 use Rattle.checker_rules.specs.Clauses.{is_tautology}
-use Rattle.checker_rules.specs.DeleteClause.{delete_copy, delete_justified, forget, is_short, justified}
+use Rattle.checker_rules.specs.DeleteClause.{delete_justified, forget, justified}
 use Rattle.checker_rules.specs.Emits.{Emits, EmitsRefused, emits_deletion, emits_lowered, previous_id}
-use Rattle.checker_rules.specs.Outcome.{Outcome, accept, delete_irredundant_is_redundant, delete_redundant_is_irredundant, delete_unit_or_empty, delete_unknown, refuse, tautology}
+use Rattle.checker_rules.specs.Outcome.{Outcome, delete_irredundant_is_redundant, delete_redundant_is_irredundant, refuse, tautology}
 use Rattle.checker_rules.specs.State.{State}
 use Rattle.checker_rules.specs.Step.{Justification, Step, by_redundant, by_satisfied, by_simplified, delete_clause}
 use Rattle.checker_rules.specs.Steps.{step}
-use Rattle.checker_rules.specs.Store.{count_of, is_stored, lower}
+use Rattle.checker_rules.specs.Store.{count_of, is_stored}
 use Rattle.checker_rules.specs.WellFormed.{are_apart}
 use Rattle.checker_rules.specs.Transcript.{TranscriptStep}
 use Rattle.checker_rules.proofs.StepKinds.{step-delete_clause}

@@ -6,7 +6,7 @@ use Rattle.std.proofs.lemmas.Bool.{lt-ltb}
 use Rattle.std.proofs.lemmas.Bool.Decides.{nat_tests}
 use Rattle.checker_rules.specs.CheckedSteps.{checked_at_clause, named_in}
 use Rattle.checker_rules.specs.Clauses.{has, var_of}
-use Rattle.checker_rules.specs.DeleteVar.{holds_var, is_conflict_on, is_unit_with}
+use Rattle.checker_rules.specs.DeleteVar.{holds_var, is_conflict_on}
 use Rattle.checker_rules.specs.Emits.{emits_closing}
 use Rattle.checker_rules.specs.Hints.{unit_lit}
 use Rattle.checker_rules.specs.State.{State, Stored, StoredUnit, unit_of}
@@ -17,10 +17,6 @@ use Rattle.checker_steps.specs.DeletedVar.{conflict_on, emits_close}
 -- a variable has two literals
 var_is : (l x : ℕ) → eqb (var_of l) x ≡ (eqb (2 * x) l || eqb (2 * x + 1) l)
 var_is l x = grind (arith, nat_tests)
-
--- two alternatives each, in the other order
-swapped : (a b c d : Bool) → ((a || b) || (c || d)) ≡ ((a || c) || (b || d))
-swapped a b c d = grind arith
 
 holds_var-has : (x : ℕ) (c : List ℕ) → holds_var x c ≡ (has (2 * x) c || has (2 * x + 1) c)
 holds_var-has x [] = refl

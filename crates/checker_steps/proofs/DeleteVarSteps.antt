@@ -1,16 +1,14 @@
 -- The step `DeleteVar` as a whole.
-use Rattle.std.proofs.Common.{◌≡◌, ℕ, suc, Bool, true, false, cond, ltb, List, [], ◌∷◌, ◌++◌, Option, None, Some, is_some, ◌⊎◌, Result, Err, refl, sym, ap, ◌∙◌, inl, inr, ⊎_elim, arith}
+use Rattle.std.proofs.Common.{◌≡◌, ℕ, suc, Bool, true, false, cond, List, [], ◌∷◌, ◌++◌, Option, None, Some, is_some, ◌⊎◌, Result, Err, refl, sym, ap, ◌∙◌, ⊎_elim, arith}
 use Rattle.std.specs.List.{list_any}
-use Rattle.checker_rules.specs.CheckedSteps.{NamedStep, checked_at_clause, checked_delete_rat_clause, named_in}
-use Rattle.checker_rules.specs.DeleteVar.{close_conflict, drop_unit, free_var, holds_var, is_conflict_on}
-use Rattle.checker_rules.specs.Emits.{Emits, emits_closing, emits_unit}
-use Rattle.checker_rules.specs.Hints.{unit_lit}
+use Rattle.checker_rules.specs.CheckedSteps.{NamedStep}
+use Rattle.checker_rules.specs.DeleteVar.{drop_unit, free_var, holds_var}
+use Rattle.checker_rules.specs.Emits.{Emits}
 use Rattle.checker_rules.specs.KnownVars.{know}
-use Rattle.checker_rules.specs.Outcome.{Cause, Outcome, accept, and_then, and_then_by, deleted_var_has_clauses, deleted_var_named, ids_exhausted, refuse}
-use Rattle.checker_rules.specs.State.{Known, State, StoredUnit, unit_of}
+use Rattle.checker_rules.specs.Outcome.{Cause, Outcome, accept, and_then, and_then_by, deleted_var_has_clauses, deleted_var_named, refuse}
+use Rattle.checker_rules.specs.State.{Known, State}
 use Rattle.checker_rules.specs.Step.{delete_var}
 use Rattle.checker_rules.specs.Steps.{step}
-use Rattle.checker_rules.specs.Store.{id_limit}
 use Rattle.checker_rules.specs.Transcript.{TranscriptStep, known_at}
 use Rattle.checker_rules.proofs.StepKinds.{step-delete_var}
 use Rattle.checker_parts.specs.Faults.{AnswersOutcome}
@@ -80,17 +78,7 @@ emits_dropped-by x t r units known = rw (units, known)
 
 -- a conflict whose closing is refused emits nothing, and one that emits is closed
 close-by : (x : ℕ) (t : State) → ((close_on x t).refused ≡ None) ⊎ (emits_close x t ≡ [])
-close-by x t = by (is_conflict_on (unit_of t.units x) t.conflict) t.conflict
-  where
-    by : (b : Bool) (o : Option (ℕ × ℕ)) → ((cond b (cond (ltb t.next id_limit) (accept (close_conflict t)) (refuse ids_exhausted t)) (accept t)).refused ≡ None) ⊎ (cond b (emits_closing t o) [] ≡ [])
-    by false o = inl refl
-    by true None = inr refl
-    by true (Some pair) = room (ltb t.next id_limit)
-      where
-        room : (b : Bool) → ((cond b (accept (close_conflict t)) (refuse ids_exhausted t)).refused ≡ None)
-            ⊎ (cond b (named_in t (checked_at_clause t.next false [] (pair.0 ∷ pair.1 ∷ [])) ∷ []) [] ≡ [])
-        room true = inl refl
-        room false = inr refl
+close-by x t = grind arith
 
 -- a list with an element is not empty
 not_empty : {A : Type 0} (xs : List A) (y : A) (ys : List A) → xs ++ y ∷ ys ≡ [] → ⊥

@@ -1,5 +1,5 @@
 -- What a call delivers on, put together from the steps that it delivers on.
-use Rattle.std.proofs.Common.{arith, ◌≡◌, List, [], ◌∷◌, ◌++◌, Some, Result, Ok, Err, OnOk, IfErr, sym, subst, append_assoc, inr}
+use Rattle.std.proofs.Common.{arith, ◌≡◌, List, [], ◌∷◌, ◌++◌, Some, Result, Ok, Err, OnOk, IfErr, sym, subst, append_assoc}
 use Rattle.checker_rules.specs.CheckedSteps.{NamedStep}
 use Rattle.checker_rules.specs.Ran.{AllTook, OneFaulted}
 use Rattle.checker_rules.specs.Transcript.{TranscriptStep, image}

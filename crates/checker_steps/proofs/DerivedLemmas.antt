@@ -1,10 +1,10 @@
 -- A derived clause: its outcome and the steps that show it, part by part.
-use Rattle.std.proofs.Common.{◌≡◌, ℕ, Bool, cond, arith, List, [], ◌∷◌, None, Some, Err, ap, ◌∙◌}
+use Rattle.std.proofs.Common.{◌≡◌, ℕ, Bool, cond, arith, List, [], ◌∷◌, None, Some, Err, ◌∙◌}
 use Rattle.std.proofs.Math.Bool.{and-false}
 use Rattle.checker_rules.specs.Check.{check, ready}
 use Rattle.checker_rules.specs.CheckedSteps.{NamedStep, checked_at_clause, named_in}
 use Rattle.checker_rules.specs.Emits.{emits_irredundant}
-use Rattle.checker_rules.specs.Outcome.{Cause, Outcome, accept, refuse}
+use Rattle.checker_rules.specs.Outcome.{Cause, accept, refuse}
 use Rattle.checker_rules.specs.State.{State}
 use Rattle.checker_rules.specs.Store.{id_of, stands, store}
 use Rattle.checker_rules.specs.Traced.{check_trace}
@@ -21,13 +21,10 @@ use Rattle.checker_steps.proofs.EmitLemmas.{answers-accept}
 abbrev pub steps_of : State → Bool → List ℕ → List ℕ → List NamedStep
 steps_of s redundant c ids = cond (stands c s) (emits_irredundant redundant c s) (named_in s (checked_at_clause s.next redundant c ids) ∷ [])
 
-stored-is : (s : State) (redundant : Bool) (c ids : List ℕ) → stored_steps (result_of c redundant s) s.known (id_of c s) redundant c ids ≡ steps_of s redundant c ids
-stored-is s redundant c ids = grind (arith, and-false)
-
 -- by the answer of storing it
 stored_steps-is : (s : State) (redundant : Bool) (c ids : List ℕ) (did : StoreClauseResult) (id : ℕ) → did ≡ result_of c redundant s →
     id ≡ id_of c s → stored_steps did s.known id redundant c ids ≡ steps_of s redundant c ids
-stored_steps-is s redundant c ids did id d i = rw (d, i) (stored-is s redundant c ids)
+stored_steps-is s redundant c ids did id d i = rw (d, i) (grind (arith, and-false))
 
 -- what is left after the check, passed or refused
 pub check-after : (s : State) (c hs : List ℕ) → (check s c hs accept).after ≡ ready s c
@@ -42,17 +39,15 @@ module _ (s : State) (redundant : Bool) (c hs : List ℕ) where
   steps-refused cause e = rw e
 
   pub steps-unchecked : (cause : Cause) → (check s c hs accept).refused ≡ Some cause → [] ≡ derived_steps s redundant c hs
-  steps-unchecked cause e = steps-refused cause (ap (λ (x : Outcome). x.refused) (derived-unchecked cause e))
+  steps-unchecked cause e = grind (arith, e)
 
   -- the check passes, and leaves t
   module _ {t : State} (passed : ((check s c hs accept).refused ≡ None) × (t ≡ (check s c hs accept).after)) where
     -- the clause is stored, which leaves u
     module _ {u : State} {id : ℕ} {did : StoreClauseResult} (stored : Stores c redundant t u id did) where
-      derived-is : derived s redundant c hs ≡ accept (store c redundant t)
-      derived-is = grind (arith, passed.0, passed.1, stored.room)
-
       pub derived-answer : ((derived s redundant c hs).refused ≡ None) × (u ≡ (derived s redundant c hs).after)
-      derived-answer = answers-accept derived-is stored.after
+      derived-answer =
+          let is : derived s redundant c hs ≡ accept (store c redundant t) = grind (arith, passed.0, passed.1, stored.room) in answers-accept is stored.after
 
       pub derived-steps : stored_steps did t.known id redundant c (check_trace (ready s c) c hs) ≡ derived_steps s redundant c hs
       derived-steps =

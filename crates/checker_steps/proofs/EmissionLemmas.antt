@@ -2,7 +2,7 @@
 --     all-one, all-fault, all-second      steps delivered on one after the other
 --     delivered-all, answers-delivers, answers-all, unless-stopped      the clauses of a step that ends with them
 --     delivered-refused      the clause of a refusal
-use Rattle.std.proofs.Common.{arith, ◌≡◌, List, [], ◌∷◌, ◌++◌, None, Result, Ok, Err, refl, sym, ap, subst}
+use Rattle.std.proofs.Common.{arith, ◌≡◌, List, [], ◌∷◌, ◌++◌, None, Result, Ok, Err, ap}
 use Rattle.checker_rules.specs.CheckedSteps.{NamedStep}
 use Rattle.checker_rules.specs.Emits.{Emits, EmitsRefused}
 use Rattle.checker_rules.specs.Outcome.{Outcome}

@@ -1,5 +1,5 @@
 -- Storing an input clause, and what it emits.
-use Rattle.std.proofs.Common.{◌≡◌, ℕ, ◌+◌, Bool, true, false, not, List, Some, None, refl, sym, ap, ◌∙◌, arith, lt-ltb}
+use Rattle.std.proofs.Common.{◌≡◌, ℕ, ◌+◌, Bool, true, false, not, List, Some, None, refl, ap, ◌∙◌, arith, lt-ltb}
 use Rattle.std.proofs.Math.Bool.{and-false}
 use Rattle.std.proofs.lemmas.Bool.{lt-leb}
 use Rattle.checker_rules.specs.AddClause.{store_input}
@@ -7,14 +7,14 @@ use Rattle.checker_rules.specs.Clauses.{is_tautology}
 use Rattle.checker_rules.specs.Emits.{emits_input, is_only_redundant}
 use Rattle.checker_rules.specs.Outcome.{Cause, Outcome, refuse}
 use Rattle.checker_rules.specs.State.{State}
-use Rattle.checker_rules.specs.Store.{count_limit, count_of, id_limit, id_of, stands, store, take_id}
+use Rattle.checker_rules.specs.Store.{count_limit, count_of, id_limit, stands, take_id}
 use Rattle.checker_rules.proofs.Entries.{rise_next}
 use Rattle.clause_store.specs.declared.clauses.Clauses.{Clauses}
 use Rattle.clause_store.specs.declared.clauses.StoreClauseResult.{StoreClauseResult}
 use Rattle.clause_store.specs.declared.clauses.StoreClauseResult.TheVariants as results
 use Rattle.clause_store.specs.declared.hash.ClauseHasher.{ClauseHasher}
 use Rattle.clause_store.specs.View.{stored_list}
-use Rattle.clause_store.specs.Store.{IsIndexed, IsStore, Stores, result_of, store_counters}
+use Rattle.clause_store.specs.Store.{IsStore, Stores, store_counters}
 use Rattle.checker_steps.specs.Added.{emitted_of}
 use Rattle.checker_steps.specs.InputCause.{HasCapacity}
 use Rattle.checker_steps.specs.declared.steps.add_clause.Added.TheVariants.{Tautology, New, Duplicate}
@@ -37,24 +37,6 @@ Tells results.New stood only_redundant = stood ≡ false
 Tells results.Duplicate stood only_redundant = (stood ≡ true) × (only_redundant ≡ false)
 Tells results.NewlyIrredundant stood only_redundant = (stood ≡ true) × (only_redundant ≡ true)
 
-tells : (c : List ℕ) (s : State) → Tells (result_of c false s) (stands c s) (is_only_redundant c s)
-tells c s = grind arith
-
--- storing takes no input
-store-inputs : (c : List ℕ) (s : State) → (store c false s).inputs ≡ s.inputs
-store-inputs c s = grind arith
-
--- storing a clause that stands takes no id
-stood-next : (c : List ℕ) (s : State) → stands c s ≡ true → (store c false s).next ≡ s.next
-stood-next c s h = grind (arith, h)
-
-stood-take : (c : List ℕ) (s : State) → stands c s ≡ true → store c false (take_id s) ≡ take_id (store c false s)
-stood-take c s h = grind (arith, h)
-
--- a clause that does not stand gets the next id
-fresh-id : (c : List ℕ) (s : State) → stands c s ≡ false → id_of c s ≡ s.next
-fresh-id c s h = grind (arith, h)
-
 -- a tautology takes an id
 module _ (c : List ℕ) (s : State) (e : true ≡ is_tautology c) where
   pub input-tautology : store_input c s ≡ take_id s
@@ -66,13 +48,13 @@ module _ (c : List ℕ) (s : State) (e : true ≡ is_tautology c) where
 -- storing leads from s to t
 module _ {c : List ℕ} {s t : State} {id : ℕ} {did : StoreClauseResult} (is : Stores c false s t id did) where
   pub told : {r : StoreClauseResult} → did ≡ r → Tells r (stands c s) (is_only_redundant c s)
-  told e = rw (← e, is.result_is) (tells c s)
+  told e = rw (← e, is.result_is) (grind arith)
 
   pub same-inputs : t.inputs ≡ s.inputs
-  same-inputs = ap (λ (u : State). u.inputs) is.after ∙ store-inputs c s
+  same-inputs = ap (λ (u : State). u.inputs) is.after ∙ grind arith
 
   pub same-next : stands c s ≡ true → t.next ≡ s.next
-  same-next h = ap (λ (u : State). u.next) is.after ∙ stood-next c s h
+  same-next h = ap (λ (u : State). u.next) is.after ∙ grind (arith, h)
 
   module _ (e : false ≡ is_tautology c) where
     -- a clause that is new
@@ -80,11 +62,11 @@ module _ {c : List ℕ} {s t : State} {id : ℕ} {did : StoreClauseResult} (is :
     input-new h = is.after ∙ rw (← e, h) refl
 
     pub emits-new : stands c s ≡ false → emitted_of (New id) c s.known ≡ emits_input c s
-    emits-new h = rw (is.id_is, fresh-id c s h, ← e, h) refl
+    emits-new h = grind (arith, is.id_is, e, h)
 
     -- a clause that stands takes an id of its own
     pub input-repeated : stands c s ≡ true → take_id t ≡ store_input c s
-    input-repeated h = ap take_id is.after ∙ sym (stood-take c s h) ∙ rw (← e, h) refl
+    input-repeated h = ap take_id is.after ∙ grind (arith, e, h)
 
     pub emits-repeated : (newly : Bool) → (stands c s ≡ true) × (is_only_redundant c s ≡ newly) →
         emitted_of (Duplicate t.next id newly) c s.known ≡ emits_input c s

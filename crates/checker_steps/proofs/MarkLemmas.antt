@@ -4,7 +4,7 @@ use Rattle.std.specs.List.{list_all}
 use Rattle.checker_rules.specs.Clauses.{add_lit, has, negate, var_of}
 use Rattle.checker_rules.specs.KnownVars.{is_known}
 use Rattle.checker_rules.specs.Model.{is_false_by_unit, model_cause}
-use Rattle.checker_rules.specs.Outcome.{Cause, model_against_itself, model_against_unit, model_misses_assumption, model_misses_clause, unknown_var}
+use Rattle.checker_rules.specs.Outcome.{Cause, model_against_itself, model_against_unit, model_misses_assumption, model_misses_clause}
 use Rattle.checker_rules.specs.State.{State}
 use Rattle.checker_steps.specs.Marks.{MarksOnly, is_marked}
 use Rattle.checker_steps.specs.ModelCause.{first_cause, has_marked, list_cause, lit_cause, missing_cause}
@@ -23,9 +23,6 @@ lit-none s f l known false_by opposite = rw (known, false_by, opposite) refl
 abbrev pub causes_from : State → (ℕ → Bool) → List ℕ → Option Cause
 causes_from s f [] = None
 causes_from s f (l ∷ ls) = first_cause (lit_cause s f l) (causes_from s (add_lit l f) ls)
-
-chain : (a b d : Bool) (x y z : Cause) (later : Option Cause) → first_cause (cond a (Some x) (cond b (Some y) (cond d (Some z) None))) later ≡ cond a (Some x) (cond b (Some y) (cond d (Some z) later))
-chain a b d x y z later = grind arith
 
 pub causes_from-listed : (s : State) (earlier ls : List ℕ) → causes_from s (λ k. has k earlier) ls ≡ model_cause s earlier ls
 causes_from-listed s earlier [] = refl

@@ -1,11 +1,9 @@
 -- The step of a model, by its cause.
-use Rattle.std.proofs.Common.{◌≡◌, ℕ, Bool, true, false, cond, not, List, [], ◌∷◌, Option, None, Some, refl, sym, ap, ◌∙◌, subst, arith}
-use Rattle.std.specs.List.{list_all}
-use Rattle.checker_rules.specs.Canonical.{is_subset}
+use Rattle.std.proofs.Common.{◌≡◌, ℕ, true, false, cond, List, [], ◌∷◌, Option, None, Some, refl, sym, ap, ◌∙◌, subst, arith}
 use Rattle.checker_rules.specs.CheckedSteps.{checked_model, named_in}
 use Rattle.checker_rules.specs.Emits.{Emits, EmitsBy}
-use Rattle.checker_rules.specs.Model.{has_some, model_cause, model_whole}
-use Rattle.checker_rules.specs.Outcome.{Cause, Outcome, accept, and_then_by, model_after_unsat, model_misses_assumption, model_misses_clause, refuse}
+use Rattle.checker_rules.specs.Model.{model_cause, model_whole}
+use Rattle.checker_rules.specs.Outcome.{Cause, Outcome, accept, and_then_by, model_after_unsat, refuse}
 use Rattle.checker_rules.specs.State.{State}
 use Rattle.checker_rules.specs.Step.{model}
 use Rattle.checker_rules.specs.Steps.{step}

@@ -1,13 +1,13 @@
 -- Derived units, one after the other.
-use Rattle.std.proofs.Common.{◌≡◌, arith, ℕ, ◌+◌, ◌<◌, add-one, drop, get_or, length, false, List, [], ◌∷◌, ◌++◌, Option, None, Some, Err, refl, sym, ap, ◌∙◌, subst}
+use Rattle.std.proofs.Common.{◌≡◌, arith, ℕ, ◌+◌, ◌<◌, add-one, drop, get_or, length, false, List, [], ◌∷◌, ◌++◌, Option, None, Some, Err, refl, sym, ap, ◌∙◌}
 use Rattle.std.proofs.Math.Seq.{drop-cons}
 use Rattle.std.proofs.lemmas.List.{append-nil, append_assoc}
 use Rattle.checker_rules.specs.CheckedSteps.{NamedStep}
-use Rattle.checker_rules.specs.Outcome.{Cause, Outcome, accept, and_then_by}
+use Rattle.checker_rules.specs.Outcome.{Cause}
 use Rattle.checker_rules.specs.State.{State}
 use Rattle.checker_rules.specs.Step.{unit_clauses}
 use Rattle.checker_rules.specs.Steps.{step}
-use Rattle.checker_rules.specs.Traced.{traced, traced_then, traced_units}
+use Rattle.checker_rules.specs.Traced.{traced, traced_units}
 use Rattle.checker_rules.specs.Transcript.{TranscriptStep}
 use Rattle.checker_rules.specs.UnitClauses.{step_unit, step_unit_clauses}
 use Rattle.checker_rules.specs.WellFormed.{WellFormed}
@@ -16,8 +16,7 @@ use Rattle.checker_rules.proofs.StepKinds.{step-unit_clauses}
 use Rattle.checker_parts.specs.Faults.{AnswersOutcome}
 use Rattle.checker_parts.specs.declared.error.StepFault.{StepFault}
 use Rattle.checker_parts.specs.declared.error.StepFault.TheVariants.{Refused, Processor, OutOfMemory}
-use Rattle.clause_store.proofs.RefusalLemmas.{answers-part}
-use Rattle.checker_steps.specs.Derived.{derived_steps, steps_unless}
+use Rattle.checker_steps.specs.Derived.{derived_steps}
 use Rattle.checker_steps.specs.Delivered.{Listeners, DeliveredList, DeliveredWhole, RanOver}
 use Rattle.checker_steps.proofs.DeliveryLemmas.{beginning-first, delivered-second}
 use Rattle.checker_rules.proofs.RanLemmas.{both_ran_append, both_ran_nil}

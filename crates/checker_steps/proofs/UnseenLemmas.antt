@@ -1,12 +1,10 @@
 -- Steps that transcripts can't tell apart, where no processor is registered.
-use Rattle.std.proofs.Common.{◌≡◌, ◌==◌, ℕ, Bool, true, not, List, [], ◌∷◌, length, Option, Result, Ok, Err, refl, sym, ap, ◌∙◌, subst, inl, inr, arith}
+use Rattle.std.proofs.Common.{◌≡◌, ◌==◌, ℕ, Bool, true, not, List, [], ◌∷◌, length, Result, refl, ap, ◌∙◌, subst, arith}
 use Rattle.std.proofs.lemmas.Bool.{ne_eqb}
 use Rattle.checker_rules.specs.CheckedSteps.{NamedStep, checked_at_clause}
-use Rattle.checker_rules.specs.Ran.{AllRan}
 use Rattle.checker_rules.specs.State.{Known}
-use Rattle.checker_rules.specs.Transcript.{TranscriptStep, and_images, image, image_of}
+use Rattle.checker_rules.specs.Transcript.{TranscriptStep, image, image_of}
 use Rattle.checker_parts.specs.declared.error.StepFault.{StepFault}
-use Rattle.checker_parts.specs.declared.error.StepFault.TheVariants.{Refused, Processor, OutOfMemory}
 use Rattle.checker_steps.specs.Derived.{IsTraceFor}
 use Rattle.checker_steps.specs.Delivered.{Listeners, DeliveredStep}
 

@@ -139,7 +139,11 @@ assume-met vs ss c i m less is v apart same =
 pub none_true-step : (vs : List (Option UnitClause)) (ss : List (Option StoredUnit)) (c : List ℕ) (i m : ℕ) → i < length c → m ≡ get_or c i m → true_lits vs m ≡ false
     → ((k : ℕ) → true_lits vs k ≡ start_set ss (take i c) k) → some_true_unit ss (take i c) ≡ false → some_true_unit ss (take (i + 1) c) ≡ false
 none_true-step vs ss c i m less is off same none =
-    cc (list_any_more (lit_by_unit ss) c i m less, or_from (some_true_unit ss (take i c)) (lit_by_unit ss (get_or c i m)) none (ap (lit_by_unit ss) (sym is) ∙ left_of (lit_by_unit ss m) (negated_set (take i c) m) (sym (same m) ∙ off)))
+    cc (
+      list_any_more (lit_by_unit ss) c i m less,
+      or_from (some_true_unit ss (take i c)) (lit_by_unit ss (get_or c i m)) none
+          (ap (lit_by_unit ss) (sym is) ∙ left_of (lit_by_unit ss m) (negated_set (take i c) m) (sym (same m) ∙ off)),
+    )
   where
     left_of : (a b : Bool) → (a || b) ≡ false → a ≡ false
     left_of true b e = e

@@ -52,7 +52,12 @@ is_last r n m = eqb (n - cond r 0 1) 0 && eqb (m - cond r 1 0) 0
 
 gone_lowered : (r : Bool) (c : List ℕ) (e : Stored) → same_list e.lits c ≡ true → is_gone (lower r c e) ≡ is_last r e.irredundant e.redundant
 gone_lowered r c e same =
-    cc (elim r as (λ r. is_gone (cond r (record e { redundant = e.redundant - 1 }) (record e { irredundant = e.irredundant - 1 })) ≡ is_last r e.irredundant e.redundant) [ true ↦ ap (λ n. eqb n 0 && eqb (e.redundant - 1) 0) (nothing_less e.irredundant) | false ↦ ap (λ n. eqb (e.irredundant - 1) 0 && eqb n 0) (nothing_less e.redundant) ])
+    cc (elim r as (λ r. is_gone (cond r (record e { redundant = e.redundant - 1 }) (record e { irredundant = e.irredundant - 1 })) ≡ is_last r
+    e.irredundant e.redundant) [
+      | true ↦ ap (λ n. eqb n 0 && eqb (e.redundant - 1) 0) (nothing_less e.irredundant)
+      | false ↦ ap
+          (λ n. eqb (e.irredundant - 1) 0 && eqb n 0) (nothing_less e.redundant)
+    ])
   where
     nothing_less : (n : ℕ) → n ≡ n - 0
     nothing_less n = omega arith

@@ -95,7 +95,12 @@ files-raised h cs es m r c f p = record {
 -- a clause more is stored
 whole-push : (es : List Stored) (r : Bool) (c : List ℕ) (id : ℕ) → list_all is_whole es ≡ true → is_short c ≡ false → list_all is_whole (es ++ new_stored r c id ∷ []) ≡ true
 whole-push es r c id all long =
-    cc (list_all-append is_whole es (new_stored r c id ∷ []), elim r as (λ r. ((not (is_short c) && not (eqb (cond r 0 1) 0 && eqb (cond r 1 0) 0)) && true) ≡ true) [ true ↦ ap (λ b. (not b && true) && true) long | false ↦ ap (λ b. (not b && true) && true) long ])
+    cc (
+      list_all-append is_whole es (new_stored r c id ∷ []),
+      elim r as (λ r.
+          ((not (is_short c) && not (eqb (cond r 0 1) 0 && eqb (cond r 1 0) 0)) && true) ≡ true)
+          [ true ↦ ap (λ b. (not b && true) && true) long | false ↦ ap (λ b. (not b && true) && true) long ],
+    )
 
 pub files-pushed : (h : ClauseHasher) (cs cs' : Clauses) (es : List Stored) (r : Bool) (c : List ℕ) → IsIndexed h cs es →
     IsPushed (hash_of h c) (new_stored r c cs.next_clause_id) cs cs' → is_stored c es ≡ false → is_short c ≡ false →

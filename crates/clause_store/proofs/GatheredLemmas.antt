@@ -63,7 +63,12 @@ module _ (h : ClauseHasher) (cs : Clauses) (es : List Stored) (f : IsIndexed h c
 
   pub in_other_order : IsPermutation es (map (stored_of cs.literal_buffer.items) (flat_map (λ b. b.items) (values cs.buckets)))
   in_other_order =
-      subst (IsPermutation es) (cc (flat_map-entries cs.literal_buffer.items cs.buckets cs.buckets.entries (found_all cs.literal_buffer.items cs.buckets unique), flat_map-same (stored_in cs.literal_buffer.items cs.buckets) (λ k. of_hash (hash_of h) k es) f.bucketed (keys cs.buckets)))
+      subst (IsPermutation es) (cc (
+        flat_map-entries cs.literal_buffer.items cs.buckets cs.buckets.entries
+            (found_all cs.literal_buffer.items cs.buckets unique),
+        flat_map-same (stored_in cs.literal_buffer.items cs.buckets) (λ k. of_hash (hash_of h) k es)
+            f.bucketed (keys cs.buckets),
+      ))
       (covers _ _ es unique covered)
 
   -- sorted by their ids

@@ -63,7 +63,14 @@ is_idle_since-walked us vs run now cs buffer b h falsified found g none w l = re
   idle = λ e.
       let u : us ≡ vs = sym (g.units.still (sym e)) in
       let i : run.trace.items ≡ now.trace.items = sym (g.ids.still (sym e)) in
-      rw found (record { walk = subst (λ (ws : List (Option UnitClause)). Walks ws (lits_in buffer cs) vs false) u (subst (λ (f : Bool). Walks us (lits_in buffer cs) vs f) none w); listed = subst (λ (ws : List (Option UnitClause)). Lists now.trace.items ws (map (stored_of buffer) cs) now.trace.items vs false) u (subst (λ (ids : List ℕ). Lists ids us (map (stored_of buffer) cs) now.trace.items vs false) i (subst (λ (f : Bool). Lists run.trace.items us (map (stored_of buffer) cs) now.trace.items vs f) none l)) });
+      rw found (record {
+        walk = subst (λ (ws : List (Option UnitClause)). Walks ws (lits_in buffer cs) vs false) u
+            (subst (λ (f : Bool). Walks us (lits_in buffer cs) vs f) none w);
+        listed = subst
+            (λ (ws : List (Option UnitClause)). Lists now.trace.items ws (map (stored_of buffer) cs) now.trace.items vs false) u
+            (subst (λ (ids : List ℕ). Lists ids us (map (stored_of buffer) cs) now.trace.items vs false) i
+            (subst (λ (f : Bool). Lists run.trace.items us (map (stored_of buffer) cs) now.trace.items vs f) none l));
+      });
 }
 
 are_idle-added : (found more : ℕ → Option ℕ) (n now h : ℕ) (Idle : ℕ → Type 0) → ((k : ℕ) → more k ≡ cond (nat_eq h k) (Some n) (found k)) →

@@ -105,7 +105,8 @@ module _ (h : ClauseHasher) (cs cs' : Clauses) (c : List ℕ) (r : Bool) (long :
       let es = stored_list cs ++ new_stored r c cs.next_clause_id ∷ [] in
       let after : State = record before { clauses = es; next = cs.next_clause_id + 1 } in
       subst (λ t. Stores c r before t p.0 p.1)
-      (cc (state_of-pushed st h cs cs' known (hash_of h c) (new_stored r c cs.next_clause_id) es a.2 (stored_list-is h cs' es (files-pushed h cs cs' (stored_list cs) r c s.filed a.2 new (long_is c long)))))
+      (cc (state_of-pushed st h cs cs' known (hash_of h c) (new_stored r c cs.next_clause_id) es a.2
+      (stored_list-is h cs' es (files-pushed h cs cs' (stored_list cs) r c s.filed a.2 new (long_is c long)))))
       (subst (λ (x : ℕ × StoreClauseResult). Stores c r before after x.0 x.1) (cc) (long-new c r before long new a.0))
   answers-pushed st known (Err OutOfMemory) a = tt
   answers-pushed st known (Err IdsExhausted) a = (answers-ids c r (state_of st h cs known) (long-other c (state_of st h cs known) long ∙ new) a.0, cc)

@@ -111,7 +111,11 @@ without-is us m w known new free = λ i k. point k i
     apart k ne = cc (ne_eqb k (negate m) (λ e. ne (ap var_of e ∙ var-negate m)), ne_eqb (var_of k) (var_of m) ne)
 
     point : (k : ℕ) → without_lit (negate m) (unlisted_lits us) k ≡ unlisted_lits (set us (var_of m) (Some w)) k
-    point k = cc (⊎_elim {C = without_lit (negate m) (unlisted_lits us) k ≡ (unlisted_lits us k && not (eqb (var_of k) (var_of m)))} (here k) (apart k) (cases_eq (var_of k) (var_of m)), unlisted_lits-set us (var_of m) k w known new)
+    point k = cc (
+      ⊎_elim {C = without_lit (negate m) (unlisted_lits us) k ≡ (unlisted_lits us k && not (eqb (var_of k) (var_of m)))} (here k) (apart k)
+          (cases_eq (var_of k) (var_of m)),
+      unlisted_lits-set us (var_of m) k w known new,
+    )
 
 -- the id of a stored unit
 number-is : (o : Option UnitClause) (n : ℕ) → stored_id o ≡ Some n → unit_id (option_map stored_unit o) ≡ n

@@ -90,7 +90,13 @@ unlisted_lits-free us m w known new free n = λ i k. point k i
     and_true false = refl
 
     point : (k : ℕ) → unlisted_lits (set us (var_of m) (Some w)) k ≡ unlisted_lits us k
-    point k = cc (unlisted_lits-set us (var_of m) k w known new, ⊎_elim {C = (unlisted_lits us k && not (eqb (var_of k) (var_of m))) ≡ unlisted_lits us k} (λ (e : var_of k ≡ var_of m). ap (λ b. b && not (eqb (var_of k) (var_of m))) (none k e) ∙ sym (none k e)) (λ (ne : var_of k ≡ var_of m → ⊥). ap (λ b. unlisted_lits us k && not b) (ne_eqb (var_of k) (var_of m) ne) ∙ and_true (unlisted_lits us k)) (cases_eq (var_of k) (var_of m)))
+    point k = cc (
+      unlisted_lits-set us (var_of m) k w known new,
+      ⊎_elim {C = (unlisted_lits us k && not (eqb (var_of k) (var_of m))) ≡ unlisted_lits us k}
+          (λ (e : var_of k ≡ var_of m). ap (λ b. b && not (eqb (var_of k) (var_of m))) (none k e) ∙ sym (none k e))
+          (λ (ne : var_of k ≡ var_of m → ⊥). ap (λ b. unlisted_lits us k && not b) (ne_eqb (var_of k) (var_of m) ne) ∙ and_true (unlisted_lits us k))
+          (cases_eq (var_of k) (var_of m)),
+    )
 
 pub lists-unit : (ids ids_now ids_last : List ℕ) (us vs ws : List (Option UnitClause)) (e : Stored) (m : ℕ) (w : UnitClause) →
     AreKnown vs e.lits → IsLooked ids ids_now us vs e (statuses.Unit m) → ids_last ≡ ids_now ++ e.id ∷ []
@@ -104,14 +110,25 @@ lists-unit ids ids_now ids_last us vs ws e m w known h last new added written re
     ap unlisted_lits written ∙ unlisted_lits-free vs m w less new (ap (λ s. s m) h.same ∙ free.not_true)
     (ap (λ s. s (negate m)) h.same ∙ free.not_false) ∙ sym (ap (λ p. p.1) h.listed) in
     let keeps : KeepsStored us ws = keeps-then us vs ws h.kept (subst (KeepsStored vs) (cc) (keeps-set vs (var_of m) w less new)) in
-    rw (by_status ids us e rest (statuses.Unit m) h.status, with_ids-prepend ids (v.items ++ stored_item e ∷ []) (trace (stored_units us) (add_lit m (true_lits us)) v.unlisted rest), named-last ids ids_now v.items (stored_item e) (ap (λ p. p.0) h.listed), ← last, goes_on us ws (add_lit m (true_lits us)) v.unlisted rest keeps added unlisted) refl
+    rw (
+      by_status ids us e rest (statuses.Unit m) h.status,
+      with_ids-prepend ids (v.items ++ stored_item e ∷ [])
+          (trace (stored_units us) (add_lit m (true_lits us)) v.unlisted rest),
+      named-last ids ids_now v.items (stored_item e) (ap (λ p. p.0) h.listed),
+      ← last,
+      goes_on us ws (add_lit m (true_lits us)) v.unlisted rest keeps added unlisted,
+    ) refl
 
 -- the trace of the walk from the values with the negated clause
 pub open_trace-is : (ids t : List ℕ) (us vs : List (Option UnitClause)) (c : List ℕ) (es : List Stored) → ids ≡ [] → KeepsStored us vs →
     true_lits vs ≡ start_set (stored_units us) c → unlisted_lits vs ≡ unlisted_at (stored_units us) c → ids_after ids vs es ≡ Some t →
     t ≡ ids_of (open_trace (stored_units us) c es)
 open_trace-is ids t us vs c es none kept start unlisted h =
-    cc (found (trace (stored_units vs) (true_lits vs) (unlisted_lits vs) es) (ap (λ xs. ids_after xs vs es) (sym none) ∙ h), goes_on us vs (start_set (stored_units us) c) (unlisted_at (stored_units us) c) es kept start unlisted)
+    cc (
+      found (trace (stored_units vs) (true_lits vs) (unlisted_lits vs) es) (ap (λ xs. ids_after xs vs es) (sym none) ∙ h),
+      goes_on us vs
+          (start_set (stored_units us) c) (unlisted_at (stored_units us) c) es kept start unlisted,
+    )
   where
     found : (o : Option (List Item)) → option_map (λ items. [] ++ item_ids items) o ≡ Some t → t ≡ ids_of o
     found None e = absurd (cc)

@@ -107,7 +107,11 @@ on_visit-agree v x s go to h = by_satisfied v.satisfied v.free
 pub trace-agree : (us vs : List (Option StoredUnit)) (s g : ℕ → Bool) (es : List Stored) → AgreeOn g us vs → trace us s g es ≡ trace vs s g es
 trace-agree us vs s g [] h = refl
 trace-agree us vs s g (e ∷ es) h =
-    cc (visit-agree vs us s g e.lits h, on_visit-agree (visit vs s g e.lits) (stored_item e) s (λ r k. trace us r k es) (λ r k. trace vs r k es) (λ r. trace-agree us vs r (visit vs s g e.lits).unlisted es (λ k y. h k (visit-unlisted vs s g e.lits k y))))
+    cc (
+      visit-agree vs us s g e.lits h,
+      on_visit-agree (visit vs s g e.lits) (stored_item e) s (λ r k. trace us r k es) (λ r k. trace vs r k es)
+          (λ r. trace-agree us vs r (visit vs s g e.lits).unlisted es (λ k y. h k (visit-unlisted vs s g e.lits k y))),
+    )
 
 -- how the trace goes on after a clause, by what follows from it
 abbrev pub on_status : ClauseStatus → Visit → Item → (ℕ → Bool) → ((ℕ → Bool) → (ℕ → Bool) → Option (List Item)) → Option (List Item)

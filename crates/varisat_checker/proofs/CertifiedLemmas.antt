@@ -43,7 +43,8 @@ certifies-adds r s u cs form h =
     certifies-calls r _ _ _ form (λ P p. unless_failed P _ (subst P (sym (formulas_are_fold.state s cs)) p) r u h)
 
 -- what a run emits is what some calls emit
-run-calls : (s : State) (here : Place) (steps : List Step) (es : List NamedStep) → EmitsRun next_of s here steps es → (calls : List Call) × EmitsCalls s calls es
+run-calls : (s : State) (here : Place) (steps : List Step) (es : List NamedStep) → EmitsRun next_of s here steps es →
+    (calls : List Call) × EmitsCalls s calls es
 run-calls s here [] es h = (last_calls next_of s here, h)
 run-calls s here (step ∷ steps) es h =
     let later = run-calls (attempt s step).after h.0 steps h.3 h.5 in (checks step ∷ later.0, (h.2, h.3, h.4, later.1, h.6))

@@ -18,60 +18,61 @@ record Same (s t : State) : Type 0 where
   steps : t.steps ≡ s.steps
   failed : t.failed ≡ s.failed
 
--- what is the same of both branches of a test
-one : (s : State) (b : Bool) (t u : State) → Same s t → Same s u → Same s (cond b t u)
-one s true t u h k = h
-one s false t u h k = k
+-- what is the same of both branches of a test, of states and of outcomes
+branch-same : (s : State) (b : Bool) (t u : State) → Same s t → Same s u → Same s (cond b t u)
+branch-same s true t u h k = h
+branch-same s false t u h k = k
 
-either : (s : State) (b : Bool) (o p : Outcome) → Same s o.after → Same s p.after → Same s (cond b o p).after
-either s true o p h k = h
-either s false o p h k = k
+outcome-same : (s : State) (b : Bool) (o p : Outcome) → Same s o.after → Same s p.after → Same s (cond b o p).after
+outcome-same s true o p h k = h
+outcome-same s false o p h k = k
 
-here : (s t : State) → t.steps ≡ s.steps → t.failed ≡ s.failed → Same s t
-here s t e f = record { steps = e; failed = f }
+fields-same : (s t : State) → t.steps ≡ s.steps → t.failed ≡ s.failed → Same s t
+fields-same s t e f = record { steps = e; failed = f }
 
 unit-same : (l : ℕ) (o : Option StoredUnit) (s r : State) → Same s r → Same s (store_unit l o r)
-unit-same l None s r h = here s _ h.steps h.failed
-unit-same l (Some u) s r h = search (rules, one, here, h.steps, h.failed)
+unit-same l None s r h = fields-same s _ h.steps h.failed
+unit-same l (Some u) s r h = search (rules, branch-same, fields-same, h.steps, h.failed)
 
 store-same : (c : List ℕ) (redundant : Bool) (s r : State) → Same s r → Same s (store c redundant r)
-store-same [] redundant s r h = here s _ h.steps h.failed
+store-same [] redundant s r h = fields-same s _ h.steps h.failed
 store-same (l ∷ []) redundant s r h = unit-same l _ s r h
-store-same (l ∷ k ∷ ls) redundant s r h = search (rules, one, here, h.steps, h.failed)
+store-same (l ∷ k ∷ ls) redundant s r h = search (rules, branch-same, fields-same, h.steps, h.failed)
 
 derived-same : (c : List ℕ) (redundant : Bool) (s r : State) → Same s r → Same s (store_derived c redundant r)
 derived-same c true s r h = store-same c true s r h
-derived-same c false s r h = let k = store-same c false s r h in here s _ k.steps k.failed
+derived-same c false s r h = let k = store-same c false s r h in fields-same s _ k.steps k.failed
 
 ready-same : (s : State) (c : List ℕ) → Same s (ready s c)
-ready-same s c = let k : Same s (apply_if_named s) = search (rules, one, here) in here s _ k.steps k.failed
+ready-same s c = let k : Same s (apply_if_named s) = search (rules, branch-same, fields-same) in fields-same s _ k.steps k.failed
 
 justified-same : (j : Justification) (c : List ℕ) (s : State) → Same s (justified j c s).after
-justified-same by_redundant c s = search (rules, either, here)
-justified-same _ c s = search (rules, either, here)
+justified-same by_redundant c s = search (rules, outcome-same, fields-same)
+justified-same _ c s = search (rules, outcome-same, fields-same)
 
-then-same : (s r : State) (refused : Option Cause) (next : State → Outcome) → Same s r → Same s (next r).after → Same s (and_then_by refused r next).after
+then-same : (s r : State) (refused : Option Cause) (next : State → Outcome) → Same s r → Same s (next r).after →
+    Same s (and_then_by refused r next).after
 then-same s r None next h k = k
 then-same s r (Some cause) next h k = h
 
-unit-kept : (s r : State) (p : ℕ × ℕ) → Same s r → Same s (step_unit r p).after
-unit-kept s r p h =
-    let k = ready-same r (p.0 ∷ []) in let q : Same s (ready r (p.0 ∷ [])) = here s _ (k.steps ∙ h.steps) (k.failed ∙ h.failed) in
-    search (rules, either, q, unit-same)
+unit_step-same : (s r : State) (p : ℕ × ℕ) → Same s r → Same s (step_unit r p).after
+unit_step-same s r p h =
+    let k = ready-same r (p.0 ∷ []) in let q : Same s (ready r (p.0 ∷ [])) = fields-same s _ (k.steps ∙ h.steps) (k.failed ∙ h.failed) in
+    search (rules, outcome-same, q, unit-same)
 
 units-same : (s r : State) (ps : List (ℕ × ℕ)) → Same s r → Same s (step_unit_clauses r ps).after
 units-same s r [] h = h
 units-same s r (p ∷ ps) h =
-    let k = unit-kept s r p h in
+    let k = unit_step-same s r p h in
     then-same s (step_unit r p).after (step_unit r p).refused (λ q. step_unit_clauses q ps) k (units-same s (step_unit r p).after ps k)
 
 -- every step
 step-same : (s : State) (t : Step) → Same s (step s t).after
 unfolding step
-step-same s (unit_clauses units) = units-same s s units (here s s refl refl)
-step-same s (user_var_name x None) = search (rules, either, here)
-step-same s (at_clause redundant c hashes) = search (rules, either, derived-same, ready-same) depth 8
-step-same s _ = search (rules, either, here, one, store-same, ready-same, justified-same, then-same)
+step-same s (unit_clauses units) = units-same s s units (fields-same s s refl refl)
+step-same s (user_var_name x None) = search (rules, outcome-same, fields-same)
+step-same s (at_clause redundant c hashes) = search (rules, outcome-same, derived-same, ready-same) depth 8
+step-same s _ = search (rules, outcome-same, fields-same, branch-same, store-same, ready-same, justified-same, then-same)
 
 -- an input clause leaves whether the checker has failed
 pub add-failed : (s : State) (c : List ℕ) → (step s (add_clause c)).after.failed ≡ s.failed

@@ -2,7 +2,7 @@
 --     ReadDelivered      the clauses given so far, and what was delivered on of them
 --     delivered-nothing, delivered-more      the loop's start, and a turn of it
 --     delivered-stops, delivered-ends, delivered-fault      how it ends
-use Rattle.std.proofs.Common.{◌≡◌, ℕ, Bool, true, false, List, [], ◌∷◌, ◌++◌, Option, None, Result, Ok, Err, refl}
+use Rattle.std.proofs.Common.{◌≡◌, ℕ, Bool, true, false, List, [], ◌∷◌, ◌++◌, Option, Result, Ok, Err, refl}
 use Rattle.checker_rules.specs.AddFormula.{add_clauses}
 use Rattle.checker_rules.specs.CallEmissions.{EmitsCall}
 use Rattle.checker_rules.specs.Calls.{adds}
@@ -19,7 +19,7 @@ use Rattle.sat_formula.specs.declared.dimacs.DimacsReader.{DimacsReader}
 use Rattle.sat_formula.specs.declared.fault.DimacsFault.{DimacsFault}
 use Rattle.sat_formula.specs.declared.fault.DimacsFault.TheVariants as faults
 use Rattle.sat_formula.specs.DimacsReader.{IsNext, has_ended}
-use Rattle.sat_formula.specs.Whole.{FailsAfter, HasGiven, outcome_left}
+use Rattle.sat_formula.specs.Whole.{HasGiven, outcome_left}
 use Rattle.sat_formula.proofs.Whole.{BeginsWith-given, FailsAfter-given, HasGiven-more, HasGiven-nil, IsOutcome-ended}
 use Rattle.checker_parts.specs.Answers.{AnswersStep, AnswersText, UnlessTextFailed}
 use Rattle.checker_parts.specs.declared.error.CheckerError.{CheckerError}
@@ -81,12 +81,13 @@ module _ {R P T : Type 0} {remaining : R → Option (List ℕ)} {took : P → Na
     }
 
 module _ {R P T : Type 0} {remaining : R → Option (List ℕ)} {took faulted : P → NamedStep → P → Type 0}
-    {took_image faulted_image : T → TranscriptStep → T → Type 0} {known : Option (List ℕ)} {s : State} {first : DimacsReader R} {old : Listeners P T} (same : outcome_left remaining first ≡ outcome_of known)
+    {took_image faulted_image : T → TranscriptStep → T → Type 0} {known : Option (List ℕ)} {s : State} {first : DimacsReader R}
+    {old : Listeners P T} (same : outcome_left remaining first ≡ outcome_of known)
     (good : EntailsRedundant s) (form : WellFormed s) where
   module _ {u : State} {mid : DimacsReader R} {now : Listeners P T} (p : ReadDelivered remaining took took_image s first mid u old now)
       (new : DimacsReader R) (clause : List ℕ) where
-    ended : {w : State} {later : Listeners P T} (clauses : List (List ℕ)) (r : Result (Unit {0}) DimacsError) → EndsText (outcome_left remaining first) clauses r →
-        AnswersText r (add_clauses s clauses) w →
+    ended : {w : State} {later : Listeners P T} (clauses : List (List ℕ)) (r : Result (Unit {0}) DimacsError) →
+        EndsText (outcome_left remaining first) clauses r → AnswersText r (add_clauses s clauses) w →
         DeliveredText r (EmitsAdded s clauses) took faulted took_image faulted_image old later →
         TextRun known s r w took faulted took_image faulted_image old later
     ended {w} clauses r text a delivered = record {

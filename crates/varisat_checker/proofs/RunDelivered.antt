@@ -27,7 +27,8 @@ use Rattle.proof_bytes.specs.Taking.{Faults, IsBytes, Leads, stop_of}
 use Rattle.proof_bytes.specs.TextRuns.{BeginsTextOf, IsTextOf, RunsTo}
 use Rattle.proof_bytes.specs.Texts.{Place, next_of, start_of}
 use Rattle.proof_bytes.proofs.Leading.{Known, bytes_on}
-use Rattle.proof_bytes.proofs.TextRuns.{MayRead, SoFar, all_taken, found_fault, found_step, move_closed, move_exhausted, move_fault, move_step, nothing_yet, of_text, one_more, run_ends, some_taken}
+use Rattle.proof_bytes.proofs.TextRuns.{MayRead, SoFar, all_taken, found_fault, found_step, move_closed, move_exhausted, move_fault, move_step}
+use Rattle.proof_bytes.proofs.TextRuns.{nothing_yet, of_text, one_more, run_ends, some_taken}
 use Rattle.checker_parts.specs.Answers.{AnswersParts}
 use Rattle.checker_parts.specs.Causes.{cause_of}
 use Rattle.checker_parts.specs.Faults.{IsErrorOf}
@@ -217,7 +218,8 @@ module _ {P T : Type 0} {took faulted : P → NamedStep → P → Type 0} {took_
       let o = refuse steps_exhausted t in
       refuses form t mid o None
       (anywhere p.reads (EndsBy t o None) (λ there. (rw (going, none) refl, λ cause is. let moved = move_exhausted t there going none in cc))) e
-      (sets-stand p.sets (Err e)) (error-answers _ _ e o t h refl (refl, refl)) (error-delivered _ _ _ _ (EmitsLast t None) _ _ e mid mid h (silent took took_image t mid))
+      (sets-stand p.sets (Err e)) (error-answers _ _ e o t h refl (refl, refl))
+      (error-delivered _ _ _ _ (EmitsLast t None) _ _ e mid mid h (silent took took_image t mid))
 
   -- `End` was accepted, now or before
   pub delivered-closes : WellFormed s → (r : Answer) (u : State) (new : Listeners P T) → t.ended ≡ true → AnswersParts r (closing_conflict t) u →
@@ -254,6 +256,7 @@ module _ {P T : Type 0} {took faulted : P → NamedStep → P → Type 0} {took_
       (p.reads.goes q.taken) q.is_fault (begins p.reads _ _ q.bytes q.consumed) (λ run. (refl, run)) (silent took took_image t mid))
   delivered-faulted form (faults.Malformed kind) e u q may counted is =
       let k = over p.reads _ _ q.bytes q.consumed (λ there. next_at there.0 there.1 ≡ Err (Wrong kind)) q.is_fault in
-      rw is (stopped form u mid (Wrong kind) (ParseError u.steps kind) _ k.there may counted k.goes k.here k.is_text (λ run. (refl, run)) (silent took took_image t mid))
+      rw is (stopped form u mid (Wrong kind) (ParseError u.steps kind) _ k.there may counted k.goes k.here k.is_text (λ run. (refl, run))
+      (silent took took_image t mid))
   delivered-faulted form faults.OutOfMemory e u q may counted is = rw is (parts-run form u mid (Err OutOfMemory) p.reads.taken
       (sets-counted p.sets (Err OutOfMemory) u counted) (some_taken _ _ _ p.reads.bytes p.reads.consumed) tt tt)

@@ -45,7 +45,8 @@ returns-in_err-emit_unit-clause-delivered g c =
     let st = c.args.ctx.now.checker_state in let h = c.args.ctx.now.clause_hasher in let closed = c.in_ok-close_conflict_on.ensures in
     let e = err_from_is_err_and c.from_residual-in_err-emit_unit.result c.from_residual-in_err-emit_unit.ensures.1 in
     rw (e.1, e.2) (delivered-dropped _ g.P.ProofProcessor.faulted _ g.T.ProofTranscriptProcessor.faulted _ _ _ (known.state st h) named held
-    (Err c.in_err-emit_unit.field-0.0) (state_of st h c.close_conflict_on.new.clauses c.ensure_var.new.variables) _ _ (listeners_of c.emit_unit.new.processing) (closed.answer st h).0 (ap stored_units closed.units) refl
+    (Err c.in_err-emit_unit.field-0.0) (state_of st h c.close_conflict_on.new.clauses c.ensure_var.new.variables) _ _
+    (listeners_of c.emit_unit.new.processing) (closed.answer st h).0 (ap stored_units closed.units) refl
     (closed.delivered st h) (c.in_err-emit_unit.ensures.delivered st h))
 
 pub returns : goal.returns

@@ -14,7 +14,12 @@ returns-in-Some-raise-clause-found c =
 pub returns-in-Some-raise-clause-raised : goal.returns-in-Some-raise-clause-raised
 returns-in-Some-raise-clause-raised c =
     let d = c.index-bucket-at.result in
-    cc (c.in-Some-raise.ensures.1, c.index-bucket-at.is, raised-place c.args.buffer.now c.args.lits.now c.args.bucket.now c.in-Some.at d (sym c.in-Some.ensures) c.index-bucket-at.is c.args.redundant c.requires.apart)
+    cc (
+      c.in-Some-raise.ensures.1,
+      c.index-bucket-at.is,
+      raised-place c.args.buffer.now c.args.lits.now c.args.bucket.now c.in-Some.at d
+          (sym c.in-Some.ensures) c.index-bucket-at.is c.args.redundant c.requires.apart,
+    )
 
 pub returns-in-Some-raise-clause-room : goal.returns-in-Some-raise-clause-room
 returns-in-Some-raise-clause-room c =

@@ -53,7 +53,8 @@ returns-else-is_gone-clause-lowered c =
     let kept : is_gone (left_of clause) ≡ false = cc in
     let written : refill (length cs) cs c.replace.new.bucket ≡ set cs i clause =
     cc (refill-all cs (set cs i clause) (length-set cs i clause)) in
-    let inside : IsWithin clause.lits b = rw c.in-Some-lower.ensures.1 (lowered_within b r d (subst (λ (x : Clause). IsWithin x.lits b) (sym here) (c.requires.within i d (position-Some (is_of b ls) cs i d at).0))) in
+    let inside : IsWithin clause.lits b = rw c.in-Some-lower.ensures.1 (lowered_within b r d
+    (subst (λ (x : Clause). IsWithin x.lits b) (sym here) (c.requires.within i d (position-Some (is_of b ls) cs i d at).0))) in
     record {
       here = cc (lowered-place b ls cs i d at here r clause c.in-Some-lower.ensures.1 kept c.requires.apart c.requires.whole);
       within = subst (All P) (cc) (All-set P cs i clause inside c.requires.within);

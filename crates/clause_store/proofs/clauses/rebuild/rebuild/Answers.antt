@@ -36,7 +36,14 @@ bucket-step : (f : Clause → ℕ) (all : List Clause) (i : ℕ) (x : Clause) (o
 bucket-step f all i x old new hash less is at same pushed others k =
     let p : Clause → Bool = λ c. eqb (f c) k in
     let cut : take (i + 1) all ≡ take i all ++ x ∷ [] = cc (take_more all i x less) in
-    cc (⊎_elim {C = new k ≡ filter p (take i all) ++ filter p (x ∷ [])} (λ (e : k ≡ hash). ap new e ∙ pushed ∙ ap (λ j. old j ++ x ∷ []) (sym e) ∙ ap (λ ys. ys ++ x ∷ []) (same k) ∙ sym (ap (λ b. filter p (take i all) ++ cond b (x ∷ []) []) (eq-eqb (f x) k (sym at ∙ sym e)))) (λ (ne : k ≡ hash → ⊥). others k ne ∙ same k ∙ sym (append-nil (filter p (take i all))) ∙ sym (ap (λ b. filter p (take i all) ++ cond b (x ∷ []) []) (ne_eqb (f x) k (λ g. ne (sym g ∙ sym at))))) (cases_eq k hash), filter-append p (take i all) (x ∷ []))
+    cc (
+      ⊎_elim {C = new k ≡ filter p (take i all) ++ filter p (x ∷ [])} (λ (e : k ≡ hash). ap new e ∙ pushed ∙ ap (λ j. old j ++ x ∷ []) (sym e) ∙ ap
+          (λ ys. ys ++ x ∷ []) (same k) ∙ sym (ap (λ b. filter p (take i all) ++ cond b (x ∷ []) []) (eq-eqb (f x) k (sym at ∙ sym e))))
+          (λ (ne : k ≡ hash → ⊥). others k ne ∙ same k ∙ sym (append-nil (filter p (take i all))) ∙ sym
+          (ap (λ b. filter p (take i all) ++ cond b (x ∷ []) []) (ne_eqb (f x) k (λ g. ne (sym g ∙ sym at))))) (cases_eq k hash),
+      filter-append p (take i all)
+          (x ∷ []),
+    )
 
 pub loop-clause-preserved : goal.loop-clause-preserved
 loop-clause-preserved c =

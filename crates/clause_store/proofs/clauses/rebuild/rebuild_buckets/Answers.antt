@@ -16,7 +16,8 @@ use Rattle.clause_store.proofs.clauses.rebuild.rebuild_buckets.Goals as goal
 pub rebuild-requires-clause-within : goal.rebuild-requires-clause-within
 rebuild-requires-clause-within c =
     let s = c.requires.filed in
-    rw c.deref-2.ensures.value (subst (All (λ (d : Clause). IsWithin d.lits c.args.clauses.now.literal_buffer.items)) (sym c.deref.ensures.value) (c.in_ok-all.ensures.within s.0 (stored_list c.args.clauses.now) s.1))
+    rw c.deref-2.ensures.value (subst (All (λ (d : Clause). IsWithin d.lits c.args.clauses.now.literal_buffer.items)) (sym c.deref.ensures.value)
+    (c.in_ok-all.ensures.within s.0 (stored_list c.args.clauses.now) s.1))
 
 -- what does not hang on the buckets stays
 files : (h g : ClauseHasher) (cs : Clauses) (m : Buckets) (es : List Stored) → 0 < h.hash_bits → h.hash_bits ≤ 64 → IsIndexed g cs es →

@@ -42,7 +42,9 @@ returns-in-Ok-Some-clause-answer c st known =
     let few : count_of r ls (stored_list cs) < count_limit =
     rw (← count_of-bucket h cs (stored_list cs) c.requires.store.filed r ls) (read (λ b k. count_of r ls (stored_in b cs.buckets k) < count_limit) _ _ _ _ e f p.room) in
     subst (λ t. Stores ls r s t id c.raised_as.result)
-    (cc (state_of-buckets st h cs known m (map (raise r ls) (stored_list cs)) (stored_list-is h (record cs { buckets = m }) (map (raise r ls) (stored_list cs)) (files-raised h cs (stored_list cs) m r ls c.requires.store.filed raised))))
+    (cc (state_of-buckets st h cs known m (map (raise r ls) (stored_list cs))
+    (stored_list-is h (record cs { buckets = m }) (map (raise r ls) (stored_list cs))
+    (files-raised h cs (stored_list cs) m r ls c.requires.store.filed raised))))
     (subst (λ x. Stores ls r s (record s { clauses = map (raise r ls) s.clauses }) id x) (cc) (long-stands ls r s id n c.requires.long found few))
 
 pub returns-in-Ok-Some-clause-store : goal.returns-in-Ok-Some-clause-store
@@ -80,7 +82,9 @@ returns-in-Ok-None-clause-store c =
 pub returns-in-Err-clause-answer : goal.returns-in-Err-clause-answer
 returns-in-Err-clause-answer c st known =
     let h = c.args.hasher.now in let cs = c.args.clauses.now in let ls = c.args.lits.now in let r = c.args.redundant in let m = c.raise_clause.new.buckets in
-    let many : count_limit ≤ count_of r ls (stored_list cs) = rw (← count_of-bucket h cs (stored_list cs) c.requires.store.filed r ls) (read (λ b k. count_limit ≤ count_of r ls (stored_in b cs.buckets k)) _ _ _ _ c.as_slice-buffer.ensures.value c.clause_hash-hash.ensures c.in-Err.ensures.exhausted) in (
+    let many : count_limit ≤ count_of r ls (stored_list cs) = rw (← count_of-bucket h cs (stored_list cs) c.requires.store.filed r ls)
+    (read (λ b k. count_limit ≤ count_of r ls (stored_in b cs.buckets k)) _ _ _ _ c.as_slice-buffer.ensures.value c.clause_hash-hash.ensures
+    c.in-Err.ensures.exhausted) in (
       long-full ls r _ c.requires.long many,
       state_of-buckets st h cs _ m _
           (stored_list-is h _ _

@@ -9,7 +9,11 @@ pub returns-in_ok-overwrite-clause-listed : goal.returns-in_ok-overwrite-clause-
 returns-in_ok-overwrite-clause-listed c = λ rest.
     let us = c.args.units.now in
     let found = sym (cc) ∙ c.in-Some.is in
-    cc (looked-listed c.args.trace.now.items us c.overwrite.new.units c.args.lit c.in-Some.id _ rest c.requires.known c.requires.is_false found c.is_negative.ensures refl c.in_ok-overwrite.ensures.ok, c.in_ok-push.ensures.items)
+    cc (
+      looked-listed c.args.trace.now.items us c.overwrite.new.units c.args.lit c.in-Some.id _ rest c.requires.known c.requires.is_false found
+          c.is_negative.ensures refl c.in_ok-overwrite.ensures.ok,
+      c.in_ok-push.ensures.items,
+    )
 
 pub returns-in_ok-overwrite-clause-true_lits : goal.returns-in_ok-overwrite-clause-true_lits
 returns-in_ok-overwrite-clause-true_lits c = ap true_lits c.in_ok-overwrite.ensures.ok ∙ true_lits-renamed _ _ _ c.requires.known c.requires.is_false c.is_negative.ensures

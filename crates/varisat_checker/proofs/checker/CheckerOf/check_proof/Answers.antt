@@ -6,7 +6,8 @@ use Rattle.varisat_checker.proofs.checker.CheckerOf.check_proof.Goals as goal
 
 pub returns-then-fails-clause-run : goal.returns-then-fails-clause-run
 unfolding state listeners
-returns-then-fails-clause-run g c = λ running. proof-run (c.args.self.now.entails running) (gave-up _ _ _ c.fails.ensures c.if-fails.true) c.check_proof-answer.ensures.run
+returns-then-fails-clause-run g c = λ running.
+    proof-run (c.args.self.now.entails running) (gave-up _ _ _ c.fails.ensures c.if-fails.true) c.check_proof-answer.ensures.run
 
 pub returns-else-fails-clause-run : goal.returns-else-fails-clause-run
 unfolding state listeners

@@ -11,7 +11,8 @@ use Rattle.varisat_checker.proofs.checker.CheckerOfSelfChecker.self_check_delaye
 pub returns-else-fails-clause-headline : goal.returns-else-fails-clause-headline
 unfolding state
 returns-else-fails-clause-headline g c = λ running before fold.
-    sets_fold-closing _ before _ _ (c.args.self.now.entails running) fold (went-on _ _ _ c.fails.ensures c.if-fails.false c.process_unit_conflicts-answer.ensures.answer)
+    sets_fold-closing _ before _ _ (c.args.self.now.entails running) fold
+    (went-on _ _ _ c.fails.ensures c.if-fails.false c.process_unit_conflicts-answer.ensures.answer)
 
 pub returns-else-fails-clause-covers : goal.returns-else-fails-clause-covers
 unfolding state
@@ -21,7 +22,8 @@ returns-else-fails-clause-covers g c = λ running before covered.
 pub returns-then-fails-clause-certified : goal.returns-then-fails-clause-certified
 unfolding state
 returns-then-fails-clause-certified g c = λ running.
-    certifies-call _ _ _ (fail (context_state c.process_unit_conflicts-answer.new.ctx)) closes (c.args.self.now.kept running).form c.process_unit_conflicts-answer.ensures.answer (gave-up _ _ _ c.fails.ensures c.if-fails.true)
+    certifies-call _ _ _ (fail (context_state c.process_unit_conflicts-answer.new.ctx)) closes
+    (c.args.self.now.kept running).form c.process_unit_conflicts-answer.ensures.answer (gave-up _ _ _ c.fails.ensures c.if-fails.true)
 
 pub returns-else-fails-clause-certified : goal.returns-else-fails-clause-certified
 unfolding state

@@ -23,7 +23,8 @@ returns-else-fails-clause-covers g c = λ running before covered.
 pub returns-then-fails-clause-certified : goal.returns-then-fails-clause-certified
 unfolding state
 returns-then-fails-clause-certified g c = λ running.
-    certifies-call _ _ _ (fail (context_state c.attempt_step-answer.new.ctx)) (checks (view c.args.step)) (c.args.self.now.kept running).form c.attempt_step-answer.ensures.step (gave-up _ _ _ c.fails.ensures c.if-fails.true)
+    certifies-call _ _ _ (fail (context_state c.attempt_step-answer.new.ctx)) (checks (view c.args.step))
+    (c.args.self.now.kept running).form c.attempt_step-answer.ensures.step (gave-up _ _ _ c.fails.ensures c.if-fails.true)
 
 pub returns-else-fails-clause-certified : goal.returns-else-fails-clause-certified
 unfolding state
@@ -33,12 +34,14 @@ returns-else-fails-clause-certified g c = λ running.
 pub returns-else-fails-clause-proves : goal.returns-else-fails-clause-proves
 unfolding state
 returns-else-fails-clause-proves g c = λ running before fold.
-    where-accepted _ _ _ (attempt_proves _ _ before (c.args.self.now.entails running) fold) (went-on _ _ _ c.fails.ensures c.if-fails.false c.attempt_step-answer.ensures.step)
+    where-accepted _ _ _ (attempt_proves _ _ before (c.args.self.now.entails running) fold)
+    (went-on _ _ _ c.fails.ensures c.if-fails.false c.attempt_step-answer.ensures.step)
 
 pub returns-else-fails-clause-refutes : goal.returns-else-fails-clause-refutes
 unfolding state
 returns-else-fails-clause-refutes g c = λ running before covered.
-    where-accepted _ _ _ (attempt_refutes _ _ before (c.args.self.now.entails running) covered) (went-on _ _ _ c.fails.ensures c.if-fails.false c.attempt_step-answer.ensures.step)
+    where-accepted _ _ _ (attempt_refutes _ _ before (c.args.self.now.entails running) covered)
+    (went-on _ _ _ c.fails.ensures c.if-fails.false c.attempt_step-answer.ensures.step)
 
 pub invariant_of-self-else-fails-clause-entails : goal.invariant_of-self-else-fails-clause-entails
 invariant_of-self-else-fails-clause-entails g c = λ running.
