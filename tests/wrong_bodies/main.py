@@ -21,7 +21,7 @@ import toolchain
 from functions import NoCopy, WrongBody
 
 ROOT = os.path.dirname(os.path.dirname(os.path.dirname(os.path.abspath(__file__))))
-BATCH = 40
+BATCH = 30
 
 
 def edits(crate):
@@ -124,54 +124,78 @@ def is_refused(wrong):
     return bool(re.match("not proved|no proof", said)) and not re.search("it calls|it passes|a call of", said)
 
 
-def try_crate(name):
-    """What there is to say of the crate's wrong bodies, and whether all are refused."""
-    crate, say = f"{ROOT}/crates/{name}", []
-    if not toolchain.check_crate(crate):
-        return [f"{name}: is not proved"], False
-    wrongs, controls = [], {}
-    for number, path in enumerate(edits(crate)):
-        wrong, control = WrongBody(path, number), WrongBody(path, number)
-        try:
-            wrong.place(crate)
-            control.place(crate, unchanged=True)
-        except NoCopy as why:
-            say.append(f"{name}/{wrong.label}: belongs into must-fail/: {why}")
-            continue
-        wrongs.append(wrong)
-        controls.setdefault((control.file, control.function.at), control)
-    controls = list(controls.values())
-    with tempfile.TemporaryDirectory(prefix="wrong-bodies-") as room:
-        toolchain.take_kept(crate, room)
-        for some in (controls, wrongs):
-            for at in range(0, len(some), BATCH):
-                judge(crate, some[at : at + BATCH], room)
-    for it in controls:
-        if not (it.said or "").startswith("proved"):
-            say.append(f"{name}/{it.function.name}: THE UNCHANGED COPY IS NOT PROVED: {(it.said or 'no line')[:300]}")
-    for it in wrongs:
-        if not is_refused(it):
-            say.append(f"{name}/{it.label}: NOT REFUSED: {it.function.name}: {(it.said or 'no line')[:300]}")
-    well = not say
-    say.append(f"{name}: {sum(map(is_refused, wrongs))} of {len(edits(crate))} refused, {len(controls)} unchanged copies tried")
-    if well:
-        with open(f"{crate}/wrong-bodies/REFUSED", "w", encoding="utf-8") as to:
-            to.write(record(crate))
-    return say, well
+class Trial:
+    """The wrong bodies of one crate, and an unchanged copy of each function that they are of."""
+
+    def __init__(self, name):
+        self.name, self.crate = name, f"{ROOT}/crates/{name}"
+        self.wrongs, self.controls, self.say = [], [], []
+
+    def begin(self):
+        """Proves the crate, and places the copies."""
+        if not toolchain.check_crate(self.crate):
+            self.say.append(f"{self.name}: is not proved")
+            return self
+        controls = {}
+        for number, path in enumerate(edits(self.crate)):
+            wrong, control = WrongBody(path, number), WrongBody(path, number)
+            try:
+                wrong.place(self.crate)
+                control.place(self.crate, unchanged=True)
+            except NoCopy as why:
+                self.say.append(f"{self.name}/{wrong.label}: belongs into must-fail/: {why}")
+                continue
+            self.wrongs.append(wrong)
+            controls.setdefault((control.file, control.function.at), control)
+        self.controls = list(controls.values())
+        return self
+
+    def batches(self):
+        both = [self.controls, self.wrongs]
+        return [some[at : at + BATCH] for some in both for at in range(0, len(some), BATCH)]
+
+    def try_batch(self, batch):
+        with tempfile.TemporaryDirectory(prefix="wrong-bodies-") as room:
+            toolchain.take_kept(self.crate, room)
+            judge(self.crate, batch, room)
+
+    def end(self):
+        """Says what is wrong, or else notes that all were refused; and answers whether they were."""
+        name, say = self.name, self.say
+        for it in self.controls:
+            if not (it.said or "").startswith("proved"):
+                say.append(f"{name}/{it.function.name}: THE UNCHANGED COPY IS NOT PROVED: {(it.said or 'no line')[:300]}")
+        for it in self.wrongs:
+            if not is_refused(it):
+                say.append(f"{name}/{it.label}: NOT REFUSED: {it.function.name}: {(it.said or 'no line')[:300]}")
+        well = not say
+        if well:
+            with open(f"{self.crate}/wrong-bodies/REFUSED", "w", encoding="utf-8") as to:
+                to.write(record(self.crate))
+        refused = sum(map(is_refused, self.wrongs))
+        say.append(f"{name}: {refused} of {len(edits(self.crate))} refused, {len(self.controls)} unchanged copies tried")
+        print(*say, sep="\n", flush=True)
+        return well
 
 
 def main(words):
     if words == ["--records"]:
         return check_records()
-    names = words or crates_with_wrong_bodies()
+    trials = [Trial(it) for it in words or crates_with_wrong_bodies()]
     jobs = int(os.environ.get("RT_JOBS", os.cpu_count() or 1))
-    all_well = True
     with concurrent.futures.ThreadPoolExecutor(jobs) as pool:
-        for tried in concurrent.futures.as_completed([pool.submit(try_crate, it) for it in names]):
-            say, well = tried.result()
-            all_well = all_well and well
-            print(*say, sep="\n", flush=True)
-    return 0 if all_well else 1
+        begun = [pool.submit(it.begin) for it in trials]
+        tried = {}
+        for it in concurrent.futures.as_completed(begun):
+            trial = it.result()
+            tried[trial] = [pool.submit(trial.try_batch, batch) for batch in trial.batches()]
+        well = []
+        for trial, batches in tried.items():
+            concurrent.futures.wait(batches)
+            for batch in batches:
+                batch.result()
+            well.append(trial.end())
+    return 0 if all(well) else 1
 
 
 sys.exit(main(sys.argv[1:]))

@@ -10,10 +10,8 @@ import os
 import shutil
 import subprocess
 import sys
-import threading
 
 RT = os.path.realpath(shutil.which("rt"))
-CHECKING, STARTING = threading.Lock(), threading.Lock()
 
 
 def load():
@@ -30,8 +28,8 @@ rtlib = rt.rtlib
 
 def check_crate(crate):
     """Proves the crate as it stands, over what an earlier check kept, with the libraries below it."""
-    with CHECKING:
-        return not subprocess.run(["rt", "check"], cwd=crate, stdout=subprocess.DEVNULL).returncode
+    ran = subprocess.run(["rt", "check", "--jobs", "1"], cwd=crate, stdout=subprocess.DEVNULL)
+    return not ran.returncode
 
 
 def take_kept(crate, room):
@@ -54,10 +52,8 @@ def check_copies(crate, names, room):
     words = [rtlib.RATTLE, "check", *of.words(["--jobs", "1"], keeps=False), "--incremental", f"{room}/over"]
     for name in names:
         words += ["--only", name]
-    with STARTING:
-        guard = rtlib.guarded()
     ran = subprocess.run(
-        [*guard, *words],
+        words,
         cwd=room,
         stdin=subprocess.DEVNULL,
         stdout=subprocess.PIPE,
