@@ -12,3 +12,4 @@ tests/end_to_end.sh
 tests/failing_files.sh
 tests/refused_growths.sh
 tests/log_lines.sh
+tests/bindings.sh
