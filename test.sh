@@ -5,6 +5,7 @@ set -euo pipefail
 cd "$(dirname "$0")"
 told=$(mktemp)
 trap 'rm -f "$told"' EXIT
+tests/documents.sh
 tests/wrong_bodies.sh --records
 rt ci 2>&1 | tee "$told"
 tests/weak_edits.sh "$told"
