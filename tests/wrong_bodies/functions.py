@@ -76,7 +76,8 @@ class WrongBody:
         with open(f"{crate}/{self.file}", encoding="utf-8") as source:
             text = source.read()
         lines = text.split("\n")
-        holders = {self.holder(text, functions(lines), old) for old, _ in self.pairs}
+        found = functions(lines)
+        holders = {self.holder(text, found, old) for old, _ in self.pairs}
         if len(holders) != 1 or None in holders:
             raise NoCopy("it is not in the body of one function")
         function = holders.pop()
