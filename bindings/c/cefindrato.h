@@ -25,7 +25,6 @@ typedef struct {
 /* What the library exports. No pointer may be null, also at length 0; `text` must overlap neither input. */
 cefindrato_answer cefindrato_lrat_check(const uint8_t *cnf, size_t cnf_len, const uint8_t *proof, size_t proof_len,
                                         uint8_t *text, size_t text_len);
-cefindrato_answer cefindrato_lrat_check_fd(int32_t cnf, int32_t proof, uint8_t *text, size_t text_len);
 
 /* Checks an LRAT text against a DIMACS text. `text` gets the text of a fault, cut at `text_len`. */
 static inline cefindrato_answer cefindrato_check(const void *cnf, size_t cnf_len, const void *proof, size_t proof_len,
@@ -38,15 +37,6 @@ static inline cefindrato_answer cefindrato_check(const void *cnf, size_t cnf_len
     return cefindrato_lrat_check(cnf ? (const uint8_t *)cnf : nothing, cnf_len,
                                  proof ? (const uint8_t *)proof : nothing, proof_len,
                                  text ? (uint8_t *)text : no_room, text_len);
-}
-
-/* Checks what two open descriptors give, as a pipe that a solver writes to. They are not closed. */
-static inline cefindrato_answer cefindrato_check_fd(int cnf, int proof, char *text, size_t text_len) {
-    uint8_t no_room[1];
-    cefindrato_answer null_given = {CEFINDRATO_NULL, 0};
-    if (!text && text_len)
-        return null_given;
-    return cefindrato_lrat_check_fd(cnf, proof, text ? (uint8_t *)text : no_room, text_len);
 }
 
 #ifdef __cplusplus

@@ -1,9 +1,8 @@
-/* The header's calls on real input, wrong proofs, null and empty, and a pipe; exits 0 if each answers what it must. */
+/* The header's calls on real input, wrong proofs, null and empty; exits 0 if each answers what it must. */
 #include "cefindrato.h"
 #include <stdio.h>
 #include <stdlib.h>
 #include <string.h>
-#include <unistd.h>
 
 static int wrong = 0;
 
@@ -28,14 +27,6 @@ static char *whole_file(const char *name, size_t *len) {
     return bytes;
 }
 
-static int pipe_with(const char *text) {
-    int ends[2];
-    if (pipe(ends) != 0 || write(ends[1], text, strlen(text)) != (ssize_t)strlen(text))
-        exit(2);
-    close(ends[1]);
-    return ends[0];
-}
-
 int main(int count, char **names) {
     const char *cnf = "1 2 0 1 -2 0 -1 2 0 -1 -2 0";
     const char *good = "5 1 0 1 2 0\n6 0 5 3 4 0\n";
@@ -55,12 +46,6 @@ int main(int count, char **names) {
     expect("empty", cefindrato_check(NULL, 0, NULL, 0, NULL, 0), CEFINDRATO_NOT_VERIFIED, "", room);
     expect("open clause", cefindrato_check("1 2", 3, good, strlen(good), room, sizeof room), CEFINDRATO_FAULT,
            "formula: line 1: unterminated clause", room);
-    expect("pipes", cefindrato_check_fd(pipe_with(cnf), pipe_with(good), room, sizeof room), CEFINDRATO_VERIFIED, "", room);
-    expect("bad pipe", cefindrato_check_fd(pipe_with(cnf), pipe_with(bad), room, sizeof room), CEFINDRATO_FAULT, cause, room);
-    if (cefindrato_check_fd(-1, -1, room, sizeof room).status != CEFINDRATO_FAULT) {
-        printf("closed descriptor: no fault\n");
-        wrong = 1;
-    }
     if (count == 3) {
         size_t formula_len, proof_len;
         char *formula = whole_file(names[1], &formula_len), *proof = whole_file(names[2], &proof_len);

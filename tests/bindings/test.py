@@ -1,4 +1,4 @@
-"""The Python binding on real input, a wrong proof, nothing, lines while they are made, and several threads."""
+"""The Python binding on real input, a wrong proof, nothing, and several threads."""
 
 import concurrent.futures
 import sys
@@ -16,21 +16,12 @@ def fault(call):
     return None
 
 
-def fed(lines):
-    solving = cefindrato.WhileSolving(FOUR)
-    for line in lines:
-        solving.feed(line)
-    return solving.finish()
-
-
 def main(cnf_name, proof_name):
     assert cefindrato.check(FOUR, b"5 1 0 1 2 0\n6 0 5 3 4 0\n") is True
     assert cefindrato.check(FOUR, b"5 1 0 1 2 0\n") is False
     assert cefindrato.check(b"", b"") is False
     cause = "proof: line 2: hints end without a conflict"
     assert fault(lambda: cefindrato.check(FOUR, b"5 1 0 1 2 0\n6 0 5 3 0\n")) == cause
-    assert fed([b"5 1 0 1 2 0\n", b"6 0 5 3 4 0\n"]) is True
-    assert fault(lambda: fed([b"5 1 0 1 2 0\n", b"6 0 5 3 0\n"])) == cause
     with open(cnf_name, "rb") as cnf, open(proof_name, "rb") as proof:
         formula, text = cnf.read(), proof.read()
     assert cefindrato.check(formula, text) is True

@@ -1,4 +1,4 @@
-//! The checker of LRAT proofs for callers in C: over two texts in memory, or over two open descriptors.
+//! The checker of LRAT proofs for callers in C: over two texts in memory.
 #![tactic(auto)]
 
 ghost use Rattle.std.specs.Prelude.{◌≡◌, Some, Result};
@@ -7,13 +7,10 @@ ghost use Rattle.lrat_check.specs.Verdicts.{status_of};
 ghost use Rattle.lrat_check.specs.declared.fault.RunFault.{RunFault};
 ghost use Rattle.lrat_check.specs.declared.verdict.Verdict.{Verdict};
 
-mod descriptor;
 mod text;
 
-use descriptor::Descriptor;
 use lrat_check::{RunFault, Verdict, exit_status, run_check};
 use std::alloc::Global;
-use std::io::Read;
 use text::put_fault;
 
 /// What a check answers: the exit status of the program `lrat_check`, and how many bytes of a
@@ -41,37 +38,11 @@ pub extern "C" fn cefindrato_lrat_check(
     ensures { (r : Result Verdict RunFault)
         × IsCheckRun (Some cnf.now) (Some proof.now) r × (result.status ≡ status_of r) }
 {
-    let outcome = check(alloc, cnf, proof);
-    Answer {
-        status: exit_status(&outcome),
-        text_len: put_fault(alloc, &outcome, text),
-    }
-}
-
-/// Checks what two open descriptors give, each read to its end or the proof to its first line with
-/// the empty clause. They are not closed.
-#[unsafe(no_mangle)]
-pub extern "C" fn cefindrato_lrat_check_fd(
-    alloc: Global,
-    cnf: i32,
-    proof: i32,
-    text: &mut [u8],
-) -> Answer {
-    let outcome = check(alloc, Descriptor::new(cnf), Descriptor::new(proof));
-    Answer {
-        status: exit_status(&outcome),
-        text_len: put_fault(alloc, &outcome, text),
-    }
-}
-
-/// Runs the check. The verdict's line goes to a buffer that is let go.
-fn check<F: Read + Drop, P: Read + Drop>(
-    alloc: Global,
-    cnf: F,
-    proof: P,
-) -> Result<Verdict, RunFault>
-    ensures { IsCheckRun (F.remaining cnf) (P.remaining proof) result }
-{
+    // The verdict's line goes to a buffer that is let go.
     let mut line = Vec::new(alloc);
-    run_check(alloc, cnf, proof, &mut line)
+    let outcome = run_check(alloc, cnf, proof, &mut line);
+    Answer {
+        status: exit_status(&outcome),
+        text_len: put_fault(alloc, &outcome, text),
+    }
 }
