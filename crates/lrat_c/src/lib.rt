@@ -1,7 +1,7 @@
 //! The checker of LRAT proofs for callers in C: over two texts in memory.
 #![tactic(auto)]
 
-ghost use Rattle.std.specs.Prelude.{◌≡◌, Some, Result};
+ghost use Rattle.std.specs.Prelude.{◌≡◌, ◌≤◌, Some, Result, length};
 ghost use Rattle.lrat_check.specs.Runs.{IsCheckRun};
 ghost use Rattle.lrat_check.specs.Verdicts.{status_of};
 ghost use Rattle.lrat_check.specs.declared.fault.RunFault.{RunFault};
@@ -35,8 +35,9 @@ pub extern "C" fn cefindrato_lrat_check(
     proof: &[u8],
     text: &mut [u8],
 ) -> Answer
-    ensures { (r : Result Verdict RunFault)
+    ensures run { (r : Result Verdict RunFault)
         × IsCheckRun (Some cnf.now) (Some proof.now) r × (result.status ≡ status_of r) }
+    ensures within { result.text_len ≤ length text.new }
 {
     // The verdict's line goes to a buffer that is let go.
     let mut line = Vec::new(alloc);

@@ -1,4 +1,6 @@
 //! Texts of faults.
+ghost use Rattle.std.specs.Prelude.{◌≤◌, length};
+
 use lrat_check::{RunFault, Verdict};
 use std::alloc::Global;
 
@@ -8,7 +10,9 @@ pub(crate) fn put_fault(
     alloc: Global,
     outcome: &Result<Verdict, RunFault>,
     room: &mut [u8],
-) -> usize {
+) -> usize
+    ensures { result ≤ length room.new }
+{
     let Err(fault) = outcome else {
         return 0;
     };
@@ -18,7 +22,9 @@ pub(crate) fn put_fault(
     put(text.as_bytes(), room)
 }
 
-fn put(text: &[u8], room: &mut [u8]) -> usize {
+fn put(text: &[u8], room: &mut [u8]) -> usize
+    ensures { result ≤ length room.new }
+{
     let len = text.len().min(room.len());
     room[..len].copy_from_slice(&text[..len]);
     len
