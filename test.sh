@@ -11,6 +11,7 @@ rt ci 2>&1 | tee "$told"
 tests/weak_edits.sh "$told"
 tests/end_to_end.sh
 tests/failing_files.sh
+tests/named_files.sh
 tests/refused_growths.sh
 tests/log_lines.sh
 tests/bindings.sh
