@@ -3,6 +3,7 @@
 --     HasAccepted formula lines c      the lines were accepted, and whether one of them added the empty clause is known
 --     IsReady formula lines c      and the checker holds what is stored after them
 --     IsAnswer formula lines line fault      the fault of a line after them
+--     HoldsLittle c      the clauses take little room that no clause uses
 use Rattle.std.specs.Prelude.{◌≡◌, ℕ, Bool, false, List, Some}
 use Rattle.checker_rules.specs.Hints.{Item}
 use Rattle.lrat_rules.specs.Lines.{Line, refutes, run}
@@ -11,6 +12,7 @@ use Rattle.lrat_rules.specs.Stores.{formula_store}
 use Rattle.lrat_rules.specs.Tables.{IsTableOf}
 use Rattle.lrat_checker.specs.Causes.{cause_of}
 use Rattle.lrat_checker.specs.Held.{table_of}
+use Rattle.lrat_checker.specs.Near.{IsTight}
 use Rattle.lrat_checker.specs.declared.checker.LratChecker.{LratChecker}
 use Rattle.lrat_checker.specs.declared.fault.LineFault.{LineFault}
 use Rattle.lrat_checker.specs.declared.fault.LineFault.TheVariants.{Failed, OutOfMemory, Refused}
@@ -43,3 +45,7 @@ IsAnswer formula lines line (Refused cause) = (store : List Item) →
     cause_of_line store line ≡ Some (cause_of cause)
 IsAnswer formula lines line OutOfMemory = Unit {0}
 IsAnswer formula lines line Failed = ⊥
+
+-- the buffer of literals has at most twice those of the clauses, or one more for each place of an id
+abbrev pub HoldsLittle : LratChecker → Type 0
+HoldsLittle c = IsTight c.clauses.near

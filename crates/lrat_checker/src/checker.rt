@@ -29,13 +29,14 @@ pub struct LratChecker {
 }
 
 impl LratChecker {
-    ghost use Rattle.lrat_checker.specs.Standing.{HasAccepted, IsAnswer, IsReady, has_failed, has_refuted};
+    ghost use Rattle.lrat_checker.specs.Standing.{HasAccepted, HoldsLittle, IsAnswer, IsReady, has_failed, has_refuted};
     ghost use Rattle.lrat_checker.specs.TextAnswers.{IfCut, IsCut, IsTextAnswer};
     ghost use Rattle.lrat_checker.specs.Faults.{of_text};
 
     /// A checker that holds the clauses of a formula under 1, 2 and so on.
     pub fn new(alloc: Global, formula: &CnfFormula) -> Result<LratChecker, AllocError>
-        ensures { IfOk result (λ checker. IsReady formula.now [] checker) }
+        ensures ready { IfOk result (λ checker. IsReady formula.now [] checker) }
+        ensures tight { IfOk result (λ checker. HoldsLittle checker) }
     {
         Ok(LratChecker {
             alloc,
@@ -72,6 +73,7 @@ impl LratChecker {
         ensures fails { OnErr result (has_failed self.new ≡ true) }
         ensures stays { OnErr result (has_refuted self.new ≡ has_refuted self.old) }
         ensures going { OnOk result (has_failed self.new ≡ false) }
+        ensures tight { HoldsLittle self.old → OnOk result (HoldsLittle self.new) }
         ensures failed { has_failed self.old ≡ true
             → (result ≡ Err Failed) × (self.new ≡ self.old) }
     {
@@ -99,6 +101,7 @@ impl LratChecker {
             → IsReady formula lines self.old
             → IfCut result (IsCut R.remaining (R.remaining proof) formula lines self.new) }
         ensures fails { OnErr result (has_failed self.new ≡ true) }
+        ensures tight { HoldsLittle self.old → OnOk result (HoldsLittle self.new) }
         ensures failed { has_failed self.old ≡ true
             → (result ≡ Err texts.Failed) × (self.new ≡ self.old) }
     {
@@ -115,6 +118,7 @@ impl LratChecker {
             → IsReady formula lines self.old
             → IfCut result (IsCut R.remaining (R.remaining proof) formula lines self.new) }
         ensures fails { OnErr result (has_failed self.new ≡ true) }
+        ensures tight { HoldsLittle self.old → OnOk result (HoldsLittle self.new) }
         ensures stops { has_failed self.old ≡ false → OnErr result (has_refuted self.new ≡ false) }
         ensures failed { has_failed self.old ≡ true
             → (result ≡ Err texts.Failed) × (self.new ≡ self.old) }
@@ -135,6 +139,7 @@ impl LratChecker {
             → IsReady formula lines self.old
             → IfCut result (IsCut R.remaining (R.remaining proof) formula lines self.new) }
         ensures fails { OnErr result (has_failed self.new ≡ true) }
+        ensures tight { HoldsLittle self.old → OnOk result (HoldsLittle self.new) }
         ensures stops { has_failed self.old ≡ false → until_refuted ≡ true
             → OnErr result (has_refuted self.new ≡ false) }
         ensures failed { has_failed self.old ≡ true
@@ -187,6 +192,7 @@ impl LratChecker {
         ensures err { IfErr result (λ stop.
             IsCause stop (cause_by_table (table_of self.old.clauses) (view line.entry))) }
         ensures kept { OnErr result (self.new.refuted ≡ self.old.refuted) }
+        ensures tight { HoldsLittle self.old → OnOk result (HoldsLittle self.new) }
     {
         match line {
             LratLine::Add { id, clause, hints } => {

@@ -4,9 +4,9 @@ use Rattle.lrat_rules.specs.Tables.{IsTableOf}
 use Rattle.lrat_rules.proofs.Tabling.{tables_decide}
 use Rattle.lrat_checker.proofs.checker.LratChecker.new.Goals as goal
 
-pub returns : goal.returns
-returns c = record {
+pub returns-clause-ready : goal.returns-clause-ready
+returns-clause-ready c = record {
   accepted = record { store = formula_store c.args.formula.now; ran = refl; refuted = refl };
-  table = subst (λ t. IsTableOf t (formula_store c.args.formula.now)) (sym c.in_ok-new.ensures) (tables_decide.formula c.args.formula.now);
+  table = subst (λ t. IsTableOf t (formula_store c.args.formula.now)) (sym c.in_ok-new.ensures.table) (tables_decide.formula c.args.formula.now);
   going = refl;
 }
