@@ -1,5 +1,5 @@
 //! The lines that go to the log.
-use crate::cuts::Cuts;
+use check_calls::cuts::Cuts;
 use log::sink::Memory;
 use std::alloc::Global;
 use std::io::{ErrorKind, Read};

@@ -1,6 +1,6 @@
 //! Reads that fail, and reads that are not made.
-use crate::calls::{make, prove, read};
-use crate::cuts::Cuts;
+use check_calls::calls::{make, prove, read};
+use check_calls::cuts::Cuts;
 use std::alloc::Global;
 use std::io::ErrorKind;
 use std::process::Abort;

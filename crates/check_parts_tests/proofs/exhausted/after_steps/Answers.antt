@@ -1,4 +1,4 @@
-use Rattle.check_vector_tests.proofs.exhausted.after_steps.Goals as goal
+use Rattle.check_parts_tests.proofs.exhausted.after_steps.Goals as goal
 
 pub returns : goal.returns
 returns g c =

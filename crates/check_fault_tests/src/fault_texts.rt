@@ -1,7 +1,7 @@
 //! The texts of what the calls answer in place of Ok.
-use crate::calls::{lits, var};
-use crate::cuts::Cuts;
-use crate::script::given;
+use check_calls::accepted::given;
+use check_calls::calls::{lits, var};
+use check_calls::cuts::Cuts;
 use checker_parts::error::CheckerError;
 use proof_bytes::ProofStep;
 use sat_formula::{Lit, Var};

@@ -3,12 +3,13 @@
 //! A line is
 //!
 //! - `new`: what follows is called of a new checker;
-//! - a call, as in [`crate::calls`];
+//! - a call, as in [`check_calls::calls`];
 //! - `given LITS`: an input clause that is accepted, of which nothing more is said;
 //! - `> + STEP`, `> ~ STEP`: processors, or transcripts, are told this step by the call above;
 //! - `> ANSWER`: what the call above answers where it isn't `Ok`;
 //! - `# WORDS`: why the script goes on so.
-use crate::calls::{first_word, lits, make};
+use check_calls::accepted::{given, register, register_transcript};
+use check_calls::calls::{first_word, make};
 use check_vectors::boxes::{Faulty, StepList, Tally, TranscriptList};
 use checker_parts::processor::{ProofProcessor, ProofTranscriptProcessor};
 use std::alloc::Global;
@@ -169,32 +170,5 @@ fn make_or_give(
             Ok(String::new(alloc))
         }
         _ => make(alloc, checker, line, size),
-    }
-}
-
-/// Adds an input clause, which is accepted.
-pub fn given(alloc: Global, checker: &mut Checker, numbers: &str) -> Result<(), Fail> {
-    match checker.add_clause(&lits(alloc, numbers)?) {
-        Ok(()) => Ok(()),
-        Err(_) => Err("a clause is refused".into()),
-    }
-}
-
-/// Registers a processor, which is not refused.
-pub fn register(checker: &mut Checker, processor: Box<dyn ProofProcessor>) -> Result<(), Fail> {
-    match checker.add_processor(processor) {
-        Ok(()) => Ok(()),
-        Err(_) => Err("a processor is refused".into()),
-    }
-}
-
-/// Registers a transcript, which is not refused.
-pub fn register_transcript(
-    checker: &mut Checker,
-    transcript: Box<dyn ProofTranscriptProcessor>,
-) -> Result<(), Fail> {
-    match checker.add_transcript(transcript) {
-        Ok(()) => Ok(()),
-        Err(_) => Err("a transcript is refused".into()),
     }
 }

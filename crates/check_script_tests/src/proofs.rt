@@ -1,7 +1,8 @@
 //! Proofs as bytes, and what a second proof finds.
-use crate::calls::{lits, prove};
-use crate::cuts::Cuts;
-use crate::script::{agrees, given};
+use crate::script::agrees;
+use check_calls::accepted::given;
+use check_calls::calls::{lits, prove};
+use check_calls::cuts::Cuts;
 use check_vectors::counting::count_steps;
 use log::sink::Discard;
 use sat_formula::CnfFormula;

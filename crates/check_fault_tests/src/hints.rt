@@ -1,6 +1,6 @@
 //! The writer of hints in a box of the checker: its text after calls, and the answer to a call that it can't write.
-use crate::calls::make;
-use crate::script::register;
+use check_calls::accepted::register;
+use check_calls::calls::make;
 use checker_parts::processor::ProofProcessor;
 use sat_hints::LratWriter;
 use std::alloc::Global;

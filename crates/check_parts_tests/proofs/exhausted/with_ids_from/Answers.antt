@@ -9,7 +9,7 @@ use Rattle.clause_store.specs.PartsInvariant.{PartsInvariant}
 use Rattle.clause_store.specs.StateOf.{state_of}
 use Rattle.clause_store.specs.Store.{IsIndexed, IsStore}
 use Rattle.clause_store.specs.View.{stored_list}
-use Rattle.check_vector_tests.proofs.exhausted.with_ids_from.Goals as goal
+use Rattle.check_parts_tests.proofs.exhausted.with_ids_from.Goals as goal
 
 form-next : (n : ℕ) → WellFormed (record new_state { next = n })
 form-next n = record {

@@ -1,7 +1,7 @@
 //! The calls of the module `variables`, over the parts of a checker.
 ghost use Rattle.std.specs.Prelude.{◌≡◌, length, true};
 
-use crate::calls::var;
+use check_calls::calls::var;
 use checker_parts::error::{CheckCause, StepFault};
 use sat_formula::Var;
 use std::process::Abort;

@@ -2,7 +2,7 @@
 ghost use Rattle.std.specs.Prelude.{◌≡◌, OnOk};
 ghost use Rattle.checker_steps.specs.Context.{ContextInvariant};
 
-use crate::calls::{hash, hashes, lits};
+use check_calls::calls::{hash, hashes, lits};
 use proof_bytes::ProofStep;
 use std::alloc::Global;
 use std::process::Abort;

@@ -2,7 +2,7 @@
 ghost use Rattle.std.specs.Prelude.{OnOk};
 ghost use Rattle.checker_steps.specs.Context.{ContextInvariant};
 
-use crate::calls::{hashes, lits};
+use check_calls::calls::{hashes, lits};
 use checker_parts::error::{CheckCause, CheckerError};
 use proof_bytes::{DeleteClauseProof, ProofStep};
 use std::alloc::Global;

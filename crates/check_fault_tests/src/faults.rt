@@ -1,7 +1,7 @@
 //! Boxes that answer a fault, boxes of one kind alone, and boxes registered late.
-use crate::calls::{make, prove, read};
-use crate::cuts::Cuts;
-use crate::script::{register, register_transcript};
+use check_calls::accepted::{register, register_transcript};
+use check_calls::calls::{make, prove, read};
+use check_calls::cuts::Cuts;
 use check_vectors::boxes::{Faulty, NameList, StepList, Tally, TranscriptList};
 use checker_parts::error::CheckerError;
 use checker_parts::processor::{ProofProcessor, ProofTranscriptProcessor};

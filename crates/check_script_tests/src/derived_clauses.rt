@@ -1,6 +1,7 @@
 //! Derived clauses: what they are checked by, their ids and their propagations.
-use crate::calls::make;
-use crate::script::{agrees, given};
+use crate::script::agrees;
+use check_calls::accepted::given;
+use check_calls::calls::make;
 use std::test::Fail;
 use varisat_checker::Checker;
 

@@ -2,8 +2,8 @@
 ghost use Rattle.std.specs.Prelude.{OnOk};
 ghost use Rattle.checker_steps.specs.Context.{ContextInvariant};
 
-use crate::calls::lits;
-use crate::cuts::Cuts;
+use check_calls::calls::lits;
+use check_calls::cuts::Cuts;
 use checker_parts::error::{CheckCause, CheckerError};
 use log::sink::Discard;
 use proof_bytes::ProofStep;

@@ -1,6 +1,6 @@
 //! Formulas, and their texts.
-use crate::calls::lits;
 use crate::script::agrees;
+use check_calls::calls::lits;
 use sat_formula::CnfFormula;
 use std::alloc::Global;
 use std::test::Fail;
