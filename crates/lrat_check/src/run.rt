@@ -15,7 +15,8 @@ use std::io;
 use std::io::{Read, Write};
 
 /// Checks a proof after a formula, up to its first line that adds the empty clause, and writes the
-/// verdict's line. What stands after that line is not read.
+/// verdict's line. What stands after that line is not read. Nothing is where the formula has the
+/// empty clause.
 ///
 /// Nothing is written where a line is refused or can't be read.
 pub fn run_proof<P: Read + Drop, W: Write>(

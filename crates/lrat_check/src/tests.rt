@@ -137,7 +137,7 @@ fn empty_clause_of_a_formula(rt: HostRuntime) -> Result<(), Fail> {
         rt.alloc(),
         b"0".as_slice(),
         b"".as_slice(),
-        NOT_VERIFIED,
+        VERIFIED,
     )
 }
 

@@ -1,7 +1,7 @@
 //! The checker of LRAT proofs.
 ghost use Rattle.std.specs.Prelude.{◌≡◌, ◌∷◌, ◌++◌, ◌||◌, ◌&&◌, ℕ, Bool, true, false, [], List, None, Some, Err, IfErr, IfOk, OnOk, OnErr};
 ghost use Rattle.checker_rules.specs.Clauses.{all_true};
-ghost use Rattle.lrat_rules.specs.Lines.{Line, adds_empty};
+ghost use Rattle.lrat_rules.specs.Lines.{Line, adds_empty, has_empty};
 ghost use Rattle.lrat_rules.specs.Tables.{cause_by_table, table_after};
 ghost use Rattle.lrat_checker.specs.Causes.{IsCause};
 ghost use Rattle.lrat_checker.specs.declared.fault.LineFault.TheVariants.{Failed};
@@ -42,12 +42,13 @@ impl LratChecker {
             alloc,
             clauses: Clauses::new(alloc, formula)?,
             work: Work::new(alloc),
-            refuted: false,
+            refuted: has_empty_clause(formula),
             failed: false,
         })
     }
 
-    /// Whether a line so far added the empty clause: then no assignment satisfies the formula.
+    /// Whether the formula has the empty clause, or a line so far added it: then no assignment
+    /// satisfies the formula.
     pub fn refuted(&self) -> bool
         ensures value { result ≡ has_refuted self.now }
         ensures refutes { (formula : List (List ℕ)) (lines : List Line)
@@ -89,8 +90,8 @@ impl LratChecker {
         }
     }
 
-    /// Checks the lines of a text after those of earlier calls. The answer is whether some line so
-    /// far added the empty clause: then no assignment satisfies the formula.
+    /// Checks the lines of a text after those of earlier calls. The answer is whether the formula
+    /// has the empty clause, or some line so far added it: then no assignment satisfies the formula.
     ///
     /// The text is read as it goes, line by line. After a fault every later call answers `Failed`.
     pub fn check<R: Read + Drop>(&mut self, proof: R) -> Result<bool, LratFault>
@@ -109,7 +110,7 @@ impl LratChecker {
     }
 
     /// The same up to the first line that adds the empty clause. What stands after it is not
-    /// checked.
+    /// checked. Where the formula has the empty clause, nothing is.
     pub fn refute<R: Read + Drop>(&mut self, proof: R) -> Result<bool, LratFault>
         ensures checked { (formula : List (List ℕ)) (lines : List Line)
             → IsReady formula lines self.old
@@ -207,4 +208,16 @@ impl LratChecker {
             }
         }
     }
+}
+
+/// Whether a formula has the empty clause.
+fn has_empty_clause(formula: &CnfFormula) -> bool
+    ensures { result ≡ has_empty formula.now }
+{
+    for clause in formula {
+        if clause.is_empty() {
+            return true;
+        }
+    }
+    false
 }
