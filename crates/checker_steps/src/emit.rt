@@ -8,9 +8,9 @@ ghost use Rattle.checker_parts.specs.CheckedSteps.{user_vars_of};
 ghost use Rattle.checker_parts.specs.declared.error.StepFault.TheVariants.{OutOfMemory};
 ghost use Rattle.checker_steps.specs.Delivered.{DeliveredStep, listeners_of};
 
-use crate::processing::{ProcessingOf, process_step};
+use crate::processing::ProcessingOf;
 use checker_parts::error::StepFault;
-use checker_parts::processor::{ProofProcessor, ProofTranscriptProcessor};
+use checker_parts::processor::{CheckerData, ProofProcessor, ProofTranscriptProcessor};
 use checker_parts::step::{CheckedProofStep, CheckedUserVar, ResolutionPropagations};
 use checker_parts::variables::Variables;
 use sat_formula::{Lit, Var};
@@ -30,7 +30,7 @@ pub(crate) fn emit_add_clause<P: ProofProcessor, T: ProofTranscriptProcessor>(
 {
     let _propagations = ResolutionPropagations {};
     let step = CheckedProofStep::AddClause { id, clause };
-    process_step(processing, variables, &step)
+    processing.step(&step, CheckerData(variables))
 }
 
 /// Delivers an input clause that stands already.
@@ -52,7 +52,7 @@ pub(crate) fn emit_duplicated_clause<P: ProofProcessor, T: ProofTranscriptProces
         same_as_id,
         clause,
     };
-    process_step(processing, variables, &step)
+    processing.step(&step, CheckerData(variables))
 }
 
 /// Delivers an input clause that says nothing.
@@ -70,7 +70,7 @@ pub(crate) fn emit_tautological_clause<P: ProofProcessor, T: ProofTranscriptProc
 {
     let _propagations = ResolutionPropagations {};
     let step = CheckedProofStep::TautologicalClause { id, clause };
-    process_step(processing, variables, &step)
+    processing.step(&step, CheckerData(variables))
 }
 
 /// Delivers a derived clause. Takes no memory.
@@ -98,7 +98,7 @@ pub(crate) fn emit_at_clause<P: ProofProcessor, T: ProofTranscriptProcessor>(
         clause,
         propagations,
     };
-    process_step(processing, variables, &step)
+    processing.step(&step, CheckerData(variables))
 }
 
 /// Delivers a redundant clause that becomes irredundant.
@@ -116,7 +116,7 @@ pub(crate) fn emit_make_irredundant<P: ProofProcessor, T: ProofTranscriptProcess
 {
     let _propagations = ResolutionPropagations {};
     let step = CheckedProofStep::MakeIrredundant { id, clause };
-    process_step(processing, variables, &step)
+    processing.step(&step, CheckerData(variables))
 }
 
 /// Delivers a redundant clause that goes.
@@ -135,7 +135,7 @@ pub(crate) fn emit_delete_clause<P: ProofProcessor, T: ProofTranscriptProcessor>
 {
     let _propagations = ResolutionPropagations {};
     let step = CheckedProofStep::DeleteClause { id, clause };
-    process_step(processing, variables, &step)
+    processing.step(&step, CheckerData(variables))
 }
 
 /// Delivers an irredundant clause that goes or becomes redundant.
@@ -161,7 +161,7 @@ pub(crate) fn emit_delete_at_clause<P: ProofProcessor, T: ProofTranscriptProcess
         clause,
         propagations,
     };
-    process_step(processing, variables, &step)
+    processing.step(&step, CheckerData(variables))
 }
 
 /// Delivers the unit of a deleted variable.
@@ -185,7 +185,7 @@ pub(crate) fn emit_delete_rat_clause<P: ProofProcessor, T: ProofTranscriptProces
         pivot,
         propagations: &propagations,
     };
-    process_step(processing, variables, &step)
+    processing.step(&step, CheckerData(variables))
 }
 
 /// Delivers a variable with its new user name or mode, or without a name.
@@ -202,7 +202,7 @@ pub(crate) fn emit_user_var<P: ProofProcessor, T: ProofTranscriptProcessor>(
 {
     let _propagations = ResolutionPropagations {};
     let step = CheckedProofStep::UserVar { var, user_var };
-    process_step(processing, variables, &step)
+    processing.step(&step, CheckerData(variables))
 }
 
 /// Delivers a model.
@@ -219,7 +219,7 @@ pub(crate) fn emit_model<P: ProofProcessor, T: ProofTranscriptProcessor>(
 {
     let _propagations = ResolutionPropagations {};
     let step = CheckedProofStep::Model { assignment };
-    process_step(processing, variables, &step)
+    processing.step(&step, CheckerData(variables))
 }
 
 /// Delivers the assumptions.
@@ -236,7 +236,7 @@ pub(crate) fn emit_assumptions<P: ProofProcessor, T: ProofTranscriptProcessor>(
 {
     let _propagations = ResolutionPropagations {};
     let step = CheckedProofStep::Assumptions { assumptions };
-    process_step(processing, variables, &step)
+    processing.step(&step, CheckerData(variables))
 }
 
 /// Delivers a failed core.
@@ -257,5 +257,5 @@ pub(crate) fn emit_failed_assumptions<P: ProofProcessor, T: ProofTranscriptProce
         failed_core,
         propagations,
     };
-    process_step(processing, variables, &step)
+    processing.step(&step, CheckerData(variables))
 }
