@@ -271,6 +271,10 @@ printf '1 0\nd 1 2 0\n0\n' > "$work/files/drat.lrat"
 printf '5 1 0 1 2 0\n' | gzip -n > "$work/files/compressed.lrat"
 printf '\xef\xbb\xbf5 1 0 1 2 0\n' > "$work/files/mark.lrat"
 expect nothing 3 's NOT VERIFIED' '' four.cnf nothing.proof
+# the empty clause of a formula refutes it, and nothing of the proof is read
+printf '1 2 0\n0\n' > "$work/files/refuted.cnf"
+expect refuted_formula 0 's VERIFIED UNSAT' '' refuted.cnf nothing.proof
+expect refuted_formula_unread 0 's VERIFIED UNSAT' '' refuted.cnf drat.lrat
 for file in binary.lrat drat.lrat compressed.lrat four.cnf mark.lrat malformed.lrat; do
   expect "read_${file%.*}" 1 '' 'proof: line 1: malformed line' four.cnf "$file"
 done

@@ -259,10 +259,15 @@ fn second_proofs(rt: HostRuntime) -> Result<(), Fail> {
 // With hashes of one bit, [1] and then [].
 const NARROW: [u8; 16] = *b"\x09\x01\x06\x00\x01\x00\x02\x01\x00\x06\x00\x00\x02\x00\x01\x0D";
 
-// The steps end at 2, 9, 15 and 16 bytes.
+// Byte by byte, and all at once.
 #[test]
 fn beginnings(rt: HostRuntime) -> Result<(), Fail> {
-    let alloc = rt.alloc();
+    lack_steps(&rt, rt.alloc(), 1)?;
+    lack_steps(&rt, rt.alloc(), usize::MAX)
+}
+
+// The steps end at 2, 9, 15 and 16 bytes, whichever number of bytes a read gives.
+fn lack_steps(rt: &impl Abort, alloc: Global, size: usize) -> Result<(), Fail> {
     for len in 0..NARROW.len() {
         let step = match len {
             0..2 => 1,
@@ -271,7 +276,8 @@ fn beginnings(rt: HostRuntime) -> Result<(), Fail> {
             _ => 4,
         };
         let mut checker = Checker::new(alloc);
-        lacks_step(&rt, alloc, &mut checker, &NARROW[..len], step)?;
+        let proof = Cuts::of_size(&NARROW[..len], size);
+        lacks_step(rt, alloc, &mut checker, proof, step)?;
     }
     Ok(())
 }
@@ -281,13 +287,13 @@ fn lacks_step(
     rt: &impl Abort,
     alloc: Global,
     checker: &mut Checker,
-    proof: &[u8],
+    proof: Cuts<'_>,
     step: u64,
 ) -> Result<(), Fail> {
     for clause in ["1 2", "1 -2", "-1 2", "-1 -2"] {
         given(alloc, checker, clause)?;
     }
-    let seen = prove(alloc, checker, Cuts::of_size(proof, 1))?;
+    let seen = prove(alloc, checker, proof)?;
     let expected = format!(in alloc; "ProofIncomplete {step}")?;
     assert_eq!(rt; seen, expected);
     Ok(())

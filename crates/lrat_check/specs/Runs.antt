@@ -1,5 +1,5 @@
 -- Runs of a proof after a formula.
---     shows formula text      the lines of the text up to one that adds the empty clause are accepted
+--     shows formula text      the formula has the empty clause, or the lines of the text up to one that adds it are accepted
 --     Refutes formula known r      the checker's answer to a proof of these bytes
 --     IsProofRun, IsCheckRun      the run of a proof after a formula, and after a formula's text
 --     IsDecided formula text r      what the run says of the proof's text
@@ -12,8 +12,7 @@ use Rattle.checker_rules.specs.Clauses.{all_true}
 use Rattle.sat_formula.specs.Lines as dimacs
 use Rattle.sat_formula.specs.Outcome.{Ended}
 use Rattle.sat_formula.specs.Whole.{FailsAfter, IsOutcome}
-use Rattle.lrat_rules.specs.Lines.{refutes}
-use Rattle.lrat_rules.specs.Stores.{formula_store}
+use Rattle.lrat_rules.specs.Lines.{is_refuted}
 use Rattle.lrat_text.specs.Texts.{outcome_of}
 use Rattle.lrat_checker.specs.Standing.{has_refuted}
 use Rattle.lrat_checker.specs.TextAnswers.{IsTextAnswer, said}
@@ -27,9 +26,9 @@ use Rattle.lrat_check.specs.declared.fault.RunFault.TheVariants.{Formula, Proof,
 use Rattle.lrat_check.specs.declared.verdict.Verdict.{Verdict}
 use Rattle.lrat_check.specs.declared.verdict.Verdict.TheVariants.{Verified, NotVerified}
 
--- whether the lines of a text up to one that adds the empty clause are accepted after the formula
+-- whether the formula has the empty clause, or the lines of a text up to one that adds it are accepted after the formula
 abbrev pub shows : List (List ℕ) → List ℕ → Bool
-shows formula text = refutes (formula_store formula) (said (outcome_of text).0)
+shows formula text = is_refuted formula (said (outcome_of text).0)
 
 -- a checker that held the formula gave this answer, and stopped at the first line that adds the empty clause
 pub record Checks (formula : List (List ℕ)) (known : Option (List ℕ))

@@ -18,7 +18,8 @@ use std::io::{Read, Write};
 use whole_writes::write_whole;
 
 /// Checks a proof after a formula, up to its first line that adds the empty clause, and writes the
-/// verdict's line. What stands after that line is not read.
+/// verdict's line. What stands after that line is not read. Nothing is where the formula has the
+/// empty clause.
 ///
 /// Nothing is written where a line is refused or can't be read. Where the verdict's line can't be
 /// written whole, the verdict stood, and a beginning of the line is written.

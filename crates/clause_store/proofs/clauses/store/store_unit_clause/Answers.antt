@@ -10,7 +10,7 @@ use Rattle.clause_store.specs.Store.{IsStore, Stores, is_stored_unit, unit_for}
 use Rattle.clause_store.specs.View.{stored_list}
 use Rattle.clause_store.proofs.AnswerLemmas.{answers-new, either_way, unit-conflict, unit-new, unit-stands}
 use Rattle.clause_store.proofs.StoreLemmas.{few-short, is_store-units, list_all-set, stored_units-set, unit_is}
-use Rattle.clause_store.proofs.clauses.store.store_unit.Goals as goal
+use Rattle.clause_store.proofs.clauses.store.store_unit_clause.Goals as goal
 
 -- equality of truth values
 same_is : (a b d e : Bool) → beq a b ≡ d → b ≡ e → same_bool a e ≡ d
