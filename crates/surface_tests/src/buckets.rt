@@ -45,8 +45,8 @@ fn has_two_buckets(rt: &impl Abort, alloc: Global, ctx: &mut Context) -> Result<
     for (clause, hash) in [("1 2", 1), ("1 -2", 0), ("-1 2", 0), ("-1 -2", 1)] {
         assert_eq!(rt; hash_of(alloc, ctx, clause)?, hash);
     }
-    assert_eq!(rt; ids_in(alloc, ctx, 1)?.as_slice(), &[0, 3]);
-    assert_eq!(rt; ids_in(alloc, ctx, 0)?.as_slice(), &[1, 2]);
+    assert_eq!(rt; ids_in(alloc, ctx, 1)?.as_slice(), [0, 3].as_slice());
+    assert_eq!(rt; ids_in(alloc, ctx, 0)?.as_slice(), [1, 2].as_slice());
     Ok(())
 }
 
@@ -89,7 +89,7 @@ fn moves_named_clauses(rt: &impl Abort, alloc: Global, ctx: &mut Context) -> Res
     assert_eq!(rt; refused, Some(CheckCause::NoClauseForHash));
     // The names are applied all the same, and the clause stands under its new hash alone.
     assert_eq!(rt; hash_of(alloc, ctx, "1 2")?, 0x4491_1495_0295_082A);
-    assert_eq!(rt; ids_in(alloc, ctx, 0x4491_1495_0295_082A)?.as_slice(), &[0]);
+    assert_eq!(rt; ids_in(alloc, ctx, 0x4491_1495_0295_082A)?.as_slice(), [0].as_slice());
     assert!(rt; ids_in(alloc, ctx, 0xC4AF_7593_0295_082A)?.is_empty());
     Ok(())
 }

@@ -98,7 +98,7 @@ fn delivers(
     let told = process_step(&mut ctx.processing, &ctx.variables, &step);
     assert!(rt; told.is_ok());
     match ctx.processing.processors.as_slice() {
-        [tally] => assert_eq!(rt; tally.output(), b"|"),
+        [tally] => assert_eq!(rt; tally.output(), b"|".as_slice()),
         _ => return Err("not one processor".into()),
     }
     Ok(())
