@@ -227,7 +227,7 @@ unsat
 inputs
 > 4";
 
-/// A clause is announced with 2^63 literals, and none follows.
+/// A clause is announced with 2^64 - 1 literals, and none follows.
 pub const ANNOUNCED_COUNT: &str = "\
 proof 05 FF FF FF FF FF FF FF FF FF 01
 > ProofIncomplete 1";
