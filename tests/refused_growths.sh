@@ -22,6 +22,7 @@ for program in "$rows" "$check" "$hint_check" "$lrat_check" "$lrat_to_proof"; do
 done
 "${CC:-cc}" -O2 -Wall -shared -fPIC -o "$work/fail.so" "$top/tests/refused_growths/fail.c" -ldl
 wrong=0
+declare -A growths
 
 # refuse MODE NUMBER COMMAND..: a run with refused growths. It sets `status`, and `refused` to how many there were.
 refuse() {
@@ -51,6 +52,7 @@ play_row() {
   if [[ $status != 0 || $(cat "$work/out") != "$row: as written" ]]; then
     misjudged "$row without a refused growth"
   fi
+  growths[$row]=$((number - 1))
   echo "$row $mode: $((number - 1)) runs, of which $own met the program that plays the row"
 }
 
@@ -104,4 +106,9 @@ for mode in FAIL_AT FAIL_FROM; do
   done
   run 'par10.lrat by lrat_to_proof' "$mode" '' "$lrat_to_proof" "$data"/par10.{cnf,lrat} "$work/bytes"
 done
+# Nothing is grown for the number of literals that a proof announces: there are fewer growths than where one literal follows.
+if ((growths[announced_count] >= growths[short_list])); then
+  echo "WRONG announced_count: ${growths[announced_count]} growths, and ${growths[short_list]} where a literal follows"
+  wrong=1
+fi
 exit "$wrong"

@@ -3,7 +3,7 @@ use crate::few::lits;
 use crate::outcome::{Memory, Played, Stop, Wrong};
 use crate::reader::Bytewise;
 use checker_parts::sorted_lits::copy_canonical;
-use sat_formula::{CnfFormula, DimacsFault, DimacsReader, Lit};
+use sat_formula::{CnfFormula, DimacsFault, DimacsKind, DimacsReader, Lit};
 use std::alloc::Global;
 
 /// Clauses as numbers, and how many variables a formula of each and those before it has.
@@ -65,6 +65,43 @@ pub fn read_clauses(alloc: Global) -> Played {
     }
     is_ended(&mut reader, &mut clause)?;
     Ok(Memory::Ample)
+}
+
+/// Reads the clause of the largest variable, and a number that names the one after it.
+pub fn read_large_variables(alloc: Global) -> Played {
+    let largest = read_one(alloc, b"268435456 0", Some(536_870_910))?;
+    Ok(largest.and(read_one(alloc, b"268435457 0", None)?))
+}
+
+/// Reads a text of one literal, which has this code, or whose variable is too large. There is nothing after it.
+fn read_one(alloc: Global, text: &[u8], code: Option<usize>) -> Played {
+    let mut reader = DimacsReader::new(alloc, Bytewise::new(text));
+    let mut clause = Vec::new(alloc);
+    let memory = match (reader.next_clause(&mut clause), code) {
+        (Ok(true), Some(code)) => has_code(&clause, code)?,
+        (Err(DimacsFault::OutOfMemory), _) => Memory::Wanting,
+        (Err(DimacsFault::Malformed { line, kind }), None) => is_too_large(line, kind)?,
+        _ => return Err(Stop::Wrong(Wrong::Answer)),
+    };
+    is_ended(&mut reader, &mut clause)?;
+    Ok(memory)
+}
+
+/// The clause has one literal, of this code.
+fn has_code(clause: &[Lit], code: usize) -> Played {
+    match clause {
+        [lit] if lit.code() == code => Ok(Memory::Ample),
+        _ => Err(Stop::Wrong(Wrong::State)),
+    }
+}
+
+/// The fault is a variable that is too large, on the first line.
+fn is_too_large(line: u64, kind: DimacsKind) -> Played {
+    if line == 1 && kind == DimacsKind::VarTooLarge {
+        Ok(Memory::Ample)
+    } else {
+        Err(Stop::Wrong(Wrong::Answer))
+    }
 }
 
 /// The reader answers the end, and the list of its caller is empty.

@@ -2,14 +2,14 @@
 use crate::outcome::Played;
 use crate::script::{all_judged, judged};
 use crate::scripts::{
-    COLLECTION, DELETIONS, LITERAL_BUFFER, REFUTATION, SOLVER_NAME_REMOVED, SOLVER_NAMES,
-    TEXT_AND_PROOF, TEXTS, UNITS, USER_NAMES,
+    ANNOUNCED_COUNT, COLLECTION, DELETIONS, LITERAL_BUFFER, REFUTATION, SHORT_LIST,
+    SOLVER_NAME_REMOVED, SOLVER_NAMES, TEXT_AND_PROOF, TEXTS, UNITS, USER_NAMES,
 };
 use crate::{boxes, formulas, hints, lrat, proof_texts, runs};
 use std::alloc::Global;
 
 /// All rows.
-pub const NAMES: [&str; 23] = [
+pub const NAMES: [&str; 26] = [
     "refutation",
     "solver_names",
     "deletions",
@@ -17,9 +17,12 @@ pub const NAMES: [&str; 23] = [
     "user_names",
     "texts",
     "text_and_proof",
+    "announced_count",
+    "short_list",
     "literal_buffer",
     "formula",
     "formula_text",
+    "large_variables",
     "canonical_lists",
     "written_steps",
     "marked_steps",
@@ -48,9 +51,12 @@ pub fn play(alloc: Global, name: &str) -> Option<Played> {
         "user_names" => judged(alloc, USER_NAMES),
         "texts" => all_judged(alloc, &TEXTS),
         "text_and_proof" => judged(alloc, TEXT_AND_PROOF),
+        "announced_count" => judged(alloc, ANNOUNCED_COUNT),
+        "short_list" => judged(alloc, SHORT_LIST),
         "literal_buffer" => all_judged(alloc, &[LITERAL_BUFFER, COLLECTION]),
         "formula" => formulas::add_clauses(alloc),
         "formula_text" => formulas::read_clauses(alloc),
+        "large_variables" => formulas::read_large_variables(alloc),
         "canonical_lists" => formulas::copy_lists(alloc),
         "written_steps" => proof_texts::write_numbers(alloc),
         "marked_steps" => proof_texts::write_marked(alloc),

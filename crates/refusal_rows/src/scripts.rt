@@ -227,6 +227,16 @@ unsat
 inputs
 > 4";
 
+/// A clause is announced with 2^64 - 1 literals, and none follows.
+pub const ANNOUNCED_COUNT: &str = "\
+proof 05 FF FF FF FF FF FF FF FF FF 01
+> ProofIncomplete 1";
+
+/// A clause is announced with two literals, and one follows.
+pub const SHORT_LIST: &str = "\
+proof 05 02 00
+> ProofIncomplete 1";
+
 /// Literals stand in the buffer until half of them are garbage.
 pub const LITERAL_BUFFER: &str = "\
 add 1 2 3 4
