@@ -12,6 +12,7 @@ tests/weak_edits.sh "$told"
 tests/end_to_end.sh
 tests/failing_files.sh
 tests/named_files.sh
+tests/lrat_fuzz.sh
 tests/refused_growths.sh
 tests/log_lines.sh
 tests/bindings.sh

@@ -30,6 +30,16 @@ expect() {
   fi
 }
 
+# refused NAME FILE ERROR ARGUMENT..: a run with these arguments that is refused for a fault of the file
+refused() {
+  expect "$1" 1 '' "$3"$'\n'"in $2" "${@:4}"
+}
+
+# begun_as NAME FILE KIND ERROR ARGUMENT..: one that is refused for a file which begins as one of this kind
+begun_as() {
+  expect "$1" 1 '' "$4"$'\n'"$2 begins as $3" "${@:5}"
+}
+
 # run_cases CRATE: runs the program on the cases
 run_cases() {
   local files=() file
@@ -88,9 +98,10 @@ refutes() {
   local cnf=$1.cnf proof=$1.$2.proof
   expect "$1_$2" 0 's UNSATISFIABLE' '' "$cnf" "$proof"
   shorten "$proof"
-  expect "$1_$2_short" 1 '' "step $3: Unexpected end of proof file" "$cnf" "short.$proof"
+  refused "$1_$2_short" "short.$proof" "step $3: Unexpected end of proof file" "$cnf" "short.$proof"
   change "$proof" "$5" "$6"
-  expect "$1_$2_changed" 1 '' "step $4: Checking proof failed: no clause found for hash" "$cnf" "changed.$proof"
+  refused "$1_$2_changed" "changed.$proof" "step $4: Checking proof failed: no clause found for hash" \
+    "$cnf" "changed.$proof"
 }
 
 begin
@@ -116,16 +127,17 @@ printf '1 0\n' > "$work/files/unit.cnf"
 printf '\x05\x00\x0d' > "$work/files/empty_clause.proof"
 printf '\x0d' > "$work/files/end.proof"
 : > "$work/files/nothing.proof"
-expect malformed 1 '' 'line 2: bad number' malformed.cnf end.proof
+refused malformed malformed.cnf 'line 2: bad number' malformed.cnf end.proof
 expect added 3 's UNSATISFIABLE WITH 1 ADDED CLAUSES' '' unit.cnf empty_clause.proof
 expect not_shown 3 's NOT SHOWN' '' unit.cnf end.proof
-expect no_proof 1 '' 'step 1: Unexpected end of proof file' unit.cnf nothing.proof
+refused no_proof nothing.proof 'step 1: Unexpected end of proof file' unit.cnf nothing.proof
 expect no_arguments 0 's UNSATISFIABLE' ''
 expect help 0 'usage: varisat_check CNF PROOF [LRAT]' '' --help
+expect version 0 'varisat_check 0.3.0 (varisat-checker 0.2.2)' '' --version
 expect one_argument 2 '' 'usage: varisat_check CNF PROOF [LRAT]' unit.cnf
 expect four_arguments 2 '' 'usage: varisat_check CNF PROOF [LRAT]' unit.cnf end.proof hints.lrat hints.lrat
 expect hints 0 's UNSATISFIABLE' '' par10.cnf par10.whole.proof hints.lrat
-expect hints_of_a_refused_proof 1 '' 'step 1: Unexpected end of proof file' unit.cnf nothing.proof hints.lrat
+refused hints_of_a_refused_proof nothing.proof 'step 1: Unexpected end of proof file' unit.cnf nothing.proof hints.lrat
 expect missing_formula 2 '' $'cannot open absent.cnf\nNo such file or directory (os error 2)' absent.cnf absent.proof
 expect missing_proof 2 '' $'cannot open absent.proof\nNo such file or directory (os error 2)' malformed.cnf absent.proof
 # odd formulas: a CR is a blank; a byte order mark, a NUL byte and compressed text are no numbers
@@ -137,18 +149,18 @@ printf '\xef\xbb\xbf1 0\n' > "$work/files/byte_order_mark.cnf"
 printf '1 0\n\x00\n-1 0\n' > "$work/files/nul.cnf"
 printf '1 0\n-1 0\n' | gzip -n > "$work/files/compressed.cnf"
 expect cr_lf 0 's UNSATISFIABLE' '' cr_lf.cnf four.proof
-expect byte_order_mark 1 '' 'line 1: bad number' byte_order_mark.cnf end.proof
-expect nul_byte 1 '' 'line 2: bad number' nul.cnf end.proof
-expect compressed 1 '' 'line 1: bad number' compressed.cnf end.proof
+refused byte_order_mark byte_order_mark.cnf 'line 1: bad number' byte_order_mark.cnf end.proof
+refused nul_byte nul.cnf 'line 2: bad number' nul.cnf end.proof
+begun_as compressed compressed.cnf 'a gzip file' 'line 1: bad number' compressed.cnf end.proof
 expect empty_formula 3 's NOT SHOWN' '' nothing.proof end.proof
-expect folder 1 '' 'error reading formula: Is a directory (os error 21)' / end.proof
+refused folder / 'error reading formula: Is a directory (os error 21)' / end.proof
 # odd proofs
-expect empty_proof 1 '' 'step 1: Unexpected end of proof file' cr_lf.cnf nothing.proof
-expect byte_order_mark_in_proof 1 '' 'step 1: Could not parse proof step: unknown step tag' unit.cnf byte_order_mark.cnf
-expect compressed_proof 1 '' 'step 1: Could not parse proof step: unknown step tag' unit.cnf compressed.cnf
-expect nul_bytes_in_proof 1 '' 'step 1: Could not parse proof step: unknown step tag' unit.cnf /dev/zero
-expect text_as_proof 1 '' 'step 1: Could not parse proof step: unknown step tag' unit.cnf unit.cnf
-expect folder_as_proof 1 '' 'step 1: Error reading proof file: Is a directory (os error 21)' unit.cnf /
+refused empty_proof nothing.proof 'step 1: Unexpected end of proof file' cr_lf.cnf nothing.proof
+refused byte_order_mark_in_proof byte_order_mark.cnf 'step 1: Could not parse proof step: unknown step tag' unit.cnf byte_order_mark.cnf
+begun_as compressed_proof compressed.cnf 'a gzip file' 'step 1: Could not parse proof step: unknown step tag' unit.cnf compressed.cnf
+refused nul_bytes_in_proof /dev/zero 'step 1: Could not parse proof step: unknown step tag' unit.cnf /dev/zero
+begun_as text_as_proof unit.cnf 'DRAT text' 'step 1: Could not parse proof step: unknown step tag' unit.cnf unit.cnf
+refused folder_as_proof / 'step 1: Error reading proof file: Is a directory (os error 21)' unit.cnf /
 expect folder_for_hints 2 '' $'cannot open /\nIs a directory (os error 21)' unit.cnf end.proof /
 run_cases varisat_check_main
 compare
@@ -173,7 +185,8 @@ refuted() {
   head -n -1 "$work/files/$lrat" > "$work/files/short.$lrat"
   expect "$1_hints_short" 3 's NOT VERIFIED' '' "$2" "short.$lrat"
   sed '$s/^\([0-9]* 0 \([0-9]*\) .*\) [0-9]* 0$/\1 \2 0/' "$work/files/$lrat" > "$work/files/changed.$lrat"
-  expect "$1_hints_changed" 1 '' "line $(wc -l < "$work/files/$lrat"): hints end without a conflict" "$2" "changed.$lrat"
+  refused "$1_hints_changed" "changed.$lrat" \
+    "line $(wc -l < "$work/files/$lrat"): hints end without a conflict" "$2" "changed.$lrat"
 }
 
 for proof in "${proofs[@]}"; do
@@ -191,11 +204,12 @@ done
 refuted par10 par10.cnf
 refuted board6 board6.cnf
 printf '5 0 1\n' > "$work/files/malformed.lrat"
-expect malformed_formula 1 '' 'line 2: bad number' malformed.cnf par10.lrat
-expect malformed_hints 1 '' 'line 1: malformed line' unit.cnf malformed.lrat
+refused malformed_formula malformed.cnf 'line 2: bad number' malformed.cnf par10.lrat
+refused malformed_hints malformed.lrat 'line 1: malformed line' unit.cnf malformed.lrat
 expect no_arguments 2 '' 'usage: hint_check CNF LRAT'
 expect example 0 's VERIFIED UNSAT' '' --example
 expect help 0 'usage: hint_check CNF LRAT' '' --help
+expect version 0 'hint_check 0.3.0 (varisat-checker 0.2.2)' '' --version
 expect one_argument 2 '' 'usage: hint_check CNF LRAT' unit.cnf
 expect three_arguments 2 '' 'usage: hint_check CNF LRAT' unit.cnf par10.lrat par10.lrat
 expect missing_formula 2 '' $'cannot open absent.cnf\nNo such file or directory (os error 2)' absent.cnf absent.lrat
@@ -212,7 +226,11 @@ done
 # turned NAME KIND STATUS OUTPUT ERRORS SCRIPT: a run on the solver's proof, changed by a script of sed
 turned() {
   sed "$6" "$work/files/$1.lrat" > "$work/files/$1.$2.lrat"
-  expect "$1_$2" "$3" "$4" "$5" "$1.cnf" "$1.$2.lrat"
+  if [[ $3 == 1 ]]; then
+    refused "$1_$2" "$1.$2.lrat" "$5" "$1.cnf" "$1.$2.lrat"
+  else
+    expect "$1_$2" "$3" "$4" "$5" "$1.cnf" "$1.$2.lrat"
+  fi
 }
 
 # proves NAME LINE: the solver's proof is verified, and so it is with changes that do no harm; with others it is refused.
@@ -237,7 +255,7 @@ proves() {
   # a clause that is kept does no harm where no id comes again and no line is judged by groups
   turned "$name" no_deletions 0 's VERIFIED UNSAT' '' '/ d /d'
   head -n 1 "$work/files/$name.lrat" | head -c -3 > "$work/files/$name.half.lrat"
-  expect "${name}_half_a_line" 1 '' 'proof: line 1: unfinished line' "$name.cnf" "$name.half.lrat"
+  refused "${name}_half_a_line" "$name.half.lrat" 'proof: line 1: unfinished line' "$name.cnf" "$name.half.lrat"
 }
 
 proves par10 2
@@ -252,7 +270,11 @@ groups() {
   local name=groups_$1 status=$2 output=$3 errors=$4
   shift 4
   printf '%s\n' "$@" > "$work/files/$name.lrat"
-  expect "$name" "$status" "$output" "$errors" four.cnf "$name.lrat"
+  if [[ $status == 1 ]]; then
+    refused "$name" "$name.lrat" "$errors" four.cnf "$name.lrat"
+  else
+    expect "$name" "$status" "$output" "$errors" four.cnf "$name.lrat"
+  fi
 }
 
 printf 'p cnf 2 4\n1 2 0\n1 -2 0\n-1 2 0\n-1 -2 0\n' > "$work/files/four.cnf"
@@ -275,18 +297,24 @@ expect nothing 3 's NOT VERIFIED' '' four.cnf nothing.proof
 printf '1 2 0\n0\n' > "$work/files/refuted.cnf"
 expect refuted_formula 0 's VERIFIED UNSAT' '' refuted.cnf nothing.proof
 expect refuted_formula_unread 0 's VERIFIED UNSAT' '' refuted.cnf drat.lrat
-for file in binary.lrat drat.lrat compressed.lrat four.cnf mark.lrat malformed.lrat; do
-  expect "read_${file%.*}" 1 '' 'proof: line 1: malformed line' four.cnf "$file"
+for file in four.cnf mark.lrat malformed.lrat; do
+  refused "read_${file%.*}" "$file" 'proof: line 1: malformed line' four.cnf "$file"
 done
-expect swapped 1 '' 'formula: line 24: bad number' par10.lrat par10.cnf
-expect malformed_formula 1 '' 'formula: line 2: bad number' malformed.cnf par10.lrat
+begun_as read_binary binary.lrat 'binary LRAT or binary DRAT' 'proof: line 1: malformed line' four.cnf binary.lrat
+begun_as read_drat drat.lrat 'DRAT text' 'proof: line 1: malformed line' four.cnf drat.lrat
+begun_as read_compressed compressed.lrat 'a gzip file' 'proof: line 1: malformed line' four.cnf compressed.lrat
+# a formula may begin as DRAT text does
+refused read_no_drat malformed.cnf 'formula: line 2: bad number' malformed.cnf nothing.proof
+refused swapped par10.lrat 'formula: line 24: bad number' par10.lrat par10.cnf
+refused malformed_formula malformed.cnf 'formula: line 2: bad number' malformed.cnf par10.lrat
 # reads that fail: a folder, and a file of the system's
-expect folder 1 '' 'formula: error reading formula: Is a directory (os error 21)' / par10.lrat
-expect folder_as_proof 1 '' 'proof: error reading proof: Is a directory (os error 21)' four.cnf /
-expect unreadable_proof 1 '' 'proof: error reading proof: Input/output error (os error 5)' four.cnf /proc/self/mem
+refused folder / 'formula: error reading formula: Is a directory (os error 21)' / par10.lrat
+refused folder_as_proof / 'proof: error reading proof: Is a directory (os error 21)' four.cnf /
+refused unreadable_proof /proc/self/mem 'proof: error reading proof: Input/output error (os error 5)' four.cnf /proc/self/mem
 expect no_arguments 2 '' 'usage: lrat_check CNF LRAT'
 expect example 0 's VERIFIED UNSAT' '' --example
 expect help 0 'usage: lrat_check CNF LRAT' '' --help
+expect version 0 'lrat_check 0.3.0 (varisat-checker 0.2.2)' '' --version
 expect one_argument 2 '' 'usage: lrat_check CNF LRAT' four.cnf
 expect three_arguments 2 '' 'usage: lrat_check CNF LRAT' four.cnf par10.lrat par10.lrat
 expect missing_formula 2 '' $'cannot open absent.cnf\nNo such file or directory (os error 2)' absent.cnf absent.lrat
@@ -312,10 +340,11 @@ converts narrow par10.cnf par10.lrat --width 20
 printf 'c a clause that is only redundant\n2 2 0 -1 0\n' > "$work/files/redundant.lrat"
 printf '2 1 0 7 0\n' > "$work/files/unknown.lrat"
 expect open 3 '' '' unit.cnf nothing.lrat "$work/files/open.converted"
-expect redundant 1 '' "proof: line 2: RAT steps can't be converted" unit.cnf redundant.lrat "$work/files/refused"
-expect unknown 1 '' 'proof: line 1: no clause has the id of a hint' unit.cnf unknown.lrat "$work/files/refused"
-expect malformed_formula 1 '' 'formula: line 2: bad number' malformed.cnf par10.lrat "$work/files/refused"
-expect malformed_proof 1 '' 'proof: line 1: malformed line' unit.cnf malformed.lrat "$work/files/refused"
+refused redundant redundant.lrat "proof: line 2: RAT steps can't be converted" unit.cnf redundant.lrat "$work/files/refused"
+refused unknown unknown.lrat 'proof: line 1: no clause has the id of a hint' unit.cnf unknown.lrat "$work/files/refused"
+refused malformed_formula malformed.cnf 'formula: line 2: bad number' malformed.cnf par10.lrat "$work/files/refused"
+refused malformed_proof malformed.lrat 'proof: line 1: malformed line' unit.cnf malformed.lrat "$work/files/refused"
+expect version 0 'lrat_to_proof 0.3.0 (varisat-checker 0.2.2)' '' --version
 for words in '' 'unit.cnf' 'unit.cnf nothing.lrat' 'unit.cnf nothing.lrat refused --width' 'unit.cnf nothing.lrat refused --width 0' \
   'unit.cnf nothing.lrat refused --width 65' 'unit.cnf nothing.lrat refused --width x' 'unit.cnf nothing.lrat refused --bits 9' \
   'unit.cnf nothing.lrat refused --width 9 9'; do

@@ -36,6 +36,11 @@ wants() {
   fi
 }
 
+# refused NAME FILE ERROR: what it must have done where there is a fault of this file
+refused() {
+  wants "$1" 1 '' "$3"$'\n'"in $2"
+}
+
 # counted NAME: how many runs a part had
 counted() {
   echo "$1: $runs runs"
@@ -47,7 +52,7 @@ fail_reads_of_formula() {
   local size=$1 cnf=$2 proof=$3 read
   for ((read = 1; read <= size + 1; read += size / 40 + 1)); do
     failing "SHORT_READS=1 FAIL_READ=$read" "$check" "$cnf" "$proof"
-    wants "$cnf, read $read" 1 '' 'error reading formula: Input/output error (os error 5)'
+    refused "$cnf, read $read" "$cnf" 'error reading formula: Input/output error (os error 5)'
   done
 }
 
@@ -61,7 +66,7 @@ fail_reads_of_proof() {
     if ((place == length)); then
       wants "$proof, after its end" 0 's UNSATISFIABLE' ''
     else
-      wants "$proof, byte $place" 1 '' "${cut%%:*}: Error reading proof file: Input/output error (os error 5)"
+      refused "$proof, byte $place" "$proof" "${cut%%:*}: Error reading proof file: Input/output error (os error 5)"
     fi
   done
 }
@@ -71,7 +76,7 @@ fail_reads_of_hints() {
   local size=$1 cnf=$2 lrat=$3 length=$4 place
   for ((place = 0; place <= length; place += length / 40 + 1)); do
     failing "SHORT_READS=1 FAIL_READ=$((size + 2 + place))" "$hint_check" "$cnf" "$lrat"
-    wants "$lrat, byte $place" 1 '' 'error reading hints: Input/output error (os error 5)'
+    refused "$lrat, byte $place" "$lrat" 'error reading hints: Input/output error (os error 5)'
   done
 }
 
@@ -160,10 +165,10 @@ endless 'a pipe that no one writes' "$work/silent" "$proof"
 timeout 10 dd if="$proof" of="$work/silent" status=none 2> /dev/null &
 failing '' "$check" "$cnf" "$work/silent"
 wants 'a pipe with a proof' 0 's UNSATISFIABLE' ''
-failing '' bash -c 'ulimit -v 300000; "$0" <(yes 1) "$1"' "$check" "$proof"
-wants 'a clause that never ends, in little memory' 1 '' 'out of memory'
+failing '' bash -c 'ulimit -v 300000; "$0" - "$1" < <(yes 1)' "$check" "$proof"
+wants 'a clause that never ends, in little memory' 1 '' $'out of memory\nin standard input'
 printf '\x03\xff\xff\xff\x7f\x0d' > "$work/last_var"
 failing '' bash -c 'ulimit -v 300000; "$0" "$1" "$2"' "$check" "$cnf" "$work/last_var"
-wants 'the last variable there may be, in little memory' 1 '' 'out of memory'
+refused 'the last variable there may be, in little memory' "$work/last_var" 'out of memory'
 counted 'files that never end, or ask for too much'
 exit "$wrong"

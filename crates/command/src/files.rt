@@ -1,9 +1,14 @@
 //! Files by their names.
 ghost use Rattle.std.specs.Prelude.{◌≡◌, ◌⊎◌, ◌↔◌, IfSome, IsNone, IsTrue};
 
+use crate::kind::{Kind, kind_of};
 use std::fs::File;
+use std::io::Read;
 use std::os::unix::fs::MetadataExt;
 use std::{fs, io};
+
+/// How many bytes of a file are looked at, where it could not be read as what it should be.
+const HEAD: usize = 256;
 
 /// A file that is open for reading, and the name that it was opened by.
 #[derive(Drop)]
@@ -72,6 +77,44 @@ fn is_input(rt: &HostRuntime, name: &str, input: &Input<'_>) -> bool {
         }
         _ => false,
     }
+}
+
+/// Says on standard error, after a fault of a formula, which file it is.
+///
+/// Where it is a regular file that begins as one of a kind that is not read, that is said of it.
+pub fn say_formula(rt: &HostRuntime, name: &str) {
+    match kind_of_file(rt, name) {
+        Some(Kind::DratText) => say_place(rt, name, None),
+        kind => say_place(rt, name, kind),
+    }
+}
+
+/// Says on standard error, after a fault of a proof, which file it is.
+///
+/// Where it is a regular file that begins as one of a kind that is not read, that is said of it.
+pub fn say_proof(rt: &HostRuntime, name: &str) {
+    say_place(rt, name, kind_of_file(rt, name));
+}
+
+fn say_place(rt: &HostRuntime, name: &str, kind: Option<Kind>) {
+    let _ = match kind {
+        Some(kind) => {
+            let kind = kind.name();
+            eprintln!(rt; "{name} begins as {kind}")
+        }
+        None if name == "-" => eprintln!(rt; "in standard input"),
+        None => eprintln!(rt; "in {name}"),
+    };
+}
+
+/// What the first bytes of a regular file say that it is. It is opened again for it.
+fn kind_of_file(rt: &HostRuntime, name: &str) -> Option<Kind> {
+    if name == "-" || !fs::metadata(rt, name).ok()?.is_file() {
+        return None;
+    }
+    let mut head = [0; HEAD];
+    let count = File::open(rt, name).ok()?.read(&mut head).ok()?;
+    kind_of(&head[..count])
 }
 
 /// Says that a file can't be opened, and on a second line why.

@@ -2,7 +2,11 @@
 #![tactic(auto)]
 
 mod files;
+mod kind;
 mod status;
+#[cfg(test)]
+mod tests;
 
-pub use files::{Input, create_output, open_input};
-pub use status::{NOT_RUN, help, refuse, usage};
+pub use files::{Input, create_output, open_input, say_formula, say_proof};
+pub use kind::{Kind, kind_of};
+pub use status::{NOT_RUN, help, refuse, usage, version};

@@ -1,11 +1,13 @@
 //! The command `lrat_to_proof CNF LRAT PROOF [--width N]`: writes an LRAT proof of a formula as
 //! proof bytes, which `varisat_check` takes.
 //!
-//! `--help` says how the program is called. The name `-` of a file that is read stands for standard
-//! input.
+//! `--help` says how the program is called, and `--version` of which version it is. The name `-` of
+//! a file that is read stands for standard input.
 #![tactic(auto)]
 
-use command::{NOT_RUN, create_output, help, open_input, refuse, usage};
+use command::{
+    NOT_RUN, create_output, help, open_input, refuse, say_formula, say_proof, usage, version,
+};
 use lrat_convert::{Conversion, ConvertFault, HashWidth, convert, exit_status};
 use std::env;
 use std::fs::File;
@@ -28,10 +30,10 @@ fn status_of_call(rt: &HostRuntime) -> u8 {
         return usage(rt, CALL);
     };
     let (Some(lrat), Some(proof)) = (words.next(), words.next()) else {
-        return if cnf.as_str() == "--help" {
-            help(rt, CALL)
-        } else {
-            usage(rt, CALL)
+        return match cnf.as_str() {
+            "--help" => help(rt, CALL),
+            "--version" => version(rt, "lrat_to_proof"),
+            _ => usage(rt, CALL),
         };
     };
     let width = match (words.next(), words.next(), words.next()) {
@@ -74,7 +76,16 @@ fn convert_files(
     let Some(proof) = create_output(rt, proof_name, &cnf, &lrat) else {
         return NOT_RUN;
     };
-    report(rt, &write_proof(rt, cnf.file, lrat.file, proof, width))
+    let outcome = write_proof(rt, cnf.file, lrat.file, proof, width);
+    let status = report(rt, &outcome);
+    match outcome {
+        Err(ConvertFault::Formula(_)) => say_formula(rt, cnf_name),
+        Err(
+            ConvertFault::Read(_) | ConvertFault::Unread { .. } | ConvertFault::Refused { .. },
+        ) => say_proof(rt, lrat_name),
+        Err(ConvertFault::Write(_) | ConvertFault::OutOfMemory) | Ok(_) => {}
+    }
+    status
 }
 
 fn write_proof(

@@ -2,12 +2,15 @@
 //! line what it shows.
 //!
 //! With a third file the checked steps are written to it as lines of hints.
-//! Without arguments it checks a small fixed example; `--help` says how the program is called. The
-//! name `-` of a file that is read stands for standard input.
+//! Without arguments it checks a small fixed example; `--help` says how the program is called, and
+//! `--version` of which version it is. The name `-` of a file that is read stands for standard
+//! input.
 //! What `RUST_LOG` asks for, as `RUST_LOG=info`, is logged to standard error; else nothing is.
 #![tactic(auto)]
 
-use command::{NOT_RUN, create_output, help, open_input, refuse, usage};
+use command::{
+    NOT_RUN, create_output, help, open_input, refuse, say_formula, say_proof, usage, version,
+};
 use log::Logged;
 use log::filter::{Builder, FilteredLog};
 use log::sink::Console;
@@ -39,6 +42,7 @@ fn status_of_call(rt: &HostRuntime) -> u8 {
     };
     match (first.as_str(), words.next(), words.next(), words.next()) {
         ("--help", None, _, _) => help(rt, CALL),
+        ("--version", None, _, _) => version(rt, "varisat_check"),
         (cnf, Some(proof), None, _) => check_files(rt, cnf, proof.as_str()),
         (cnf, Some(proof), Some(lrat), None) => {
             write_hints(rt, cnf, proof.as_str(), lrat.as_str())
@@ -57,7 +61,7 @@ fn check_files(rt: &HostRuntime, cnf_name: &str, proof_name: &str) -> u8 {
     };
     let log = logged(rt);
     let outcome = run_check(&log, rt.alloc(), cnf.file, proof.file, &mut io::writer(rt));
-    report(rt, &outcome)
+    report_files(rt, &outcome, cnf_name, proof_name)
 }
 
 /// The third file is made once both others are open, and before anything is read. It is neither of
@@ -73,7 +77,7 @@ fn write_hints(rt: &HostRuntime, cnf_name: &str, proof_name: &str, lrat_name: &s
         return NOT_RUN;
     };
     let outcome = hints_of(rt, cnf.file, proof.file, &mut lrat);
-    report(rt, &outcome)
+    report_files(rt, &outcome, cnf_name, proof_name)
 }
 
 fn hints_of(
@@ -118,6 +122,22 @@ fn logged(rt: &HostRuntime) -> Logged<&HostRuntime, FilteredLog<Console<&HostRun
         Err(_) => Builder::new(rt.alloc()).build(),
     };
     Logged::new(rt, filter.filter(), FilteredLog::new(Console(rt), filter))
+}
+
+/// Says why there is no verdict and of which file that is, and gives the exit status.
+fn report_files(
+    rt: &HostRuntime,
+    outcome: &Result<Verdict, RunFault>,
+    cnf_name: &str,
+    proof_name: &str,
+) -> u8 {
+    let status = report(rt, outcome);
+    match outcome {
+        Err(RunFault::Formula(_)) => say_formula(rt, cnf_name),
+        Err(RunFault::Proof(_)) => say_proof(rt, proof_name),
+        Err(RunFault::Write(_)) | Ok(_) => {}
+    }
+    status
 }
 
 /// Says why there is no verdict, and gives the exit status.

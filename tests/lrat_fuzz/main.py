@@ -1,0 +1,123 @@
+"""Tries random and damaged LRAT texts on the programs, and on checkers with faults that must be noticed."""
+import argparse
+import random
+import subprocess
+import sys
+import tempfile
+from concurrent.futures import ThreadPoolExecutor
+from pathlib import Path
+
+import rules
+import texts
+
+TOP = Path(__file__).resolve().parent.parent.parent
+VERIFIED = "s VERIFIED UNSAT\n"
+OPEN = "s NOT VERIFIED\n"
+SHOWN = "s UNSATISFIABLE\n"
+NOT_SHOWN = "s NOT SHOWN\n"
+
+
+def built(name):
+    program = TOP / "crates" / f"{name}_main" / "out" / f"{name}_main"
+    if not program.exists():
+        sys.exit(f"not built: {program}")
+    return program
+
+
+def run(program, *names):
+    """The status, standard output and the first line of standard error."""
+    done = subprocess.run([program, *names], capture_output=True, text=True)
+    return done.returncode, done.stdout, done.stderr.split("\n", 1)[0]
+
+
+def is_as(answer, ran, lines):
+    """Whether a program did what an answer says. The lines are those that it writes with status 0 and 3."""
+    status, output, error = ran
+    if status != answer.status or output != lines.get(status, ""):
+        return False
+    if status != 1:
+        return error == ""
+    causes = rules.UNREAD if answer.cause is None else (answer.cause,)
+    return error in {f"proof: line {answer.line}: {cause}" for cause in causes}
+
+
+def dimacs(formula):
+    head = f"p cnf {max((abs(lit) for clause in formula for lit in clause), default=0)} {len(formula)}\n"
+    return head + "".join(" ".join(map(str, clause + [0])) + "\n" for clause in formula)
+
+
+class Programs:
+    def __init__(self, check, convert, check_bytes):
+        self.check, self.convert, self.check_bytes = check, convert, check_bytes
+
+    def differences(self, seed):
+        """What the programs say of a text that they must not say."""
+        formula, text = texts.random_case(random.Random(seed))
+        with tempfile.TemporaryDirectory() as folder:
+            cnf, lrat, proof = (Path(folder) / name for name in ("cnf", "lrat", "proof"))
+            cnf.write_text(dimacs(formula))
+            lrat.write_bytes(text)
+            found = list(self.compare(formula, text, cnf, lrat, proof))
+        return [f"seed {seed}: {what}" for what in found]
+
+    def compare(self, formula, text, cnf, lrat, proof):
+        refutable = not texts.is_satisfiable(formula)
+        right = rules.judge(formula, text)
+        checked = run(self.check, cnf, lrat)
+        if "VERIFIED UNSAT" in checked[1] and not refutable:
+            yield f"lrat_check has a verdict over a satisfiable formula: {checked}"
+        if not is_as(right, checked, {0: VERIFIED, 3: OPEN}):
+            yield f"lrat_check must answer {right}: {checked}"
+        wanted = rules.convert(formula, text)
+        converted = run(self.convert, cnf, lrat, proof)
+        if not is_as(wanted, converted, {}):
+            yield f"lrat_to_proof must answer {wanted}: {converted}"
+        if wanted.status == 1:
+            return
+        shown = run(self.check_bytes, cnf, proof)
+        if shown[1].startswith("s UNSATISFIABLE") and not refutable:
+            yield f"varisat_check has a verdict over a satisfiable formula: {shown}"
+        # the lines that were converted are those that are right, and none of them is a RAT step
+        agreeing = not right.redundant and (right.status != 1 or 0 < wanted.line < right.line)
+        expected = (0, SHOWN, "") if wanted.status == 0 else (3, NOT_SHOWN, "")
+        if agreeing and shown != expected:
+            yield f"varisat_check does not agree with {checked}: {shown}"
+
+
+def unnoticed(fault, count):
+    """Whether the rules with this fault give the answers of the rules to so many texts."""
+    for seed in range(count):
+        formula, text = texts.random_case(random.Random(seed))
+        if rules.judge(formula, text) != rules.judge(formula, text, fault):
+            return False
+    return True
+
+
+def main():
+    parser = argparse.ArgumentParser(description=__doc__)
+    parser.add_argument("--texts", type=int, default=1500)
+    parser.add_argument("--first", type=int, default=0, help="the first seed")
+    for name in ("lrat_check", "lrat_to_proof", "varisat_check"):
+        parser.add_argument(f"--{name.replace('_', '-')}", help="another program in place of the one that is built")
+    words = parser.parse_args()
+    wrong = 0
+    for fault in rules.FAULTS:
+        if unnoticed(fault, words.texts):
+            print(f"WRONG no text notices where {fault}")
+            wrong += 1
+    programs = Programs(
+        words.lrat_check or built("lrat_check"),
+        words.lrat_to_proof or built("lrat_to_proof"),
+        words.varisat_check or built("varisat_check"),
+    )
+    with ThreadPoolExecutor() as pool:
+        for found in pool.map(programs.differences, range(words.first, words.first + words.texts)):
+            for what in found:
+                print(f"WRONG {what}")
+                wrong += 1
+    print(f"{words.texts} texts: {wrong} differences")
+    sys.exit(wrong > 0)
+
+
+if __name__ == "__main__":
+    main()
