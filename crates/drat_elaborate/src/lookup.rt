@@ -7,6 +7,7 @@ use sat_formula::Lit;
 use std::alloc::{AllocError, Global};
 
 /// What a search for a clause came to.
+#[derive(Clone, Copy)]
 pub(crate) enum Lookup {
     /// This clause is there, and forces nothing. It is no longer found.
     Found(ClauseIndex),

@@ -17,6 +17,7 @@ pub(crate) struct Propagator {
 }
 
 /// How far the trail has been propagated.
+#[derive(Drop)]
 struct Heads {
     /// In the clauses that are used.
     core: usize,
@@ -27,6 +28,7 @@ struct Heads {
 }
 
 /// What a step of propagation came to.
+#[derive(Clone, Copy)]
 enum Progress {
     Going,
     Done,

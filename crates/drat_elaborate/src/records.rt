@@ -41,6 +41,7 @@ struct Record {
 }
 
 /// A checked clause with its lists.
+#[derive(Drop)]
 pub(crate) struct RecordView<'a> {
     pub(crate) clause: Option<ClauseIndex>,
     pub(crate) hints: &'a [PackedHint],

@@ -22,6 +22,7 @@ pub(crate) enum Sweep {
 }
 
 /// What a clause comes to whose watched literal became false.
+#[derive(Clone, Copy)]
 enum Found {
     /// This literal of it is true.
     True(Lit),
@@ -32,6 +33,7 @@ enum Found {
 }
 
 /// What a list is gone through with.
+#[derive(Drop)]
 pub(crate) struct Sweeper<'a> {
     pub(crate) clauses: &'a mut Clauses,
     pub(crate) trail: &'a mut Trail,
