@@ -52,7 +52,11 @@ impl Sweeper<'_> {
         until: Until,
     ) -> Result<Sweep, ElaborateFault> {
         let mut at = from;
-        while at < watches.len() {
+        // Each step goes on by one place, or takes one out.
+        for _ in from..watches.len() {
+            if at >= watches.len() {
+                break;
+            }
             let Watch { clause, blocker } = watches[at];
             if self.trail.value(blocker) == Value::True {
                 at += 1;
