@@ -222,7 +222,7 @@ impl Check {
             if open == 0 {
                 break;
             }
-            let bit = open.leading_zeros() ^ 63;
+            let bit = 63u32.saturating_sub(open.leading_zeros());
             done |= 1u64.wrapping_shl(bit);
             let place = word.wrapping_mul(64).wrapping_add(bit as usize);
             self.walk_place(propagator, place, assumed)?;
