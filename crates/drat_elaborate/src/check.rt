@@ -148,11 +148,7 @@ impl Check {
     }
 
     /// The place of the variable of a literal is wanted.
-    pub(crate) fn want(
-        &mut self,
-        propagator: &Propagator,
-        lit: Lit,
-    ) -> Result<(), ElaborateFault> {
+    pub(crate) fn want(&mut self, propagator: &Propagator, lit: Lit) -> Result<(), ElaborateFault> {
         let place = propagator.trail.place(lit)?;
         self.wanted.insert(place)?;
         Ok(())
@@ -177,8 +173,7 @@ impl Check {
 
     #[inline(always)]
     fn is_assumed(&self, lit: Lit, assumed: Assumed) -> bool {
-        self.by_clause.contains(lit)
-            || (assumed == Assumed::Group && self.by_group.contains(lit))
+        self.by_clause.contains(lit) || (assumed == Assumed::Group && self.by_group.contains(lit))
     }
 
     /// Goes through the wanted places from a place on, the last first. What forced them is walked,
@@ -237,7 +232,10 @@ impl Check {
         assumed: Assumed,
     ) -> Result<(), ElaborateFault> {
         let lit = propagator.trail.get(place).ok_or(ElaborateFault::Internal)?;
-        let reason = propagator.trail.reason(lit).ok_or(ElaborateFault::Internal)?;
+        let reason = propagator
+            .trail
+            .reason(lit)
+            .ok_or(ElaborateFault::Internal)?;
         self.want_negated(propagator, reason, Some(lit), assumed)?;
         self.use_clause(propagator, reason)?;
         self.walked.push(reason)?;

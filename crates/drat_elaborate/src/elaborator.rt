@@ -150,7 +150,10 @@ impl Elaborator {
             return Ok(());
         }
         self.normalize(lits)?;
-        match self.table.take(&mut self.propagator, &self.lits, &self.set)? {
+        match self
+            .table
+            .take(&mut self.propagator, &self.lits, &self.set)?
+        {
             Lookup::Found(clause) => {
                 self.steps.push(Step::Delete(clause))?;
                 self.propagator.clauses.get_mut(clause)?.is_active = false;

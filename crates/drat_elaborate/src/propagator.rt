@@ -115,9 +115,11 @@ impl Propagator {
     /// Whether the clause forced a literal that is true.
     pub(crate) fn is_reason(&self, clause: ClauseIndex) -> Result<bool, ElaborateFault> {
         let lits = self.clauses.lits(clause)?;
-        Ok(lits.iter().take(2).any(|lit| {
-            self.trail.value(*lit) == Value::True && self.trail.reason(*lit) == Some(clause)
-        }))
+        Ok(
+            lits.iter().take(2).any(|lit| {
+                self.trail.value(*lit) == Value::True && self.trail.reason(*lit) == Some(clause)
+            }),
+        )
     }
 
     /// Attaches a clause under the literals that are true now, and propagates. The answer is the
@@ -151,10 +153,7 @@ impl Propagator {
     }
 
     /// Propagates the trail from a place on. The answer is the clause of a conflict.
-    pub(crate) fn propagate(
-        &mut self,
-        from: usize,
-    ) -> Result<Option<ClauseIndex>, ElaborateFault> {
+    pub(crate) fn propagate(&mut self, from: usize) -> Result<Option<ClauseIndex>, ElaborateFault> {
         let mut heads = Heads {
             core: from,
             rest: from,

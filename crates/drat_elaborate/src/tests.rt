@@ -87,8 +87,7 @@ fn redundant_lemma(rt: HostRuntime) -> Result<(), Fail> {
     elaborator.add_lemma(&lits(&rt, &[3])?)?;
     elaborator.add_lemma(&lits(&rt, &[1])?)?;
     assert!(rt; elaborator.is_refuted());
-    assert_eq!(
-        rt;
+    assert_eq!(rt;
         elaborator.elaborate(),
         Err(ElaborateFault::NotRedundant { step: 1 })
     );
@@ -100,8 +99,7 @@ fn redundant_lemma(rt: HostRuntime) -> Result<(), Fail> {
 fn no_conflict(rt: HostRuntime) -> Result<(), Fail> {
     let mut elaborator = begun(&rt, &[&[1, 2], &[1, -2]])?;
     elaborator.add_lemma(&lits(&rt, &[1])?)?;
-    assert_eq!(
-        rt;
+    assert_eq!(rt;
         elaborator.elaborate(),
         Err(ElaborateFault::NoConflict { steps: 1 })
     );
