@@ -1,0 +1,137 @@
+//! The bytes of a proof, the first of which tell whether it is text.
+ghost use Rattle.std.specs.Prelude.{◌≡◌, ◌<◌, ◌≤◌, ◌∷◌, [], IfOk, IsTrue, vec_len};
+ghost use Rattle.sat_formula.specs.Source.{is_limited};
+
+use crate::fault::{DratKind, Stop};
+use crate::number::is_text_byte;
+use sat_formula::source::{NoByte, Source};
+use std::alloc::Global;
+use std::io;
+use std::io::Read;
+
+/// So many bytes are looked at before a proof counts as text.
+const LOOKED_AT: usize = 4096;
+
+/// How steps are written.
+#[derive(Clone, Copy, Debug, PartialEq, Eq)]
+pub(crate) enum Format {
+    Text,
+    Binary,
+}
+
+/// A source, and in front of it the bytes that were looked at and not taken yet.
+#[derive(Drop)]
+pub(crate) struct Bytes<R> {
+    source: Source<R>,
+    front: Vec<u8>,
+    taken: usize,
+    ghost limited: { IsTrue (is_limited source) },
+    ghost within: { taken ≤ vec_len front },
+}
+
+impl<R: Read> Bytes<R> {
+    ghost use Rattle.sat_formula.specs.Source.{IsStopped, IsErrorOf};
+    ghost use Rattle.drat_text.specs.Bytes.{letter_d};
+    ghost use Rattle.drat_text.specs.Taking.{unread_bytes, room_in, Takes, TakesWithin, Looks, Sees};
+
+    pub(crate) fn new(alloc: Global, inner: R) -> Bytes<R>
+        ensures bytes { unread_bytes R.remaining result ≡ R.remaining inner }
+        ensures front { result.front.items ≡ [] }
+    {
+        Bytes {
+            source: Source::limited(alloc, inner, u64::MAX),
+            front: Vec::new(alloc),
+            taken: 0,
+        }
+    }
+
+    /// The error of a stop by the source.
+    pub(crate) fn error(&self) -> io::Error
+        requires { IsStopped self.now.source }
+        ensures { IsErrorOf self.now.source result }
+    {
+        self.source.error()
+    }
+
+    /// Takes the next byte.
+    #[inline(always)]
+    pub(crate) fn next_byte(&mut self) -> Result<u8, Stop>
+        ensures byte { Takes (unread_bytes R.remaining self.old)
+            (unread_bytes R.remaining self.new) self.new.source result }
+        ensures nearer { IfOk result (λ _. room_in self.new < room_in self.old) }
+        ensures room { room_in self.new ≤ room_in self.old }
+    {
+        if self.taken < self.front.len() {
+            let byte = self.front[self.taken];
+            self.taken += 1;
+            return Ok(byte);
+        }
+        match self.source.next_byte() {
+            Ok(byte) => Ok(byte),
+            Err(reason) => Err(Stop::from(reason)),
+        }
+    }
+
+    /// Takes the next byte of a step that was begun, which is unfinished where the input ends.
+    #[inline(always)]
+    pub(crate) fn next_within(&mut self) -> Result<u8, Stop>
+        ensures byte { TakesWithin (unread_bytes R.remaining self.old)
+            (unread_bytes R.remaining self.new) self.new.source result }
+        ensures nearer { IfOk result (λ _. room_in self.new < room_in self.old) }
+        ensures room { room_in self.new ≤ room_in self.old }
+    {
+        match self.next_byte() {
+            Err(Stop::End) => Err(Stop::Wrong(DratKind::Unfinished)),
+            answer => answer,
+        }
+    }
+
+    /// Tells the format by the first bytes, and takes none of them.
+    pub(crate) fn look(&mut self) -> Result<Format, Stop>
+        requires front { self.old.front.items ≡ [] }
+        requires taken { self.old.taken ≡ 0 }
+        ensures look { Looks (unread_bytes R.remaining self.old)
+            (unread_bytes R.remaining self.new) self.new.source result }
+    {
+        match self.see()? {
+            Some(b'a') => Ok(Format::Binary),
+            Some(b'd') => self.look_on(),
+            _ => Ok(Format::Text),
+        }
+    }
+
+    // Looks at the bytes after a `d`.
+    fn look_on(&mut self) -> Result<Format, Stop>
+        requires front { self.old.front.items ≡ letter_d ∷ [] }
+        requires taken { self.old.taken ≡ 0 }
+        ensures look { Looks (unread_bytes R.remaining self.old)
+            (unread_bytes R.remaining self.new) self.new.source result }
+    {
+        'bytes: while self.front.len() < LOOKED_AT {
+            match self.see()? {
+                Some(byte) if !is_text_byte(byte) => return Ok(Format::Binary),
+                Some(_) => {}
+                None => return Ok(Format::Text),
+            }
+        }
+        Ok(Format::Text)
+    }
+
+    // Puts one byte more in front of the source, if there is one.
+    fn see(&mut self) -> Result<Option<u8>, Stop>
+        requires { self.old.taken ≡ 0 }
+        ensures sees { Sees (unread_bytes R.remaining self.old)
+            (unread_bytes R.remaining self.new) self.old.front.items self.new.front.items
+            self.new.source result }
+        ensures taken { self.new.taken ≡ 0 }
+    {
+        match self.source.next_byte() {
+            Ok(byte) => {
+                self.front.push(byte)?;
+                Ok(Some(byte))
+            }
+            Err(NoByte::End) => Ok(None),
+            Err(reason) => Err(Stop::from(reason)),
+        }
+    }
+}
