@@ -21,10 +21,13 @@ is_space b = is_blank b || is_lf b
 abbrev pub is_text_byte : ℕ → Bool
 is_text_byte b = is_space b || (nat_le 32 b && nat_le b 126)
 
+-- text, where text can have each of the bytes
+abbrev pub by_text_bytes : List ℕ → Format
+by_text_bytes bytes = if list_all is_text_byte bytes then Text else Binary
+
 -- by its first byte: `a` begins binary steps, and `d` does so where a byte that no text can have is among the first 4,096
 abbrev pub format_of : List ℕ → Format
 format_of [] = Text
 format_of (b ∷ bs) =
     if b == letter_a then Binary
-    else (if b == letter_d
-    then (if list_all is_text_byte (take 4096 (b ∷ bs)) then Text else Binary) else Text)
+    else (if b == letter_d then by_text_bytes (take 4096 (b ∷ bs)) else Text)

@@ -19,10 +19,10 @@ use Rattle.drat_text.specs.Steps.{Step, step_of, Outcome, Ended, Faulty, with_st
 use Rattle.drat_text.specs.Taking.{Leads, EndsAll, Stopped}
 
 -- what a byte did, and the bytes after it
-abbrev pub then : Format → After → List ℕ → Outcome
-then format (Goes p) more = outcome_at format p more
-then format (Gives step) more = with_step step (outcome_at format Outside more)
-then format (Stops kind) more = ([], Faulty kind)
+abbrev pub goes_on : Format → After → List ℕ → Outcome
+goes_on format (Goes p) more = outcome_at format p more
+goes_on format (Gives step) more = with_step step (outcome_at format Outside more)
+goes_on format (Stops kind) more = ([], Faulty kind)
 
 -- a step was given: before a byte, or where the input ended
 abbrev pub GivesStep : Format → Option (List ℕ) → Option (List ℕ) → (List ℕ → Outcome) → Step →
@@ -66,7 +66,7 @@ ReadsFirst old new f source (Err stop) = Stopped Text old new f source stop
 abbrev pub ReadsNumber : {R : Type 0} → Action → List ℕ → Option (List ℕ) → Option (List ℕ) →
     (List ℕ → Outcome) → Source R → Result ℕ Stop → Type 0
 ReadsNumber action lits old new f source (Ok n) =
-    Leads old new f (then Binary (said action lits (code_said n)))
+    Leads old new f (goes_on Binary (said action lits (code_said n)))
 ReadsNumber action lits old new f source (Err stop) = Stopped Binary old new f source stop
 
 -- the literals of a binary step were read to its end

@@ -1,5 +1,5 @@
 -- What was taken from a reader's bytes, and what it says of them.
-use Rattle.std.specs.Prelude.{◌≡◌, ℕ, ◌+◌, ◌-◌, List, [], ◌∷◌, ◌++◌, Option, Some, None, unwrap_or, length, drop, Result, Ok, Err, IfSome}
+use Rattle.std.specs.Prelude.{◌≡◌, ℕ, ◌+◌, ◌-◌, List, [], ◌∷◌, ◌++◌, Option, unwrap_or, length, drop, take, slice_get, Result, Ok, Err, IfSome}
 use Rattle.std.specs.Io.KnownBytes.{Consumes, Keeps, IsAtEnd, prepend_known}
 use Rattle.sat_formula.specs.declared.source.Source.{Source}
 use Rattle.sat_formula.specs.Source.{unread, room_of, IsStopped}
@@ -54,15 +54,25 @@ Looks old new source (Err stops.Read) = Keeps old new × IsStopped source
 Looks old new source (Err (stops.Wrong kind)) = ⊥
 Looks old new source (Err stops.OutOfMemory) = Unit {0}
 
--- One byte more stands in front, and none was taken; or there is none, and all bytes to come stand in front.
-abbrev pub Sees : {R : Type 0} → Option (List ℕ) → Option (List ℕ) → List ℕ → List ℕ → Source R →
+-- the same where the first byte is a `d`: by the first 4,096 bytes
+abbrev pub LooksOn : {R : Type 0} → Option (List ℕ) → Option (List ℕ) → Source R →
+    Result Format Stop → Type 0
+LooksOn old new source (Ok format) =
+    Keeps old new × IfSome old (λ bytes. format ≡ by_text_bytes (take 4096 bytes))
+LooksOn old new source (Err stops.End) = ⊥
+LooksOn old new source (Err stops.Read) = Keeps old new × IsStopped source
+LooksOn old new source (Err (stops.Wrong kind)) = ⊥
+LooksOn old new source (Err stops.OutOfMemory) = Unit {0}
+
+-- the byte at this place of those to come, or none where they end before it; none was taken
+abbrev pub Peeks : {R : Type 0} → Option (List ℕ) → Option (List ℕ) → ℕ → Source R →
     Result (Option ℕ) Stop → Type 0
-Sees old new front now source (Ok (Some byte)) = Keeps old new × (now ≡ front ++ byte ∷ [])
-Sees old new front now source (Ok None) = Keeps old new × IfSome old (λ bytes. bytes ≡ front)
-Sees old new front now source (Err stops.End) = ⊥
-Sees old new front now source (Err stops.Read) = Keeps old new × IsStopped source
-Sees old new front now source (Err (stops.Wrong kind)) = ⊥
-Sees old new front now source (Err stops.OutOfMemory) = Unit {0}
+Peeks old new place source (Ok byte) =
+    Keeps old new × IfSome old (λ bytes. slice_get bytes place ≡ byte)
+Peeks old new place source (Err stops.End) = ⊥
+Peeks old new place source (Err stops.Read) = Keeps old new × IsStopped source
+Peeks old new place source (Err (stops.Wrong kind)) = ⊥
+Peeks old new place source (Err stops.OutOfMemory) = Unit {0}
 
 -- From old to new some bytes were taken, and whatever comes after them, f gives of all what g gives of the rest.
 pub record Leads (old new : Option (List ℕ)) (f g : List ℕ → Outcome) : Type 0 where
@@ -79,9 +89,9 @@ pub record EndsAll (old new : Option (List ℕ)) (f : List ℕ → Outcome) (o :
 
 -- a step was begun at most, and neither it nor a fault has ended yet
 pub record Breaks (format : Format) (old new : Option (List ℕ)) (f : List ℕ → Outcome) : Type 0
-    where
-  pub place : Place
-  pub leads : Leads old new f (outcome_at format place)
+  where
+    pub place : Place
+    pub leads : Leads old new f (outcome_at format place)
 
 -- a fault comes first: by a byte, whatever comes after it, or where the input ended
 pub data Fails (old new : Option (List ℕ)) (f : List ℕ → Outcome) (kind : DratKind) : Type 0 where

@@ -6,6 +6,7 @@ ghost use Rattle.drat_text.specs.Places.{Within};
 ghost use Rattle.drat_text.specs.Proofs.{outcome_at, outcome_in};
 ghost use Rattle.drat_text.specs.Reading.{ReadsNumber, ReadsCodes, ReadsStep};
 ghost use Rattle.drat_text.specs.Taking.{unread_bytes, room_in};
+
 use crate::bytes::Bytes;
 use crate::fault::{DratKind, Stop};
 use crate::number::code_said;
@@ -17,10 +18,7 @@ use std::io::Read;
 const LAST_WEIGHT: u64 = 1 << 28;
 
 /// Reads a step, its literals in place of what `lits` held.
-pub(crate) fn binary_step<R: Read>(
-    bytes: &mut Bytes<R>,
-    lits: &mut Vec<Lit>,
-) -> Result<Found, Stop>
+pub(crate) fn binary_step<R: Read>(bytes: &mut Bytes<R>, lits: &mut Vec<Lit>) -> Result<Found, Stop>
     ensures read { ReadsStep formats.Binary lits.new.items
         (unread_bytes R.remaining bytes.old) (unread_bytes R.remaining bytes.new)
         (outcome_in formats.Binary) bytes.new.source result }

@@ -1,5 +1,5 @@
 //! The bytes of a proof, the first of which tell whether it is text.
-ghost use Rattle.std.specs.Prelude.{◌≡◌, ◌<◌, ◌≤◌, ◌∷◌, [], IfOk, IsTrue, vec_len};
+ghost use Rattle.std.specs.Prelude.{◌≡◌, ◌<◌, ◌≤◌, [], IfOk, IsSome, IsTrue, length, vec_len};
 ghost use Rattle.sat_formula.specs.Source.{is_limited};
 
 use crate::fault::{DratKind, Stop};
@@ -31,8 +31,7 @@ pub(crate) struct Bytes<R> {
 
 impl<R: Read> Bytes<R> {
     ghost use Rattle.sat_formula.specs.Source.{IsStopped, IsErrorOf};
-    ghost use Rattle.drat_text.specs.Bytes.{letter_d};
-    ghost use Rattle.drat_text.specs.Taking.{unread_bytes, room_in, Takes, TakesWithin, Looks, Sees};
+    ghost use Rattle.drat_text.specs.Taking.{front_of, unread_bytes, room_in, Takes, TakesWithin, Looks, LooksOn, Peeks};
 
     pub(crate) fn new(alloc: Global, inner: R) -> Bytes<R>
         ensures bytes { unread_bytes R.remaining result ≡ R.remaining inner }
@@ -86,45 +85,45 @@ impl<R: Read> Bytes<R> {
         }
     }
 
-    /// Tells the format by the first bytes, and takes none of them.
+    /// Tells the format by the next bytes, and takes none of them.
     pub(crate) fn look(&mut self) -> Result<Format, Stop>
-        requires front { self.old.front.items ≡ [] }
-        requires taken { self.old.taken ≡ 0 }
-        ensures look { Looks (unread_bytes R.remaining self.old)
+        ensures { Looks (unread_bytes R.remaining self.old)
             (unread_bytes R.remaining self.new) self.new.source result }
     {
-        match self.see()? {
+        match self.peek(0)? {
             Some(b'a') => Ok(Format::Binary),
             Some(b'd') => self.look_on(),
             _ => Ok(Format::Text),
         }
     }
 
-    // Looks at the bytes after a `d`.
+    // Looks on where the next byte is a `d`.
     fn look_on(&mut self) -> Result<Format, Stop>
-        requires front { self.old.front.items ≡ letter_d ∷ [] }
-        requires taken { self.old.taken ≡ 0 }
-        ensures look { Looks (unread_bytes R.remaining self.old)
+        ensures { LooksOn (unread_bytes R.remaining self.old)
             (unread_bytes R.remaining self.new) self.new.source result }
     {
-        'bytes: while self.front.len() < LOOKED_AT {
-            match self.see()? {
-                Some(byte) if !is_text_byte(byte) => return Ok(Format::Binary),
-                Some(_) => {}
+        let mut place = 0;
+        'bytes: while place < LOOKED_AT {
+            match self.peek(place)? {
+                Some(byte) if is_text_byte(byte) => place += 1,
+                Some(_) => return Ok(Format::Binary),
                 None => return Ok(Format::Text),
             }
         }
         Ok(Format::Text)
     }
 
-    // Puts one byte more in front of the source, if there is one.
-    fn see(&mut self) -> Result<Option<u8>, Stop>
-        requires { self.old.taken ≡ 0 }
-        ensures sees { Sees (unread_bytes R.remaining self.old)
-            (unread_bytes R.remaining self.new) self.old.front.items self.new.front.items
-            self.new.source result }
-        ensures taken { self.new.taken ≡ 0 }
+    // The byte at a place of those to come, if there is one. It stands in front from then on, as
+    // those before it do already.
+    fn peek(&mut self, place: usize) -> Result<Option<u8>, Stop>
+        requires { place ≤ length (front_of self.old) }
+        ensures peek { Peeks (unread_bytes R.remaining self.old)
+            (unread_bytes R.remaining self.new) place self.new.source result }
+        ensures front { IfOk result (λ byte. IsSome byte → place < length (front_of self.new)) }
     {
+        if place < self.front.len() - self.taken {
+            return Ok(Some(self.front[self.taken + place]));
+        }
         match self.source.next_byte() {
             Ok(byte) => {
                 self.front.push(byte)?;

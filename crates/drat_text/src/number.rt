@@ -46,9 +46,7 @@ pub(crate) fn lit_said(negative: bool, value: u64) -> Result<Option<Lit>, DratKi
     if value > MAX_VARIABLE {
         return Err(DratKind::NumberTooLarge);
     }
-    Ok(Lit::from_code(
-        (value as usize - 1) * 2 + negative as usize,
-    ))
+    Ok(Lit::from_code((value as usize - 1) * 2 + negative as usize))
 }
 
 /// What a binary number says: a literal, or none at a step's 0.

@@ -32,11 +32,11 @@ pub struct DratReader<R> {
     format: Option<Format>,
     steps: u64,
     ended: bool,
-    ghost unseen: { format ≡ None → (bytes.front.items ≡ []) × (bytes.taken ≡ 0) ⊎ IsTrue ended },
 }
 
 impl<R: Read> DratReader<R> {
-    ghost use Rattle.std.specs.Prelude.{◌==◌};
+    ghost use Rattle.std.specs.Prelude.{Some};
+    ghost use Rattle.drat_text.specs.declared.bytes.Format.{Format};
     ghost use Rattle.sat_formula.specs.Outcome.{next_line};
     ghost use Rattle.sat_formula.specs.Source.{IsStopped};
     ghost use Rattle.drat_text.specs.NextStep.{bytes_left, has_ended, steps_given, known_format, reads_binary, view, Gives, Answers, ReadsOn, SeesFormat, Explains};
@@ -128,8 +128,7 @@ impl<R: Read> DratReader<R> {
 
     // Reads a step into the list.
     fn read(&mut self) -> Result<Found, Stop>
-        requires { self.old.ended ≡ false }
-        ensures read { ReadsOn R.remaining self.old self.new result }
+        ensures { ReadsOn R.remaining self.old self.new result }
     {
         match self.format()? {
             Format::Text => text_step(&mut self.bytes, &mut self.lits),
@@ -139,7 +138,6 @@ impl<R: Read> DratReader<R> {
 
     // The format, by the first bytes where it was not told before.
     fn format(&mut self) -> Result<Format, Stop>
-        requires { self.old.ended ≡ false }
         ensures { SeesFormat R.remaining self.old self.new result }
     {
         if let Some(format) = self.format {

@@ -8,8 +8,9 @@ ghost use Rattle.sat_formula.specs.Bytes.{is_digit};
 ghost use Rattle.drat_text.specs.Numbers.{lit_said};
 ghost use Rattle.drat_text.specs.Places.{Comment, Outside, Within, first_digit, with_digit, said, last_said};
 ghost use Rattle.drat_text.specs.Proofs.{outcome_at, outcome_in};
-ghost use Rattle.drat_text.specs.Reading.{ReadsTo, ReadsWord, ReadsLiterals, ReadsFirst, ReadsStep, IsFirst, EndsNumber, EndsLast, then};
+ghost use Rattle.drat_text.specs.Reading.{ReadsTo, ReadsWord, ReadsLiterals, ReadsFirst, ReadsStep, IsFirst, EndsNumber, EndsLast, goes_on};
 ghost use Rattle.drat_text.specs.Taking.{unread_bytes, room_in};
+
 use crate::bytes::Bytes;
 use crate::fault::{DratKind, Stop};
 use crate::number::{MAX_VARIABLE, is_digit, is_space, lit_said};
@@ -143,7 +144,7 @@ fn number<R: Read>(bytes: &mut Bytes<R>, first: u8) -> Result<Word, Stop>
 fn digits<R: Read>(bytes: &mut Bytes<R>, negative: bool, first: u8) -> Result<Word, Stop>
     ensures read { (action : Action) (lits : List ℕ) → ReadsWord action lits
         (unread_bytes R.remaining bytes.old) (unread_bytes R.remaining bytes.new)
-        (then formats.Text (first_digit action lits negative first)) bytes.new.source result }
+        (goes_on formats.Text (first_digit action lits negative first)) bytes.new.source result }
     ensures room { room_in bytes.new ≤ room_in bytes.old }
 {
     if !is_digit(first) {
