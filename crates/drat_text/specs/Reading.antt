@@ -20,9 +20,11 @@ use Rattle.drat_text.specs.Taking.{Leads, EndsAll, Stopped}
 
 -- what a byte did, and the bytes after it
 abbrev pub goes_on : Format → After → List ℕ → Outcome
-goes_on format (Goes p) more = outcome_at format p more
-goes_on format (Gives step) more = with_step step (outcome_at format Outside more)
-goes_on format (Stops kind) more = ([], Faulty kind)
+goes_on format d more = elim d [
+  | Goes p ↦ outcome_at format p more
+  | Gives step ↦ with_step step (outcome_at format Outside more)
+  | Stops kind ↦ ([], Faulty kind)
+]
 
 -- a step was given: before a byte, or where the input ended
 abbrev pub GivesStep : Format → Option (List ℕ) → Option (List ℕ) → (List ℕ → Outcome) → Step →

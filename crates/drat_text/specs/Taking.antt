@@ -9,7 +9,7 @@ use Rattle.drat_text.specs.declared.fault.DratKind.{DratKind}
 use Rattle.drat_text.specs.declared.fault.DratKind.TheVariants.{Unfinished}
 use Rattle.drat_text.specs.declared.fault.Stop.{Stop}
 use Rattle.drat_text.specs.declared.fault.Stop.TheVariants as stops
-use Rattle.drat_text.specs.Bytes.{format_of}
+use Rattle.drat_text.specs.Bytes.{format_of, by_text_bytes}
 use Rattle.drat_text.specs.Places.{Place}
 use Rattle.drat_text.specs.Proofs.{outcome_at}
 use Rattle.drat_text.specs.Steps.{Outcome, Ended, Faulty}
