@@ -1,7 +1,8 @@
 -- Bytes, one after the other.
 use Rattle.std.proofs.Common.{◌≡◌, ℕ, List, [], ◌∷◌, ◌++◌, Option, Result, Ok, Err, refl, sym, ap, ◌∙◌, append_assoc, append-nil}
 use Rattle.std.specs.Prelude.{IsErrAnd}
-use Rattle.std.proofs.Common.{Bool, true, false, Some, None, subst}
+use Rattle.std.proofs.Common.{◌-◌, Bool, true, false, Some, None, subst}
+use Rattle.std.proofs.lemmas.Bool.{ne_eqb}
 use Rattle.std.proofs.lemmas.Result.{err_from_is_err_and}
 use Rattle.std.specs.Io.KnownBytes.{Consumes, Keeps, IsAtEnd, prepend_known}
 use Rattle.sat_formula.specs.declared.source.NoByte.{NoByte}
@@ -23,7 +24,7 @@ use Rattle.drat_text.specs.declared.text.Word.TheVariants as words
 use Rattle.sat_formula.specs.Bytes.{is_digit}
 use Rattle.drat_text.specs.Bytes.{is_space}
 use Rattle.drat_text.specs.Numbers.{lit_said}
-use Rattle.drat_text.specs.Places.{Place, Outside, Within, InNumber, Digits, After, Goes, Gives, Stops, after, at_end, said, with_digit}
+use Rattle.drat_text.specs.Places.{Place, Outside, Within, InNumber, Digits, After, Goes, Gives, Stops, after, at_end, said, with_digit, first_digit, Sign}
 use Rattle.drat_text.specs.Proofs.{outcome_at}
 use Rattle.drat_text.specs.Steps.{Step, Outcome, Ended, Faulty, with_step}
 use Rattle.drat_text.specs.Taking.{Takes, TakesWithin, Leads, EndsAll, Breaks, Fails, by_byte, by_end, Stopped}
@@ -198,3 +199,41 @@ number_space action lits negative v x e s = rw (e, s) refl
 pub number_other : (action : Action) (lits : List ℕ) (negative : Bool) (v x : ℕ) → is_digit x ≡ false → is_space x ≡ false →
     after Text (InNumber action lits (Digits negative v)) x ≡ Stops Malformed
 number_other action lits negative v x e s = rw (e, s) refl
+
+-- ---- what a byte did
+
+pub byte_goes : {a b c : Known} {f : Says} (format : Format) (p : Place) {q : Place} (x : ℕ) → Leads a b f (outcome_at format p) → Consumes b c (x ∷ []) → after format p x ≡ Goes q →
+    Leads a c f (outcome_at format q)
+byte_goes format p {q} x l h e = byte_on format p x {d = Goes q} l h e
+
+pub byte_gives : {a b c : Known} {f : Says} (format : Format) (p : Place) {step : Step} (x : ℕ) → Leads a b f (outcome_at format p) → Consumes b c (x ∷ []) → after format p x ≡ Gives step →
+    Leads a c f (λ m. with_step step (outcome_at format Outside m))
+byte_gives format p {step} x l h e = byte_on format p x {d = Gives step} l h e
+
+pub byte_stops : {a b c : Known} {f : Says} (format : Format) (p : Place) {kind : DratKind} (x : ℕ) → Leads a b f (outcome_at format p) → Consumes b c (x ∷ []) → after format p x ≡ Stops kind →
+    Fails a c f kind
+byte_stops format p {kind} x l h e = by_byte (byte_on format p x {d = Stops kind} l h e)
+
+-- ---- the first byte of a number
+
+pub sign_first : (action : Action) (lits : List ℕ) (x : ℕ) → x ≡ 45 → (m : List ℕ) → outcome_at Text (Within action lits) (x ∷ m) ≡ outcome_at Text (InNumber action lits Sign) m
+sign_first action lits x e m =
+    let sign : after Text (Within action lits) x ≡ Goes (InNumber action lits Sign) = rw e refl in
+    front_byte Text (Within action lits) x m ∙ ap (λ (d : After). goes_on Text d m) sign
+
+pub digit_first : (action : Action) (lits : List ℕ) (x : ℕ) → is_space x ≡ false → (x ≡ 45 → ⊥) → (m : List ℕ) →
+    outcome_at Text (Within action lits) (x ∷ m) ≡ goes_on Text (first_digit action lits false x) m
+digit_first action lits x s n m =
+    let digit : after Text (Within action lits) x ≡ first_digit action lits false x = rw (s, ne_eqb x 45 n) refl in
+    front_byte Text (Within action lits) x m ∙ ap (λ (d : After). goes_on Text d m) digit
+
+pub digits_begin : (a : Known) (action : Action) (lits : List ℕ) (negative : Bool) (x : ℕ) → is_digit x ≡ true →
+    Leads a a (goes_on Text (first_digit action lits negative x)) (outcome_at Text (InNumber action lits (Digits negative (x - 48))))
+digits_begin a action lits negative x e =
+    leads_as (leads_nil a _) (λ m. ap (λ (d : After). goes_on Text d m) (digit_begins e))
+  where
+    digit_begins : is_digit x ≡ true → first_digit action lits negative x ≡ Goes (InNumber action lits (Digits negative (x - 48)))
+    digit_begins e = rw e refl
+
+pub space_within : (action : Action) (lits : List ℕ) (x : ℕ) → is_space x ≡ true → after Text (Within action lits) x ≡ Goes (Within action lits)
+space_within action lits x e = rw e refl
