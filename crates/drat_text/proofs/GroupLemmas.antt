@@ -1,7 +1,8 @@
 -- The bytes of a binary number.
 use Rattle.std.proofs.Common.{◌≡◌, ℕ, ◌+◌, ◌*◌, ◌^◌, ◌≤◌, ◌<◌, List, [], ◌∷◌, refl, sym, arith, true, false}
 use Rattle.std.specs.Prelude.{◌%◌, nat_lt, ◌==◌}
-use Rattle.std.proofs.lemmas.Bool.{lt-ltb, ne_eqb, eq-eqb}
+use Rattle.std.proofs.lemmas.Bool.{lt-ltb, le-ltb, ne_eqb, eq-eqb}
+use Rattle.std.proofs.Math.Nat.{mod-lt}
 use Rattle.drat_text.specs.declared.bytes.Format.TheVariants.{Binary}
 use Rattle.drat_text.specs.declared.fault.DratKind.TheVariants.{NumberTooLarge}
 use Rattle.drat_text.specs.declared.step.Action.{Action}
@@ -31,6 +32,14 @@ next_weight _ third n = fourth
 next_weight _ fourth n = fifth
 next_weight _ fifth n = absurd (n refl)
 
+-- a group of the weight w
+pub value_small : (v w x : ℕ) → IsWeight w → v < w → v + (x % 128) * w < w * 128
+value_small v _ x first lt = let m = mod-lt x {128} (omega arith) in omega (arith, m, lt)
+value_small v _ x second lt = let m = mod-lt x {128} (omega arith) in omega (arith, m, lt)
+value_small v _ x third lt = let m = mod-lt x {128} (omega arith) in omega (arith, m, lt)
+value_small v _ x fourth lt = let m = mod-lt x {128} (omega arith) in omega (arith, m, lt)
+value_small v _ x fifth lt = let m = mod-lt x {128} (omega arith) in omega (arith, m, lt)
+
 -- a number is begun by its first byte
 pub groups_begin : (action : Action) (lits : List ℕ) (m : List ℕ) → outcome_at Binary (Within action lits) m ≡ outcome_at Binary (InNumber action lits (Groups 0 1)) m
 unfolding outcome_at
@@ -45,10 +54,10 @@ module _ (action : Action) (lits : List ℕ) (v w x : ℕ) where
   group_fifth n e = rw (not_small, eq-eqb w 268435456 e) refl
     where
       not_small : nat_lt x 128 ≡ false
-      not_small = nlt-ltb x 128 n
+      not_small = le-ltb x 128 (omega (arith, n))
 
   pub group_more : (x < 128 → ⊥) → (w ≡ 268435456 → ⊥) → after Binary (InNumber action lits (Groups v w)) x ≡ Goes (InNumber action lits (Groups (v + (x % 128) * w) (w * 128)))
   group_more n e = rw (not_small, ne_eqb w 268435456 e) refl
     where
       not_small : nat_lt x 128 ≡ false
-      not_small = nlt-ltb x 128 n
+      not_small = le-ltb x 128 (omega (arith, n))
