@@ -34,11 +34,11 @@ next_weight _ fifth n = absurd (n refl)
 
 -- a group of the weight w
 pub value_small : (v w x : ℕ) → IsWeight w → v < w → v + (x % 128) * w < w * 128
-value_small v _ x first lt = let m = mod-lt x {128} (omega arith) in omega (arith, m, lt)
-value_small v _ x second lt = let m = mod-lt x {128} (omega arith) in omega (arith, m, lt)
-value_small v _ x third lt = let m = mod-lt x {128} (omega arith) in omega (arith, m, lt)
-value_small v _ x fourth lt = let m = mod-lt x {128} (omega arith) in omega (arith, m, lt)
-value_small v _ x fifth lt = let m = mod-lt x {128} (omega arith) in omega (arith, m, lt)
+value_small v _ x first lt = let m = mod-lt x {m = 128} (omega arith) in omega (arith, m, lt)
+value_small v _ x second lt = let m = mod-lt x {m = 128} (omega arith) in omega (arith, m, lt)
+value_small v _ x third lt = let m = mod-lt x {m = 128} (omega arith) in omega (arith, m, lt)
+value_small v _ x fourth lt = let m = mod-lt x {m = 128} (omega arith) in omega (arith, m, lt)
+value_small v _ x fifth lt = let m = mod-lt x {m = 128} (omega arith) in omega (arith, m, lt)
 
 -- a number is begun by its first byte
 pub groups_begin : (action : Action) (lits : List ℕ) (m : List ℕ) → outcome_at Binary (Within action lits) m ≡ outcome_at Binary (InNumber action lits (Groups 0 1)) m

@@ -1,6 +1,6 @@
 -- Bytes, one after the other.
 use Rattle.std.proofs.Common.{◌≡◌, ℕ, List, [], ◌∷◌, ◌++◌, Option, Result, Ok, Err, refl, sym, ap, ◌∙◌, append_assoc, append-nil}
-use Rattle.std.specs.Prelude.{IsErrAnd}
+use Rattle.std.specs.Prelude.{IsErrAnd, ◌||◌, ◌==◌}
 use Rattle.std.proofs.Common.{◌-◌, Bool, true, false, Some, None, subst}
 use Rattle.std.proofs.lemmas.Bool.{ne_eqb}
 use Rattle.std.proofs.lemmas.Result.{err_from_is_err_and}
@@ -19,16 +19,17 @@ use Rattle.drat_text.specs.declared.fault.Stop.TheVariants as stops
 use Rattle.drat_text.specs.declared.bytes.Format.TheVariants.{Text, Binary}
 use Rattle.drat_text.specs.declared.fault.DratKind.TheVariants.{Malformed}
 use Rattle.drat_text.specs.declared.step.Action.{Action}
+use Rattle.drat_text.specs.declared.step.Action.TheVariants.{Add, Delete}
 use Rattle.drat_text.specs.declared.text.Word.{Word}
 use Rattle.drat_text.specs.declared.text.Word.TheVariants as words
 use Rattle.sat_formula.specs.Bytes.{is_digit}
 use Rattle.drat_text.specs.Bytes.{is_space}
 use Rattle.drat_text.specs.Numbers.{lit_said}
-use Rattle.drat_text.specs.Places.{Place, Outside, Within, InNumber, Digits, After, Goes, Gives, Stops, after, at_end, said, with_digit, first_digit, Sign}
+use Rattle.drat_text.specs.Places.{Place, Outside, Comment, Within, InNumber, Digits, After, Goes, Gives, Stops, after, at_end, said, with_digit, first_digit, Sign}
 use Rattle.drat_text.specs.Proofs.{outcome_at}
 use Rattle.drat_text.specs.Steps.{Step, Outcome, Ended, Faulty, with_step}
 use Rattle.drat_text.specs.Taking.{Takes, TakesWithin, Leads, EndsAll, Breaks, Fails, by_byte, by_end, Stopped}
-use Rattle.drat_text.specs.Reading.{goes_on, GivesStep, EndsNumber, EndsLast, ReadsWord}
+use Rattle.drat_text.specs.Reading.{goes_on, GivesStep, EndsNumber, EndsLast, ReadsWord, IsFirst}
 
 abbrev pub Known : Type 0
 Known = Option (List ℕ)
@@ -237,3 +238,23 @@ digits_begin a action lits negative x e =
 
 pub space_within : (action : Action) (lits : List ℕ) (x : ℕ) → is_space x ≡ true → after Text (Within action lits) x ≡ Goes (Within action lits)
 space_within action lits x e = rw e refl
+
+-- ---- between steps
+
+pub outside_comment : (x : ℕ) → (x == 99 || (x == 37)) ≡ true → after Text Outside x ≡ Goes Comment
+outside_comment x e = rw e refl
+
+pub outside_space : (x : ℕ) → (x == 99 || (x == 37)) ≡ false → is_space x ≡ true → after Text Outside x ≡ Goes Outside
+outside_space x e s = rw (e, s) refl
+
+-- a step that deletes
+pub outside_delete : (x : ℕ) → x ≡ 100 → (m : List ℕ) → outcome_at Text Outside (x ∷ m) ≡ outcome_at Text (Within Delete []) m
+outside_delete x e m =
+    let delete : after Text Outside x ≡ Goes (Within Delete []) = rw e refl in
+    front_byte Text Outside x m ∙ ap (λ (d : After). goes_on Text d m) delete
+
+-- any other byte begins the first number of a step that adds
+pub outside_add : (x : ℕ) → IsFirst x → (x ≡ 100 → ⊥) → (m : List ℕ) → outcome_at Text Outside (x ∷ m) ≡ outcome_at Text (Within Add []) (x ∷ m)
+outside_add x first n m =
+    let add : after Text Outside x ≡ after Text (Within Add []) x = rw (first.comment, first.space, ne_eqb x 100 n) refl in
+    front_byte Text Outside x m ∙ ap (λ (d : After). goes_on Text d m) add ∙ sym (front_byte Text (Within Add []) x m)
