@@ -5,9 +5,13 @@ set -euo pipefail
 cd "$(dirname "$0")"
 told=$(mktemp)
 trap 'rm -f "$told"' EXIT
+tests/documents.sh
+tests/wrong_bodies.sh --records
 rt ci 2>&1 | tee "$told"
 tests/weak_edits.sh "$told"
 tests/end_to_end.sh
 tests/failing_files.sh
+tests/named_files.sh
 tests/refused_growths.sh
 tests/log_lines.sh
+tests/bindings.sh

@@ -121,12 +121,13 @@ expect added 3 's UNSATISFIABLE WITH 1 ADDED CLAUSES' '' unit.cnf empty_clause.p
 expect not_shown 3 's NOT SHOWN' '' unit.cnf end.proof
 expect no_proof 1 '' 'step 1: Unexpected end of proof file' unit.cnf nothing.proof
 expect no_arguments 0 's UNSATISFIABLE' ''
+expect help 0 'usage: varisat_check CNF PROOF [LRAT]' '' --help
 expect one_argument 2 '' 'usage: varisat_check CNF PROOF [LRAT]' unit.cnf
 expect four_arguments 2 '' 'usage: varisat_check CNF PROOF [LRAT]' unit.cnf end.proof hints.lrat hints.lrat
 expect hints 0 's UNSATISFIABLE' '' par10.cnf par10.whole.proof hints.lrat
 expect hints_of_a_refused_proof 1 '' 'step 1: Unexpected end of proof file' unit.cnf nothing.proof hints.lrat
-expect missing_formula 2 '' 'cannot open absent.cnf' absent.cnf absent.proof
-expect missing_proof 2 '' 'cannot open absent.proof' malformed.cnf absent.proof
+expect missing_formula 2 '' $'cannot open absent.cnf\nNo such file or directory (os error 2)' absent.cnf absent.proof
+expect missing_proof 2 '' $'cannot open absent.proof\nNo such file or directory (os error 2)' malformed.cnf absent.proof
 # odd formulas: a CR is a blank; a byte order mark, a NUL byte and compressed text are no numbers
 four=(1\ 2 1\ -2 -1\ 2 -1\ -2)
 printf 'p cnf 2 4\r\n' > "$work/files/cr_lf.cnf"
@@ -148,7 +149,7 @@ expect compressed_proof 1 '' 'step 1: Could not parse proof step: unknown step t
 expect nul_bytes_in_proof 1 '' 'step 1: Could not parse proof step: unknown step tag' unit.cnf /dev/zero
 expect text_as_proof 1 '' 'step 1: Could not parse proof step: unknown step tag' unit.cnf unit.cnf
 expect folder_as_proof 1 '' 'step 1: Error reading proof file: Is a directory (os error 21)' unit.cnf /
-expect folder_for_hints 2 '' 'cannot open /' unit.cnf end.proof /
+expect folder_for_hints 2 '' $'cannot open /\nIs a directory (os error 21)' unit.cnf end.proof /
 run_cases varisat_check_main
 compare
 
@@ -192,11 +193,13 @@ refuted board6 board6.cnf
 printf '5 0 1\n' > "$work/files/malformed.lrat"
 expect malformed_formula 1 '' 'line 2: bad number' malformed.cnf par10.lrat
 expect malformed_hints 1 '' 'line 1: malformed line' unit.cnf malformed.lrat
-expect no_arguments 0 's VERIFIED UNSAT' ''
+expect no_arguments 2 '' 'usage: hint_check CNF LRAT'
+expect example 0 's VERIFIED UNSAT' '' --example
+expect help 0 'usage: hint_check CNF LRAT' '' --help
 expect one_argument 2 '' 'usage: hint_check CNF LRAT' unit.cnf
 expect three_arguments 2 '' 'usage: hint_check CNF LRAT' unit.cnf par10.lrat par10.lrat
-expect missing_formula 2 '' 'cannot open absent.cnf' absent.cnf absent.lrat
-expect missing_hints 2 '' 'cannot open absent.lrat' malformed.cnf absent.lrat
+expect missing_formula 2 '' $'cannot open absent.cnf\nNo such file or directory (os error 2)' absent.cnf absent.lrat
+expect missing_hints 2 '' $'cannot open absent.lrat\nNo such file or directory (os error 2)' malformed.cnf absent.lrat
 run_cases hint_check_main
 compare
 
@@ -268,6 +271,10 @@ printf '1 0\nd 1 2 0\n0\n' > "$work/files/drat.lrat"
 printf '5 1 0 1 2 0\n' | gzip -n > "$work/files/compressed.lrat"
 printf '\xef\xbb\xbf5 1 0 1 2 0\n' > "$work/files/mark.lrat"
 expect nothing 3 's NOT VERIFIED' '' four.cnf nothing.proof
+# the empty clause of a formula refutes it, and nothing of the proof is read
+printf '1 2 0\n0\n' > "$work/files/refuted.cnf"
+expect refuted_formula 0 's VERIFIED UNSAT' '' refuted.cnf nothing.proof
+expect refuted_formula_unread 0 's VERIFIED UNSAT' '' refuted.cnf drat.lrat
 for file in binary.lrat drat.lrat compressed.lrat four.cnf mark.lrat malformed.lrat; do
   expect "read_${file%.*}" 1 '' 'proof: line 1: malformed line' four.cnf "$file"
 done
@@ -277,11 +284,13 @@ expect malformed_formula 1 '' 'formula: line 2: bad number' malformed.cnf par10.
 expect folder 1 '' 'formula: error reading formula: Is a directory (os error 21)' / par10.lrat
 expect folder_as_proof 1 '' 'proof: error reading proof: Is a directory (os error 21)' four.cnf /
 expect unreadable_proof 1 '' 'proof: error reading proof: Input/output error (os error 5)' four.cnf /proc/self/mem
-expect no_arguments 0 's VERIFIED UNSAT' ''
+expect no_arguments 2 '' 'usage: lrat_check CNF LRAT'
+expect example 0 's VERIFIED UNSAT' '' --example
+expect help 0 'usage: lrat_check CNF LRAT' '' --help
 expect one_argument 2 '' 'usage: lrat_check CNF LRAT' four.cnf
 expect three_arguments 2 '' 'usage: lrat_check CNF LRAT' four.cnf par10.lrat par10.lrat
-expect missing_formula 2 '' 'cannot open absent.cnf' absent.cnf absent.lrat
-expect missing_proof 2 '' 'cannot open absent.lrat' malformed.cnf absent.lrat
+expect missing_formula 2 '' $'cannot open absent.cnf\nNo such file or directory (os error 2)' absent.cnf absent.lrat
+expect missing_proof 2 '' $'cannot open absent.lrat\nNo such file or directory (os error 2)' malformed.cnf absent.lrat
 run_cases lrat_check_main
 compare
 
@@ -313,9 +322,9 @@ for words in '' 'unit.cnf' 'unit.cnf nothing.lrat' 'unit.cnf nothing.lrat refuse
   read -ra arguments <<< "$words"
   expect "usage_of_${#names[@]}" 2 '' 'usage: lrat_to_proof CNF LRAT PROOF [--width N]' "${arguments[@]}"
 done
-expect missing_formula 2 '' 'cannot open absent.cnf' absent.cnf absent.lrat refused
-expect missing_proof 2 '' 'cannot open absent.lrat' unit.cnf absent.lrat refused
-expect missing_folder 2 '' 'cannot open absent/proof' unit.cnf nothing.lrat absent/proof
+expect missing_formula 2 '' $'cannot open absent.cnf\nNo such file or directory (os error 2)' absent.cnf absent.lrat refused
+expect missing_proof 2 '' $'cannot open absent.lrat\nNo such file or directory (os error 2)' unit.cnf absent.lrat refused
+expect missing_folder 2 '' $'cannot open absent/proof\nNo such file or directory (os error 2)' unit.cnf nothing.lrat absent/proof
 run_cases lrat_to_proof_main
 compare
 

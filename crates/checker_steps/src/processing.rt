@@ -11,6 +11,7 @@ use checker_parts::error::{CheckerError, StepFault};
 use checker_parts::processor::{CheckerData, ProofProcessor, ProofTranscriptProcessor};
 use checker_parts::step::{CheckedProofStep, ProofTranscriptStep};
 use checker_parts::transcript::Transcript;
+use checker_parts::variables::Variables;
 use std::alloc::Global;
 use std::mem::replace;
 
@@ -111,6 +112,21 @@ impl<P: ProofProcessor, T: ProofTranscriptProcessor> ProcessingOf<P, T> {
             StepFault::OutOfMemory => CheckerError::OutOfMemory,
         }
     }
+}
+
+/// Delivers a step with the names of the variables, as `ProcessingOf::step` does.
+#[inline(always)]
+pub fn process_step<P: ProofProcessor, T: ProofTranscriptProcessor>(
+    processing: &mut ProcessingOf<P, T>,
+    variables: &Variables,
+    step: &CheckedProofStep,
+) -> Result<(), StepFault>
+    ensures delivers { DeliveredStep result (told step.now variables.now)
+        P.took P.faulted T.took T.faulted (listeners_of processing.old)
+        (listeners_of processing.new) }
+    ensures memory { lists_literals (step_of step.now) ≡ false → result ≢ Err OutOfMemory }
+{
+    processing.step(step, CheckerData(variables))
 }
 
 /// What stands where no fault was answered.

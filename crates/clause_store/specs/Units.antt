@@ -70,6 +70,15 @@ value_by (Some u) m = Some (same_bool u.value (not (is_negative m)))
 abbrev pub lit_value : List (Option UnitClause) → ℕ → Option Bool
 lit_value us m = value_by (unit_at us (var_of m)) m
 
+-- the same with what gives the variable its value
+abbrev pub signed_unit : Option UnitClause → ℕ → Option (Bool × UnitClause)
+signed_unit None m = None
+signed_unit (Some u) m = Some (same_bool u.value (not (is_negative m)), u)
+
+-- the value of a literal with that; none for one of a variable without a value
+abbrev pub lit_unit : List (Option UnitClause) → ℕ → Option (Bool × UnitClause)
+lit_unit us m = signed_unit (unit_at us (var_of m)) m
+
 -- the variables of the literals are known
 abbrev pub AreKnown : List (Option UnitClause) → List ℕ → Type 0
 AreKnown us c = var_bound c ≤ length us

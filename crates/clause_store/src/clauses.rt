@@ -15,8 +15,11 @@ pub mod units;
 
 use crate::clauses::buckets::Buckets;
 use crate::clauses::counts::LitCounts;
-use crate::clauses::lits::ClauseLits;
+pub use crate::clauses::delete::delete_clause;
+pub use crate::clauses::lits::ClauseLits;
+pub use crate::clauses::store::{store_clause, store_unit_clause};
 use crate::clauses::units::Units;
+pub use crate::clauses::units::{UnitClause, UnitId};
 use sat_formula::Lit;
 use std::alloc::Global;
 use std::collections::HashMap;
@@ -80,6 +83,7 @@ impl Clauses {
     ghost use Rattle.clause_store.specs.declared.hash.ClauseHasher.{ClauseHasher};
     ghost use Rattle.clause_store.specs.NewParts.{IsEmptyStore};
     ghost use Rattle.clause_store.specs.Store.{IsStore};
+    ghost use Rattle.clause_store.specs.Units as units;
 
     /// Nothing is stored.
     pub fn new(alloc: Global) -> Clauses
@@ -94,6 +98,14 @@ impl Clauses {
             unit_clauses: Units::new(alloc),
             unit_conflict: None,
         }
+    }
+
+    /// The value of a literal, with what gives its variable one. None for an unknown variable too.
+    pub fn lit_value(&self, lit: Lit) -> Option<(bool, UnitClause)>
+        ensures { result ≡ units.lit_unit self.now.unit_clauses lit }
+    {
+        let unit = self.unit_clauses.get(lit.index())?;
+        Some((unit.value == lit.is_positive(), unit))
     }
 
     /// Takes the next id. None where none is left.

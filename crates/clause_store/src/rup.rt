@@ -22,6 +22,7 @@ ghost use Rattle.clause_store.specs.Units.{AreKnown};
 
 use crate::clauses::buckets::Buckets;
 use crate::clauses::units::Units;
+pub use crate::rup::check::check_clause_with_hashes;
 use crate::rup::propagation::Propagation;
 use crate::rup::trail::{assume_false, undo};
 use crate::rup::untraced::{FreePropagation, check_untraced};

@@ -3,6 +3,7 @@
 --     AcceptsHints, ChecksHints      all lines were accepted; the answer of checking a text of hints over a formula
 --     CheckRun cnf lrat r      the run over both texts
 --     IsRefusedRun r      the formula or the hints were not accepted
+--     IsUnwritten r, BeginsLine      the verdict's line was not written whole, and what was written then
 use Rattle.std.specs.Prelude.{◌≡◌, ◌≢◌, ℕ, Bool, false, List, Option, IfSome, Result, Ok, Err}
 use Rattle.std.specs.IoError.{error_kind}
 use Rattle.std.specs.Option.{option_map}
@@ -13,7 +14,8 @@ use Rattle.sat_formula.specs.Lines.{outcome_of}
 use Rattle.sat_formula.specs.Outcome.{Ended}
 use Rattle.sat_formula.specs.Whole.{FailsAfter, IsOutcome}
 use Rattle.hint_checker.specs.Checked.{Accepts, IsRefusal}
-use Rattle.hint_check.specs.Verdicts.{verdict_of}
+use Rattle.whole_writes.specs.Beginnings.{AppendsBeginning}
+use Rattle.hint_check.specs.Verdicts.{shown_line, verdict_of}
 use Rattle.hint_check.specs.declared.fault.RunFault.{RunFault}
 use Rattle.hint_check.specs.declared.fault.RunFault.TheVariants.{Formula, Hints, Read, Write}
 use Rattle.hint_check.specs.declared.verdict.Verdict.{Verdict}
@@ -66,3 +68,17 @@ IsRefusedRun (Err (Write cause)) = ⊥
 IsRefusedRun (Err (Formula fault)) = Unit {0}
 IsRefusedRun (Err (Hints fault)) = Unit {0}
 IsRefusedRun (Err (Read cause)) = Unit {0}
+
+-- the verdict stands, and its line was not written whole
+abbrev pub IsUnwritten : Result Verdict RunFault → Type 0
+IsUnwritten (Ok verdict) = ⊥
+IsUnwritten (Err (Write cause)) = Unit {0}
+IsUnwritten (Err (Formula fault)) = ⊥
+IsUnwritten (Err (Hints fault)) = ⊥
+IsUnwritten (Err (Read cause)) = ⊥
+
+-- both texts were read and checked with this verdict, and an output grew by a beginning of its line
+pub record BeginsLine (cnf lrat old new : Option (List ℕ)) : Type 0 where
+  pub verdict : Verdict
+  pub checked : ReadAndChecked cnf lrat (Ok verdict)
+  pub begins : AppendsBeginning old new (shown_line verdict)

@@ -1,9 +1,10 @@
 //! Runs: a text of hints is checked over a formula, and the verdict is written.
-ghost use Rattle.std.specs.Prelude.{◌≡◌, ◌↔◌, List, ℕ, Some, Ok, IfOk, IsTrue};
+ghost use Rattle.std.specs.Prelude.{◌≡◌, ◌↔◌, List, ℕ, Some, Ok, IfOk, OnErr, OnOk, IsTrue};
 ghost use Rattle.std.specs.IoError.{error_kind};
 ghost use Rattle.std.specs.Io.KnownBytes.{Appends};
 ghost use Rattle.sat_formula.specs.Refuted.{IsRefuted};
-ghost use Rattle.hint_check.specs.Runs.{ChecksHints, CheckRun, IsRefusedRun};
+ghost use Rattle.whole_writes.specs.Beginnings.{AppendsBeginning};
+ghost use Rattle.hint_check.specs.Runs.{BeginsLine, ChecksHints, CheckRun, IsRefusedRun, IsUnwritten};
 ghost use Rattle.hint_check.specs.Verdicts.{shown_line};
 ghost use Rattle.hint_check.specs.declared.verdict.Verdict.TheVariants.{Verified};
 
@@ -14,10 +15,13 @@ use sat_formula::{CnfFormula, read_formula};
 use std::alloc::Global;
 use std::io;
 use std::io::{ErrorKind, Read, Write};
+use whole_writes::write_whole;
 
-/// Reads a formula as DIMACS text and a text of hints, checks the hints over the formula, and writes the verdict's line.
+/// Reads a formula as DIMACS text and a text of hints, checks the hints over the formula, and writes
+/// the verdict's line.
 ///
-/// Nothing is written unless all lines are accepted. The checker of proofs takes no part in it.
+/// Nothing is written unless all lines are accepted. Where the line can't be written whole, the
+/// verdict stood, and a beginning of the line is written. The checker of proofs takes no part in it.
 pub fn run_check<F: Read + Drop, H: Read + Drop, W: Write>(
     alloc: Global,
     cnf: F,
@@ -28,6 +32,8 @@ pub fn run_check<F: Read + Drop, H: Read + Drop, W: Write>(
     ensures line { IfOk result (λ verdict.
         Appends (W.contents out.old) (W.contents out.new) (shown_line verdict)) }
     ensures silent { IsRefusedRun result → out.new ≡ out.old }
+    ensures unwritten { IsUnwritten result → BeginsLine (F.remaining cnf) (H.remaining hints)
+        (W.contents out.old) (W.contents out.new) }
     ensures refutes { (text : List ℕ) → F.remaining cnf ≡ Some text →
         result ≡ Ok Verified → IsRefuted text }
 {
@@ -78,12 +84,12 @@ fn is_want_of_memory(fault: &io::Error) -> bool
     fault.kind() == ErrorKind::OutOfMemory
 }
 
-/// Writes a verdict's line at once, so that no fault between two writes leaves a part of it, and out
-/// of a writer's buffer.
+/// Writes a verdict's line, also out of a writer's buffer.
 fn write_line<W: Write>(out: &mut W, verdict: Verdict) -> io::Result<()>
-    ensures { IfOk result (λ done.
-        Appends (W.contents out.old) (W.contents out.new) (shown_line verdict)) }
+    ensures whole { OnOk result
+        (Appends (W.contents out.old) (W.contents out.new) (shown_line verdict)) }
+    ensures beginning { OnErr result
+        (AppendsBeginning (W.contents out.old) (W.contents out.new) (shown_line verdict)) }
 {
-    out.write_all(verdict.line())?;
-    out.flush()
+    write_whole(out, verdict.line())
 }

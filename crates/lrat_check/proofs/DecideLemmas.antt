@@ -2,7 +2,7 @@
 use Rattle.std.proofs.Common.{◌≡◌, ℕ, Bool, true, false, List, [], ◌∷◌, ◌++◌, Option, Some, None, Result, Ok, Err, refl, sym, ap, ◌∙◌, append_assoc}
 use Rattle.std.specs.Prelude.{◌||◌, IfSome}
 use Rattle.checker_rules.specs.Hints.{Item}
-use Rattle.lrat_rules.specs.Lines.{Line, accepts, refutes}
+use Rattle.lrat_rules.specs.Lines.{Line, accepts, has_empty, is_refuted, refutes}
 use Rattle.lrat_rules.specs.Causes.{Cause}
 use Rattle.lrat_rules.specs.Refusals.{cause_of_line}
 use Rattle.lrat_rules.specs.Stores.{formula_store}
@@ -12,6 +12,7 @@ use Rattle.lrat_text.specs.Texts.{Outcome, outcome_of}
 use Rattle.lrat_checker.specs.Causes.{cause_of}
 use Rattle.lrat_checker.specs.Standing.{HasAccepted, has_refuted}
 use Rattle.lrat_checker.specs.TextAnswers.{said}
+use Rattle.lrat_checker.proofs.StandLemmas.{or_assoc}
 use Rattle.lrat_checker.specs.declared.checker.LratChecker.{LratChecker}
 use Rattle.lrat_checker.specs.declared.fault.LratFault.{LratFault}
 use Rattle.lrat_checker.specs.declared.fault.LratFault.TheVariants as lrat
@@ -32,24 +33,25 @@ refused_ends st l ls k e = go (accepts st l) refl
 module _ (formula : List (List ℕ)) where
   -- lines that were accepted, and those after them
   found : (lines later : List (ℕ × Line)) (c : LratChecker) (p : HasAccepted formula (said lines) c)
-      → refutes (formula_store formula) (said (lines ++ later)) ≡ (has_refuted c || refutes p.store (said later))
+      → is_refuted formula (said (lines ++ later)) ≡ (has_refuted c || refutes p.store (said later))
   found lines later c p =
-      ap (refutes (formula_store formula)) (said-append lines later)
-      ∙ runs_join.refutes_on (formula_store formula) p.store (said lines) (said later) p.ran
+      ap (is_refuted formula) (said-append lines later)
+      ∙ ap (λ b. has_empty formula || b) (runs_join.refutes_on (formula_store formula) p.store (said lines) (said later) p.ran)
+      ∙ or_assoc (has_empty formula) (refutes (formula_store formula) (said lines)) (refutes p.store (said later))
       ∙ ap (λ b. b || refutes p.store (said later)) (sym p.refuted)
 
-  shows-of : (text : List ℕ) (o : Outcome) → outcome_of text ≡ o → shows formula text ≡ refutes (formula_store formula) (said o.0)
-  shows-of text o e = ap (λ (p : Outcome). refutes (formula_store formula) (said p.0)) e
+  shows-of : (text : List ℕ) (o : Outcome) → outcome_of text ≡ o → shows formula text ≡ is_refuted formula (said o.0)
+  shows-of text o e = ap (λ (p : Outcome). is_refuted formula (said p.0)) e
 
-  -- one of the lines that were accepted adds the empty clause
-  shows-refuted : (lines later : List (ℕ × Line)) (c : LratChecker) → HasAccepted formula (said lines) c → has_refuted c ≡ true → refutes (formula_store formula) (said (lines ++ later)) ≡ true
+  -- the formula has the empty clause, or one of the lines that were accepted adds it
+  shows-refuted : (lines later : List (ℕ × Line)) (c : LratChecker) → HasAccepted formula (said lines) c → has_refuted c ≡ true → is_refuted formula (said (lines ++ later)) ≡ true
   shows-refuted lines later c p e = found lines later c p ∙ ap (λ b. b || refutes p.store (said later)) e
 
   -- none does, and the next line is refused
   shows-refused : (lines : List (ℕ × Line)) (number : ℕ) (line : Line) (later : List (ℕ × Line)) (c : LratChecker) (k : Cause) (p : HasAccepted formula (said lines) c) → has_refuted c ≡ false
-      → cause_of_line p.store line ≡ Some k → refutes (formula_store formula) (said ((lines ++ (number, line) ∷ []) ++ later)) ≡ false
+      → cause_of_line p.store line ≡ Some k → is_refuted formula (said ((lines ++ (number, line) ∷ []) ++ later)) ≡ false
   shows-refused lines number line later c k p e refused =
-      ap (λ (ls : List (ℕ × Line)). refutes (formula_store formula) (said ls)) (append_assoc lines ((number, line) ∷ []) later)
+      ap (λ (ls : List (ℕ × Line)). is_refuted formula (said ls)) (append_assoc lines ((number, line) ∷ []) later)
       ∙ found lines ((number, line) ∷ later) c p
       ∙ ap (λ b. b || refutes p.store (line ∷ said later)) e
       ∙ refused_ends p.store line (said later) k refused

@@ -1,32 +1,34 @@
 -- Runs of a proof after a formula.
---     shows formula text      the lines of the text up to one that adds the empty clause are accepted
+--     shows formula text      the formula has the empty clause, or the lines of the text up to one that adds it are accepted
 --     Refutes formula known r      the checker's answer to a proof of these bytes
 --     IsProofRun, IsCheckRun      the run of a proof after a formula, and after a formula's text
 --     IsDecided formula text r      what the run says of the proof's text
 --     IsRefusedRun r      the formula or the proof was refused
+--     IsUnwritten r      the verdict's line was not written whole
+--     BeginsLine, BeginsLineAfter      what was written then, after a formula, and after a formula's text
 use Rattle.std.specs.Prelude.{◌≡◌, ℕ, Bool, true, false, List, [], Option, Result, Ok, Err, OnErr, IfSome}
 use Rattle.std.specs.Option.{option_map}
 use Rattle.checker_rules.specs.Clauses.{all_true}
 use Rattle.sat_formula.specs.Lines as dimacs
 use Rattle.sat_formula.specs.Outcome.{Ended}
 use Rattle.sat_formula.specs.Whole.{FailsAfter, IsOutcome}
-use Rattle.lrat_rules.specs.Lines.{refutes}
-use Rattle.lrat_rules.specs.Stores.{formula_store}
+use Rattle.lrat_rules.specs.Lines.{is_refuted}
 use Rattle.lrat_text.specs.Texts.{outcome_of}
 use Rattle.lrat_checker.specs.Standing.{has_refuted}
 use Rattle.lrat_checker.specs.TextAnswers.{IsTextAnswer, said}
+use Rattle.whole_writes.specs.Beginnings.{AppendsBeginning}
 use Rattle.lrat_checker.specs.declared.checker.LratChecker.{LratChecker}
 use Rattle.lrat_checker.specs.declared.fault.LratFault.{LratFault}
 use Rattle.lrat_checker.specs.declared.fault.LratFault.TheVariants as lrat
-use Rattle.lrat_check.specs.Verdicts.{verdict_of}
+use Rattle.lrat_check.specs.Verdicts.{shown_line, verdict_of}
 use Rattle.lrat_check.specs.declared.fault.RunFault.{RunFault}
 use Rattle.lrat_check.specs.declared.fault.RunFault.TheVariants.{Formula, Proof, Write}
 use Rattle.lrat_check.specs.declared.verdict.Verdict.{Verdict}
 use Rattle.lrat_check.specs.declared.verdict.Verdict.TheVariants.{Verified, NotVerified}
 
--- whether the lines of a text up to one that adds the empty clause are accepted after the formula
+-- whether the formula has the empty clause, or the lines of a text up to one that adds it are accepted after the formula
 abbrev pub shows : List (List ℕ) → List ℕ → Bool
-shows formula text = refutes (formula_store formula) (said (outcome_of text).0)
+shows formula text = is_refuted formula (said (outcome_of text).0)
 
 -- a checker that held the formula gave this answer, and stopped at the first line that adds the empty clause
 pub record Checks (formula : List (List ℕ)) (known : Option (List ℕ))
@@ -92,3 +94,23 @@ IsCheckRun cnf known (Err (Write cause)) = IsAfterFormula cnf known (Err (Write 
 IsCheckRun cnf known (Err (Proof fault)) = IsAfterFormula cnf known (Err (Proof fault))
 IsCheckRun cnf known (Err (Formula fault)) = (clauses : List (List ℕ))
     × FailsAfter (option_map dimacs.outcome_of cnf) clauses fault
+
+-- the verdict stands, and its line was not written whole
+abbrev pub IsUnwritten : Result Verdict RunFault → Type 0
+IsUnwritten (Ok verdict) = ⊥
+IsUnwritten (Err (Write cause)) = Unit {0}
+IsUnwritten (Err (Proof fault)) = ⊥
+IsUnwritten (Err (Formula fault)) = ⊥
+
+-- the proof was checked, and an output grew by a beginning of the line of its verdict
+pub record BeginsLine (formula : List (List ℕ)) (known old new : Option (List ℕ)) : Type 0 where
+  pub refuted : Bool
+  pub checked : Refutes formula known (Ok refuted)
+  pub decided : IfSome known (λ text. shows formula text ≡ refuted)
+  pub begins : AppendsBeginning old new (shown_line (verdict_of refuted))
+
+-- the whole text is this formula, after which the proof was checked, and so on
+pub record BeginsLineAfter (cnf known old new : Option (List ℕ)) : Type 0 where
+  pub formula : List (List ℕ)
+  pub whole : IsOutcome (option_map dimacs.outcome_of cnf) (formula, Ended)
+  pub line : BeginsLine formula known old new

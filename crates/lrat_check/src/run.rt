@@ -1,8 +1,10 @@
 //! Runs: a proof is checked, and its verdict is written.
-ghost use Rattle.std.specs.Prelude.{◌≡◌, ℕ, Bool, false, IfOk, IfSome, Ok};
+ghost use Rattle.std.specs.Prelude.{◌≡◌, ℕ, Bool, false, List, IfOk, IfSome, Ok, OnErr, OnOk, Some};
 ghost use Rattle.std.specs.Io.KnownBytes.{Appends};
 ghost use Rattle.checker_rules.specs.Clauses.{all_true};
-ghost use Rattle.lrat_check.specs.Runs.{IsCheckRun, IsDecided, IsProofRun, IsRefusedRun, Refutes};
+ghost use Rattle.sat_formula.specs.Refuted.{IsRefuted};
+ghost use Rattle.whole_writes.specs.Beginnings.{AppendsBeginning};
+ghost use Rattle.lrat_check.specs.Runs.{BeginsLine, BeginsLineAfter, IsCheckRun, IsDecided, IsProofRun, IsRefusedRun, IsUnwritten, Refutes};
 ghost use Rattle.lrat_check.specs.Verdicts.{shown_line};
 ghost use Rattle.lrat_check.specs.declared.verdict.Verdict.TheVariants.{Verified};
 
@@ -13,11 +15,14 @@ use sat_formula::{CnfFormula, read_formula};
 use std::alloc::Global;
 use std::io;
 use std::io::{Read, Write};
+use whole_writes::write_whole;
 
 /// Checks a proof after a formula, up to its first line that adds the empty clause, and writes the
-/// verdict's line. What stands after that line is not read.
+/// verdict's line. What stands after that line is not read. Nothing is where the formula has the
+/// empty clause.
 ///
-/// Nothing is written where a line is refused or can't be read.
+/// Nothing is written where a line is refused or can't be read. Where the verdict's line can't be
+/// written whole, the verdict stood, and a beginning of the line is written.
 pub fn run_proof<P: Read + Drop, W: Write>(
     alloc: Global,
     formula: &CnfFormula,
@@ -29,6 +34,8 @@ pub fn run_proof<P: Read + Drop, W: Write>(
     ensures line { IfOk result (λ verdict.
         Appends (W.contents out.old) (W.contents out.new) (shown_line verdict)) }
     ensures silent { IsRefusedRun result → out.new ≡ out.old }
+    ensures unwritten { IsUnwritten result → BeginsLine formula.now (P.remaining proof)
+        (W.contents out.old) (W.contents out.new) }
     ensures refutes { result ≡ Ok Verified → (a : ℕ → Bool) → all_true a formula.now ≡ false }
 {
     let verdict = match refute(alloc, formula, proof) {
@@ -43,7 +50,8 @@ pub fn run_proof<P: Read + Drop, W: Write>(
 
 /// Reads a formula in DIMACS CNF, checks the proof, and writes the verdict's line.
 ///
-/// The proof is read only once the formula was read whole.
+/// The proof is read only once the formula was read whole. What is written is as for `run_proof`;
+/// nothing is where the formula can't be read.
 pub fn run_check<F: Read + Drop, P: Read + Drop, W: Write>(
     alloc: Global,
     cnf: F,
@@ -54,6 +62,10 @@ pub fn run_check<F: Read + Drop, P: Read + Drop, W: Write>(
     ensures line { IfOk result (λ verdict.
         Appends (W.contents out.old) (W.contents out.new) (shown_line verdict)) }
     ensures silent { IsRefusedRun result → out.new ≡ out.old }
+    ensures unwritten { IsUnwritten result → BeginsLineAfter (F.remaining cnf)
+        (P.remaining proof) (W.contents out.old) (W.contents out.new) }
+    ensures refutes { (text : List ℕ) → F.remaining cnf ≡ Some text →
+        result ≡ Ok Verified → IsRefuted text }
 {
     match read_formula(alloc, cnf) {
         Ok(formula) => run_proof(alloc, &formula, proof, out),
@@ -71,12 +83,12 @@ fn refute<P: Read + Drop>(alloc: Global, formula: &CnfFormula, proof: P) -> Resu
     }
 }
 
-/// Writes a verdict's line at once, so that no fault between two writes leaves a part of it, and out
-/// of a writer's buffer.
+/// Writes a verdict's line, also out of a writer's buffer.
 fn write_line<W: Write>(out: &mut W, verdict: Verdict) -> io::Result<()>
-    ensures { IfOk result (λ done.
-        Appends (W.contents out.old) (W.contents out.new) (shown_line verdict)) }
+    ensures whole { OnOk result
+        (Appends (W.contents out.old) (W.contents out.new) (shown_line verdict)) }
+    ensures beginning { OnErr result
+        (AppendsBeginning (W.contents out.old) (W.contents out.new) (shown_line verdict)) }
 {
-    out.write_all(verdict.line())?;
-    out.flush()
+    write_whole(out, verdict.line())
 }

@@ -132,13 +132,7 @@ fn empty_clause_of_a_formula(rt: HostRuntime) -> Result<(), Fail> {
         b"2 0 1 0".as_slice(),
         VERIFIED,
     )?;
-    check(
-        &rt,
-        rt.alloc(),
-        b"0".as_slice(),
-        b"".as_slice(),
-        NOT_VERIFIED,
-    )
+    check(&rt, rt.alloc(), b"0".as_slice(), b"".as_slice(), VERIFIED)
 }
 
 #[test]

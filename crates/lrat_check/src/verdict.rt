@@ -7,11 +7,11 @@ use std::fmt;
 /// What a proof has shown of its formula.
 #[derive(Clone, Copy, Debug, PartialEq, Eq)]
 pub enum Verdict {
-    /// No assignment satisfies the formula: all lines of the proof up to one that adds the empty
-    /// clause were accepted.
+    /// No assignment satisfies the formula: it has the empty clause, or all lines of the proof up
+    /// to one that adds it were accepted.
     Verified,
-    /// All lines were accepted, and none adds the empty clause. The formula may be satisfiable or
-    /// not.
+    /// All lines were accepted, none adds the empty clause, and the formula has none. It may be
+    /// satisfiable or not.
     NotVerified,
 }
 
@@ -19,7 +19,7 @@ impl Verdict {
     ghost use Rattle.std.specs.Prelude.{◌≡◌};
     ghost use Rattle.lrat_check.specs.Verdicts.{shown_line, verdict_of};
 
-    /// The verdict of a proof whose lines were accepted, and which adds the empty clause or not.
+    /// The verdict by whether the formula was refuted.
     pub(crate) fn of(refuted: bool) -> Verdict
         ensures { result ≡ verdict_of refuted }
     {

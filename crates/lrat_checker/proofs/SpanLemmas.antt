@@ -1,9 +1,10 @@
 -- Places in a buffer, and the clauses of small ids.
-use Rattle.std.proofs.Common.{◌≡◌, ℕ, zero, suc, ◌+◌, ◌-◌, ◌<◌, ◌≤◌, Bool, true, false, eqb, List, [], ◌∷◌, ◌++◌, length, get_or}
-use Rattle.std.proofs.Common.{take, drop, Option, Some, None, refl, sym, ap, ◌∙◌, subst, arith, length-append, length-drop}
-use Rattle.std.proofs.lemmas.Bool.{and_parts, and_from, eqb-true, eqb-false, leb-true, le-leb}
+use Rattle.std.proofs.Common.{◌≡◌, ℕ, zero, suc, ◌+◌, ◌-◌, ◌<◌, ◌≤◌, Bool, true, false, cond, eqb, leb, List, [], ◌∷◌, ◌++◌, length, get_or}
+use Rattle.std.proofs.Common.{set, take, drop, Option, Some, None, refl, sym, ap, ◌∙◌, subst, arith, length-append, length-drop}
+use Rattle.std.proofs.lemmas.Bool.{and_parts, and_from, eqb-true, eqb-false, leb-true, leb-false, le-leb}
 use Rattle.std.proofs.lemmas.List.{drop-append-le, get_or_at, take-append-le}
-use Rattle.lrat_checker.specs.Spans.{is_within, lits_at, nowhere, place_of, span_at}
+use Rattle.std.proofs.lemmas.List.Sums.{sum_by-append, sum_by-set}
+use Rattle.lrat_checker.specs.Spans.{in_use, is_within, lits_at, nowhere, place_of, span_at, span_len}
 use Rattle.lrat_checker.specs.declared.span.Span.{Span}
 
 -- a place in a longer buffer
@@ -23,6 +24,24 @@ within-more (Some span) n m w h =
     let end = leb-true span.end n parts.1 in
     and_from _ _ parts.0 (le-leb span.end m (omega arith))
 
+-- ---- how many literals are in use
+
+-- no literal, where there is no place
+pub none-span_len : (span : Span) (lits : List ℕ) → lits_at (place_of span) lits ≡ None → span_len span ≡ 0
+none-span_len span lits none = go (leb span.start span.end) refl none
+  where
+    go : (b : Bool) → leb span.start span.end ≡ b → lits_at (cond b (Some span) None) lits ≡ None → span_len span ≡ 0
+    go true e n = cc
+    go false e n = omega (arith, leb-false span.start span.end e)
+
+-- another place for an id
+pub in_use-set : (spans : List Span) (i : ℕ) (span : Span) → i < length spans → in_use (set spans i span) + span_len (get_or spans i nowhere) ≡ in_use spans + span_len span
+in_use-set spans i span w = sum_by-set span_len spans i span nowhere w
+
+-- one place more
+pub in_use-push : (spans : List Span) (span : Span) → in_use (spans ++ span ∷ []) ≡ in_use spans + span_len span
+in_use-push spans span = omega (arith, sum_by-append span_len spans (span ∷ []))
+
 -- ---- moving to another buffer
 
 -- one more at the end changes nothing elsewhere
@@ -37,15 +56,17 @@ pub record Moved (spans : List Span) (lits : List ℕ) (places : List Span) (buf
   pub count : length places ≡ i
   pub same : (k : ℕ) → k < i → lits_at (span_at places k) buffer ≡ lits_at (span_at spans k) lits
   pub within : (k : ℕ) → is_within (span_at places k) (length buffer) ≡ true
+  pub used : in_use places ≡ length buffer
 
 -- the place of one more
 pub moved_next : (spans : List Span) (lits : List ℕ) (places : List Span) (buffer : List ℕ) (i : ℕ) → Moved spans lits places buffer i → (span place : Span) → span ≡ get_or spans i nowhere →
     (more now : List ℕ) → now ≡ buffer ++ more → lits_at (place_of place) now ≡ lits_at (place_of span) lits →
-    is_within (place_of place) (length now) ≡ true → Moved spans lits (places ++ place ∷ []) now (i + 1)
-moved_next spans lits places buffer i m span place at more now longer same within = record {
+    is_within (place_of place) (length now) ≡ true → length now ≡ length buffer + span_len place → Moved spans lits (places ++ place ∷ []) now (i + 1)
+moved_next spans lits places buffer i m span place at more now longer same within used = record {
   count = omega (arith, length-append places (place ∷ []), m.count);
   same = λ k u. same_at k (eqb k i) refl u;
   within = λ k. within_at k (eqb k i) refl;
+  used = omega (arith, in_use-push places place, m.used, used);
 }
   where
     grown : length buffer ≤ length now

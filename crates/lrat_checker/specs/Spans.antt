@@ -2,7 +2,9 @@
 --     place_of span, span_at spans i      a place, unless it is nowhere;  the place of an id
 --     lits_at o lits      the literals of a place
 --     is_within o n      the place lies in a buffer of n literals
-use Rattle.std.specs.Prelude.{ℕ, ◌&&◌, Bool, true, nat_le, if◌then◌else◌, List, get_or, slice_range, Option, Some, None}
+--     in_use spans      how many literals the places hold in all
+use Rattle.std.specs.Prelude.{ℕ, ◌-◌, ◌&&◌, Bool, true, nat_le, if◌then◌else◌, List, get_or, slice_range, Option, Some, None}
+use Rattle.std.specs.List.{sum_by}
 use Rattle.lrat_checker.specs.declared.span.Span.{Span}
 
 -- a place, unless it is nowhere
@@ -26,3 +28,11 @@ lits_at (Some span) lits = Some (slice_range lits span.start span.end)
 abbrev pub is_within : Option Span → ℕ → Bool
 is_within None n = true
 is_within (Some span) n = nat_le span.start span.end && nat_le span.end n
+
+-- how many literals it holds; none, if it is nowhere
+abbrev pub span_len : Span → ℕ
+span_len span = span.end - span.start
+
+-- how many literals the places hold in all
+abbrev pub in_use : List Span → ℕ
+in_use spans = sum_by span_len spans

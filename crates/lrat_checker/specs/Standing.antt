@@ -1,16 +1,18 @@
 -- Where a checker stands: the lines that it has accepted after a formula's clauses, and what it holds.
---     has_failed c, has_refuted c      a line was not accepted;  a line added the empty clause
---     HasAccepted formula lines c      the lines were accepted, and whether one of them added the empty clause is known
+--     has_failed c, has_refuted c      a line was not accepted;  the empty clause is the formula's, or a line added it
+--     HasAccepted formula lines c      the lines were accepted, and whether they refute the formula is known
 --     IsReady formula lines c      and the checker holds what is stored after them
 --     IsAnswer formula lines line fault      the fault of a line after them
+--     HoldsLittle c      the clauses take little room that no clause uses
 use Rattle.std.specs.Prelude.{◌≡◌, ℕ, Bool, false, List, Some}
 use Rattle.checker_rules.specs.Hints.{Item}
-use Rattle.lrat_rules.specs.Lines.{Line, refutes, run}
+use Rattle.lrat_rules.specs.Lines.{Line, is_refuted, run}
 use Rattle.lrat_rules.specs.Refusals.{cause_of_line}
 use Rattle.lrat_rules.specs.Stores.{formula_store}
 use Rattle.lrat_rules.specs.Tables.{IsTableOf}
 use Rattle.lrat_checker.specs.Causes.{cause_of}
 use Rattle.lrat_checker.specs.Held.{table_of}
+use Rattle.lrat_checker.specs.Near.{IsTight}
 use Rattle.lrat_checker.specs.declared.checker.LratChecker.{LratChecker}
 use Rattle.lrat_checker.specs.declared.fault.LineFault.{LineFault}
 use Rattle.lrat_checker.specs.declared.fault.LineFault.TheVariants.{Failed, OutOfMemory, Refused}
@@ -19,16 +21,16 @@ use Rattle.lrat_checker.specs.declared.fault.LineFault.TheVariants.{Failed, OutO
 abbrev pub has_failed : LratChecker → Bool
 has_failed c = c.failed
 
--- a line added the empty clause
+-- the empty clause is one of the formula's, or a line added it
 abbrev pub has_refuted : LratChecker → Bool
 has_refuted c = c.refuted
 
--- the lines are accepted after the formula's clauses, and it is known whether one of them adds the empty clause
+-- the lines are accepted after the formula's clauses, and it is known whether these or one of the lines are the empty clause
 pub record HasAccepted (formula : List (List ℕ)) (lines : List Line) (c : LratChecker) : Type 0
   where
     pub store : List Item
     pub ran : run (formula_store formula) lines ≡ Some store
-    pub refuted : has_refuted c ≡ refutes (formula_store formula) lines
+    pub refuted : has_refuted c ≡ is_refuted formula lines
 
 -- and no line was refused, and the checker holds what is stored
 pub record IsReady (formula : List (List ℕ)) (lines : List Line) (c : LratChecker) : Type 0 where
@@ -43,3 +45,7 @@ IsAnswer formula lines line (Refused cause) = (store : List Item) →
     cause_of_line store line ≡ Some (cause_of cause)
 IsAnswer formula lines line OutOfMemory = Unit {0}
 IsAnswer formula lines line Failed = ⊥
+
+-- the buffer of literals has at most twice those of the clauses, or one more for each place of an id
+abbrev pub HoldsLittle : LratChecker → Type 0
+HoldsLittle c = IsTight c.clauses.near

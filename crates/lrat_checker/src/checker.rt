@@ -1,7 +1,7 @@
 //! The checker of LRAT proofs.
 ghost use Rattle.std.specs.Prelude.{◌≡◌, ◌∷◌, ◌++◌, ◌||◌, ◌&&◌, ℕ, Bool, true, false, [], List, None, Some, Err, IfErr, IfOk, OnOk, OnErr};
 ghost use Rattle.checker_rules.specs.Clauses.{all_true};
-ghost use Rattle.lrat_rules.specs.Lines.{Line, adds_empty};
+ghost use Rattle.lrat_rules.specs.Lines.{Line, adds_empty, has_empty};
 ghost use Rattle.lrat_rules.specs.Tables.{cause_by_table, table_after};
 ghost use Rattle.lrat_checker.specs.Causes.{IsCause};
 ghost use Rattle.lrat_checker.specs.declared.fault.LineFault.TheVariants.{Failed};
@@ -29,24 +29,26 @@ pub struct LratChecker {
 }
 
 impl LratChecker {
-    ghost use Rattle.lrat_checker.specs.Standing.{HasAccepted, IsAnswer, IsReady, has_failed, has_refuted};
+    ghost use Rattle.lrat_checker.specs.Standing.{HasAccepted, HoldsLittle, IsAnswer, IsReady, has_failed, has_refuted};
     ghost use Rattle.lrat_checker.specs.TextAnswers.{IfCut, IsCut, IsTextAnswer};
     ghost use Rattle.lrat_checker.specs.Faults.{of_text};
 
     /// A checker that holds the clauses of a formula under 1, 2 and so on.
     pub fn new(alloc: Global, formula: &CnfFormula) -> Result<LratChecker, AllocError>
-        ensures { IfOk result (λ checker. IsReady formula.now [] checker) }
+        ensures ready { IfOk result (λ checker. IsReady formula.now [] checker) }
+        ensures tight { IfOk result (λ checker. HoldsLittle checker) }
     {
         Ok(LratChecker {
             alloc,
             clauses: Clauses::new(alloc, formula)?,
             work: Work::new(alloc),
-            refuted: false,
+            refuted: has_empty_clause(formula),
             failed: false,
         })
     }
 
-    /// Whether a line so far added the empty clause: then no assignment satisfies the formula.
+    /// Whether the formula has the empty clause, or a line so far added it: then no assignment
+    /// satisfies the formula.
     pub fn refuted(&self) -> bool
         ensures value { result ≡ has_refuted self.now }
         ensures refutes { (formula : List (List ℕ)) (lines : List Line)
@@ -72,6 +74,7 @@ impl LratChecker {
         ensures fails { OnErr result (has_failed self.new ≡ true) }
         ensures stays { OnErr result (has_refuted self.new ≡ has_refuted self.old) }
         ensures going { OnOk result (has_failed self.new ≡ false) }
+        ensures tight { HoldsLittle self.old → OnOk result (HoldsLittle self.new) }
         ensures failed { has_failed self.old ≡ true
             → (result ≡ Err Failed) × (self.new ≡ self.old) }
     {
@@ -87,8 +90,8 @@ impl LratChecker {
         }
     }
 
-    /// Checks the lines of a text after those of earlier calls. The answer is whether some line so
-    /// far added the empty clause: then no assignment satisfies the formula.
+    /// Checks the lines of a text after those of earlier calls. The answer is whether the formula
+    /// has the empty clause, or some line so far added it: then no assignment satisfies the formula.
     ///
     /// The text is read as it goes, line by line. After a fault every later call answers `Failed`.
     pub fn check<R: Read + Drop>(&mut self, proof: R) -> Result<bool, LratFault>
@@ -99,6 +102,7 @@ impl LratChecker {
             → IsReady formula lines self.old
             → IfCut result (IsCut R.remaining (R.remaining proof) formula lines self.new) }
         ensures fails { OnErr result (has_failed self.new ≡ true) }
+        ensures tight { HoldsLittle self.old → OnOk result (HoldsLittle self.new) }
         ensures failed { has_failed self.old ≡ true
             → (result ≡ Err texts.Failed) × (self.new ≡ self.old) }
     {
@@ -106,7 +110,7 @@ impl LratChecker {
     }
 
     /// The same up to the first line that adds the empty clause. What stands after it is not
-    /// checked.
+    /// checked. Where the formula has the empty clause, nothing is.
     pub fn refute<R: Read + Drop>(&mut self, proof: R) -> Result<bool, LratFault>
         ensures checked { (formula : List (List ℕ)) (lines : List Line)
             → IsReady formula lines self.old
@@ -115,6 +119,7 @@ impl LratChecker {
             → IsReady formula lines self.old
             → IfCut result (IsCut R.remaining (R.remaining proof) formula lines self.new) }
         ensures fails { OnErr result (has_failed self.new ≡ true) }
+        ensures tight { HoldsLittle self.old → OnOk result (HoldsLittle self.new) }
         ensures stops { has_failed self.old ≡ false → OnErr result (has_refuted self.new ≡ false) }
         ensures failed { has_failed self.old ≡ true
             → (result ≡ Err texts.Failed) × (self.new ≡ self.old) }
@@ -135,6 +140,7 @@ impl LratChecker {
             → IsReady formula lines self.old
             → IfCut result (IsCut R.remaining (R.remaining proof) formula lines self.new) }
         ensures fails { OnErr result (has_failed self.new ≡ true) }
+        ensures tight { HoldsLittle self.old → OnOk result (HoldsLittle self.new) }
         ensures stops { has_failed self.old ≡ false → until_refuted ≡ true
             → OnErr result (has_refuted self.new ≡ false) }
         ensures failed { has_failed self.old ≡ true
@@ -187,6 +193,7 @@ impl LratChecker {
         ensures err { IfErr result (λ stop.
             IsCause stop (cause_by_table (table_of self.old.clauses) (view line.entry))) }
         ensures kept { OnErr result (self.new.refuted ≡ self.old.refuted) }
+        ensures tight { HoldsLittle self.old → OnOk result (HoldsLittle self.new) }
     {
         match line {
             LratLine::Add { id, clause, hints } => {
@@ -201,4 +208,16 @@ impl LratChecker {
             }
         }
     }
+}
+
+/// Whether a formula has the empty clause.
+fn has_empty_clause(formula: &CnfFormula) -> bool
+    ensures { result ≡ has_empty formula.now }
+{
+    for clause in formula {
+        if clause.is_empty() {
+            return true;
+        }
+    }
+    false
 }

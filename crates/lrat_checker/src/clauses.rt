@@ -1,10 +1,10 @@
 //! The stored clauses.
-ghost use Rattle.std.specs.Prelude.{◌≡◌, ◌==◌, ◌<◌, ◌^◌, ◌&&◌, ℕ, None, Some, false, if◌then◌else◌, is_some, nat_eq, IfOk, IsTrue, OnOk};
+ghost use Rattle.std.specs.Prelude.{◌≡◌, ◌==◌, ◌+◌, ◌-◌, ◌*◌, ◌≤◌, ◌^◌, ◌&&◌, ℕ, None, Some, true, false, if◌then◌else◌, is_some, length, min, nat_eq, IfOk, OnOk};
 ghost use Rattle.std.specs.Option.{option_copied};
 ghost use Rattle.std.specs.HashMap.{get};
 ghost use Rattle.lrat_rules.specs.Tables.{drop_all, drop_one, empty_table, formula_table, put};
 ghost use Rattle.lrat_checker.specs.Far.{far_clause};
-ghost use Rattle.lrat_checker.specs.Near.{near_clause};
+ghost use Rattle.lrat_checker.specs.Near.{IsTight, gets_place, near_clause, spare_places};
 
 use crate::counts::LitCounts;
 use crate::near::NearClauses;
@@ -30,6 +30,7 @@ pub(crate) struct Clauses {
     counts: LitCounts,
     ghost apart: { (id : ℕ)
         → (is_some (near_clause near id) && is_some (get nat_eq far id)) ≡ false },
+    ghost few: { length near.spans.items ≤ 4 * (stored + spare_places) + 4 },
 }
 
 impl Clauses {
@@ -37,7 +38,8 @@ impl Clauses {
 
     /// The clauses of a formula under 1, 2 and so on.
     pub(crate) fn new(alloc: Global, formula: &CnfFormula) -> Result<Clauses, AllocError>
-        ensures { IfOk result (λ made. table_of made ≡ formula_table formula.now) }
+        ensures table { IfOk result (λ made. table_of made ≡ formula_table formula.now) }
+        ensures tight { IfOk result (λ made. IsTight made.near) }
     {
         let mut made = Clauses::empty(alloc, formula.len())?;
         let mut id = 0u64;
@@ -50,7 +52,8 @@ impl Clauses {
 
     /// No clause, with places for some.
     fn empty(alloc: Global, room: usize) -> Result<Clauses, AllocError>
-        ensures { IfOk result (λ made. table_of made ≡ empty_table) }
+        ensures table { IfOk result (λ made. table_of made ≡ empty_table) }
+        ensures tight { IfOk result (λ made. IsTight made.near) }
     {
         Ok(Clauses {
             alloc,
@@ -95,7 +98,9 @@ impl Clauses {
     /// Stores a clause under a new id. After an error the clauses are of no use.
     pub(crate) fn put(&mut self, id: u64, clause: &[Lit]) -> Result<(), AllocError>
         requires { (table_of self.old).named id ≡ None }
-        ensures { OnOk result (table_of self.new ≡ put id clause.now (table_of self.old)) }
+        ensures table { OnOk result (table_of self.new ≡ put id clause.now (table_of self.old)) }
+        ensures stored { OnOk result (self.new.stored ≡ min (self.old.stored + 1) (2 ^ 64 - 1)) }
+        ensures tight { IsTight self.old.near → OnOk result (IsTight self.new.near) }
     {
         self.place(id, clause)?;
         self.stored = self.stored.saturating_add(1);
@@ -108,6 +113,10 @@ impl Clauses {
         ensures named { OnOk result ((k : ℕ) → (table_of self.new).named k
             ≡ (if k == id then Some clause.now else (table_of self.old).named k)) }
         ensures counts { self.new.counts ≡ self.old.counts }
+        ensures stored { self.new.stored ≡ self.old.stored }
+        ensures near { gets_place self.old.stored id ≡ true → self.new.far ≡ self.old.far }
+        ensures far { gets_place self.old.stored id ≡ false → self.new.near ≡ self.old.near }
+        ensures tight { IsTight self.old.near → IsTight self.new.near }
     {
         if self.is_near(id) {
             self.near.put(id, clause)?;
@@ -120,7 +129,7 @@ impl Clauses {
     /// Whether a new clause under this id gets a place: there are at most four for each clause that
     /// was stored.
     fn is_near(&self, id: u64) -> bool
-        ensures { IsTrue result → id < 2 ^ 62 }
+        ensures { result ≡ gets_place self.now.stored id }
     {
         id < NEAR_IDS && id / 4 <= self.stored.saturating_add(SPARE_PLACES)
     }
@@ -128,7 +137,9 @@ impl Clauses {
     /// Removes the clauses of these ids, where they are there. After an error the clauses are of no
     /// use.
     pub(crate) fn remove(&mut self, ids: &[u64]) -> Result<(), AllocError>
-        ensures { OnOk result (table_of self.new ≡ drop_all ids.now (table_of self.old)) }
+        ensures table { OnOk result (table_of self.new ≡ drop_all ids.now (table_of self.old)) }
+        ensures tight { OnOk result (IsTight self.new.near) }
+        ensures stored { self.new.stored ≡ self.old.stored }
     {
         for id in ids {
             self.remove_one(*id);
@@ -138,7 +149,8 @@ impl Clauses {
     }
 
     fn remove_one(&mut self, id: u64)
-        ensures { table_of self.new ≡ drop_one id (table_of self.old) }
+        ensures table { table_of self.new ≡ drop_one id (table_of self.old) }
+        ensures stored { self.new.stored ≡ self.old.stored }
     {
         if let Some(clause) = self.near.get(id) {
             self.counts.lower(clause);

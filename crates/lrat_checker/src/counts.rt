@@ -1,5 +1,5 @@
 //! How often each literal stands in stored clauses.
-ghost use Rattle.std.specs.Prelude.{◌≡◌, ◌+◌, ◌-◌, ◌==◌, ◌<◌, ◌^◌, ℕ, if◌then◌else◌, length, slice_index, OnOk};
+ghost use Rattle.std.specs.Prelude.{◌≡◌, ◌+◌, ◌-◌, ◌==◌, ◌<◌, ◌^◌, ℕ, if◌then◌else◌, length, slice_index, IsOk, OnOk};
 ghost use Rattle.lrat_rules.specs.Counts.{count_of};
 
 use sat_formula::Lit;
@@ -62,8 +62,10 @@ impl LitCounts {
     }
 
     fn add_one(&mut self, lit: Lit) -> Result<(), AllocError>
-        ensures { OnOk result ((l : ℕ)
+        ensures counts { OnOk result ((l : ℕ)
             → slice_index self.new l ≡ (if l == lit then 1 else 0) + slice_index self.old l) }
+        ensures memory { lit < length self.old → slice_index self.old lit < 2 ^ 32 - 1
+            → IsOk result }
     {
         make_room(&mut self.by_code, lit.code())?;
         let count = &mut self.by_code[lit.code()];
@@ -87,6 +89,8 @@ fn make_room(by_code: &mut Vec<u32>, code: usize) -> Result<(), AllocError>
     ensures same { OnOk result ((l : ℕ)
         → slice_index by_code.new.items l ≡ slice_index by_code.old.items l) }
     ensures room { OnOk result (code < length by_code.new.items) }
+    ensures memory { code < length by_code.old.items
+        → IsOk result × (by_code.new ≡ by_code.old) }
 {
     if by_code.len() <= code {
         by_code.resize(code + 1, 0)?;

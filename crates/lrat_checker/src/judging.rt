@@ -1,9 +1,11 @@
 //! Whether a clause may be added.
-ghost use Rattle.std.specs.Prelude.{◌≡◌, None, IfErr, OnOk, map};
+ghost use Rattle.std.specs.Prelude.{◌≡◌, None, Err, true, is_some, IfErr, OnOk, map};
 ghost use Rattle.lrat_rules.specs.Lines.{adds};
 ghost use Rattle.lrat_rules.specs.Tables.{cause_by_table};
 ghost use Rattle.lrat_checker.specs.Causes.{IsCause};
 ghost use Rattle.lrat_checker.specs.Held.{table_of};
+ghost use Rattle.lrat_checker.specs.declared.fault.LratCause.TheVariants.{IdTaken};
+ghost use Rattle.lrat_checker.specs.declared.fault.Stop.TheVariants as stops;
 ghost use Rattle.lrat_text.specs.Grammar.{hint_of};
 
 use crate::clauses::Clauses;
@@ -25,6 +27,8 @@ pub(crate) fn judge(
     ensures ok { let line = adds id clause.now (map hint_of hints.now) in
         let found = cause_by_table (table_of clauses.now) line in
         OnOk result (found ≡ None) }
+    ensures taken { is_some ((table_of clauses.now).named id) ≡ true
+        → result ≡ Err (stops.Refused IdTaken) }
     ensures err { let line = adds id clause.now (map hint_of hints.now) in
         let found = cause_by_table (table_of clauses.now) line in
         IfErr result (λ stop. IsCause stop found) }

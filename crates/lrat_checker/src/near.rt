@@ -1,7 +1,7 @@
 //! The clauses of small ids, their literals in one buffer.
-ghost use Rattle.std.specs.Prelude.{◌≡◌, ◌==◌, ◌*◌, ◌<◌, ◌≤◌, ◌^◌, ℕ, None, Some, true, if◌then◌else◌, ◌++◌, List, ◌⊎◌, get_or, length, IfOk, OnErr, OnOk};
+ghost use Rattle.std.specs.Prelude.{◌≡◌, ◌==◌, ◌+◌, ◌*◌, ◌<◌, ◌≤◌, ◌^◌, ℕ, None, Some, true, if◌then◌else◌, ◌++◌, List, get_or, length, max, Ok, IfOk, OnErr, OnOk};
 ghost use Rattle.std.specs.Option.{option_copied};
-ghost use Rattle.lrat_checker.specs.Spans.{is_within, lits_at, nowhere, place_of, span_at};
+ghost use Rattle.lrat_checker.specs.Spans.{in_use, is_within, lits_at, nowhere, place_of, span_at, span_len};
 
 use crate::span::Span;
 use sat_formula::Lit;
@@ -15,14 +15,17 @@ pub(crate) struct NearClauses {
     /// How many literals of the buffer belong to no clause any more.
     garbage: usize,
     ghost within: { (id : ℕ) → is_within (span_at spans.items id) (length lits.items) ≡ true },
+    ghost counted: { garbage + in_use spans.items ≡ length lits.items },
 }
 
 impl NearClauses {
-    ghost use Rattle.lrat_checker.specs.Near.{near_clause};
+    ghost use Rattle.lrat_checker.specs.Near.{IsTight, near_clause};
 
     /// No clause, with places for some.
     pub(crate) fn new(alloc: Global, room: usize) -> Result<NearClauses, AllocError>
-        ensures { IfOk result (λ made. (id : ℕ) → near_clause made id ≡ None) }
+        ensures empty { IfOk result (λ made. (id : ℕ) → near_clause made id ≡ None) }
+        ensures places { IfOk result (λ made. length made.spans.items ≡ 0) }
+        ensures tight { IfOk result (λ made. IsTight made) }
     {
         Ok(NearClauses {
             spans: Vec::with_capacity(alloc, room.saturating_add(1))?,
@@ -46,12 +49,16 @@ impl NearClauses {
         Some(&self.lits[span.start..span.end])
     }
 
-    /// Stores a clause in place of the one under the id.
+    /// Stores a clause under a new id.
     pub(crate) fn put(&mut self, id: u64, clause: &[Lit]) -> Result<(), AllocError>
-        requires { id < 2 ^ 62 }
+        requires small { id < 2 ^ 62 }
+        requires free { near_clause self.old id ≡ None }
         ensures ok { OnOk result ((k : ℕ) → near_clause self.new k
             ≡ (if k == id then Some clause.now else near_clause self.old k)) }
         ensures err { OnErr result ((k : ℕ) → near_clause self.new k ≡ near_clause self.old k) }
+        ensures places { length self.new.spans.items
+            ≤ max (length self.old.spans.items) (id + 1) }
+        ensures tight { IsTight self.old → IsTight self.new }
     {
         let index = id as usize;
         make_place(&mut self.spans, index)?;
@@ -64,11 +71,12 @@ impl NearClauses {
 
     /// Removes the clause of an id, where it is there.
     pub(crate) fn remove(&mut self, id: u64)
-        ensures { (k : ℕ) → near_clause self.new k
+        ensures removed { (k : ℕ) → near_clause self.new k
             ≡ (if k == id then None else near_clause self.old k) }
+        ensures places { length self.new.spans.items ≡ length self.old.spans.items }
     {
         if let Some(span) = self.span(id) {
-            self.garbage = self.garbage.saturating_add(span.end - span.start);
+            self.garbage += span.end - span.start;
             self.spans[id as usize] = Span::NOWHERE;
         }
     }
@@ -77,8 +85,9 @@ impl NearClauses {
     /// clauses move to a buffer without any.
     pub(crate) fn collect_garbage(&mut self, alloc: Global) -> Result<(), AllocError>
         ensures same { (k : ℕ) → near_clause self.new k ≡ near_clause self.old k }
-        ensures garbage { OnOk result ((2 * self.new.garbage ≤ length self.new.lits.items)
-            ⊎ (self.new.garbage ≤ length self.new.spans.items)) }
+        ensures places { length self.new.spans.items ≡ length self.old.spans.items }
+        ensures tight { OnOk result (IsTight self.new) }
+        ensures idle { IsTight self.old → (result ≡ Ok tt) × (self.new ≡ self.old) }
     {
         if self.garbage <= self.lits.len() / 2 || self.garbage <= self.spans.len() {
             return Ok(());
@@ -102,7 +111,10 @@ fn span_in(spans: &[Span], id: u64) -> Span
 fn make_place(spans: &mut Vec<Span>, id: usize) -> Result<(), AllocError>
     requires { id < 2 ^ 62 }
     ensures same { (k : ℕ) → span_at spans.new.items k ≡ span_at spans.old.items k }
+    ensures used { in_use spans.new.items ≡ in_use spans.old.items }
     ensures room { OnOk result (id < length spans.new.items) }
+    ensures no_more { length spans.new.items ≤ max (length spans.old.items) (id + 1) }
+    ensures no_fewer { length spans.old.items ≤ length spans.new.items }
 {
     if spans.len() <= id {
         spans.resize(id + 1, Span::NOWHERE)?;
@@ -118,6 +130,8 @@ fn moved(alloc: Global, spans: &[Span], lits: &[Lit]) -> Result<(Vec<Span>, Vec<
         ≡ lits_at (span_at spans.now id) lits.now) }
     ensures within { IfOk result (λ moved. (id : ℕ)
         → is_within (span_at moved.0.items id) (length moved.1.items) ≡ true) }
+    ensures places { IfOk result (λ moved. length moved.0.items ≡ length spans.now) }
+    ensures used { IfOk result (λ moved. in_use moved.0.items ≡ length moved.1.items) }
 {
     let mut places = Vec::with_capacity(alloc, spans.len())?;
     let mut buffer = Vec::new(alloc);
@@ -137,6 +151,8 @@ fn move_lits(span: Span, lits: &[Lit], buffer: &mut Vec<Lit>) -> Result<Span, Al
     ensures within { IfOk result (λ place.
         is_within (place_of place) (length buffer.new.items) ≡ true) }
     ensures longer { OnOk result ((more : List ℕ) × (buffer.new.items ≡ buffer.old.items ++ more)) }
+    ensures used { IfOk result (λ place.
+        length buffer.new.items ≡ length buffer.old.items + span_len place) }
 {
     if !span.is_somewhere() {
         return Ok(span);

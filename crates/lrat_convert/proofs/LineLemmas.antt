@@ -2,17 +2,18 @@
 --     run-more      one line more at the end
 --     SoFar      the lines that were read so far, all of them converted
 use Rattle.std.proofs.Common.{◌≡◌, ℕ, Bool, true, false, List, [], ◌∷◌, ◌++◌, Option, Result, Ok, Err, MatchBool, refl, sym, ap, ◌∙◌, subst, cond}
-use Rattle.std.specs.Io.KnownBytes.{Consumes}
+use Rattle.std.specs.Io.KnownBytes.{Appends, Consumes}
 use Rattle.std.proofs.KnownBytes.{Consumes-nil}
 use Rattle.lrat_rules.specs.Lines.{Line}
+use Rattle.proof_bytes.specs.Version2.{text_2}
 use Rattle.lrat_text.specs.Taking.{Follows}
 use Rattle.lrat_text.specs.Texts.{Ended, Faulty, outcome_after, with_line}
 use Rattle.lrat_text.specs.declared.fault.LineKind.{LineKind}
 use Rattle.lrat_checker.specs.TextAnswers.{BeginsWith, SaysAll, said, with_lines}
 use Rattle.lrat_checker.proofs.TextLemmas.{text_begins, text_ended, text_ends, text_more}
 use Rattle.lrat_convert.specs.Converting.{Converted, next, next_open, run, then_run}
-use Rattle.lrat_convert.specs.Faults.{IsCause, in_line}
-use Rattle.lrat_convert.specs.Runs.{ConvertsLines, IsStopped, Leads}
+use Rattle.lrat_convert.specs.Faults.{IsCause, IsRefusal, in_line}
+use Rattle.lrat_convert.specs.Runs.{ConvertsLines, IsCut, IsStopped, Leads}
 use Rattle.lrat_convert.specs.Standing.{HasConverted, Reaches}
 use Rattle.lrat_convert.specs.declared.converter.Converter.{Converter}
 use Rattle.lrat_convert.specs.declared.fault.ConvertFault.TheVariants as faults
@@ -79,8 +80,8 @@ module _ (known left : Option (List ℕ)) (number width : ℕ) (c : Converted) (
       stands = reached.stands;
     }
 
-    pub so_far_refused : (stop : Stop) → IsCause stop (next width so.after l) → IsStopped known width c (in_line stop m)
-    so_far_refused (stops.Refused cause) e = record {
+    pub so_far_refused : (stop : Stop) (later : Option (List ℕ)) → (IsRefusal stop → later ≡ now) → IsCause stop (next width so.after l) → IsStopped known width c start later (in_line stop m)
+    so_far_refused (stops.Refused cause) later same e = record {
       lines = so.lines;
       line = l;
       before = so.after;
@@ -88,9 +89,10 @@ module _ (known left : Option (List ℕ)) (number width : ℕ) (c : Converted) (
       ran = so.ran;
       is_open = is_open;
       refused = e;
+      written = subst (λ k. Appends start k (text_2 so.after.steps)) (sym (same tt)) so.stands.written.bytes;
     }
-    so_far_refused (stops.GivenUp (reasons.Write cause)) e = tt
-    so_far_refused (stops.GivenUp reasons.OutOfMemory) e = tt
+    so_far_refused (stops.GivenUp (reasons.Write cause)) later same e = tt
+    so_far_refused (stops.GivenUp reasons.OutOfMemory) later same e = tt
 
   -- the end of the text
   pub so_far_ended : (over : Bool) → (so : SoFar known left number over width c start now x) → so.after.held.refuted ≡ false → (new : Option (List ℕ)) →
@@ -124,11 +126,22 @@ module _ (known left : Option (List ℕ)) (number width : ℕ) (c : Converted) (
 
   -- a line that can't be read
   pub so_far_unread : (so : SoFar known left number false width c start now x) → so.after.held.refuted ≡ false → (new : Option (List ℕ)) (over : Bool) (m : ℕ) (kind : LineKind) →
-      Follows left new number over (λ more. ([], Faulty m kind)) → IsStopped known width c (faults.Unread m kind)
+      Follows left new number over (λ more. ([], Faulty m kind)) → IsStopped known width c start now (faults.Unread m kind)
   so_far_unread so is_open new over m kind goes = record {
     lines = so.lines;
     before = so.after;
     text = text_ends known left so.lines number new over (Faulty m kind) so.text goes;
     ran = so.ran;
     is_open = is_open;
+    written = so.stands.written.bytes;
+  }
+
+  -- a read that fails
+  pub so_far_cut : (over : Bool) → SoFar known left number over width c start now x → IsCut known width c start now
+  so_far_cut over so = record {
+    lines = so.lines;
+    before = so.after;
+    text = text_begins known left so.lines number over so.text;
+    ran = so.ran;
+    written = so.stands.written.bytes;
   }

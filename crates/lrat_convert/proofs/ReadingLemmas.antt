@@ -8,12 +8,12 @@ use Rattle.lrat_text.specs.declared.fault.LratTextFault.TheVariants as reads
 use Rattle.lrat_text.specs.declared.line.LratLine.{LratLine}
 use Rattle.lrat_text.specs.declared.reader.LineReader.{LineReader}
 use Rattle.lrat_convert.specs.Converting.{Converted, next}
-use Rattle.lrat_convert.specs.Faults.{IsCause, in_line, of_text}
+use Rattle.lrat_convert.specs.Faults.{IsCause, IsRefusal, in_line, of_text}
 use Rattle.lrat_convert.specs.Runs.{ConvertsLines, IsStopped}
 use Rattle.lrat_convert.specs.Standing.{HasConverted, Reaches, holding_of}
 use Rattle.lrat_convert.specs.declared.converter.Converter.{Converter}
 use Rattle.lrat_convert.specs.declared.fault.Stop.{Stop}
-use Rattle.lrat_convert.proofs.LineLemmas.{SoFar, so_far_done, so_far_ended, so_far_more, so_far_refused, so_far_unread}
+use Rattle.lrat_convert.proofs.LineLemmas.{SoFar, so_far_cut, so_far_done, so_far_ended, so_far_more, so_far_refused, so_far_unread}
 
 -- an answer, with a line or without one;  a fault
 abbrev answer : Option LratLine → Result (Option LratLine) LratTextFault
@@ -62,22 +62,22 @@ module _ {R : Type 0} (remaining : R → Option (List ℕ)) (old new : LineReade
         so_far_more known (bytes_left remaining old) (line_number old) width c start now x s (open_at false s) (bytes_left remaining new) (has_ended new)
         (line_number new) (view line) (goes line gives) later y (more s.after s.stands)
 
-    pub next_refused : (line : LratLine) → Gives remaining old new (Ok (Some line)) → (stop : Stop) →
-        ((d : Converted) → HasConverted width start now d x → IsCause stop (next width d (view line))) → IsStopped known width c (in_line stop (line_number new))
-    next_refused line gives stop cause =
+    pub next_refused : (line : LratLine) → Gives remaining old new (Ok (Some line)) → (stop : Stop) (later : Option (List ℕ)) → (IsRefusal stop → later ≡ now) →
+        ((d : Converted) → HasConverted width start now d x → IsCause stop (next width d (view line))) → IsStopped known width c start later (in_line stop (line_number new))
+    next_refused line gives stop later same cause =
         let s = still (Ok (Some line)) (is_line line) gives in
         so_far_refused known (bytes_left remaining old) (line_number old) width c start now x s (open_at false s) (bytes_left remaining new) (has_ended new)
-        (line_number new) (view line) (goes line gives) stop (cause s.after s.stands)
+        (line_number new) (view line) (goes line gives) stop later same (cause s.after s.stands)
 
     pub next_ended : Gives remaining old new (Ok None) → ConvertsLines known width c start now x (Ok tt)
     next_ended gives = so_far_ended known (bytes_left remaining old) (line_number old) width c start now x (has_ended old) so (open_at (has_ended old) so)
         (bytes_left remaining new) (λ o. (gives.reads o).0)
 
-    pub next_unread : (fault : LratTextFault) → Gives remaining old new (Err fault) → IsStopped known width c (of_text fault)
+    pub next_unread : (fault : LratTextFault) → Gives remaining old new (Err fault) → IsStopped known width c start now (of_text fault)
     next_unread (reads.Line n kind) gives =
         let a = gives.reads (open_still (Err (reads.Line n kind)) (is_fault (reads.Line n kind)) gives) in
         let s = still (Err (reads.Line n kind)) (is_fault (reads.Line n kind)) gives in
-        subst (λ m. IsStopped known width c (of_text (reads.Line m kind))) (sym a.0)
+        subst (λ m. IsStopped known width c start now (of_text (reads.Line m kind))) (sym a.0)
         (so_far_unread known (bytes_left remaining old) (line_number old) width c start now x s (open_at false s) (bytes_left remaining new) a.1.0 (line_number new) kind a.1.1)
-    next_unread (reads.Read cause) gives = tt
+    next_unread (reads.Read cause) gives = so_far_cut known (bytes_left remaining old) (line_number old) width c start now x (has_ended old) so
     next_unread reads.OutOfMemory gives = tt

@@ -30,3 +30,8 @@ of_text texts.OutOfMemory = OutOfMemory
 abbrev pub IsCause : {A : Type 0} → Stop → Result A LineCause → Type 0
 IsCause (stops.Refused cause) r = r ≡ Err cause
 IsCause (stops.GivenUp why) r = Unit {0}
+
+-- the rules refuse the line
+abbrev pub IsRefusal : Stop → Type 0
+IsRefusal (stops.Refused cause) = Unit {0}
+IsRefusal (stops.GivenUp why) = ⊥

@@ -32,7 +32,7 @@ impl Converter {
     ghost use Rattle.lrat_text.specs.Grammar.{hint_of};
     ghost use Rattle.lrat_text.specs.NextLine.{view};
     ghost use Rattle.lrat_convert.specs.Converting.{Converted, add_line, begun, delete_all, delete_one, next, whole};
-    ghost use Rattle.lrat_convert.specs.Faults.{IsCause};
+    ghost use Rattle.lrat_convert.specs.Faults.{IsCause, IsRefusal};
     ghost use Rattle.lrat_convert.specs.Standing.{HasConverted, HasWritten, Reaches, holding_of};
     ghost use Rattle.lrat_convert.specs.Widths.{bits_of};
 
@@ -68,7 +68,7 @@ impl Converter {
         self.held.is_refuted()
     }
 
-    /// Writes the steps of one line more.
+    /// Writes the steps of one line more. Nothing is written of a line that the rules refuse.
     pub(crate) fn take_line<W: Write>(
         &mut self,
         line: LratLine<'_>,
@@ -81,6 +81,7 @@ impl Converter {
         ensures err { (width : ℕ) (start : Option (List ℕ)) (c : Converted)
             → HasConverted width start (W.contents out.old) c self.old
             → IfErr result (λ stop. IsCause stop (next width c (view line.entry))) }
+        ensures refused { IfErr result (λ stop. IsRefusal stop → out.new ≡ out.old) }
     {
         match line {
             LratLine::Add { id, clause, hints } => self.add(id, clause, hints, out),
@@ -118,6 +119,7 @@ impl Converter {
             → HasConverted width start (W.contents out.old) c self.old
             → IfErr result (λ stop.
             IsCause stop (add_line width c id clause.now (map hint_of hints.now))) }
+        ensures refused { IfErr result (λ stop. IsRefusal stop → out.new ≡ out.old) }
     {
         if self.held.contains(id) {
             return Err(Stop::Refused(LineCause::IdTaken));

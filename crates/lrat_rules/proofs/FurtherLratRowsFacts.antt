@@ -30,5 +30,8 @@ further_lrat_rows = record {
   again = refl;
   after_empty = refl;
   empty_in_formula = refl;
+  empty_alone = refl;
+  empty_among = refl;
+  none_empty = refl;
   empty_in_formula_named = refl;
 }

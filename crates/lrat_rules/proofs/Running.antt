@@ -4,7 +4,7 @@ use Rattle.std.proofs.lemmas.Bool.{and_parts, and_from, or_cases, false≢true}
 use Rattle.checker_rules.specs.Clauses.{all_true, clause_true}
 use Rattle.checker_rules.specs.Hints.{Item}
 use Rattle.lrat_rules.specs.Laws.{IsModel, IsSatisfiable, RunsJoin, RunsKeepModels, RupRunsFollow, all_rup, is_rup}
-use Rattle.lrat_rules.specs.Lines.{Line, RunsRefute, adds, adds_empty, deletes, refutes, run, step, then_run, then_test}
+use Rattle.lrat_rules.specs.Lines.{Line, RunsRefute, adds, adds_empty, deletes, has_empty, refutes, run, step, then_run, then_test}
 use Rattle.lrat_rules.specs.Stores.{clauses_of, formula_store, numbered}
 use Rattle.lrat_rules.proofs.Stepping.{added, line_keeps, rup_line_keeps}
 
@@ -35,8 +35,17 @@ refuted st (l ∷ ls) h sat = elim (step st l) as (λ o. step st l ≡ o → the
   ]
 ] refl h
 
+-- no assignment makes an empty clause true
+empty_is_false : (cs : List (List ℕ)) → has_empty cs ≡ true → (a : ℕ → Bool) → all_true a cs ≡ true → ⊥
+empty_is_false [] e a t = false≢true e
+empty_is_false ([] ∷ cs) e a t = false≢true t
+empty_is_false ((l ∷ ls) ∷ cs) e a t = empty_is_false cs e a (and_parts (clause_true a (l ∷ ls)) (all_true a cs) t).1
+
 pub runs_refute : RunsRefute
-runs_refute cs ls h a t = refuted (formula_store cs) ls h (a, formula_model 1 cs a t)
+runs_refute cs ls h a t = elim (or_cases (has_empty cs) (refutes (formula_store cs) ls) h) [
+  | inl e ↦ empty_is_false cs e a t
+  | inr r ↦ refuted (formula_store cs) ls r (a, formula_model 1 cs a t)
+]
 
 follows : (st su : List Item) (ls : List Line) (a : ℕ → Bool) → run st ls ≡ Some su → all_rup st ls ≡ true → IsModel a st → IsModel a su
 follows st su [] a h r m = let e : st ≡ su = cc in subst (IsModel a) e m

@@ -3,7 +3,7 @@ use Rattle.std.specs.Prelude.{◌≡◌, List, [], ◌∷◌, true, false, Some,
 use Rattle.checker_rules.specs.Hints.{Item}
 use Rattle.checker_rules.specs.Rows.{neg, pos}
 use Rattle.lrat_rules.specs.Causes.{group_fails, group_missing, id_taken, no_conflict, not_unit, unknown_id}
-use Rattle.lrat_rules.specs.Lines.{accepts, adds, against, along, deletes, refutes, run}
+use Rattle.lrat_rules.specs.Lines.{accepts, adds, against, along, deletes, is_refuted, refutes, run}
 use Rattle.lrat_rules.specs.LratRows.{both, four, three}
 use Rattle.lrat_rules.specs.Refusals.{cause_of_line}
 use Rattle.lrat_rules.specs.Stores.{formula_store}
@@ -88,5 +88,10 @@ pub record FurtherLratRows : Type 0 where
       (adds 3 [] (along 1 ∷ along 2 ∷ []) ∷ adds 3 [] [] ∷ []) ≡ true
   -- an empty clause of the formula is not added by a line
   pub empty_in_formula : refutes (formula_store ([] ∷ [])) [] ≡ false
+  -- but it refutes the formula
+  pub empty_alone : is_refuted ([] ∷ []) [] ≡ true
+  pub empty_among : is_refuted ((pos 1 ∷ []) ∷ [] ∷ (neg 1 ∷ []) ∷ []) [] ≡ true
+  pub none_empty : is_refuted ((pos 1 ∷ []) ∷ (neg 1 ∷ []) ∷ []) [] ≡ false
+  -- and it can be named by a hint
   pub empty_in_formula_named : refutes (formula_store ([] ∷ [])) (adds 2 [] (along 1 ∷ []) ∷ []) ≡
       true

@@ -5,6 +5,7 @@
 --     accepts st line, after st line      whether a line is accepted;  the store after an accepted one
 --     step st line, run st lines      the store after a line, and after all lines in turn;  None: refused
 --     refutes st lines      the lines up to one that adds the empty clause are accepted
+--     is_refuted formula lines      so are they after the formula's clauses, or one of these is empty
 --     RunsRefute      then no assignment satisfies the formula
 use Rattle.std.specs.Prelude.{◌≡◌, ℕ, Bool, true, false, ◌&&◌, ◌||◌, if◌then◌else◌, List, [], ◌∷◌, Option, Some, None, is_none}
 use Rattle.checker_rules.specs.Clauses.{all_true}
@@ -94,7 +95,17 @@ refutes st (l ∷ ls) = then_test (step st l) (λ su. adds_empty l || refutes su
 
 -- ---- what a run says
 
--- where lines after a formula's clauses add the empty clause, no assignment satisfies the formula
+-- whether one of the clauses is empty
+abbrev pub has_empty : List (List ℕ) → Bool
+has_empty [] = false
+has_empty ([] ∷ cs) = true
+has_empty ((l ∷ ls) ∷ cs) = has_empty cs
+
+-- one of the formula's clauses is empty, or the lines after them up to one that adds the empty clause are accepted
+abbrev pub is_refuted : List (List ℕ) → List Line → Bool
+is_refuted formula ls = has_empty formula || refutes (formula_store formula) ls
+
+-- then no assignment satisfies the formula
 abbrev pub RunsRefute : Type 0
 RunsRefute = (formula : List (List ℕ)) (ls : List Line) →
-    refutes (formula_store formula) ls ≡ true → (a : ℕ → Bool) → all_true a formula ≡ true → ⊥
+    is_refuted formula ls ≡ true → (a : ℕ → Bool) → all_true a formula ≡ true → ⊥

@@ -18,7 +18,7 @@ pub fn runs_keep_models()
     ensures { RunsKeepModels }
 {}
 
-/// Where the empty clause was accepted, no assignment satisfies the formula.
+/// Where the empty clause was accepted, or is one of the formula's, no assignment satisfies the formula.
 pub fn runs_refute()
     ensures { RunsRefute }
 {}

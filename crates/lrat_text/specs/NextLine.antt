@@ -1,6 +1,6 @@
 -- What `next_line` answers.
 --     view      a line as the rules know it
---     bytes_left, line_number, has_ended, work_left, IsReadError      what a caller knows of a reader
+--     bytes_left, room_left, line_number, has_ended, work_left, IsReadError      what a caller knows of a reader
 --     Gives      what a call gave, and the reader after it
 use Rattle.std.specs.Prelude.{◌≡◌, ℕ, suc, ◌<◌, Bool, true, false, List, [], Option, Some, None, Result, Ok, Err, map, if◌then◌else◌}
 use Rattle.std.specs.declared.io.Error.{Error}
@@ -38,6 +38,10 @@ has_ended r = r.ended
 -- the number of the last line that was read to its end, 0 before the first
 abbrev pub line_number : {R : Type 0} → LineReader R → ℕ
 line_number r = r.number
+
+-- how many bytes it takes from here on at most
+abbrev pub room_left : {R : Type 0} → LineReader R → ℕ
+room_left r = room_in r.lines
 
 -- a number that falls with each line that is given
 abbrev pub work_left : {R : Type 0} → LineReader R → ℕ

@@ -1,5 +1,5 @@
 //! The lines of a text, one after the other.
-ghost use Rattle.std.specs.Prelude.{◌≡◌, ◌<◌, ◌≤◌, ◌+◌, ◌++◌, ◌∷◌, [], Ok, IfSome, true, IsTrue, length, slice_index, take};
+ghost use Rattle.std.specs.Prelude.{◌≡◌, ◌<◌, ◌≤◌, ◌+◌, ◌-◌, ◌^◌, ◌++◌, ◌∷◌, [], Ok, IfSome, true, IsTrue, length, slice_index, take};
 ghost use Rattle.std.specs.Io.KnownBytes.{Consumes};
 ghost use Rattle.sat_formula.specs.Source.{is_limited};
 ghost use Rattle.lrat_text.specs.Bytes.{IsOpen};
@@ -24,7 +24,8 @@ impl<R: Read> Lines<R> {
     ghost use Rattle.lrat_text.specs.Holding.{unread_lines, room_in, HoldsLine};
 
     pub(crate) fn new(alloc: Global, inner: R) -> Lines<R>
-        ensures { unread_lines R.remaining result ≡ R.remaining inner }
+        ensures bytes { unread_lines R.remaining result ≡ R.remaining inner }
+        ensures room { room_in result ≡ 2 ^ 64 - 1 }
     {
         Lines {
             source: Source::limited(alloc, inner, u64::MAX),

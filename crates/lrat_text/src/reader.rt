@@ -1,5 +1,5 @@
 //! Lines from a reader's bytes.
-ghost use Rattle.std.specs.Prelude.{◌≡◌, ◌<◌, Ok, None, true, false, IsOk};
+ghost use Rattle.std.specs.Prelude.{◌≡◌, ◌-◌, ◌^◌, ◌<◌, Ok, None, true, false, IsOk};
 ghost use Rattle.std.specs.Io.BufRead.{Rests};
 ghost use types.Logic.{sem};
 
@@ -30,13 +30,14 @@ pub struct LineReader<R> {
 impl<R: Read> LineReader<R> {
     ghost use Rattle.sat_formula.specs.Outcome.{next_line};
     ghost use Rattle.sat_formula.specs.Source.{IsStopped};
-    ghost use Rattle.lrat_text.specs.NextLine.{bytes_left, has_ended, line_number, work_left, view, Gives, Answers, JudgesLine, Explains};
+    ghost use Rattle.lrat_text.specs.NextLine.{bytes_left, room_left, has_ended, line_number, work_left, view, Gives, Answers, JudgesLine, Explains};
     ghost use Rattle.lrat_text.specs.Reading.{line_of};
     ghost use Rattle.lrat_text.specs.contracts.reader.LineReader.{the_row};
 
     /// A reader at the start of a text. It takes no memory and reads nothing yet.
     pub fn new(alloc: Global, inner: R) -> LineReader<R>
         ensures bytes { bytes_left R.remaining result ≡ R.remaining inner }
+        ensures room { room_left result ≡ 2 ^ 64 - 1 }
         ensures line { line_number result ≡ 0 }
         ensures ended { has_ended result ≡ false }
     {

@@ -1,15 +1,19 @@
 //! The command `lrat_to_proof CNF LRAT PROOF [--width N]`: writes an LRAT proof of a formula as
 //! proof bytes, which `varisat_check` takes.
+//!
+//! `--help` says how the program is called. The name `-` of a file that is read stands for standard
+//! input.
 #![tactic(auto)]
 
+use command::{NOT_RUN, create_output, help, open_input, refuse, usage};
 use lrat_convert::{Conversion, ConvertFault, HashWidth, convert, exit_status};
 use std::env;
 use std::fs::File;
 use std::io::BufWriter;
 use std::process::ExitCode;
 
-/// The exit status of a call that can't be run.
-const NOT_RUN: u8 = 2;
+/// How the program is called.
+const CALL: &str = "lrat_to_proof CNF LRAT PROOF [--width N]";
 
 fn main(rt: HostRuntime) -> ExitCode {
     ExitCode::from(status_of_call(&rt))
@@ -18,13 +22,17 @@ fn main(rt: HostRuntime) -> ExitCode {
 fn status_of_call(rt: &HostRuntime) -> u8 {
     let mut words = match env::args(rt) {
         Ok(words) => words.skip(1),
-        Err(fault) => {
-            let _ = eprintln!(rt; "{fault}");
-            return NOT_RUN;
-        }
+        Err(fault) => return refuse(rt, fault),
     };
-    let (Some(cnf), Some(lrat), Some(proof)) = (words.next(), words.next(), words.next()) else {
-        return usage(rt);
+    let Some(cnf) = words.next() else {
+        return usage(rt, CALL);
+    };
+    let (Some(lrat), Some(proof)) = (words.next(), words.next()) else {
+        return if cnf.as_str() == "--help" {
+            help(rt, CALL)
+        } else {
+            usage(rt, CALL)
+        };
     };
     let width = match (words.next(), words.next(), words.next()) {
         (None, _, _) => Some(HashWidth::full()),
@@ -33,13 +41,8 @@ fn status_of_call(rt: &HostRuntime) -> u8 {
     };
     match width {
         Some(width) => convert_files(rt, cnf.as_str(), lrat.as_str(), proof.as_str(), width),
-        None => usage(rt),
+        None => usage(rt, CALL),
     }
-}
-
-fn usage(rt: &HostRuntime) -> u8 {
-    let _ = eprintln!(rt; "usage: lrat_to_proof CNF LRAT PROOF [--width N]");
-    NOT_RUN
 }
 
 /// The width that `--width N` sets, where the words say one.
@@ -53,7 +56,8 @@ fn width_of(option: &str, bits: &str) -> Option<HashWidth> {
     }
 }
 
-/// The third file is made once both others are open, and before anything is read.
+/// The third file is made once both others are open, and before anything is read. It is neither of
+/// them.
 fn convert_files(
     rt: &HostRuntime,
     cnf_name: &str,
@@ -61,17 +65,16 @@ fn convert_files(
     proof_name: &str,
     width: HashWidth,
 ) -> u8 {
-    let Some(cnf) = open(rt, cnf_name) else {
+    let Some(cnf) = open_input(rt, cnf_name) else {
         return NOT_RUN;
     };
-    let Some(lrat) = open(rt, lrat_name) else {
+    let Some(lrat) = open_input(rt, lrat_name) else {
         return NOT_RUN;
     };
-    let Ok(proof) = File::create(rt, proof_name) else {
-        let _ = eprintln!(rt; "cannot open {proof_name}");
+    let Some(proof) = create_output(rt, proof_name, &cnf, &lrat) else {
         return NOT_RUN;
     };
-    report(rt, &write_proof(rt, cnf, lrat, proof, width))
+    report(rt, &write_proof(rt, cnf.file, lrat.file, proof, width))
 }
 
 fn write_proof(
@@ -84,17 +87,6 @@ fn write_proof(
     match BufWriter::new(rt.alloc(), proof) {
         Ok(mut out) => convert(rt.alloc(), cnf, lrat, width, &mut out),
         Err(_) => Err(ConvertFault::OutOfMemory),
-    }
-}
-
-/// The file, or a line that says that it can't be opened.
-fn open(rt: &HostRuntime, name: &str) -> Option<File> {
-    match File::open(rt, name) {
-        Ok(file) => Some(file),
-        Err(_) => {
-            let _ = eprintln!(rt; "cannot open {name}");
-            None
-        }
     }
 }
 

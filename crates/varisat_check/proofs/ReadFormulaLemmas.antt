@@ -7,6 +7,6 @@ use Rattle.varisat_checker.specs.TextRun.{outcome_of}
 use Rattle.varisat_check.specs.ReadFormula.{ReadsFormula, fault_of}
 
 pub read-fault : (known : Option (List ℕ)) (fault : DimacsFault) (clauses : List (List ℕ)) → FailsAfter (outcome_of known) clauses fault → ReadsFormula known (Err (fault_of fault))
-read-fault known (faults.Read cause) clauses h = tt
+read-fault known (faults.Read cause) clauses h = (clauses, h)
 read-fault known (faults.Malformed line kind) clauses h = (clauses, h)
-read-fault known faults.OutOfMemory clauses h = refl
+read-fault known faults.OutOfMemory clauses h = (refl, (clauses, h))

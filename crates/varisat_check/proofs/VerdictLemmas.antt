@@ -3,6 +3,7 @@
 --     refuted_before      a verdict of unsatisfiability refutes what held before the proof
 --     refuted_clauses      and the formula, where the checker was new
 --     whole_run, refuted_text      the run over both texts, and what it says of a text whose bytes are known
+--     unwritten_run      and where its line was not written whole
 use Rattle.std.proofs.Common.{◌≡◌, ◌≤◌, ℕ, Bool, true, false, not, List, [], map, Option, Some, None, Result, Ok, Err, refl, sym, ap, ◌∙◌, subst, arith}
 use Rattle.std.specs.Prelude.{◌==◌, ◌-◌, if◌then◌else◌, IfOk}
 use Rattle.std.proofs.lemmas.Bool.{and_parts, eqb-true}
@@ -25,10 +26,11 @@ use Rattle.varisat_checker.specs.ProofRun.{ProofAnswer, ProofRun}
 use Rattle.varisat_checker.specs.TextRun.{EndsText, TextAnswer, TextRun, outcome_of}
 use Rattle.checker_steps.specs.Failing.{IsFailed}
 use Rattle.sat_formula.specs.Refuted.{IsRefuted}
-use Rattle.varisat_check.specs.Runs.{CheckRun, OnProof, RefusedText}
+use Rattle.whole_writes.specs.Beginnings.{AppendsBeginning}
+use Rattle.varisat_check.specs.Runs.{BeginsLine, CheckRun, IsUnwritten, OnProof, RefusedText}
 use Rattle.varisat_check.specs.declared.fault.RunFault.{RunFault}
 use Rattle.varisat_check.specs.declared.fault.RunFault.TheVariants.{Formula, Proof, Write}
-use Rattle.varisat_check.specs.Verdicts.{verdict_of}
+use Rattle.varisat_check.specs.Verdicts.{shown_line, verdict_of}
 use Rattle.varisat_check.specs.declared.verdict.Verdict.{Verdict}
 use Rattle.varisat_check.specs.declared.verdict.Verdict.TheVariants.{Unsatisfiable, UnsatisfiableWithAdded, NotShown}
 use Rattle.varisat_check.proofs.Unfailed.{failed-add_clauses}
@@ -125,6 +127,17 @@ whole_run took faulted took_image faulted_image old new cnf proof s t (Err (Writ
 whole_run took faulted took_image faulted_image old new cnf proof s t (Err (Proof e)) text run told refuted =
     record { clauses = text.0; formula = s; adds = text.1; text = run.text; steps = run.steps; left = t; runs = run.answered; verdict = told; refutes = λ h. refuted_clauses s text.1 (refuted h) }
 whole_run took faulted took_image faulted_image old new cnf proof s t (Err (Formula e)) text run told refuted = absurd run
+
+-- its line was not written whole
+pub unwritten_run : {P T : Type 0} (took faulted : P → NamedStep → P → Type 0) (took_image faulted_image : T → TranscriptStep → T → Type 0)
+    (old new : Listeners P T) (cnf proof : Known) (s t : State) (r : Result Verdict RunFault) (before after : Known) → AddsText cnf s
+    → OnProof (λ answer. ProofRun proof s answer t took faulted took_image faulted_image old new) r
+    → (IsUnwritten r → AppendsBeginning before after (shown_line (verdict_of (shown_inputs s) t))) → IsUnwritten r → BeginsLine cnf proof before after
+unwritten_run took faulted took_image faulted_image old new cnf proof s t (Ok v) before after text run begins is = absurd is
+unwritten_run took faulted took_image faulted_image old new cnf proof s t (Err (Write cause)) before after text run begins is =
+    record { clauses = text.0; formula = s; adds = text.1; text = run.text; steps = run.steps; left = t; runs = run.answered; begins = begins is }
+unwritten_run took faulted took_image faulted_image old new cnf proof s t (Err (Proof e)) before after text run begins is = absurd is
+unwritten_run took faulted took_image faulted_image old new cnf proof s t (Err (Formula e)) before after text run begins is = absurd is
 
 -- of a text whose bytes are known
 pub refuted_text : (cnf : Known) (bytes : List ℕ) (s : State) → cnf ≡ Some bytes → AddsText cnf s →

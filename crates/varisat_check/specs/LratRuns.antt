@@ -3,7 +3,9 @@
 --     LratRun took known formula old v new      the whole run, and what the processor took of it
 --     RefusesRun known formula fault      what the run was refused for
 --     IsRefusedRun r      the formula or the proof was refused
-use Rattle.std.specs.Prelude.{◌≡◌, ℕ, List, ◌++◌, map, take, Option, None, Result, Ok, Err}
+--     StopsInTurn, StopsWriting      two writes in turn of which one failed, and the run that made them
+use Rattle.std.specs.Prelude.{◌≡◌, ◌⊎◌, ℕ, List, ◌++◌, map, take, Option, None, Result, Ok, Err}
+use Rattle.std.specs.Io.KnownBytes.{Appends}
 use Rattle.checker_rules.specs.AddFormula.{add_clauses}
 use Rattle.checker_rules.specs.CallEmissions.{EmitsCalls, empty_machine}
 use Rattle.checker_rules.specs.Calls.{adds, shown_inputs}
@@ -20,7 +22,8 @@ use Rattle.checker_parts.specs.Answers.{AnswersStep}
 use Rattle.checker_parts.specs.declared.error.CheckerError.{CheckerError}
 use Rattle.checker_parts.specs.declared.error.DimacsError.TheVariants as texts
 use Rattle.varisat_checker.specs.ProofRun.{ProofAnswer}
-use Rattle.varisat_check.specs.Verdicts.{verdict_of}
+use Rattle.whole_writes.specs.Beginnings.{AppendsBeginning}
+use Rattle.varisat_check.specs.Verdicts.{shown_line, verdict_of}
 use Rattle.varisat_check.specs.declared.fault.RunFault.{RunFault}
 use Rattle.varisat_check.specs.declared.fault.RunFault.TheVariants.{Formula, Proof, Write}
 use Rattle.varisat_check.specs.declared.verdict.Verdict.{Verdict}
@@ -73,3 +76,19 @@ IsRefusedRun (Ok given) = ⊥
 IsRefusedRun (Err (Write cause)) = ⊥
 IsRefusedRun (Err (Proof e)) = Unit {0}
 IsRefusedRun (Err (Formula e)) = Unit {0}
+
+-- of a first text a beginning was appended, and nothing of the second one; or all of the first one and a beginning of the second
+abbrev pub StopsInTurn : (old new : Option (List ℕ)) → List ℕ →
+    (later_old later_new : Option (List ℕ)) → List ℕ → Type 0
+StopsInTurn old new first later_old later_new second =
+    (AppendsBeginning old new first × (later_new ≡ later_old))
+    ⊎ (Appends old new first × AppendsBeginning later_old later_new second)
+
+-- the whole run was accepted; what the processor shows was to be written first, and then the verdict's line
+pub record StopsWriting {P : Type 0} (took : P → NamedStep → P → Type 0) (shown : P → List ℕ)
+    (known : Option (List ℕ)) (formula : List (List ℕ)) (writer : P)
+    (old new later_old later_new : Option (List ℕ)) : Type 0 where
+  pub verdict : Verdict
+  pub after : P
+  pub run : LratRun took known formula writer verdict after
+  pub stops : StopsInTurn old new (shown after) later_old later_new (shown_line verdict)

@@ -5,7 +5,7 @@ use Rattle.std.specs.Prelude.{◌≡◌, ℕ, List, Option, Result, Ok, Err}
 use Rattle.sat_formula.specs.declared.fault.DimacsFault.{DimacsFault}
 use Rattle.sat_formula.specs.declared.fault.DimacsFault.TheVariants as faults
 use Rattle.sat_formula.specs.Outcome.{Ended, Faulty}
-use Rattle.sat_formula.specs.Whole.{IsOutcome}
+use Rattle.sat_formula.specs.Whole.{BeginsWith, IsOutcome}
 use Rattle.checker_parts.specs.declared.error.CheckerError.TheVariants.{OutOfMemory}
 use Rattle.checker_parts.specs.declared.error.DimacsError.TheVariants.{Read, Malformed, Checker}
 use Rattle.varisat_checker.specs.TextRun.{outcome_of}
@@ -19,12 +19,14 @@ fault_of (faults.Malformed line kind) = Formula (Malformed line kind)
 fault_of faults.OutOfMemory = Formula (Checker OutOfMemory)
 
 -- all clauses of the text, which has no fault; or the fault of the text, behind some clauses;
--- nothing is said of the text where a read failed or memory was wanted, and no other fault is answered
+-- a read fails and memory is wanted behind some clauses too, and no other fault is answered
 abbrev pub ReadsFormula : Option (List ℕ) → Result (List (List ℕ)) RunFault → Type 0
 ReadsFormula known (Ok formula) = IsOutcome (outcome_of known) (formula, Ended)
 ReadsFormula known (Err (Formula (Malformed line kind))) = (clauses : List (List ℕ))
     × IsOutcome (outcome_of known) (clauses, Faulty line kind)
-ReadsFormula known (Err (Formula (Read cause))) = Unit {0}
-ReadsFormula known (Err (Formula (Checker e))) = e ≡ OutOfMemory
+ReadsFormula known (Err (Formula (Read cause))) = (clauses : List (List ℕ))
+    × BeginsWith (outcome_of known) clauses
+ReadsFormula known (Err (Formula (Checker e))) = (e ≡ OutOfMemory)
+    × ((clauses : List (List ℕ)) × BeginsWith (outcome_of known) clauses)
 ReadsFormula known (Err (Proof e)) = ⊥
 ReadsFormula known (Err (Write cause)) = ⊥

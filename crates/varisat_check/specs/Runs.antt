@@ -3,6 +3,7 @@
 --     IsFailedRun r, IsRefusedRun r      the checker had failed before; the formula or the proof was refused
 --     AddedRun cnf proof r      the proof was run where the formula was added whole; what the verdict says of the clauses that were added
 --     CheckRun cnf proof r      the run over both texts
+--     IsUnwritten r, BeginsLine      the verdict's line was not written whole, and what was written then
 use Rattle.std.specs.Prelude.{◌≡◌, ℕ, Bool, false, List, Option, Result, Ok, Err, IfOk}
 use Rattle.checker_rules.specs.Calls.{shown_inputs}
 use Rattle.checker_rules.specs.Clauses.{all_true}
@@ -14,7 +15,8 @@ use Rattle.checker_parts.specs.declared.error.CheckerError.TheVariants.{Failed}
 use Rattle.checker_parts.specs.declared.error.DimacsError.{DimacsError}
 use Rattle.varisat_checker.specs.ProofRun.{ProofAnswer}
 use Rattle.varisat_checker.specs.TextRun.{TextAnswer}
-use Rattle.varisat_check.specs.Verdicts.{verdict_of}
+use Rattle.whole_writes.specs.Beginnings.{AppendsBeginning}
+use Rattle.varisat_check.specs.Verdicts.{shown_line, verdict_of}
 use Rattle.varisat_check.specs.declared.fault.RunFault.{RunFault}
 use Rattle.varisat_check.specs.declared.fault.RunFault.TheVariants.{Formula, Proof, Write}
 use Rattle.varisat_check.specs.declared.verdict.Verdict.{Verdict}
@@ -62,3 +64,22 @@ CheckRun cnf proof (Ok verdict) = AddedRun cnf proof (Ok verdict)
 CheckRun cnf proof (Err (Write cause)) = AddedRun cnf proof (Err (Write cause))
 CheckRun cnf proof (Err (Proof e)) = AddedRun cnf proof (Err (Proof e))
 CheckRun cnf proof (Err (Formula e)) = RefusedText cnf e
+
+-- the verdict stands, and what it is to write was not written whole
+abbrev pub IsUnwritten : {A : Type 0} → Result A RunFault → Type 0
+IsUnwritten (Ok given) = ⊥
+IsUnwritten (Err (Write cause)) = Unit {0}
+IsUnwritten (Err (Proof e)) = ⊥
+IsUnwritten (Err (Formula e)) = ⊥
+
+-- a new checker took all clauses of the formula's text, and then accepted the proof;
+-- an output grew by a beginning of the line of the verdict by what it recorded
+pub record BeginsLine (cnf proof old new : Option (List ℕ)) : Type 0 where
+  pub clauses : List (List ℕ)
+  pub formula : State
+  pub adds : TextAnswer {A = Unit {0}} cnf new_state clauses (Ok tt) formula
+  pub text : List ℕ
+  pub steps : List Step
+  pub left : State
+  pub runs : ProofAnswer {A = Unit {0}} proof formula text steps (Ok tt) left
+  pub begins : AppendsBeginning old new (shown_line (verdict_of (shown_inputs formula) left))

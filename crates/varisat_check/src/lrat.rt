@@ -1,13 +1,13 @@
 //! Runs whose checked steps a processor writes.
-ghost use Rattle.std.specs.Prelude.{◌≡◌, ℕ, Bool, false, IfOk, IfErr};
+ghost use Rattle.std.specs.Prelude.{◌≡◌, ℕ, Bool, false, IfOk, IfErr, OnErr, OnOk};
 ghost use Rattle.std.specs.Io.KnownBytes.{Appends};
 ghost use Rattle.checker_rules.specs.Clauses.{all_true};
-ghost use Rattle.varisat_check.specs.LratRuns.{IsRefusedRun, LratRun, RefusesRun};
+ghost use Rattle.varisat_check.specs.LratRuns.{IsRefusedRun, LratRun, RefusesRun, StopsInTurn, StopsWriting};
+ghost use Rattle.varisat_check.specs.Runs.{IsUnwritten};
 ghost use Rattle.varisat_check.specs.Verdicts.{shown_line};
 ghost use Rattle.varisat_check.specs.declared.verdict.Verdict.TheVariants.{Unsatisfiable};
 
 use crate::fault::RunFault;
-use crate::line::write_whole;
 use crate::run::{verdict_after, write_line};
 use crate::verdict::Verdict;
 use checker_parts::error::DimacsError;
@@ -18,6 +18,7 @@ use std::alloc::Global;
 use std::io;
 use std::io::{Read, Write};
 use varisat_checker::checker::CheckerOf;
+use whole_writes::write_whole;
 
 /// A checker with processors of one type, and no transcripts.
 type WriterChecker<P> = CheckerOf<P, Box<dyn ProofTranscriptProcessor>>;
@@ -25,7 +26,9 @@ type WriterChecker<P> = CheckerOf<P, Box<dyn ProofTranscriptProcessor>>;
 /// Adds a formula to a new checker with a writer, checks the proof, and writes the writer's output and then the verdict's line.
 ///
 /// The writer is registered before anything else, so it is told every step, and it is handed back. Nothing is written
-/// unless the whole proof is accepted, and no line where the output could not be written. On every fault the writer is dropped.
+/// unless the whole proof is accepted. Where a write fails, the verdict stood: a beginning of the
+/// output is written and nothing of the line, or the whole output and a beginning of the line. On
+/// every fault the writer is dropped.
 pub fn run_lrat<L: Log, P: ProofProcessor, R: Read + Drop, W: Write, V: Write>(
     rt: &L,
     alloc: Global,
@@ -43,6 +46,9 @@ pub fn run_lrat<L: Log, P: ProofProcessor, R: Read + Drop, W: Write, V: Write>(
         (shown_line given.0)) }
     ensures refused { IfErr result (λ fault. RefusesRun (R.remaining proof) formula.now fault) }
     ensures silent { IsRefusedRun result → (out.new ≡ out.old) × (lrat.new ≡ lrat.old) }
+    ensures unwritten { IsUnwritten result → StopsWriting
+        P.took P.shown (R.remaining proof) formula.now writer
+        (V.contents lrat.old) (V.contents lrat.new) (W.contents out.old) (W.contents out.new) }
     ensures refutes { IfOk result (λ given. given.0 ≡ Unsatisfiable → (a : ℕ → Bool) →
         all_true a formula.now ≡ false) }
 {
@@ -73,10 +79,13 @@ fn write_both<W: Write, V: Write>(
     output: &[u8],
     verdict: Verdict,
 ) -> io::Result<()>
-    ensures lrat { IfOk result (λ done. Appends (V.contents lrat.old)
-        (V.contents lrat.new) output.now) }
-    ensures line { IfOk result (λ done. Appends (W.contents out.old) (W.contents out.new)
-        (shown_line verdict)) }
+    ensures lrat { OnOk result
+        (Appends (V.contents lrat.old) (V.contents lrat.new) output.now) }
+    ensures line { OnOk result
+        (Appends (W.contents out.old) (W.contents out.new) (shown_line verdict)) }
+    ensures stops { OnErr result (StopsInTurn
+        (V.contents lrat.old) (V.contents lrat.new) output.now
+        (W.contents out.old) (W.contents out.new) (shown_line verdict)) }
 {
     write_whole(lrat, output)?;
     write_line(out, verdict)

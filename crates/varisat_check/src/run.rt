@@ -1,5 +1,5 @@
 //! Runs: a proof is checked, and its verdict is written.
-ghost use Rattle.std.specs.Prelude.{◌≡◌, ◌≤◌, ℕ, Bool, true, false, List, OnErr, IfOk, Ok, Err, Some};
+ghost use Rattle.std.specs.Prelude.{◌≡◌, ◌≤◌, ℕ, Bool, true, false, List, OnErr, OnOk, IfOk, Ok, Err, Some};
 ghost use Rattle.std.specs.Io.KnownBytes.{Appends};
 ghost use Rattle.checker_rules.specs.Calls.{shown_inputs, shown_unsat};
 ghost use Rattle.checker_rules.specs.Headline.{holds};
@@ -9,12 +9,13 @@ ghost use Rattle.checker_steps.specs.Failing.{RecordsFailure};
 ghost use Rattle.varisat_checker.specs.ProofRun.{ProofRun};
 ghost use Rattle.varisat_checker.specs.Shown.{listeners, state};
 ghost use Rattle.sat_formula.specs.Refuted.{IsRefuted};
-ghost use Rattle.varisat_check.specs.Runs.{CheckRun, IsFailedRun, IsRefusedRun, OnProof};
+ghost use Rattle.whole_writes.specs.Beginnings.{AppendsBeginning};
+ghost use Rattle.varisat_check.specs.Runs.{BeginsLine, CheckRun, IsFailedRun, IsRefusedRun, IsUnwritten, OnProof};
 ghost use Rattle.varisat_check.specs.Verdicts.{shown_line, verdict_of};
 ghost use Rattle.varisat_check.specs.declared.verdict.Verdict.TheVariants.{Unsatisfiable};
 
 use crate::fault::RunFault;
-use crate::line::{Line, write_whole};
+use crate::line::Line;
 use crate::verdict::Verdict;
 use checker_parts::processor::{ProofProcessor, ProofTranscriptProcessor};
 use log::Log;
@@ -23,10 +24,13 @@ use std::io;
 use std::io::{Read, Write};
 use varisat_checker::Checker;
 use varisat_checker::checker::CheckerOf;
+use whole_writes::write_whole;
 
 /// Checks a proof with a checker that has its formula, and writes the verdict's line.
 ///
-/// Nothing is written unless the whole proof is accepted. The checker stays in the state that `check_proof` leaves.
+/// Nothing is written unless the whole proof is accepted. Where the line can't be written whole, the
+/// verdict stood, and a beginning of the line is written. The checker stays in the state that
+/// `check_proof` leaves.
 pub fn run_proof<L: Log, R: Read + Drop, W: Write, P: ProofProcessor, T: ProofTranscriptProcessor>(
     rt: &L,
     checker: &mut CheckerOf<P, T>,
@@ -44,6 +48,9 @@ pub fn run_proof<L: Log, R: Read + Drop, W: Write, P: ProofProcessor, T: ProofTr
     ensures line { IfOk result (λ verdict. Appends (W.contents out.old) (W.contents out.new)
         (shown_line verdict)) }
     ensures silent { IsRefusedRun result → out.new ≡ out.old }
+    ensures unwritten { IsUnwritten result → AppendsBeginning (W.contents out.old)
+        (W.contents out.new)
+        (shown_line (verdict_of (shown_inputs (state checker.old)) (state checker.new))) }
     ensures refutes { result ≡ Ok Unsatisfiable → (before : List Step) →
         IsCovered before (state checker.old) → (a : ℕ → Bool) → holds before a ≡ false }
 {
@@ -60,7 +67,8 @@ pub fn run_proof<L: Log, R: Read + Drop, W: Write, P: ProofProcessor, T: ProofTr
 
 /// Adds a formula in DIMACS CNF to a new checker, checks the proof, and writes the verdict's line.
 ///
-/// The proof is read only once the formula was added whole. Nothing is written unless the whole proof is accepted.
+/// The proof is read only once the formula was added whole. What is written is as for `run_proof`;
+/// nothing is where the formula can't be added whole.
 pub fn run_check<L: Log, F: Read + Drop, P: Read + Drop, W: Write>(
     rt: &L,
     alloc: Global,
@@ -72,6 +80,8 @@ pub fn run_check<L: Log, F: Read + Drop, P: Read + Drop, W: Write>(
     ensures line { IfOk result (λ verdict. Appends (W.contents out.old) (W.contents out.new)
         (shown_line verdict)) }
     ensures silent { IsRefusedRun result → out.new ≡ out.old }
+    ensures unwritten { IsUnwritten result → BeginsLine (F.remaining cnf) (P.remaining proof)
+        (W.contents out.old) (W.contents out.new) }
     ensures refutes { (text : List ℕ) → F.remaining cnf ≡ Some text →
         result ≡ Ok Unsatisfiable → IsRefuted text }
 {
@@ -101,8 +111,10 @@ pub(crate) fn verdict_after<P: ProofProcessor, T: ProofTranscriptProcessor>(
 
 /// Writes a verdict's line at once, so that no fault between two writes leaves a part of it.
 pub(crate) fn write_line<W: Write>(out: &mut W, verdict: Verdict) -> io::Result<()>
-    ensures { IfOk result (λ done. Appends (W.contents out.old) (W.contents out.new)
-        (shown_line verdict)) }
+    ensures whole { OnOk result
+        (Appends (W.contents out.old) (W.contents out.new) (shown_line verdict)) }
+    ensures beginning { OnErr result
+        (AppendsBeginning (W.contents out.old) (W.contents out.new) (shown_line verdict)) }
 {
     let mut line = Line::new();
     writeln!(line, "{verdict}")?;

@@ -1,10 +1,13 @@
-//! The command `varisat_check CNF PROOF [LRAT]`: checks a proof against a formula, and says in one line what it shows.
+//! The command `varisat_check CNF PROOF [LRAT]`: checks a proof against a formula, and says in one
+//! line what it shows.
 //!
 //! With a third file the checked steps are written to it as lines of hints.
-//! Without arguments it checks a small fixed example.
+//! Without arguments it checks a small fixed example; `--help` says how the program is called. The
+//! name `-` of a file that is read stands for standard input.
 //! What `RUST_LOG` asks for, as `RUST_LOG=info`, is logged to standard error; else nothing is.
 #![tactic(auto)]
 
+use command::{NOT_RUN, create_output, help, open_input, refuse, usage};
 use log::Logged;
 use log::filter::{Builder, FilteredLog};
 use log::sink::Console;
@@ -16,8 +19,8 @@ use std::{env, io};
 use varisat_check::{RunFault, Verdict, exit_status, read_formula, run_check, run_lrat, run_proof};
 use varisat_checker::Checker;
 
-/// The exit status of a call that can't be run.
-const NOT_RUN: u8 = 2;
+/// How the program is called.
+const CALL: &str = "varisat_check CNF PROOF [LRAT]";
 
 /// A proof of one step, which ends it.
 const END_ALONE: [u8; 1] = [0x0D];
@@ -29,50 +32,47 @@ fn main(rt: HostRuntime) -> ExitCode {
 fn status_of_call(rt: &HostRuntime) -> u8 {
     let mut words = match env::args(rt) {
         Ok(words) => words.skip(1),
-        Err(fault) => {
-            let _ = eprintln!(rt; "{fault}");
-            return NOT_RUN;
-        }
+        Err(fault) => return refuse(rt, fault),
     };
-    match (words.next(), words.next(), words.next(), words.next()) {
-        (None, _, _, _) => check_example(rt),
-        (Some(cnf), Some(proof), None, _) => check_files(rt, cnf.as_str(), proof.as_str()),
-        (Some(cnf), Some(proof), Some(lrat), None) => {
-            write_hints(rt, cnf.as_str(), proof.as_str(), lrat.as_str())
+    let Some(first) = words.next() else {
+        return check_example(rt);
+    };
+    match (first.as_str(), words.next(), words.next(), words.next()) {
+        ("--help", None, _, _) => help(rt, CALL),
+        (cnf, Some(proof), None, _) => check_files(rt, cnf, proof.as_str()),
+        (cnf, Some(proof), Some(lrat), None) => {
+            write_hints(rt, cnf, proof.as_str(), lrat.as_str())
         }
-        _ => {
-            let _ = eprintln!(rt; "usage: varisat_check CNF PROOF [LRAT]");
-            NOT_RUN
-        }
+        _ => usage(rt, CALL),
     }
 }
 
 /// Both files are opened before anything is read.
 fn check_files(rt: &HostRuntime, cnf_name: &str, proof_name: &str) -> u8 {
-    let Some(cnf) = open(rt, cnf_name) else {
+    let Some(cnf) = open_input(rt, cnf_name) else {
         return NOT_RUN;
     };
-    let Some(proof) = open(rt, proof_name) else {
+    let Some(proof) = open_input(rt, proof_name) else {
         return NOT_RUN;
     };
     let log = logged(rt);
-    let outcome = run_check(&log, rt.alloc(), cnf, proof, &mut io::writer(rt));
+    let outcome = run_check(&log, rt.alloc(), cnf.file, proof.file, &mut io::writer(rt));
     report(rt, &outcome)
 }
 
-/// The third file is made once both others are open, and before anything is read.
+/// The third file is made once both others are open, and before anything is read. It is neither of
+/// them.
 fn write_hints(rt: &HostRuntime, cnf_name: &str, proof_name: &str, lrat_name: &str) -> u8 {
-    let Some(cnf) = open(rt, cnf_name) else {
+    let Some(cnf) = open_input(rt, cnf_name) else {
         return NOT_RUN;
     };
-    let Some(proof) = open(rt, proof_name) else {
+    let Some(proof) = open_input(rt, proof_name) else {
         return NOT_RUN;
     };
-    let Ok(mut lrat) = File::create(rt, lrat_name) else {
-        let _ = eprintln!(rt; "cannot open {lrat_name}");
+    let Some(mut lrat) = create_output(rt, lrat_name, &cnf, &proof) else {
         return NOT_RUN;
     };
-    let outcome = hints_of(rt, cnf, proof, &mut lrat);
+    let outcome = hints_of(rt, cnf.file, proof.file, &mut lrat);
     report(rt, &outcome)
 }
 
@@ -118,17 +118,6 @@ fn logged(rt: &HostRuntime) -> Logged<&HostRuntime, FilteredLog<Console<&HostRun
         Err(_) => Builder::new(rt.alloc()).build(),
     };
     Logged::new(rt, filter.filter(), FilteredLog::new(Console(rt), filter))
-}
-
-/// The file, or a line that says that it can't be opened.
-fn open(rt: &HostRuntime, name: &str) -> Option<File> {
-    match File::open(rt, name) {
-        Ok(file) => Some(file),
-        Err(_) => {
-            let _ = eprintln!(rt; "cannot open {name}");
-            None
-        }
-    }
 }
 
 /// Says why there is no verdict, and gives the exit status.

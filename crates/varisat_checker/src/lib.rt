@@ -2,6 +2,7 @@
 #![tactic(auto)]
 
 pub mod checker;
+pub mod clauses;
 pub mod internal;
 pub mod proof;
 pub mod state;
@@ -15,4 +16,4 @@ pub use checker_parts::step::{
 };
 pub use checker_parts::{sorted_lits, transcript};
 pub use checker_steps::{check, context, processing, steps, variables};
-pub use clause_store::{clauses, hash, laws, rup};
+pub use clause_store::{hash, laws, rup};

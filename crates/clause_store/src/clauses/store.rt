@@ -75,7 +75,7 @@ pub fn store_clause(
 {
     match lits {
         [] => store_empty(state, clauses),
-        [lit] => store_unit(state, clauses, *lit),
+        [lit] => store_unit_clause(state, clauses, *lit),
         _ => store_long(alloc, hasher, clauses, lits, redundant),
     }
 }
@@ -98,7 +98,7 @@ fn store_empty(
 }
 
 /// Stores a unit of a known variable.
-pub fn store_unit(
+pub fn store_unit_clause(
     state: &mut CheckerState,
     clauses: &mut Clauses,
     lit: Lit,

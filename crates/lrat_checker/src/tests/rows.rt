@@ -223,11 +223,11 @@ fn refuting_stops_at_the_empty_clause(rt: HostRuntime) -> Result<(), Fail> {
     Ok(())
 }
 
-// The empty clause of a formula was not added by a line.
+// The empty clause of a formula refutes it, whatever the proof.
 #[test]
 fn empty_clause_of_the_formula(rt: HostRuntime) -> Result<(), Fail> {
     let rows: [Row; 3] = [
-        (&[&[]], "", "accepted"),
+        (&[&[]], "", "refuted"),
         (&[&[]], "2 0 1 0", "refuted"),
         (BOTH, "", "accepted"),
     ];

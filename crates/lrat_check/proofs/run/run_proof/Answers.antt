@@ -1,6 +1,8 @@
-use Rattle.std.proofs.Common.{◌≡◌}
-use Rattle.lrat_check.specs.Verdicts.{verdict_of}
+use Rattle.std.proofs.Common.{◌≡◌, Ok, subst}
+use Rattle.whole_writes.specs.Beginnings.{AppendsBeginning}
+use Rattle.lrat_check.specs.Verdicts.{shown_line, verdict_of}
 use Rattle.lrat_check.specs.declared.verdict.Verdict.TheVariants.{Verified}
+use Rattle.lrat_check.proofs.DecideLemmas.{decided}
 use Rattle.lrat_check.proofs.RunLemmas.{fault_decided, formula_refuted, verdict_decided}
 use Rattle.lrat_check.proofs.run.run_proof.Goals as goal
 
@@ -15,3 +17,14 @@ pub returns-in-Ok-write_line-clause-refutes : goal.returns-in-Ok-write_line-clau
 returns-in-Ok-write_line-clause-refutes g c = λ e a.
     let is : verdict_of c.in-Ok.refuted ≡ Verified = cc c.of-verdict.ensures in
     formula_refuted c.args.formula.now (g.P.Read.remaining c.args.proof) c.in-Ok.refuted c.in-Ok.ensures is a
+
+pub returns-in-Err-write_line-clause-unwritten : goal.returns-in-Err-write_line-clause-unwritten
+returns-in-Err-write_line-clause-unwritten g c = λ _.
+    let old = g.W.Write.contents c.args.out.now in
+    let new = g.W.Write.contents c.write_line.new.out in
+    record {
+      refuted = c.in-Ok.refuted;
+      checked = c.in-Ok.ensures;
+      decided = decided c.args.formula.now (g.P.Read.remaining c.args.proof) (Ok c.in-Ok.refuted) c.in-Ok.ensures;
+      begins = subst (λ v. AppendsBeginning old new (shown_line v)) c.of-verdict.ensures c.in-Err-write_line.ensures.beginning;
+    }

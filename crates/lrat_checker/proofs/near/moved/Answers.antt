@@ -8,4 +8,4 @@ loop-id-preserved c =
     subst (λ places. Moved c.args.spans.now c.args.lits.now places c.move_lits.new.buffer.items (c.loop-id.id + 1)) (sym c.in_ok-push.ensures.items)
     (moved_next c.args.spans.now c.args.lits.now c.loop-id.places.items c.loop-id.buffer.items c.loop-id.id c.loop-id.invariant
     c.span_in-span.result c.in_ok-place.place c.span_in-span.ensures longer.0 _ longer.1
-    c.in_ok-place.ensures.same c.in_ok-place.ensures.within)
+    c.in_ok-place.ensures.same c.in_ok-place.ensures.within c.in_ok-place.ensures.used)

@@ -23,11 +23,12 @@ lines-preserved g c = λ width start d h.
 pub returns-in-Err-take_line : goal.returns-in-Err-take_line
 returns-in-Err-take_line g c = λ width start d h.
     let gave = rw (c.in-Ok-Some.is, c.in-Ok-Some.field-0-is) at c.next_line.follows.holds-at-none in
-    subst (IsStopped (g.P.Read.remaining c.args.proof) width d) (sym (c.in_line.ensures ∙ ap (in_line c.in-Err-take_line.stop) c.line.ensures))
+    subst (IsStopped (g.P.Read.remaining c.args.proof) width d start (g.W.Write.contents c.take_line.new.out)) (sym (c.in_line.ensures ∙ ap (in_line c.in-Err-take_line.stop) c.line.ensures))
     (next_refused g.P.Read.remaining c.lines.reader c.next_line.follows.lender-at-none (g.P.Read.remaining c.args.proof) width d start
     (g.W.Write.contents c.lines.out) c.lines.converter (c.lines.invariant width start d h) (sym c.is_done.ensures ∙ c.lines-test.true) c.in-Ok-Some.line
     gave
-    c.in-Err-take_line.stop (c.in-Err-take_line.ensures.err width start))
+    c.in-Err-take_line.stop (g.W.Write.contents c.take_line.new.out) (λ r. ap g.W.Write.contents (c.in-Err-take_line.ensures.refused r))
+    (c.in-Err-take_line.ensures.err width start))
 
 pub returns-in-Ok-None : goal.returns-in-Ok-None
 returns-in-Ok-None g c = λ width start d h.
@@ -38,7 +39,7 @@ returns-in-Ok-None g c = λ width start d h.
 pub returns-in-Err : goal.returns-in-Err
 returns-in-Err g c = λ width start d h.
     let gave = rw c.in-Err.is at c.next_line.follows.holds-at-none in
-    subst (IsStopped (g.P.Read.remaining c.args.proof) width d) (sym c.from.ensures)
+    subst (IsStopped (g.P.Read.remaining c.args.proof) width d start (g.W.Write.contents c.lines.out)) (sym c.from.ensures)
     (next_unread g.P.Read.remaining c.lines.reader c.next_line.follows.lender-at-none (g.P.Read.remaining c.args.proof) width d start
     (g.W.Write.contents c.lines.out) c.lines.converter (c.lines.invariant width start d h) (sym c.is_done.ensures ∙ c.lines-test.true) c.in-Err.fault
     gave)

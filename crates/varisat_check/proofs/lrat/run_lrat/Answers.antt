@@ -1,5 +1,7 @@
-use Rattle.std.proofs.Common.{ap}
+use Rattle.std.proofs.Common.{ap, subst}
 use Rattle.varisat_checker.specs.Shown.{listeners, state}
+use Rattle.varisat_check.specs.LratRuns.{StopsInTurn}
+use Rattle.varisat_check.specs.Verdicts.{shown_line}
 use Rattle.varisat_check.proofs.LratLemmas.{counted, formula_refuted, fresh_run, processor_refused, proof_refused, taken}
 use Rattle.varisat_check.proofs.lrat.run_lrat.Goals as goal
 
@@ -35,3 +37,23 @@ returns-in-Ok-clause-refutes g c =
     (c.new-checker.ensures.state, c.in_default.ensures.state, c.in_default-add_formula.ensures.steps)
     c.in_default-add_formula.ensures.covers c.in_default-check_proof.ensures.run c.input_clauses-inputs.ensures
     c.verdict_after-verdict.ensures
+
+pub returns-clause-unwritten : goal.returns-clause-unwritten
+returns-clause-unwritten g c = λ _.
+    let line = shown_line c.verdict_after-verdict.result in
+    record {
+      verdict = c.verdict_after-verdict.result;
+      after = c.swap_remove-writer.result;
+      run = taken g.P.ProofProcessor.took _ _ _ _ _ (listeners c.check_proof.new.self).processors c.into_processors-processors.result.0.items
+          (fresh_run g.P.ProofProcessor.took g.P.ProofProcessor.faulted _ _ c.args.formula.now (g.R.Read.remaining c.args.proof) c.args.writer
+          (listeners c.new-checker.result) (listeners c.add_processor.new.self) (listeners c.add_formula.new.self)
+          (listeners c.check_proof.new.self)
+          (state c.new-checker.result) (state c.add_processor.new.self) (state c.add_formula.new.self) (state c.check_proof.new.self) c.input_clauses-inputs.result c.verdict_after-verdict.result
+          c.new-checker.ensures.state c.new-checker.ensures.processors c.in_default.ensures.state c.in_default.ensures.registered
+          c.in_default-add_formula.ensures.steps c.in_default-add_formula.ensures.delivered c.in_default-add_formula.ensures.certified
+          c.in_default-check_proof.ensures.run c.input_clauses-inputs.ensures c.verdict_after-verdict.ensures)
+          c.into_processors-processors.ensures.processors c.swap_remove-writer.ensures.value;
+      stops = subst
+          (λ output. StopsInTurn (g.V.Write.contents c.args.lrat.now) (g.V.Write.contents c.write_both.new.lrat) output (g.W.Write.contents c.args.out.now) (g.W.Write.contents c.write_both.new.out) line)
+          c.output.ensures c.in-Err-write_both.ensures.stops;
+    }

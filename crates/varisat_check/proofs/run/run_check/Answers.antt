@@ -1,5 +1,5 @@
 use Rattle.varisat_checker.specs.Shown.{state}
-use Rattle.varisat_check.proofs.VerdictLemmas.{lives_on, refuted_text, text_added, text_refused, whole_run}
+use Rattle.varisat_check.proofs.VerdictLemmas.{lives_on, refuted_text, text_added, text_refused, whole_run, unwritten_run}
 use Rattle.varisat_check.proofs.run.run_check.Goals as goal
 
 pub returns-in-Err-clause-run : goal.returns-in-Err-clause-run
@@ -15,3 +15,10 @@ pub returns-clause-refutes : goal.returns-clause-refutes
 returns-clause-refutes g c =
     let text = text_added _ (state c.new-checker.result) (state c.add_dimacs_cnf.new.self) c.new-checker.ensures.state c.in_default.ensures.text in
     λ bytes known h. refuted_text _ bytes (state c.add_dimacs_cnf.new.self) known text (c.run_proof.ensures.refutes h)
+
+pub returns-clause-unwritten : goal.returns-clause-unwritten
+returns-clause-unwritten g c =
+    let text = text_added _ (state c.new-checker.result) (state c.add_dimacs_cnf.new.self) c.new-checker.ensures.state c.in_default.ensures.text in
+    unwritten_run _ _ _ _ _ _ _ _ (state c.add_dimacs_cnf.new.self) (state c.run_proof.new.checker) c.run_proof.result
+    (g.W.Write.contents c.args.out.now) (g.W.Write.contents c.run_proof.new.out) text
+    (c.run_proof.ensures.run (lives_on (state c.add_dimacs_cnf.new.self) text.1)) c.run_proof.ensures.unwritten

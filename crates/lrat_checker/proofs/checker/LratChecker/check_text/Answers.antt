@@ -13,6 +13,7 @@ lines-init g c = record {
       (line_number c.new-reader.result) formula before c.args.self.now (has_ended c.new-reader.result)
       c.new-reader.ensures.bytes c.new-reader.ensures.line c.new-reader.ensures.ended ready;
   going = c.if-self.false;
+  tight = λ h. h;
 }
 
 pub lines-preserved : goal.lines-preserved
@@ -24,6 +25,7 @@ lines-preserved g c =
           c.lines.self (c.lines.invariant.so_far formula before ready) c.in-Ok-Some.line gave
           c.check_line.new.self (c.in_default.ensures.accepted formula);
       going = c.in_default.ensures.going;
+      tight = λ h. c.in_default.ensures.tight (c.lines.invariant.tight h);
     }
 
 pub returns-in-Err-check_line-clause-checked : goal.returns-in-Err-check_line-clause-checked

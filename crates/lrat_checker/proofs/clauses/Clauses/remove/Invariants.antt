@@ -5,4 +5,7 @@ use Rattle.lrat_checker.proofs.clauses.Clauses.remove.Given as goal
 
 -- what is stored after the ids still to come
 abbrev pub invariant-loop-id : goal.invariant-loop-id
-invariant-loop-id l = drop_all (drop l.id-index l.ids) (table_of l.self) ≡ drop_all l.ids (table_of l.fn.self)
+invariant-loop-id l = record {
+  table : drop_all (drop l.id-index l.ids) (table_of l.self) ≡ drop_all l.ids (table_of l.fn.self);
+  stored : l.self.stored ≡ l.fn.self.stored;
+}

@@ -1,0 +1,81 @@
+//! Files by their names.
+ghost use Rattle.std.specs.Prelude.{◌≡◌, ◌⊎◌, ◌↔◌, IfSome, IsNone, IsTrue};
+
+use std::fs::File;
+use std::os::unix::fs::MetadataExt;
+use std::{fs, io};
+
+/// A file that is open for reading, and the name that it was opened by.
+#[derive(Drop)]
+pub struct Input<'a> {
+    pub name: &'a str,
+    pub file: File,
+}
+
+/// Opens a file for reading; the name `-` stands for standard input.
+///
+/// Where it can't be opened, a line on standard error says so, and a second one why.
+pub fn open_input<'a>(rt: &HostRuntime, name: &'a str) -> Option<Input<'a>>
+    ensures { IfSome result (λ input. input.name.now ≡ name.now) }
+{
+    let path = if name == "-" { "/dev/stdin" } else { name };
+    match File::open(rt, path) {
+        Ok(file) => Some(Input { name, file }),
+        Err(fault) => {
+            say_unopened(rt, name, &fault);
+            None
+        }
+    }
+}
+
+/// Makes a file for writing, or empties the one that is there.
+///
+/// A file that is one of the inputs is refused, and left as it is: one of the same name, and where
+/// the system tells it, one that is the same by another name. Where it can't be opened, a line on
+/// standard error says so, and a second one why.
+pub fn create_output(
+    rt: &HostRuntime,
+    name: &str,
+    first: &Input<'_>,
+    second: &Input<'_>,
+) -> Option<File>
+    ensures named { (name.now ≡ first.now.name.now) ⊎ (name.now ≡ second.now.name.now)
+        → IsNone result }
+{
+    if is_named(name, first, second) || is_input(rt, name, first) || is_input(rt, name, second) {
+        let _ = eprintln!(rt; "cannot open {name}");
+        let _ = eprintln!(rt; "the output is a file that is read");
+        return None;
+    }
+    match File::create(rt, name) {
+        Ok(file) => Some(file),
+        Err(fault) => {
+            say_unopened(rt, name, &fault);
+            None
+        }
+    }
+}
+
+/// Whether one of two inputs was opened by this name.
+fn is_named(name: &str, first: &Input<'_>, second: &Input<'_>) -> bool
+    ensures { IsTrue result
+        ↔ ((name.now ≡ first.now.name.now) ⊎ (name.now ≡ second.now.name.now)) }
+{
+    name == first.name || name == second.name
+}
+
+/// Whether a name leads to the regular file that is open.
+fn is_input(rt: &HostRuntime, name: &str, input: &Input<'_>) -> bool {
+    match (fs::metadata(rt, name), input.file.metadata()) {
+        (Ok(one), Ok(other)) => {
+            one.is_file() && one.dev() == other.dev() && one.ino() == other.ino()
+        }
+        _ => false,
+    }
+}
+
+/// Says that a file can't be opened, and on a second line why.
+fn say_unopened(rt: &HostRuntime, name: &str, fault: &io::Error) {
+    let _ = eprintln!(rt; "cannot open {name}");
+    let _ = eprintln!(rt; "{fault}");
+}

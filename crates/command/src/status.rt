@@ -1,0 +1,31 @@
+//! Calls that can't be run.
+ghost use Rattle.std.specs.Prelude.{◌≡◌};
+
+use std::fmt::Display;
+
+/// The exit status of a call that can't be run.
+pub const NOT_RUN: u8 = 2;
+
+/// Says on standard error why a call can't be run, and gives its exit status.
+pub fn refuse<D: Display + Drop>(rt: &HostRuntime, why: D) -> u8
+    ensures { result ≡ NOT_RUN }
+{
+    let _ = eprintln!(rt; "{why}");
+    NOT_RUN
+}
+
+/// Says on standard error how a program is called, and gives the exit status.
+pub fn usage(rt: &HostRuntime, call: &str) -> u8
+    ensures { result ≡ NOT_RUN }
+{
+    let _ = eprintln!(rt; "usage: {call}");
+    NOT_RUN
+}
+
+/// Says on standard output how a program is called: that was asked for, so the status is 0.
+pub fn help(rt: &HostRuntime, call: &str) -> u8
+    ensures { result ≡ 0 }
+{
+    let _ = println!(rt; "usage: {call}");
+    0
+}

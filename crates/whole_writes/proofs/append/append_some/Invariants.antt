@@ -1,0 +1,6 @@
+-- no write has succeeded so far
+use Rattle.std.specs.Io.KnownBytes.{Keeps}
+use Rattle.whole_writes.proofs.append.append_some.Given as goal
+
+abbrev pub invariant-loop : goal.invariant-loop
+invariant-loop g l = Keeps (g.W.Write.contents l.initial.out) (g.W.Write.contents l.out)

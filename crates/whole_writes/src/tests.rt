@@ -1,0 +1,122 @@
+//! Writers that take bytes in parts, fail, are interrupted, or hold bytes back.
+use crate::append::{append_whole, write_whole};
+use std::alloc::Global;
+use std::io;
+use std::io::{BufWriter, ErrorKind, Write};
+use std::test::Fail;
+
+// Takes up to so many bytes a write, every other time after it was interrupted, and none past its
+// end. Its flush succeeds or fails, and is counted.
+#[derive(Drop)]
+struct Disk {
+    bytes: Vec<u8>,
+    room: usize,
+    most: usize,
+    interrupted: bool,
+    flush_fails: bool,
+    flushes: usize,
+}
+
+impl Disk {
+    fn new(alloc: Global, room: usize, most: usize) -> Disk {
+        Disk {
+            bytes: Vec::new(alloc),
+            room,
+            most,
+            interrupted: false,
+            flush_fails: false,
+            flushes: 0,
+        }
+    }
+}
+
+impl Write for Disk {
+    fn write(&mut self, buf: &[u8]) -> io::Result<usize> {
+        self.interrupted = !self.interrupted;
+        if self.interrupted {
+            return Err(io::Error::from(ErrorKind::Interrupted));
+        }
+        let left = self.room.saturating_sub(self.bytes.len());
+        let count = buf.len().min(self.most).min(left);
+        if count == 0 && self.most > 0 {
+            return Err(io::Error::from(ErrorKind::StorageFull));
+        }
+        self.bytes.extend_from_slice(&buf[..count])?;
+        Ok(count)
+    }
+
+    fn flush(&mut self) -> io::Result<()> {
+        self.flushes = self.flushes.saturating_add(1);
+        if self.flush_fails {
+            return Err(io::Error::from(ErrorKind::BrokenPipe));
+        }
+        Ok(())
+    }
+}
+
+// The kind of an answer's error.
+fn kind_of(answer: io::Result<()>) -> Option<ErrorKind> {
+    answer.err().map(|fault| fault.kind())
+}
+
+#[test]
+fn parts_are_joined(rt: HostRuntime) -> Result<(), Fail> {
+    for most in [1, 2, 3, 7, 8, 100] {
+        let mut disk = Disk::new(rt.alloc(), 1000, most);
+        assert_eq!(rt; kind_of(append_whole(&mut disk, b"one two ")), None);
+        assert_eq!(rt; disk.flushes, 0);
+        assert_eq!(rt; kind_of(write_whole(&mut disk, b"three")), None);
+        assert_eq!(rt; kind_of(write_whole(&mut disk, b"")), None);
+        assert_eq!(rt; disk.bytes.as_slice(), b"one two three".as_slice());
+        assert_eq!(rt; disk.flushes, 2);
+    }
+    Ok(())
+}
+
+#[test]
+fn full_disks_hold_a_beginning(rt: HostRuntime) -> Result<(), Fail> {
+    let text = b"s VERIFIED UNSAT\n".as_slice();
+    for room in 0..text.len() {
+        let mut disk = Disk::new(rt.alloc(), room, 5);
+        assert_eq!(rt;
+            kind_of(write_whole(&mut disk, text)),
+            Some(ErrorKind::StorageFull)
+        );
+        assert_eq!(rt; disk.bytes.as_slice(), &text[..room]);
+        assert_eq!(rt; disk.flushes, 0);
+    }
+    Ok(())
+}
+
+#[test]
+fn writers_that_take_nothing(rt: HostRuntime) -> Result<(), Fail> {
+    let mut disk = Disk::new(rt.alloc(), 1000, 0);
+    assert_eq!(rt;
+        kind_of(write_whole(&mut disk, b"x")),
+        Some(ErrorKind::WriteZero)
+    );
+    assert_eq!(rt; kind_of(write_whole(&mut disk, b"")), None);
+    Ok(())
+}
+
+#[test]
+fn flushes_that_fail(rt: HostRuntime) -> Result<(), Fail> {
+    let mut disk = Disk::new(rt.alloc(), 1000, 2);
+    disk.flush_fails = true;
+    assert_eq!(rt;
+        kind_of(write_whole(&mut disk, b"line")),
+        Some(ErrorKind::BrokenPipe)
+    );
+    assert_eq!(rt; disk.bytes.as_slice(), b"line".as_slice());
+    Ok(())
+}
+
+#[test]
+fn buffers_are_emptied(rt: HostRuntime) -> Result<(), Fail> {
+    let mut out = BufWriter::new(rt.alloc(), Vec::new(rt.alloc()))?;
+    append_whole(&mut out, b"held")?;
+    assert_eq!(rt; out.get_ref().len(), 0);
+    write_whole(&mut out, b" back")?;
+    assert_eq!(rt; out.get_ref().as_slice(), b"held back".as_slice());
+    Ok(())
+}

@@ -1,0 +1,9 @@
+#!/usr/bin/env bash
+# Tries the wrong bodies in crates/*/wrong-bodies, many in one check, and notes that they were refused.
+#
+#   tests/wrong_bodies.sh [CRATE ..]    those of these crates, or of all: some 6 processor seconds each, RT_JOBS crates at a time
+#   tests/wrong_bodies.sh --records     whether what was noted is still of what stands there; it tries nothing
+#
+# It exits 1 if one is proved, if one was not judged, or if an unchanged copy of a function is not proved.
+set -euo pipefail
+exec python3 -B "$(dirname "$0")/wrong_bodies/main.py" "$@"

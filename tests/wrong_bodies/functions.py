@@ -1,0 +1,118 @@
+"""Functions of a source file, and wrong bodies written as copies of them."""
+
+import os
+import re
+
+FUNCTION = re.compile(r"^( *)(?:pub(?:\([^)]*\))? )?(?:const )?(?:unsafe )?fn (\w+)")
+BLOCK = re.compile(r"^(?:unsafe )?(impl|trait|mod)\b(.*)")
+
+
+class Function:
+    """A function in the layout of `rt fmt`: it ends at the first line with its own indentation and a closing brace."""
+
+    def __init__(self, lines, at, block):
+        indent, self.name = FUNCTION.match(lines[at]).groups()
+        self.at, self.block = at, block
+        self.end = next((n for n in range(at, len(lines)) if lines[n] == f"{indent}}}"), None)
+        self.opens = None
+        if self.end is not None:
+            self.opens = next((n for n in range(at, self.end + 1) if self.opens_at(lines, n, indent)), None)
+        self.first = at
+        while self.first and re.match(rf"{indent}(#\[|//)", lines[self.first - 1]):
+            self.first -= 1
+
+    def opens_at(self, lines, n, indent):
+        """Whether the body begins with this line: the brace alone, or at the end of the signature."""
+        line = lines[n]
+        in_one = n == self.at and line.endswith("{")
+        return line == f"{indent}{{" or in_one or bool(re.match(rf"{indent}\).*\{{$", line))
+
+    def calls_itself(self, lines):
+        body = "\n".join(lines[self.opens + 1 : self.end])
+        return bool(re.search(rf"(self\.|Self::|(?<![\w.:])){self.name}\s*(::<[^(]*)?\(", body))
+
+
+def functions(lines):
+    """All functions, each with the block that it stands in, as ('impl', ' Reader')."""
+    found, block = [], None
+    for at, line in enumerate(lines):
+        opened = BLOCK.match(line)
+        if opened and not line.endswith(("}", ";")):
+            block = (opened[1], opened[2])
+        elif line == "}":
+            block = None
+        elif FUNCTION.match(line):
+            found.append(Function(lines, at, block))
+    return [it for it in found if it.opens is not None]
+
+
+class NoCopy(Exception):
+    """Why a wrong body can't be written as a copy of its function."""
+
+
+class WrongBody:
+    """A wrong body: lines 'file:', 'old:' and 'new:', as in a must-fail edit."""
+
+    def __init__(self, path, number):
+        self.label, self.number = os.path.basename(path).removesuffix(".edit"), number
+        self.said = None
+        self.files, self.pairs = [], []
+        with open(path, encoding="utf-8") as edit:
+            for line in edit.read().split("\n"):
+                word, _, text = line.partition(":")
+                text = text.removeprefix(" ")
+                if word == "file":
+                    self.files.append(text.strip())
+                elif word == "old":
+                    self.pairs.append((text, ""))
+                elif word == "new":
+                    self.pairs[-1] = (self.pairs[-1][0], text)
+
+    def place(self, crate, unchanged=False):
+        """Finds the function in which all of it stands, and makes the copy's text. `unchanged`: the copy without the edit."""
+        self.file = self.files[0]
+        if len(set(self.files)) != 1:
+            raise NoCopy("it changes more than one file")
+        with open(f"{crate}/{self.file}", encoding="utf-8") as source:
+            text = source.read()
+        lines = text.split("\n")
+        found = functions(lines)
+        holders = {self.holder(text, found, old) for old, _ in self.pairs}
+        if len(holders) != 1 or None in holders:
+            raise NoCopy("it is not in the body of one function")
+        function = holders.pop()
+        kind, head = function.block or ("", "")
+        if kind in ("trait", "mod") or kind == "impl" and re.search(r"\bfor\b", head.split("{")[0]):
+            raise NoCopy(f"its function is a trait's method or stands in a {kind}")
+        if function.calls_itself(lines):
+            raise NoCopy("its function calls itself")
+        whole = "\n".join(lines[function.first : function.end + 1])
+        for old, new in self.pairs if not unchanged else []:
+            whole = whole.replace(old, new)
+        self.function = function
+        self.name = f"{function.name}_{'copy' if unchanged else 'wrong'}{self.number}"
+        head = rf"(?m)^( *(?:pub(?:\([^)]*\))? )?(?:const )?(?:unsafe )?fn ){function.name}\b"
+        self.text = re.sub(head, rf"\g<1>{self.name}", whole, count=1)
+
+    @staticmethod
+    def holder(text, found, old):
+        """The function whose body holds the text, which stands once in the file."""
+        if text.count(old) != 1:
+            raise NoCopy(f"an old text stands there {text.count(old)} times")
+        start = text.index(old)
+        first, last = text.count("\n", 0, start), text.count("\n", 0, start + len(old))
+        inside = [it for it in found if it.opens <= first and last <= it.end]
+        inside = [it for it in inside if it.opens != first or it.opens == it.at or "{" not in old]
+        return inside[-1] if inside else None
+
+    def proofs(self, crate):
+        """The folder with what is written of the function's proof, if it has one."""
+        module = re.sub(r"^src/|(/mod)?\.rt$", "", self.file)
+        owner = None
+        if self.function.block:
+            head = self.function.block[1].split("{")[0].split("where")[0]
+            head = re.sub(r"^\s*<(?:[^<>]|<[^<>]*>)*>", "", head).strip()
+            owner = re.match(r"[\w:]+", head)[0].split("::")[-1]
+        parts = [crate, "proofs", "" if module in ("lib", "main") else module, owner, self.function.name]
+        path = "/".join(it for it in parts if it)
+        return path if os.path.isdir(path) else None

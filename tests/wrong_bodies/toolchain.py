@@ -1,0 +1,64 @@
+"""What is used of the toolchain's own script, `rt`: which words a check of a crate is begun with.
+
+All of it stands here. Where a newer toolchain changes one of these names, `rt check --help` and `rtlib.py` beside `rt` tell the
+new one: the crate's words for `rattle check`, the folder `out/incremental` with what a check has kept, and the copy of it.
+"""
+
+import importlib.machinery
+import importlib.util
+import os
+import shutil
+import subprocess
+import sys
+
+RT = os.path.realpath(shutil.which("rt"))
+
+
+def load():
+    loader = importlib.machinery.SourceFileLoader("rt_script", RT)
+    found = importlib.util.module_from_spec(importlib.util.spec_from_loader("rt_script", loader))
+    sys.modules["rt_script"] = found
+    loader.exec_module(found)
+    return found
+
+
+rt = load()
+rtlib = rt.rtlib
+
+
+def check_crate(crate):
+    """Proves the crate as it stands, over what an earlier check kept, with the libraries below it."""
+    ran = subprocess.run(["rt", "check", "--jobs", "1"], cwd=crate, stdout=subprocess.DEVNULL)
+    return not ran.returncode
+
+
+def take_kept(crate, room):
+    """Copies what a check of the crate has kept."""
+    kept = f"{crate}/out/incremental"
+    if os.path.isdir(kept):
+        rt.linked(kept, f"{room}/over")
+
+
+def copy_crate(crate, room):
+    for part in rtlib.PARTS:
+        shutil.rmtree(f"{room}/{part}", ignore_errors=True)
+        if os.path.isdir(f"{crate}/{part}"):
+            shutil.copytree(f"{crate}/{part}", f"{room}/{part}")
+
+
+def check_copies(crate, names, room):
+    """Checks these functions alone, and answers what the check prints."""
+    of = rtlib.Crate(crate, rtlib.root_above(crate), {})
+    words = [rtlib.RATTLE, "check", *of.words(["--jobs", "1"], keeps=False), "--incremental", f"{room}/over"]
+    for name in names:
+        words += ["--only", name]
+    ran = subprocess.run(
+        words,
+        cwd=room,
+        stdin=subprocess.DEVNULL,
+        stdout=subprocess.PIPE,
+        stderr=subprocess.STDOUT,
+        encoding="utf-8",
+        errors="replace",
+    )
+    return ran.stdout
