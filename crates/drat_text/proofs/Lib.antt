@@ -1,2 +1,3 @@
 pub mod Takings
 pub mod GroupLemmas
+pub mod FrontLemmas

@@ -1,6 +1,6 @@
 -- Bytes, one after the other.
 use Rattle.std.proofs.Common.{◌≡◌, ℕ, List, [], ◌∷◌, ◌++◌, Option, Result, Ok, Err, refl, sym, ap, ◌∙◌, append_assoc, append-nil}
-use Rattle.std.specs.Prelude.{IsErrAnd, ◌||◌, ◌==◌}
+use Rattle.std.specs.Prelude.{IsErrAnd}
 use Rattle.std.proofs.Common.{◌-◌, Bool, true, false, Some, None, subst}
 use Rattle.std.proofs.lemmas.Bool.{ne_eqb}
 use Rattle.std.proofs.lemmas.Result.{err_from_is_err_and}
@@ -23,7 +23,7 @@ use Rattle.drat_text.specs.declared.step.Action.TheVariants.{Add, Delete}
 use Rattle.drat_text.specs.declared.text.Word.{Word}
 use Rattle.drat_text.specs.declared.text.Word.TheVariants as words
 use Rattle.sat_formula.specs.Bytes.{is_digit}
-use Rattle.drat_text.specs.Bytes.{is_space}
+use Rattle.drat_text.specs.Bytes.{begins_comment, is_space}
 use Rattle.drat_text.specs.Numbers.{lit_said}
 use Rattle.drat_text.specs.Places.{Place, Outside, Comment, Within, InNumber, Digits, After, Goes, Gives, Stops, after, at_end, said, with_digit, first_digit, Sign}
 use Rattle.drat_text.specs.Proofs.{outcome_at}
@@ -241,10 +241,10 @@ space_within action lits x e = rw e refl
 
 -- ---- between steps
 
-pub outside_comment : (x : ℕ) → (x == 99 || (x == 37)) ≡ true → after Text Outside x ≡ Goes Comment
+pub outside_comment : (x : ℕ) → begins_comment x ≡ true → after Text Outside x ≡ Goes Comment
 outside_comment x e = rw e refl
 
-pub outside_space : (x : ℕ) → (x == 99 || (x == 37)) ≡ false → is_space x ≡ true → after Text Outside x ≡ Goes Outside
+pub outside_space : (x : ℕ) → begins_comment x ≡ false → is_space x ≡ true → after Text Outside x ≡ Goes Outside
 outside_space x e s = rw (e, s) refl
 
 -- a step that deletes

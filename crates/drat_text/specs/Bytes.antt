@@ -1,7 +1,7 @@
 -- Bytes of a proof, and how the first ones tell whether it is text.
 use Rattle.std.specs.Prelude.{ℕ, Bool, ◌&&◌, ◌||◌, List, [], ◌∷◌, nat_le, ◌==◌, take, if◌then◌else◌}
 use Rattle.std.specs.List.{list_all}
-use Rattle.sat_formula.specs.Bytes.{is_blank, is_lf}
+use Rattle.sat_formula.specs.Bytes.{letter_c, percent_sign, is_blank, is_lf}
 use Rattle.drat_text.specs.declared.bytes.Format.{Format}
 use Rattle.drat_text.specs.declared.bytes.Format.TheVariants.{Text, Binary}
 
@@ -12,6 +12,10 @@ letter_a = 97
 -- `d`, with which a step begins that deletes its clause
 abbrev pub letter_d : ℕ
 letter_d = 100
+
+-- `c` or `%`, with which a comment begins
+abbrev pub begins_comment : ℕ → Bool
+begins_comment b = b == letter_c || (b == percent_sign)
 
 -- what stands between the words of a text: a blank or an LF
 abbrev pub is_space : ℕ → Bool

@@ -1,14 +1,14 @@
 -- The grammar of steps, a byte after the other. Text: literals up to 0, after a `d` where the step deletes; lines of `c`
 -- and of `%` between steps say nothing. Binary: `a` or `d`, and then numbers of seven bits a byte, low first, up to 0.
 use Rattle.std.specs.Prelude.{ℕ, ◌+◌, ◌-◌, ◌*◌, ◌%◌, ◌^◌, min, Bool, true, false, ◌||◌, List, [], ◌∷◌, ◌++◌, Option, Some, None, Result, Ok, Err, nat_lt, ◌==◌, if◌then◌else◌}
-use Rattle.sat_formula.specs.Bytes.{letter_c, percent_sign, minus_sign, digit_zero, is_digit, is_lf}
+use Rattle.sat_formula.specs.Bytes.{minus_sign, digit_zero, is_digit, is_lf}
 use Rattle.drat_text.specs.declared.bytes.Format.{Format}
 use Rattle.drat_text.specs.declared.bytes.Format.TheVariants.{Text, Binary}
 use Rattle.drat_text.specs.declared.fault.DratKind.{DratKind}
 use Rattle.drat_text.specs.declared.fault.DratKind.TheVariants.{Malformed, NumberTooLarge, Unfinished}
 use Rattle.drat_text.specs.declared.step.Action.{Action}
 use Rattle.drat_text.specs.declared.step.Action.TheVariants.{Add, Delete}
-use Rattle.drat_text.specs.Bytes.{letter_a, letter_d, is_space}
+use Rattle.drat_text.specs.Bytes.{letter_a, letter_d, begins_comment, is_space}
 use Rattle.drat_text.specs.Numbers.{lit_said, code_said}
 use Rattle.drat_text.specs.Steps.{Step, step_of, Outcome, Ended, Faulty}
 
@@ -68,10 +68,15 @@ in_number action lits (Digits negative v) b =
     else (if is_space b then said action lits (lit_said negative v) else Stops Malformed)
 in_number action lits (Groups v weight) b = group action lits v weight b
 
+-- a binary step's first byte, which says what the step does
+abbrev pub begun : Option Action → After
+begun (Some action) = Goes (Within action [])
+begun None = Stops Malformed
+
 -- a byte between steps
 abbrev pub outside : Format → ℕ → After
 outside Text b =
-    if b == letter_c || (b == percent_sign) then Goes Comment
+    if begins_comment b then Goes Comment
     else (if is_space b then Goes Outside
     else (if b == letter_d then Goes (Within Delete []) else first_of_number Add [] b))
 outside Binary b =

@@ -1,5 +1,5 @@
 -- What the parts of reading a step answer. f is what all the bytes give from where the part began.
-use Rattle.std.specs.Prelude.{◌≡◌, ℕ, Bool, true, false, List, [], ◌∷◌, ◌++◌, Option, Some, None, Result, Ok, Err, ◌||◌, ◌==◌}
+use Rattle.std.specs.Prelude.{◌≡◌, ℕ, Bool, true, false, List, [], ◌∷◌, ◌++◌, Option, Some, None, Result, Ok, Err}
 use Rattle.sat_formula.specs.declared.source.Source.{Source}
 use Rattle.drat_text.specs.declared.bytes.Bytes.{Bytes}
 use Rattle.drat_text.specs.declared.bytes.Format.{Format}
@@ -10,8 +10,7 @@ use Rattle.drat_text.specs.declared.step.Action.{Action}
 use Rattle.drat_text.specs.declared.step.Found.{Found}
 use Rattle.drat_text.specs.declared.text.Word.{Word}
 use Rattle.drat_text.specs.declared.text.Word.TheVariants as words
-use Rattle.sat_formula.specs.Bytes.{letter_c, percent_sign}
-use Rattle.drat_text.specs.Bytes.{is_space}
+use Rattle.drat_text.specs.Bytes.{begins_comment, is_space}
 use Rattle.drat_text.specs.Numbers.{code_said}
 use Rattle.drat_text.specs.Places.{Place, Outside, Within, After, Goes, Gives, Stops, said}
 use Rattle.drat_text.specs.Proofs.{outcome_at}
@@ -71,6 +70,15 @@ ReadsNumber action lits old new f source (Ok n) =
     Leads old new f (goes_on Binary (said action lits (code_said n)))
 ReadsNumber action lits old new f source (Err stop) = Stopped Binary old new f source stop
 
+-- a literal of a binary step was read, or its 0, after these literals
+abbrev pub ReadsCode : {R : Type 0} → Action → List ℕ → Option (List ℕ) → Option (List ℕ) →
+    (List ℕ → Outcome) → Source R → Result (Option ℕ) Stop → Type 0
+ReadsCode action lits old new f source (Ok (Some lit)) =
+    Leads old new f (outcome_at Binary (Within action (lits ++ lit ∷ [])))
+ReadsCode action lits old new f source (Ok None) =
+    GivesStep Binary old new f (step_of action lits) false
+ReadsCode action lits old new f source (Err stop) = Stopped Binary old new f source stop
+
 -- the literals of a binary step were read to its end
 abbrev pub ReadsCodes : {R X : Type 0} → Action → List ℕ → Option (List ℕ) → Option (List ℕ) →
     (List ℕ → Outcome) → Source R → Result X Stop → Type 0
@@ -88,7 +96,7 @@ ReadsStep format lits old new f source (Err stop) = Stopped format old new f sou
 -- a byte that begins a step of text: no blank, and no comment's first one
 pub record IsFirst (byte : ℕ) : Type 0 where
   pub space : is_space byte ≡ false
-  pub comment : (byte == letter_c || (byte == percent_sign)) ≡ false
+  pub comment : begins_comment byte ≡ false
 
 -- what the byte after a number does
 abbrev pub EndsNumber : Action → List ℕ → After → Result Word Stop → Type 0

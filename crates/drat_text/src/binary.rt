@@ -2,9 +2,9 @@
 ghost use Rattle.std.specs.Prelude.{◌≡◌, ◌<◌, ◌≤◌, ℕ, List, IfOk};
 ghost use Rattle.drat_text.specs.declared.bytes.Format.TheVariants as formats;
 ghost use Rattle.drat_text.specs.declared.step.Action.{Action};
-ghost use Rattle.drat_text.specs.Places.{Within};
+ghost use Rattle.drat_text.specs.Places.{Within, begun, outside};
 ghost use Rattle.drat_text.specs.Proofs.{outcome_at, outcome_in};
-ghost use Rattle.drat_text.specs.Reading.{ReadsNumber, ReadsCodes, ReadsStep};
+ghost use Rattle.drat_text.specs.Reading.{ReadsNumber, ReadsCode, ReadsCodes, ReadsStep};
 ghost use Rattle.drat_text.specs.Taking.{unread_bytes, room_in};
 
 use crate::bytes::Bytes;
@@ -26,14 +26,25 @@ pub(crate) fn binary_step<R: Read>(bytes: &mut Bytes<R>, lits: &mut Vec<Lit>) ->
     ensures room { room_in bytes.new ≤ room_in bytes.old }
 {
     lits.clear();
-    let action = match bytes.next_byte()? {
-        b'a' => Action::Add,
-        b'd' => Action::Delete,
-        _ => return Err(Stop::Wrong(DratKind::Malformed)),
+    let Some(action) = action_of(bytes.next_byte()?) else {
+        return Err(Stop::Wrong(DratKind::Malformed));
     };
     codes(bytes, lits)?;
     let last = false;
     Ok(Found { action, last })
+}
+
+// What a step does that begins with this byte.
+fn action_of(byte: u8) -> Option<Action>
+    ensures { begun result ≡ outside formats.Binary byte }
+{
+    if byte == b'a' {
+        Some(Action::Add)
+    } else if byte == b'd' {
+        Some(Action::Delete)
+    } else {
+        None
+    }
 }
 
 // Reads literals to the step's 0.
@@ -44,11 +55,25 @@ fn codes<R: Read>(bytes: &mut Bytes<R>, into: &mut Vec<Lit>) -> Result<(), Stop>
     ensures room { room_in bytes.new ≤ room_in bytes.old }
 {
     'codes: loop {
-        match code_said(number(bytes)?) {
-            Ok(Some(lit)) => into.push(lit)?,
-            Ok(None) => return Ok(()),
-            Err(kind) => return Err(Stop::Wrong(kind)),
+        match next_code(bytes)? {
+            Some(lit) => into.push(lit)?,
+            None => return Ok(()),
         }
+    }
+}
+
+// Reads the next literal, or the step's 0.
+#[inline(always)]
+fn next_code<R: Read>(bytes: &mut Bytes<R>) -> Result<Option<Lit>, Stop>
+    ensures read { (action : Action) (lits : List ℕ) → ReadsCode action lits
+        (unread_bytes R.remaining bytes.old) (unread_bytes R.remaining bytes.new)
+        (outcome_at formats.Binary (Within action lits)) bytes.new.source result }
+    ensures nearer { IfOk result (λ _. room_in bytes.new < room_in bytes.old) }
+    ensures room { room_in bytes.new ≤ room_in bytes.old }
+{
+    match code_said(number(bytes)?) {
+        Ok(said) => Ok(said),
+        Err(kind) => Err(Stop::Wrong(kind)),
     }
 }
 

@@ -87,28 +87,37 @@ impl<R: Read> Bytes<R> {
 
     /// Tells the format by the next bytes, and takes none of them.
     pub(crate) fn look(&mut self) -> Result<Format, Stop>
-        ensures { Looks (unread_bytes R.remaining self.old)
+        ensures format { Looks (unread_bytes R.remaining self.old)
             (unread_bytes R.remaining self.new) self.new.source result }
+        ensures room { room_in self.new ≤ room_in self.old }
     {
-        match self.peek(0)? {
-            Some(b'a') => Ok(Format::Binary),
-            Some(b'd') => self.look_on(),
-            _ => Ok(Format::Text),
+        let Some(first) = self.peek(0)? else {
+            return Ok(Format::Text);
+        };
+        if first == b'a' {
+            return Ok(Format::Binary);
         }
+        if first == b'd' {
+            return self.look_on();
+        }
+        Ok(Format::Text)
     }
 
     // Looks on where the next byte is a `d`.
     fn look_on(&mut self) -> Result<Format, Stop>
-        ensures { LooksOn (unread_bytes R.remaining self.old)
+        ensures format { LooksOn (unread_bytes R.remaining self.old)
             (unread_bytes R.remaining self.new) self.new.source result }
+        ensures room { room_in self.new ≤ room_in self.old }
     {
         let mut place = 0;
         'bytes: while place < LOOKED_AT {
-            match self.peek(place)? {
-                Some(byte) if is_text_byte(byte) => place += 1,
-                Some(_) => return Ok(Format::Binary),
-                None => return Ok(Format::Text),
+            let Some(byte) = self.peek(place)? else {
+                return Ok(Format::Text);
+            };
+            if !is_text_byte(byte) {
+                return Ok(Format::Binary);
             }
+            place += 1;
         }
         Ok(Format::Text)
     }
@@ -120,10 +129,23 @@ impl<R: Read> Bytes<R> {
         ensures peek { Peeks (unread_bytes R.remaining self.old)
             (unread_bytes R.remaining self.new) place self.new.source result }
         ensures front { IfOk result (λ byte. IsSome byte → place < length (front_of self.new)) }
+        ensures room { room_in self.new ≤ room_in self.old }
     {
         if place < self.front.len() - self.taken {
             return Ok(Some(self.front[self.taken + place]));
         }
+        self.pull()
+    }
+
+    // The next byte of the source, if there is one. It stands in front from then on, as the last.
+    fn pull(&mut self) -> Result<Option<u8>, Stop>
+        ensures peek { Peeks (unread_bytes R.remaining self.old)
+            (unread_bytes R.remaining self.new) (length (front_of self.old)) self.new.source
+            result }
+        ensures front { IfOk result (λ byte. IsSome byte
+            → length (front_of self.old) < length (front_of self.new)) }
+        ensures room { room_in self.new ≤ room_in self.old }
+    {
         match self.source.next_byte() {
             Ok(byte) => {
                 self.front.push(byte)?;

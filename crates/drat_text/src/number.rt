@@ -1,7 +1,7 @@
 //! Bytes of a text, and what numbers say.
 ghost use Rattle.std.specs.Prelude.{◌≡◌};
 ghost use Rattle.sat_formula.specs.Bytes.{is_digit};
-ghost use Rattle.drat_text.specs.Bytes.{is_space, is_text_byte};
+ghost use Rattle.drat_text.specs.Bytes.{begins_comment, is_space, is_text_byte};
 ghost use Rattle.drat_text.specs.Numbers.{lit_said, code_said};
 
 use crate::fault::DratKind;
@@ -22,6 +22,14 @@ pub(crate) fn is_digit(byte: u8) -> bool
     ensures { result ≡ is_digit byte }
 {
     b'0' <= byte && byte <= b'9'
+}
+
+/// Whether the byte begins a comment, where it stands between steps.
+#[inline(always)]
+pub(crate) fn begins_comment(byte: u8) -> bool
+    ensures { result ≡ begins_comment byte }
+{
+    byte == b'c' || byte == b'%'
 }
 
 /// Whether a text can have the byte.

@@ -13,7 +13,7 @@ ghost use Rattle.drat_text.specs.Taking.{unread_bytes, room_in};
 
 use crate::bytes::Bytes;
 use crate::fault::{DratKind, Stop};
-use crate::number::{MAX_VARIABLE, is_digit, is_space, lit_said};
+use crate::number::{MAX_VARIABLE, begins_comment, is_digit, is_space, lit_said};
 use crate::step::{Action, Found};
 use sat_formula::Lit;
 use std::io::Read;
@@ -45,14 +45,7 @@ pub(crate) fn text_step<R: Read>(bytes: &mut Bytes<R>, lits: &mut Vec<Lit>) -> R
             last,
         });
     }
-    let last = match number(bytes, first)? {
-        Word::Literal(lit) => {
-            lits.push(lit)?;
-            literals(bytes, lits)?
-        }
-        Word::Zero => false,
-        Word::LastZero => true,
-    };
+    let last = literals_from(bytes, first, lits)?;
     Ok(Found {
         action: Action::Add,
         last,
@@ -70,7 +63,7 @@ fn first_byte<R: Read>(bytes: &mut Bytes<R>) -> Result<u8, Stop>
 {
     'bytes: loop {
         let byte = bytes.next_byte()?;
-        if byte == b'c' || byte == b'%' {
+        if begins_comment(byte) {
             comment(bytes)?;
         } else if !is_space(byte) {
             return Ok(byte);
@@ -89,6 +82,30 @@ fn comment<R: Read>(bytes: &mut Bytes<R>) -> Result<(), Stop>
         if bytes.next_byte()? == b'\n' {
             return Ok(());
         }
+    }
+}
+
+// Reads literals to the step's 0, the first of which begins with this byte, and answers whether the
+// input ended with it.
+fn literals_from<R: Read>(
+    bytes: &mut Bytes<R>,
+    first: u8,
+    into: &mut Vec<Lit>,
+) -> Result<bool, Stop>
+    requires { is_space first ≡ false }
+    ensures read { (action : Action) → ReadsLiterals action into.new.items
+        (unread_bytes R.remaining bytes.old) (unread_bytes R.remaining bytes.new)
+        (λ more. outcome_at formats.Text (Within action into.old.items) (first ∷ more))
+        bytes.new.source result }
+    ensures room { room_in bytes.new ≤ room_in bytes.old }
+{
+    match number(bytes, first)? {
+        Word::Literal(lit) => {
+            into.push(lit)?;
+            literals(bytes, into)
+        }
+        Word::Zero => Ok(false),
+        Word::LastZero => Ok(true),
     }
 }
 
