@@ -43,8 +43,9 @@ enum Phase {
 /// Clauses of the formula come first, by [`add_clause`](Elaborator::add_clause). Then the steps of
 /// the proof, until [`is_refuted`](Elaborator::is_refuted). [`elaborate`](Elaborator::elaborate)
 /// checks backward which steps are needed, and why they follow, and
-/// [`next_line`](Elaborator::next_line) tells the lines. The clauses of the formula have the ids 1, 2
-/// and so on in them. What the lines say is no more than a claim, which a checker of LRAT decides.
+/// [`next_line`](Elaborator::next_line) tells the lines. The clauses of the formula have the ids 1,
+/// 2 and so on in them. What the lines say is no more than a claim, which a checker of LRAT
+/// decides.
 ///
 /// After a fault the elaborator is of no use: later calls end, and what they answer says nothing.
 #[derive(Drop)]
@@ -124,8 +125,8 @@ impl Elaborator {
         Ok(())
     }
 
-    /// The proof adds a clause, which claims to follow or to be redundant by its first literal. After
-    /// a conflict it is passed over.
+    /// The proof adds a clause, which claims to follow or to be redundant by its first literal.
+    /// After a conflict it is passed over.
     pub fn add_lemma(&mut self, lits: &[Lit]) -> Result<(), ElaborateFault> {
         self.begin_proof()?;
         if self.conflict.is_some() {
@@ -205,9 +206,10 @@ impl Elaborator {
         Ok(())
     }
 
-    /// The next line, after [`elaborate`](Elaborator::elaborate). First the unused clauses of the
-    /// formula are deleted, and each other clause is right after the line that uses it last. The last
-    /// line adds the empty clause.
+    /// The next line, after [`elaborate`](Elaborator::elaborate). Before it, and after the last
+    /// line, there is none. First the unused clauses of the formula are deleted, and each other
+    /// clause is right after the line that uses it last. The last line adds the empty clause. There
+    /// are at most two lines for each clause that the proof adds, and two more.
     pub fn next_line(&mut self) -> Result<Option<LratLine<'_>>, ElaborateFault> {
         if self.phase != Phase::Elaborated {
             return Ok(None);

@@ -11,8 +11,8 @@ pub enum ElaborateFault {
     /// There are more clauses, literals, steps or hints than are counted in 32 bits.
     #[error("too long")]
     TooLong,
-    /// The clause that the step adds is used, and neither follows by propagation nor is redundant by
-    /// its first literal.
+    /// The clause that the step adds is used, and neither follows by propagation nor is redundant
+    /// by its first literal.
     #[error("step {step}: clause neither follows nor is redundant by its first literal")]
     NotRedundant { step: u64 },
     /// The steps end without a conflict by propagation.

@@ -1,7 +1,7 @@
 //! Turns DRAT proofs into lines of LRAT proofs, by backward checking.
 //!
-//! Nobody has to trust it: its lines are for a checker of LRAT proofs, whose verdict stands whatever
-//! they are.
+//! Nobody has to trust it: its lines are for a checker of LRAT proofs, whose verdict stands
+//! whatever they are.
 #![tactic(auto)]
 
 mod check;

@@ -12,8 +12,8 @@ use std::alloc::Global;
 /// Whether a clause is redundant by its pivot. Its negated literals are assumed and propagated
 /// without a conflict. The hints are left in the check.
 ///
-/// It is checked against the used clauses that are there and have the negated pivot, also those that
-/// come into use by the check itself.
+/// It is checked against the used clauses that are there and have the negated pivot, also those
+/// that come into use by the check itself.
 pub(crate) fn is_redundant(
     alloc: Global,
     propagator: &mut Propagator,
@@ -100,8 +100,8 @@ fn meet(
     Ok(conflict.is_some())
 }
 
-/// A literal of a candidate that is true, besides the negated pivot: an assumed one if there is one,
-/// else the one that has been true longest.
+/// A literal of a candidate that is true, besides the negated pivot: an assumed one if there is
+/// one, else the one that has been true longest.
 fn best_true(
     propagator: &Propagator,
     check: &Check,

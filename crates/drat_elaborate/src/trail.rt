@@ -110,8 +110,8 @@ impl Trail {
         self.lits.truncate(len);
     }
 
-    /// How good a literal is to be watched: one that has been true longest is best, then a free one,
-    /// then one that became false late.
+    /// How good a literal is to be watched: one that has been true longest is best, then a free
+    /// one, then one that became false late.
     pub(crate) fn rank(&self, lit: Lit) -> u64 {
         let place = match self.causes.get(lit.index()) {
             Some(cause) => cause.place,

@@ -1,12 +1,12 @@
 -- Bytes that are looked at before they are taken.
-use Rattle.std.proofs.Common.{◌≡◌, ℕ, suc, ◌+◌, ◌≤◌, ◌<◌, List, [], ◌∷◌, ◌++◌, Option, None, Some, IfSome, Bool, true, false, refl, sym, ap, ◌∙◌, append_assoc, length, length-append, take, drop, get_or, arith}
-use Rattle.std.specs.Prelude.{slice_get}
+use Rattle.std.proofs.Common.{◌≡◌, ℕ, zero, suc, ◌+◌, ◌≤◌, ◌<◌, List, [], ◌∷◌, ◌++◌, Option, None, Some, IfSome, Bool, true, false, refl, sym, ap, ◌∙◌, append_assoc, length, length-append, take, drop, get_or, arith}
+use Rattle.std.specs.Prelude.{slice_get, ◌&&◌, IsTrue, is_some, unwrap_or}
+use Rattle.std.specs.Option.{option_map}
 use Rattle.std.specs.List.{list_all}
 use Rattle.std.proofs.lemmas.List.{length-take, get_or-take, get_or-drop, get_or_append_left, take_all}
 use Rattle.std.proofs.lemmas.List.Folds.{list_all_more, list_all_at}
-use Rattle.std.proofs.lemmas.Option.{slice_get_within, slice_get-get_or, get_or_from_slice_get, slice_get_past, slice_get_cases}
+use Rattle.std.proofs.lemmas.Option.{slice_get_within, slice_get-get_or, get_or_from_slice_get, slice_get_past, none-some, same_Some}
 use Rattle.std.specs.Io.KnownBytes.{Consumes, Keeps, IsAtEnd, prepend_known}
-use Rattle.std.proofs.KnownBytes.{Keeps-refl, Keeps-trans}
 
 abbrev pub Known : Type 0
 Known = Option (List ℕ)
@@ -16,6 +16,11 @@ Known = Option (List ℕ)
 behind : (front : List ℕ) (x : ℕ) (rest : List ℕ) → slice_get (front ++ x ∷ rest) (length front) ≡ Some x
 behind [] x rest = refl
 behind (y ∷ ys) x rest = behind ys x rest
+
+ends_before : (bytes : List ℕ) (place : ℕ) → slice_get bytes place ≡ None → length bytes ≤ place
+ends_before [] place e = omega arith
+ends_before (x ∷ xs) zero e = absurd (none-some x (sym e))
+ends_before (x ∷ xs) (suc i) e = let more : length xs ≤ i = ends_before xs i e in omega arith
 
 -- a byte that stands in front
 pub stands_in_front : (a : Known) (items : List ℕ) (taken place x : ℕ) → place < length (drop taken items) → x ≡ get_or items (taken + place) x →
@@ -57,15 +62,20 @@ module _ (p : ℕ → Bool) where
   abbrev pub Passes : Known → ℕ → Type 0
   Passes a place = IfSome a (λ bytes. list_all p (take place bytes) ≡ true)
 
+  pub passes_none : (a : Known) → Passes a 0
+  passes_none None = tt
+  passes_none (Some bytes) = refl
+
   pub passes_more : (a : Known) (place x : ℕ) → Passes a place → IfSome a (λ bytes. slice_get bytes place ≡ Some x) → p x ≡ true → Passes a (place + 1)
   passes_more None place x all at ok = tt
   passes_more (Some bytes) place x all at ok =
-      list_all_more p bytes place x (slice_get_within bytes place x at) ∙ rw (all, get_or_from_slice_get bytes place x x at, ok) refl
+      let last : (list_all p (take place bytes) && p (get_or bytes place x)) ≡ true = rw (all, get_or_from_slice_get bytes place x x at, ok) refl in
+      list_all_more p bytes place x (slice_get_within bytes place x at) ∙ last
 
   pub passes_all : (a : Known) (place most : ℕ) → place ≤ most → Passes a place → IfSome a (λ bytes. slice_get bytes place ≡ None) → Passes a most
   passes_all None place most le all at = tt
   passes_all (Some bytes) place most le all at =
-      let short : length bytes ≤ place = grind (arith, slice_get_cases, at) in
+      let short : length bytes ≤ place = ends_before bytes place at in
       ap (list_all p) (take_all most bytes (omega (arith, le, short)) ∙ sym (take_all place bytes short)) ∙ all
 
   pub fails_at : (a : Known) (place most x : ℕ) → place < most → IfSome a (λ bytes. slice_get bytes place ≡ Some x) → p x ≡ false →
@@ -75,3 +85,12 @@ module _ (p : ℕ → Bool) where
       let within : place < length bytes = slice_get_within bytes place x at in
       list_all_at p (take most bytes) place x (omega (arith, length-take most bytes, within, lt))
       (ap p (get_or-take most bytes place x lt ∙ get_or_from_slice_get bytes place x x at) ∙ no)
+
+-- ---- room
+
+-- a byte was taken from a source that has a limit
+pub room_pulled : (left : Option ℕ) (n : ℕ) (new : Option ℕ) → IsTrue (is_some left) → option_map (λ (l : ℕ). n + l) left ≡ option_map suc new →
+    unwrap_or (option_map (λ (l : ℕ). n + l) left) 0 ≡ suc (unwrap_or new 0)
+room_pulled None n new t e = absurd t
+room_pulled (Some l) n None t e = absurd (none-some (n + l) (sym e))
+room_pulled (Some l) n (Some y) t e = same_Some (n + l) (suc y) e
