@@ -14,4 +14,6 @@ tests/failing_files.sh
 tests/named_files.sh
 tests/refused_growths.sh
 tests/log_lines.sh
+tests/drat_solvers.sh
+tests/drat_fuzz.sh
 tests/bindings.sh
