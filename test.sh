@@ -15,4 +15,6 @@ tests/named_files.sh
 tests/lrat_fuzz.sh
 tests/refused_growths.sh
 tests/log_lines.sh
+tests/drat_solvers.sh
+tests/drat_fuzz.sh
 tests/bindings.sh

@@ -1,0 +1,61 @@
+//! Why a run comes to no verdict.
+use drat_elaborate::ElaborateFault;
+use drat_text::DratFault;
+use lrat_checker::LineFault;
+use sat_formula::DimacsFault;
+use std::alloc::AllocError;
+use std::io;
+use thiserror::Error;
+
+/// Why a proof comes to no verdict.
+#[derive(Debug, Drop, Error)]
+pub enum ProofFault {
+    /// The proof could not be read up to a conflict.
+    #[error("proof: {0}")]
+    Unread(DratFault),
+    /// A step that the conflict needs is not right, or it is too much to be judged.
+    #[error("proof: {0}")]
+    Refused(ElaborateFault),
+    /// The checker of LRAT proofs did not accept a line that was made of the proof: a fault of the
+    /// part that makes them.
+    #[error("internal: line {line} refused: {fault}")]
+    Internal { line: u64, fault: LineFault },
+    /// The lines that were made of the proof end before the empty clause: a fault of the same part.
+    #[error("internal: no empty clause in the lines")]
+    Unfinished,
+    /// There was no memory for the formula in the checker.
+    #[error("proof: out of memory")]
+    OutOfMemory,
+}
+
+/// What a run answers in place of a verdict.
+#[derive(Debug, Drop, Error)]
+pub enum RunFault {
+    /// The formula was not read whole.
+    #[error("formula: {0}")]
+    Formula(DimacsFault),
+    /// There is no verdict on the proof.
+    #[error("{0}")]
+    Proof(ProofFault),
+    /// The verdict stands, and its line could not be written.
+    #[error("error writing: {0}")]
+    Write(io::Error),
+}
+
+impl From<DratFault> for ProofFault {
+    fn from(fault: DratFault) -> ProofFault {
+        ProofFault::Unread(fault)
+    }
+}
+
+impl From<ElaborateFault> for ProofFault {
+    fn from(fault: ElaborateFault) -> ProofFault {
+        ProofFault::Refused(fault)
+    }
+}
+
+impl From<AllocError> for ProofFault {
+    fn from(_e: AllocError) -> ProofFault {
+        ProofFault::OutOfMemory
+    }
+}

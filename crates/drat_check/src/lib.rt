@@ -1,0 +1,15 @@
+//! Whether a DRAT proof shows a formula to be unsatisfiable, said in one line.
+//!
+//! The proof is turned into lines of an LRAT proof by a part that nobody has to trust, and each line
+//! goes to the checker of LRAT proofs. The verdict is that checker's.
+#![tactic(auto)]
+
+mod fault;
+mod proof;
+mod run;
+#[cfg(test)]
+mod tests;
+
+pub use fault::{ProofFault, RunFault};
+pub use run::{run_check, run_proof};
+pub use verdicts::{Verdict, exit_status};

@@ -1,0 +1,87 @@
+//! The verdict on a proof.
+ghost use Rattle.std.specs.Prelude.{IfOk, OnOk};
+ghost use Rattle.drat_check.specs.Runs.{IsShown, IsUnsatisfiable};
+
+use crate::fault::ProofFault;
+use drat_elaborate::Elaborator;
+use drat_text::{DratReader, DratStep};
+use lrat_checker::LratChecker;
+use sat_formula::CnfFormula;
+use std::alloc::Global;
+use std::io::Read;
+use verdicts::Verdict;
+
+/// What a proof shows of a formula. `Verified` is answered where the checker of LRAT proofs has taken
+/// the empty clause.
+pub(crate) fn verdict_of<P: Read + Drop>(
+    alloc: Global,
+    formula: &CnfFormula,
+    proof: P,
+) -> Result<Verdict, ProofFault>
+    ensures { IfOk result (λ verdict. IsShown formula.now verdict) }
+{
+    let mut elaborator = read_proof(alloc, formula, proof)?;
+    if !elaborator.is_refuted() {
+        return Ok(Verdict::NotVerified);
+    }
+    elaborator.elaborate()?;
+    check_lines(alloc, formula, &mut elaborator)?;
+    Ok(Verdict::Verified)
+}
+
+/// Reads a formula and a proof into an elaborator, up to the first conflict.
+fn read_proof<P: Read + Drop>(
+    alloc: Global,
+    formula: &CnfFormula,
+    proof: P,
+) -> Result<Elaborator, ProofFault> {
+    let mut elaborator = begun(alloc, formula)?;
+    let mut reader = DratReader::new(alloc, proof);
+    // The steps are fewer: the reader counts its bytes in 64 bits.
+    for _ in 0..u64::MAX {
+        if elaborator.is_refuted() {
+            break;
+        }
+        match reader.next_step()? {
+            Some(DratStep::Add(lits)) => elaborator.add_lemma(lits)?,
+            Some(DratStep::Delete(lits)) => elaborator.delete_clause(lits)?,
+            None => break,
+        }
+    }
+    Ok(elaborator)
+}
+
+/// An elaborator that has the formula.
+fn begun(alloc: Global, formula: &CnfFormula) -> Result<Elaborator, ProofFault> {
+    let mut elaborator = Elaborator::new(alloc);
+    for clause in formula {
+        elaborator.add_clause(clause)?;
+    }
+    elaborator.begin_proof()?;
+    Ok(elaborator)
+}
+
+/// Hands the elaborated lines to a checker that holds the formula, up to the empty clause.
+fn check_lines(
+    alloc: Global,
+    formula: &CnfFormula,
+    elaborator: &mut Elaborator,
+) -> Result<(), ProofFault>
+    ensures { OnOk result (IsUnsatisfiable formula.now) }
+{
+    let mut checker = LratChecker::new(alloc, formula)?;
+    'lines: for line in 1..u64::MAX {
+        if checker.refuted() {
+            return Ok(());
+        }
+        match elaborator.next_line()? {
+            Some(entry) => {
+                if let Err(fault) = checker.check_line(entry) {
+                    return Err(ProofFault::Internal { line, fault });
+                }
+            }
+            None => return Err(ProofFault::Unfinished),
+        }
+    }
+    Err(ProofFault::Unfinished)
+}

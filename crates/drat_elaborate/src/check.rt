@@ -1,0 +1,244 @@
+//! The check of one clause by propagation, and the walk back from its conflict.
+use crate::clauses::ClauseIndex;
+use crate::fault::ElaborateFault;
+use crate::lit_set::LitSet;
+use crate::place_set::PlaceSet;
+use crate::propagator::Propagator;
+use crate::records::PackedHint;
+use crate::trail::Value;
+use sat_formula::Lit;
+use std::alloc::Global;
+
+/// Which literals are true by assumption, besides the negated literals of the clause.
+#[derive(Clone, Copy, PartialEq, Eq)]
+pub(crate) enum Assumed {
+    Clause,
+    /// The negated literals of the candidate too.
+    Group,
+}
+
+/// Whether places that were gone through are wanted still.
+#[derive(Clone, Copy, PartialEq, Eq)]
+pub(crate) enum After {
+    Keep,
+    Forget,
+}
+
+/// What a check works with, and what it found.
+#[derive(Drop)]
+pub(crate) struct Check {
+    /// The negated literals of the clause.
+    pub(crate) by_clause: LitSet,
+    /// The negated literals of the candidate.
+    pub(crate) by_group: LitSet,
+    /// The places of the trail whose reasons are wanted.
+    pub(crate) wanted: PlaceSet,
+    /// The hints before the groups.
+    pub(crate) leading: Vec<ClauseIndex>,
+    pub(crate) groups: Vec<PackedHint>,
+    /// The clauses that were not used before.
+    pub(crate) fresh: Vec<ClauseIndex>,
+    /// The reasons of a walk, from the conflict on.
+    walked: Vec<ClauseIndex>,
+}
+
+impl Check {
+    pub(crate) fn new(alloc: Global) -> Check {
+        Check {
+            by_clause: LitSet::new(alloc),
+            by_group: LitSet::new(alloc),
+            wanted: PlaceSet::new(alloc),
+            leading: Vec::new(alloc),
+            groups: Vec::new(alloc),
+            fresh: Vec::new(alloc),
+            walked: Vec::new(alloc),
+        }
+    }
+
+    /// Nothing is assumed or found yet.
+    pub(crate) fn start(&mut self) -> Result<(), ElaborateFault> {
+        self.by_clause.clear()?;
+        self.leading.clear();
+        self.groups.clear();
+        self.fresh.clear();
+        Ok(())
+    }
+
+    /// Assumes the negated literals of a clause, and propagates. The answer is the clause of a
+    /// conflict, or the reason of a literal of the clause that is true already.
+    pub(crate) fn refute(
+        &mut self,
+        propagator: &mut Propagator,
+        clause: ClauseIndex,
+    ) -> Result<Option<ClauseIndex>, ElaborateFault> {
+        let mut satisfied = None;
+        for lit in propagator.clauses.lits(clause)? {
+            if propagator.trail.value(*lit) == Value::True {
+                satisfied = propagator.trail.reason(*lit);
+            }
+            self.by_clause.insert(!*lit)?;
+        }
+        if satisfied.is_some() {
+            return Ok(satisfied);
+        }
+        let end = propagator.trail.len();
+        for lit in propagator.clauses.lits(clause)? {
+            if propagator.trail.value(*lit) == Value::Free {
+                propagator.trail.assign(!*lit, None)?;
+            }
+        }
+        propagator.propagate(end)
+    }
+
+    /// The leading hints that come to the conflict in a clause.
+    pub(crate) fn explain(
+        &mut self,
+        propagator: &mut Propagator,
+        conflict: ClauseIndex,
+    ) -> Result<(), ElaborateFault> {
+        self.want_negated(propagator, conflict, None, Assumed::Clause)?;
+        self.use_clause(propagator, conflict)?;
+        self.walk(propagator, 0, Assumed::Clause, After::Forget)?;
+        for reason in self.walked.iter().rev() {
+            self.leading.push(*reason)?;
+        }
+        self.leading.push(conflict)?;
+        Ok(())
+    }
+
+    /// The leading hints that force what is wanted on the trail.
+    pub(crate) fn explain_wanted(
+        &mut self,
+        propagator: &mut Propagator,
+    ) -> Result<(), ElaborateFault> {
+        self.walk(propagator, 0, Assumed::Clause, After::Forget)?;
+        for reason in self.walked.iter().rev() {
+            self.leading.push(*reason)?;
+        }
+        Ok(())
+    }
+
+    /// The hints of a group that come to the conflict in a clause, beyond the trail up to a place.
+    pub(crate) fn explain_group(
+        &mut self,
+        propagator: &mut Propagator,
+        conflict: ClauseIndex,
+        end: usize,
+    ) -> Result<(), ElaborateFault> {
+        self.want_negated(propagator, conflict, None, Assumed::Group)?;
+        self.use_clause(propagator, conflict)?;
+        self.walk(propagator, end, Assumed::Group, After::Forget)?;
+        for reason in self.walked.iter().rev() {
+            self.groups.push(PackedHint::along(*reason))?;
+        }
+        self.groups.push(PackedHint::along(conflict))?;
+        Ok(())
+    }
+
+    /// A clause is a hint.
+    fn use_clause(
+        &mut self,
+        propagator: &mut Propagator,
+        clause: ClauseIndex,
+    ) -> Result<(), ElaborateFault> {
+        if propagator.make_core(clause)? {
+            self.fresh.push(clause)?;
+        }
+        Ok(())
+    }
+
+    /// The place of the variable of a literal is wanted.
+    pub(crate) fn want(&mut self, propagator: &Propagator, lit: Lit) -> Result<(), ElaborateFault> {
+        let place = propagator.trail.place(lit)?;
+        self.wanted.insert(place)?;
+        Ok(())
+    }
+
+    /// The negations of a clause's literals are wanted, besides that of one, and where they are not
+    /// assumed.
+    fn want_negated(
+        &mut self,
+        propagator: &Propagator,
+        clause: ClauseIndex,
+        besides: Option<Lit>,
+        assumed: Assumed,
+    ) -> Result<(), ElaborateFault> {
+        for lit in propagator.clauses.lits(clause)? {
+            if besides != Some(*lit) && !self.is_assumed(!*lit, assumed) {
+                self.want(propagator, *lit)?;
+            }
+        }
+        Ok(())
+    }
+
+    #[inline(always)]
+    fn is_assumed(&self, lit: Lit, assumed: Assumed) -> bool {
+        self.by_clause.contains(lit) || (assumed == Assumed::Group && self.by_group.contains(lit))
+    }
+
+    /// Goes through the wanted places from a place on, the last first. What forced them is walked,
+    /// and wants what it needs in turn.
+    pub(crate) fn walk(
+        &mut self,
+        propagator: &mut Propagator,
+        from: usize,
+        assumed: Assumed,
+        after: After,
+    ) -> Result<(), ElaborateFault> {
+        self.walked.clear();
+        let first = from / 64;
+        let end = self.wanted.word_count(propagator.trail.len());
+        for word in (first..end).rev() {
+            let within = if word == first {
+                u64::MAX.wrapping_shl((from % 64) as u32)
+            } else {
+                u64::MAX
+            };
+            let done = self.walk_word(propagator, word, within, assumed)?;
+            if after == After::Forget {
+                self.wanted.remove(word, done);
+            }
+        }
+        Ok(())
+    }
+
+    /// Goes through the wanted places of a word. The answer is which there were.
+    fn walk_word(
+        &mut self,
+        propagator: &mut Propagator,
+        word: usize,
+        within: u64,
+        assumed: Assumed,
+    ) -> Result<u64, ElaborateFault> {
+        let mut done = 0u64;
+        // Each place of the word is gone through once.
+        for _ in 0..64 {
+            let open = self.wanted.word(word) & within & !done;
+            if open == 0 {
+                break;
+            }
+            let bit = 63u32.saturating_sub(open.leading_zeros());
+            done |= 1u64.wrapping_shl(bit);
+            let place = word.wrapping_mul(64).wrapping_add(bit as usize);
+            self.walk_place(propagator, place, assumed)?;
+        }
+        Ok(done)
+    }
+
+    fn walk_place(
+        &mut self,
+        propagator: &mut Propagator,
+        place: usize,
+        assumed: Assumed,
+    ) -> Result<(), ElaborateFault> {
+        let lit = propagator.trail.get(place).ok_or(ElaborateFault::Internal)?;
+        let reason = propagator
+            .trail
+            .reason(lit)
+            .ok_or(ElaborateFault::Internal)?;
+        self.want_negated(propagator, reason, Some(lit), assumed)?;
+        self.use_clause(propagator, reason)?;
+        self.walked.push(reason)?;
+        Ok(())
+    }
+}

@@ -1,0 +1,139 @@
+//! The clauses: their literals in one buffer, and what is known of each.
+use crate::fault::ElaborateFault;
+use sat_formula::Lit;
+use std::alloc::Global;
+
+/// The number of a clause. Those of the formula come first.
+#[derive(Clone, Copy, Debug, PartialEq, Eq)]
+pub(crate) struct ClauseIndex(u32);
+
+impl ClauseIndex {
+    /// There are at most so many clauses.
+    const MAX_COUNT: usize = 0x4000_0000;
+
+    pub(crate) fn new(index: usize) -> Result<ClauseIndex, ElaborateFault> {
+        if index < ClauseIndex::MAX_COUNT {
+            Ok(ClauseIndex(index as u32))
+        } else {
+            Err(ElaborateFault::TooLong)
+        }
+    }
+
+    pub(crate) fn get(self) -> usize {
+        self.0 as usize
+    }
+
+    /// The number itself.
+    pub(crate) fn number(self) -> u32 {
+        self.0
+    }
+
+    /// The clause of a number that was given by `number`.
+    pub(crate) fn from_number(number: u32) -> ClauseIndex {
+        ClauseIndex(number)
+    }
+}
+
+/// What is known of a clause besides its literals.
+#[derive(Clone, Copy)]
+pub(crate) struct Clause {
+    start: u32,
+    end: u32,
+    /// Its first literal as it was written; none in the empty clause.
+    pub(crate) pivot: Option<Lit>,
+    /// The next clause of the same bucket.
+    pub(crate) next: Option<ClauseIndex>,
+    /// It is used by the conflict or by a clause that is.
+    pub(crate) is_core: bool,
+    /// It is there at the step where the elaborator stands.
+    pub(crate) is_active: bool,
+    /// Its first two literals are watched while it is there.
+    pub(crate) is_watched: bool,
+    pub(crate) is_tautology: bool,
+}
+
+/// All clauses.
+#[derive(Drop)]
+pub(crate) struct Clauses {
+    table: Vec<Clause>,
+    lits: Vec<Lit>,
+}
+
+impl Clauses {
+    pub(crate) fn new(alloc: Global) -> Clauses {
+        Clauses {
+            table: Vec::new(alloc),
+            lits: Vec::new(alloc),
+        }
+    }
+
+    pub(crate) fn len(&self) -> usize {
+        self.table.len()
+    }
+
+    /// Stores a clause, which is there from now on.
+    pub(crate) fn push(
+        &mut self,
+        lits: &[Lit],
+        is_tautology: bool,
+    ) -> Result<ClauseIndex, ElaborateFault> {
+        let index = ClauseIndex::new(self.table.len())?;
+        let start = narrow(self.lits.len())?;
+        self.lits.extend_from_slice(lits)?;
+        let end = narrow(self.lits.len())?;
+        self.table.push(Clause {
+            start,
+            end,
+            pivot: lits.first().copied(),
+            next: None,
+            is_core: false,
+            is_active: true,
+            is_watched: false,
+            is_tautology,
+        })?;
+        Ok(index)
+    }
+
+    /// What is known of a clause.
+    pub(crate) fn get(&self, clause: ClauseIndex) -> Result<&Clause, ElaborateFault> {
+        self.table.get(clause.get()).ok_or(ElaborateFault::Internal)
+    }
+
+    pub(crate) fn get_mut(&mut self, clause: ClauseIndex) -> Result<&mut Clause, ElaborateFault> {
+        self.table
+            .get_mut(clause.get())
+            .ok_or(ElaborateFault::Internal)
+    }
+
+    /// The literals of a clause, in the order in which they are watched.
+    pub(crate) fn lits(&self, clause: ClauseIndex) -> Result<&[Lit], ElaborateFault> {
+        let found = self.get(clause)?;
+        let (start, end) = (found.start as usize, found.end as usize);
+        if start <= end && end <= self.lits.len() {
+            Ok(&self.lits[start..end])
+        } else {
+            Err(ElaborateFault::Internal)
+        }
+    }
+
+    pub(crate) fn lits_mut(&mut self, clause: ClauseIndex) -> Result<&mut [Lit], ElaborateFault> {
+        let found = self.get(clause)?;
+        let (start, end) = (found.start as usize, found.end as usize);
+        if start <= end && end <= self.lits.len() {
+            Ok(&mut self.lits[start..end])
+        } else {
+            Err(ElaborateFault::Internal)
+        }
+    }
+
+    /// Whether the clause is there and used, so that a redundant clause is checked against it.
+    pub(crate) fn is_candidate(&self, clause: ClauseIndex) -> Result<bool, ElaborateFault> {
+        let found = self.get(clause)?;
+        Ok(found.is_active && found.is_core && !found.is_tautology)
+    }
+}
+
+/// A number of 32 bits.
+pub(crate) fn narrow(number: usize) -> Result<u32, ElaborateFault> {
+    u32::try_from(number).map_err(|_| ElaborateFault::TooLong)
+}

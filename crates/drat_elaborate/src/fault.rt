@@ -1,0 +1,36 @@
+//! Why a proof is not elaborated.
+use std::alloc::{AllocError, AllocFailed};
+use thiserror::Error;
+
+/// Why a proof is not elaborated. Steps count from 1, deletions too.
+#[derive(Clone, Copy, Debug, PartialEq, Eq, Error)]
+pub enum ElaborateFault {
+    /// There was no memory for what the formula and the proof say.
+    #[error("out of memory")]
+    OutOfMemory,
+    /// There are more clauses, literals, steps or hints than are counted in 32 bits.
+    #[error("too long")]
+    TooLong,
+    /// The clause that the step adds is used, and neither follows by propagation nor is redundant
+    /// by its first literal.
+    #[error("step {step}: clause neither follows nor is redundant by its first literal")]
+    NotRedundant { step: u64 },
+    /// The steps end without a conflict by propagation.
+    #[error("no conflict after {steps} steps")]
+    NoConflict { steps: u64 },
+    /// A call came out of order, or the elaborator's tables disagree.
+    #[error("internal error")]
+    Internal,
+}
+
+impl From<AllocError> for ElaborateFault {
+    fn from(_e: AllocError) -> ElaborateFault {
+        ElaborateFault::OutOfMemory
+    }
+}
+
+impl<T: Drop> From<AllocFailed<T>> for ElaborateFault {
+    fn from(_e: AllocFailed<T>) -> ElaborateFault {
+        ElaborateFault::OutOfMemory
+    }
+}

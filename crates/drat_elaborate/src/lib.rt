@@ -1,0 +1,26 @@
+//! Turns DRAT proofs into lines of LRAT proofs, by backward checking.
+//!
+//! Nobody has to trust it: its lines are for a checker of LRAT proofs, whose verdict stands
+//! whatever they are.
+#![tactic(auto)]
+
+mod check;
+mod clauses;
+mod elaborator;
+mod fault;
+mod lines;
+mod lit_set;
+mod lookup;
+mod occurrences;
+mod place_set;
+mod propagator;
+mod records;
+mod redundancy;
+mod sweep;
+#[cfg(test)]
+mod tests;
+mod trail;
+mod watches;
+
+pub use elaborator::Elaborator;
+pub use fault::ElaborateFault;

@@ -1,0 +1,138 @@
+//! The lines of the checked clauses, in order.
+use crate::clauses::{ClauseIndex, Clauses, narrow};
+use crate::fault::ElaborateFault;
+use crate::records::{PackedHint, RecordView};
+use lrat_text::Hint;
+use sat_formula::Lit;
+use std::alloc::Global;
+
+/// The ids of the clauses so far, and the lists of the line that is told.
+#[derive(Drop)]
+pub(crate) struct Lines {
+    /// By number of the clause; 0 where it has none yet.
+    ids: Vec<u32>,
+    pub(crate) last_id: u64,
+    pub(crate) clause: Vec<Lit>,
+    pub(crate) hints: Vec<Hint>,
+    pub(crate) dying: Vec<u64>,
+    /// The deletion of `dying` is the next line.
+    deletion_is_next: bool,
+    is_begun: bool,
+}
+
+impl Lines {
+    pub(crate) fn new(alloc: Global) -> Lines {
+        Lines {
+            ids: Vec::new(alloc),
+            last_id: 0,
+            clause: Vec::new(alloc),
+            hints: Vec::new(alloc),
+            dying: Vec::new(alloc),
+            deletion_is_next: false,
+            is_begun: false,
+        }
+    }
+
+    /// The clauses of the formula get their ids; those that are not used are the first to go.
+    pub(crate) fn begin(
+        &mut self,
+        clauses: &Clauses,
+        formula_len: usize,
+    ) -> Result<(), ElaborateFault> {
+        if self.is_begun {
+            return Ok(());
+        }
+        self.is_begun = true;
+        self.ids.resize(clauses.len(), 0)?;
+        for index in 0..formula_len {
+            let clause = ClauseIndex::new(index)?;
+            self.name(clause)?;
+            if !clauses.get(clause)?.is_core {
+                self.dying.push(self.last_id)?;
+            }
+        }
+        self.deletion_is_next = !self.dying.is_empty();
+        Ok(())
+    }
+
+    /// Whether the next line is a deletion, which is so at most once.
+    pub(crate) fn take_deletion(&mut self) -> bool {
+        let is_next = self.deletion_is_next;
+        self.deletion_is_next = false;
+        is_next
+    }
+
+    /// Reads a record into the lists.
+    pub(crate) fn read(
+        &mut self,
+        clauses: &Clauses,
+        record: &RecordView<'_>,
+    ) -> Result<(), ElaborateFault> {
+        self.read_hints(record.hints)?;
+        self.clause.clear();
+        match record.clause {
+            Some(clause) => {
+                self.read_clause(clauses, clause)?;
+                self.name(clause)?;
+            }
+            None => self.last_id = self.last_id.saturating_add(1),
+        }
+        self.read_dying(record.dying)?;
+        self.deletion_is_next = !self.dying.is_empty() && !self.clause.is_empty();
+        Ok(())
+    }
+
+    /// The literals of a clause, the pivot first.
+    fn read_clause(
+        &mut self,
+        clauses: &Clauses,
+        clause: ClauseIndex,
+    ) -> Result<(), ElaborateFault> {
+        let Some(pivot) = clauses.get(clause)?.pivot else {
+            return Ok(());
+        };
+        self.clause.push(pivot)?;
+        for lit in clauses.lits(clause)? {
+            if *lit != pivot {
+                self.clause.push(*lit)?;
+            }
+        }
+        Ok(())
+    }
+
+    fn read_hints(&mut self, hints: &[PackedHint]) -> Result<(), ElaborateFault> {
+        self.hints.clear();
+        for hint in hints {
+            let id = id_in(&self.ids, hint.clause())?;
+            self.hints.push(hint.with_id(id))?;
+        }
+        Ok(())
+    }
+
+    fn read_dying(&mut self, dying: &[ClauseIndex]) -> Result<(), ElaborateFault> {
+        self.dying.clear();
+        for clause in dying {
+            let id = id_in(&self.ids, *clause)?;
+            self.dying.push(id)?;
+        }
+        Ok(())
+    }
+
+    /// Gives the next id to a clause.
+    fn name(&mut self, clause: ClauseIndex) -> Result<(), ElaborateFault> {
+        self.last_id = self.last_id.saturating_add(1);
+        match self.ids.get_mut(clause.get()) {
+            Some(id) => *id = narrow(self.last_id as usize)?,
+            None => return Err(ElaborateFault::Internal),
+        }
+        Ok(())
+    }
+}
+
+/// The id of a clause that has one.
+fn id_in(ids: &[u32], clause: ClauseIndex) -> Result<u64, ElaborateFault> {
+    match ids.get(clause.get()).copied() {
+        Some(id) if id > 0 => Ok(id as u64),
+        _ => Err(ElaborateFault::Internal),
+    }
+}

@@ -1,0 +1,146 @@
+//! Clauses by their literals.
+use crate::clauses::{ClauseIndex, Clauses};
+use crate::fault::ElaborateFault;
+use crate::lit_set::LitSet;
+use crate::propagator::Propagator;
+use sat_formula::Lit;
+use std::alloc::{AllocError, Global};
+
+/// What a search for a clause came to.
+#[derive(Clone, Copy)]
+pub(crate) enum Lookup {
+    /// This clause is there, and forces nothing. It is no longer found.
+    Found(ClauseIndex),
+    /// Each such clause forces a literal.
+    Reason,
+    Missing,
+}
+
+/// The clauses that are there, in buckets by a hash of their literals.
+#[derive(Drop)]
+pub(crate) struct ClauseTable {
+    /// The first clause of each bucket; the next one is told by the clause.
+    buckets: Vec<Option<ClauseIndex>>,
+}
+
+impl ClauseTable {
+    const FIRST_SIZE: usize = 1024;
+
+    pub(crate) fn new(alloc: Global) -> ClauseTable {
+        ClauseTable {
+            buckets: Vec::new(alloc),
+        }
+    }
+
+    /// Enters a clause that was stored last.
+    pub(crate) fn enter_new(
+        &mut self,
+        clauses: &mut Clauses,
+        clause: ClauseIndex,
+    ) -> Result<(), ElaborateFault> {
+        if clauses.len() > self.buckets.len() {
+            self.grow()?;
+            self.enter_below(clauses, clause)?;
+        }
+        self.enter(clauses, clause)
+    }
+
+    /// Twice as many buckets, all empty.
+    fn grow(&mut self) -> Result<(), AllocError> {
+        let size = self
+            .buckets
+            .len()
+            .saturating_mul(2)
+            .max(ClauseTable::FIRST_SIZE);
+        self.buckets.clear();
+        self.buckets.resize(size, None)
+    }
+
+    /// Enters the clauses before one that are there.
+    fn enter_below(
+        &mut self,
+        clauses: &mut Clauses,
+        end: ClauseIndex,
+    ) -> Result<(), ElaborateFault> {
+        for index in 0..end.get() {
+            let clause = ClauseIndex::new(index)?;
+            if clauses.get(clause)?.is_active {
+                self.enter(clauses, clause)?;
+            }
+        }
+        Ok(())
+    }
+
+    fn enter(&mut self, clauses: &mut Clauses, clause: ClauseIndex) -> Result<(), ElaborateFault> {
+        let hash = hash(clauses.lits(clause)?);
+        let bucket = bucket_of(&mut self.buckets, hash)?;
+        clauses.get_mut(clause)?.next = *bucket;
+        *bucket = Some(clause);
+        Ok(())
+    }
+
+    /// Takes out a clause with these literals that forces nothing, if there is one. Each literal
+    /// stands once, and `set` has the same.
+    pub(crate) fn take(
+        &mut self,
+        propagator: &mut Propagator,
+        lits: &[Lit],
+        set: &LitSet,
+    ) -> Result<Lookup, ElaborateFault> {
+        if self.buckets.is_empty() {
+            return Ok(Lookup::Missing);
+        }
+        let bucket = bucket_of(&mut self.buckets, hash(lits))?;
+        let mut before = None;
+        let mut at = *bucket;
+        let mut answer = Lookup::Missing;
+        for _ in 0..propagator.clauses.len() {
+            let Some(clause) = at else {
+                return Ok(answer);
+            };
+            at = propagator.clauses.get(clause)?.next;
+            if is_same(propagator.clauses.lits(clause)?, lits, set) {
+                if !propagator.is_reason(clause)? {
+                    match before {
+                        None => *bucket = at,
+                        Some(before) => propagator.clauses.get_mut(before)?.next = at,
+                    }
+                    return Ok(Lookup::Found(clause));
+                }
+                answer = Lookup::Reason;
+            }
+            before = Some(clause);
+        }
+        Ok(answer)
+    }
+}
+
+/// The bucket of a hash.
+fn bucket_of(
+    buckets: &mut Vec<Option<ClauseIndex>>,
+    hash: u32,
+) -> Result<&mut Option<ClauseIndex>, ElaborateFault> {
+    let mask = buckets.len().wrapping_sub(1);
+    buckets
+        .get_mut(hash as usize & mask)
+        .ok_or(ElaborateFault::Internal)
+}
+
+/// Whether a clause has just these literals.
+fn is_same(clause: &[Lit], lits: &[Lit], set: &LitSet) -> bool {
+    clause.len() == lits.len() && clause.iter().all(|lit| set.contains(*lit))
+}
+
+/// A hash in which the order of the literals doesn't matter.
+fn hash(lits: &[Lit]) -> u32 {
+    let mut sum = 0u32;
+    let mut mixed = 0u32;
+    let mut product = 1u32;
+    for lit in lits {
+        let key = (lit.code() as u32 + 1).wrapping_mul(0x9E37_79B1);
+        sum = sum.wrapping_add(key);
+        mixed ^= key ^ (key >> 15);
+        product = product.wrapping_mul(key | 1);
+    }
+    sum.wrapping_mul(1023).wrapping_add(product) ^ mixed.wrapping_mul(31)
+}

@@ -1,0 +1,133 @@
+//! Which literals are true, in what order they became so, and why.
+use crate::clauses::{ClauseIndex, narrow};
+use crate::fault::ElaborateFault;
+use sat_formula::Lit;
+use std::alloc::{AllocError, Global};
+
+/// What is known of a literal.
+#[derive(Clone, Copy, PartialEq, Eq)]
+pub(crate) enum Value {
+    Free,
+    True,
+    False,
+}
+
+/// Why and where a variable got its value.
+#[derive(Clone, Copy)]
+struct Cause {
+    /// None where it is assumed.
+    reason: Option<ClauseIndex>,
+    place: u32,
+}
+
+/// The true literals in order.
+#[derive(Drop)]
+pub(crate) struct Trail {
+    /// By code of the literal.
+    values: Vec<Value>,
+    /// By index of the variable; of use only where it has a value.
+    causes: Vec<Cause>,
+    lits: Vec<Lit>,
+}
+
+impl Trail {
+    pub(crate) fn new(alloc: Global) -> Trail {
+        Trail {
+            values: Vec::new(alloc),
+            causes: Vec::new(alloc),
+            lits: Vec::new(alloc),
+        }
+    }
+
+    /// Makes room for the variable of a literal.
+    pub(crate) fn make_room(&mut self, lit: Lit) -> Result<(), AllocError> {
+        let count = lit.index() + 1;
+        if self.causes.len() < count {
+            let cause = Cause {
+                reason: None,
+                place: 0,
+            };
+            self.causes.resize(count, cause)?;
+            self.values.resize(2 * count, Value::Free)?;
+        }
+        Ok(())
+    }
+
+    pub(crate) fn len(&self) -> usize {
+        self.lits.len()
+    }
+
+    /// Twice the number of variables.
+    pub(crate) fn lit_count(&self) -> usize {
+        self.values.len()
+    }
+
+    pub(crate) fn get(&self, place: usize) -> Option<Lit> {
+        self.lits.get(place).copied()
+    }
+
+    #[inline(always)]
+    pub(crate) fn value(&self, lit: Lit) -> Value {
+        self.values.get(lit.code()).copied().unwrap_or(Value::Free)
+    }
+
+    /// The clause that forced the variable of a literal.
+    pub(crate) fn reason(&self, lit: Lit) -> Option<ClauseIndex> {
+        self.causes.get(lit.index())?.reason
+    }
+
+    /// The place of the variable of a literal that has a value.
+    pub(crate) fn place(&self, lit: Lit) -> Result<usize, ElaborateFault> {
+        match self.causes.get(lit.index()) {
+            Some(cause) => Ok(cause.place as usize),
+            None => Err(ElaborateFault::Internal),
+        }
+    }
+
+    /// Makes a free literal true.
+    pub(crate) fn assign(
+        &mut self,
+        lit: Lit,
+        reason: Option<ClauseIndex>,
+    ) -> Result<(), ElaborateFault> {
+        let place = narrow(self.lits.len())?;
+        self.lits.push(lit)?;
+        set_value(&mut self.values, lit, Value::True);
+        set_value(&mut self.values, !lit, Value::False);
+        match self.causes.get_mut(lit.index()) {
+            Some(cause) => *cause = Cause { reason, place },
+            None => return Err(ElaborateFault::Internal),
+        }
+        Ok(())
+    }
+
+    /// The literals from a place on are free again.
+    pub(crate) fn cut(&mut self, len: usize) {
+        for lit in self.lits.iter().skip(len) {
+            set_value(&mut self.values, *lit, Value::Free);
+            set_value(&mut self.values, !*lit, Value::Free);
+        }
+        self.lits.truncate(len);
+    }
+
+    /// How good a literal is to be watched: one that has been true longest is best, then a free
+    /// one, then one that became false late.
+    pub(crate) fn rank(&self, lit: Lit) -> u64 {
+        let place = match self.causes.get(lit.index()) {
+            Some(cause) => cause.place,
+            None => 0,
+        };
+        match self.value(lit) {
+            Value::True => u64::MAX - place as u64,
+            Value::Free => 0x100_0000_0000,
+            Value::False => place as u64,
+        }
+    }
+}
+
+#[inline(always)]
+fn set_value(values: &mut Vec<Value>, lit: Lit, value: Value) {
+    if let Some(found) = values.get_mut(lit.code()) {
+        *found = value;
+    }
+}

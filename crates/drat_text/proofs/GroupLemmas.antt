@@ -1,0 +1,63 @@
+-- The bytes of a binary number.
+use Rattle.std.proofs.Common.{◌≡◌, ℕ, ◌+◌, ◌*◌, ◌^◌, ◌≤◌, ◌<◌, List, [], ◌∷◌, refl, sym, arith, true, false}
+use Rattle.std.specs.Prelude.{◌%◌, nat_lt, ◌==◌}
+use Rattle.std.proofs.lemmas.Bool.{lt-ltb, le-ltb, ne_eqb, eq-eqb}
+use Rattle.std.proofs.Math.Nat.{mod-lt}
+use Rattle.drat_text.specs.declared.bytes.Format.TheVariants.{Binary}
+use Rattle.drat_text.specs.declared.fault.DratKind.TheVariants.{NumberTooLarge}
+use Rattle.drat_text.specs.declared.step.Action.{Action}
+use Rattle.drat_text.specs.Numbers.{code_said}
+use Rattle.drat_text.specs.Places.{Place, Within, InNumber, Groups, After, Goes, Stops, after, said}
+use Rattle.drat_text.specs.Proofs.{outcome_at}
+
+-- the weights of the five bytes
+pub data IsWeight : ℕ → Type 0 where
+  first : IsWeight 1
+  second : IsWeight 128
+  third : IsWeight 16384
+  fourth : IsWeight 2097152
+  fifth : IsWeight 268435456
+
+pub weight_small : (w : ℕ) → IsWeight w → w ≤ 268435456
+weight_small _ first = omega arith
+weight_small _ second = omega arith
+weight_small _ third = omega arith
+weight_small _ fourth = omega arith
+weight_small _ fifth = omega arith
+
+pub next_weight : (w : ℕ) → IsWeight w → (w ≡ 268435456 → ⊥) → IsWeight (w * 128)
+next_weight _ first n = second
+next_weight _ second n = third
+next_weight _ third n = fourth
+next_weight _ fourth n = fifth
+next_weight _ fifth n = absurd (n refl)
+
+-- a group of the weight w
+pub value_small : (v w x : ℕ) → IsWeight w → v < w → v + (x % 128) * w < w * 128
+value_small v _ x first lt = let m = mod-lt x {m = 128} (omega arith) in omega (arith, m, lt)
+value_small v _ x second lt = let m = mod-lt x {m = 128} (omega arith) in omega (arith, m, lt)
+value_small v _ x third lt = let m = mod-lt x {m = 128} (omega arith) in omega (arith, m, lt)
+value_small v _ x fourth lt = let m = mod-lt x {m = 128} (omega arith) in omega (arith, m, lt)
+value_small v _ x fifth lt = let m = mod-lt x {m = 128} (omega arith) in omega (arith, m, lt)
+
+-- a number is begun by its first byte
+pub groups_begin : (action : Action) (lits : List ℕ) (m : List ℕ) → outcome_at Binary (Within action lits) m ≡ outcome_at Binary (InNumber action lits (Groups 0 1)) m
+unfolding outcome_at
+groups_begin action lits [] = refl
+groups_begin action lits (b ∷ bs) = refl
+
+module _ (action : Action) (lits : List ℕ) (v w x : ℕ) where
+  pub group_ends : x < 128 → after Binary (InNumber action lits (Groups v w)) x ≡ said action lits (code_said (v + (x % 128) * w))
+  group_ends lt = rw (lt-ltb x 128 lt) refl
+
+  pub group_fifth : (x < 128 → ⊥) → w ≡ 268435456 → after Binary (InNumber action lits (Groups v w)) x ≡ Stops NumberTooLarge
+  group_fifth n e = rw (not_small, eq-eqb w 268435456 e) refl
+    where
+      not_small : nat_lt x 128 ≡ false
+      not_small = le-ltb x 128 (omega (arith, n))
+
+  pub group_more : (x < 128 → ⊥) → (w ≡ 268435456 → ⊥) → after Binary (InNumber action lits (Groups v w)) x ≡ Goes (InNumber action lits (Groups (v + (x % 128) * w) (w * 128)))
+  group_more n e = rw (not_small, ne_eqb w 268435456 e) refl
+    where
+      not_small : nat_lt x 128 ≡ false
+      not_small = le-ltb x 128 (omega (arith, n))

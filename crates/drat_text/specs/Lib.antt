@@ -1,0 +1,9 @@
+pub mod Stops
+pub mod Bytes
+pub mod Numbers
+pub mod Steps
+pub mod Places
+pub mod Proofs
+pub mod Taking
+pub mod Reading
+pub mod NextStep

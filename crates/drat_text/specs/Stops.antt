@@ -1,0 +1,11 @@
+-- Why reading stops.
+use Rattle.sat_formula.specs.declared.source.NoByte.{NoByte}
+use Rattle.sat_formula.specs.declared.source.NoByte.TheVariants as reasons
+use Rattle.drat_text.specs.declared.fault.Stop.{Stop}
+use Rattle.drat_text.specs.declared.fault.Stop.TheVariants as stops
+
+-- the stop of a source that gives no byte
+abbrev pub stop_of : NoByte → Stop
+stop_of reasons.End = stops.End
+stop_of reasons.Read = stops.Read
+stop_of reasons.OutOfMemory = stops.OutOfMemory

@@ -1,0 +1,158 @@
+//! The bytes of a proof, the first of which tell whether it is text.
+ghost use Rattle.std.specs.Prelude.{◌≡◌, ◌<◌, ◌≤◌, [], IfOk, IsSome, IsTrue, length, vec_len};
+ghost use Rattle.sat_formula.specs.Source.{is_limited};
+
+use crate::fault::{DratKind, Stop};
+use crate::number::is_text_byte;
+use sat_formula::source::{NoByte, Source};
+use std::alloc::Global;
+use std::io;
+use std::io::Read;
+
+/// So many bytes are looked at before a proof counts as text.
+const LOOKED_AT: usize = 4096;
+
+/// How steps are written.
+#[derive(Clone, Copy, Debug, PartialEq, Eq)]
+pub(crate) enum Format {
+    Text,
+    Binary,
+}
+
+/// A source, and in front of it the bytes that were looked at and not taken yet.
+#[derive(Drop)]
+pub(crate) struct Bytes<R> {
+    source: Source<R>,
+    front: Vec<u8>,
+    taken: usize,
+    ghost limited: { IsTrue (is_limited source) },
+    ghost within: { taken ≤ vec_len front },
+}
+
+impl<R: Read> Bytes<R> {
+    ghost use Rattle.sat_formula.specs.Source.{IsStopped, IsErrorOf};
+    ghost use Rattle.drat_text.specs.Taking.{front_of, unread_bytes, room_in, Takes, TakesWithin, Looks, LooksOn, Peeks};
+
+    pub(crate) fn new(alloc: Global, inner: R) -> Bytes<R>
+        ensures bytes { unread_bytes R.remaining result ≡ R.remaining inner }
+        ensures front { result.front.items ≡ [] }
+    {
+        Bytes {
+            source: Source::limited(alloc, inner, u64::MAX),
+            front: Vec::new(alloc),
+            taken: 0,
+        }
+    }
+
+    /// The error of a stop by the source.
+    pub(crate) fn error(&self) -> io::Error
+        requires { IsStopped self.now.source }
+        ensures { IsErrorOf self.now.source result }
+    {
+        self.source.error()
+    }
+
+    /// Takes the next byte.
+    #[inline(always)]
+    pub(crate) fn next_byte(&mut self) -> Result<u8, Stop>
+        ensures byte { Takes (unread_bytes R.remaining self.old)
+            (unread_bytes R.remaining self.new) self.new.source result }
+        ensures nearer { IfOk result (λ _. room_in self.new < room_in self.old) }
+        ensures room { room_in self.new ≤ room_in self.old }
+    {
+        if self.taken < self.front.len() {
+            let byte = self.front[self.taken];
+            self.taken += 1;
+            return Ok(byte);
+        }
+        match self.source.next_byte() {
+            Ok(byte) => Ok(byte),
+            Err(reason) => Err(Stop::from(reason)),
+        }
+    }
+
+    /// Takes the next byte of a step that was begun, which is unfinished where the input ends.
+    #[inline(always)]
+    pub(crate) fn next_within(&mut self) -> Result<u8, Stop>
+        ensures byte { TakesWithin (unread_bytes R.remaining self.old)
+            (unread_bytes R.remaining self.new) self.new.source result }
+        ensures nearer { IfOk result (λ _. room_in self.new < room_in self.old) }
+        ensures room { room_in self.new ≤ room_in self.old }
+    {
+        match self.next_byte() {
+            Err(Stop::End) => Err(Stop::Wrong(DratKind::Unfinished)),
+            answer => answer,
+        }
+    }
+
+    /// Tells the format by the next bytes, and takes none of them.
+    pub(crate) fn look(&mut self) -> Result<Format, Stop>
+        ensures format { Looks (unread_bytes R.remaining self.old)
+            (unread_bytes R.remaining self.new) self.new.source result }
+        ensures room { room_in self.new ≤ room_in self.old }
+    {
+        let Some(first) = self.peek(0)? else {
+            return Ok(Format::Text);
+        };
+        if first == b'a' {
+            return Ok(Format::Binary);
+        }
+        if first == b'd' {
+            return self.look_on();
+        }
+        Ok(Format::Text)
+    }
+
+    // Looks on where the next byte is a `d`.
+    fn look_on(&mut self) -> Result<Format, Stop>
+        ensures format { LooksOn (unread_bytes R.remaining self.old)
+            (unread_bytes R.remaining self.new) self.new.source result }
+        ensures room { room_in self.new ≤ room_in self.old }
+    {
+        let mut place = 0;
+        'bytes: while place < LOOKED_AT {
+            let Some(byte) = self.peek(place)? else {
+                return Ok(Format::Text);
+            };
+            if !is_text_byte(byte) {
+                return Ok(Format::Binary);
+            }
+            place += 1;
+        }
+        Ok(Format::Text)
+    }
+
+    // The byte at a place of those to come, if there is one. It stands in front from then on, as
+    // those before it do already.
+    fn peek(&mut self, place: usize) -> Result<Option<u8>, Stop>
+        requires { place ≤ length (front_of self.old) }
+        ensures peek { Peeks (unread_bytes R.remaining self.old)
+            (unread_bytes R.remaining self.new) place self.new.source result }
+        ensures front { IfOk result (λ byte. IsSome byte → place < length (front_of self.new)) }
+        ensures room { room_in self.new ≤ room_in self.old }
+    {
+        if place < self.front.len() - self.taken {
+            return Ok(Some(self.front[self.taken + place]));
+        }
+        self.pull()
+    }
+
+    // The next byte of the source, if there is one. It stands in front from then on, as the last.
+    fn pull(&mut self) -> Result<Option<u8>, Stop>
+        ensures peek { Peeks (unread_bytes R.remaining self.old)
+            (unread_bytes R.remaining self.new) (length (front_of self.old)) self.new.source
+            result }
+        ensures front { IfOk result (λ byte. IsSome byte
+            → length (front_of self.old) < length (front_of self.new)) }
+        ensures room { room_in self.new ≤ room_in self.old }
+    {
+        match self.source.next_byte() {
+            Ok(byte) => {
+                self.front.push(byte)?;
+                Ok(Some(byte))
+            }
+            Err(NoByte::End) => Ok(None),
+            Err(reason) => Err(Stop::from(reason)),
+        }
+    }
+}

@@ -1,0 +1,16 @@
+//! DRAT proofs, text or binary, as solvers write them: a step adds a clause or deletes one.
+#![tactic(auto)]
+
+mod binary;
+mod bytes;
+mod fault;
+mod number;
+mod reader;
+mod step;
+#[cfg(test)]
+mod tests;
+mod text;
+
+pub use fault::{DratFault, DratKind};
+pub use reader::DratReader;
+pub use step::DratStep;

@@ -1,0 +1,75 @@
+//! Bytes of a text, and what numbers say.
+ghost use Rattle.std.specs.Prelude.{◌≡◌};
+ghost use Rattle.sat_formula.specs.Bytes.{is_digit};
+ghost use Rattle.drat_text.specs.Bytes.{begins_comment, is_space, is_text_byte};
+ghost use Rattle.drat_text.specs.Numbers.{lit_said, code_said};
+
+use crate::fault::DratKind;
+use sat_formula::{Lit, Var};
+
+pub(crate) const MAX_VARIABLE: u64 = Var::MAX_COUNT as u64;
+
+/// Whether the byte stands between words: a blank or an LF.
+#[inline(always)]
+pub(crate) fn is_space(byte: u8) -> bool
+    ensures { result ≡ is_space byte }
+{
+    byte == b' ' || byte == b'\n' || byte == b'\r' || byte == b'\t'
+}
+
+#[inline(always)]
+pub(crate) fn is_digit(byte: u8) -> bool
+    ensures { result ≡ is_digit byte }
+{
+    b'0' <= byte && byte <= b'9'
+}
+
+/// Whether the byte begins a comment, where it stands between steps.
+#[inline(always)]
+pub(crate) fn begins_comment(byte: u8) -> bool
+    ensures { result ≡ begins_comment byte }
+{
+    byte == b'c' || byte == b'%'
+}
+
+/// Whether a text can have the byte.
+pub(crate) fn is_text_byte(byte: u8) -> bool
+    ensures { result ≡ is_text_byte byte }
+{
+    is_space(byte) || b' ' <= byte && byte <= b'~'
+}
+
+/// What digits of this value say, after a `-` or not: a literal, or none at a step's 0.
+#[inline(always)]
+pub(crate) fn lit_said(negative: bool, value: u64) -> Result<Option<Lit>, DratKind>
+    ensures { result ≡ lit_said negative value }
+{
+    if value == 0 {
+        return if negative {
+            Err(DratKind::Malformed)
+        } else {
+            Ok(None)
+        };
+    }
+    if value > MAX_VARIABLE {
+        return Err(DratKind::NumberTooLarge);
+    }
+    Ok(Lit::from_code((value as usize - 1) * 2 + negative as usize))
+}
+
+/// What a binary number says: a literal, or none at a step's 0.
+#[inline(always)]
+pub(crate) fn code_said(number: u64) -> Result<Option<Lit>, DratKind>
+    ensures { result ≡ code_said number }
+{
+    if number == 0 {
+        return Ok(None);
+    }
+    if number == 1 {
+        return Err(DratKind::Malformed);
+    }
+    match Lit::from_code(number as usize - 2) {
+        Some(lit) => Ok(Some(lit)),
+        None => Err(DratKind::NumberTooLarge),
+    }
+}

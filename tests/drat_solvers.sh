@@ -1,0 +1,91 @@
+#!/usr/bin/env bash
+# Solvers that write DRAT, and `drat_check` on what they write: text, binary, and by a pipe; and proofs with RAT steps.
+# It uses the solvers that are there (Debian: cadical picosat cryptominisat), and says which are not.
+set -euo pipefail
+
+top=$(cd "$(dirname "$0")/.." && pwd)
+work=$(mktemp -d)
+trap 'rm -rf "$work"' EXIT
+(cd "$top/crates/drat_check_main" && "${RT:-rt}" run -- --example > "$work/built" 2>&1) || {
+  cat "$work/built"
+  exit 1
+}
+check=$top/crates/drat_check_main/out/drat_check_main
+wrong=0
+
+formula() {
+  python3 -B "$top/tests/drat/formulas.py" "$@"
+}
+
+# verified NAME CNF PROOF: the proof has to be verified
+verified() {
+  local said
+  said=$("$check" "$2" "$3" 2> "$work/err") || true
+  if [[ $said != 's VERIFIED UNSAT' ]]; then
+    printf '%s: %s %s\n' "$1" "$said" "$(cat "$work/err")"
+    wrong=1
+  fi
+}
+
+# solved NAME COMMAND..: the solver has to answer "unsatisfiable"
+solved() {
+  local name=$1 status=0
+  shift
+  "$@" > "$work/said" 2>&1 || status=$?
+  if ((status != 20)); then
+    printf '%s: the solver ended with status %d\n' "$name" "$status"
+    wrong=1
+  fi
+}
+
+has() {
+  command -v "$1" > "$work/where" || {
+    echo "$1 is not installed: not tried"
+    return 1
+  }
+}
+
+formula pigeons 6 > "$work/pigeons.cnf"
+formula random 150 4.8 1 > "$work/random.cnf"
+formula multiplier 5 > "$work/multiplier.cnf"
+names=(pigeons random multiplier)
+
+if has cadical; then
+  for name in "${names[@]}"; do
+    cnf=$work/$name.cnf
+    solved "cadical $name" cadical -q --no-binary "$cnf" "$work/text"
+    verified "cadical $name, text" "$cnf" "$work/text"
+    solved "cadical $name" cadical -q "$cnf" "$work/binary"
+    verified "cadical $name, binary" "$cnf" "$work/binary"
+    said=$(cat "$work/binary" | "$check" "$cnf" - 2> "$work/err") || true
+    if [[ $said != 's VERIFIED UNSAT' ]]; then
+      printf 'cadical %s, by a pipe: %s %s\n' "$name" "$said" "$(cat "$work/err")"
+      wrong=1
+    fi
+  done
+fi
+if has picosat; then
+  for name in pigeons random; do
+    solved "picosat $name" picosat -R "$work/proof" "$work/$name.cnf"
+    verified "picosat $name" "$work/$name.cnf" "$work/proof"
+  done
+fi
+if has cryptominisat5; then
+  for name in pigeons random; do
+    solved "cryptominisat $name" cryptominisat5 --verb 0 "$work/$name.cnf" "$work/frat"
+    awk '$1 == "a" || $1 == "d" {
+      line = $1 == "d" ? "d" : ""
+      for (i = 3; i <= NF; i++) { line = line " " $i; if ($i == "0") break }
+      print line
+    }' "$work/frat" > "$work/proof"
+    verified "cryptominisat $name" "$work/$name.cnf" "$work/proof"
+  done
+fi
+for holes in 6 9; do
+  formula pigeons "$holes" > "$work/rat.cnf"
+  for family in extended swaps; do
+    formula "$family" "$holes" > "$work/proof"
+    verified "$family $holes" "$work/rat.cnf" "$work/proof"
+  done
+done
+exit "$wrong"
