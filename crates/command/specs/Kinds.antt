@@ -1,7 +1,7 @@
 -- What the first bytes of a file say that it is.
 --     kind_by bytes      a compressed file, a binary proof or DRAT text;  or none of these
 use Rattle.std.specs.Prelude.{ℕ, Bool, true, false, ◌&&◌, ◌||◌, ◌==◌, nat_le, if◌then◌else◌, List, [], ◌∷◌, Option, Some, None}
-use Rattle.core.specs.List.{list_any, starts_with}
+use Rattle.std.specs.List.{list_any, starts_with}
 use Rattle.command.specs.declared.kind.Kind.{Kind}
 use Rattle.command.specs.declared.kind.Kind.TheVariants.{Gzip, Xz, Zstd, Bzip2, BinaryProof, DratText}
 use Rattle.command.specs.declared.kind.Word.{Word}

@@ -96,6 +96,16 @@ pub fn say_proof(rt: &HostRuntime, name: &str) {
     say_place(rt, name, kind_of_file(rt, name));
 }
 
+/// Says on standard error, after a fault of a DRAT proof, which file it is.
+///
+/// Where it is a regular file that begins as a compressed one, that is said of it.
+pub fn say_drat_proof(rt: &HostRuntime, name: &str) {
+    match kind_of_file(rt, name) {
+        Some(Kind::DratText | Kind::BinaryProof) => say_place(rt, name, None),
+        kind => say_place(rt, name, kind),
+    }
+}
+
 fn say_place(rt: &HostRuntime, name: &str, kind: Option<Kind>) {
     let _ = match kind {
         Some(kind) => {

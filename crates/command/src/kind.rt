@@ -2,7 +2,7 @@
 ghost use Rattle.std.specs.Prelude.{◌≡◌, ◌&&◌, ◌||◌};
 ghost use Rattle.command.specs.Kinds.{is_binary_proof, is_drat_text, kind_by, ends_at_zero};
 
-/// A kind of file that none of the programs reads.
+/// A kind of file that a program is given by mistake.
 #[derive(Clone, Copy, Debug, PartialEq, Eq)]
 pub enum Kind {
     Gzip,

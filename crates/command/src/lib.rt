@@ -7,6 +7,6 @@ mod status;
 #[cfg(test)]
 mod tests;
 
-pub use files::{Input, create_output, open_input, say_formula, say_proof};
+pub use files::{Input, create_output, open_input, say_drat_proof, say_formula, say_proof};
 pub use kind::{Kind, kind_of};
 pub use status::{NOT_RUN, help, refuse, usage, version};

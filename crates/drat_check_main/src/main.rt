@@ -1,11 +1,11 @@
 //! The command `drat_check CNF DRAT`: checks a DRAT proof, text or binary, against a formula, and says
 //! in one line what it shows.
 //!
-//! `--example` checks a small fixed example, and `--help` says how the program is called. The name
-//! `-` stands for standard input.
+//! `--example` checks a small fixed example, `--help` says how the program is called, and
+//! `--version` of which version it is. The name `-` stands for standard input.
 #![tactic(auto)]
 
-use command::{NOT_RUN, help, open_input, refuse, usage};
+use command::{NOT_RUN, help, open_input, refuse, say_drat_proof, say_formula, usage, version};
 use drat_check::{RunFault, Verdict, exit_status, run_check};
 use std::process::ExitCode;
 use std::{env, io};
@@ -34,6 +34,7 @@ fn status_of_call(rt: &HostRuntime) -> u8 {
     match (first.as_str(), words.next(), words.next()) {
         ("--example", None, _) => check_example(rt),
         ("--help", None, _) => help(rt, CALL),
+        ("--version", None, _) => version(rt, "drat_check"),
         (cnf, Some(proof), None) => check_files(rt, cnf, proof.as_str()),
         _ => usage(rt, CALL),
     }
@@ -48,7 +49,13 @@ fn check_files(rt: &HostRuntime, cnf_name: &str, proof_name: &str) -> u8 {
         return NOT_RUN;
     };
     let outcome = run_check(rt.alloc(), cnf.file, proof.file, &mut io::writer(rt));
-    report(rt, &outcome)
+    let status = report(rt, &outcome);
+    match outcome {
+        Err(RunFault::Formula(_)) => say_formula(rt, cnf_name),
+        Err(RunFault::Proof(_)) => say_drat_proof(rt, proof_name),
+        Err(RunFault::Write(_)) | Ok(_) => {}
+    }
+    status
 }
 
 fn check_example(rt: &HostRuntime) -> u8 {
