@@ -101,30 +101,6 @@ module _ {R : Type 0} (remaining : R → Option (List ℕ)) (old new : DratReade
       none_told (stops.Wrong kind) l = absurd l
       none_told stops.OutOfMemory l = tt
 
--- ---- the format
-
-module _ {R : Type 0} (remaining : R → Option (List ℕ)) where
-  pub known_told : (old : DratReader R) (format : Format) → known_format old ≡ Some format → TellsFormat remaining old old
-  known_told old format e = told_of (bytes_left remaining old)
-    where
-      told_of : (known : Known) → IfSome known (λ bytes. format_now old ≡ format_for old bytes)
-      told_of None = tt
-      told_of (Some bytes) = rw e refl
-
-  pub first_told : (old new : DratReader R) (format : Format) → known_format old ≡ None → known_format new ≡ Some format →
-      IfSome (bytes_left remaining old) (λ bytes. format ≡ format_of bytes) → TellsFormat remaining old new
-  first_told old new format e is h = told_of (bytes_left remaining old) h
-    where
-      told_of : (known : Known) → IfSome known (λ bytes. format ≡ format_of bytes) → IfSome known (λ bytes. format_now new ≡ format_for old bytes)
-      told_of None h = tt
-      told_of (Some bytes) h = rw (e, is) h
-
-pub looks_as : {R : Type 0} (a b : Known) (source : Source R) (stop : Stop) → Looks a b source (Err stop) → Looked {X = Format} a b source (Err stop)
-looks_as a b source stops.End l = absurd l
-looks_as a b source stops.Read l = l
-looks_as a b source (stops.Wrong kind) l = absurd l
-looks_as a b source stops.OutOfMemory l = tt
-
 -- ---- a call
 
 -- a failed read is one of the source
