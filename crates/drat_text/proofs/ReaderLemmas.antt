@@ -1,7 +1,8 @@
 -- A step of a reader, from the format and the step that were read.
-use Rattle.std.proofs.Common.{◌≡◌, ℕ, ◌<◌, ◌≤◌, List, Option, Some, IfSome, IfOk, Result, Ok, Err, sym, refl, subst, ◌∙◌, arith}
+use Rattle.std.proofs.Common.{◌≡◌, ℕ, ◌<◌, ◌≤◌, List, [], Option, Some, IfSome, IfOk, Result, Ok, Err, sym, refl, subst, ◌∙◌, arith}
 use Rattle.std.specs.Prelude.{unwrap_or}
 use Rattle.std.specs.Io.KnownBytes.{Keeps}
+use Rattle.std.proofs.KnownBytes.{Consumes-kept, Consumes-nil}
 use Rattle.sat_formula.specs.declared.source.Source.{Source}
 use Rattle.drat_text.specs.declared.bytes.Format.{Format}
 use Rattle.drat_text.specs.declared.bytes.Format.TheVariants.{Text}
@@ -14,7 +15,7 @@ use Rattle.drat_text.specs.Reading.{ReadsStep}
 use Rattle.drat_text.specs.Steps.{step_of}
 use Rattle.drat_text.specs.Taking.{Leads, room_in}
 use Rattle.drat_text.specs.NextStep.{bytes_left, has_ended, steps_given, known_format, format_now, format_for, left_to_say, TellsFormat, ToldBy, ReadsOn, SeesFormat}
-use Rattle.drat_text.proofs.Takings.{Known, Says, leads_nil, kept_on, stopped_on, given_on}
+use Rattle.drat_text.proofs.Takings.{Known, Says, stopped_on, given_on}
 
 step_on : {R : Type 0} {a b : Known} (c : Known) {f g : Says} (format : Format) (lits : List ℕ) (source : Source R) (r : Result Found Stop) →
     Leads a b f g → ReadsStep format lits b c g source r → ReadsStep format lits a c f source r
@@ -22,7 +23,7 @@ step_on c format lits source (Ok found) l w = given_on c format (step_of found.a
 step_on c format lits source (Err stop) l w = stopped_on c format source stop l w
 
 kept_leads : (a b : Known) (f : Says) → Keeps a b → Leads a b f f
-kept_leads a b f k = kept_on (leads_nil a f) k
+kept_leads a b f k = record { taken = []; consumed = Consumes-kept a a b [] (Consumes-nil a) k; same = λ m. refl }
 
 falls_from : {X E : Type 0} (r : Result X E) (a b c : ℕ) → IfOk r (λ _. a < b) → b ≤ c → IfOk r (λ _. a < c)
 falls_from (Ok x) a b c lt le = omega arith
