@@ -23,7 +23,9 @@ fn ids_in(alloc: Global, ctx: &Context, hash: ClauseHash) -> Result<Vec<u64>, Fa
 }
 
 // The hash of a clause, by the names that are applied.
-fn hash_of(alloc: Global, ctx: &Context, numbers: &str) -> Result<ClauseHash, Fail> {
+fn hash_of(alloc: Global, ctx: &Context, numbers: &str) -> Result<ClauseHash, Fail>
+    requires { ContextInvariant ctx.now }
+{
     Ok(ctx.clause_hasher.clause_hash(&lits(alloc, numbers)?))
 }
 
@@ -42,11 +44,19 @@ fn has_two_buckets(rt: &impl Abort, alloc: Global, ctx: &mut Context) -> Result<
     add(alloc, ctx, "-1 -2")?;
     let refused = check(alloc, ctx, &ProofStep::ChangeHashBits { bits: 1 })?;
     assert_eq!(rt; refused, None);
+    has_one_bit(rt, alloc, ctx)?;
+    assert_eq!(rt; ids_in(alloc, ctx, 1)?.as_slice(), [0, 3].as_slice());
+    assert_eq!(rt; ids_in(alloc, ctx, 0)?.as_slice(), [1, 2].as_slice());
+    Ok(())
+}
+
+// The hashes of the four clauses, of one bit.
+fn has_one_bit(rt: &impl Abort, alloc: Global, ctx: &Context) -> Result<(), Fail>
+    requires { ContextInvariant ctx.now }
+{
     for (clause, hash) in [("1 2", 1), ("1 -2", 0), ("-1 2", 0), ("-1 -2", 1)] {
         assert_eq!(rt; hash_of(alloc, ctx, clause)?, hash);
     }
-    assert_eq!(rt; ids_in(alloc, ctx, 1)?.as_slice(), [0, 3].as_slice());
-    assert_eq!(rt; ids_in(alloc, ctx, 0)?.as_slice(), [1, 2].as_slice());
     Ok(())
 }
 
@@ -89,7 +99,10 @@ fn moves_named_clauses(rt: &impl Abort, alloc: Global, ctx: &mut Context) -> Res
     assert_eq!(rt; refused, Some(CheckCause::NoClauseForHash));
     // The names are applied all the same, and the clause stands under its new hash alone.
     assert_eq!(rt; hash_of(alloc, ctx, "1 2")?, 0x4491_1495_0295_082A);
-    assert_eq!(rt; ids_in(alloc, ctx, 0x4491_1495_0295_082A)?.as_slice(), [0].as_slice());
+    assert_eq!(rt;
+        ids_in(alloc, ctx, 0x4491_1495_0295_082A)?.as_slice(),
+        [0].as_slice()
+    );
     assert!(rt; ids_in(alloc, ctx, 0xC4AF_7593_0295_082A)?.is_empty());
     Ok(())
 }

@@ -60,18 +60,25 @@ fn stores_once(rt: &impl Abort, alloc: Global, ctx: &mut Context) -> Result<(), 
     if add_clause(alloc, ctx, &clause).is_err() {
         return Err("the clause is refused".into());
     }
-    let unit = lit(-2)?;
-    if unit.index() >= ctx.clauses.unit_clauses.len() {
-        return Err("the variable is unknown".into());
-    }
-    let again = store_unit_clause(&mut ctx.checker_state, &mut ctx.clauses, unit);
-    assert!(rt; matches!(again, Ok((0, StoreClauseResult::Duplicate))));
+    let again = store(ctx, lit(-2)?)?;
+    assert!(rt; again == (0, StoreClauseResult::Duplicate));
     // Its negation takes an id, and unsatisfiability is recorded.
-    let negation = store_unit_clause(&mut ctx.checker_state, &mut ctx.clauses, !unit);
-    assert!(rt; matches!(negation, Ok((1, StoreClauseResult::New))));
+    let negation = store(ctx, lit(2)?)?;
+    assert!(rt; negation == (1, StoreClauseResult::New));
     assert!(rt; ctx.checker_state.unsat);
     assert_eq!(rt; ctx.clauses.unit_conflict, Some((0, 1)));
     Ok(())
+}
+
+// Stores a unit of a known variable.
+fn store(ctx: &mut Context, unit: Lit) -> Result<(u64, StoreClauseResult), Fail> {
+    if unit.index() >= ctx.clauses.unit_clauses.len() {
+        return Err("the variable is unknown".into());
+    }
+    match store_unit_clause(&mut ctx.checker_state, &mut ctx.clauses, unit) {
+        Ok(stored) => Ok(stored),
+        Err(_) => Err("no id is left".into()),
+    }
 }
 
 #[test]
