@@ -1,13 +1,13 @@
 -- The bytes of a binary number.
-use Rattle.std.proofs.Common.{◌≡◌, ℕ, ◌+◌, ◌*◌, ◌^◌, ◌≤◌, ◌<◌, List, [], ◌∷◌, refl, sym, arith, true, false}
-use Rattle.std.specs.Prelude.{◌%◌, nat_lt, ◌==◌}
+use Rattle.std.proofs.Common.{◌≡◌, ℕ, ◌+◌, ◌*◌, ◌≤◌, ◌<◌, List, [], ◌∷◌, refl, arith, false}
+use Rattle.std.specs.Prelude.{◌%◌, nat_lt}
 use Rattle.std.proofs.lemmas.Bool.{lt-ltb, le-ltb, ne_eqb, eq-eqb}
 use Rattle.std.proofs.Math.Nat.{mod-lt}
 use Rattle.drat_text.specs.declared.bytes.Format.TheVariants.{Binary}
 use Rattle.drat_text.specs.declared.fault.DratKind.TheVariants.{NumberTooLarge}
 use Rattle.drat_text.specs.declared.step.Action.{Action}
 use Rattle.drat_text.specs.Numbers.{code_said}
-use Rattle.drat_text.specs.Places.{Place, Within, InNumber, Groups, After, Goes, Stops, after, said}
+use Rattle.drat_text.specs.Places.{Within, InNumber, Groups, Goes, Stops, after, said}
 use Rattle.drat_text.specs.Proofs.{outcome_at}
 
 -- the weights of the five bytes

@@ -16,7 +16,7 @@ use Rattle.drat_text.specs.declared.fault.DratKind.{DratKind}
 use Rattle.drat_text.specs.declared.fault.DratKind.TheVariants.{Unfinished}
 use Rattle.drat_text.specs.declared.fault.Stop.{Stop}
 use Rattle.drat_text.specs.declared.fault.Stop.TheVariants as stops
-use Rattle.drat_text.specs.declared.bytes.Format.TheVariants.{Text, Binary}
+use Rattle.drat_text.specs.declared.bytes.Format.TheVariants.{Text}
 use Rattle.drat_text.specs.declared.fault.DratKind.TheVariants.{Malformed}
 use Rattle.drat_text.specs.declared.step.Action.{Action}
 use Rattle.drat_text.specs.declared.step.Action.TheVariants.{Add, Delete}
@@ -28,7 +28,7 @@ use Rattle.drat_text.specs.Numbers.{lit_said}
 use Rattle.drat_text.specs.Places.{Place, Outside, Comment, Within, InNumber, Digits, After, Goes, Gives, Stops, after, at_end, said, with_digit, first_digit, Sign}
 use Rattle.drat_text.specs.Proofs.{outcome_at}
 use Rattle.drat_text.specs.Steps.{Step, Outcome, Ended, Faulty, with_step}
-use Rattle.drat_text.specs.Taking.{Takes, TakesWithin, Leads, EndsAll, Breaks, Fails, by_byte, by_end, Stopped}
+use Rattle.drat_text.specs.Taking.{Takes, TakesWithin, Leads, EndsAll, Fails, by_byte, by_end, Stopped}
 use Rattle.drat_text.specs.Reading.{goes_on, GivesStep, EndsNumber, EndsLast, ReadsWord, IsFirst}
 
 abbrev pub Known : Type 0

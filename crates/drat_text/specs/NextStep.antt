@@ -2,7 +2,7 @@
 --     view      a step, with its list in place of a reference to it
 --     bytes_left, steps_given, has_ended, format_now, work_left, IsReadError      what a caller knows of a reader
 --     Gives      what a call gave, and the reader after it
-use Rattle.std.specs.Prelude.{◌≡◌, ℕ, suc, ◌<◌, Bool, true, false, List, [], ◌∷◌, Option, Some, None, Result, Ok, Err, IfSome, IfOk, OnOk, ◌≤◌, unwrap_or, if◌then◌else◌}
+use Rattle.std.specs.Prelude.{◌≡◌, ℕ, suc, ◌<◌, Bool, true, false, List, [], Option, Some, None, Result, Ok, Err, IfSome, IfOk, OnOk, ◌≤◌, unwrap_or, if◌then◌else◌}
 use Rattle.std.specs.declared.io.Error.{Error}
 use Rattle.sat_formula.specs.Outcome.{next_line}
 use Rattle.std.specs.Io.KnownBytes.{Keeps}
@@ -16,7 +16,6 @@ use Rattle.drat_text.specs.declared.fault.Stop.{Stop}
 use Rattle.drat_text.specs.declared.fault.Stop.TheVariants as stops
 use Rattle.drat_text.specs.declared.step.Found.{Found}
 use Rattle.drat_text.specs.declared.reader.DratReader.{DratReader}
-use Rattle.drat_text.specs.declared.step.Action.{Action}
 use Rattle.drat_text.specs.declared.step.DratStep.{DratStep}
 use Rattle.drat_text.specs.declared.step.DratStep.TheVariants as steps
 use Rattle.drat_text.specs.Bytes.{format_of}

@@ -1,6 +1,6 @@
 -- The grammar of steps, a byte after the other. Text: literals up to 0, after a `d` where the step deletes; lines of `c`
 -- and of `%` between steps say nothing. Binary: `a` or `d`, and then numbers of seven bits a byte, low first, up to 0.
-use Rattle.std.specs.Prelude.{ℕ, ◌+◌, ◌-◌, ◌*◌, ◌%◌, ◌^◌, min, Bool, true, false, ◌||◌, List, [], ◌∷◌, ◌++◌, Option, Some, None, Result, Ok, Err, nat_lt, ◌==◌, if◌then◌else◌}
+use Rattle.std.specs.Prelude.{ℕ, ◌+◌, ◌-◌, ◌*◌, ◌%◌, ◌^◌, min, Bool, true, false, List, [], ◌∷◌, ◌++◌, Option, Some, None, Result, Ok, Err, nat_lt, ◌==◌, if◌then◌else◌}
 use Rattle.sat_formula.specs.Bytes.{minus_sign, digit_zero, is_digit, is_lf}
 use Rattle.drat_text.specs.declared.bytes.Format.{Format}
 use Rattle.drat_text.specs.declared.bytes.Format.TheVariants.{Text, Binary}

@@ -2,7 +2,7 @@
 use Rattle.std.specs.Prelude.{ℕ, List, [], ◌∷◌}
 use Rattle.drat_text.specs.declared.bytes.Format.{Format}
 use Rattle.drat_text.specs.Bytes.{format_of}
-use Rattle.drat_text.specs.Places.{Place, Outside, After, Goes, Gives, Stops, after, at_end}
+use Rattle.drat_text.specs.Places.{Place, Outside, Goes, Gives, Stops, after, at_end}
 use Rattle.drat_text.specs.Steps.{Outcome, Faulty, with_step}
 
 -- from a place on

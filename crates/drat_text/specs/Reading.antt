@@ -1,7 +1,6 @@
 -- What the parts of reading a step answer. f is what all the bytes give from where the part began.
 use Rattle.std.specs.Prelude.{◌≡◌, ℕ, Bool, true, false, List, [], ◌∷◌, ◌++◌, Option, Some, None, Result, Ok, Err}
 use Rattle.sat_formula.specs.declared.source.Source.{Source}
-use Rattle.drat_text.specs.declared.bytes.Bytes.{Bytes}
 use Rattle.drat_text.specs.declared.bytes.Format.{Format}
 use Rattle.drat_text.specs.declared.bytes.Format.TheVariants.{Text, Binary}
 use Rattle.drat_text.specs.declared.fault.Stop.{Stop}

@@ -4,7 +4,7 @@ use Rattle.std.proofs.lemmas.Bool.{ne_eqb}
 use Rattle.drat_text.specs.declared.bytes.Format.TheVariants.{Text}
 use Rattle.drat_text.specs.Places.{Comment, Outside}
 use Rattle.drat_text.specs.Reading.{ReadsTo}
-use Rattle.drat_text.proofs.Takings.{leads_nil, exits, no_byte, byte_goes}
+use Rattle.drat_text.proofs.Takings.{exits, no_byte, byte_goes}
 use Rattle.drat_text.proofs.text.comment.Goals as goal
 
 pub returns-in_err-next_byte-clause-read : goal.returns-in_err-next_byte-clause-read

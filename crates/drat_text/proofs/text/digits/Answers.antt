@@ -1,9 +1,8 @@
-use Rattle.std.proofs.Common.{rules, refl, sym, ◌∙◌, ◌≡◌, true, false, subst}
+use Rattle.std.proofs.Common.{rules, sym, ◌∙◌, subst}
 use Rattle.drat_text.specs.declared.bytes.Format.TheVariants.{Text}
-use Rattle.drat_text.specs.Places.{InNumber, Digits, After, first_digit, said, last_said}
-use Rattle.drat_text.specs.Numbers.{lit_said}
+use Rattle.drat_text.specs.Places.{InNumber, Digits, After}
 use Rattle.drat_text.specs.Reading.{EndsNumber}
-use Rattle.drat_text.proofs.Takings.{leads_nil, byte_goes, byte_stops, number_ended, last_ended, other_stop, number_byte, number_space, number_other, leads_as, digits_begin}
+use Rattle.drat_text.proofs.Takings.{byte_goes, byte_stops, number_ended, last_ended, other_stop, number_byte, number_space, number_other, digits_begin}
 use Rattle.drat_text.proofs.text.digits.Goals as goal
 
 pub digits-init : goal.digits-init

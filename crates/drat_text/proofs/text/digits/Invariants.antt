@@ -1,4 +1,4 @@
-use Rattle.std.proofs.Common.{ℕ, List, ◌≤◌, ◌^◌, ◌*◌}
+use Rattle.std.proofs.Common.{ℕ, List, ◌≤◌}
 use Rattle.drat_text.specs.declared.bytes.Format.TheVariants.{Text}
 use Rattle.drat_text.specs.declared.step.Action.{Action}
 use Rattle.drat_text.specs.Places.{InNumber, Digits, first_digit}

@@ -13,10 +13,11 @@ returns-in_default-clause-format g c =
     let mid = unread_bytes g.R.Read.remaining c.bytes.self in
     let new = unread_bytes g.R.Read.remaining c.peek.new.self in
     let before = c.bytes.invariant in
-    let peeked = rw c.in_default.is at c.in_ok-byte.ensures.peek in
-    (Keeps-trans old mid new before.kept peeked.0,
-    text_told old (passes_all is_text_byte old c.bytes.place 4096 before.most before.passes
-    (known_on old mid (λ (bytes : List ℕ). slice_get bytes c.bytes.place ≡ None) before.kept peeked.1)))
+    let peeked = rw c.in_default.is at c.in_ok-byte.ensures.peek in (
+      Keeps-trans old mid new before.kept peeked.0,
+      text_told old (passes_all is_text_byte old c.bytes.place 4096 before.most before.passes
+          (known_on old mid (λ (bytes : List ℕ). slice_get bytes c.bytes.place ≡ None) before.kept peeked.1)),
+    )
 
 pub returns-then-not-is_text_byte-clause-format : goal.returns-then-not-is_text_byte-clause-format
 returns-then-not-is_text_byte-clause-format g c =
@@ -24,11 +25,12 @@ returns-then-not-is_text_byte-clause-format g c =
     let mid = unread_bytes g.R.Read.remaining c.bytes.self in
     let new = unread_bytes g.R.Read.remaining c.peek.new.self in
     let before = c.bytes.invariant in
-    let peeked = rw c.in-Some.is at c.in_ok-byte.ensures.peek in
-    (Keeps-trans old mid new before.kept peeked.0,
-    binary_told old (fails_at is_text_byte old c.bytes.place 4096 c.in-Some.byte c.bytes-test.true
-    (known_on old mid (λ (bytes : List ℕ). slice_get bytes c.bytes.place ≡ Some c.in-Some.byte) before.kept peeked.1)
-    (sym c.is_text_byte.ensures ∙ c.if-not-is_text_byte.true)))
+    let peeked = rw c.in-Some.is at c.in_ok-byte.ensures.peek in (
+      Keeps-trans old mid new before.kept peeked.0,
+      binary_told old (fails_at is_text_byte old c.bytes.place 4096 c.in-Some.byte c.bytes-test.true
+          (known_on old mid (λ (bytes : List ℕ). slice_get bytes c.bytes.place ≡ Some c.in-Some.byte) before.kept peeked.1)
+          (sym c.is_text_byte.ensures ∙ c.if-not-is_text_byte.true)),
+    )
 
 pub bytes-preserved : goal.bytes-preserved
 bytes-preserved g c =

@@ -1,4 +1,4 @@
-use Rattle.std.proofs.Common.{rules, ◌≤◌, List, ℕ, length, [], arith, drop}
+use Rattle.std.proofs.Common.{rules, arith}
 use Rattle.std.proofs.lemmas.List.{drop_all}
 use Rattle.drat_text.proofs.Takings.{source_none}
 use Rattle.drat_text.proofs.bytes.Bytes.next_byte.Goals as goal
