@@ -80,9 +80,8 @@ fn convert_files(
     let status = report(rt, &outcome);
     match outcome {
         Err(ConvertFault::Formula(_)) => say_formula(rt, cnf_name),
-        Err(
-            ConvertFault::Read(_) | ConvertFault::Unread { .. } | ConvertFault::Refused { .. },
-        ) => say_proof(rt, lrat_name),
+        Err(ConvertFault::Read(_) | ConvertFault::Unread { .. } | ConvertFault::Refused { .. }) =>
+            say_proof(rt, lrat_name),
         Err(ConvertFault::Write(_) | ConvertFault::OutOfMemory) | Ok(_) => {}
     }
     status
