@@ -2,13 +2,14 @@
 # Some hundred random formulas and DRAT proofs, half of them damaged, by `drat_check` and by the definition of DRAT.
 #
 #   tests/drat_fuzz.sh [COUNT [SEED]]
+#
+# The program must be built: `rt ci` does it, or `rt run` in its folder.
 set -euo pipefail
 
 top=$(cd "$(dirname "$0")/.." && pwd)
-built=$(mktemp)
-trap 'rm -f "$built"' EXIT
-(cd "$top/crates/drat_check_main" && "${RT:-rt}" run -- --example > "$built" 2>&1) || {
-  cat "$built"
+check=$top/crates/drat_check_main/out/drat_check_main
+if [[ ! -x $check ]]; then
+  echo "not built: $check"
   exit 1
-}
-exec python3 -B "$top/tests/drat/fuzz.py" "$top/crates/drat_check_main/out/drat_check_main" "${1:-400}" "${2:-1}"
+fi
+exec python3 -B "$top/tests/drat/fuzz.py" "$check" "${1:-400}" "${2:-1}"
