@@ -8,7 +8,10 @@ What a document can say of files, and how it is written:
     `path` with all that it cites (F files, N lines)
                                         the definitions that a file of definitions rests on, with itself
     `path`: `name`, `name`              what is declared there
-    ```rust path                        a quotation: these lines stand there one after the other
+    laws `name`, `name`                 laws of some crate; so are the names in a column "law" of a table
+    ```rust path                        a quotation: these lines are there one after the other
+
+The table of crates has those of `crates.txt`, each with crates that are below it there.
 """
 
 import os
@@ -26,8 +29,9 @@ DECLARED = re.compile(r"`([\w./-]+\.(?:antt|rt))`: (`\w+`(?:, `\w+`)*)")
 QUOTED = re.compile(r"^```\w+ (\S+)\n(.*?)^```$", re.MULTILINE | re.DOTALL)
 HEADING = re.compile(r"^#+ (.*)$", re.MULTILINE)
 USES = re.compile(r"^use Rattle\.(\w+)\.specs\.(\w+)", re.MULTILINE)
-CRATE = re.compile(r"^(\w+)[^#:]*:", re.MULTILINE)
-ROW = re.compile(r"^\| `(\w+)` \|", re.MULTILINE)
+LAWS = re.compile(r"\b[Ll]aws? (`\w+`(?:(?:,| and) `\w+`)*)")
+LAW = re.compile(r"^pub fn (\w+)", re.MULTILINE)
+ROW = re.compile(r"^\| `(\w+)` \|.*\|([^|]*)\|$", re.MULTILINE)
 CRATES_PAGE = "docs/reference/ARCHITECTURE.md"
 
 
@@ -104,26 +108,70 @@ def bad_quotations(text):
             yield f"a quotation of {path} that is not in it: {quoted.strip().splitlines()[0].strip()}"
 
 
+def laws():
+    """The laws of all crates."""
+    paths = subprocess.run(["git", "ls-files", "crates/*/src/laws.rt"], capture_output=True, text=True, check=True)
+    return {law for path in paths.stdout.split() for law in LAW.findall(text_of(path))}
+
+
+def law_columns(text):
+    """What stands in the columns "law" of the tables."""
+    at = None
+    for line in text.splitlines():
+        cells = [cell.strip() for cell in line.split("|")]
+        if "law" in cells:
+            at = cells.index("law")
+        elif not line.startswith("|"):
+            at = None
+        elif at is not None:
+            yield cells[at]
+
+
+def bad_laws(text, known):
+    told = [names for found in LAWS.findall(text) for names in re.findall(r"`(\w+)`", found)]
+    told += [name for cell in law_columns(text) for name in re.findall(r"`(\w+)`(?!: `)", cell)]
+    for name in told:
+        if name not in known and not os.path.isdir(f"crates/{name}"):
+            yield f"{name} is no law"
+
+
+def below(crate, listed):
+    """All that is below a crate."""
+    found, left = set(), [crate]
+    while left:
+        new = set(listed.get(left.pop(), ())) - found
+        found |= new
+        left += new
+    return found
+
+
 def bad_crates():
-    """The crates of `crates.txt` and those of the table of crates are the same."""
-    listed = set(CRATE.findall(text_of("crates.txt")))
+    lines = [line.split("#")[0].split(":") for line in text_of("crates.txt").splitlines() if ":" in line.split("#")[0]]
+    listed = {head.split()[0]: rest.split() for head, rest in lines}
     table = text_of(CRATES_PAGE).split("\n## ")[1]
-    told = set(ROW.findall(table))
-    for crate in sorted(listed - told):
+    told = dict(ROW.findall(table))
+    for crate in sorted(listed.keys() - told.keys()):
         yield f"{CRATES_PAGE}: no row for the crate {crate}"
-    for crate in sorted(told - listed):
+    for crate in sorted(told.keys() - listed.keys()):
         yield f"{CRATES_PAGE}: a row for {crate}, which is no crate"
+    for crate, others in told.items():
+        for other in re.findall(r"`(\w+)`", others):
+            if crate in listed and other not in below(crate, listed):
+                yield f"{CRATES_PAGE}: {other} is not below {crate}"
 
 
-def faults(document):
+def faults(document, known_laws):
     text = text_of(document)
-    for found in (bad_links(document, text), bad_names(text), bad_counts(text), bad_quotations(text)):
-        for fault in found:
-            yield f"{document}: {fault}"
+    yield from bad_links(document, text)
+    yield from bad_names(text)
+    yield from bad_counts(text)
+    yield from bad_quotations(text)
+    yield from bad_laws(text, known_laws)
 
 
 def main():
-    found = [fault for document in documents() for fault in faults(document)]
+    known_laws = laws()
+    found = [f"{document}: {fault}" for document in documents() for fault in faults(document, known_laws)]
     found += bad_crates()
     print(*found, sep="\n", end="\n" if found else "")
     return 1 if found else 0
