@@ -31,6 +31,7 @@ HEADING = re.compile(r"^#+ (.*)$", re.MULTILINE)
 USES = re.compile(r"^use Rattle\.(\w+)\.specs\.(\w+)", re.MULTILINE)
 LAWS = re.compile(r"\b[Ll]aws? (`\w+`(?:(?:,| and) `\w+`)*)")
 LAW = re.compile(r"^pub fn (\w+)", re.MULTILINE)
+BARE_LAW = re.compile(r"^pub fn (\w+)\(\)$", re.MULTILINE)
 ROW = re.compile(r"^\| `(\w+)` \|.*\|([^|]*)\|$", re.MULTILINE)
 CRATES_PAGE = "docs/reference/ARCHITECTURE.md"
 
@@ -109,9 +110,11 @@ def bad_quotations(text):
 
 
 def laws():
-    """The laws of all crates."""
-    paths = subprocess.run(["git", "ls-files", "crates/*/src/laws.rt"], capture_output=True, text=True, check=True)
-    return {law for path in paths.stdout.split() for law in LAW.findall(text_of(path))}
+    """The laws of all crates: the functions of `laws.rt`, and those elsewhere that take and answer nothing."""
+    listed = subprocess.run(["git", "ls-files", "crates/*/src/*.rt"], capture_output=True, text=True, check=True)
+    for path in listed.stdout.split():
+        form = LAW if path.endswith("/laws.rt") else BARE_LAW
+        yield from form.findall(text_of(path))
 
 
 def law_columns(text):
@@ -170,7 +173,7 @@ def faults(document, known_laws):
 
 
 def main():
-    known_laws = laws()
+    known_laws = set(laws())
     found = [f"{document}: {fault}" for document in documents() for fault in faults(document, known_laws)]
     found += bad_crates()
     print(*found, sep="\n", end="\n" if found else "")
