@@ -130,6 +130,22 @@ def law_columns(text):
             yield cells[at]
 
 
+def bad_tables(text):
+    """Rows before which there is no table, and rows that are longer than the head of their table."""
+    width = None
+    lines = text.splitlines()
+    for line, below in zip(lines, [*lines[1:], ""]):
+        cells = len(re.sub(r"`[^`]*`", "", line).split("|"))
+        if not line.startswith("|"):
+            width = None
+        elif width is None and re.fullmatch(r"\|(-+\|)+", below):
+            width = cells
+        elif width is None:
+            yield f"a row without a table: {line[:60]}"
+        elif cells != width:
+            yield f"a row of another length than its table: {line[:60]}"
+
+
 def bad_laws(text, known):
     told = [names for found in LAWS.findall(text) for names in re.findall(r"`(\w+)`", found)]
     told += [name for cell in law_columns(text) for name in re.findall(r"`(\w+)`(?!: `)", cell)]
@@ -169,6 +185,7 @@ def faults(document, known_laws):
     yield from bad_names(text)
     yield from bad_counts(text)
     yield from bad_quotations(text)
+    yield from bad_tables(text)
     yield from bad_laws(text, known_laws)
 
 
