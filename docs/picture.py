@@ -146,10 +146,15 @@ def kind_of(crate, read):
     return "proved" if has_contracts(crate) else "unclaimed"
 
 
-def way_of(program, crate, listed, shared):
+def programs_of(listed):
+    return [crate for crate in listed if crate.endswith("_main")]
+
+
+def way_of(program, crate, listed):
     way = WAYS.get(program)
     if way is None:
-        return [name for name in below(crate, listed) if name in listed and name not in shared]
+        others = {name for other in programs_of(listed) if other != crate for name in below(other, listed)}
+        return [name for name in below(crate, listed) if name in listed and name not in others]
     for name in way:
         if name not in below(crate, listed):
             sys.exit(f"docs/picture.py: {name} is not below {crate}")
@@ -190,7 +195,7 @@ def draw_lane(drawing, y, crate, listed, shared, read):
     """A program, from its files to its line. Gives where the next one begins."""
     words = call_of(crate)
     program = words[0]
-    way = way_of(program, crate, listed, shared)
+    way = way_of(program, crate, listed)
     line = verdicts().get(program)
     height = 168 if program in WRITERS else 126
     size = f'width="{WIDTH - 28}" height="{height - 14}"'
@@ -207,7 +212,8 @@ def draw_lane(drawing, y, crate, listed, shared, read):
     more = [name for name in below(crate, listed) if name not in shown]
     ours = ", ".join(name for name in more if name in listed)
     kit = ", ".join(name for name in more if name not in listed)
-    drawing.text(28, y + height - 23, f"also below it: {ours}" + (f"; of the toolchain: {kit}" if kit else ""))
+    if more:
+        drawing.text(28, y + height - 23, f"also below it: {ours}" + (f"; of the toolchain: {kit}" if kit else ""))
     return y + height
 
 
@@ -241,7 +247,7 @@ def draw_legend(drawing, y):
 
 def picture():
     listed = crates()
-    programs = [crate for crate in listed if crate.endswith("_main")]
+    programs = programs_of(listed)
     closures = [below(crate, listed) for crate in programs]
     shared = [name for name in closures[0] if all(name in names for names in closures)]
     read = read_crates()
