@@ -1,7 +1,7 @@
 //! Canonical lists of literals: ascending, without repeats.
 ghost use Rattle.std.specs.Prelude.{◌≡◌, IsTrue, OnOk, IfOk, OnErr, []};
+ghost use Rattle.sat_rules.specs.Clauses.{is_canonical, is_tautology};
 ghost use Rattle.checker_rules.specs.Canonical.{canonical};
-ghost use Rattle.checker_rules.specs.Clauses.{is_canonical, is_tautology};
 ghost use Rattle.checker_parts.specs.Subsets.{is_subset_by};
 ghost use Rattle.checker_parts.specs.RisingVars.{has_rising_vars};
 

@@ -1,6 +1,6 @@
 //! Rows of canonical lists and subsets.
 ghost use Rattle.std.specs.Prelude.{IfOk, IsTrue};
-ghost use Rattle.checker_rules.specs.Clauses.{is_canonical};
+ghost use Rattle.sat_rules.specs.Clauses.{is_canonical};
 
 use crate::literals::lits;
 use checker_parts::sorted_lits::{copy_canonical, is_subset};

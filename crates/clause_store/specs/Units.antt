@@ -1,7 +1,7 @@
 -- The values of variables.
 use Rattle.std.specs.Prelude.{◌≡◌, ℕ, ◌≤◌, Bool, true, false, not, List, [], ◌∷◌, Option, None, Some, length, slice_index_or, slice_set}
+use Rattle.sat_rules.specs.Clauses.{is_negative, var_of}
 use Rattle.checker_rules.specs.Canonical.{var_bound}
-use Rattle.checker_rules.specs.Clauses.{is_negative, var_of}
 use Rattle.checker_rules.specs.State.{same_bool}
 use Rattle.clause_store.specs.declared.clauses.units.Source.{Source}
 use Rattle.clause_store.specs.declared.clauses.units.Source.TheVariants.{Stored, Derived, Negated}

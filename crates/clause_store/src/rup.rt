@@ -9,7 +9,7 @@ mod untraced;
 mod walk;
 
 ghost use Rattle.std.specs.Prelude.{◌≡◌, [], false, length, true, IfOk};
-ghost use Rattle.checker_rules.specs.Clauses.{is_tautology};
+ghost use Rattle.sat_rules.specs.Clauses.{is_tautology};
 ghost use Rattle.checker_rules.specs.Passes as rules;
 ghost use Rattle.checker_rules.specs.State.{some_true_unit, start_set};
 ghost use Rattle.checker_rules.specs.Traced.{ids_of};

@@ -4,8 +4,8 @@
 --     unread_hints      there was no memory to read it
 use Rattle.std.proofs.Common.{◌≡◌, ℕ, Bool, true, false, List, [], ◌++◌, Option, Some, None, refl, ap, ◌∙◌}
 use Rattle.std.specs.Prelude.{Err, IfSome}
-use Rattle.checker_rules.specs.Clauses.{all_true}
-use Rattle.checker_rules.specs.HintLines.{Listed, listing}
+use Rattle.sat_rules.specs.Clauses.{all_true}
+use Rattle.sat_rules.specs.HintLines.{Listed, listing}
 use Rattle.hint_checker.specs.Checked.{Accepts}
 use Rattle.hint_checker.specs.declared.fault.HintFault.TheVariants.{OutOfMemory}
 use Rattle.hint_check.specs.Runs.{AcceptsHints, ChecksHints, GivesText}

@@ -8,8 +8,8 @@ use Rattle.std.specs.Prelude.{◌≡◌, ◌≢◌, ℕ, Bool, false, List, Opti
 use Rattle.std.specs.IoError.{error_kind}
 use Rattle.std.specs.Option.{option_map}
 use Rattle.std.specs.declared.io.ErrorKind.TheVariants.{OutOfMemory}
-use Rattle.checker_rules.specs.Clauses.{all_true}
-use Rattle.checker_rules.specs.HintLines.{Listed, listing}
+use Rattle.sat_rules.specs.Clauses.{all_true}
+use Rattle.sat_rules.specs.HintLines.{Listed, listing}
 use Rattle.sat_formula.specs.Lines.{outcome_of}
 use Rattle.sat_formula.specs.Outcome.{Ended}
 use Rattle.sat_formula.specs.Whole.{FailsAfter, IsOutcome}

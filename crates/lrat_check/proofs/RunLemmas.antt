@@ -4,7 +4,7 @@
 --     verdict_decided, fault_decided      what a verdict and a fault say of the proof's text
 use Rattle.std.proofs.Common.{◌≡◌, ℕ, Bool, true, false, List, [], Option, Some, None, Result, Ok, Err, refl, sym, ap, ◌∙◌}
 use Rattle.std.specs.Prelude.{IfSome, OnErr}
-use Rattle.checker_rules.specs.Clauses.{all_true}
+use Rattle.sat_rules.specs.Clauses.{all_true}
 use Rattle.lrat_rules.proofs.Running.{runs_refute}
 use Rattle.lrat_checker.specs.Standing.{has_refuted}
 use Rattle.lrat_checker.specs.TextAnswers.{IsTextAnswer, said}

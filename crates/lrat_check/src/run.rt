@@ -1,7 +1,7 @@
 //! Runs: a proof is checked, and its verdict is written.
 ghost use Rattle.std.specs.Prelude.{◌≡◌, ℕ, Bool, false, List, IfOk, IfSome, Ok, OnErr, OnOk, Some};
 ghost use Rattle.std.specs.Io.KnownBytes.{Appends};
-ghost use Rattle.checker_rules.specs.Clauses.{all_true};
+ghost use Rattle.sat_rules.specs.Clauses.{all_true};
 ghost use Rattle.sat_formula.specs.Refuted.{IsRefuted};
 ghost use Rattle.whole_writes.specs.Beginnings.{AppendsBeginning};
 ghost use Rattle.lrat_check.specs.Runs.{BeginsLine, BeginsLineAfter, IsCheckRun, IsDecided, IsProofRun, IsRefusedRun, IsUnwritten, Refutes};

@@ -3,8 +3,8 @@
 --     repaired a line      the assignment after a line: flipped at the pivot's variable where the new clause is false
 --     LinesKeepModels, RunsKeepModels, RupRunsFollow, RatResolves, RunsJoin      the laws
 use Rattle.std.specs.Prelude.{◌≡◌, ℕ, Bool, true, ◌&&◌, ◌||◌, if◌then◌else◌, List, [], ◌∷◌, ◌++◌, Some}
-use Rattle.checker_rules.specs.Clauses.{all_true, clause_true, flip, has, negate, var_of}
-use Rattle.checker_rules.specs.Hints.{Item}
+use Rattle.sat_rules.specs.Clauses.{all_true, clause_true, flip, has, negate, var_of}
+use Rattle.sat_rules.specs.Named.{Item}
 use Rattle.lrat_rules.specs.Groups.{without}
 use Rattle.lrat_rules.specs.Lines.{Hint, Line, adds, by_rat, by_rup, deletes, refutes, run, step, then_test}
 use Rattle.lrat_rules.specs.Stores.{clauses_of, find, formula_store}

@@ -1,8 +1,7 @@
 -- Worked rows: lines on small stores, by DIMACS numbers.
 use Rattle.std.specs.Prelude.{◌≡◌, ℕ, ◌==◌, List, [], ◌∷◌, true, false, Some, None}
-use Rattle.checker_rules.specs.Clauses.{all_true, clause_true}
-use Rattle.checker_rules.specs.Hints.{Item}
-use Rattle.checker_rules.specs.Rows.{neg, pos}
+use Rattle.sat_rules.specs.Clauses.{all_true, clause_true, neg, pos}
+use Rattle.sat_rules.specs.Named.{Item}
 use Rattle.lrat_rules.specs.Laws.{all_rup}
 use Rattle.lrat_rules.specs.Lines.{Line, adds, against, along, by_rup, deletes, refutes, run, step}
 use Rattle.lrat_rules.specs.Stores.{clauses_of, formula_store}

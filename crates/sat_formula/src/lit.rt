@@ -1,7 +1,7 @@
 //! Variables and literals.
 ghost use Rattle.std.specs.Prelude.{◌≡◌, ◌↔◌, ◌+◌, ◌-◌, ◌*◌, ◌<◌, ◌≤◌, ◌^◌, ◌<ℤ◌, ◌≤ℤ◌, ℕ, pos, unsigned_abs, SomeIff, IfSome, IsSome, not, if◌then◌else◌};
 ghost use Rattle.std.specs.Coded.{coded_ℕ};
-ghost use Rattle.checker_rules.specs.Clauses.{negate, is_negative, var_of};
+ghost use Rattle.sat_rules.specs.Clauses.{is_negative, negate, var_of};
 
 use std::marker::Model;
 use std::ops::Not;

@@ -1,7 +1,7 @@
 //! A writer of lines of hints: a processor of checked steps.
 ghost use Rattle.std.specs.Prelude.{◌≡◌, ◌+◌, ◌++◌, ◌∷◌, ℕ, suc, List, [], None, map, decimal, IfErr, IfOk, OnErr, OnOk};
 ghost use Rattle.checker_parts.specs.CheckedSteps.{step_of};
-ghost use Rattle.checker_rules.specs.HintLines.{adds_clause, deletes_clauses};
+ghost use Rattle.sat_rules.specs.HintLines.{adds_clause, deletes_clauses};
 ghost use Rattle.checker_rules.specs.HintRun.{puts_derived, puts_input, removes};
 ghost use Rattle.checker_rules.specs.WrittenLines.{new_writer, number_of, writer_fault};
 ghost use Rattle.sat_hints.specs.WrittenText.{words_after_space, lines_text};

@@ -1,7 +1,7 @@
 //! Runs whose checked steps a processor writes.
 ghost use Rattle.std.specs.Prelude.{◌≡◌, ℕ, Bool, false, IfOk, IfErr, OnErr, OnOk};
 ghost use Rattle.std.specs.Io.KnownBytes.{Appends};
-ghost use Rattle.checker_rules.specs.Clauses.{all_true};
+ghost use Rattle.sat_rules.specs.Clauses.{all_true};
 ghost use Rattle.varisat_check.specs.LratRuns.{IsRefusedRun, LratRun, RefusesRun, StopsInTurn, StopsWriting};
 ghost use Rattle.varisat_check.specs.Runs.{IsUnwritten};
 ghost use Rattle.varisat_check.specs.Verdicts.{shown_line};

@@ -1,9 +1,9 @@
 //! Input clauses.
 ghost use Rattle.std.specs.Prelude.{◌≡◌, ◌≤◌, List, None, Ok, OnOk, length, true, ◌+◌, ◌<◌, IfOk};
 ghost use Rattle.std.specs.Option.{option_map};
+ghost use Rattle.sat_rules.specs.Clauses.{is_canonical, is_tautology};
 ghost use Rattle.checker_rules.specs.AddClause.{store_input};
 ghost use Rattle.checker_rules.specs.Canonical.{var_bound};
-ghost use Rattle.checker_rules.specs.Clauses.{is_canonical, is_tautology};
 ghost use Rattle.checker_rules.specs.Emits.{Emits, emits_input};
 ghost use Rattle.checker_rules.specs.KnownVars.{know_clause};
 ghost use Rattle.checker_rules.specs.State.{Known};

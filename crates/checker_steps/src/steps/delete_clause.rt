@@ -1,6 +1,6 @@
 //! Deletions of clauses.
 ghost use Rattle.std.specs.Prelude.{◌≡◌, IsTrue, List, if◌then◌else◌, true};
-ghost use Rattle.checker_rules.specs.Clauses.{is_canonical};
+ghost use Rattle.sat_rules.specs.Clauses.{is_canonical};
 ghost use Rattle.checker_rules.specs.Emits.{Emits};
 ghost use Rattle.checker_rules.specs.State.{Known};
 ghost use Rattle.checker_rules.specs.Step as rules;

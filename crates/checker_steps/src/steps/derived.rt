@@ -1,7 +1,7 @@
 //! Derived clauses: checked, stored and handed on.
 ghost use Rattle.std.specs.Prelude.{◌≡◌, ℕ, List, IfOk, false, true};
+ghost use Rattle.sat_rules.specs.Clauses.{is_canonical, is_tautology};
 ghost use Rattle.checker_rules.specs.Check.{ready};
-ghost use Rattle.checker_rules.specs.Clauses.{is_canonical, is_tautology};
 ghost use Rattle.checker_rules.specs.Store.{id_of};
 ghost use Rattle.checker_parts.specs.Faults.{AnswersOutcome, UnlessStopped};
 ghost use Rattle.clause_store.specs.Refusal.{store_fault};

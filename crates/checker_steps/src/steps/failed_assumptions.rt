@@ -1,8 +1,8 @@
 //! Failed cores.
 ghost use Rattle.std.specs.Prelude.{◌≡◌, IfOk, IsTrue, false, is_none, map};
 ghost use Rattle.std.specs.List.{list_any};
+ghost use Rattle.sat_rules.specs.Clauses.{is_canonical, is_tautology, negate, var_of};
 ghost use Rattle.checker_rules.specs.Check.{check};
-ghost use Rattle.checker_rules.specs.Clauses.{is_canonical, is_tautology, negate, var_of};
 ghost use Rattle.checker_rules.specs.Emits.{Emits};
 ghost use Rattle.checker_rules.specs.Outcome.{accept};
 ghost use Rattle.checker_rules.specs.Step as rules;

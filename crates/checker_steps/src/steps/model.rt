@@ -1,7 +1,7 @@
 //! Models.
 ghost use Rattle.std.specs.Prelude.{◌≡◌, ℕ, ◌&&◌, All, OnErr, OnOk, [], eqb, false, not};
 ghost use Rattle.std.specs.List.{list_all, list_any};
-ghost use Rattle.checker_rules.specs.Clauses.{add_lit, has};
+ghost use Rattle.sat_rules.specs.Clauses.{add_lit, has};
 ghost use Rattle.checker_rules.specs.Emits.{Emits};
 ghost use Rattle.checker_rules.specs.Model.{model_cause};
 ghost use Rattle.checker_rules.specs.Step as rules;

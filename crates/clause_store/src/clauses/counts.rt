@@ -1,7 +1,7 @@
 //! How many stored clauses hold each literal.
 ghost use Rattle.std.specs.Prelude.{◌≡◌, ◌+◌, ◌-◌, ◌*◌, ◌^◌, ◌<◌, ◌≤◌, ◌++◌, ℕ, [], List, false, true, length, replicate, take, IfOk, OnOk, slice_index, slice_set};
+ghost use Rattle.sat_rules.specs.Clauses.{has, is_canonical};
 ghost use Rattle.checker_rules.specs.Canonical.{var_bound};
-ghost use Rattle.checker_rules.specs.Clauses.{has, is_canonical};
 ghost use Rattle.clause_store.specs.Counts.{HoldOneMore};
 
 use checker_parts::variables::LitData;

@@ -1,8 +1,8 @@
 //! Storing clauses.
 ghost use Rattle.std.specs.Prelude.{◌≡◌, ◌+◌, ◌*◌, ◌/◌, ◌<◌, ◌≤◌, ◌∷◌, [], ℕ, Bool, List, Some, true, length, IfErr, IfOk, OnErr, OnOk, slice_index, slice_set};
 ghost use Rattle.std.specs.Result.{OkIff};
+ghost use Rattle.sat_rules.specs.Clauses.{is_canonical};
 ghost use Rattle.checker_rules.specs.Canonical.{var_bound};
-ghost use Rattle.checker_rules.specs.Clauses.{is_canonical};
 ghost use Rattle.checker_rules.specs.State.{Known};
 ghost use Rattle.checker_rules.specs.Store.{count_of, id_limit};
 ghost use Rattle.clause_store.specs.Buckets.{AreWithin, first_copy_of};

@@ -142,7 +142,7 @@ impl Model for Units {
 }
 
 impl Units {
-    ghost use Rattle.checker_rules.specs.Clauses.{negate, var_of};
+    ghost use Rattle.sat_rules.specs.Clauses.{negate, var_of};
     ghost use Rattle.clause_store.specs.Rup.{true_lits};
     ghost use Rattle.clause_store.specs.StateOf.{stored_units};
     ghost use Rattle.clause_store.specs.Trace as traces;

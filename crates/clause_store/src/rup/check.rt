@@ -1,8 +1,8 @@
 //! The check of a clause in the state that the parts stand for.
 ghost use Rattle.std.specs.Prelude.{◌≡◌, ◌≤◌, false, IsTrue, OnOk, length};
+ghost use Rattle.sat_rules.specs.Clauses.{is_tautology};
 ghost use Rattle.checker_rules.specs.Canonical.{var_bound};
 ghost use Rattle.checker_rules.specs.Check.{check, ready};
-ghost use Rattle.checker_rules.specs.Clauses.{is_tautology};
 ghost use Rattle.checker_rules.specs.Outcome.{accept};
 ghost use Rattle.checker_rules.specs.Traced.{check_trace};
 ghost use Rattle.checker_parts.specs.Faults.{AnswersOutcome, UnlessStopped};

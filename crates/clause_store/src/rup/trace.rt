@@ -1,6 +1,6 @@
 //! The trace of a check: the ids of what it uses.
 ghost use Rattle.std.specs.Prelude.{◌≡◌, ◌<◌, ◌∷◌, ℕ, List, Some, false, length, OnOk};
-ghost use Rattle.checker_rules.specs.Clauses.{var_of};
+ghost use Rattle.sat_rules.specs.Clauses.{var_of};
 ghost use Rattle.clause_store.specs.Idle.{Lengthens};
 ghost use Rattle.clause_store.specs.Rup.{true_lits};
 ghost use Rattle.clause_store.specs.Trace.{KeepsStored, looked, unlisted_lits};

@@ -1,6 +1,6 @@
 //! Values that hold during a check only: what they overwrite is kept, and put back afterwards.
 ghost use Rattle.std.specs.Prelude.{◌≡◌, ◌+◌, ◌<◌, [], Some, false, length, OnOk, OnErr, slice_set};
-ghost use Rattle.checker_rules.specs.Clauses.{is_tautology, var_of};
+ghost use Rattle.sat_rules.specs.Clauses.{is_tautology, var_of};
 ghost use Rattle.checker_rules.specs.Hints.{unlisted_at};
 ghost use Rattle.checker_rules.specs.State.{some_true_unit, start_set};
 ghost use Rattle.clause_store.specs.Rup.{true_lits};

@@ -1,6 +1,6 @@
 //! The check that is not traced: it writes values alone, and only those of free variables.
 ghost use Rattle.std.specs.Prelude.{◌≡◌, ◌+◌, ◌<◌, ◌∷◌, [], All, IfOk, None, false, length, OnOk};
-ghost use Rattle.checker_rules.specs.Clauses.{is_tautology, var_of};
+ghost use Rattle.sat_rules.specs.Clauses.{is_tautology, var_of};
 ghost use Rattle.checker_rules.specs.Passes as rules;
 ghost use Rattle.checker_rules.specs.State.{some_true_unit, start_set};
 ghost use Rattle.clause_store.specs.Buckets.{AreWithin, clauses_at};
