@@ -38,7 +38,8 @@ pub trait ProofProcessor: Drop {
     ghost use Rattle.checker_rules.specs.CheckedSteps.{NamedStep};
     ghost use Rattle.checker_parts.specs.CheckedSteps.{told};
 
-    /// What holds of the old value, the step with its names, and the new value where the answer is Ok.
+    /// What holds of the old value, the step with its names, and the new value where the answer is
+    /// Ok.
     ghost took: { Self → NamedStep → Self → Type 0 };
 
     /// The same where the answer is a fault.

@@ -17,11 +17,12 @@ use std::io;
 use std::io::{ErrorKind, Read, Write};
 use whole_writes::write_whole;
 
-/// Reads a formula as DIMACS text and a text of hints, checks the hints over the formula, and writes
-/// the verdict's line.
+/// Reads a formula as DIMACS text and a text of hints, checks the hints over the formula, and
+/// writes the verdict's line.
 ///
 /// Nothing is written unless all lines are accepted. Where the line can't be written whole, the
-/// verdict stood, and a beginning of the line is written. The checker of proofs takes no part in it.
+/// verdict stood, and a beginning of the line is written. The checker of proofs takes no part in
+/// it.
 pub fn run_check<F: Read + Drop, H: Read + Drop, W: Write>(
     alloc: Global,
     cnf: F,
@@ -34,8 +35,8 @@ pub fn run_check<F: Read + Drop, H: Read + Drop, W: Write>(
     ensures silent { IsRefusedRun result → out.new ≡ out.old }
     ensures unwritten { IsUnwritten result → BeginsLine (F.remaining cnf) (H.remaining hints)
         (W.contents out.old) (W.contents out.new) }
-    ensures refutes { (text : List ℕ) → F.remaining cnf ≡ Some text →
-        result ≡ Ok Verified → IsRefuted text }
+    ensures refutes { (text : List ℕ) → F.remaining cnf ≡ Some text
+        → result ≡ Ok Verified → IsRefuted text }
 {
     let formula = match read_formula(alloc, cnf) {
         Ok(formula) => formula,

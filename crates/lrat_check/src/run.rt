@@ -64,8 +64,8 @@ pub fn run_check<F: Read + Drop, P: Read + Drop, W: Write>(
     ensures silent { IsRefusedRun result → out.new ≡ out.old }
     ensures unwritten { IsUnwritten result → BeginsLineAfter (F.remaining cnf)
         (P.remaining proof) (W.contents out.old) (W.contents out.new) }
-    ensures refutes { (text : List ℕ) → F.remaining cnf ≡ Some text →
-        result ≡ Ok Verified → IsRefuted text }
+    ensures refutes { (text : List ℕ) → F.remaining cnf ≡ Some text
+        → result ≡ Ok Verified → IsRefuted text }
 {
     match read_formula(alloc, cnf) {
         Ok(formula) => run_proof(alloc, &formula, proof, out),
@@ -73,7 +73,7 @@ pub fn run_check<F: Read + Drop, P: Read + Drop, W: Write>(
     }
 }
 
-// Whether the proof shows that no assignment satisfies the formula.
+/// Whether the proof shows that no assignment satisfies the formula.
 fn refute<P: Read + Drop>(alloc: Global, formula: &CnfFormula, proof: P) -> Result<bool, LratFault>
     ensures { Refutes formula.now (P.remaining proof) result }
 {

@@ -40,7 +40,8 @@ const BYTES: [u8; 44] = [
     0xFE, 0xD7, 0x66, 0x7E, 0x08, 0xBD, 0x03, 0x9D, 0x74, 0x9F, 0xC4, 0x0D,
 ];
 
-/// Makes a checker of lines, and hands it one after the other. Once memory is wanted it has failed, and shows nothing.
+/// Makes a checker of lines, and hands it one after the other. Once memory is wanted it has failed,
+/// and shows nothing.
 pub fn check_lines(alloc: Global) -> Played {
     let Some(formula) = formula(alloc)? else {
         return Ok(Memory::Wanting);
@@ -79,7 +80,8 @@ fn is_accepted(checker: &mut LratChecker, line: LratLine<'_>) -> Result<bool, St
     }
 }
 
-/// Converts the text. What is written is a beginning of the bytes, and all of them where no memory is wanted.
+/// Converts the text. What is written is a beginning of the bytes, and all of them where no memory
+/// is wanted.
 pub fn convert_lines(alloc: Global) -> Played {
     let Some(formula) = formula(alloc)? else {
         return Ok(Memory::Wanting);

@@ -110,7 +110,8 @@ impl Lit {
         }
     }
 
-    /// The literal of a number with an absolute value from 1 to `Var::MAX_COUNT`, negative where the number is.
+    /// The literal of a number with an absolute value from 1 to `Var::MAX_COUNT`, negative where
+    /// the number is.
     pub fn from_dimacs(number: i64) -> Option<Lit>
         ensures value { IfSome result (λ lit. dimacs_lit lit ≡ number) }
         ensures range { IsSome result

@@ -144,8 +144,8 @@ impl LratWriter {
         clause: &[Lit],
         propagations: &[u64],
     ) -> Result<Vec<u8>, WriterFault>
-        ensures line { IfOk result (λ line. line.items ≡
-            lines_text (adds_clause number clause.now
+        ensures line { IfOk result (λ line. line.items
+            ≡ lines_text (adds_clause number clause.now
             (map (number_of (writer_of self.now)) propagations.now) ∷ [])) }
         ensures fit { OnOk result (hints_fault (writer_of self.now) propagations.now ≡ None) }
         ensures fault { IfErr result (λ fault. IsFault fault
@@ -162,8 +162,8 @@ impl LratWriter {
 
     /// The line that deletes the clause of a number.
     fn deletion(&self, number: u64) -> Result<Vec<u8>, AllocError>
-        ensures { IfOk result (λ line. line.items ≡
-            lines_text (deletes_clauses self.now.last (number ∷ []) ∷ [])) }
+        ensures { IfOk result (λ line. line.items
+            ≡ lines_text (deletes_clauses self.now.last (number ∷ []) ∷ [])) }
     {
         let mut line = Vec::new(self.alloc);
         push_number(&mut line, self.last)?;
@@ -175,8 +175,8 @@ impl LratWriter {
 
     /// Appends the number of each id after a space.
     fn push_hints(&self, line: &mut Vec<u8>, ids: &[u64]) -> Result<(), WriterFault>
-        ensures line { OnOk result (line.new.items ≡
-            line.old.items ++ words_after_space
+        ensures line { OnOk result (line.new.items
+            ≡ line.old.items ++ words_after_space
             (map decimal (map (number_of (writer_of self.now)) ids.now))) }
         ensures fit { OnOk result (hints_fault (writer_of self.now) ids.now ≡ None) }
         ensures fault { IfErr result (λ fault. IsFault fault

@@ -12,7 +12,8 @@ pub fn hints_decide()
     ensures { HintsDecide }
 {}
 
-/// Where accepted lines after a formula's clauses add the empty clause, no assignment satisfies the formula.
+/// Where accepted lines after a formula's clauses add the empty clause, no assignment satisfies the
+/// formula.
 pub fn hints_refute()
     ensures { HintsRefute }
 {}

@@ -43,8 +43,8 @@ pub fn assume_false(units: &mut Units, trail: &mut Trail, lits: &[Lit]) -> Resul
     requires no_tautology { is_tautology lits.now ≡ false }
     requires trail { IsTrailFor units.old trail.old.items }
     ensures ok { OnOk result (true_lits units.new ≡ start_set (stored_units units.old) lits.now) }
-    ensures unlisted { OnOk result (unlisted_lits units.new ≡
-        unlisted_at (stored_units units.old) lits.now) }
+    ensures unlisted { OnOk result (unlisted_lits units.new
+        ≡ unlisted_at (stored_units units.old) lits.now) }
     ensures kept { KeepsStored units.old units.new }
     ensures undoable { IsUndoable units.old trail.old.items units.new trail.new.items }
 {
