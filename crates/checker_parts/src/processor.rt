@@ -42,7 +42,7 @@ pub trait ProofProcessor: Drop {
     /// Ok.
     ghost took: { Self → NamedStep → Self → Type 0 };
 
-    /// The same where the answer is a fault.
+    /// What holds of the old value, the step and the new value where the answer is a fault.
     ghost faulted: { Self → NamedStep → Self → Type 0 };
 
     /// What `output` gives.
@@ -95,7 +95,7 @@ pub trait ProofTranscriptProcessor: Drop {
     /// What holds of the old value, the step and the new value where the answer is Ok.
     ghost took: { Self → TranscriptStep → Self → Type 0 };
 
-    /// The same where the answer is a fault.
+    /// What holds of the old value, the step and the new value where the answer is a fault.
     ghost faulted: { Self → TranscriptStep → Self → Type 0 };
 
     /// What `output` gives.

@@ -8,7 +8,7 @@ use sat_formula::lit::Lit;
 use std::alloc::Global;
 use std::test::Fail;
 
-/// The same in canonical form.
+/// These literals in canonical form.
 fn canonical(alloc: Global, numbers: &[i64]) -> Result<Vec<Lit>, Fail>
     ensures { IfOk result (λ v. IsTrue (is_canonical v.items)) }
 {

@@ -214,7 +214,7 @@ pub fn process_unit_conflicts<P: ProofProcessor, T: ProofTranscriptProcessor>(
     ctx.processing.answer(alloc, ctx.checker_state.step, closed)
 }
 
-/// The same, up to its fault.
+/// Closes a conflict of units; a fault is left for the caller to name.
 fn close_unit_conflict<P: ProofProcessor, T: ProofTranscriptProcessor>(
     ctx: &mut ContextOf<P, T>,
 ) -> Result<(), StepFault>

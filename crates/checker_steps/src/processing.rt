@@ -60,7 +60,7 @@ impl<P: ProofProcessor, T: ProofTranscriptProcessor> ProcessingOf<P, T> {
         }
     }
 
-    /// The same, whatever is registered.
+    /// Tells the step to all that is registered.
     #[inline(never)]
     fn deliver(&mut self, step: &CheckedProofStep, names: CheckerData) -> Result<(), StepFault>
         ensures delivers { DeliveredStep result (told step.now names.entry.0.now)

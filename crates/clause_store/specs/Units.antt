@@ -70,7 +70,7 @@ value_by (Some u) m = Some (same_bool u.value (not (is_negative m)))
 abbrev pub lit_value : List (Option UnitClause) → ℕ → Option Bool
 lit_value us m = value_by (unit_at us (var_of m)) m
 
--- the same with what gives the variable its value
+-- the value of a literal, with what gives its variable a value
 abbrev pub signed_unit : Option UnitClause → ℕ → Option (Bool × UnitClause)
 signed_unit None m = None
 signed_unit (Some u) m = Some (same_bool u.value (not (is_negative m)), u)

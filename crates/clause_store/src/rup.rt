@@ -100,7 +100,7 @@ pub fn check_clause(
     }
 }
 
-/// The same, traced.
+/// Checks a clause, and lists the clauses that its check rests on.
 fn check_traced(
     rup: &mut RupCheck,
     units: &mut Units,

@@ -37,7 +37,7 @@ pub record Checks (formula : List (List ℕ)) (known : Option (List ℕ))
   pub answer : IsTextAnswer true known formula [] checker r
   pub stops : OnErr r (has_refuted checker ≡ false)
 
--- the same, where there was memory for the checker
+-- what a check of a text answers, where there was memory for the checker
 abbrev pub Refutes : List (List ℕ) → Option (List ℕ) → Result Bool LratFault → Type 0
 Refutes formula known (Ok refuted) = Checks formula known (Ok refuted)
 Refutes formula known (Err (lrat.Read cause)) = Checks formula known (Err (lrat.Read cause))

@@ -22,7 +22,7 @@ abbrev pub flip_pivot : (ℕ → Bool) → List ℕ → ℕ → Bool
 flip_pivot a [] = a
 flip_pivot a (p ∷ ps) = flip a (var_of p)
 
--- the same assignment, but flipped at the pivot's variable where an added clause is false
+-- the assignment, flipped at the pivot's variable where an added clause is false
 abbrev pub repaired : (ℕ → Bool) → Line → ℕ → Bool
 repaired a (adds i c hs) = if clause_true a c then a else flip_pivot a c
 repaired a (deletes is) = a
@@ -39,7 +39,7 @@ pub record LinesKeepModels : Type 0 where
   pub keeps : (st su : List Item) (l : Line) → step st l ≡ Some su → IsSatisfiable st →
       IsSatisfiable su
 
--- the same of a list of lines
+-- lines that are accepted in turn keep satisfiability
 abbrev pub RunsKeepModels : Type 0
 RunsKeepModels = (st su : List Item) (ls : List Line) → run st ls ≡ Some su → IsSatisfiable st →
     IsSatisfiable su

@@ -15,7 +15,7 @@ abbrev pub ids_once : List Item → Bool
 ids_once [] = true
 ids_once (x ∷ st) = is_none (find st x.id) && ids_once st
 
--- the same literals, in any order and number
+-- two clauses with the same literals, in any order and number
 abbrev pub SameLits : List ℕ → List ℕ → Type 0
 SameLits c d = (l : ℕ) → has l c ≡ has l d
 

@@ -95,7 +95,7 @@ pub(crate) fn split_number(bytes: &[u8]) -> Option<(Number, &[u8])>
     Some((Number::of(word), skip_blanks(rest)))
 }
 
-/// The same in one pass, where the bytes begin with a number of few digits.
+/// The first number and what is after it, in one pass, where the bytes begin with few digits.
 #[inline(always)]
 fn short_number(bytes: &[u8]) -> Option<(Number, &[u8])>
     ensures first { IfSome result (λ r. IsFirst (words_of bytes.now) r.0 (words_of r.1.now)) }
@@ -144,7 +144,8 @@ fn leading_digits(bytes: &[u8]) -> (u64, usize)
     }
 }
 
-/// The same before a place. Where it is a constant, no count is kept.
+/// The value of the digits before a place, and how many they are. Where the place is a constant, no
+/// count is kept.
 #[inline(always)]
 fn digits_up_to(bytes: &[u8], place: usize) -> (u64, usize)
     requires few { place ≤ 18 }

@@ -10,7 +10,7 @@ pub type Answer = ArrayString<80>;
 /// What stands in place of another answer where memory was refused to a call.
 pub const WANT_OF_MEMORY: &str = "OutOfMemory";
 
-/// The same where it was refused to a registered box.
+/// Memory that was refused to a registered box.
 pub const WANT_OF_A_BOX: &str = "ProofProcessorError memory allocation failed";
 
 /// What a checker answers once it has failed.

@@ -40,7 +40,7 @@ pub fn register(
     }
 }
 
-/// The same for a transcript.
+/// A box for a transcript.
 pub fn register_transcript(
     checker: &mut Checker,
     transcript: Box<dyn ProofTranscriptProcessor>,

@@ -32,7 +32,7 @@ pub fn check_four(alloc: Global) -> Played {
     }
 }
 
-/// The same run with lines of hints. Where there is no verdict, neither is written.
+/// A run with lines of hints. Where there is no verdict, none is written.
 pub fn write_four(alloc: Global) -> Played {
     let Some(formula) = formula(alloc)? else {
         return Ok(Memory::Wanting);

@@ -37,7 +37,7 @@ impl Var {
     /// So many variables there can be at most.
     pub const MAX_COUNT: usize = 0x1000_0000;
 
-    /// The same as `MAX_COUNT`.
+    /// `MAX_COUNT`, as a function.
     pub const fn max_count() -> usize
         ensures { result ≡ 2 ^ 28 }
     {

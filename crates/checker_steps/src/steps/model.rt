@@ -80,7 +80,7 @@ fn judge(
     judged
 }
 
-/// The same. Literals of the list are marked, and stay so.
+/// Judges a model by marks of its literals, which stay.
 fn judge_marking(
     state: &CheckerState,
     clauses: &Clauses,

@@ -53,7 +53,7 @@ fn collect(alloc: Global, hasher: &ClauseHasher, clauses: &mut Clauses) -> Resul
     Ok(())
 }
 
-/// The same buckets, with the literals of their clauses in a new buffer.
+/// Buckets of these clauses, with their literals in a new buffer.
 fn move_buckets(alloc: Global, clauses: &Clauses) -> Result<(Buckets, Vec<Lit>), AllocError>
     requires { (h : ClauseHasher) × IsIndexed h clauses.now (stored_list clauses.now) }
     ensures same { IfOk result (λ moved. (k : ℕ)
@@ -73,7 +73,7 @@ fn move_buckets(alloc: Global, clauses: &Clauses) -> Result<(Buckets, Vec<Lit>),
     Ok((moved, new))
 }
 
-/// The same clauses, with their literals in a new buffer, after those that it has.
+/// A bucket's clauses, with their literals in the new buffer, after those that it has.
 fn move_bucket(
     alloc: Global,
     bucket: &[Clause],
