@@ -12,10 +12,10 @@ use Rattle.lrat_checker.specs.declared.checker.LratChecker.{LratChecker}
 use Rattle.lrat_checker.specs.declared.fault.LratFault.{LratFault}
 use Rattle.lrat_checker.specs.declared.fault.LratFault.TheVariants as lrat
 use Rattle.lrat_check.specs.Runs.{Decides, IsDecided, Refutes}
-use Rattle.lrat_check.specs.Verdicts.{verdict_of}
+use Rattle.verdicts.specs.Verdicts.{verdict_of}
 use Rattle.lrat_check.specs.declared.fault.RunFault.TheVariants.{Proof}
-use Rattle.lrat_check.specs.declared.verdict.Verdict.{Verdict}
-use Rattle.lrat_check.specs.declared.verdict.Verdict.TheVariants.{Verified}
+use Rattle.verdicts.specs.declared.verdict.Verdict.{Verdict}
+use Rattle.verdicts.specs.declared.verdict.Verdict.TheVariants.{Verified}
 use Rattle.lrat_check.proofs.DecideLemmas.{decided}
 
 abbrev Known : Type 0

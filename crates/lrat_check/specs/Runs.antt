@@ -20,11 +20,11 @@ use Rattle.whole_writes.specs.Beginnings.{AppendsBeginning}
 use Rattle.lrat_checker.specs.declared.checker.LratChecker.{LratChecker}
 use Rattle.lrat_checker.specs.declared.fault.LratFault.{LratFault}
 use Rattle.lrat_checker.specs.declared.fault.LratFault.TheVariants as lrat
-use Rattle.lrat_check.specs.Verdicts.{shown_line, verdict_of}
+use Rattle.verdicts.specs.Verdicts.{shown_line, verdict_of}
 use Rattle.lrat_check.specs.declared.fault.RunFault.{RunFault}
 use Rattle.lrat_check.specs.declared.fault.RunFault.TheVariants.{Formula, Proof, Write}
-use Rattle.lrat_check.specs.declared.verdict.Verdict.{Verdict}
-use Rattle.lrat_check.specs.declared.verdict.Verdict.TheVariants.{Verified, NotVerified}
+use Rattle.verdicts.specs.declared.verdict.Verdict.{Verdict}
+use Rattle.verdicts.specs.declared.verdict.Verdict.TheVariants.{Verified, NotVerified}
 
 -- whether the formula has the empty clause, or the lines of a text up to one that adds it are accepted after the formula
 abbrev pub shows : List (List ℕ) → List ℕ → Bool

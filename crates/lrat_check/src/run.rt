@@ -5,17 +5,16 @@ ghost use Rattle.sat_rules.specs.Clauses.{all_true};
 ghost use Rattle.sat_formula.specs.Refuted.{IsRefuted};
 ghost use Rattle.whole_writes.specs.Beginnings.{AppendsBeginning};
 ghost use Rattle.lrat_check.specs.Runs.{BeginsLine, BeginsLineAfter, IsCheckRun, IsDecided, IsProofRun, IsRefusedRun, IsUnwritten, Refutes};
-ghost use Rattle.lrat_check.specs.Verdicts.{shown_line};
-ghost use Rattle.lrat_check.specs.declared.verdict.Verdict.TheVariants.{Verified};
+ghost use Rattle.verdicts.specs.Verdicts.{shown_line};
+ghost use Rattle.verdicts.specs.declared.verdict.Verdict.TheVariants.{Verified};
 
 use crate::fault::RunFault;
-use crate::verdict::Verdict;
 use lrat_checker::{LratChecker, LratFault};
 use sat_formula::{CnfFormula, read_formula};
 use std::alloc::Global;
 use std::io;
 use std::io::{Read, Write};
-use whole_writes::write_whole;
+use verdicts::{Verdict, write_line};
 
 /// Checks a proof after a formula, up to its first line that adds the empty clause, and writes the
 /// verdict's line. What stands after that line is not read. Nothing is where the formula has the
@@ -81,14 +80,4 @@ fn refute<P: Read + Drop>(alloc: Global, formula: &CnfFormula, proof: P) -> Resu
         Ok(mut checker) => checker.refute(proof),
         Err(_) => Err(LratFault::OutOfMemory),
     }
-}
-
-/// Writes a verdict's line, also out of a writer's buffer.
-fn write_line<W: Write>(out: &mut W, verdict: Verdict) -> io::Result<()>
-    ensures whole { OnOk result
-        (Appends (W.contents out.old) (W.contents out.new) (shown_line verdict)) }
-    ensures beginning { OnErr result
-        (AppendsBeginning (W.contents out.old) (W.contents out.new) (shown_line verdict)) }
-{
-    write_whole(out, verdict.line())
 }
