@@ -1,4 +1,4 @@
-"""What the programs must answer to an LRAT text: docs/FORMATS.md again, in a few lines, and shared with no program.
+"""What the programs must answer to an LRAT text: docs/reference/FORMATS.md again, in a few lines, and shared with no program.
 
 A fault can be named, for which the rules are wrong. So it is seen that the texts of this test notice it.
 """
