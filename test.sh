@@ -1,20 +1,26 @@
 #!/usr/bin/env bash
 # Proves, tests and runs everything, from nothing: the gate, and then the programs on files, on files that fail, and
-# where memory is refused.
+# where memory is refused. The scripts after the gate share nothing, so they run side by side, and each one's lines are
+# shown once it has ended.
 set -euo pipefail
 cd "$(dirname "$0")"
-told=$(mktemp)
-trap 'rm -f "$told"' EXIT
+told=$(mktemp -d)
+trap 'rm -rf "$told"' EXIT
 tests/documents.sh
+tests/layout.sh
 tests/wrong_bodies.sh --records
-rt ci 2>&1 | tee "$told"
-tests/weak_edits.sh "$told"
-tests/end_to_end.sh
-tests/failing_files.sh
-tests/named_files.sh
-tests/lrat_fuzz.sh
-tests/refused_growths.sh
-tests/log_lines.sh
-tests/drat_solvers.sh
-tests/drat_fuzz.sh
-tests/bindings.sh
+rt ci 2>&1 | tee "$told/gate"
+tests/weak_edits.sh "$told/gate"
+
+# run SCRIPT: its lines and its name, together
+run() {
+  local status=0
+  "tests/$1.sh" > "$told/$1" 2>&1 || status=$?
+  cat "$told/$1"
+  echo "tests/$1.sh ended with status $status"
+  return "$status"
+}
+export -f run
+export told
+printf '%s\n' end_to_end refused_growths failing_files drat_fuzz drat_solvers bindings lrat_fuzz named_files log_lines |
+  xargs -P "$(nproc)" -I SCRIPT bash -c 'run SCRIPT'

@@ -1,6 +1,6 @@
 #!/usr/bin/env bash
 # Runs the programs on files, and compares what they write and their exit statuses with what they must be.
-# Each program is built once, without its proof. RT may name another `rt`.
+# The programs must be built: `rt ci` does it, or `rt run` in their folders.
 set -euo pipefail
 
 top=$(cd "$(dirname "$0")/.." && pwd)
@@ -40,37 +40,39 @@ begun_as() {
   expect "$1" 1 '' "$4"$'\n'"$2 begins as $3" "${@:5}"
 }
 
-# run_cases CRATE: runs the program on the cases
+# run_cases CRATE: runs the program that was built on the cases, each in a folder with the files as they were
 run_cases() {
-  local files=() file
-  for file in "$work"/files/*; do
-    files+=(--data "${file##*/}=$file")
-  done
-  cd "$top/crates/$1"
-  # errors go through a pipe, so that a program that opens /dev/stderr as a file does not cut off what stands there
-  "${RT:-rt}" try --cases "$work/cases" "${files[@]}" 2>&1 > "$work/out" | cat > "$work/err" || {
-    cat "$work/err"
+  local program="$top/crates/$1/out/$1" name args
+  if [[ ! -x "$program" ]]; then
+    echo "not built: $program"
     exit 1
-  }
-}
-
-# output_of NAME: what the run wrote. It stands behind a line with its name
-output_of() {
-  awk -v head="== $1" '$0 == head { on = 1; next } /^== / { on = 0 } on' "$work/out"
-}
-
-# errors_of NAME: what it wrote to standard error. That stands before a line with its name and status
-errors_of() {
-  awk -v tail="case=$1" '/^case=/ { if ($1 == tail) printf "%s", text; text = ""; next } { text = text $0 "\n" }' "$work/err"
+  fi
+  rm -rf "$work/ran"
+  mkdir "$work/ran"
+  for name in "${names[@]}"; do
+    args=()
+    if [[ -e "$work/cases/$name.args" ]]; then
+      mapfile -t args < "$work/cases/$name.args"
+    fi
+    rm -rf "$work/room"
+    cp -r "$work/files" "$work/room"
+    # both go through a pipe, so that a program that opens one of them as a file does not cut off what stands there
+    {
+      {
+        (cd "$work/room" && exec "$program" "${args[@]}") < "$work/cases/$name" 2>&1 1>&3 && echo 0 > "$work/ran/$name.status" ||
+          echo "$?" > "$work/ran/$name.status"
+      } | cat > "$work/ran/$name.err"
+    } 3>&1 | cat > "$work/ran/$name.out"
+  done
 }
 
 # compare: each case with what it must do
 compare() {
   local name status output errors
   for name in "${names[@]}"; do
-    status=$(sed -n "s/^case=$name .*status=\([0-9]*\).*/\1/p" "$work/err")
-    output=$(output_of "$name")
-    errors=$(errors_of "$name")
+    status=$(cat "$work/ran/$name.status")
+    output=$(cat "$work/ran/$name.out")
+    errors=$(cat "$work/ran/$name.err")
     if printf '%s\n' "$status" "$output" "$errors" | cmp -s - "$work/want/$name"; then
       echo "ok    $name"
     else
@@ -190,8 +192,8 @@ refuted() {
 }
 
 for proof in "${proofs[@]}"; do
-  errors_of "$proof" | grep -E '^[0-9]+ ' > "$work/files/$proof.lrat"
-  if [ "$(output_of "$proof")" != 's UNSATISFIABLE' ]; then
+  grep -E '^[0-9]+ ' "$work/ran/$proof.err" > "$work/files/$proof.lrat"
+  if [ "$(cat "$work/ran/$proof.out")" != 's UNSATISFIABLE' ]; then
     echo "WRONG $proof: no verdict beside its hints"
     wrong=1
   fi

@@ -9,7 +9,7 @@ What a document can say of files, and how it is written:
                                         the definitions that a file of definitions rests on, with itself
     `path`: `name`, `name`              what is declared there
     laws `name`, `name`                 laws of some crate; so are the names in a column "law" of a table
-    ```rust path                        a quotation: these lines are there one after the other
+    ```rust path                        a quotation: these words are there one after the other
 
 The table of crates has those of `crates.txt`, each with crates that are below it there.
 """
@@ -104,8 +104,7 @@ def bad_quotations(text):
         if not os.path.exists(path):
             yield f"{path} is quoted and not there"
             continue
-        held = "\n".join(line.strip() for line in text_of(path).splitlines())
-        if "\n".join(line.strip() for line in quoted.splitlines()) not in held:
+        if " ".join(quoted.split()) not in " ".join(text_of(path).split()):
             yield f"a quotation of {path} that is not in it: {quoted.strip().splitlines()[0].strip()}"
 
 

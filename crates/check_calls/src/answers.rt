@@ -2,7 +2,8 @@
 use checker_parts::error::{CheckerError, DimacsError};
 use std::alloc::{AllocError, Global};
 
-/// The text of an answer: `Ok`, or the name of the fault, with the number of the step where it has one, and the cause.
+/// The text of an answer: `Ok`, or the name of the fault, with the number of the step where it has
+/// one, and the cause.
 pub fn answer(alloc: Global, answer: Result<(), CheckerError>) -> Result<String, AllocError> {
     match answer {
         Ok(()) => format!(in alloc; "Ok"),

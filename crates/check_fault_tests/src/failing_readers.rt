@@ -13,10 +13,11 @@ const KINDS: [ErrorKind; 3] = [
     ErrorKind::Other,
 ];
 
-// Two opposite units and the end, whose steps end at 3, 6 and 7 bytes.
+/// Two opposite units and the end, whose steps end at 3, 6 and 7 bytes.
 const PROOF: &[u8] = b"\x05\x01\x00\x05\x01\x01\x0D";
 
-// By one byte a read, of which one fails: so many steps stand then. The checker goes on with the number after the failing step's.
+/// By one byte a read, of which one fails: so many steps stand then. The checker goes on with the
+/// number after the failing step's.
 fn proof_with_failing_read(
     rt: &impl Abort,
     alloc: Global,
@@ -47,7 +48,7 @@ fn proof_goes_on(
     Ok(())
 }
 
-// Checks a proof, which is answered so.
+/// Checks a proof, which is answered so.
 fn proves(
     rt: &impl Abort,
     alloc: Global,
@@ -75,10 +76,11 @@ fn proofs(rt: HostRuntime) -> Result<(), Fail> {
     Ok(())
 }
 
-// Two opposite units, whose clauses end at 4 and 9 bytes.
+/// Two opposite units, whose clauses end at 4 and 9 bytes.
 const TEXT: &[u8] = b"1 0\n-1 0\n";
 
-// By one byte a read, of which one fails: so many clauses stand then. The checker goes on with the whole text.
+/// By one byte a read, of which one fails: so many clauses stand then. The checker goes on with the
+/// whole text.
 fn text_with_failing_read(
     rt: &impl Abort,
     alloc: Global,
@@ -107,7 +109,7 @@ fn text_goes_on(
     Ok(())
 }
 
-// Adds a formula's text, which is answered so.
+/// Adds a formula's text, which is answered so.
 fn reads(
     rt: &impl Abort,
     alloc: Global,
@@ -135,7 +137,8 @@ fn texts(rt: HostRuntime) -> Result<(), Fail> {
     Ok(())
 }
 
-// Nothing is read after the end: neither past it, nor once it was accepted, also where it was handed in as a step.
+/// Nothing is read after the end: neither past it, nor once it was accepted, also where it was
+/// handed in as a step.
 #[test]
 fn no_read_after_the_end(rt: HostRuntime) -> Result<(), Fail> {
     let mut checker = Checker::new(rt.alloc());

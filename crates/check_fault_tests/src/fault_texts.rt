@@ -13,7 +13,7 @@ use std::test::Fail;
 use varisat_checker::Checker;
 use varisat_checker::internal::SelfChecker;
 
-// The text of the answer for a proof of a new checker; empty where it is accepted.
+/// The text of the answer for a proof of a new checker; empty where it is accepted.
 fn of_proof<R: Read + Drop>(alloc: Global, proof: R) -> Result<String, Fail> {
     let mut checker = Checker::new(alloc);
     match checker.check_proof(&log::sink::Discard, proof) {
@@ -22,7 +22,7 @@ fn of_proof<R: Read + Drop>(alloc: Global, proof: R) -> Result<String, Fail> {
     }
 }
 
-// The text of the answer for a formula's text of a new checker; empty where it is accepted.
+/// The text of the answer for a formula's text of a new checker; empty where it is accepted.
 fn of_text<R: Read + Drop>(alloc: Global, text: R) -> Result<String, Fail> {
     let mut checker = Checker::new(alloc);
     match checker.add_dimacs_cnf(&log::sink::Discard, text) {
@@ -100,7 +100,7 @@ fn failed_reads(rt: HostRuntime) -> Result<(), Fail> {
     Ok(())
 }
 
-// How long the text of the refused step is; None where it is no refused step.
+/// How long the text of the refused step is; None where it is no refused step.
 fn step_text_len(answer: Result<(), CheckerError>) -> Option<usize> {
     match answer {
         Err(CheckerError::CheckFailed { debug_step, .. }) => Some(debug_step.len()),
@@ -108,7 +108,7 @@ fn step_text_len(answer: Result<(), CheckerError>) -> Option<usize> {
     }
 }
 
-// A refusal shows its proof step, whether it was handed in or read.
+/// A refusal shows its proof step, whether it was handed in or read.
 #[test]
 fn refused_steps_are_shown(rt: HostRuntime) -> Result<(), Fail> {
     let clause = lits(rt.alloc(), "1")?;
@@ -136,7 +136,7 @@ fn shows_refused_step(
     Ok(())
 }
 
-// Refused user names and assumptions show none.
+/// Refused user names and assumptions show none.
 #[test]
 fn refused_names_and_assumptions_are_not_shown(rt: HostRuntime) -> Result<(), Fail> {
     let (var, assumptions) = (var("1")?, lits(rt.alloc(), "1")?);

@@ -11,7 +11,7 @@ use std::process::Abort;
 use std::test::Fail;
 use varisat_checker::Checker;
 
-// A refutation, of which each call tells one step.
+/// A refutation, of which each call tells one step.
 const REFUTATION: [&str; 6] = [
     "add 1 2",
     "add 1 -2",
@@ -21,7 +21,7 @@ const REFUTATION: [&str; 6] = [
     "at irr : C D",
 ];
 
-// Makes a call, which answers so.
+/// Makes a call, which answers so.
 fn answers(
     rt: &impl Abort,
     alloc: Global,
@@ -34,7 +34,7 @@ fn answers(
     Ok(())
 }
 
-// How many steps the first and the third processor took, and the first and the third transcript.
+/// How many steps the first and the third processor took, and the first and the third transcript.
 #[derive(Clone, Copy, Debug, PartialEq, Eq)]
 struct Taken {
     first: usize,
@@ -43,8 +43,8 @@ struct Taken {
     third_transcript: usize,
 }
 
-// Makes the calls of a new checker with three processors and three transcripts, of which the second ones take so many steps. The
-// last call meets a fault.
+/// Makes the calls of a new checker with three processors and three transcripts, of which the
+/// second ones take so many steps. The last call meets a fault.
 fn run_to_fault(
     rt: &impl Abort,
     alloc: Global,
@@ -110,7 +110,7 @@ fn steps_taken(
     })
 }
 
-// Each call of the checker answers that it has failed, and reads nothing.
+/// Each call of the checker answers that it has failed, and reads nothing.
 fn has_failed(rt: &impl Abort, alloc: Global, checker: &mut Checker) -> Result<(), Fail> {
     for call in [
         "add 4",
@@ -152,7 +152,8 @@ fn processor_at_fault(rt: HostRuntime) -> Result<(), Fail> {
     Ok(())
 }
 
-// The processors come first, and then the transcripts; those after the fault are told nothing of the step.
+/// The processors come first, and then the transcripts; those after the fault are told nothing of
+/// the step.
 #[test]
 fn boxes_before_and_after_a_fault(rt: HostRuntime) -> Result<(), Fail> {
     for (steps, transcript_steps, first, third, first_transcript) in [
@@ -179,7 +180,7 @@ fn boxes_before_and_after_a_fault(rt: HostRuntime) -> Result<(), Fail> {
     Ok(())
 }
 
-// Without processors the transcripts are told what they are told with them.
+/// Without processors the transcripts are told what they are told with them.
 #[test]
 fn transcripts_alone(rt: HostRuntime) -> Result<(), Fail> {
     let mut checker = Checker::new(rt.alloc());
@@ -221,7 +222,7 @@ fn lists_refutation(
     Ok(())
 }
 
-// A box is told the steps after its registration, and a fault says what the box answered.
+/// A box is told the steps after its registration, and a fault says what the box answered.
 #[test]
 fn boxes_registered_late(rt: HostRuntime) -> Result<(), Fail> {
     let mut checker = Checker::new(rt.alloc());
@@ -257,7 +258,7 @@ fn lists_later_steps(rt: &impl Abort, processors: &[Box<dyn ProofProcessor>]) ->
     Ok(())
 }
 
-// A checker that has failed hands back what it is given to register.
+/// A checker that has failed hands back what it is given to register.
 #[test]
 fn registration_with_a_failed_checker(rt: HostRuntime) -> Result<(), Fail> {
     let mut checker = Checker::new(rt.alloc());
@@ -274,7 +275,7 @@ fn registration_with_a_failed_checker(rt: HostRuntime) -> Result<(), Fail> {
     Ok(())
 }
 
-// Registers a processor and a transcript, each of which is told one step.
+/// Registers a processor and a transcript, each of which is told one step.
 fn register_tallies(rt: &impl Abort, alloc: Global, checker: &mut Checker) -> Result<(), Fail> {
     register(checker, Box::new(alloc, Tally::new(alloc))?)?;
     register_transcript(checker, Box::new(alloc, Tally::new(alloc))?)?;
@@ -325,7 +326,8 @@ fn hands_back_transcript(
     }
 }
 
-// A step shows the names after it, but those before it where a name is removed or a variable deleted.
+/// A step shows the names after it, but those before it where a name is removed or a variable
+/// deleted.
 #[test]
 fn names_shown_with_steps(rt: HostRuntime) -> Result<(), Fail> {
     let mut checker = Checker::new(rt.alloc());

@@ -1,4 +1,5 @@
-//! The writer of hints in a box of the checker: its text after calls, and the answer to a call that it can't write.
+//! The writer of hints in a box of the checker: its text after calls, and the answer to a call that
+//! it can't write.
 use check_calls::accepted::register;
 use check_calls::calls::make;
 use checker_parts::processor::ProofProcessor;
@@ -7,7 +8,7 @@ use std::alloc::Global;
 use std::test::Fail;
 use varisat_checker::Checker;
 
-// So many announced input clauses, the calls, the text, and the answer to the last call.
+/// So many announced input clauses, the calls, the text, and the answer to the last call.
 type Row<'a> = (u64, &'a str, &'a str, &'a str);
 
 const ROWS: [Row<'static>; 7] = [
@@ -52,7 +53,8 @@ fn texts_of_the_writer(rt: HostRuntime) -> Result<(), Fail> {
     Ok(())
 }
 
-// Makes the calls of a new checker with a writer, and gives the answer to the last one and the text.
+/// Makes the calls of a new checker with a writer, and gives the answer to the last one and the
+/// text.
 fn written(alloc: Global, announced: u64, calls: &str) -> Result<(String, Vec<u8>), Fail> {
     let writer: Box<dyn ProofProcessor> = Box::new(alloc, LratWriter::new(alloc, announced))?;
     let mut checker = Checker::new(alloc);
@@ -61,7 +63,7 @@ fn written(alloc: Global, announced: u64, calls: &str) -> Result<(String, Vec<u8
     Ok((answer, output_of(alloc, &processors)?))
 }
 
-// Registers a processor, makes the calls, and answers what the last one does.
+/// Registers a processor, makes the calls, and answers what the last one does.
 fn make_all(
     alloc: Global,
     checker: &mut Checker,
@@ -76,7 +78,7 @@ fn make_all(
     Ok(answer)
 }
 
-// What the one processor shows.
+/// What the one processor shows.
 fn output_of(alloc: Global, processors: &[Box<dyn ProofProcessor>]) -> Result<Vec<u8>, Fail> {
     let [writer] = processors else {
         return Err("not one processor".into());

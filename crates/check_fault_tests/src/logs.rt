@@ -6,7 +6,7 @@ use std::io::{ErrorKind, Read};
 use std::test::Fail;
 use varisat_checker::Checker;
 
-// Whether a text gives one line, which ends so, or none.
+/// Whether a text gives one line, which ends so, or none.
 fn tells<R: Read + Drop>(alloc: Global, text: R, line: Option<&str>) -> bool {
     let mut checker = Checker::new(alloc);
     let memory = Memory::new(alloc);
@@ -48,7 +48,7 @@ fn faulty_formula_is_not_told(rt: HostRuntime) -> Result<(), Fail> {
     Ok(())
 }
 
-// So many times the empty clause as a step, and then the last bytes.
+/// So many times the empty clause as a step, and then the last bytes.
 fn long_proof(alloc: Global, count: u32, last: &[u8]) -> Result<Vec<u8>, Fail> {
     let mut proof = Vec::new(alloc);
     for _ in 0..count {
@@ -74,7 +74,7 @@ fn progress_is_told(rt: HostRuntime) -> Result<(), Fail> {
     Ok(())
 }
 
-// Whether a new checker tells this of a proof.
+/// Whether a new checker tells this of a proof.
 fn of_new(alloc: Global, proof: &[u8], line: Option<&str>) -> bool {
     let mut checker = Checker::new(alloc);
     checking_tells(alloc, &mut checker, proof, line)

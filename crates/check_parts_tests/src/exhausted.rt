@@ -15,7 +15,7 @@ use varisat_checker::check::{add_clause, attempt_step, process_unit_conflicts};
 use varisat_checker::context::Context;
 use varisat_checker::proof::check_proof;
 
-// New parts whose next id is this.
+/// New parts whose next id is this.
 fn with_ids_from(alloc: Global, next: u64) -> Context
     ensures { ContextInvariant result }
 {
@@ -24,7 +24,7 @@ fn with_ids_from(alloc: Global, next: u64) -> Context
     ctx
 }
 
-// New parts that counted so many steps.
+/// New parts that counted so many steps.
 fn after_steps(alloc: Global, steps: u64) -> Context
     ensures { ContextInvariant result }
 {
@@ -33,7 +33,7 @@ fn after_steps(alloc: Global, steps: u64) -> Context
     ctx
 }
 
-// What a call answered that did not fail.
+/// What a call answered that did not fail.
 #[derive(Clone, Copy, Debug, PartialEq, Eq)]
 enum Seen {
     Done,
@@ -76,7 +76,7 @@ fn attempt(alloc: Global, ctx: &mut Context, step: &ProofStep) -> Result<Seen, F
     }
 }
 
-// Derives a clause without hashes.
+/// Derives a clause without hashes.
 fn derive(alloc: Global, ctx: &mut Context, numbers: &str) -> Result<Seen, Fail>
     requires { ContextInvariant ctx.old }
     ensures { OnOk result (ContextInvariant ctx.new) }

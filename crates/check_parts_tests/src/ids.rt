@@ -12,7 +12,7 @@ use varisat_checker::clauses::store::copies;
 use varisat_checker::context::Context;
 use varisat_checker::hash::ClauseHasher;
 
-// Adds an input clause, and answers the next id.
+/// Adds an input clause, and answers the next id.
 fn add(alloc: Global, ctx: &mut Context, numbers: &str) -> Result<u64, Fail>
     requires { ContextInvariant ctx.old }
     ensures { OnOk result (ContextInvariant ctx.new) }
@@ -24,7 +24,7 @@ fn add(alloc: Global, ctx: &mut Context, numbers: &str) -> Result<u64, Fail>
     }
 }
 
-// Derives an irredundant clause, and answers the next id.
+/// Derives an irredundant clause, and answers the next id.
 fn derive(alloc: Global, ctx: &mut Context, numbers: &str, names: &str) -> Result<u64, Fail>
     requires { ContextInvariant ctx.old }
     ensures { OnOk result (ContextInvariant ctx.new) }
@@ -65,7 +65,8 @@ fn takes_ids(rt: &impl Abort, alloc: Global, ctx: &mut Context) -> Result<(), Fa
     Ok(())
 }
 
-// A clause that stands already takes no id where it is derived, and is the previous clause under its own.
+/// A clause that stands already takes no id where it is derived, and is the previous clause under
+/// its own.
 #[test]
 fn derived_clause_that_stands(rt: HostRuntime) -> Result<(), Fail> {
     let mut ctx = Context::new(rt.alloc());

@@ -1,4 +1,5 @@
-//! Parts of which the form alone is known: a step over them is answered by the rules, whatever its clauses rest on.
+//! Parts of which the form alone is known: a step over them is answered by the rules, whatever its
+//! clauses rest on.
 ghost use Rattle.std.specs.Prelude.{OnOk};
 ghost use Rattle.checker_steps.specs.Context.{ContextInvariant};
 
@@ -12,7 +13,7 @@ use varisat_checker::check::check_step;
 use varisat_checker::clauses::store::copies;
 use varisat_checker::context::Context;
 
-// The cause of a refusal, or none where the step is accepted.
+/// The cause of a refusal, or none where the step is accepted.
 fn check(alloc: Global, ctx: &mut Context, step: &ProofStep) -> Result<Option<CheckCause>, Fail>
     requires { ContextInvariant ctx.old }
     ensures { OnOk result (ContextInvariant ctx.new) }
@@ -52,7 +53,7 @@ fn derive(
     check(alloc, ctx, &step)
 }
 
-// Deletes a clause that the previous one is to subsume.
+/// Deletes a clause that the previous one is to subsume.
 fn simplify(alloc: Global, ctx: &mut Context, numbers: &str) -> Result<Option<CheckCause>, Fail>
     requires { ContextInvariant ctx.old }
     ensures { OnOk result (ContextInvariant ctx.new) }
@@ -65,7 +66,7 @@ fn simplify(alloc: Global, ctx: &mut Context, numbers: &str) -> Result<Option<Ch
     check(alloc, ctx, &step)
 }
 
-// The empty clause as the previous one, though it is not stored: nothing entails it.
+/// The empty clause as the previous one, though it is not stored: nothing entails it.
 fn with_empty_previous(alloc: Global, ctx: &mut Context)
     requires { ContextInvariant ctx.old }
     ensures { ContextInvariant ctx.new }

@@ -306,12 +306,12 @@ fn long_buckets(rt: HostRuntime) -> Result<(), Fail> {
     agrees(&rt, rt.alloc(), LONG_BUCKETS)
 }
 
-// The ten clauses of one bucket, and one of the other.
+/// The ten clauses of one bucket, and one of the other.
 const LONG_BUCKET: [&str; 11] = [
     "4 5", "4 9", "4 10", "5 9", "5 10", "7 8", "7 11", "-2 6", "-2 -6", "2 3", "1 2",
 ];
 
-// A check without processors goes another way.
+/// A check without processors goes another way.
 #[test]
 fn long_buckets_without_processors(rt: HostRuntime) -> Result<(), Fail> {
     let rows: [(&str, &str); 6] = [
@@ -334,7 +334,7 @@ fn long_buckets_without_processors(rt: HostRuntime) -> Result<(), Fail> {
     Ok(())
 }
 
-// Where nothing follows in one check, something can in the next.
+/// Where nothing follows in one check, something can in the next.
 #[test]
 fn long_buckets_in_turn(rt: HostRuntime) -> Result<(), Fail> {
     let alloc = rt.alloc();

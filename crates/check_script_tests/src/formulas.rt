@@ -123,7 +123,7 @@ fn calls_after_a_text(rt: HostRuntime) -> Result<(), Fail> {
     agrees(&rt, rt.alloc(), CALLS_AFTER_A_TEXT)
 }
 
-// What a new checker records that is given a formula with these clauses.
+/// What a new checker records that is given a formula with these clauses.
 fn recorded_of(alloc: Global, clauses: &[&str]) -> Result<(bool, u64), Fail> {
     let mut formula = CnfFormula::new(alloc);
     for clause in clauses {

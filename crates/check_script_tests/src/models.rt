@@ -52,7 +52,7 @@ model 1 2
 > ~ Model [2]
 ";
 
-// Marks of a model that is refused half way, or accepted, are seen by none that comes later.
+/// Marks of a model that is refused half way, or accepted, are seen by none that comes later.
 const MODELS_IN_TURN: &str = "
 new
 given 1 2

@@ -256,17 +256,17 @@ fn second_proofs(rt: HostRuntime) -> Result<(), Fail> {
     agrees(&rt, rt.alloc(), SECOND_PROOFS)
 }
 
-// With hashes of one bit, [1] and then [].
+/// With hashes of one bit, [1] and then [].
 const NARROW: [u8; 16] = *b"\x09\x01\x06\x00\x01\x00\x02\x01\x00\x06\x00\x00\x02\x00\x01\x0D";
 
-// Byte by byte, and all at once.
+/// Byte by byte, and all at once.
 #[test]
 fn beginnings(rt: HostRuntime) -> Result<(), Fail> {
     lack_steps(&rt, rt.alloc(), 1)?;
     lack_steps(&rt, rt.alloc(), usize::MAX)
 }
 
-// The steps end at 2, 9, 15 and 16 bytes, whichever number of bytes a read gives.
+/// The steps end at 2, 9, 15 and 16 bytes, whichever number of bytes a read gives.
 fn lack_steps(rt: &impl Abort, alloc: Global, size: usize) -> Result<(), Fail> {
     for len in 0..NARROW.len() {
         let step = match len {
@@ -282,7 +282,7 @@ fn lack_steps(rt: &impl Abort, alloc: Global, size: usize) -> Result<(), Fail> {
     Ok(())
 }
 
-// Over the four clauses of two variables, a proof ends where this step should stand.
+/// Over the four clauses of two variables, a proof ends where this step should stand.
 fn lacks_step(
     rt: &impl Abort,
     alloc: Global,
@@ -299,7 +299,7 @@ fn lacks_step(
     Ok(())
 }
 
-// Four input clauses and two derived ones.
+/// Four input clauses and two derived ones.
 #[test]
 fn steps_are_counted(rt: HostRuntime) -> Result<(), Fail> {
     let alloc = rt.alloc();

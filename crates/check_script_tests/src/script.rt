@@ -17,7 +17,8 @@ use std::process::Abort;
 use std::test::Fail;
 use varisat_checker::Checker;
 
-/// Plays a script with large reads and with reads of one byte: all that is seen stands in it, and nothing else.
+/// Plays a script with large reads and with reads of one byte: all that is seen stands in it, and
+/// nothing else.
 pub fn agrees(rt: &impl Abort, alloc: Global, script: &str) -> Result<(), Fail> {
     for size in [usize::MAX, 1] {
         let seen = played(alloc, script, size)?;
@@ -95,7 +96,8 @@ impl Seen {
     }
 }
 
-/// Registers three processors and two transcripts, makes the calls of these lines, and gives the answer to the last one.
+/// Registers three processors and two transcripts, makes the calls of these lines, and gives the
+/// answer to the last one.
 fn last_answer(
     alloc: Global,
     checker: &mut Checker,

@@ -25,7 +25,7 @@ impl Tally {
         }
     }
 
-    // Makes one stroke more.
+    /// Makes one stroke more.
     fn stroke(&mut self) -> Result<(), anyhow::Error>
         ensures made { OnOk result (self.new.strokes.items ≡ self.old.strokes.items ++ codes "|") }
         ensures kept { OnErr result (self.new.strokes.items ≡ self.old.strokes.items) }
@@ -84,7 +84,7 @@ impl Faulty {
         Faulty { left }
     }
 
-    // Takes one step more, or answers the fault.
+    /// Takes one step more, or answers the fault.
     fn take(&mut self) -> Result<(), anyhow::Error>
         ensures took { OnOk result (self.old.left ≡ self.new.left + 1) }
         ensures faulted { OnErr result ((self.old.left ≡ 0) × (self.new ≡ self.old)) }
@@ -207,7 +207,8 @@ impl ProofTranscriptProcessor for TranscriptList {
     }
 }
 
-/// Lists, a line each, the variables that get or lose a name or are deleted, with the user variable that is shown with the step.
+/// Lists, a line each, the variables that get or lose a name or are deleted, with the user variable
+/// that is shown with the step.
 #[derive(Drop)]
 pub struct NameList {
     alloc: Global,

@@ -11,7 +11,8 @@ use std::alloc::Global;
 use std::io::Read;
 use varisat_checker::Checker;
 
-/// Adds a formula to a new checker, checks a proof, and answers how many steps a processor was told of both.
+/// Adds a formula to a new checker, checks a proof, and answers how many steps a processor was told
+/// of both.
 pub fn count_steps<L: Log, R: Read + Drop>(
     rt: &L,
     alloc: Global,
@@ -27,7 +28,8 @@ pub fn count_steps<L: Log, R: Read + Drop>(
     }
 }
 
-/// Registers a processor with a new checker, adds the formula, checks the proof, and answers by how many bytes the output has grown.
+/// Registers a processor with a new checker, adds the formula, checks the proof, and answers by how
+/// many bytes the output has grown.
 fn growth<L: Log, R: Read + Drop>(
     rt: &L,
     alloc: Global,

@@ -1,4 +1,5 @@
-//! Steps as lines of text. Literals and variables are DIMACS numbers; the ids of propagations stand in round brackets.
+//! Steps as lines of text. Literals and variables are DIMACS numbers; the ids of propagations stand
+//! in round brackets.
 use checker_parts::processor::CheckerData;
 use checker_parts::step::{
     CheckedProofStep, CheckedSamplingMode, CheckedUserVar, ProofTranscriptStep,

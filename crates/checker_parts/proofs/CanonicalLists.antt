@@ -10,11 +10,11 @@ use Rattle.std.proofs.lemmas.List.Sorted.{Contains-permutation, IsPermutation-sy
 use Rattle.std.proofs.lemmas.Map.Keys.{IsStrictlyIncreasing-dedup, sorted_from_strictly_increasing}
 use Rattle.std.proofs.lemmas.Map.Views.{Contains-from_any, list_any-from_Contains}
 use Rattle.std.proofs.lemmas.Bool.{and_parts, and_from, or_cases, or_left, or_right, eqb-true, ne_eqb, eqb-false, false≢true}
+use Rattle.sat_rules.specs.Clauses.{has, is_canonical, is_negative, is_tautology, negate, var_of}
+use Rattle.sat_rules.proofs.Members.{all_at, any_at, any_from}
 use Rattle.checker_rules.specs.Canonical.{canonical, insert_lit}
-use Rattle.checker_rules.specs.Clauses.{has, is_canonical, is_negative, is_tautology, negate, var_of}
 use Rattle.checker_rules.proofs.Entries.{canonical-is}
 use Rattle.checker_rules.proofs.Sets.{bool_ext}
-use Rattle.checker_rules.proofs.Walks.{all_at, any_at, any_from}
 
 -- a number that stands in no list of greater ones
 pub has-above : (l : ℕ) (c : List ℕ) → list_all (ltb l) c ≡ true → has l c ≡ false

@@ -1,8 +1,8 @@
 -- Accepted models and cores prove what the headline says of them.
 use Rattle.std.proofs.Common.{◌≡◌, ℕ, ◌&&◌, ◌||◌, Bool, true, false, cond, not, eqb, ltb, List, [], ◌∷◌, ◌++◌, None, refl, sym, ◌∙◌, subst, append-nil, append_assoc}
 use Rattle.std.proofs.lemmas.Bool.{and_from, and_parts, or_right}
+use Rattle.sat_rules.specs.Clauses.{clause_true}
 use Rattle.checker_rules.specs.Calls.{attempt, count_step, step_limit}
-use Rattle.checker_rules.specs.Clauses.{clause_true}
 use Rattle.checker_rules.specs.Covers.{all_sat}
 use Rattle.checker_rules.specs.Headline.{EntailsRedundant}
 use Rattle.checker_rules.specs.Outcome.{refuse, steps_exhausted}

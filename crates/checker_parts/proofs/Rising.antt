@@ -4,8 +4,8 @@ use Rattle.std.specs.List.{list_all}
 use Rattle.std.proofs.lemmas.Bool.{and_parts, and_from, lt-ltb, ne_eqb}
 use Rattle.std.proofs.lemmas.Bool.Decides.{nat_tests}
 use Rattle.std.proofs.lemmas.List.{at_drop_more, at_drop_all}
+use Rattle.sat_rules.specs.Clauses.{is_canonical, is_tautology, var_of}
 use Rattle.checker_rules.specs.Canonical.{canonical}
-use Rattle.checker_rules.specs.Clauses.{is_canonical, is_tautology, var_of}
 use Rattle.checker_parts.specs.RisingVars.{has_rising_vars}
 use Rattle.checker_parts.proofs.CanonicalLists.{canonical_from, shares_var, shares_var-canonical}
 

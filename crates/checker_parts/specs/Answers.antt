@@ -88,7 +88,7 @@ UnlessFailed (Err (ProofProcessorError cause)) P = Unit {0}
 UnlessFailed (Err OutOfMemory) P = Unit {0}
 UnlessFailed (Err Failed) P = Unit {0}
 
--- the same of a call over a text of clauses
+-- the fact, unless a call over a text of clauses had to give up
 abbrev pub UnlessTextFailed : {A : Type 0} → Result A DimacsError → Type 0 → Type 0
 UnlessTextFailed (Ok done) P = P
 UnlessTextFailed (Err (Read cause)) P = P
@@ -112,7 +112,7 @@ with_accepted (Err e) ts t = ts
 abbrev pub SetsFold : {A : Type 0} → Result A CheckerError → List Step → Step → State → Type 0
 SetsFold r ts t s = UnlessFailed r (IsFold (with_accepted r ts t) s)
 
--- the same of the unsatisfiable side
+-- after a call for one step the unsatisfiable side is covered by the steps before and the step where it was accepted
 abbrev pub CoversFold : {A : Type 0} → Result A CheckerError → List Step → Step → State → Type 0
 CoversFold r ts t s = UnlessFailed r (IsCovered (with_accepted r ts t) s)
 

@@ -4,8 +4,8 @@
 --     Refutes t ts, RunRefutes before ts      the part on cores alone, where the members make all that is stored true
 use Rattle.std.specs.Prelude.{◌≡◌, ℕ, Bool, true, List, [], ◌∷◌, ◌++◌, Option}
 use Rattle.std.specs.List.{list_all}
+use Rattle.sat_rules.specs.Clauses.{lit_true}
 use Rattle.checker_rules.specs.Calls.{attempt}
-use Rattle.checker_rules.specs.Clauses.{lit_true}
 use Rattle.checker_rules.specs.Headline.{Extends, holds}
 use Rattle.checker_rules.specs.State.{State, StoredUnit}
 use Rattle.checker_rules.specs.Step.{Step, add_clause, assumptions, at_clause, change_hash_bits, change_sampling_mode, delete_clause}

@@ -1,6 +1,6 @@
 -- Lists whose variables rise.
 use Rattle.std.specs.Prelude.{ℕ, Bool, true, ◌&&◌, nat_lt, List, [], ◌∷◌}
-use Rattle.checker_rules.specs.Clauses.{var_of}
+use Rattle.sat_rules.specs.Clauses.{var_of}
 
 -- whether the variables rise from literal to literal
 abbrev pub has_rising_vars : List ℕ → Bool

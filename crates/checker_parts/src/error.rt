@@ -113,7 +113,8 @@ pub enum CheckerError {
     Failed,
 }
 
-/// Why a step is not taken. It is small, since every step answers it: the error is made of it where the call ends.
+/// Why a step is not taken. It is small, since every step answers it: the error is made of it where
+/// the call ends.
 #[derive(Clone, Copy, Debug, PartialEq, Eq)]
 pub enum StepFault {
     /// The step is refused.

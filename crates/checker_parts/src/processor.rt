@@ -38,10 +38,11 @@ pub trait ProofProcessor: Drop {
     ghost use Rattle.checker_rules.specs.CheckedSteps.{NamedStep};
     ghost use Rattle.checker_parts.specs.CheckedSteps.{told};
 
-    /// What holds of the old value, the step with its names, and the new value where the answer is Ok.
+    /// What holds of the old value, the step with its names, and the new value where the answer is
+    /// Ok.
     ghost took: { Self → NamedStep → Self → Type 0 };
 
-    /// The same where the answer is a fault.
+    /// What holds of the old value, the step and the new value where the answer is a fault.
     ghost faulted: { Self → NamedStep → Self → Type 0 };
 
     /// What `output` gives.
@@ -94,7 +95,7 @@ pub trait ProofTranscriptProcessor: Drop {
     /// What holds of the old value, the step and the new value where the answer is Ok.
     ghost took: { Self → TranscriptStep → Self → Type 0 };
 
-    /// The same where the answer is a fault.
+    /// What holds of the old value, the step and the new value where the answer is a fault.
     ghost faulted: { Self → TranscriptStep → Self → Type 0 };
 
     /// What `output` gives.

@@ -1,7 +1,7 @@
 //! Canonical lists of literals: ascending, without repeats.
 ghost use Rattle.std.specs.Prelude.{◌≡◌, IsTrue, OnOk, IfOk, OnErr, []};
+ghost use Rattle.sat_rules.specs.Clauses.{is_canonical, is_tautology};
 ghost use Rattle.checker_rules.specs.Canonical.{canonical};
-ghost use Rattle.checker_rules.specs.Clauses.{is_canonical, is_tautology};
 ghost use Rattle.checker_parts.specs.Subsets.{is_subset_by};
 ghost use Rattle.checker_parts.specs.RisingVars.{has_rising_vars};
 
@@ -28,7 +28,7 @@ pub fn copy_canonical(target: &mut Vec<Lit>, src: &[Lit]) -> Result<bool, AllocE
     Ok(has_opposites(target.as_slice()))
 }
 
-// Whether the variables rise from literal to literal. Such a list is canonical, and no tautology.
+/// Whether the variables rise from literal to literal. Such a list is canonical, and no tautology.
 fn has_rising_vars(lits: &[Lit]) -> bool
     ensures { result ≡ has_rising_vars lits.now }
 {
@@ -46,7 +46,7 @@ fn has_rising_vars(lits: &[Lit]) -> bool
     true
 }
 
-// Opposite literals of a canonical list are neighbours: their codes differ by 1.
+/// Opposite literals of a canonical list are neighbours: their codes differ by 1.
 fn has_opposites(lits: &[Lit]) -> bool
     requires { IsTrue (is_canonical lits.now) }
     ensures { result ≡ is_tautology lits.now }

@@ -28,15 +28,15 @@ impl Transcript {
     /// What transcripts are told of a checked step: nothing of most kinds.
     ///
     /// Literals without a user variable are dropped, and an unnamed variable that loses its name is
-    /// passed over: of input clauses, assumptions and cores, and of removed names, the checker hands
-    /// in none such.
+    /// passed over: of input clauses, assumptions and cores, and of removed names, the checker
+    /// hands in none such.
     pub fn transcript_step(
         &mut self,
         step: &CheckedProofStep,
         names: CheckerData,
     ) -> Result<Option<ProofTranscriptStep<'_>>, CheckerError>
-        ensures ok { IfOk result (λ told. transcripts_of told ≡
-            image_of names.entry.0.now (step_of step.now)) }
+        ensures ok { IfOk result (λ told. transcripts_of told
+            ≡ image_of names.entry.0.now (step_of step.now)) }
         ensures err { IfErr result (λ e. e ≡ OutOfMemory) }
         ensures memory { lists_literals (step_of step.now) ≡ false → NeedsNoMemory result }
     {
@@ -69,7 +69,7 @@ impl Transcript {
         Ok(told)
     }
 
-    // The literals of the user variables.
+    /// The literals of the user variables.
     fn map(&mut self, lits: &[Lit], names: CheckerData) -> Result<&[Lit], CheckerError>
         ensures ok { IfOk result (λ told. told.now ≡ mapped names.entry.0.now lits.now) }
         ensures err { IfErr result (λ e. e ≡ OutOfMemory) }
@@ -86,7 +86,7 @@ impl Transcript {
     }
 }
 
-// What transcripts are told where a variable loses its user name.
+/// What transcripts are told where a variable loses its user name.
 fn hide_step<'a>(var: Var, names: CheckerData) -> Option<ProofTranscriptStep<'a>>
     ensures { transcripts_of result ≡ hides (known_at names.entry.0.now (index_of var)).name }
 {
@@ -96,7 +96,7 @@ fn hide_step<'a>(var: Var, names: CheckerData) -> Option<ProofTranscriptStep<'a>
     }
 }
 
-// What transcripts are told of a variable that has a user name.
+/// What transcripts are told of a variable that has a user name.
 fn user_var_step<'a>(user_var: &CheckedUserVar) -> Option<ProofTranscriptStep<'a>>
     ensures { transcripts_of result ≡ image_user_var (user_var_of user_var.now) }
 {

@@ -49,7 +49,7 @@ impl Default for VarData {
     }
 }
 
-// Stands in place of a name's index. No variable has this index.
+/// Stands in place of a name's index. No variable has this index.
 const UNNAMED: u32 = u32::MAX;
 
 /// The known variables, in order of their indexes, in six bytes a variable.
@@ -134,8 +134,8 @@ impl Variables {
 
     /// Makes the first `count` variables known, new ones unnamed and in mode `Sample`.
     pub fn know(&mut self, count: usize) -> Result<(), AllocError>
-        ensures ok { OnOk result (self.new ≡
-            self.old ++ replicate (count - length self.old) new_known) }
+        ensures ok { OnOk result (self.new
+            ≡ self.old ++ replicate (count - length self.old) new_known) }
         ensures err { OnErr result (self.new ≡ self.old) }
     {
         if self.len() < count {

@@ -5,7 +5,7 @@ use checker_parts::step::{CheckedProofStep, ProofTranscriptStep, ResolutionPropa
 use checker_parts::variables::Variables;
 use std::test::Fail;
 
-// Counts the steps, and answers a fault where there are none left to take.
+/// Counts the steps, and answers a fault where there are none left to take.
 #[derive(Drop)]
 struct Counts {
     count: [u8; 1],

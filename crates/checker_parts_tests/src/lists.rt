@@ -1,6 +1,6 @@
 //! Rows of canonical lists and subsets.
 ghost use Rattle.std.specs.Prelude.{IfOk, IsTrue};
-ghost use Rattle.checker_rules.specs.Clauses.{is_canonical};
+ghost use Rattle.sat_rules.specs.Clauses.{is_canonical};
 
 use crate::literals::lits;
 use checker_parts::sorted_lits::{copy_canonical, is_subset};
@@ -8,7 +8,7 @@ use sat_formula::lit::Lit;
 use std::alloc::Global;
 use std::test::Fail;
 
-// The same in canonical form.
+/// These literals in canonical form.
 fn canonical(alloc: Global, numbers: &[i64]) -> Result<Vec<Lit>, Fail>
     ensures { IfOk result (λ v. IsTrue (is_canonical v.items)) }
 {

@@ -16,7 +16,7 @@ fn refused(alloc: Global, msg: CheckCause) -> CheckerError {
     }
 }
 
-// Whether this is the text of the cause, and stands in that of a refused step.
+/// Whether this is the text of the cause, and stands in that of a refused step.
 fn is_text(alloc: Global, cause: CheckCause, text: &str) -> Result<bool, Fail> {
     let whole = refused(alloc, cause).to_string(alloc)?;
     let expected = format!(in alloc; "step 7: Checking proof failed: {text}")?;

@@ -13,7 +13,7 @@ fn defaults(rt: HostRuntime) -> Result<(), Fail> {
     Ok(())
 }
 
-// A name is given, shows, and goes: then the variable is hidden.
+/// A name is given, shows, and goes: then the variable is hidden.
 #[test]
 fn names(rt: HostRuntime) -> Result<(), Fail> {
     let (one, two, nine) = (var(0)?, var(1)?, var(8)?);

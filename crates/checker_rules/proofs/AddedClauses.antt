@@ -1,11 +1,11 @@
 -- Clauses added one after the other.
 use Rattle.std.proofs.Common.{◌≡◌, ℕ, Bool, true, false, not, ◌&&◌, ltb, leb, List, [], ◌∷◌, ◌++◌, map, Some, None, refl, sym, ap, ◌∙◌}
 use Rattle.std.proofs.lemmas.Bool.{cond_both}
+use Rattle.sat_rules.specs.Clauses.{all_true, clause_true}
 use Rattle.checker_rules.specs.AddClause.{store_input, take_input}
 use Rattle.checker_rules.specs.AddFormula.{FormulasAreFold, FormulasJoin, add_clauses, added, added_by}
 use Rattle.checker_rules.specs.Calls.{adds, calls_after}
 use Rattle.checker_rules.specs.Canonical.{canonical}
-use Rattle.checker_rules.specs.Clauses.{all_true, clause_true}
 use Rattle.checker_rules.specs.Covers.{Covers, CoversAfter}
 use Rattle.checker_rules.specs.Headline.{EntailsRedundant, SetAfter, changed, holds}
 use Rattle.checker_rules.specs.KnownVars.{know_clause, some_not_sampling}

@@ -2,6 +2,7 @@
 use Rattle.std.proofs.Common.{◌≡◌, ℕ, suc, Bool, true, false, cond, ltb, List, [], ◌∷◌, ◌++◌, Option, Some, None, refl, sym, ap, ◌∙◌, subst, is_some}
 use Rattle.std.specs.List.{list_any}
 use Rattle.std.proofs.lemmas.Bool.{true≢false}
+use Rattle.sat_rules.specs.Named.{Machine}
 use Rattle.checker_rules.specs.Calls.{close_by, closing_conflict}
 use Rattle.checker_rules.specs.CheckedSteps.{NamedStep, checked_at_clause, hint_step, hint_steps, named_in}
 use Rattle.checker_rules.specs.DeleteVar.{close_conflict, drop_unit, free_var, holds_var, is_conflict_on, is_unit_with, step_delete_var}
@@ -9,7 +10,7 @@ use Rattle.checker_rules.specs.Emits.{ClosingsRun, emits_closing, emits_delete_v
 use Rattle.checker_rules.specs.HintRun.{HintStep, IsRun, machine_after}
 use Rattle.checker_rules.specs.Hints.{IsUnitNamed, unit_lit}
 use Rattle.checker_rules.specs.KnownVars.{know, known_of}
-use Rattle.checker_rules.specs.Machine.{ConflictNamed, Mirrors, Machine}
+use Rattle.checker_rules.specs.Machine.{ConflictNamed, Mirrors}
 use Rattle.checker_rules.specs.Outcome.{Outcome, accept, refuse}
 use Rattle.checker_rules.specs.State.{State, StoredUnit, unit_of}
 use Rattle.checker_rules.specs.Store.{id_limit, take_id}

@@ -2,8 +2,8 @@
 use Rattle.std.proofs.Common.{◌≡◌, ℕ, suc, ◌+◌, ◌-◌, ◌<◌, ◌≤◌, Bool, true, false, cond, not, ◌&&◌, ◌||◌, eqb, ltb, leb, List, [], ◌∷◌, ◌++◌, map, filter, refl, sym, ap, ◌∙◌, subst, arith}
 use Rattle.std.specs.List.{list_all}
 use Rattle.std.proofs.lemmas.Bool.{and_parts, and_from, or_parts, or_from, both_ways, not-true, eqb-false, ltb-true, ltb-false, lt-ltb, leb-true, le-leb, ne_eqb, false_from_ne_true}
+use Rattle.sat_rules.specs.Clauses.{is_canonical, is_tautology}
 use Rattle.checker_rules.specs.Canonical.{canonical, insert_lit, same_list, var_bound}
-use Rattle.checker_rules.specs.Clauses.{is_canonical, is_tautology}
 use Rattle.checker_rules.specs.DeleteClause.{is_short}
 use Rattle.checker_rules.specs.State.{Stored}
 use Rattle.checker_rules.specs.Store.{is_gone, is_stored, lower, new_stored, raise}

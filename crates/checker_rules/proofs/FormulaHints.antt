@@ -1,6 +1,7 @@
 -- What adding a formula emits, and the ids that runs put.
 use Rattle.std.proofs.Common.{◌≡◌, ◌≤◌, ℕ, suc, ◌+◌, true, false, cond, not, ◌&&◌, ltb, leb, List, [], ◌∷◌, ◌++◌, map, take, Some, None, refl, ap, ◌∙◌, subst, arith}
 use Rattle.std.proofs.lemmas.Bool.{cond_both, and_from, le-leb, both_ways}
+use Rattle.sat_rules.specs.Named.{Machine, drop_id, put_id}
 use Rattle.checker_rules.specs.AddClause.{store_input, take_input}
 use Rattle.checker_rules.specs.AddFormula.{added, added_by}
 use Rattle.checker_rules.specs.CallEmissions.{EmitsCalls}
@@ -12,7 +13,6 @@ use Rattle.checker_rules.specs.FormulaEmissions.{FormulasEmit, input_steps}
 use Rattle.checker_rules.specs.Headline.{run}
 use Rattle.checker_rules.specs.HintRun.{HintStep, IsRun, PutIdsRise, fails_core, lowers, put_ids, puts_derived, puts_input, removes, rise_from}
 use Rattle.checker_rules.specs.KnownVars.{know_clause, some_not_sampling}
-use Rattle.checker_rules.specs.Machine.{Machine, drop_id, put_id}
 use Rattle.checker_rules.specs.Outcome.{Cause, Outcome, accept, refuse}
 use Rattle.checker_rules.specs.State.{State}
 use Rattle.checker_rules.specs.Step.{add_clause}

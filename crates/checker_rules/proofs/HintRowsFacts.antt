@@ -1,11 +1,10 @@
 -- The rows on the hint machine, by computation.
 use Rattle.std.proofs.Common.{◌≡◌, ◌≤◌, ℕ, suc, false, List, [], ◌∷◌, Option, Some, None, refl, sym, ap, ◌∙◌, arith, inl, inr}
 use Rattle.std.proofs.lemmas.Bool.{true≢false, both_ways}
+use Rattle.sat_rules.specs.Named.{IsAdmitted, NamedBy, drop_id, negated_set}
+use Rattle.sat_rules.specs.Clauses.{neg, pos}
 use Rattle.checker_rules.specs.CallEmissions.{empty_machine}
 use Rattle.checker_rules.specs.HintRows.{HintRows, two_clauses}
-use Rattle.checker_rules.specs.Hints.{IsAdmitted, NamedBy, negated_set}
-use Rattle.checker_rules.specs.Machine.{drop_id}
-use Rattle.checker_rules.specs.Rows.{neg, pos}
 use Rattle.checker_rules.specs.State.{chain_test}
 use Rattle.checker_rules.proofs.PassTest.{test_from_chain}
 

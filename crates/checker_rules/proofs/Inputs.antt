@@ -3,6 +3,7 @@ use Rattle.std.proofs.Common.{◌≡◌, ◌≤◌, ℕ, suc, ◌+◌, Bool, tru
 use Rattle.std.proofs.Common.{[], ◌∷◌, ◌++◌, map, Option, Some, None, refl, sym, ◌∙◌, subst, arith, is_some, is_none}
 use Rattle.std.specs.List.{list_any, list_all}
 use Rattle.std.proofs.lemmas.Bool.{cond_both, both_ways, false≢true}
+use Rattle.sat_rules.specs.Clauses.{is_tautology, negate, var_of}
 use Rattle.checker_rules.specs.AddClause.{step_add_clause, store_input}
 use Rattle.checker_rules.specs.Assumptions.{step_assumptions}
 use Rattle.checker_rules.specs.AtClause.{step_at_clause, store_derived}
@@ -10,7 +11,6 @@ use Rattle.checker_rules.specs.Canonical.{canonical, is_subset}
 use Rattle.checker_rules.specs.ChangeHashBits.{step_change_hash_bits}
 use Rattle.checker_rules.specs.ChangeSamplingMode.{mode_is, step_change_sampling_mode}
 use Rattle.checker_rules.specs.Check.{apply_if_named, check, ready, some_pending_name}
-use Rattle.checker_rules.specs.Clauses.{is_tautology, negate, var_of}
 use Rattle.checker_rules.specs.DeleteClause.{delete_justified, forget, is_short, justified, step_delete_clause, subsumed_by}
 use Rattle.checker_rules.specs.DeleteVar.{holds_var, is_conflict_on, step_delete_var}
 use Rattle.checker_rules.specs.FailedAssumptions.{step_failed_assumptions}

@@ -1,11 +1,10 @@
 -- The sealed definitions besides `step`, opened: for goals that name them.
-use Rattle.std.proofs.Common.{◌≡◌, ℕ, Bool, true, false, cond, not, ◌&&◌, ltb, [], Some, None, refl, ap, ◌∙◌}
+use Rattle.std.proofs.Common.{◌≡◌, ℕ, Bool, true, false, cond, ltb, Some, None, refl, ap, ◌∙◌}
 use Rattle.checker_rules.specs.Calls.{attempt, close_by, closing_conflict, count_step, step_limit}
-use Rattle.checker_rules.specs.Headline.{holds}
 use Rattle.checker_rules.specs.Outcome.{accept, ids_exhausted, refuse, steps_exhausted}
-use Rattle.checker_rules.specs.State.{State, irredundant_true, sat, satisfies, units_true}
+use Rattle.checker_rules.specs.State.{State, sat}
 use Rattle.checker_rules.specs.Step.{Step}
-use Rattle.checker_rules.specs.Steps.{new_state, step}
+use Rattle.checker_rules.specs.Steps.{step}
 use Rattle.checker_rules.specs.Store.{id_limit, take_id}
 
 pub sat-count_step : (s : State) (a : ℕ → Bool) → sat (count_step s) a ≡ sat s a

@@ -1,10 +1,10 @@
 -- A run that records `unsat` and adds no input clause refutes what held before it.
 use Rattle.std.proofs.Common.{◌≡◌, ◌⊎◌, ◌≤◌, ℕ, suc, Bool, true, false, ltb, List, [], ◌∷◌, map, Option, Some, None, refl, sym, ap, ◌∙◌, subst, arith, inl, inr}
 use Rattle.std.proofs.lemmas.Bool.{cond_both, or_parts}
+use Rattle.sat_rules.specs.Clauses.{flip}
 use Rattle.checker_rules.specs.AddClause.{step_add_clause}
 use Rattle.checker_rules.specs.AddFormula.{add_clauses}
 use Rattle.checker_rules.specs.Calls.{attempt, close_by, closing_conflict, count_step, step_limit}
-use Rattle.checker_rules.specs.Clauses.{flip}
 use Rattle.checker_rules.specs.Covers.{Covers}
 use Rattle.checker_rules.specs.Headline.{changed, holds, run}
 use Rattle.checker_rules.specs.Outcome.{Cause, Outcome}

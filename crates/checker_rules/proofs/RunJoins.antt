@@ -1,11 +1,12 @@
 -- Runs over texts in parts, their moves, and what they emit.
 use Rattle.std.proofs.Common.{◌≡◌, ◌⊎◌, Bool, true, false, cond, ltb, List, [], ◌∷◌, ◌++◌, map, Option, Some, None, refl, sym, ap, ◌∙◌, subst, inl, inr}
+use Rattle.sat_rules.specs.Named.{Machine}
 use Rattle.checker_rules.specs.CallEmissions.{EmitsCalls}
 use Rattle.checker_rules.specs.Calls.{Call, answer_of, attempt, calls_after, checks, closes, closing_conflict, step_limit}
 use Rattle.checker_rules.specs.CheckedSteps.{NamedStep, hint_steps}
 use Rattle.checker_rules.specs.Headline.{run}
 use Rattle.checker_rules.specs.HintRun.{IsRun, machine_after}
-use Rattle.checker_rules.specs.Machine.{Mirrors, Machine}
+use Rattle.checker_rules.specs.Machine.{Mirrors}
 use Rattle.checker_rules.specs.Outcome.{Cause, steps_exhausted}
 use Rattle.checker_rules.specs.Reaching.{MovesAre, Reaches, RunsJoin}
 use Rattle.checker_rules.specs.Run.{Runs, Stop, after_attempt, after_read, as_answer, move}

@@ -1,7 +1,7 @@
 -- Steps, calls and runs leave sound states.
 use Rattle.std.proofs.Common.{◌⊎◌, ltb, List, [], ◌∷◌, Option, Some, None, subst, inl, inr}
 use Rattle.std.proofs.lemmas.Bool.{cond_both}
-use Rattle.checker_rules.specs.Calls.{Call, adds, answer_of, attempt, calls_after, checks, closes, closing_conflict, count_step, fail, step_limit}
+use Rattle.checker_rules.specs.Calls.{Call, adds, answer_of, attempt, calls_after, checks, closes, closing_conflict, count_step, step_limit}
 use Rattle.checker_rules.specs.Headline.{run}
 use Rattle.checker_rules.specs.Outcome.{Cause, Outcome}
 use Rattle.checker_rules.specs.Run.{Stop, after_attempt, after_read, move}

@@ -4,6 +4,7 @@ use Rattle.std.proofs.Common.{map, length, replicate, Option, Some, None, refl, 
 use Rattle.std.specs.List.{list_any, list_all}
 use Rattle.std.proofs.lemmas.Bool.{or_parts, eqb-false, ltb-false, cond_both}
 use Rattle.std.proofs.lemmas.List.{length-replicate}
+use Rattle.sat_rules.specs.Clauses.{is_canonical, is_tautology, negate, var_of}
 use Rattle.checker_rules.specs.AddClause.{step_add_clause, store_input, take_input}
 use Rattle.checker_rules.specs.Assumptions.{step_assumptions}
 use Rattle.checker_rules.specs.AtClause.{step_at_clause, store_derived}
@@ -12,7 +13,6 @@ use Rattle.checker_rules.specs.Canonical.{canonical, is_subset, var_bound}
 use Rattle.checker_rules.specs.ChangeHashBits.{step_change_hash_bits}
 use Rattle.checker_rules.specs.ChangeSamplingMode.{mode_is, step_change_sampling_mode}
 use Rattle.checker_rules.specs.Check.{apply_if_named, check, ready, some_pending_name}
-use Rattle.checker_rules.specs.Clauses.{is_canonical, is_tautology, negate, var_of}
 use Rattle.checker_rules.specs.DeleteClause.{delete_justified, forget, is_short, justified, subsumed_by}
 use Rattle.checker_rules.specs.DeleteVar.{close_conflict, drop_unit, holds_var, is_conflict_on, step_delete_var}
 use Rattle.checker_rules.specs.FailedAssumptions.{step_failed_assumptions}

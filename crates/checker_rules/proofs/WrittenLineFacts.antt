@@ -8,16 +8,15 @@ use Rattle.std.specs.List.{list_any, list_all}
 use Rattle.std.proofs.lemmas.Bool.{eqb-true, eqb-false, lt-ltb, le-ltb, ltb-true, ltb-false, false≢true, ne_eqb}
 use Rattle.std.proofs.lemmas.List.{take-append-drop}
 use Rattle.std.proofs.lemmas.Option.{none-some}
+use Rattle.sat_rules.specs.Clauses.{IsChain, add_lit, is_unit_on, negate}
+use Rattle.sat_rules.specs.HintLines.{Follows, Listed, adds_clause, after_line, deletes_clauses, line_cause, list_from, listing}
+use Rattle.sat_rules.specs.Named.{IsAdmitted, Machine, NamedBy, drop_id, negated_set, put_id}
+use Rattle.sat_rules.proofs.HintLineFacts.{passes, some-same}
 use Rattle.checker_rules.specs.CallEmissions.{empty_machine}
 use Rattle.checker_rules.specs.Canonical.{canonical, insert_lit}
-use Rattle.checker_rules.specs.Clauses.{IsChain, add_lit, is_unit_on, negate}
 use Rattle.checker_rules.specs.FormulaEmissions.{input_steps}
-use Rattle.checker_rules.specs.HintLines.{Follows, Listed, adds_clause, after_line, deletes_clauses, line_cause, list_from, listing}
 use Rattle.checker_rules.specs.HintRun.{HintStep, IsRun, fails_core, lowers, puts_derived, puts_input, removes}
-use Rattle.checker_rules.specs.Hints.{IsAdmitted, NamedBy, negated_set}
-use Rattle.checker_rules.specs.Machine.{Machine, drop_id, put_id}
 use Rattle.checker_rules.specs.WrittenLines.{LinesFollow, Writer, after_written, lines_of, new_writer, no_input, number_of}
-use Rattle.checker_rules.proofs.HintLineFacts.{passes, some-same}
 
 -- the same literals, whatever is asked of them
 pub record Same (c d : List ℕ) : Type 0 where

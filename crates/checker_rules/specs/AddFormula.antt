@@ -4,8 +4,8 @@
 --     FormulasAreFold, FormulasCover      what that changes: the accepted clauses count as steps
 --     FormulasJoin      a list of clauses added in two parts, as a loop does
 use Rattle.std.specs.Prelude.{◌≡◌, ℕ, Bool, List, [], ◌∷◌, ◌++◌, map, Option, Some, None}
+use Rattle.sat_rules.specs.Clauses.{all_true}
 use Rattle.checker_rules.specs.Calls.{adds, calls_after}
-use Rattle.checker_rules.specs.Clauses.{all_true}
 use Rattle.checker_rules.specs.Covers.{Covers}
 use Rattle.checker_rules.specs.Headline.{EntailsRedundant, holds}
 use Rattle.checker_rules.specs.Outcome.{Cause, Outcome, accept, and_then}

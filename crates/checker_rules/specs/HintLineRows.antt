@@ -1,8 +1,8 @@
 -- Rows on lines of hints: what a checker of hints answers, and what a writer writes. In the notes literals are written as in DIMACS.
 use Rattle.std.specs.Prelude.{◌≡◌, List, [], ◌∷◌, true, false, Some, None}
-use Rattle.checker_rules.specs.HintLines.{Listed, adds_clause, after_line, deletes_clauses, id_not_greater, line_cause, listing, no_conflict, not_unit, unknown_id}
+use Rattle.sat_rules.specs.HintLines.{Listed, adds_clause, after_line, deletes_clauses, id_not_greater, line_cause, listing, no_conflict, not_unit, unknown_id}
+use Rattle.sat_rules.specs.Clauses.{neg, pos}
 use Rattle.checker_rules.specs.HintRun.{HintStep, lowers, puts_derived, puts_input, removes}
-use Rattle.checker_rules.specs.Rows.{neg, pos}
 use Rattle.checker_rules.specs.WrittenLines.{after_written, input_after_derived, lines_of, new_writer, too_many_inputs, writer_fault}
 
 -- [1] and [-1]

@@ -1,9 +1,9 @@
 -- Rows on the hint machine: what it admits, and what it does not.
 use Rattle.std.specs.Prelude.{ℕ, List, [], ◌∷◌, true, false}
+use Rattle.sat_rules.specs.Named.{Machine, put_id}
+use Rattle.sat_rules.specs.Clauses.{neg, pos}
 use Rattle.checker_rules.specs.CallEmissions.{empty_machine}
 use Rattle.checker_rules.specs.HintRun.{IsRun, MayDo, fails_core, lowers, puts_derived, puts_input, removes}
-use Rattle.checker_rules.specs.Machine.{Machine, put_id}
-use Rattle.checker_rules.specs.Rows.{neg, pos}
 
 -- [1] under 3 and [-1] under 4
 abbrev pub two_clauses : Machine

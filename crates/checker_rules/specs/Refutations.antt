@@ -2,8 +2,8 @@
 --     RunsRefute      then no member is left of what held before the run
 --     FormulasAreRefuted      on a new checker, no assignment satisfies the formula
 use Rattle.std.specs.Prelude.{◌≡◌, ◌⊎◌, ℕ, Bool, true, false, List, Option, None}
+use Rattle.sat_rules.specs.Clauses.{all_true}
 use Rattle.checker_rules.specs.AddFormula.{add_clauses}
-use Rattle.checker_rules.specs.Clauses.{all_true}
 use Rattle.checker_rules.specs.Covers.{Covers}
 use Rattle.checker_rules.specs.Outcome.{Cause}
 use Rattle.checker_rules.specs.Run.{Runs}

@@ -4,21 +4,13 @@
 --     answers s calls, transcribed s calls      what a list of calls answers; what a transcript takes of it
 --     shown_names s call      the names shown with what a call emits
 --     call ⇒ answer, Plays s row      a line of a row; the row holds
-use Rattle.std.specs.Prelude.{◌≡◌, ℕ, ◌-◌, ◌*◌, List, [], ◌∷◌, ◌++◌, map, Option, Some, None}
+use Rattle.std.specs.Prelude.{◌≡◌, ℕ, List, [], ◌∷◌, ◌++◌, map, Option, Some, None}
 use Rattle.checker_rules.specs.Calls.{Call, answer_of}
 use Rattle.checker_rules.specs.CheckedSteps.{CheckedStep}
 use Rattle.checker_rules.specs.Outcome.{Cause}
 use Rattle.checker_rules.specs.State.{Known, State, Stored}
 use Rattle.checker_rules.specs.Traced.{traced_by}
 use Rattle.checker_rules.specs.Transcript.{TranscriptStep, images}
-
--- the literal of a DIMACS number, and that of its negation
-abbrev pub pos : ℕ → ℕ
-pos n = 2 * n - 2
-
--- the negation of the literal of a DIMACS number
-abbrev pub neg : ℕ → ℕ
-neg n = 2 * n - 1
 
 -- what a call answers, with the steps that it emits; a refusal bears the number of steps attempted
 pub data Answer : Type 0 where

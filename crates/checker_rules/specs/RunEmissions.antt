@@ -4,11 +4,12 @@
 --     RunsRunMachine      it is a run of the hint machine, whose map follows the state
 use Rattle.std.specs.Prelude.{◌≡◌, ◌⊎◌, if◌then◌else◌, nat_lt, List, [], ◌∷◌, ◌++◌, map, Option}
 use Rattle.std.proofs.Common.{inl, inr}
+use Rattle.sat_rules.specs.Named.{Machine}
 use Rattle.checker_rules.specs.CallEmissions.{EmitsCall, EmitsCalls}
 use Rattle.checker_rules.specs.Calls.{Call, attempt, calls_after, checks, closes, step_limit}
 use Rattle.checker_rules.specs.CheckedSteps.{NamedStep, hint_steps}
 use Rattle.checker_rules.specs.HintRun.{IsRun, machine_after}
-use Rattle.checker_rules.specs.Machine.{Mirrors, Machine}
+use Rattle.checker_rules.specs.Machine.{Mirrors}
 use Rattle.checker_rules.specs.Outcome.{Cause}
 use Rattle.checker_rules.specs.Reaching.{Reaches}
 use Rattle.checker_rules.specs.Run.{Runs, move}

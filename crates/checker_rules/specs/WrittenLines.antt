@@ -7,9 +7,9 @@
 --     LinesFollow      those of a run are accepted after the formula's clauses
 use Rattle.std.specs.Prelude.{◌≡◌, ℕ, suc, ◌+◌, ◌^◌, Bool, true, false, if◌then◌else◌, ◌||◌, ◌==◌, nat_le, List, [], ◌∷◌, ◌++◌, length, map, take, Option, Some, None}
 use Rattle.std.specs.List.{list_any}
+use Rattle.sat_rules.specs.HintLines.{Follows, HintLine, Listed, adds_clause, deletes_clauses, listing}
 use Rattle.checker_rules.specs.CallEmissions.{empty_machine}
 use Rattle.checker_rules.specs.FormulaEmissions.{input_steps}
-use Rattle.checker_rules.specs.HintLines.{Follows, HintLine, Listed, adds_clause, deletes_clauses, listing}
 use Rattle.checker_rules.specs.HintRun.{HintStep, IsRun, fails_core, lowers, puts_derived, puts_input, removes}
 
 -- the announced number, the ids of the input clauses told and how many they were, whether a derived clause was told, the number of the last addition

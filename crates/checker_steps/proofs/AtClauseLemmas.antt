@@ -1,9 +1,9 @@
 -- The step of a derived clause, part by part.
 use Rattle.std.proofs.Common.{◌≡◌, ℕ, Bool, true, false, cond, not, List, Some, None, ◌∙◌, arith}
+use Rattle.sat_rules.specs.Clauses.{is_tautology}
 use Rattle.checker_rules.specs.AtClause.{set_previous, store_derived}
 use Rattle.checker_rules.specs.Canonical.{canonical}
 use Rattle.checker_rules.specs.Check.{ready}
-use Rattle.checker_rules.specs.Clauses.{is_tautology}
 use Rattle.checker_rules.specs.Outcome.{Cause, Outcome, accept, and_then, refuse, tautology}
 use Rattle.checker_rules.specs.State.{State}
 use Rattle.checker_rules.specs.Step.{at_clause}

@@ -3,10 +3,11 @@ use Rattle.std.proofs.Common.{◌≡◌, ℕ, ◌<◌, Bool, true, false, cond, 
 use Rattle.std.specs.List.{list_any, list_all}
 use Rattle.std.proofs.lemmas.Bool.Decides.{nat_tests}
 use Rattle.std.proofs.lemmas.Bool.{and_parts, both_ways, eq-eqb, false_from_ne_true, lt-ltb, ltb-true, or_left, or_right}
+use Rattle.sat_rules.specs.Clauses.{has, is_canonical, is_tautology, negate, var_of}
+use Rattle.sat_rules.proofs.Members.{any_at, any_from}
 use Rattle.checker_rules.specs.Canonical.{canonical, insert_lit, is_subset}
 use Rattle.checker_rules.specs.Check.{check, ready}
 use Rattle.checker_rules.specs.CheckedSteps.{NamedStep, checked_failed_assumptions, named_in}
-use Rattle.checker_rules.specs.Clauses.{has, is_canonical, is_tautology, negate, var_of}
 use Rattle.checker_rules.specs.KnownVars.{user_from_proof_var}
 use Rattle.checker_rules.specs.Outcome.{Cause, Outcome, accept, core_var_hidden, not_assumed, refuse}
 use Rattle.checker_rules.specs.State.{State}
@@ -15,7 +16,6 @@ use Rattle.checker_rules.specs.Steps.{step}
 use Rattle.checker_rules.specs.Traced.{check_trace, traced, traced_when}
 use Rattle.checker_rules.proofs.StepKinds.{step-failed_assumptions}
 use Rattle.checker_rules.proofs.TracedSteps.{core_apart}
-use Rattle.checker_rules.proofs.Walks.{any_at, any_from}
 use Rattle.checker_steps.specs.Derived.{steps_unless}
 use Rattle.checker_steps.specs.FailedCore.{core_cause, core_clause, core_steps}
 use Rattle.checker_steps.proofs.DerivedLemmas.{check-after}

@@ -2,9 +2,9 @@
 use Rattle.std.proofs.Common.{◌≡◌, ℕ, ◌-◌, Bool, true, false, cond, not, ◌&&◌, eqb, List, [], ◌∷◌, Option, None, Some, Ok, Err, is_some, sym, ap, ◌∙◌, subst, arith}
 use Rattle.std.specs.List.{list_all}
 use Rattle.std.proofs.lemmas.Grind.{common_steps}
+use Rattle.sat_rules.specs.Clauses.{is_tautology}
 use Rattle.checker_rules.specs.Canonical.{canonical}
 use Rattle.checker_rules.specs.CheckedSteps.{NamedStep, checked_delete_at_clause, checked_delete_clause, named_in}
-use Rattle.checker_rules.specs.Clauses.{is_tautology}
 use Rattle.checker_rules.specs.DeleteClause.{delete_justified, forget, justified}
 use Rattle.checker_rules.specs.Emits.{Emits, EmitsRefused, emits_deletion, emits_lowered, previous_id}
 use Rattle.checker_rules.specs.Outcome.{Outcome, delete_irredundant_is_redundant, delete_redundant_is_irredundant, refuse, tautology}

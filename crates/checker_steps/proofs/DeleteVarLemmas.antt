@@ -4,8 +4,8 @@ use Rattle.std.proofs.Common.{get_or, if◌then◌else◌, Option, None, Some, r
 use Rattle.std.specs.List.{list_any}
 use Rattle.std.proofs.lemmas.Bool.{lt-ltb}
 use Rattle.std.proofs.lemmas.Bool.Decides.{nat_tests}
+use Rattle.sat_rules.specs.Clauses.{has, var_of}
 use Rattle.checker_rules.specs.CheckedSteps.{checked_at_clause, named_in}
-use Rattle.checker_rules.specs.Clauses.{has, var_of}
 use Rattle.checker_rules.specs.DeleteVar.{holds_var, is_conflict_on}
 use Rattle.checker_rules.specs.Emits.{emits_closing}
 use Rattle.checker_rules.specs.Hints.{unit_lit}

@@ -2,8 +2,8 @@
 use Rattle.std.proofs.Common.{◌≡◌, ℕ, ◌+◌, Bool, true, false, not, List, Some, None, refl, ap, ◌∙◌, arith, lt-ltb}
 use Rattle.std.proofs.Math.Bool.{and-false}
 use Rattle.std.proofs.lemmas.Bool.{lt-leb}
+use Rattle.sat_rules.specs.Clauses.{is_tautology}
 use Rattle.checker_rules.specs.AddClause.{store_input}
-use Rattle.checker_rules.specs.Clauses.{is_tautology}
 use Rattle.checker_rules.specs.Emits.{emits_input, is_only_redundant}
 use Rattle.checker_rules.specs.Outcome.{Cause, Outcome, refuse}
 use Rattle.checker_rules.specs.State.{State}

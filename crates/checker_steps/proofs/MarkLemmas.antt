@@ -1,7 +1,7 @@
 -- Judging the literals of a model one after the other, those before being marked.
 use Rattle.std.proofs.Common.{◌≡◌, ℕ, Bool, true, false, cond, not, ◌&&◌, ◌||◌, eqb, List, [], ◌∷◌, Option, None, Some, refl, sym, ap, ◌∙◌, arith}
 use Rattle.std.specs.List.{list_all}
-use Rattle.checker_rules.specs.Clauses.{add_lit, has, negate, var_of}
+use Rattle.sat_rules.specs.Clauses.{add_lit, has, negate, var_of}
 use Rattle.checker_rules.specs.KnownVars.{is_known}
 use Rattle.checker_rules.specs.Model.{is_false_by_unit, model_cause}
 use Rattle.checker_rules.specs.Outcome.{Cause, model_against_itself, model_against_unit, model_misses_assumption, model_misses_clause}

@@ -42,6 +42,6 @@ abbrev pub derived_steps : State → Bool → List ℕ → List ℕ → List Nam
 derived_steps s redundant c hs = steps_unless (derived s redundant c hs).refused
     (traced_derived (ready s c) redundant c hs)
 
--- the same list, where a processor is registered; transcripts see no propagations
+-- the ids are those that are told, where a processor is registered; transcripts see no propagations
 abbrev pub IsTraceFor : {P : Type 0} → List P → List ℕ → List ℕ → Type 0
 IsTraceFor processors told ids = (processors ≡ [] → ⊥) → told ≡ ids

@@ -4,10 +4,10 @@
 --     core_steps s c hs      what is delivered on of a core without opposite literals, with the trace of its check
 use Rattle.std.specs.Prelude.{ℕ, if◌then◌else◌, not, List, [], ◌∷◌, map, Option, None, Some, is_none}
 use Rattle.std.specs.List.{list_any}
+use Rattle.sat_rules.specs.Clauses.{negate, var_of}
 use Rattle.checker_rules.specs.Canonical.{canonical, is_subset}
 use Rattle.checker_rules.specs.Check.{check, ready}
 use Rattle.checker_rules.specs.CheckedSteps.{NamedStep, checked_failed_assumptions, named_in}
-use Rattle.checker_rules.specs.Clauses.{negate, var_of}
 use Rattle.checker_rules.specs.KnownVars.{user_from_proof_var}
 use Rattle.checker_rules.specs.Outcome.{Cause, accept, core_var_hidden, not_assumed}
 use Rattle.checker_rules.specs.State.{State}

@@ -24,7 +24,7 @@ has_failed (Err Failed) = true
 abbrev pub IsFailed : {A : Type 0} → Result A CheckerError → Type 0
 IsFailed r = r ≡ Err Failed
 
--- the same of a text of clauses
+-- a checker that has failed answers so to a text of clauses
 abbrev pub IsTextFailed : {A : Type 0} → Result A DimacsError → Type 0
 IsTextFailed r = r ≡ Err (Checker Failed)
 

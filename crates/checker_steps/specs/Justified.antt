@@ -1,7 +1,7 @@
 -- What justifies the deletion of a clause.
 use Rattle.std.specs.Prelude.{◌≡◌, ℕ, Bool, true, false, if◌then◌else◌, List, Option, None, Some, Result, Ok, Err}
 use Rattle.std.specs.Option.{option_map}
-use Rattle.checker_rules.specs.Clauses.{var_of}
+use Rattle.sat_rules.specs.Clauses.{var_of}
 use Rattle.checker_rules.specs.DeleteClause.{delete_justified, forget, justified, subsumed_by}
 use Rattle.checker_rules.specs.Emits.{first_true, previous_id}
 use Rattle.checker_rules.specs.Outcome.{refuse}

@@ -2,7 +2,7 @@
 --     is_marked marks l, HasPlaces marks known      whether a literal is marked; a place for each literal of a known variable
 --     MarksOnly marks ls      no literal but those of the list is marked
 use Rattle.std.specs.Prelude.{ℕ, ◌≡◌, ◌<◌, ◌^◌, Bool, false, slice_index_or, List, length}
-use Rattle.checker_rules.specs.Clauses.{has, var_of}
+use Rattle.sat_rules.specs.Clauses.{has, var_of}
 use Rattle.checker_rules.specs.State.{Known}
 
 -- whether the literal is marked

@@ -4,8 +4,8 @@
 --     IsJudged r cause      the answer of the code names that cause
 use Rattle.std.specs.Prelude.{ℕ, ◌≡◌, Bool, if◌then◌else◌, not, List, [], Option, Some, None, Result, Ok, Err}
 use Rattle.std.specs.List.{list_all, list_any}
+use Rattle.sat_rules.specs.Clauses.{negate, var_of}
 use Rattle.checker_rules.specs.Canonical.{is_subset}
-use Rattle.checker_rules.specs.Clauses.{negate, var_of}
 use Rattle.checker_rules.specs.KnownVars.{is_known}
 use Rattle.checker_rules.specs.Model.{has_some, is_false_by_unit, model_cause}
 use Rattle.checker_rules.specs.Outcome.{Cause, model_against_itself, model_against_unit, model_misses_assumption, model_misses_clause, unknown_var}

@@ -50,8 +50,8 @@ pub fn add_clause<P: ProofProcessor, T: ProofTranscriptProcessor>(
         (Emits (context_state ctx.old) (steps.add_clause lits.now))
         P.took P.faulted T.took T.faulted (listeners_of ctx.old.processing)
         (listeners_of ctx.new.processing) }
-    ensures after_unsat { (context_state ctx.old).unsat ≡ true →
-        (result ≡ Ok tt) × (ctx.new ≡ ctx.old) }
+    ensures after_unsat { (context_state ctx.old).unsat ≡ true
+        → (result ≡ Ok tt) × (ctx.new ≡ ctx.old) }
 {
     let taken = crate::steps::add_clause::add_clause(alloc, ctx, lits);
     ctx.processing.answer(alloc, ctx.checker_state.step, taken)
@@ -70,8 +70,8 @@ pub fn check_step<P: ProofProcessor, T: ProofTranscriptProcessor>(
     ensures delivered { Delivered result (Emits (context_state ctx.old) (view step.now))
         P.took P.faulted T.took T.faulted (listeners_of ctx.old.processing)
         (listeners_of ctx.new.processing) }
-    ensures idle { wants_no_memory (context_state ctx.old).unsat (view step.now) ≡ true →
-        has_failed result ≡ false }
+    ensures idle { wants_no_memory (context_state ctx.old).unsat (view step.now) ≡ true
+        → has_failed result ≡ false }
 {
     let taken = take_step(alloc, ctx, step);
     ctx.processing.answer(alloc, ctx.checker_state.step, taken)
@@ -91,8 +91,8 @@ fn take_step<P: ProofProcessor, T: ProofTranscriptProcessor>(
     ensures delivered { DeliveredList result (Emits (context_state ctx.old) (view step.now))
         P.took P.faulted T.took T.faulted (listeners_of ctx.old.processing)
         (listeners_of ctx.new.processing) }
-    ensures idle { wants_no_memory (context_state ctx.old).unsat (view step.now) ≡ true →
-        has_stopped result ≡ false }
+    ensures idle { wants_no_memory (context_state ctx.old).unsat (view step.now) ≡ true
+        → has_stopped result ≡ false }
 {
     match step {
         ProofStep::SolverVarName { global, solver } => solver_var_name(ctx, *global, *solver),
@@ -123,7 +123,8 @@ fn take_step<P: ProofProcessor, T: ProofTranscriptProcessor>(
     }
 }
 
-/// Counts a step and takes it, up to its fault. Where no step number is left it is refused before anything of it is looked at.
+/// Counts a step and takes it, up to its fault. Where no step number is left it is refused before
+/// anything of it is looked at.
 #[inline(always)]
 pub fn take_counted<P: ProofProcessor, T: ProofTranscriptProcessor>(
     alloc: Global,
@@ -138,8 +139,8 @@ pub fn take_counted<P: ProofProcessor, T: ProofTranscriptProcessor>(
         (EmitsCall (context_state ctx.old) (checks (view step.now)))
         P.took P.faulted T.took T.faulted (listeners_of ctx.old.processing)
         (listeners_of ctx.new.processing) }
-    ensures idle { wants_no_memory (context_state ctx.old).unsat (view step.now) ≡ true →
-        has_stopped result ≡ false }
+    ensures idle { wants_no_memory (context_state ctx.old).unsat (view step.now) ≡ true
+        → has_stopped result ≡ false }
     ensures exhausted { step_limit ≤ (context_state ctx.old).steps → has_stopped result ≡ false }
 {
     if ctx.checker_state.step == u64::MAX {
@@ -149,7 +150,8 @@ pub fn take_counted<P: ProofProcessor, T: ProofTranscriptProcessor>(
     take_step(alloc, ctx, step)
 }
 
-/// The error of a step's fault at this number. A step that was refused is shown in it, where it was looked at.
+/// The error of a step's fault at this number. A step that was refused is shown in it, where it was
+/// looked at.
 #[inline(never)]
 pub fn step_error<P: ProofProcessor, T: ProofTranscriptProcessor>(
     alloc: Global,
@@ -165,7 +167,8 @@ pub fn step_error<P: ProofProcessor, T: ProofTranscriptProcessor>(
     processing.error(number, fault, text)
 }
 
-/// Counts a step and checks it. Where no step number is left it is refused before anything of it is looked at.
+/// Counts a step and checks it. Where no step number is left it is refused before anything of it is
+/// looked at.
 pub fn attempt_step<P: ProofProcessor, T: ProofTranscriptProcessor>(
     alloc: Global,
     ctx: &mut ContextOf<P, T>,
@@ -179,8 +182,8 @@ pub fn attempt_step<P: ProofProcessor, T: ProofTranscriptProcessor>(
         (EmitsCall (context_state ctx.old) (checks (view step.now)))
         P.took P.faulted T.took T.faulted (listeners_of ctx.old.processing)
         (listeners_of ctx.new.processing) }
-    ensures idle { wants_no_memory (context_state ctx.old).unsat (view step.now) ≡ true →
-        has_failed result ≡ false }
+    ensures idle { wants_no_memory (context_state ctx.old).unsat (view step.now) ≡ true
+        → has_failed result ≡ false }
     ensures exhausted { step_limit ≤ (context_state ctx.old).steps → has_failed result ≡ false }
 {
     match take_counted(alloc, ctx, step) {
@@ -192,7 +195,8 @@ pub fn attempt_step<P: ProofProcessor, T: ProofTranscriptProcessor>(
     }
 }
 
-/// The closing conflict: where a unit conflict is recorded, an id is taken for it, and the empty clause is handed on.
+/// The closing conflict: where a unit conflict is recorded, an id is taken for it, and the empty
+/// clause is handed on.
 pub fn process_unit_conflicts<P: ProofProcessor, T: ProofTranscriptProcessor>(
     alloc: Global,
     ctx: &mut ContextOf<P, T>,
@@ -210,7 +214,7 @@ pub fn process_unit_conflicts<P: ProofProcessor, T: ProofTranscriptProcessor>(
     ctx.processing.answer(alloc, ctx.checker_state.step, closed)
 }
 
-/// The same, up to its fault.
+/// Closes a conflict of units; a fault is left for the caller to name.
 fn close_unit_conflict<P: ProofProcessor, T: ProofTranscriptProcessor>(
     ctx: &mut ContextOf<P, T>,
 ) -> Result<(), StepFault>
@@ -250,7 +254,8 @@ pub fn refusal(alloc: Global, state: &CheckerState, msg: CheckCause) -> CheckerE
     }
 }
 
-/// The text of a step that is refused, where memory for it is found. Of another fault none is shown.
+/// The text of a step that is refused, where memory for it is found. Of another fault none is
+/// shown.
 fn refused_text(alloc: Global, fault: StepFault, refused: &ProofStep) -> String {
     match fault {
         StepFault::Refused(CheckCause::StepsExhausted) => String::new(alloc),
@@ -259,7 +264,8 @@ fn refused_text(alloc: Global, fault: StepFault, refused: &ProofStep) -> String 
     }
 }
 
-/// The text of a step, or none where memory for it was refused. Refused user names and assumptions show none.
+/// The text of a step, or none where memory for it was refused. Refused user names and assumptions
+/// show none.
 fn step_text(alloc: Global, step: &ProofStep) -> String {
     if let ProofStep::UserVarName { .. } | ProofStep::Assumptions { .. } = step {
         return String::new(alloc);

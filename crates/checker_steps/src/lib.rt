@@ -1,4 +1,5 @@
-//! The steps over the parts of a checker: each kind's effect, and what processors and transcripts are told of it.
+//! The steps over the parts of a checker: each kind's effect, and what processors and transcripts
+//! are told of it.
 #![tactic(auto)]
 
 pub mod check;

@@ -41,9 +41,11 @@ impl<P: ProofProcessor, T: ProofTranscriptProcessor> ProcessingOf<P, T> {
         }
     }
 
-    /// Delivers a step to the processors, and then its image to the transcripts, each in order of registration, up to the first fault.
+    /// Delivers a step to the processors, and then its image to the transcripts, each in order of
+    /// registration, up to the first fault.
     ///
-    /// Where memory was refused, nothing is known of what the boxes took. A fault that one answers stays here until `error` takes it.
+    /// Where memory was refused, nothing is known of what the boxes took. A fault that one answers
+    /// stays here until `error` takes it.
     #[inline(always)]
     pub fn step(&mut self, step: &CheckedProofStep, names: CheckerData) -> Result<(), StepFault>
         ensures delivers { DeliveredStep result (told step.now names.entry.0.now)
@@ -58,7 +60,7 @@ impl<P: ProofProcessor, T: ProofTranscriptProcessor> ProcessingOf<P, T> {
         }
     }
 
-    /// The same, whatever is registered.
+    /// Tells the step to all that is registered.
     #[inline(never)]
     fn deliver(&mut self, step: &CheckedProofStep, names: CheckerData) -> Result<(), StepFault>
         ensures delivers { DeliveredStep result (told step.now names.entry.0.now)

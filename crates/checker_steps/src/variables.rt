@@ -30,8 +30,8 @@ use sat_formula::{Lit, Var};
 
 /// Whether some known variable of the literals is not in mode `Sample`.
 pub(crate) fn some_not_sampling(variables: &Variables, lits: &[Lit]) -> bool
-    ensures { (st : CheckerState) (h : ClauseHasher) (cs : Clauses) →
-        result ≡ some_not_sampling (state_of st h cs variables.now) lits.now }
+    ensures { (st : CheckerState) (h : ClauseHasher) (cs : Clauses)
+        → result ≡ some_not_sampling (state_of st h cs variables.now) lits.now }
 {
     for lit in lits {
         if variables.get(lit.var()).sampling_mode != SamplingMode::Sample {
@@ -56,19 +56,20 @@ pub fn ensure_var(
     Ok(())
 }
 
-/// Makes a variable known as `ensure_var` does, unless it is known and in another mode than `Sample`.
+/// Makes a variable known as `ensure_var` does, unless it is known and in another mode than
+/// `Sample`.
 pub fn ensure_sampling_var(
     clauses: &mut Clauses,
     variables: &mut Variables,
     var: Var,
 ) -> Result<(), StepFault>
     requires { length clauses.old.unit_clauses ≡ length variables.old }
-    ensures answer { (st : CheckerState) (h : ClauseHasher) →
-        AnswersOutcome result (sampling_var (index_of var)
+    ensures answer { (st : CheckerState) (h : ClauseHasher)
+        → AnswersOutcome result (sampling_var (index_of var)
         (state_of st h clauses.old variables.old))
         (state_of st h clauses.new variables.new) }
-    ensures store { (h : ClauseHasher) → IsStore h clauses.old →
-        UnlessStopped result (IsStore h clauses.new) }
+    ensures store { (h : ClauseHasher) → IsStore h clauses.old
+        → UnlessStopped result (IsStore h clauses.new) }
     ensures known { UnlessStopped result (length clauses.new.unit_clauses ≡ length variables.new) }
 {
     if variables.get(var).sampling_mode != SamplingMode::Sample {
@@ -86,15 +87,15 @@ pub fn add_user_mapping<P: ProofProcessor, T: ProofTranscriptProcessor>(
     user_var: Var,
 ) -> Result<(), StepFault>
     requires { length clauses.old.unit_clauses ≡ length variables.old }
-    ensures step { (st : CheckerState) (h : ClauseHasher) →
-        AnswersOutcome result (step (state_of st h clauses.old variables.old)
+    ensures step { (st : CheckerState) (h : ClauseHasher)
+        → AnswersOutcome result (step (state_of st h clauses.old variables.old)
         (rules.user_var_name (index_of global) (Some (index_of user_var))))
         (state_of st h clauses.new variables.new) }
-    ensures store { (h : ClauseHasher) → IsStore h clauses.old →
-        UnlessStopped result (IsStore h clauses.new) }
+    ensures store { (h : ClauseHasher) → IsStore h clauses.old
+        → UnlessStopped result (IsStore h clauses.new) }
     ensures known { UnlessStopped result (length clauses.new.unit_clauses ≡ length variables.new) }
-    ensures delivered { (st : CheckerState) (h : ClauseHasher) →
-        DeliveredList result (Emits (state_of st h clauses.old variables.old)
+    ensures delivered { (st : CheckerState) (h : ClauseHasher)
+        → DeliveredList result (Emits (state_of st h clauses.old variables.old)
         (rules.user_var_name (index_of global) (Some (index_of user_var))))
         P.took P.faulted T.took T.faulted (listeners_of processing.old)
         (listeners_of processing.new) }
@@ -120,15 +121,15 @@ pub fn remove_user_mapping<P: ProofProcessor, T: ProofTranscriptProcessor>(
     global: Var,
 ) -> Result<(), StepFault>
     requires { length clauses.old.unit_clauses ≡ length variables.old }
-    ensures step { (st : CheckerState) (h : ClauseHasher) →
-        AnswersOutcome result (step (state_of st h clauses.old variables.old)
+    ensures step { (st : CheckerState) (h : ClauseHasher)
+        → AnswersOutcome result (step (state_of st h clauses.old variables.old)
         (rules.user_var_name (index_of global) None))
         (state_of st h clauses.new variables.new) }
-    ensures store { (h : ClauseHasher) → IsStore h clauses.old →
-        UnlessStopped result (IsStore h clauses.new) }
+    ensures store { (h : ClauseHasher) → IsStore h clauses.old
+        → UnlessStopped result (IsStore h clauses.new) }
     ensures known { UnlessStopped result (length clauses.new.unit_clauses ≡ length variables.new) }
-    ensures delivered { (st : CheckerState) (h : ClauseHasher) →
-        DeliveredList result (Emits (state_of st h clauses.old variables.old)
+    ensures delivered { (st : CheckerState) (h : ClauseHasher)
+        → DeliveredList result (Emits (state_of st h clauses.old variables.old)
         (rules.user_var_name (index_of global) None)) P.took P.faulted T.took T.faulted
         (listeners_of processing.old) (listeners_of processing.new) }
 {
@@ -158,7 +159,8 @@ fn naming_cause(variables: &Variables, global: Var, user_var: Var) -> Option<Che
     None
 }
 
-/// The mode of a variable as it is shown beside the variable's user name. A hidden variable has none.
+/// The mode of a variable as it is shown beside the variable's user name. A hidden variable has
+/// none.
 pub(crate) fn shown_mode(mode: SamplingMode) -> CheckedSamplingMode
     ensures { samples result ≡ is_sample (mode_of mode) }
 {

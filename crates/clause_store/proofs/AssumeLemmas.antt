@@ -5,15 +5,16 @@ use Rattle.std.specs.List.{list_any}
 use Rattle.std.proofs.lemmas.Bool.{both_ways, cases_eq, eq-eqb, eqb-true, false_from_ne_true, false≢true, ne_eqb, or_cases, or_from, or_left, or_right, true_from_ne_false}
 use Rattle.std.proofs.lemmas.List.{take_all, take_more}
 use Rattle.std.proofs.lemmas.List.Folds.{list_any-append, list_any_at, list_any_more}
+use Rattle.sat_rules.specs.Clauses.{has, is_negative, is_tautology, negate, var_of}
+use Rattle.sat_rules.specs.Named.{negated_set}
+use Rattle.sat_rules.proofs.Chains.{negate-negate}
+use Rattle.sat_rules.proofs.Members.{any_at, any_from}
 use Rattle.checker_rules.specs.Canonical.{var_bound}
-use Rattle.checker_rules.specs.Clauses.{has, is_negative, is_tautology, negate, var_of}
 use Rattle.checker_rules.specs.DeleteVar.{holds_var}
-use Rattle.checker_rules.specs.Hints.{negated_set, unlisted_at}
+use Rattle.checker_rules.specs.Hints.{unlisted_at}
 use Rattle.checker_rules.specs.State.{StoredUnit, lit_by_unit, some_true_unit, start_set}
-use Rattle.checker_rules.proofs.Chains.{negate-negate}
 use Rattle.checker_rules.proofs.Models.{negative_negate}
 use Rattle.checker_rules.proofs.Traces.{var-negate}
-use Rattle.checker_rules.proofs.Walks.{any_at, any_from}
 use Rattle.clause_store.specs.declared.clauses.units.UnitClause.{UnitClause}
 use Rattle.clause_store.specs.Rup.{true_lits}
 use Rattle.clause_store.specs.StateOf.{stored_units}

@@ -5,8 +5,8 @@ use Rattle.std.specs.Option.{option_map}
 use Rattle.std.proofs.lemmas.Bool.{and_from, and_parts, leb-true}
 use Rattle.std.proofs.lemmas.List.{length-map}
 use Rattle.std.proofs.lemmas.List.Elements.{All-cons, All-nil}
+use Rattle.sat_rules.specs.Clauses.{is_canonical, is_tautology}
 use Rattle.checker_rules.specs.Canonical.{var_bound}
-use Rattle.checker_rules.specs.Clauses.{is_canonical, is_tautology}
 use Rattle.checker_rules.specs.DeleteClause.{is_short}
 use Rattle.checker_rules.specs.Exact.{AllCanonical, walk_check}
 use Rattle.checker_rules.specs.State.{Known, State, Stored, all_lits, bucket, buckets}

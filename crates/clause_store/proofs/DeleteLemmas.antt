@@ -2,9 +2,9 @@
 use Rattle.std.proofs.Common.{◌≡◌, ℕ, ◌+◌, ◌-◌, ◌<◌, Bool, true, false, cond, not, ◌&&◌, ◌||◌, eqb, List, [], ◌∷◌, length, get_or, map, refl, sym, ap, ◌∙◌, subst, arith, eq-eqb}
 use Rattle.std.specs.List.{filter, list_all}
 use Rattle.std.proofs.lemmas.Bool.{and_from, and_parts, not-true}
+use Rattle.sat_rules.specs.Clauses.{has}
 use Rattle.checker_rules.specs.Buckets.{of_hash, remaining}
 use Rattle.checker_rules.specs.Canonical.{same_list}
-use Rattle.checker_rules.specs.Clauses.{has}
 use Rattle.checker_rules.specs.DeleteClause.{is_short}
 use Rattle.checker_rules.specs.LiveLiterals.{live_literals, live_of}
 use Rattle.checker_rules.specs.State.{Stored}

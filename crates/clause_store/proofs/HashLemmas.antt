@@ -9,7 +9,7 @@ use Rattle.std.proofs.lemmas.Bool.Decides.{nat_tests}
 use Rattle.std.proofs.lemmas.List.{at_drop_more, at_drop_all, nil_from_length}
 use Rattle.sat_formula.specs.Vars.{indexes_of}
 use Rattle.sat_formula.specs.declared.lit.Var.{Var}
-use Rattle.checker_rules.specs.Clauses.{is_negative, var_of}
+use Rattle.sat_rules.specs.Clauses.{is_negative, var_of}
 use Rattle.checker_rules.specs.State.{clause_hash, lit_code_hash, named_hash, xor_hash}
 use Rattle.clause_store.specs.Names.{names_of}
 

@@ -3,7 +3,7 @@ use Rattle.std.proofs.Common.{◌≡◌, ℕ, zero, suc, ◌+◌, ◌-◌, ◌*�
 use Rattle.std.proofs.Math.ListN.{get_or-append, get_or-eq_default}
 use Rattle.std.proofs.lemmas.Bool.{cases_lt}
 use Rattle.std.proofs.lemmas.List.{length-replicate}
-use Rattle.checker_rules.specs.Clauses.{has}
+use Rattle.sat_rules.specs.Clauses.{has}
 use Rattle.checker_rules.specs.State.{Stored}
 use Rattle.checker_rules.specs.Store.{raise}
 use Rattle.checker_rules.proofs.Sets.{raise-lits}

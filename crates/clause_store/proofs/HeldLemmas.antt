@@ -7,8 +7,8 @@ use Rattle.std.proofs.Math.Seq.{take-append_seam}
 use Rattle.std.proofs.lemmas.Bool.{and_parts, cases_eq, cases_lt, ne_eqb}
 use Rattle.std.proofs.lemmas.List.{get_or_default}
 use Rattle.std.proofs.lemmas.List.Folds.{list_any_more}
+use Rattle.sat_rules.specs.Clauses.{has, is_canonical}
 use Rattle.checker_rules.specs.Canonical.{var_bound}
-use Rattle.checker_rules.specs.Clauses.{has, is_canonical}
 use Rattle.clause_store.specs.Counts.{HoldOneMore}
 
 -- a literal with a count is one of a known variable

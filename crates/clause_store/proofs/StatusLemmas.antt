@@ -2,9 +2,9 @@
 use Rattle.std.proofs.Common.{◌≡◌, ℕ, zero, suc, [], arith, ◌+◌, ◌<◌, Bool, false, cond, List, ◌∷◌, length, drop, get_or, Option, None, Some, refl, sym, ap, ◌∙◌}
 use Rattle.std.specs.List.{list_any}
 use Rattle.std.proofs.lemmas.List.{drop_more}
+use Rattle.sat_rules.specs.Clauses.{unfalsified, var_of}
 use Rattle.checker_rules.specs.Canonical.{var_bound}
-use Rattle.checker_rules.specs.Clauses.{var_of}
-use Rattle.checker_rules.specs.Passes.{by_count, unfalsified}
+use Rattle.checker_rules.specs.Passes.{by_count}
 use Rattle.clause_store.specs.declared.clauses.units.UnitClause.{UnitClause}
 use Rattle.clause_store.specs.declared.rup.status.ClauseStatus.{ClauseStatus}
 use Rattle.clause_store.specs.declared.rup.status.ClauseStatus.TheVariants as statuses

@@ -5,7 +5,7 @@ use Rattle.std.proofs.lemmas.Bool.{and_parts, and_right, cases_eq, eq-eqb, false
 use Rattle.std.proofs.lemmas.Grind.{get_or-set_at}
 use Rattle.std.proofs.lemmas.List.{append-nil, append_assoc, get_or-set_other}
 use Rattle.std.proofs.lemmas.List.Elements.{All-head, All-tail}
-use Rattle.checker_rules.specs.Clauses.{is_negative, negate, var_of}
+use Rattle.sat_rules.specs.Clauses.{is_negative, negate, var_of}
 use Rattle.checker_rules.specs.Hints.{listing, unit_item, visit, without_lit}
 use Rattle.checker_rules.specs.State.{makes_true, same_bool, unit_of}
 use Rattle.checker_rules.specs.Store.{unit_id}

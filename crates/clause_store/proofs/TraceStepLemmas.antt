@@ -3,8 +3,9 @@ use Rattle.std.proofs.Common.{◌≡◌, ℕ, ◌<◌, Bool, true, false, not, �
 use Rattle.std.specs.Option.{option_map}
 use Rattle.std.proofs.lemmas.Bool.{and_right, cases_eq, ne_eqb}
 use Rattle.std.proofs.lemmas.List.{append_assoc, map-append}
-use Rattle.checker_rules.specs.Clauses.{add_lit, negate, var_of}
-use Rattle.checker_rules.specs.Hints.{Item, prepend, stored_item, trace, unlisted_at}
+use Rattle.sat_rules.specs.Clauses.{add_lit, negate, var_of}
+use Rattle.sat_rules.specs.Named.{Item}
+use Rattle.checker_rules.specs.Hints.{prepend, stored_item, trace, unlisted_at}
 use Rattle.checker_rules.specs.State.{Stored, start_set}
 use Rattle.checker_rules.specs.Traced.{ids_of}
 use Rattle.clause_store.specs.declared.clauses.units.UnitClause.{UnitClause}

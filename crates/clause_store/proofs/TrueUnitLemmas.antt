@@ -2,7 +2,7 @@
 use Rattle.std.proofs.Common.{◌≡◌, ℕ, true, false, List, ◌∷◌, Option, None, Some, is_some, refl, sym, ap, ◌∙◌}
 use Rattle.std.specs.Option.{option_map}
 use Rattle.std.proofs.lemmas.Bool.{false≢true}
-use Rattle.checker_rules.specs.Clauses.{var_of}
+use Rattle.sat_rules.specs.Clauses.{var_of}
 use Rattle.checker_rules.specs.State.{makes_true}
 use Rattle.checker_rules.specs.Store.{unit_id}
 use Rattle.clause_store.specs.declared.clauses.units.UnitClause.{UnitClause}

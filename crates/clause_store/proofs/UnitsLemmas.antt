@@ -5,7 +5,7 @@ use Rattle.std.proofs.lemmas.Bool.{cases_eq, eq-eqb, ne_eqb}
 use Rattle.std.proofs.lemmas.Bool.Decides.{nat_tests}
 use Rattle.std.proofs.lemmas.Grind.{get_or-set_at}
 use Rattle.std.proofs.lemmas.List.{get_or-set_other}
-use Rattle.checker_rules.specs.Clauses.{add_lit, is_negative, negate, var_of}
+use Rattle.sat_rules.specs.Clauses.{add_lit, is_negative, negate, var_of}
 use Rattle.checker_rules.specs.State.{makes_true, same_bool, unit_of}
 use Rattle.checker_rules.proofs.Models.{negative_negate}
 use Rattle.checker_rules.proofs.Traces.{var-negate}

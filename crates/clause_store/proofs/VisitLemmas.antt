@@ -2,9 +2,10 @@
 use Rattle.std.proofs.Common.{◌≡◌, ℕ, Bool, true, false, cond, not, eqb, List, [], ◌∷◌, ◌++◌, Option, Some, refl, sym, ap, ◌∙◌}
 use Rattle.std.specs.List.{list_any}
 use Rattle.std.proofs.lemmas.Bool.{and_parts, true≢false}
-use Rattle.checker_rules.specs.Clauses.{add_lit, negate}
-use Rattle.checker_rules.specs.Hints.{Item, Visit, freeing, listing, on_visit, prepend, stored_item, trace, unit_item, visit, without_lit}
-use Rattle.checker_rules.specs.Passes.{by_count, unfalsified}
+use Rattle.sat_rules.specs.Clauses.{add_lit, negate, unfalsified}
+use Rattle.sat_rules.specs.Named.{Item}
+use Rattle.checker_rules.specs.Hints.{Visit, freeing, listing, on_visit, prepend, stored_item, trace, unit_item, visit, without_lit}
+use Rattle.checker_rules.specs.Passes.{by_count}
 use Rattle.checker_rules.specs.State.{Stored, StoredUnit}
 use Rattle.clause_store.specs.declared.rup.status.ClauseStatus.{ClauseStatus}
 use Rattle.clause_store.specs.declared.rup.status.ClauseStatus.TheVariants as statuses

@@ -2,9 +2,9 @@
 use Rattle.std.proofs.Common.{◌≡◌, ℕ, ◌<◌, ◌≤◌, Bool, true, false, not, cond, ◌&&◌, eqb, List, [], ◌∷◌, length, set, Option, None, Some, refl, sym, ap, ◌∙◌, arith, inl, inr}
 use Rattle.std.specs.List.{list_any, list_all}
 use Rattle.std.proofs.lemmas.Bool.{and_parts, eqb-true, false≢true, not-true, or_cases}
+use Rattle.sat_rules.specs.Clauses.{add_lit, has, is_negative, negate, unfalsified, var_of}
 use Rattle.checker_rules.specs.Canonical.{var_bound}
-use Rattle.checker_rules.specs.Clauses.{add_lit, has, is_negative, negate, var_of}
-use Rattle.checker_rules.specs.Passes.{by_count, unfalsified, walk}
+use Rattle.checker_rules.specs.Passes.{by_count, walk}
 use Rattle.checker_rules.proofs.Walks.{unit_here}
 use Rattle.clause_store.specs.declared.clauses.units.UnitClause.{UnitClause}
 use Rattle.clause_store.specs.declared.rup.status.ClauseStatus.TheVariants as statuses

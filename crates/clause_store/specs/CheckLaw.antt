@@ -1,6 +1,6 @@
 -- The answer of the check, in the state that the parts stand for.
 use Rattle.std.specs.Prelude.{◌≡◌, ℕ, true, false, List}
-use Rattle.checker_rules.specs.Clauses.{is_tautology}
+use Rattle.sat_rules.specs.Clauses.{is_tautology}
 use Rattle.checker_rules.specs.Exact.{walk_check}
 use Rattle.checker_rules.specs.Passes.{none_empty}
 use Rattle.checker_rules.specs.State.{Known, State, buckets, clause_passes}

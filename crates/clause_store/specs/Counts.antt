@@ -3,7 +3,7 @@
 --     HoldOneMore c old new      each literal of c is held once more
 --     AreCounts counts n es      the counts of all literals of the first n variables
 use Rattle.std.specs.Prelude.{◌≡◌, ℕ, ◌+◌, ◌*◌, if◌then◌else◌, List, [], ◌∷◌, length, slice_index}
-use Rattle.checker_rules.specs.Clauses.{has}
+use Rattle.sat_rules.specs.Clauses.{has}
 use Rattle.checker_rules.specs.State.{Stored}
 
 -- the number of clauses that hold the literal

@@ -1,7 +1,7 @@
 -- Variables made known.
 use Rattle.std.specs.Prelude.{ℕ, ◌≡◌, ◌-◌, ◌≤◌, ◌*◌, ◌++◌, ◌&&◌, None, replicate, Bool, not, nat_lt, List, length}
 use Rattle.std.specs.List.{list_any}
-use Rattle.checker_rules.specs.Clauses.{var_of}
+use Rattle.sat_rules.specs.Clauses.{var_of}
 use Rattle.checker_rules.specs.KnownVars.{is_sample, know, new_known}
 use Rattle.checker_rules.specs.State.{Known}
 use Rattle.checker_rules.specs.Transcript.{known_at}

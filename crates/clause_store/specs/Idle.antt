@@ -20,7 +20,7 @@ idle_at x h = get nat_eq x.found h
 abbrev pub IsIdle : List (Option UnitClause) → List (List ℕ) → Type 0
 IsIdle us cs = Walks us cs us false
 
--- the same, and it lists nothing after these ids
+-- a walk over these clauses gives no value, falsifies none, and lists nothing after these ids
 pub record IsIdleRun (ids : List ℕ) (us : List (Option UnitClause)) (es : List Stored) : Type 0
   where
     pub walk : IsIdle us (all_lits es)
@@ -40,7 +40,7 @@ pub record Lengthens {A : Type 0} (x : A) (n : ℕ) (y : A) (m : ℕ) : Type 0 w
   pub no_shorter : n ≤ m
   pub still : m ≡ n → y ≡ x
 
--- the same of the values, and of the listed ids
+-- how values and listed ids get longer with the trail
 pub record LengthensRun (us : List (Option UnitClause)) (run : Propagation)
     (vs : List (Option UnitClause)) (now : Propagation) : Type 0 where
   pub units : Lengthens us (length run.trail.items) vs (length now.trail.items)

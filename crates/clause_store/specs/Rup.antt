@@ -1,7 +1,8 @@
 -- What the propagation check finds, in the words of the rules.
 use Rattle.std.specs.Prelude.{◌≡◌, ℕ, Bool, if◌then◌else◌, List, ◌∷◌, map, Option, None, Some, All}
 use Rattle.std.specs.List.{list_any}
-use Rattle.checker_rules.specs.Passes.{CheckAnswer, by_count, failed, no_clause, passed, unfalsified, walk, walk_buckets}
+use Rattle.sat_rules.specs.Clauses.{unfalsified}
+use Rattle.checker_rules.specs.Passes.{CheckAnswer, by_count, failed, no_clause, passed, walk, walk_buckets}
 use Rattle.checker_rules.specs.State.{StoredUnit, all_lits, lit_by_unit, some_true_unit, start_set}
 use Rattle.clause_store.specs.declared.clauses.Clause.{Clause}
 use Rattle.clause_store.specs.declared.clauses.units.UnitClause.{UnitClause}

@@ -1,8 +1,8 @@
 -- What the stored clauses keep between calls, and what storing a clause answers.
 use Rattle.std.specs.Prelude.{◌≡◌, ◌<◌, ◌≤◌, ℕ, ◌+◌, ◌*◌, ◌&&◌, Bool, true, false, if◌then◌else◌, not, ◌==◌, length, Option, Some, None, Result, Ok, Err, List}
 use Rattle.std.specs.List.{list_all}
+use Rattle.sat_rules.specs.Clauses.{is_negative}
 use Rattle.checker_rules.specs.Buckets.{of_hash}
-use Rattle.checker_rules.specs.Clauses.{is_negative}
 use Rattle.checker_rules.specs.DeleteClause.{is_short}
 use Rattle.checker_rules.specs.LiveLiterals.{live_literals}
 use Rattle.checker_rules.specs.Outcome.{Outcome, accept, count_exhausted, ids_exhausted, refuse}

@@ -1,9 +1,10 @@
 -- What a traced check lists.
 use Rattle.std.specs.Prelude.{◌≡◌, ℕ, Bool, true, false, if◌then◌else◌, ◌&&◌, List, [], ◌∷◌, ◌++◌, map, Option, None, Some, All, is_some}
 use Rattle.std.specs.Option.{option_map}
-use Rattle.checker_rules.specs.Clauses.{var_of}
+use Rattle.sat_rules.specs.Clauses.{var_of}
+use Rattle.sat_rules.specs.Named.{Item}
 use Rattle.checker_rules.specs.Emits.{first_true}
-use Rattle.checker_rules.specs.Hints.{Item, Visit, trace, unlisted_at, visit}
+use Rattle.checker_rules.specs.Hints.{Visit, trace, unlisted_at, visit}
 use Rattle.checker_rules.specs.State.{Stored, StoredUnit, some_true_unit, start_set, unit_of}
 use Rattle.checker_rules.specs.Store.{unit_id}
 use Rattle.checker_rules.specs.Traced.{ids_of}

@@ -1,6 +1,6 @@
 -- The values that were overwritten, the oldest first.
 use Rattle.std.specs.Prelude.{◌≡◌, ℕ, ◌<◌, List, [], ◌∷◌, Option, None, All, length, slice_set}
-use Rattle.checker_rules.specs.Clauses.{var_of}
+use Rattle.sat_rules.specs.Clauses.{var_of}
 use Rattle.clause_store.specs.declared.clauses.units.UnitClause.{UnitClause}
 
 -- the values after those of the trail are put back, the newest first

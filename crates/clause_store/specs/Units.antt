@@ -1,7 +1,7 @@
 -- The values of variables.
 use Rattle.std.specs.Prelude.{◌≡◌, ℕ, ◌≤◌, Bool, true, false, not, List, [], ◌∷◌, Option, None, Some, length, slice_index_or, slice_set}
+use Rattle.sat_rules.specs.Clauses.{is_negative, var_of}
 use Rattle.checker_rules.specs.Canonical.{var_bound}
-use Rattle.checker_rules.specs.Clauses.{is_negative, var_of}
 use Rattle.checker_rules.specs.State.{same_bool}
 use Rattle.clause_store.specs.declared.clauses.units.Source.{Source}
 use Rattle.clause_store.specs.declared.clauses.units.Source.TheVariants.{Stored, Derived, Negated}
@@ -70,7 +70,7 @@ value_by (Some u) m = Some (same_bool u.value (not (is_negative m)))
 abbrev pub lit_value : List (Option UnitClause) → ℕ → Option Bool
 lit_value us m = value_by (unit_at us (var_of m)) m
 
--- the same with what gives the variable its value
+-- the value of a literal, with what gives its variable a value
 abbrev pub signed_unit : Option UnitClause → ℕ → Option (Bool × UnitClause)
 signed_unit None m = None
 signed_unit (Some u) m = Some (same_bool u.value (not (is_negative m)), u)

@@ -112,8 +112,8 @@ impl Clauses {
     #[tactic(auto, unfolding(checker_rules::specs::Store::id_limit))]
     pub fn take_id(&mut self) -> Option<u64>
         ensures id { SomeIff result (self.old.next_clause_id < id_limit) self.old.next_clause_id }
-        ensures taken { OnSome result (self.new ≡
-            record self.old { next_clause_id = self.old.next_clause_id + 1 }) }
+        ensures taken { OnSome result (self.new
+            ≡ record self.old { next_clause_id = self.old.next_clause_id + 1 }) }
         ensures unchanged { IfNone result (self.new ≡ self.old) }
         ensures store { (h : ClauseHasher) → IsStore h self.old → IsStore h self.new }
     {

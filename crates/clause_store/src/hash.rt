@@ -102,8 +102,8 @@ fn unnamed_lit_hash(lit: Lit) -> ClauseHash
     lit_code_hash(lit.code() + 2 * Var::MAX_COUNT)
 }
 
-/// Sets the width, applies the pending names and removals, and puts every clause into the bucket of its hash.
-/// Where no hash changes no clause is moved. After an error the parts are of no use.
+/// Sets the width, applies the pending names and removals, and puts every clause into the bucket of
+/// its hash. Where no hash changes no clause is moved. After an error the parts are of no use.
 pub fn rehash(
     alloc: Global,
     hasher: &mut ClauseHasher,
@@ -113,9 +113,9 @@ pub fn rehash(
     requires some_bits { 0 < bits }
     requires bits { bits ≤ 64 }
     requires store { IsStore hasher.old clauses.old }
-    ensures state { OnOk result ((st : CheckerState) (known : List Known) →
-        state_of st hasher.new clauses.new known ≡
-        apply_pending (record (state_of st hasher.old clauses.old known) { width = bits })) }
+    ensures state { OnOk result ((st : CheckerState) (known : List Known)
+        → state_of st hasher.new clauses.new known
+        ≡ apply_pending (record (state_of st hasher.old clauses.old known) { width = bits })) }
     ensures store { OnOk result (IsStore hasher.new clauses.new) }
 {
     let renamed = apply_names(&mut hasher.solver_names, &hasher.pending.entries)?;
@@ -135,9 +135,9 @@ pub fn apply_pending_names(
     clauses: &mut Clauses,
 ) -> Result<(), AllocError>
     requires { IsStore hasher.old clauses.old }
-    ensures state { OnOk result ((st : CheckerState) (known : List Known) →
-        state_of st hasher.new clauses.new known ≡
-        apply_if_named (state_of st hasher.old clauses.old known)) }
+    ensures state { OnOk result ((st : CheckerState) (known : List Known)
+        → state_of st hasher.new clauses.new known
+        ≡ apply_if_named (state_of st hasher.old clauses.old known)) }
     ensures store { OnOk result (IsStore hasher.new clauses.new) }
 {
     if hasher.pending.some_name() {
@@ -153,10 +153,10 @@ fn apply_names(
     names: &mut HashMap<usize, Var>,
     pending: &[(Var, Option<Var>)],
 ) -> Result<bool, AllocError>
-    ensures applied { OnOk result (names_of names.new ≡
-        apply_names (names_of names.old) (map indexes pending.now)) }
-    ensures changed { IfOk result (λ changed. changed ≡ false →
-        names_of names.new ≡ names_of names.old) }
+    ensures applied { OnOk result (names_of names.new
+        ≡ apply_names (names_of names.old) (map indexes pending.now)) }
+    ensures changed { IfOk result (λ changed. changed ≡ false
+        → names_of names.new ≡ names_of names.old) }
 {
     let mut changed = false;
     for (var, name) in pending {
@@ -171,10 +171,10 @@ fn apply_name(
     index: usize,
     name: Option<Var>,
 ) -> Result<bool, AllocError>
-    ensures applied { OnOk result (names_of names.new ≡
-        apply_name (names_of names.old) (index, indexes_of name)) }
-    ensures changed { IfOk result (λ changed. changed ≡ false →
-        names_of names.new ≡ names_of names.old) }
+    ensures applied { OnOk result (names_of names.new
+        ≡ apply_name (names_of names.old) (index, indexes_of name)) }
+    ensures changed { IfOk result (λ changed. changed ≡ false
+        → names_of names.new ≡ names_of names.old) }
 {
     let old = match name {
         Some(name) => names.insert(index, name)?,

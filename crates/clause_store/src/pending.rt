@@ -35,8 +35,8 @@ impl PendingNames {
 
     /// Adds a name of a variable, or that its name goes.
     pub fn push(&mut self, var: Var, name: Option<Var>) -> Result<(), AllocError>
-        ensures ok { OnOk result (self.new.entries.items ≡
-            self.old.entries.items ++ (var, name) ∷ []) }
+        ensures ok { OnOk result (self.new.entries.items
+            ≡ self.old.entries.items ++ (var, name) ∷ []) }
         ensures err { OnErr result (self.new.entries.items ≡ self.old.entries.items) }
     {
         self.entries.push((var, name))?;

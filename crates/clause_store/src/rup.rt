@@ -9,7 +9,7 @@ mod untraced;
 mod walk;
 
 ghost use Rattle.std.specs.Prelude.{◌≡◌, [], false, length, true, IfOk};
-ghost use Rattle.checker_rules.specs.Clauses.{is_tautology};
+ghost use Rattle.sat_rules.specs.Clauses.{is_tautology};
 ghost use Rattle.checker_rules.specs.Passes as rules;
 ghost use Rattle.checker_rules.specs.State.{some_true_unit, start_set};
 ghost use Rattle.checker_rules.specs.Traced.{ids_of};
@@ -66,7 +66,8 @@ impl RupCheck {
     }
 }
 
-/// Whether a clause follows by propagation from the clauses that the hashes name, in the order named.
+/// Whether a clause follows by propagation from the clauses that the hashes name, in the order
+/// named.
 ///
 /// A clause with a literal that is true already passes whatever the hashes are. Only a traced check
 /// that passes changes `trace_ids`; out of memory, nothing is said of them.
@@ -99,7 +100,7 @@ pub fn check_clause(
     }
 }
 
-/// The same, traced.
+/// Checks a clause, and lists the clauses that its check rests on.
 fn check_traced(
     rup: &mut RupCheck,
     units: &mut Units,
@@ -156,8 +157,8 @@ fn walk_negated(
         IfOk result (λ a. check_answer a
         ≡ rules.walk_buckets (start_set (stored_units units.old) lits.now) named) }
     ensures listed { let named = named_clauses buffer.now buckets.now hashes.now in
-        IfOk result (λ a. a ≡ Answer.Passed →
-        run.new.trace.items ≡ ids_of (open_trace (stored_units units.old) lits.now named)) }
+        IfOk result (λ a. a ≡ Answer.Passed
+        → run.new.trace.items ≡ ids_of (open_trace (stored_units units.old) lits.now named)) }
     ensures undoable { IsUndoable units.old run.old.trail.items units.new run.new.trail.items }
 {
     assume_false(units, &mut run.trail, lits)?;

@@ -12,14 +12,15 @@ use std::alloc::Global;
 use std::collections::HashMap;
 use std::test::Fail;
 
-// The literals of the clause.
+/// The literals of the clause.
 fn two_lits() -> Result<[Lit; 2], Fail> {
     let first = Lit::from_code(0).ok_or("no literal")?;
     let second = Lit::from_code(2).ok_or("no literal")?;
     Ok([first, second])
 }
 
-// The clause stands alone in the bucket of hash 5, with all the irredundant copies that can be counted.
+/// The clause stands alone in the bucket of hash 5, with all the irredundant copies that can be
+/// counted.
 fn full(alloc: Global, lits: [Lit; 2]) -> Result<Buckets, Fail>
     ensures within { IfOk result (λ buckets. All (λ c. IsWithin c.lits []) (clauses_at buckets 5)) }
     ensures apart { IfOk result (λ buckets. are_apart (stored_in [] buckets 5) ≡ true) }
@@ -44,7 +45,7 @@ fn no_further_copy_is_counted(rt: HostRuntime) -> Result<(), Fail> {
     Ok(())
 }
 
-// The other kind has a count of its own.
+/// The other kind has a count of its own.
 #[test]
 fn copies_of_the_other_kind_are_counted(rt: HostRuntime) -> Result<(), Fail> {
     let lits = two_lits()?;

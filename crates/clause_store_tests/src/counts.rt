@@ -7,14 +7,14 @@ use std::test::Fail;
 
 const MOST: usize = u32::MAX as usize;
 
-// The literal of this code.
+/// The literal of this code.
 fn lit(code: usize) -> Result<Lit, Fail>
     ensures { IfOk result (λ lit. lit ≡ code) }
 {
     Ok(Lit::from_code(code).ok_or("no literal")?)
 }
 
-// A count passes four bytes, and comes back. Those beside it stay, and new ones begin at 0.
+/// A count passes four bytes, and comes back. Those beside it stay, and new ones begin at 0.
 #[test]
 fn counts_widen(rt: HostRuntime) -> Result<(), Fail> {
     let (full, beside, new) = (lit(0)?, lit(1)?, lit(3)?);

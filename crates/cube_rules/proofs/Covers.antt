@@ -4,8 +4,8 @@ use Rattle.std.proofs.lemmas.Bool.{false≢true}
 use Rattle.std.proofs.lemmas.List.Folds.{list_all-append}
 use Rattle.std.proofs.lemmas.List.Elements.{All-cons, All-head, All-nil, All-tail}
 use Rattle.std.specs.List.{All}
-use Rattle.checker_rules.specs.Clauses.{all_true, clause_true, lit_true}
-use Rattle.checker_rules.proofs.Chains.{lit_true-negate}
+use Rattle.sat_rules.specs.Clauses.{all_true, clause_true, lit_true}
+use Rattle.sat_rules.proofs.Chains.{lit_true-negate}
 use Rattle.cube_rules.specs.Cubes.{CubesCover, IsRefuted, clause_against, units_of}
 
 -- all literals of the cube are true, or the clause against it is

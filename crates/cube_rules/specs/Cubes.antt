@@ -4,7 +4,7 @@
 --     CubesCover      what the parts and the cover say of the formula
 use Rattle.std.specs.Prelude.{◌≡◌, ℕ, Bool, false, List, [], ◌∷◌, ◌++◌, map}
 use Rattle.std.specs.List.{All}
-use Rattle.checker_rules.specs.Clauses.{all_true, negate}
+use Rattle.sat_rules.specs.Clauses.{all_true, negate}
 
 -- a unit clause for each literal
 abbrev pub units_of : List ℕ → List (List ℕ)

@@ -1,7 +1,7 @@
 //! Runs: a proof is checked, and its verdict is written.
 ghost use Rattle.std.specs.Prelude.{◌≡◌, ℕ, Bool, false, List, IfOk, Ok};
 ghost use Rattle.std.specs.Io.KnownBytes.{Appends};
-ghost use Rattle.checker_rules.specs.Clauses.{all_true};
+ghost use Rattle.sat_rules.specs.Clauses.{all_true};
 ghost use Rattle.sat_formula.specs.Refuted.{IsRefuted};
 ghost use Rattle.drat_check.specs.Runs.{BeginsLine, BeginsLineAfter, IsCheckRun, IsProofRun, IsRefusedRun, IsUnwritten};
 ghost use Rattle.verdicts.specs.Verdicts.{shown_line};

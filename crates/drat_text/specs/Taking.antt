@@ -54,7 +54,7 @@ Looks old new source (Err stops.Read) = Keeps old new × IsStopped source
 Looks old new source (Err (stops.Wrong kind)) = ⊥
 Looks old new source (Err stops.OutOfMemory) = Unit {0}
 
--- the same where the first byte is a `d`: by the first 4,096 bytes
+-- what a look by the first 4,096 bytes finds, where the first byte is a `d`
 abbrev pub LooksOn : {R : Type 0} → Option (List ℕ) → Option (List ℕ) → Source R →
     Result Format Stop → Type 0
 LooksOn old new source (Ok format) =

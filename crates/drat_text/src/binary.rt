@@ -34,7 +34,7 @@ pub(crate) fn binary_step<R: Read>(bytes: &mut Bytes<R>, lits: &mut Vec<Lit>) ->
     Ok(Found { action, last })
 }
 
-// What a step does that begins with this byte.
+/// What a step does that begins with this byte.
 fn action_of(byte: u8) -> Option<Action>
     ensures { begun result ≡ outside formats.Binary byte }
 {
@@ -47,7 +47,7 @@ fn action_of(byte: u8) -> Option<Action>
     }
 }
 
-// Reads literals to the step's 0.
+/// Reads literals to the step's 0.
 fn codes<R: Read>(bytes: &mut Bytes<R>, into: &mut Vec<Lit>) -> Result<(), Stop>
     ensures read { (action : Action) → ReadsCodes action into.new.items
         (unread_bytes R.remaining bytes.old) (unread_bytes R.remaining bytes.new)
@@ -62,7 +62,7 @@ fn codes<R: Read>(bytes: &mut Bytes<R>, into: &mut Vec<Lit>) -> Result<(), Stop>
     }
 }
 
-// Reads the next literal, or the step's 0.
+/// Reads the next literal, or the step's 0.
 #[inline(always)]
 fn next_code<R: Read>(bytes: &mut Bytes<R>) -> Result<Option<Lit>, Stop>
     ensures read { (action : Action) (lits : List ℕ) → ReadsCode action lits
@@ -77,7 +77,7 @@ fn next_code<R: Read>(bytes: &mut Bytes<R>) -> Result<Option<Lit>, Stop>
     }
 }
 
-// Reads a number: seven bits a byte, the low ones first.
+/// Reads a number: seven bits a byte, the low ones first.
 #[inline(always)]
 fn number<R: Read>(bytes: &mut Bytes<R>) -> Result<u64, Stop>
     ensures read { (action : Action) (lits : List ℕ) → ReadsNumber action lits

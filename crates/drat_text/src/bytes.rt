@@ -103,7 +103,7 @@ impl<R: Read> Bytes<R> {
         Ok(Format::Text)
     }
 
-    // Looks on where the next byte is a `d`.
+    /// Looks on where the next byte is a `d`.
     fn look_on(&mut self) -> Result<Format, Stop>
         ensures format { LooksOn (unread_bytes R.remaining self.old)
             (unread_bytes R.remaining self.new) self.new.source result }
@@ -122,8 +122,8 @@ impl<R: Read> Bytes<R> {
         Ok(Format::Text)
     }
 
-    // The byte at a place of those to come, if there is one. It stands in front from then on, as
-    // those before it do already.
+    /// The byte at a place of those to come, if there is one. It stands in front from then on, as
+    /// those before it do already.
     fn peek(&mut self, place: usize) -> Result<Option<u8>, Stop>
         requires { place ≤ length (front_of self.old) }
         ensures peek { Peeks (unread_bytes R.remaining self.old)
@@ -137,7 +137,7 @@ impl<R: Read> Bytes<R> {
         self.pull()
     }
 
-    // The next byte of the source, if there is one. It stands in front from then on, as the last.
+    /// The next byte of the source, if there is one. It stands in front from then on, as the last.
     fn pull(&mut self) -> Result<Option<u8>, Stop>
         ensures peek { Peeks (unread_bytes R.remaining self.old)
             (unread_bytes R.remaining self.new) (length (front_of self.old)) self.new.source

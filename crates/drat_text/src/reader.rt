@@ -78,8 +78,8 @@ impl<R: Read> DratReader<R> {
     ///
     /// The step's literals stand in the reader and serve until the next call. A read that fails is
     /// not tried again, and what was not read to the end of its step is not judged; where it fails
-    /// before the format is told, no step is given. After the end or a fault every call answers that
-    /// there is no step, and nothing more is read.
+    /// before the format is told, no step is given. After the end or a fault every call answers
+    /// that there is no step, and nothing more is read.
     pub fn next_step(&mut self) -> Result<Option<DratStep<'_>>, DratFault>
         ensures after_end { has_ended self.old ≡ true → result ≡ Ok None }
         ensures* after_borrow { sem 𝓛 (Rests (the_row R.row) self.entry
@@ -91,7 +91,7 @@ impl<R: Read> DratReader<R> {
         }
     }
 
-    // The step that was read into the list.
+    /// The step that was read into the list.
     fn shown(&self, action: Action) -> DratStep<'_>
         ensures { view result ≡ step_of action self.now.lits.items }
     {
@@ -101,7 +101,7 @@ impl<R: Read> DratReader<R> {
         }
     }
 
-    // Reads a step into the list, or ends.
+    /// Reads a step into the list, or ends.
     fn begin(&mut self) -> Result<Option<Action>, DratFault>
         ensures reads { has_ended self.old ≡ false
             → Answers R.remaining (λ action. step_of action self.new.lits.items) self.old self.new
@@ -126,7 +126,7 @@ impl<R: Read> DratReader<R> {
         }
     }
 
-    // Reads a step into the list.
+    /// Reads a step into the list.
     fn read(&mut self) -> Result<Found, Stop>
         ensures { ReadsOn R.remaining self.old self.new result }
     {
@@ -136,7 +136,7 @@ impl<R: Read> DratReader<R> {
         }
     }
 
-    // The format, by the first bytes where it was not told before.
+    /// The format, by the first bytes where it was not told before.
     fn format(&mut self) -> Result<Format, Stop>
         ensures { SeesFormat R.remaining self.old self.new result }
     {
@@ -148,7 +148,7 @@ impl<R: Read> DratReader<R> {
         Ok(format)
     }
 
-    // What a stop answers.
+    /// What a stop answers.
     fn stopped(&self, stop: Stop) -> Result<Option<Action>, DratFault>
         requires { stop ≡ Stop.Read → IsStopped self.now.bytes.source }
         ensures { Explains self.now.bytes.source self.now.steps stop result }

@@ -8,7 +8,7 @@ use std::io::{ErrorKind, Read};
 use std::process::Abort;
 use std::test::Fail;
 
-// So many bytes a read, and a failure at the read of this number, counted from 1.
+/// So many bytes a read, and a failure at the read of this number, counted from 1.
 #[derive(Drop)]
 struct Pieces<'a> {
     bytes: &'a [u8],
@@ -39,7 +39,7 @@ fn write_lits(lits: &[Lit], all: &mut String) -> Result<(), AllocError> {
     write!(all, "; ")
 }
 
-// Each step, as `add` or `delete` with its literals, and the end or the text of a fault.
+/// Each step, as `add` or `delete` with its literals, and the end or the text of a fault.
 fn shown<R: Read + Drop>(alloc: Global, inner: R) -> Result<String, Fail> {
     let mut reader = DratReader::new(alloc, inner);
     let mut all = String::new(alloc);

@@ -52,7 +52,7 @@ pub(crate) fn text_step<R: Read>(bytes: &mut Bytes<R>, lits: &mut Vec<Lit>) -> R
     })
 }
 
-// The first byte of a step. Blanks and comments before it are passed over.
+/// The first byte of a step. Blanks and comments before it are passed over.
 fn first_byte<R: Read>(bytes: &mut Bytes<R>) -> Result<u8, Stop>
     ensures read { ReadsFirst
         (unread_bytes R.remaining bytes.old) (unread_bytes R.remaining bytes.new)
@@ -71,7 +71,7 @@ fn first_byte<R: Read>(bytes: &mut Bytes<R>) -> Result<u8, Stop>
     }
 }
 
-// Passes over the rest of a comment, and the LF after it.
+/// Passes over the rest of a comment, and the LF after it.
 fn comment<R: Read>(bytes: &mut Bytes<R>) -> Result<(), Stop>
     ensures read { ReadsTo Outside
         (unread_bytes R.remaining bytes.old) (unread_bytes R.remaining bytes.new)
@@ -85,8 +85,8 @@ fn comment<R: Read>(bytes: &mut Bytes<R>) -> Result<(), Stop>
     }
 }
 
-// Reads literals to the step's 0, the first of which begins with this byte, and answers whether the
-// input ended with it.
+/// Reads literals to the step's 0, the first of which begins with this byte, and answers whether
+/// the input ended with it.
 fn literals_from<R: Read>(
     bytes: &mut Bytes<R>,
     first: u8,
@@ -109,7 +109,7 @@ fn literals_from<R: Read>(
     }
 }
 
-// Reads literals to the step's 0, and answers whether the input ended with it.
+/// Reads literals to the step's 0, and answers whether the input ended with it.
 fn literals<R: Read>(bytes: &mut Bytes<R>, into: &mut Vec<Lit>) -> Result<bool, Stop>
     ensures read { (action : Action) → ReadsLiterals action into.new.items
         (unread_bytes R.remaining bytes.old) (unread_bytes R.remaining bytes.new)
@@ -125,7 +125,7 @@ fn literals<R: Read>(bytes: &mut Bytes<R>, into: &mut Vec<Lit>) -> Result<bool, 
     }
 }
 
-// Reads the next word, and the blank or LF after it.
+/// Reads the next word, and the blank or LF after it.
 fn next_word<R: Read>(bytes: &mut Bytes<R>) -> Result<Word, Stop>
     ensures read { (action : Action) (lits : List ℕ) → ReadsWord action lits
         (unread_bytes R.remaining bytes.old) (unread_bytes R.remaining bytes.new)
@@ -141,7 +141,7 @@ fn next_word<R: Read>(bytes: &mut Bytes<R>) -> Result<Word, Stop>
     }
 }
 
-// Reads on a number that begins with this byte.
+/// Reads on a number that begins with this byte.
 fn number<R: Read>(bytes: &mut Bytes<R>, first: u8) -> Result<Word, Stop>
     requires { is_space first ≡ false }
     ensures read { (action : Action) (lits : List ℕ) → ReadsWord action lits
@@ -157,7 +157,7 @@ fn number<R: Read>(bytes: &mut Bytes<R>, first: u8) -> Result<Word, Stop>
     digits(bytes, false, first)
 }
 
-// Reads digits, the first of which is this byte.
+/// Reads digits, the first of which is this byte.
 fn digits<R: Read>(bytes: &mut Bytes<R>, negative: bool, first: u8) -> Result<Word, Stop>
     ensures read { (action : Action) (lits : List ℕ) → ReadsWord action lits
         (unread_bytes R.remaining bytes.old) (unread_bytes R.remaining bytes.new)
@@ -179,7 +179,7 @@ fn digits<R: Read>(bytes: &mut Bytes<R>, negative: bool, first: u8) -> Result<Wo
     }
 }
 
-// A digit more. Of a value that is too large for a variable only that is kept.
+/// A digit more. Of a value that is too large for a variable only that is kept.
 #[inline(always)]
 fn with_digit(value: u64, digit: u8) -> u64
     requires { is_digit digit ≡ true }
@@ -188,7 +188,7 @@ fn with_digit(value: u64, digit: u8) -> u64
     value.min(MAX_VARIABLE + 1) * 10 + (digit - b'0') as u64
 }
 
-// A number of this value ended.
+/// A number of this value ended.
 #[inline(always)]
 fn ended(negative: bool, value: u64) -> Result<Word, Stop>
     ensures { (action : Action) (lits : List ℕ) → EndsNumber action lits
@@ -201,7 +201,7 @@ fn ended(negative: bool, value: u64) -> Result<Word, Stop>
     }
 }
 
-// A number of this value ended with the input.
+/// A number of this value ended with the input.
 fn last(negative: bool, value: u64) -> Result<Word, Stop>
     ensures { (action : Action) (lits : List ℕ) → EndsLast action lits
         (last_said action lits (lit_said negative value)) result }

@@ -4,14 +4,14 @@
 --     unread_hints      there was no memory to read it
 use Rattle.std.proofs.Common.{◌≡◌, ℕ, Bool, true, false, List, [], ◌++◌, Option, Some, None, refl, ap, ◌∙◌}
 use Rattle.std.specs.Prelude.{Err, IfSome}
-use Rattle.checker_rules.specs.Clauses.{all_true}
-use Rattle.checker_rules.specs.HintLines.{Listed, listing}
+use Rattle.sat_rules.specs.Clauses.{all_true}
+use Rattle.sat_rules.specs.HintLines.{Listed, listing}
 use Rattle.hint_checker.specs.Checked.{Accepts}
 use Rattle.hint_checker.specs.declared.fault.HintFault.TheVariants.{OutOfMemory}
 use Rattle.hint_check.specs.Runs.{AcceptsHints, ChecksHints, GivesText}
-use Rattle.hint_check.specs.Verdicts.{verdict_of}
+use Rattle.verdicts.specs.Verdicts.{verdict_of}
 use Rattle.hint_check.specs.declared.fault.RunFault.TheVariants.{Hints}
-use Rattle.hint_check.specs.declared.verdict.Verdict.TheVariants.{Verified}
+use Rattle.verdicts.specs.declared.verdict.Verdict.TheVariants.{Verified}
 
 abbrev Known : Type 0
 Known = Option (List ℕ)

@@ -8,18 +8,18 @@ use Rattle.std.specs.Prelude.{◌≡◌, ◌≢◌, ℕ, Bool, false, List, Opti
 use Rattle.std.specs.IoError.{error_kind}
 use Rattle.std.specs.Option.{option_map}
 use Rattle.std.specs.declared.io.ErrorKind.TheVariants.{OutOfMemory}
-use Rattle.checker_rules.specs.Clauses.{all_true}
-use Rattle.checker_rules.specs.HintLines.{Listed, listing}
+use Rattle.sat_rules.specs.Clauses.{all_true}
+use Rattle.sat_rules.specs.HintLines.{Listed, listing}
 use Rattle.sat_formula.specs.Lines.{outcome_of}
 use Rattle.sat_formula.specs.Outcome.{Ended}
 use Rattle.sat_formula.specs.Whole.{FailsAfter, IsOutcome}
 use Rattle.hint_checker.specs.Checked.{Accepts, IsRefusal}
 use Rattle.whole_writes.specs.Beginnings.{AppendsBeginning}
-use Rattle.hint_check.specs.Verdicts.{shown_line, verdict_of}
+use Rattle.verdicts.specs.Verdicts.{shown_line, verdict_of}
 use Rattle.hint_check.specs.declared.fault.RunFault.{RunFault}
 use Rattle.hint_check.specs.declared.fault.RunFault.TheVariants.{Formula, Hints, Read, Write}
-use Rattle.hint_check.specs.declared.verdict.Verdict.{Verdict}
-use Rattle.hint_check.specs.declared.verdict.Verdict.TheVariants.{Verified}
+use Rattle.verdicts.specs.declared.verdict.Verdict.{Verdict}
+use Rattle.verdicts.specs.declared.verdict.Verdict.TheVariants.{Verified}
 
 -- a reader with these bytes gave this text
 abbrev pub GivesText : Option (List ℕ) → List ℕ → Type 0

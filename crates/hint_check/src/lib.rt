@@ -5,10 +5,7 @@
 
 mod fault;
 mod run;
-mod status;
-mod verdict;
 
 pub use fault::RunFault;
 pub use run::run_check;
-pub use status::exit_status;
-pub use verdict::Verdict;
+pub use verdicts::{Verdict, exit_status};

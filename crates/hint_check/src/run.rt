@@ -5,23 +5,23 @@ ghost use Rattle.std.specs.Io.KnownBytes.{Appends};
 ghost use Rattle.sat_formula.specs.Refuted.{IsRefuted};
 ghost use Rattle.whole_writes.specs.Beginnings.{AppendsBeginning};
 ghost use Rattle.hint_check.specs.Runs.{BeginsLine, ChecksHints, CheckRun, IsRefusedRun, IsUnwritten};
-ghost use Rattle.hint_check.specs.Verdicts.{shown_line};
-ghost use Rattle.hint_check.specs.declared.verdict.Verdict.TheVariants.{Verified};
+ghost use Rattle.verdicts.specs.Verdicts.{shown_line};
+ghost use Rattle.verdicts.specs.declared.verdict.Verdict.TheVariants.{Verified};
 
 use crate::fault::RunFault;
-use crate::verdict::Verdict;
 use hint_checker::{HintChecker, HintFault};
 use sat_formula::{CnfFormula, read_formula};
 use std::alloc::Global;
 use std::io;
 use std::io::{ErrorKind, Read, Write};
-use whole_writes::write_whole;
+use verdicts::{Verdict, write_line};
 
-/// Reads a formula as DIMACS text and a text of hints, checks the hints over the formula, and writes
-/// the verdict's line.
+/// Reads a formula as DIMACS text and a text of hints, checks the hints over the formula, and
+/// writes the verdict's line.
 ///
 /// Nothing is written unless all lines are accepted. Where the line can't be written whole, the
-/// verdict stood, and a beginning of the line is written. The checker of proofs takes no part in it.
+/// verdict stood, and a beginning of the line is written. The checker of proofs takes no part in
+/// it.
 pub fn run_check<F: Read + Drop, H: Read + Drop, W: Write>(
     alloc: Global,
     cnf: F,
@@ -34,8 +34,8 @@ pub fn run_check<F: Read + Drop, H: Read + Drop, W: Write>(
     ensures silent { IsRefusedRun result → out.new ≡ out.old }
     ensures unwritten { IsUnwritten result → BeginsLine (F.remaining cnf) (H.remaining hints)
         (W.contents out.old) (W.contents out.new) }
-    ensures refutes { (text : List ℕ) → F.remaining cnf ≡ Some text →
-        result ≡ Ok Verified → IsRefuted text }
+    ensures refutes { (text : List ℕ) → F.remaining cnf ≡ Some text
+        → result ≡ Ok Verified → IsRefuted text }
 {
     let formula = match read_formula(alloc, cnf) {
         Ok(formula) => formula,
@@ -82,14 +82,4 @@ fn is_want_of_memory(fault: &io::Error) -> bool
     ensures { IsTrue result ↔ (error_kind fault.now ≡ ErrorKind.OutOfMemory) }
 {
     fault.kind() == ErrorKind::OutOfMemory
-}
-
-/// Writes a verdict's line, also out of a writer's buffer.
-fn write_line<W: Write>(out: &mut W, verdict: Verdict) -> io::Result<()>
-    ensures whole { OnOk result
-        (Appends (W.contents out.old) (W.contents out.new) (shown_line verdict)) }
-    ensures beginning { OnErr result
-        (AppendsBeginning (W.contents out.old) (W.contents out.new) (shown_line verdict)) }
-{
-    write_whole(out, verdict.line())
 }

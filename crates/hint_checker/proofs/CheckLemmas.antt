@@ -6,9 +6,9 @@ use Rattle.std.specs.Option.{option_map}
 use Rattle.std.proofs.lemmas.List.Splits.{length-slice_split}
 use Rattle.std.proofs.lemmas.List.Sums.{count_by-le-length}
 use Rattle.std.proofs.lemmas.Option.{none-some}
-use Rattle.checker_rules.specs.Clauses.{all_true}
-use Rattle.checker_rules.specs.HintLines.{Follows, HintCause, HintLine, Listed, adds_clause, after_line, deletes_clauses, is_empty, line_cause, listing}
-use Rattle.checker_rules.proofs.HintLineFacts.{hints_refute, some-same}
+use Rattle.sat_rules.specs.Clauses.{all_true}
+use Rattle.sat_rules.specs.HintLines.{Follows, HintCause, HintLine, Listed, adds_clause, after_line, deletes_clauses, is_empty, line_cause, listing}
+use Rattle.sat_rules.proofs.HintLineFacts.{hints_refute, some-same}
 use Rattle.sat_formula.specs.Bytes.{is_lf}
 use Rattle.sat_formula.specs.Lines.{lines_of}
 use Rattle.hint_checker.specs.Checked.{Accepts, AcceptsAfter, IsCause, IsRefusal, Refuses, adds_empty, after_said, cause_of, in_line, joined, refusal, said_all}

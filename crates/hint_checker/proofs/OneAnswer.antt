@@ -2,8 +2,8 @@
 use Rattle.std.proofs.Common.{◌≡◌, ℕ, List, [], ◌∷◌, ◌++◌, Option, Some, None, refl, sym, ap, ◌∙◌, subst}
 use Rattle.std.specs.Option.{option_map}
 use Rattle.std.proofs.lemmas.Option.{none-some}
-use Rattle.checker_rules.specs.HintLines.{Follows, HintLine, Listed, after_line}
-use Rattle.checker_rules.proofs.HintLineFacts.{some-same}
+use Rattle.sat_rules.specs.HintLines.{Follows, HintLine, Listed, after_line}
+use Rattle.sat_rules.proofs.HintLineFacts.{some-same}
 use Rattle.hint_checker.specs.Checked.{Accepts, IsRefusal, Refuses, cause_of, joined, refusal, said_all}
 use Rattle.hint_checker.specs.OneAnswer.{AnswerIsOne}
 use Rattle.hint_checker.specs.Text as text

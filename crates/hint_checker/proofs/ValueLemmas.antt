@@ -6,11 +6,11 @@ use Rattle.std.proofs.lemmas.Bool.{eqb-true, eqb-false, eq-eqb, and_parts, and_f
 use Rattle.std.proofs.lemmas.Grind.{get_or-set_at}
 use Rattle.std.proofs.lemmas.List.{at_drop_more, get_or-set_other, take_all}
 use Rattle.std.proofs.lemmas.Option.{none-some}
-use Rattle.checker_rules.specs.Clauses.{has, is_unit_on, negate}
-use Rattle.checker_rules.specs.Hints.{negated_set}
-use Rattle.checker_rules.specs.HintLines.{unit_among}
+use Rattle.sat_rules.specs.Clauses.{has, is_unit_on, negate}
+use Rattle.sat_rules.specs.Named.{negated_set}
+use Rattle.sat_rules.specs.HintLines.{unit_among}
 use Rattle.hint_checker.specs.Unit.{is_other, search}
-use Rattle.checker_rules.proofs.HintLineFacts.{finds_unit, found_unit, some-same}
+use Rattle.sat_rules.proofs.HintLineFacts.{finds_unit, found_unit, some-same}
 
 pub or_left : (a b : Bool) → a ≡ true → (a || b) ≡ true
 or_left a b e = rw e refl

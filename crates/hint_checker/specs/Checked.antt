@@ -15,8 +15,7 @@ use Rattle.std.specs.Option.{option_map}
 use Rattle.std.specs.HashMap.{HashMap, get}
 use Rattle.std.specs.declared.hash.BuildHasherDefault.{BuildHasherDefault}
 use Rattle.std.specs.declared.hash.FoldHasher.{FoldHasher}
-use Rattle.checker_rules.specs.HintLines.{Follows, HintCause, HintLine, Listed, adds_clause, after_line, deletes_clauses}
-use Rattle.checker_rules.specs.HintLines.{id_not_greater, is_empty, line_cause, listing, no_conflict, not_unit, unknown_id}
+use Rattle.sat_rules.specs.HintLines.{Follows, HintCause, HintLine, Listed, adds_clause, after_line, deletes_clauses, id_not_greater, is_empty, line_cause, listing, no_conflict, not_unit, unknown_id}
 use Rattle.sat_formula.specs.Lines.{lines_of}
 use Rattle.hint_checker.specs.Text as text
 use Rattle.hint_checker.specs.Text.{Said, in_front, said_by}

@@ -2,7 +2,7 @@
 --     trues v      the literals that are true
 --     held_by x, holds c      what is held, and what a checker holds until its first fault
 use Rattle.std.specs.Prelude.{ℕ, Bool, false, if◌then◌else◌, Option, Some, None, get_or}
-use Rattle.checker_rules.specs.HintLines.{Listed}
+use Rattle.sat_rules.specs.HintLines.{Listed}
 use Rattle.hint_checker.specs.Checked.{listed_by}
 use Rattle.hint_checker.specs.declared.checker.HintChecker.{HintChecker}
 use Rattle.hint_checker.specs.declared.listing.Listing.{Listing}

@@ -2,7 +2,7 @@
 --     StaysAccepted h text k      the text leads to k alone, and is never refused
 --     AnswerIsOne      so it is with each text that is accepted
 use Rattle.std.specs.Prelude.{◌≡◌, ℕ, List}
-use Rattle.checker_rules.specs.HintLines.{Listed}
+use Rattle.sat_rules.specs.HintLines.{Listed}
 use Rattle.hint_checker.specs.Checked.{Accepts, IsRefusal}
 use Rattle.hint_checker.specs.declared.fault.HintFault.{HintFault}
 use Rattle.hint_checker.specs.declared.fault.HintFault.TheVariants.{OutOfMemory}

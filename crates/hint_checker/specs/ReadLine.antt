@@ -3,7 +3,7 @@
 --     Reads f r o      what was read, or what it is refused for
 --     ReadsLine r said      the same of a line
 use Rattle.std.specs.Prelude.{◌≡◌, Option, Some, None, Result, Ok, Err}
-use Rattle.checker_rules.specs.HintLines as rules
+use Rattle.sat_rules.specs.HintLines as rules
 use Rattle.hint_checker.specs.Text as text
 use Rattle.hint_checker.specs.Text.{Said}
 use Rattle.hint_checker.specs.declared.fault.LineFault.{LineFault}

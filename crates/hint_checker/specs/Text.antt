@@ -6,7 +6,7 @@
 --     Said, said_by line      a line of text: passed over, a line of hints, or malformed
 use Rattle.std.specs.Prelude.{ℕ, ◌^◌, Bool, true, false, if◌then◌else◌, nat_lt, ◌==◌, List, [], ◌∷◌, Option, Some, None, codes}
 use Rattle.std.specs.Str.{bytes_eq}
-use Rattle.checker_rules.specs.HintLines.{HintLine, adds_clause, deletes_clauses}
+use Rattle.sat_rules.specs.HintLines.{HintLine, adds_clause, deletes_clauses}
 use Rattle.sat_formula.specs.Bytes.{letter_c, minus_sign}
 use Rattle.sat_formula.specs.Lines.{value_of, words_of}
 use Rattle.sat_formula.specs.Vars.{lit_code}

@@ -2,7 +2,7 @@
 --     is_other found m      another literal was found before
 --     search s found c      the search, from what was found before
 use Rattle.std.specs.Prelude.{ℕ, Bool, false, if◌then◌else◌, not, ◌||◌, ◌==◌, List, [], ◌∷◌, Option, Some, None}
-use Rattle.checker_rules.specs.Clauses.{negate}
+use Rattle.sat_rules.specs.Clauses.{negate}
 
 -- another literal was found before
 abbrev pub is_other : Option ℕ → ℕ → Bool

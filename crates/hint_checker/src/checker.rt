@@ -1,8 +1,8 @@
 //! A checker of lines of hints, which holds ids and clauses and nothing else.
 ghost use Rattle.std.specs.Prelude.{◌≡◌, ℕ, Bool, true, List, Some, None, Err, IfErr, IfOk, OnOk};
-ghost use Rattle.checker_rules.specs.Clauses.{all_true};
-ghost use Rattle.checker_rules.specs.HintLines as rules;
-ghost use Rattle.checker_rules.specs.HintLines.{Follows, Listed, listing};
+ghost use Rattle.sat_rules.specs.Clauses.{all_true};
+ghost use Rattle.sat_rules.specs.HintLines as rules;
+ghost use Rattle.sat_rules.specs.HintLines.{Follows, Listed, listing};
 ghost use Rattle.hint_checker.specs.Checked.{Accepts, AcceptsAfter, IsCause, IsRefusal, after_said, refusal};
 ghost use Rattle.hint_checker.specs.Text.{said_by};
 ghost use Rattle.hint_checker.specs.Held.{held_by, holds};

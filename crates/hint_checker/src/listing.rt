@@ -1,7 +1,7 @@
 //! The clauses that a checker of hints holds.
 ghost use Rattle.std.specs.Prelude.{◌≡◌, ℕ, Bool, Option, None, IfErr, IfOk, OnOk};
-ghost use Rattle.checker_rules.specs.HintLines.{HintCause, adds_clause, after_line, drop_ids, hints_cause, line_cause, listing, next_cause};
-ghost use Rattle.checker_rules.specs.Machine.{drop_id, put_id};
+ghost use Rattle.sat_rules.specs.HintLines.{HintCause, adds_clause, after_line, drop_ids, hints_cause, line_cause, listing, next_cause};
+ghost use Rattle.sat_rules.specs.Named.{drop_id, put_id};
 ghost use Rattle.hint_checker.specs.Checked.{IsCause, cause_of};
 ghost use Rattle.hint_checker.specs.Held.{held_by, trues};
 ghost use Rattle.std.specs.Option.{option_map};

@@ -1,8 +1,8 @@
 //! Which literals are true.
 ghost use Rattle.std.specs.Prelude.{◌≡◌, ◌<◌, ◌^◌, ◌&&◌, ℕ, eqb, not, false, true, length, get_or, OnOk};
-ghost use Rattle.checker_rules.specs.Clauses.{add_lit, has, is_falsified};
-ghost use Rattle.checker_rules.specs.HintLines.{unit_among};
-ghost use Rattle.checker_rules.specs.Hints.{negated_set};
+ghost use Rattle.sat_rules.specs.Clauses.{add_lit, has, is_falsified};
+ghost use Rattle.sat_rules.specs.HintLines.{unit_among};
+ghost use Rattle.sat_rules.specs.Named.{negated_set};
 ghost use Rattle.hint_checker.specs.Unit.{is_other};
 
 use sat_formula::lit::Lit;

@@ -3,9 +3,9 @@
 
 ghost use Rattle.std.specs.Prelude.{◌≡◌, ◌≤◌, Some, Result, length};
 ghost use Rattle.lrat_check.specs.Runs.{IsCheckRun};
-ghost use Rattle.lrat_check.specs.Verdicts.{status_of};
+ghost use Rattle.verdicts.specs.Verdicts.{status_of};
 ghost use Rattle.lrat_check.specs.declared.fault.RunFault.{RunFault};
-ghost use Rattle.lrat_check.specs.declared.verdict.Verdict.{Verdict};
+ghost use Rattle.verdicts.specs.declared.verdict.Verdict.{Verdict};
 
 mod text;
 

@@ -1,7 +1,7 @@
 -- What the checker's answer says of the whole text of a proof.
 use Rattle.std.proofs.Common.{◌≡◌, ℕ, Bool, true, false, List, [], ◌∷◌, ◌++◌, Option, Some, None, Result, Ok, Err, refl, sym, ap, ◌∙◌, append_assoc}
 use Rattle.std.specs.Prelude.{◌||◌, IfSome}
-use Rattle.checker_rules.specs.Hints.{Item}
+use Rattle.sat_rules.specs.Named.{Item}
 use Rattle.lrat_rules.specs.Lines.{Line, accepts, has_empty, is_refuted, refutes}
 use Rattle.lrat_rules.specs.Causes.{Cause}
 use Rattle.lrat_rules.specs.Refusals.{cause_of_line}

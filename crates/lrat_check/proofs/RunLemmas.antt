@@ -4,7 +4,7 @@
 --     verdict_decided, fault_decided      what a verdict and a fault say of the proof's text
 use Rattle.std.proofs.Common.{◌≡◌, ℕ, Bool, true, false, List, [], Option, Some, None, Result, Ok, Err, refl, sym, ap, ◌∙◌}
 use Rattle.std.specs.Prelude.{IfSome, OnErr}
-use Rattle.checker_rules.specs.Clauses.{all_true}
+use Rattle.sat_rules.specs.Clauses.{all_true}
 use Rattle.lrat_rules.proofs.Running.{runs_refute}
 use Rattle.lrat_checker.specs.Standing.{has_refuted}
 use Rattle.lrat_checker.specs.TextAnswers.{IsTextAnswer, said}
@@ -12,10 +12,10 @@ use Rattle.lrat_checker.specs.declared.checker.LratChecker.{LratChecker}
 use Rattle.lrat_checker.specs.declared.fault.LratFault.{LratFault}
 use Rattle.lrat_checker.specs.declared.fault.LratFault.TheVariants as lrat
 use Rattle.lrat_check.specs.Runs.{Decides, IsDecided, Refutes}
-use Rattle.lrat_check.specs.Verdicts.{verdict_of}
+use Rattle.verdicts.specs.Verdicts.{verdict_of}
 use Rattle.lrat_check.specs.declared.fault.RunFault.TheVariants.{Proof}
-use Rattle.lrat_check.specs.declared.verdict.Verdict.{Verdict}
-use Rattle.lrat_check.specs.declared.verdict.Verdict.TheVariants.{Verified}
+use Rattle.verdicts.specs.declared.verdict.Verdict.{Verdict}
+use Rattle.verdicts.specs.declared.verdict.Verdict.TheVariants.{Verified}
 use Rattle.lrat_check.proofs.DecideLemmas.{decided}
 
 abbrev Known : Type 0

@@ -8,7 +8,7 @@
 --     BeginsLine, BeginsLineAfter      what was written then, after a formula, and after a formula's text
 use Rattle.std.specs.Prelude.{◌≡◌, ℕ, Bool, true, false, List, [], Option, Result, Ok, Err, OnErr, IfSome}
 use Rattle.std.specs.Option.{option_map}
-use Rattle.checker_rules.specs.Clauses.{all_true}
+use Rattle.sat_rules.specs.Clauses.{all_true}
 use Rattle.sat_formula.specs.Lines as dimacs
 use Rattle.sat_formula.specs.Outcome.{Ended}
 use Rattle.sat_formula.specs.Whole.{FailsAfter, IsOutcome}
@@ -20,11 +20,11 @@ use Rattle.whole_writes.specs.Beginnings.{AppendsBeginning}
 use Rattle.lrat_checker.specs.declared.checker.LratChecker.{LratChecker}
 use Rattle.lrat_checker.specs.declared.fault.LratFault.{LratFault}
 use Rattle.lrat_checker.specs.declared.fault.LratFault.TheVariants as lrat
-use Rattle.lrat_check.specs.Verdicts.{shown_line, verdict_of}
+use Rattle.verdicts.specs.Verdicts.{shown_line, verdict_of}
 use Rattle.lrat_check.specs.declared.fault.RunFault.{RunFault}
 use Rattle.lrat_check.specs.declared.fault.RunFault.TheVariants.{Formula, Proof, Write}
-use Rattle.lrat_check.specs.declared.verdict.Verdict.{Verdict}
-use Rattle.lrat_check.specs.declared.verdict.Verdict.TheVariants.{Verified, NotVerified}
+use Rattle.verdicts.specs.declared.verdict.Verdict.{Verdict}
+use Rattle.verdicts.specs.declared.verdict.Verdict.TheVariants.{Verified, NotVerified}
 
 -- whether the formula has the empty clause, or the lines of a text up to one that adds it are accepted after the formula
 abbrev pub shows : List (List ℕ) → List ℕ → Bool
@@ -37,7 +37,7 @@ pub record Checks (formula : List (List ℕ)) (known : Option (List ℕ))
   pub answer : IsTextAnswer true known formula [] checker r
   pub stops : OnErr r (has_refuted checker ≡ false)
 
--- the same, where there was memory for the checker
+-- what a check of a text answers, where there was memory for the checker
 abbrev pub Refutes : List (List ℕ) → Option (List ℕ) → Result Bool LratFault → Type 0
 Refutes formula known (Ok refuted) = Checks formula known (Ok refuted)
 Refutes formula known (Err (lrat.Read cause)) = Checks formula known (Err (lrat.Read cause))

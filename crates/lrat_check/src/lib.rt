@@ -3,12 +3,9 @@
 
 mod fault;
 mod run;
-mod status;
 #[cfg(test)]
 mod tests;
-mod verdict;
 
 pub use fault::RunFault;
 pub use run::{run_check, run_proof};
-pub use status::exit_status;
-pub use verdict::Verdict;
+pub use verdicts::{Verdict, exit_status};

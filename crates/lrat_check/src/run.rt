@@ -1,21 +1,20 @@
 //! Runs: a proof is checked, and its verdict is written.
 ghost use Rattle.std.specs.Prelude.{◌≡◌, ℕ, Bool, false, List, IfOk, IfSome, Ok, OnErr, OnOk, Some};
 ghost use Rattle.std.specs.Io.KnownBytes.{Appends};
-ghost use Rattle.checker_rules.specs.Clauses.{all_true};
+ghost use Rattle.sat_rules.specs.Clauses.{all_true};
 ghost use Rattle.sat_formula.specs.Refuted.{IsRefuted};
 ghost use Rattle.whole_writes.specs.Beginnings.{AppendsBeginning};
 ghost use Rattle.lrat_check.specs.Runs.{BeginsLine, BeginsLineAfter, IsCheckRun, IsDecided, IsProofRun, IsRefusedRun, IsUnwritten, Refutes};
-ghost use Rattle.lrat_check.specs.Verdicts.{shown_line};
-ghost use Rattle.lrat_check.specs.declared.verdict.Verdict.TheVariants.{Verified};
+ghost use Rattle.verdicts.specs.Verdicts.{shown_line};
+ghost use Rattle.verdicts.specs.declared.verdict.Verdict.TheVariants.{Verified};
 
 use crate::fault::RunFault;
-use crate::verdict::Verdict;
 use lrat_checker::{LratChecker, LratFault};
 use sat_formula::{CnfFormula, read_formula};
 use std::alloc::Global;
 use std::io;
 use std::io::{Read, Write};
-use whole_writes::write_whole;
+use verdicts::{Verdict, write_line};
 
 /// Checks a proof after a formula, up to its first line that adds the empty clause, and writes the
 /// verdict's line. What stands after that line is not read. Nothing is where the formula has the
@@ -64,8 +63,8 @@ pub fn run_check<F: Read + Drop, P: Read + Drop, W: Write>(
     ensures silent { IsRefusedRun result → out.new ≡ out.old }
     ensures unwritten { IsUnwritten result → BeginsLineAfter (F.remaining cnf)
         (P.remaining proof) (W.contents out.old) (W.contents out.new) }
-    ensures refutes { (text : List ℕ) → F.remaining cnf ≡ Some text →
-        result ≡ Ok Verified → IsRefuted text }
+    ensures refutes { (text : List ℕ) → F.remaining cnf ≡ Some text
+        → result ≡ Ok Verified → IsRefuted text }
 {
     match read_formula(alloc, cnf) {
         Ok(formula) => run_proof(alloc, &formula, proof, out),
@@ -73,7 +72,7 @@ pub fn run_check<F: Read + Drop, P: Read + Drop, W: Write>(
     }
 }
 
-// Whether the proof shows that no assignment satisfies the formula.
+/// Whether the proof shows that no assignment satisfies the formula.
 fn refute<P: Read + Drop>(alloc: Global, formula: &CnfFormula, proof: P) -> Result<bool, LratFault>
     ensures { Refutes formula.now (P.remaining proof) result }
 {
@@ -81,14 +80,4 @@ fn refute<P: Read + Drop>(alloc: Global, formula: &CnfFormula, proof: P) -> Resu
         Ok(mut checker) => checker.refute(proof),
         Err(_) => Err(LratFault::OutOfMemory),
     }
-}
-
-/// Writes a verdict's line, also out of a writer's buffer.
-fn write_line<W: Write>(out: &mut W, verdict: Verdict) -> io::Result<()>
-    ensures whole { OnOk result
-        (Appends (W.contents out.old) (W.contents out.new) (shown_line verdict)) }
-    ensures beginning { OnErr result
-        (AppendsBeginning (W.contents out.old) (W.contents out.new) (shown_line verdict)) }
-{
-    write_whole(out, verdict.line())
 }

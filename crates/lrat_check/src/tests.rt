@@ -8,17 +8,17 @@ use std::io::{ErrorKind, Read, Write};
 use std::process::Abort;
 use std::test::Fail;
 
-// Four clauses, one against each pair of values of two variables.
+/// Four clauses, one against each pair of values of two variables.
 const FOUR: &[u8] = b"1 2 0 1 -2 0 -1 2 0 -1 -2 0";
 
-// What a run answers: its line or the text of its fault, and its exit status.
+/// What a run answers: its line or the text of its fault, and its exit status.
 type Outcome = (&'static str, u8);
 
 const VERIFIED: Outcome = ("s VERIFIED UNSAT\n", 0);
 
 const NOT_VERIFIED: Outcome = ("s NOT VERIFIED\n", 3);
 
-// Takes no byte.
+/// Takes no byte.
 #[derive(Drop)]
 struct Full;
 
@@ -32,7 +32,7 @@ impl Write for Full {
     }
 }
 
-// Gives these bytes one a read, and then a fault.
+/// Gives these bytes one a read, and then a fault.
 #[derive(Drop)]
 struct Broken<'a> {
     bytes: &'a [u8],
@@ -49,7 +49,7 @@ impl Read for Broken<'_> {
     }
 }
 
-// The line that was written, or else the text of the fault.
+/// The line that was written, or else the text of the fault.
 fn check<F: Read + Drop, P: Read + Drop>(
     rt: &impl Abort,
     alloc: Global,

@@ -3,8 +3,7 @@ use Rattle.std.proofs.Common.{◌≡◌, ℕ, ◌+◌, ◌<◌, Bool, true, fals
 use Rattle.std.specs.List.{list_all}
 use Rattle.std.proofs.lemmas.Bool.{eqb-true}
 use Rattle.std.proofs.lemmas.List.{at_drop_more}
-use Rattle.checker_rules.specs.Clauses.{negate}
-use Rattle.checker_rules.specs.Passes.{unfalsified}
+use Rattle.sat_rules.specs.Clauses.{negate, unfalsified}
 use Rattle.lrat_rules.specs.Causes.{not_unit}
 use Rattle.lrat_rules.specs.Propagation.{Ending, by_left, stuck}
 use Rattle.lrat_checker.specs.Values.{is_other, left_from}

@@ -1,8 +1,8 @@
 -- One line more after those that a checker has accepted.
 use Rattle.std.proofs.Common.{◌≡◌, ℕ, Bool, true, false, cond, ◌||◌, List, [], ◌∷◌, ◌++◌, Some, None, refl, sym, ap, ◌∙◌, subst}
 use Rattle.std.proofs.Math.Bool.{or-false}
-use Rattle.checker_rules.specs.Hints.{Item}
-use Rattle.checker_rules.proofs.HintLineFacts.{some-same}
+use Rattle.sat_rules.specs.Named.{Item}
+use Rattle.sat_rules.proofs.HintLineFacts.{some-same}
 use Rattle.lrat_rules.specs.Lines.{Line, accepts, adds_empty, after, has_empty, is_refuted, refutes, run, step, then_run, then_test}
 use Rattle.lrat_rules.specs.Refusals.{cause_of_line}
 use Rattle.lrat_rules.specs.Stores.{formula_store}

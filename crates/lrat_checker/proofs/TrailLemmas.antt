@@ -5,7 +5,7 @@ use Rattle.std.proofs.lemmas.Bool.{eqb-true, eqb-false, and_parts, and_from, bot
 use Rattle.std.proofs.lemmas.List.{at_drop_more}
 use Rattle.std.proofs.lemmas.Grind.{get_or-set_at}
 use Rattle.std.proofs.lemmas.List.{get_or-set_other}
-use Rattle.checker_rules.specs.Clauses.{add_lit, has}
+use Rattle.sat_rules.specs.Clauses.{add_lit, has}
 use Rattle.lrat_rules.specs.Counts.{all_once}
 use Rattle.lrat_checker.specs.Values.{IsMarked, among, with_lit}
 

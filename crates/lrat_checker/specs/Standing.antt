@@ -5,7 +5,7 @@
 --     IsAnswer formula lines line fault      the fault of a line after them
 --     HoldsLittle c      the clauses take little room that no clause uses
 use Rattle.std.specs.Prelude.{◌≡◌, ℕ, Bool, false, List, Some}
-use Rattle.checker_rules.specs.Hints.{Item}
+use Rattle.sat_rules.specs.Named.{Item}
 use Rattle.lrat_rules.specs.Lines.{Line, is_refuted, run}
 use Rattle.lrat_rules.specs.Refusals.{cause_of_line}
 use Rattle.lrat_rules.specs.Stores.{formula_store}

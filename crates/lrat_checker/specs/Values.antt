@@ -6,7 +6,7 @@
 --     IsGrown t u      the trail t with more at its end
 --     left_from s found c none one      the search for the literals that are not false, from the one found before
 use Rattle.std.specs.Prelude.{◌≡◌, ℕ, ◌==◌, Bool, true, false, not, if◌then◌else◌, List, [], ◌∷◌, ◌++◌, length, get_or, take, Option, Some, None}
-use Rattle.checker_rules.specs.Clauses.{has, negate}
+use Rattle.sat_rules.specs.Clauses.{has, negate}
 use Rattle.lrat_rules.specs.Causes.{not_unit}
 use Rattle.lrat_rules.specs.Counts.{all_once}
 use Rattle.lrat_rules.specs.Groups.{without}

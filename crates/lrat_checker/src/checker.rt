@@ -1,6 +1,6 @@
 //! The checker of LRAT proofs.
 ghost use Rattle.std.specs.Prelude.{◌≡◌, ◌∷◌, ◌++◌, ◌||◌, ◌&&◌, ℕ, Bool, true, false, [], List, None, Some, Err, IfErr, IfOk, OnOk, OnErr};
-ghost use Rattle.checker_rules.specs.Clauses.{all_true};
+ghost use Rattle.sat_rules.specs.Clauses.{all_true};
 ghost use Rattle.lrat_rules.specs.Lines.{Line, adds_empty, has_empty};
 ghost use Rattle.lrat_rules.specs.Tables.{cause_by_table, table_after};
 ghost use Rattle.lrat_checker.specs.Causes.{IsCause};

@@ -1,8 +1,7 @@
 //! Which literals are true.
 ghost use Rattle.std.specs.Prelude.{◌≡◌, ◌<◌, ◌≤◌, ◌^◌, ◌-◌, [], ℕ, length, take, get_or, false, true, not, eqb, ◌&&◌, OnOk};
 ghost use Rattle.std.specs.List.{list_any};
-ghost use Rattle.checker_rules.specs.Clauses.{has};
-ghost use Rattle.checker_rules.specs.Passes.{unfalsified};
+ghost use Rattle.sat_rules.specs.Clauses.{has, unfalsified};
 ghost use Rattle.lrat_rules.specs.Groups.{add_negated};
 ghost use Rattle.lrat_rules.specs.Propagation.{Ending, by_left};
 ghost use Rattle.lrat_checker.specs.Values.{IsGrown, among, is_other, lits_besides, with_lit};

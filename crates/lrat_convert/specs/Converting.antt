@@ -6,7 +6,7 @@
 --     next width c line, run width c lines      one line more, and all lines in turn;  or why a line is refused
 --     whole c      all steps of the proof
 use Rattle.std.specs.Prelude.{ℕ, Bool, true, false, ◌&&◌, ◌==◌, if◌then◌else◌, List, [], ◌∷◌, ◌++◌, Option, Some, None, is_some, Result, Ok, Err}
-use Rattle.checker_rules.specs.Clauses.{is_tautology}
+use Rattle.sat_rules.specs.Clauses.{is_tautology}
 use Rattle.checker_rules.specs.State.{clause_hash}
 use Rattle.checker_rules.specs.Step.{Step, at_clause, by_redundant, change_hash_bits, delete_clause, end_proof}
 use Rattle.lrat_rules.specs.Lines.{Hint, Line, adds, against, along, deletes}

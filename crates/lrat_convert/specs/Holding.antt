@@ -4,8 +4,8 @@
 --     hold i e h, drop i h      one more clause;  without the clause of an id
 --     formula_holding cs      the clauses of a formula under 1, 2, ..
 use Rattle.std.specs.Prelude.{ℕ, suc, Bool, true, false, not, ◌&&◌, ◌||◌, ◌==◌, if◌then◌else◌, nat_lt, List, [], ◌∷◌, length, Option, Some, None}
+use Rattle.sat_rules.specs.Clauses.{add_lit, is_tautology, negate}
 use Rattle.checker_rules.specs.Canonical.{canonical}
-use Rattle.checker_rules.specs.Clauses.{add_lit, is_tautology, negate}
 
 -- a clause as a canonical list, and whether a line added it
 pub record Entry : Type 0 where

@@ -1,6 +1,6 @@
 //! A clause that is held.
 ghost use Rattle.std.specs.Prelude.{◌≡◌, IfOk};
-ghost use Rattle.checker_rules.specs.Clauses.{is_tautology};
+ghost use Rattle.sat_rules.specs.Clauses.{is_tautology};
 
 use checker_parts::sorted_lits::copy_canonical;
 use sat_formula::Lit;

@@ -35,7 +35,7 @@ pub(crate) fn gather(
     Ok(())
 }
 
-// The hash of one hint more.
+/// The hash of one hint more.
 fn push_hash(
     hasher: &ClauseHasher,
     held: &Holding,

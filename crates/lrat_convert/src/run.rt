@@ -55,7 +55,7 @@ pub fn convert<F: Read + Drop, P: Read + Drop, W: Write>(
     }
 }
 
-// The lines of a text in turn.
+/// The lines of a text in turn.
 fn convert_lines<P: Read + Drop, W: Write>(
     alloc: Global,
     converter: &mut Converter,

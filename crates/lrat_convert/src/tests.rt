@@ -8,14 +8,14 @@ use std::io::{ErrorKind, Read, Write};
 use std::process::Abort;
 use std::test::Fail;
 
-// Four clauses, one against each pair of values of two variables.
+/// Four clauses, one against each pair of values of two variables.
 const FOUR: &[u8] = b"1 2 0 1 -2 0 -1 2 0 -1 -2 0";
 
-// 1 follows from the first two clauses, and with it the others are against each other.
+/// 1 follows from the first two clauses, and with it the others are against each other.
 const REFUTATION: &[u8] = b"5 1 0 1 2 0\n6 0 5 3 4 0\n";
 
-// Its steps: [1] by the hashes of the first two clauses, the empty clause by those of the others,
-// and the end. The unit that the last line names has no hash.
+/// Its steps: [1] by the hashes of the first two clauses, the empty clause by those of the others,
+/// and the end. The unit that the last line names has no hash.
 const REFUTED: &[u8] = b"\x00\x02\
     \x06\x01\x01\x00\x02\
     \x2A\x08\x95\x02\x93\x75\xAF\xC4\x41\x8C\x63\x82\x54\xFF\xE7\x66\
@@ -23,29 +23,29 @@ const REFUTED: &[u8] = b"\x00\x02\
     \x15\x8C\x4B\x83\x5A\xFE\xD7\x66\x7E\x08\xBD\x03\x9D\x74\x9F\xC4\
     \x0D";
 
-// The same with hashes of 9 bits, 393, 205, 205 and 393.
+/// Hashes of 9 bits: 393, 205, 205 and 393.
 const REFUTED_IN_NINE_BITS: &[u8] = b"\x00\x02\x09\x09\
     \x06\x01\x01\x00\x02\x89\x01\xCD\x00\
     \x06\x01\x00\x02\xCD\x00\x89\x01\
     \x0D";
 
-// No step but the end.
+/// No step but the end.
 const NO_STEP: &[u8] = b"\x00\x02\x0D";
 
 const TWO: &[u8] = b"1 2 3 0 1 2 -3 0";
 
-// [1, 2] by the hashes of these two clauses.
+/// [1, 2] by the hashes of these two clauses.
 const DERIVED: &[u8] = b"\x00\x02\
     \x06\x01\x02\x00\x02\x02\x43\x64\xE1\x1E\xB1\xC5\x51\x82\x54\xE0\x2B\x99\x48\x5C\x99\x21\
     \x0D";
 
-// Then it is deleted as a redundant clause.
+/// Then it is deleted as a redundant clause.
 const DERIVED_AND_DELETED: &[u8] = b"\x00\x02\
     \x06\x01\x02\x00\x02\x02\x43\x64\xE1\x1E\xB1\xC5\x51\x82\x54\xE0\x2B\x99\x48\x5C\x99\x21\
     \x07\x00\x02\x00\x02\
     \x0D";
 
-// Twice, and then each of the two is deleted.
+/// Twice, and then each of the two is deleted.
 const DERIVED_TWICE: &[u8] = b"\x00\x02\
     \x06\x01\x02\x00\x02\x02\x43\x64\xE1\x1E\xB1\xC5\x51\x82\x54\xE0\x2B\x99\x48\x5C\x99\x21\
     \x06\x01\x02\x00\x02\x02\x43\x64\xE1\x1E\xB1\xC5\x51\x82\x54\xE0\x2B\x99\x48\x5C\x99\x21\
@@ -53,14 +53,14 @@ const DERIVED_TWICE: &[u8] = b"\x00\x02\
     \x07\x00\x02\x00\x02\
     \x0D";
 
-// Again after it was deleted.
+/// Again after it was deleted.
 const DERIVED_AGAIN: &[u8] = b"\x00\x02\
     \x06\x01\x02\x00\x02\x02\x43\x64\xE1\x1E\xB1\xC5\x51\x82\x54\xE0\x2B\x99\x48\x5C\x99\x21\
     \x07\x00\x02\x00\x02\
     \x06\x01\x02\x00\x02\x02\x43\x64\xE1\x1E\xB1\xC5\x51\x82\x54\xE0\x2B\x99\x48\x5C\x99\x21\
     \x0D";
 
-// Gives these bytes one a read, and then a fault.
+/// Gives these bytes one a read, and then a fault.
 #[derive(Drop)]
 struct Broken<'a> {
     bytes: &'a [u8],
@@ -77,7 +77,7 @@ impl Read for Broken<'_> {
     }
 }
 
-// Takes so many bytes.
+/// Takes so many bytes.
 #[derive(Drop)]
 struct Full {
     left: usize,
@@ -98,7 +98,7 @@ impl Write for Full {
     }
 }
 
-// The bytes of the proof are these.
+/// The bytes of the proof are these.
 fn converts<P: Read + Drop>(
     rt: &impl Abort,
     alloc: Global,
@@ -114,7 +114,7 @@ fn converts<P: Read + Drop>(
     Ok(())
 }
 
-// The fault has this text.
+/// The fault has this text.
 fn refuses<F: Read + Drop, P: Read + Drop>(
     rt: &impl Abort,
     alloc: Global,

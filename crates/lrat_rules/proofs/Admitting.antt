@@ -2,10 +2,9 @@
 use Rattle.std.proofs.Common.{◌≡◌, ℕ, Bool, true, cond, not, ◌||◌, eqb, List, [], ◌∷◌, map, refl, sym, ap, ◌∙◌, eq-eqb, inl, inr}
 use Rattle.std.specs.List.{list_all}
 use Rattle.std.proofs.lemmas.Bool.{eqb-true, and_parts, or_cases, or_right, false≢true, both_ways, not-true}
-use Rattle.checker_rules.specs.Clauses.{IsChain, add_lit, has, is_falsified, is_unit_on, negate}
-use Rattle.checker_rules.specs.Hints.{Item, NamedBy, negated_set}
-use Rattle.checker_rules.specs.Passes.{unfalsified}
-use Rattle.checker_rules.proofs.Walks.{all_at, all_from, has_first, kept_from, kept_in, kept_test}
+use Rattle.sat_rules.specs.Clauses.{IsChain, add_lit, has, is_falsified, is_unit_on, negate, unfalsified}
+use Rattle.sat_rules.specs.Named.{Item, NamedBy, negated_set}
+use Rattle.sat_rules.proofs.Members.{all_at, all_from, has_first, kept_from, kept_in, kept_test}
 use Rattle.lrat_rules.specs.Lines.{along, leading}
 use Rattle.lrat_rules.specs.Maps.{AdmittedIsRup}
 use Rattle.lrat_rules.specs.Causes.{not_unit}

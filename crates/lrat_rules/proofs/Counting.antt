@@ -1,8 +1,8 @@
 -- Clauses of distinct ids hold a literal as often as it is stored at most, and as often only where they are all that hold it.
 use Rattle.std.proofs.Common.{◌≡◌, ℕ, ◌+◌, ◌<◌, ◌≤◌, Bool, true, false, cond, not, ◌||◌, eqb, List, [], ◌∷◌, Option, Some, None, is_none, refl, sym, ap, ◌∙◌, subst, arith, eq-eqb}
 use Rattle.std.proofs.lemmas.Bool.{eqb-true, eqb-false, and_parts, and_from, false≢true, not-true, ne_eqb, or_parts, true_from_ne_false}
-use Rattle.checker_rules.specs.Clauses.{has}
-use Rattle.checker_rules.specs.Hints.{Item}
+use Rattle.sat_rules.specs.Clauses.{has}
+use Rattle.sat_rules.specs.Named.{Item}
 use Rattle.lrat_rules.specs.Counts.{CountsCover, all_once, count_in, count_of, is_holder, uses, uses_by}
 use Rattle.lrat_rules.specs.Maps.{ids_once}
 use Rattle.lrat_rules.specs.Stores.{find, without_ids}

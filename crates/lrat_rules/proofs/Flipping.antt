@@ -2,11 +2,10 @@
 use Rattle.std.proofs.Common.{◌≡◌, ℕ, Bool, true, false, cond, not, eqb, List, [], ◌∷◌, Option, Some, None, refl, sym, ap, ◌∙◌, subst, inl, inr}
 use Rattle.std.specs.List.{list_any, list_all}
 use Rattle.std.proofs.lemmas.Bool.{eqb-true, eqb-false, and_parts, and_from, or_cases, or_left, false≢true, both_ways, not-true, false_from_ne_true, true_from_ne_false, or_parts}
-use Rattle.checker_rules.specs.Clauses.{Agrees, all_true, clause_true, flip, has, is_negative, lit_true, negate, var_of}
-use Rattle.checker_rules.specs.Hints.{Item}
-use Rattle.checker_rules.proofs.Deletions.{flip_here, lit_true-flip}
-use Rattle.checker_rules.proofs.Traces.{same_var_codes}
-use Rattle.checker_rules.proofs.Walks.{any_at, any_from, kept_in, kept_test}
+use Rattle.sat_rules.specs.Clauses.{Agrees, all_true, clause_true, flip, has, is_negative, lit_true, negate, var_of}
+use Rattle.sat_rules.specs.Named.{Item}
+use Rattle.sat_rules.proofs.Literals.{flip_here, lit_true-flip, same_var_codes}
+use Rattle.sat_rules.proofs.Members.{any_at, any_from, kept_in, kept_test}
 use Rattle.lrat_rules.specs.Groups.{Group, add_negated, all_met, group_for, is_met, rest_met, without}
 use Rattle.lrat_rules.specs.Laws.{IsModel, flip_pivot}
 use Rattle.lrat_rules.specs.Lines.{Hint, by_rat, groups, led}

@@ -3,10 +3,9 @@ use Rattle.std.proofs.Common.{◌≡◌, ℕ, suc, ◌<◌, Bool, true, false, c
 use mathlib.Core.Path.{fun_ext}
 use Rattle.std.specs.List.{list_any, list_all}
 use Rattle.std.proofs.lemmas.Bool.{eqb-true, and_parts, and_from, or_cases, or_left, or_right, false≢true, both_ways, not-true, ne_eqb, false_from_ne_true}
-use Rattle.checker_rules.specs.Clauses.{add_lit, clause_true, has, negate}
-use Rattle.checker_rules.specs.Hints.{Item, negated_set}
-use Rattle.checker_rules.specs.Passes.{unfalsified}
-use Rattle.checker_rules.proofs.Walks.{all_at, all_from, any_at, any_from, has_first, kept_from, kept_in, kept_test}
+use Rattle.sat_rules.specs.Clauses.{add_lit, clause_true, has, negate, unfalsified}
+use Rattle.sat_rules.specs.Named.{Item, negated_set}
+use Rattle.sat_rules.proofs.Members.{all_at, all_from, any_at, any_from, has_first, kept_from, kept_in, kept_test}
 use Rattle.lrat_rules.specs.Causes.{not_unit}
 use Rattle.lrat_rules.specs.Groups.{Group, add_negated, all_met, group_for, is_met, rest_met, without}
 use Rattle.lrat_rules.specs.Laws.{RatResolves}

@@ -2,11 +2,10 @@
 use Rattle.std.proofs.Common.{◌≡◌, ℕ, Bool, true, false, not, eqb, List, [], ◌∷◌, filter, Option, Some, None, sym, ap, ◌∙◌, subst, inl, inr}
 use Rattle.std.specs.List.{list_all, list_any}
 use Rattle.std.proofs.lemmas.Bool.{eqb-true, and_parts, or_cases, false≢true, both_ways, not-true, cond_both, false_from_ne_true, true_from_ne_false}
-use Rattle.checker_rules.specs.Clauses.{Agrees, add_lit, clause_true, has, lit_true, negate}
-use Rattle.checker_rules.specs.Hints.{Item, negated_set}
-use Rattle.checker_rules.specs.Passes.{unfalsified}
-use Rattle.checker_rules.proofs.Chains.{agrees_more, lit_true-negate}
-use Rattle.checker_rules.proofs.Walks.{all_at, any_at, any_from, kept_from}
+use Rattle.sat_rules.specs.Clauses.{Agrees, add_lit, clause_true, has, lit_true, negate, unfalsified}
+use Rattle.sat_rules.specs.Named.{Item, negated_set}
+use Rattle.sat_rules.proofs.Chains.{agrees_more, lit_true-negate}
+use Rattle.sat_rules.proofs.Members.{all_at, any_at, any_from, kept_from}
 use Rattle.lrat_rules.specs.Causes.{not_unit}
 use Rattle.lrat_rules.specs.Groups.{add_negated}
 use Rattle.lrat_rules.specs.Laws.{IsModel}

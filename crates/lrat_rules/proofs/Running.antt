@@ -1,8 +1,8 @@
 -- What a list of lines keeps and refutes.
 use Rattle.std.proofs.Common.{◌≡◌, ℕ, suc, Bool, true, false, ◌||◌, List, [], ◌∷◌, ◌++◌, Some, None, refl, ap, ◌∙◌, subst, inl, inr}
 use Rattle.std.proofs.lemmas.Bool.{and_parts, and_from, or_cases, false≢true}
-use Rattle.checker_rules.specs.Clauses.{all_true, clause_true}
-use Rattle.checker_rules.specs.Hints.{Item}
+use Rattle.sat_rules.specs.Clauses.{all_true, clause_true}
+use Rattle.sat_rules.specs.Named.{Item}
 use Rattle.lrat_rules.specs.Laws.{IsModel, IsSatisfiable, RunsJoin, RunsKeepModels, RupRunsFollow, all_rup, is_rup}
 use Rattle.lrat_rules.specs.Lines.{Line, RunsRefute, adds, adds_empty, deletes, has_empty, refutes, run, step, then_run, then_test}
 use Rattle.lrat_rules.specs.Stores.{clauses_of, formula_store, numbered}

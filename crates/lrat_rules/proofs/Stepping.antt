@@ -1,8 +1,8 @@
 -- What an accepted line keeps.
 use Rattle.std.proofs.Common.{◌≡◌, ℕ, Bool, true, false, cond, not, ◌||◌, List, [], ◌∷◌, filter, Some, None, is_none, refl, sym, ap, subst, inl, inr}
 use Rattle.std.proofs.lemmas.Bool.{and_parts, and_from, or_cases, both_ways}
-use Rattle.checker_rules.specs.Clauses.{all_true, clause_true, has}
-use Rattle.checker_rules.specs.Hints.{Item}
+use Rattle.sat_rules.specs.Clauses.{all_true, clause_true, has}
+use Rattle.sat_rules.specs.Named.{Item}
 use Rattle.lrat_rules.specs.Laws.{IsModel, IsSatisfiable, LinesKeepModels, flip_pivot, is_rup, repaired}
 use Rattle.lrat_rules.specs.Lines.{Hint, Line, accepts, adds, by_rat, by_rup, deletes, step}
 use Rattle.lrat_rules.specs.Stores.{clauses_of, find, without_ids}

@@ -4,9 +4,9 @@ use mathlib.Core.Path.{fun_ext}
 use Rattle.std.specs.List.{list_all, list_any}
 use Rattle.std.proofs.lemmas.Bool.{eqb-true, eqb-false, and_parts, and_from, or_cases, or_left, or_parts, or_right, false≢true, both_ways, not-true, ne_eqb, false_from_ne_true}
 use Rattle.std.proofs.lemmas.Option.{none-some}
-use Rattle.checker_rules.specs.Clauses.{has, negate}
-use Rattle.checker_rules.specs.Hints.{Item, negated_set}
-use Rattle.checker_rules.proofs.HintLineFacts.{some-same}
+use Rattle.sat_rules.specs.Clauses.{has, negate}
+use Rattle.sat_rules.specs.Named.{Item, negated_set}
+use Rattle.sat_rules.proofs.HintLineFacts.{some-same}
 use Rattle.lrat_rules.specs.Causes.{Cause, group_fails, group_missing, id_taken}
 use Rattle.lrat_rules.specs.Counts.{all_once, count_in, count_of, is_holder, uses, uses_by}
 use Rattle.lrat_rules.specs.Groups.{Group, group_for, is_met, rest_met, without}

@@ -3,8 +3,8 @@
 --     name_holders n st ds      each id names a stored clause with the literal, no id twice
 --     CountsCover      the law
 use Rattle.std.specs.Prelude.{◌≡◌, ℕ, ◌+◌, ◌≤◌, Bool, true, false, not, ◌&&◌, ◌==◌, if◌then◌else◌, List, [], ◌∷◌, Option, Some, None}
-use Rattle.checker_rules.specs.Clauses.{has}
-use Rattle.checker_rules.specs.Hints.{Item}
+use Rattle.sat_rules.specs.Clauses.{has}
+use Rattle.sat_rules.specs.Named.{Item}
 use Rattle.lrat_rules.specs.Stores.{find}
 
 -- how often the literal stands in the clause

@@ -1,7 +1,7 @@
 -- Further rows: why lines are refused, and lines that wrong rules would judge otherwise.
 use Rattle.std.specs.Prelude.{◌≡◌, List, [], ◌∷◌, true, false, Some, None}
-use Rattle.checker_rules.specs.Hints.{Item}
-use Rattle.checker_rules.specs.Rows.{neg, pos}
+use Rattle.sat_rules.specs.Named.{Item}
+use Rattle.sat_rules.specs.Clauses.{neg, pos}
 use Rattle.lrat_rules.specs.Causes.{group_fails, group_missing, id_taken, no_conflict, not_unit, unknown_id}
 use Rattle.lrat_rules.specs.Lines.{accepts, adds, against, along, deletes, is_refuted, refutes, run}
 use Rattle.lrat_rules.specs.LratRows.{both, four, three}

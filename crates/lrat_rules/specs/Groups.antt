@@ -5,8 +5,8 @@
 --     all_met st s c gs      every stored clause with the pivot's negation is met by its group
 use Rattle.std.specs.Prelude.{ℕ, Bool, false, not, ◌||◌, ◌==◌, if◌then◌else◌, List, [], ◌∷◌, filter, Option, Some, None}
 use Rattle.std.specs.List.{list_any, list_all}
-use Rattle.checker_rules.specs.Clauses.{has, negate}
-use Rattle.checker_rules.specs.Hints.{Item, negated_set}
+use Rattle.sat_rules.specs.Clauses.{has, negate}
+use Rattle.sat_rules.specs.Named.{Item, negated_set}
 use Rattle.lrat_rules.specs.Propagation.{is_conflict, propagate}
 use Rattle.lrat_rules.specs.Stores.{find}
 

@@ -3,8 +3,8 @@
 --     repaired a line      the assignment after a line: flipped at the pivot's variable where the new clause is false
 --     LinesKeepModels, RunsKeepModels, RupRunsFollow, RatResolves, RunsJoin      the laws
 use Rattle.std.specs.Prelude.{◌≡◌, ℕ, Bool, true, ◌&&◌, ◌||◌, if◌then◌else◌, List, [], ◌∷◌, ◌++◌, Some}
-use Rattle.checker_rules.specs.Clauses.{all_true, clause_true, flip, has, negate, var_of}
-use Rattle.checker_rules.specs.Hints.{Item}
+use Rattle.sat_rules.specs.Clauses.{all_true, clause_true, flip, has, negate, var_of}
+use Rattle.sat_rules.specs.Named.{Item}
 use Rattle.lrat_rules.specs.Groups.{without}
 use Rattle.lrat_rules.specs.Lines.{Hint, Line, adds, by_rat, by_rup, deletes, refutes, run, step, then_test}
 use Rattle.lrat_rules.specs.Stores.{clauses_of, find, formula_store}
@@ -22,7 +22,7 @@ abbrev pub flip_pivot : (ℕ → Bool) → List ℕ → ℕ → Bool
 flip_pivot a [] = a
 flip_pivot a (p ∷ ps) = flip a (var_of p)
 
--- the same assignment, but flipped at the pivot's variable where an added clause is false
+-- the assignment, flipped at the pivot's variable where an added clause is false
 abbrev pub repaired : (ℕ → Bool) → Line → ℕ → Bool
 repaired a (adds i c hs) = if clause_true a c then a else flip_pivot a c
 repaired a (deletes is) = a
@@ -39,7 +39,7 @@ pub record LinesKeepModels : Type 0 where
   pub keeps : (st su : List Item) (l : Line) → step st l ≡ Some su → IsSatisfiable st →
       IsSatisfiable su
 
--- the same of a list of lines
+-- lines that are accepted in turn keep satisfiability
 abbrev pub RunsKeepModels : Type 0
 RunsKeepModels = (st su : List Item) (ls : List Line) → run st ls ≡ Some su → IsSatisfiable st →
     IsSatisfiable su

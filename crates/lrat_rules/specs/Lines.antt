@@ -8,8 +8,8 @@
 --     is_refuted formula lines      so are they after the formula's clauses, or one of these is empty
 --     RunsRefute      then no assignment satisfies the formula
 use Rattle.std.specs.Prelude.{◌≡◌, ℕ, Bool, true, false, ◌&&◌, ◌||◌, if◌then◌else◌, List, [], ◌∷◌, Option, Some, None, is_none}
-use Rattle.checker_rules.specs.Clauses.{all_true}
-use Rattle.checker_rules.specs.Hints.{Item, negated_set}
+use Rattle.sat_rules.specs.Clauses.{all_true}
+use Rattle.sat_rules.specs.Named.{Item, negated_set}
 use Rattle.lrat_rules.specs.Groups.{Group, all_met}
 use Rattle.lrat_rules.specs.Propagation.{Ending, at_end, is_conflict, propagate}
 use Rattle.lrat_rules.specs.Stores.{find, formula_store, without_ids}

@@ -1,8 +1,7 @@
 -- Worked rows: lines on small stores, by DIMACS numbers.
 use Rattle.std.specs.Prelude.{◌≡◌, ℕ, ◌==◌, List, [], ◌∷◌, true, false, Some, None}
-use Rattle.checker_rules.specs.Clauses.{all_true, clause_true}
-use Rattle.checker_rules.specs.Hints.{Item}
-use Rattle.checker_rules.specs.Rows.{neg, pos}
+use Rattle.sat_rules.specs.Clauses.{all_true, clause_true, neg, pos}
+use Rattle.sat_rules.specs.Named.{Item}
 use Rattle.lrat_rules.specs.Laws.{all_rup}
 use Rattle.lrat_rules.specs.Lines.{Line, adds, against, along, by_rup, deletes, refutes, run, step}
 use Rattle.lrat_rules.specs.Stores.{clauses_of, formula_store}
@@ -102,6 +101,6 @@ pub record LratRows : Type 0 where
   pub not_refuted : refutes (formula_store four)
       (adds 5 (pos 1 ∷ []) (along 1 ∷ along 2 ∷ []) ∷ adds 6 [] (along 3 ∷ along 4 ∷ []) ∷ []) ≡
       false
-  -- the same after two clauses on a new variable: `5 3 1 0 0`, `6 -3 -1 0 -5 0`, `7 1 0 1 2 0`, `8 0 7 3 4 0`
+  -- refuted after two clauses on a new variable: `5 3 1 0 0`, `6 -3 -1 0 -5 0`, `7 1 0 1 2 0`, `8 0 7 3 4 0`
   pub refuted_rat : refutes (formula_store four) with_new ≡ true
   pub not_rup : all_rup (formula_store four) with_new ≡ false

@@ -4,8 +4,8 @@
 --     MetByMap, MapDecides, AdmittedIsRup      the laws
 use Rattle.std.specs.Prelude.{◌≡◌, ◌↔◌, ℕ, Bool, true, ◌&&◌, if◌then◌else◌, List, [], ◌∷◌, map, Option, Some, None, is_none}
 use Rattle.std.specs.List.{list_all}
-use Rattle.checker_rules.specs.Clauses.{has}
-use Rattle.checker_rules.specs.Hints.{IsAdmitted, Item}
+use Rattle.sat_rules.specs.Clauses.{has}
+use Rattle.sat_rules.specs.Named.{IsAdmitted, Item}
 use Rattle.lrat_rules.specs.Groups.{Group, group_for, is_met, rest_met, without}
 use Rattle.lrat_rules.specs.Lines.{Hint, Line, along, by_rup, run, step}
 use Rattle.lrat_rules.specs.Stores.{find, formula_store, without_ids}
@@ -15,7 +15,7 @@ abbrev pub ids_once : List Item → Bool
 ids_once [] = true
 ids_once (x ∷ st) = is_none (find st x.id) && ids_once st
 
--- the same literals, in any order and number
+-- two clauses with the same literals, in any order and number
 abbrev pub SameLits : List ℕ → List ℕ → Type 0
 SameLits c d = (l : ℕ) → has l c ≡ has l d
 

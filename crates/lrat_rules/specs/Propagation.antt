@@ -4,8 +4,7 @@
 --     is_conflict e, at_end e test      whether it ends in a conflict;  the test where it ends without one
 use Rattle.std.specs.Prelude.{ℕ, Bool, true, false, nat_eq, if◌then◌else◌, List, [], ◌∷◌, Option, Some, None}
 use Rattle.std.specs.List.{list_all}
-use Rattle.checker_rules.specs.Clauses.{add_lit}
-use Rattle.checker_rules.specs.Passes.{unfalsified}
+use Rattle.sat_rules.specs.Clauses.{add_lit, unfalsified}
 use Rattle.lrat_rules.specs.Causes.{Cause, not_unit, unknown_id}
 
 -- a clause was falsified;  the hints are used up, with the literals that are true;  a hint is no good

@@ -3,8 +3,8 @@
 --     CausesAreExact      there is none exactly where the line is accepted
 use Rattle.std.specs.Prelude.{◌≡◌, ◌↔◌, ℕ, Bool, true, not, ◌&&◌, if◌then◌else◌, List, [], ◌∷◌, Option, Some, None, is_some}
 use Rattle.std.specs.List.{list_any}
-use Rattle.checker_rules.specs.Clauses.{has, negate}
-use Rattle.checker_rules.specs.Hints.{Item}
+use Rattle.sat_rules.specs.Clauses.{has, negate}
+use Rattle.sat_rules.specs.Named.{Item}
 use Rattle.lrat_rules.specs.Causes.{Cause, group_fails, group_missing, id_taken, no_conflict}
 use Rattle.lrat_rules.specs.Groups.{Group, all_met, group_for, rest_met, without}
 use Rattle.lrat_rules.specs.Lines.{Line, accepts, adds, deletes, groups, led}

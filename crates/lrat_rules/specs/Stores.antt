@@ -4,8 +4,8 @@
 --     without_ids is st      the entries whose ids are not listed
 --     numbered n cs, formula_store cs      the clauses of a formula under the ids n, n + 1, ..;  from 1
 use Rattle.std.specs.Prelude.{ℕ, suc, ◌==◌, if◌then◌else◌, not, List, [], ◌∷◌, map, filter, Option, Some, None}
-use Rattle.checker_rules.specs.Clauses.{has}
-use Rattle.checker_rules.specs.Hints.{Item}
+use Rattle.sat_rules.specs.Clauses.{has}
+use Rattle.sat_rules.specs.Named.{Item}
 
 -- the clause under an id, where there is one
 abbrev pub find : List Item → ℕ → Option (List ℕ)

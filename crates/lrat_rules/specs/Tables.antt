@@ -4,8 +4,8 @@
 --     cause_by_table t line, table_after t line      the cause for which a line is refused;  the table after an accepted one
 --     IsTableOf t st, TablesDecide      the table of a store;  they decide alike
 use Rattle.std.specs.Prelude.{◌≡◌, ℕ, suc, ◌+◌, ◌-◌, Bool, true, false, ◌||◌, ◌==◌, if◌then◌else◌, List, [], ◌∷◌, Option, Some, None, is_some}
-use Rattle.checker_rules.specs.Clauses.{negate}
-use Rattle.checker_rules.specs.Hints.{Item, negated_set}
+use Rattle.sat_rules.specs.Clauses.{negate}
+use Rattle.sat_rules.specs.Named.{Item, negated_set}
 use Rattle.lrat_rules.specs.Causes.{Cause, group_fails, group_missing, id_taken, no_conflict}
 use Rattle.lrat_rules.specs.Counts.{count_in, count_of, uses}
 use Rattle.lrat_rules.specs.Groups.{Group, rest_met, without}

@@ -8,7 +8,8 @@ ghost use Rattle.lrat_rules.specs.Maps.{AdmittedIsRup, MapDecides, MetByMap};
 ghost use Rattle.lrat_rules.specs.Refusals.{CausesAreExact};
 ghost use Rattle.lrat_rules.specs.Tables.{TablesDecide};
 
-/// A clause added by propagation is true under every model, and an accepted line keeps satisfiability.
+/// A clause added by propagation is true under every model, and an accepted line keeps
+/// satisfiability.
 pub fn lines_keep_models()
     ensures { LinesKeepModels }
 {}
@@ -18,12 +19,14 @@ pub fn runs_keep_models()
     ensures { RunsKeepModels }
 {}
 
-/// Where the empty clause was accepted, or is one of the formula's, no assignment satisfies the formula.
+/// Where the empty clause was accepted, or is one of the formula's, no assignment satisfies the
+/// formula.
 pub fn runs_refute()
     ensures { RunsRefute }
 {}
 
-/// Where no clause was added by its pivot, every assignment that satisfies the formula satisfies all that is stored.
+/// Where no clause was added by its pivot, every assignment that satisfies the formula satisfies
+/// all that is stored.
 pub fn rup_runs_follow()
     ensures { RupRunsFollow }
 {}

@@ -14,7 +14,7 @@ abbrev pub signed : Bool → Option ℕ → Number
 signed negative None = numbers.Large
 signed negative (Some v) = if negative && (v == 0) then numbers.Bad else numbers.Exact negative v
 
--- the same, where digits have a value
+-- the number of digits that have this value; of a word without one, no number
 abbrev pub judged : Bool → Option ℕ → Number
 judged negative None = numbers.Bad
 judged negative (Some v) = signed negative (capped v)

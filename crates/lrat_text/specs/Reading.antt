@@ -22,6 +22,6 @@ abbrev pub line_of : Row → Head → Line
 line_of row (heads.Add id) = adds id row.lits.items (map hint_of row.hints.items)
 line_of row heads.Delete = deletes row.ids.items
 
--- the same, where there is a line
+-- the line of a head, where there is one, and the lists that were read
 abbrev pub line_if : Row → Option Head → Option Line
 line_if row head = option_map (line_of row) head

@@ -46,7 +46,7 @@ impl Number {
     }
 }
 
-// What digits say, after a `-` or not.
+/// What digits say, after a `-` or not.
 fn judged(negative: bool, digits: &[u8]) -> Number
     ensures { result ≡ judged negative (value_of digits.now) }
 {
@@ -73,7 +73,7 @@ fn judged(negative: bool, digits: &[u8]) -> Number
     }
 }
 
-// The value with one more digit, where it fits.
+/// The value with one more digit, where it fits.
 #[inline(always)]
 fn with_digit(value: u64, digit: u8) -> Option<u64>
     ensures { result ≡ capped (value * 10 + digit) }
@@ -95,7 +95,7 @@ pub(crate) fn split_number(bytes: &[u8]) -> Option<(Number, &[u8])>
     Some((Number::of(word), skip_blanks(rest)))
 }
 
-// The same in one pass, where the bytes begin with a number of few digits.
+/// The first number and what is after it, in one pass, where the bytes begin with few digits.
 #[inline(always)]
 fn short_number(bytes: &[u8]) -> Option<(Number, &[u8])>
     ensures first { IfSome result (λ r. IsFirst (words_of bytes.now) r.0 (words_of r.1.now)) }
@@ -114,7 +114,7 @@ fn short_number(bytes: &[u8]) -> Option<(Number, &[u8])>
     Some((Number::Exact { negative, value }, rest))
 }
 
-// The value of a word of few digits in front, and what follows it and its blank.
+/// The value of a word of few digits in front, and what follows it and its blank.
 #[inline(always)]
 fn digits_word(bytes: &[u8]) -> Option<(u64, &[u8])>
     ensures { IfSome result (λ r. IsDigitsWord bytes.now r.0 r.1.now) }
@@ -132,7 +132,7 @@ fn digits_word(bytes: &[u8]) -> Option<(u64, &[u8])>
     Some((value, &bytes[len + 1..]))
 }
 
-// The value of the digits in front, at most ten, and how many they are.
+/// The value of the digits in front, at most ten, and how many they are.
 #[inline(always)]
 fn leading_digits(bytes: &[u8]) -> (u64, usize)
     ensures { HasDigits bytes.now result.1 result.0 }
@@ -144,7 +144,8 @@ fn leading_digits(bytes: &[u8]) -> (u64, usize)
     }
 }
 
-// The same before a place. Where it is a constant, no count is kept.
+/// The value of the digits before a place, and how many they are. Where the place is a constant, no
+/// count is kept.
 #[inline(always)]
 fn digits_up_to(bytes: &[u8], place: usize) -> (u64, usize)
     requires few { place ≤ 18 }

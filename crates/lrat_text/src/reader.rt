@@ -73,7 +73,7 @@ impl<R: Read> LineReader<R> {
         }
     }
 
-    // Reads to the end of a line that says something, or ends.
+    /// Reads to the end of a line that says something, or ends.
     fn begin(&mut self) -> Result<Option<Head>, LratTextFault>
         ensures reads { has_ended self.old ≡ false
             → Answers R.remaining (line_of self.new.row) self.old self.new result }
@@ -89,7 +89,7 @@ impl<R: Read> LineReader<R> {
         Ok(None)
     }
 
-    // Reads one line, whatever it says.
+    /// Reads one line, whatever it says.
     fn one_line(&mut self) -> Result<Option<Head>, Stop>
         ensures judged { JudgesLine R.remaining self.old self.new result }
         ensures nearer { has_ended self.old ≡ false → IsOk result
@@ -105,7 +105,7 @@ impl<R: Read> LineReader<R> {
         said
     }
 
-    // Reads a line that does not stand ahead whole.
+    /// Reads a line that does not stand ahead whole.
     fn held_line(&mut self) -> Result<Option<Head>, Stop>
         ensures judged { JudgesLine R.remaining self.old self.new result }
         ensures nearer { has_ended self.old ≡ false → IsOk result
@@ -121,7 +121,7 @@ impl<R: Read> LineReader<R> {
         self.row.read(self.lines.held(), short)
     }
 
-    // A line was taken, with which the text ended or not.
+    /// A line was taken, with which the text ended or not.
     fn end_line(&mut self, ended: bool)
         ensures { self.new ≡ record self.old {
           number = next_line self.old.number;
@@ -132,7 +132,7 @@ impl<R: Read> LineReader<R> {
         self.ended = ended;
     }
 
-    // Ends, and answers the fault of a stop.
+    /// Ends, and answers the fault of a stop.
     fn stopped(&mut self, stop: Stop) -> LratTextFault
         requires { stop ≡ Stop.Read → IsStopped self.old.lines.source }
         ensures fault { Explains self.old.lines.source self.old.number stop result }

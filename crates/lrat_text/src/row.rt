@@ -103,7 +103,7 @@ impl Row {
     }
 }
 
-// Nothing but blanks follows a line's last 0.
+/// Nothing but blanks follows a line's last 0.
 fn end(bytes: &[u8]) -> Result<(), LineKind>
     ensures ok { OnOk result (words_of bytes.now ≡ []) }
     ensures err { IfErr result (λ kind. (line : Line)

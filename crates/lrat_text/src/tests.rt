@@ -9,7 +9,7 @@ use std::io;
 use std::io::{ErrorKind, Read};
 use std::test::Fail;
 
-// So many bytes a read, and a failure at the read of this number, counted from 1.
+/// So many bytes a read, and a failure at the read of this number, counted from 1.
 #[derive(Drop)]
 struct Pieces<'a> {
     text: &'a [u8],
@@ -33,7 +33,7 @@ impl Read for Pieces<'_> {
     }
 }
 
-// A line as it is written with single blanks; of a deletion without its first number.
+/// A line as it is written with single blanks; of a deletion without its first number.
 fn write_line(line: LratLine, all: &mut String) -> Result<(), AllocError> {
     match line {
         LratLine::Add { id, clause, hints } => {
@@ -59,7 +59,7 @@ fn write_line(line: LratLine, all: &mut String) -> Result<(), AllocError> {
     write!(all, "0")
 }
 
-// Each line and its number, and the text of a fault, to the end.
+/// Each line and its number, and the text of a fault, to the end.
 fn shown<R: Read + Drop>(alloc: Global, inner: R) -> Result<String, Fail> {
     let mut reader = LineReader::new(alloc, inner);
     let mut all = String::new(alloc);

@@ -44,7 +44,7 @@ pub(crate) fn skip_blanks(bytes: &[u8]) -> &[u8]
     rest
 }
 
-// How many bytes stand before the first blank.
+/// How many bytes stand before the first blank.
 fn word_len(bytes: &[u8]) -> usize
     ensures len { result ≤ length bytes.now }
     ensures word { (k : ℕ) → k < result → is_blank (slice_index bytes.now k) ≡ false }

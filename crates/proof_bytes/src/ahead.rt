@@ -49,11 +49,12 @@ pub(crate) fn number_ahead(bytes: &[u8]) -> Option<(u64, usize)>
     }
 }
 
-/// Puts literals that the bytes begin with into an empty vector, and gives how many bytes spell them.
+/// Puts literals that the bytes begin with into an empty vector, and gives how many bytes spell
+/// them.
 ///
-/// It ends before a literal of more than two bytes, and before what is none. It reads `most` at most;
-/// as many as the vector has room for, so that it asks for no memory; and half as many as there are
-/// bytes, so that each finds two bytes without a test.
+/// It ends before a literal of more than two bytes, and before what is none. It reads `most` at
+/// most; as many as the vector has room for, so that it asks for no memory; and half as many as
+/// there are bytes, so that each finds two bytes without a test.
 #[inline(always)]
 pub(crate) fn lits_ahead(bytes: &[u8], most: u64, into: &mut Vec<Lit>) -> usize
     requires { into.old.items ≡ [] }
@@ -82,8 +83,8 @@ pub(crate) fn lits_ahead(bytes: &[u8], most: u64, into: &mut Vec<Lit>) -> usize
 #[inline(always)]
 fn short_lit(first: u8, second: u8) -> Option<(Lit, usize)>
     ensures within { IfSome result (λ r. r.1 ≤ 2) }
-    ensures read { IfSome result (λ r. (more : List ℕ) →
-        lit_at (take r.1 (first ∷ second ∷ []) ++ more) ≡ Ok (r.0, more)) }
+    ensures read { IfSome result (λ r. (more : List ℕ)
+        → lit_at (take r.1 (first ∷ second ∷ []) ++ more) ≡ Ok (r.0, more)) }
 {
     if first < 128 {
         return Some((Lit::from_code(first as usize)?, 1));
@@ -223,8 +224,8 @@ pub(crate) fn wide_ahead(bytes: &[u8], width: u32) -> Option<(u64, usize)>
 fn eight_ahead(bytes: &[u8]) -> Option<u64>
     ensures bytes { IsBytes bytes.now }
     ensures within { IfSome result (λ _. 8 ≤ length bytes.now) }
-    ensures read { IfSome result (λ n. (count : ℕ) → count ≤ 8 → (more : List ℕ) →
-        bytes_at count 0 1 (take count bytes.now ++ more) ≡ Ok (n % 2 ^ (8 * count), more)) }
+    ensures read { IfSome result (λ n. (count : ℕ) → count ≤ 8 → (more : List ℕ)
+        → bytes_at count 0 1 (take count bytes.now ++ more) ≡ Ok (n % 2 ^ (8 * count), more)) }
 {
     if bytes.len() < 8 {
         return None;

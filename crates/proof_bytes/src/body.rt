@@ -120,7 +120,7 @@ impl<R: Read> BodyReader<R> {
         }
     }
 
-    // The next tag, past the mark of a text that begins with it, and the format in force there.
+    /// The next tag, past the mark of a text that begins with it, and the format in force there.
     #[inline(always)]
     fn tag(&mut self, format: Format) -> Result<(Format, u8), Stop>
         requires { IsFormat format }
@@ -152,7 +152,7 @@ impl<R: Read> BodyReader<R> {
         Ok((Format::Bytes { width: 64 }, tag))
     }
 
-    // What follows a tag.
+    /// What follows a tag.
     #[inline(always)]
     fn body(&mut self, format: Format, tag: u8) -> Result<Head, Stop>
         requires { IsFormat format }

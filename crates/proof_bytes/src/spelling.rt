@@ -27,7 +27,7 @@ fn push_step(out: &mut Vec<u8>, format: Format, step: &ProofStep) -> Result<(), 
     push_fields(out, format, step)
 }
 
-// The step, after the mark where it begins a text of version 2.
+/// The step, after the mark where it begins a text of version 2.
 pub(crate) fn push_marked(
     out: &mut Vec<u8>,
     format: Format,
@@ -35,8 +35,8 @@ pub(crate) fn push_marked(
 ) -> Result<(), AllocError>
     requires in_force { IsFormat format }
     requires narrow { all_fit (writing format) (hashes_of (view step.now)) ≡ true }
-    ensures ok { OnOk result (out.new.items ≡
-        out.old.items ++ (mark format ++ spells (writing format) (view step.now))) }
+    ensures ok { OnOk result (out.new.items
+        ≡ out.old.items ++ (mark format ++ spells (writing format) (view step.now))) }
     ensures fits { OnOk result (IsStep (writing format) (view step.now)) }
     ensures grows { Grows out.old.items out.new.items }
 {
@@ -79,8 +79,8 @@ fn push_fields(out: &mut Vec<u8>, format: Format, step: &ProofStep) -> Result<()
 }
 
 fn push_naming(out: &mut Vec<u8>, global: Var, named: Option<Var>) -> Result<(), AllocError>
-    ensures ok { OnOk result (out.new.items ≡
-        out.old.items ++ (number (index_of global) ++ number (name (indexes_of named)))) }
+    ensures ok { OnOk result (out.new.items
+        ≡ out.old.items ++ (number (index_of global) ++ number (name (indexes_of named)))) }
     ensures fits { (index_of global < 2 ^ 28) × IsName (indexes_of named) }
     ensures grows { Grows out.old.items out.new.items }
 {
@@ -89,8 +89,8 @@ fn push_naming(out: &mut Vec<u8>, global: Var, named: Option<Var>) -> Result<(),
 }
 
 fn push_mode(out: &mut Vec<u8>, var: Var, sample: bool) -> Result<(), AllocError>
-    ensures ok { OnOk result (out.new.items ≡
-        out.old.items ++ (number (index_of var) ++ number (flag sample))) }
+    ensures ok { OnOk result (out.new.items
+        ≡ out.old.items ++ (number (index_of var) ++ number (flag sample))) }
     ensures fits { index_of var < 2 ^ 28 }
     ensures grows { Grows out.old.items out.new.items }
 {
@@ -107,8 +107,8 @@ fn push_at_clause(
 ) -> Result<(), AllocError>
     requires in_force { IsFormat format }
     requires narrow { all_fit format hashes.now ≡ true }
-    ensures ok { OnOk result (out.new.items ≡
-        out.old.items ++ (number (flag redundant) ++
+    ensures ok { OnOk result (out.new.items
+        ≡ out.old.items ++ (number (flag redundant) ++
         (numbers clause.now ++ listed (hash format) hashes.now))) }
     ensures fits { OnOk result (AreLits clause.now × AreHashes format hashes.now) }
     ensures grows { Grows out.old.items out.new.items }
@@ -125,8 +125,8 @@ fn push_check(
 ) -> Result<(), AllocError>
     requires in_force { IsFormat format }
     requires narrow { all_fit format hashes.now ≡ true }
-    ensures ok { OnOk result (out.new.items ≡
-        out.old.items ++ (numbers lits.now ++ listed (hash format) hashes.now)) }
+    ensures ok { OnOk result (out.new.items
+        ≡ out.old.items ++ (numbers lits.now ++ listed (hash format) hashes.now)) }
     ensures fits { OnOk result (AreLits lits.now × AreHashes format hashes.now) }
     ensures grows { Grows out.old.items out.new.items }
 {
@@ -139,8 +139,8 @@ fn push_deletion(
     clause: &[Lit],
     proof: DeleteClauseProof,
 ) -> Result<(), AllocError>
-    ensures ok { OnOk result (out.new.items ≡
-        out.old.items ++ (number (justification (why proof)) ++ numbers clause.now)) }
+    ensures ok { OnOk result (out.new.items
+        ≡ out.old.items ++ (number (justification (why proof)) ++ numbers clause.now)) }
     ensures fits { OnOk result (AreLits clause.now) }
     ensures grows { Grows out.old.items out.new.items }
 {

@@ -1,4 +1,5 @@
-//! What no clause of `proof_bytes` says, as tests: vectors, worked texts whatever the cuts, and reads that fail.
+//! What no clause of `proof_bytes` says, as tests: vectors, worked texts whatever the cuts, and
+//! reads that fail.
 //!
 //! They stand apart so that the library is not proved a second time with them.
 #![tactic(auto)]

@@ -13,8 +13,8 @@ const BAD_NUMBER: Fault = Fault::Malformed(MalformedStep::BadNumber);
 
 const OUT_OF_RANGE: Fault = Fault::Malformed(MalformedStep::OutOfRange);
 
-// Whether a text gives these steps, shown as bytes of version 1, then this fault, and then the end;
-// with all bytes at once, and with one a read.
+/// Whether a text gives these steps, shown as bytes of version 1, then this fault, and then the
+/// end; with all bytes at once, and with one a read.
 fn gives(
     alloc: Global,
     text: &[u8],
@@ -131,12 +131,12 @@ fn texts_of_version_2(rt: HostRuntime) -> Result<(), Fail> {
     Ok(())
 }
 
-// A proof of two checks at width 1, whose steps end at 2, 9, 15 and 16.
+/// A proof of two checks at width 1, whose steps end at 2, 9, 15 and 16.
 const TWO_CHECKS: [u8; 16] = [
     0x09, 0x01, 0x06, 0x00, 0x01, 0x00, 0x02, 0x01, 0x00, 0x06, 0x00, 0x00, 0x02, 0x00, 0x01, 0x0D,
 ];
 
-// How many of its steps are in so many bytes, and how many bytes those have.
+/// How many of its steps are in so many bytes, and how many bytes those have.
 fn steps_within(len: usize) -> (u32, usize) {
     match len {
         0..2 => (0, 0),

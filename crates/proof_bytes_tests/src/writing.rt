@@ -44,7 +44,7 @@ fn numbers(rt: HostRuntime) -> Result<(), Fail> {
     Ok(())
 }
 
-// A step of each kind and each form of its fields, a line each.
+/// A step of each kind and each form of its fields, a line each.
 #[rattlefmt::skip]
 const KINDS: [u8; 90] = [
     0x01, 0x00, 0x80, 0x80, 0x80, 0x80, 0x01,
@@ -212,7 +212,7 @@ fn writer_of_version_2(rt: HostRuntime) -> Result<(), Fail> {
     Ok(())
 }
 
-// Hashes of 8 bytes and of 1, and a width that is none, in each step that has hashes.
+/// Hashes of 8 bytes and of 1, and a width that is none, in each step that has hashes.
 #[test]
 fn texts_of_a_writer(rt: HostRuntime) -> Result<(), Fail> {
     let lit = Lit::from_code(2).expect(&rt, "a literal");

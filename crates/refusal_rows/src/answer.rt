@@ -10,13 +10,14 @@ pub type Answer = ArrayString<80>;
 /// What stands in place of another answer where memory was refused to a call.
 pub const WANT_OF_MEMORY: &str = "OutOfMemory";
 
-/// The same where it was refused to a registered box.
+/// Memory that was refused to a registered box.
 pub const WANT_OF_A_BOX: &str = "ProofProcessorError memory allocation failed";
 
 /// What a checker answers once it has failed.
 pub const FAILED: &str = "Failed";
 
-/// The text of an answer: `Ok`, or the name of the fault with the number of the step where it has one, and the cause.
+/// The text of an answer: `Ok`, or the name of the fault with the number of the step where it has
+/// one, and the cause.
 ///
 /// A refused step that is shown ends in `shown`.
 pub fn step_answer(answer: &Result<(), CheckerError>) -> Answer {

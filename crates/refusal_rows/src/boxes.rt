@@ -16,7 +16,8 @@ use std::rc::Rc;
 use varisat_check::{RunFault, run_lrat};
 use varisat_checker::Checker;
 
-/// Registers a processor, and once more where it is handed back for want of memory. None: it is handed back again.
+/// Registers a processor, and once more where it is handed back for want of memory. None: it is
+/// handed back again.
 ///
 /// What it shows and what the checker records are as before each time.
 pub fn register(
@@ -39,7 +40,7 @@ pub fn register(
     }
 }
 
-/// The same for a transcript.
+/// A box for a transcript.
 pub fn register_transcript(
     checker: &mut Checker,
     transcript: Box<dyn ProofTranscriptProcessor>,
@@ -60,7 +61,8 @@ pub fn register_transcript(
     }
 }
 
-/// Registers boxes that have taken a step with another checker, which has a clause. They go on where they were.
+/// Registers boxes that have taken a step with another checker, which has a clause. They go on
+/// where they were.
 pub fn hand_on(alloc: Global) -> Played {
     let processor = Box::new(alloc, Tally::new(alloc))?;
     let transcript = Box::new(alloc, Tally::new(alloc))?;
@@ -94,7 +96,8 @@ fn handed_on(
     }
 }
 
-/// Registers both boxes and adds a clause. None: memory is wanted, and the checker has failed or a box is refused.
+/// Registers both boxes and adds a clause. None: memory is wanted, and the checker has failed or a
+/// box is refused.
 fn fill(
     checker: &mut Checker,
     processor: Box<dyn ProofProcessor>,
@@ -113,7 +116,8 @@ fn fill(
     Ok(Some(with_processor.and(with_transcript)))
 }
 
-/// Adds a clause, registers both boxes, and adds another one. None: as above. A checker that has failed takes no box.
+/// Adds a clause, registers both boxes, and adds another one. None: as above. A checker that has
+/// failed takes no box.
 fn take_over(
     checker: &mut Checker,
     processor: Box<dyn ProofProcessor>,
@@ -222,7 +226,8 @@ pub fn drop_boxes(alloc: Global) -> Played {
     }
 }
 
-/// Registers two processors and a transcript with a checker, and drops it. A box that is refused is dropped too.
+/// Registers two processors and a transcript with a checker, and drops it. A box that is refused is
+/// dropped too.
 fn dropped(
     alloc: Global,
     first: Box<dyn ProofProcessor>,

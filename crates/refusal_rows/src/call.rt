@@ -1,6 +1,7 @@
 //! Calls of a checker as lines of text.
 //!
-//! Literals and variables are DIMACS numbers. A hash is a hexadecimal number, or a letter of `few`'s table.
+//! Literals and variables are DIMACS numbers. A hash is a hexadecimal number, or a letter of
+//! `few`'s table.
 //!
 //! | line | call |
 //! |---|---|

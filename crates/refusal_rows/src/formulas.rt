@@ -73,7 +73,8 @@ pub fn read_large_variables(alloc: Global) -> Played {
     Ok(largest.and(read_one(alloc, b"268435457 0", None)?))
 }
 
-/// Reads a text of one literal, which has this code, or whose variable is too large. There is nothing after it.
+/// Reads a text of one literal, which has this code, or whose variable is too large. There is
+/// nothing after it.
 fn read_one(alloc: Global, text: &[u8], code: Option<usize>) -> Played {
     let mut reader = DimacsReader::new(alloc, Bytewise::new(text));
     let mut clause = Vec::new(alloc);
@@ -120,7 +121,8 @@ fn is_clause(clause: &[Lit], numbers: &str) -> Result<(), Stop> {
     }
 }
 
-/// Copies lists in canonical form. Where one is refused the target is empty, and it is copied once more.
+/// Copies lists in canonical form. Where one is refused the target is empty, and it is copied once
+/// more.
 pub fn copy_lists(alloc: Global) -> Played {
     let mut target = Vec::new(alloc);
     let mut memory = Memory::Ample;

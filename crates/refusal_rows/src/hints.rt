@@ -108,7 +108,8 @@ fn shows(writer: &LratWriter, lines: &str) -> Result<(), Stop> {
     }
 }
 
-/// Makes a checker of hints, and hands it one line after the other. Once memory is wanted it refuses every text.
+/// Makes a checker of hints, and hands it one line after the other. Once memory is wanted it
+/// refuses every text.
 pub fn check_lines(alloc: Global) -> Played {
     let Some(formula) = formula(alloc)? else {
         return Ok(Memory::Wanting);

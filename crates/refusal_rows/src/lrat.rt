@@ -30,17 +30,18 @@ const ADDITIONS: [Addition; 2] = [
     },
 ];
 
-/// The same as text.
+/// The lines as text.
 const TEXT: &[u8] = b"5 1 0 1 2 0\n6 0 5 3 4 0\n";
 
-/// The same as proof bytes.
+/// The lines as proof bytes.
 const BYTES: [u8; 44] = [
     0x00, 0x02, 0x06, 0x01, 0x01, 0x00, 0x02, 0x2A, 0x08, 0x95, 0x02, 0x93, 0x75, 0xAF, 0xC4, 0x41,
     0x8C, 0x63, 0x82, 0x54, 0xFF, 0xE7, 0x66, 0x06, 0x01, 0x00, 0x02, 0x15, 0x8C, 0x4B, 0x83, 0x5A,
     0xFE, 0xD7, 0x66, 0x7E, 0x08, 0xBD, 0x03, 0x9D, 0x74, 0x9F, 0xC4, 0x0D,
 ];
 
-/// Makes a checker of lines, and hands it one after the other. Once memory is wanted it has failed, and shows nothing.
+/// Makes a checker of lines, and hands it one after the other. Once memory is wanted it has failed,
+/// and shows nothing.
 pub fn check_lines(alloc: Global) -> Played {
     let Some(formula) = formula(alloc)? else {
         return Ok(Memory::Wanting);
@@ -79,7 +80,8 @@ fn is_accepted(checker: &mut LratChecker, line: LratLine<'_>) -> Result<bool, St
     }
 }
 
-/// Converts the text. What is written is a beginning of the bytes, and all of them where no memory is wanted.
+/// Converts the text. What is written is a beginning of the bytes, and all of them where no memory
+/// is wanted.
 pub fn convert_lines(alloc: Global) -> Played {
     let Some(formula) = formula(alloc)? else {
         return Ok(Memory::Wanting);

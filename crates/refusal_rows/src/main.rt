@@ -1,10 +1,13 @@
-//! The command `refusal_rows [ROW]`: plays worked rows of calls, and judges what is seen where memory is refused to them.
+//! The command `refusal_rows [ROW]`: plays worked rows of calls, and judges what is seen where
+//! memory is refused to them.
 //!
-//! A test refuses one growth of the program after the other. Either a call's answer is the row's, or it is want of memory,
-//! and then what stands after it must be right. The program itself grows by the boxes that it registers alone.
+//! A test refuses one growth of the program after the other. Either a call's answer is the row's,
+//! or it is want of memory, and then what stands after it must be right. The program itself grows
+//! by the boxes that it registers alone.
 //!
-//! It writes a line for each row; without an argument it plays all of them. The exit status is 0 where each row is as it may
-//! be, 1 where one is not, 2 where there is no such row, and 4 where memory was refused to the program itself.
+//! It writes a line for each row; without an argument it plays all of them. The exit status is 0
+//! where each row is as it may be, 1 where one is not, 2 where there is no such row, and 4 where
+//! memory was refused to the program itself.
 #![tactic(auto)]
 
 mod answer;

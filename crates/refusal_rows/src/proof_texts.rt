@@ -33,7 +33,8 @@ fn step_at(place: usize, unit: &[Lit]) -> ProofStep<'_> {
     }
 }
 
-/// Writes the steps in version 1. A refused one leaves the bytes as they were, and is written once more.
+/// Writes the steps in version 1. A refused one leaves the bytes as they were, and is written once
+/// more.
 pub fn write_numbers(alloc: Global) -> Played {
     written(alloc, None, &[])
 }

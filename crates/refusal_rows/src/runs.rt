@@ -32,7 +32,7 @@ pub fn check_four(alloc: Global) -> Played {
     }
 }
 
-/// The same run with lines of hints. Where there is no verdict, neither is written.
+/// A run with lines of hints. Where there is no verdict, none is written.
 pub fn write_four(alloc: Global) -> Played {
     let Some(formula) = formula(alloc)? else {
         return Ok(Memory::Wanting);
@@ -85,7 +85,8 @@ fn failing_step(read: u64) -> u64 {
     }
 }
 
-/// Adds the four clauses and checks the proof, of which one read fails. What was checked before it stands.
+/// Adds the four clauses and checks the proof, of which one read fails. What was checked before it
+/// stands.
 fn fail_read_of_proof(checker: &mut Checker, failing: u64) -> Played {
     let added = text_answer(&checker.add_dimacs_cnf(&Discard, FOUR));
     if added.as_str() != "Ok" {
@@ -199,7 +200,8 @@ fn failed_text(alloc: Global, text: Text, failing: u64) -> Played {
     fail_read_of_text(&mut checker, text, failing)
 }
 
-/// Adds a text, of which one read fails. The clauses that ended before it stand, and the checker goes on.
+/// Adds a text, of which one read fails. The clauses that ended before it stand, and the checker
+/// goes on.
 fn fail_read_of_text(checker: &mut Checker, text: Text, failing: u64) -> Played {
     let mut broken = Bytewise::failing_at(text.bytes, failing);
     let answer = text_answer(&checker.add_dimacs_cnf(&Discard, &mut broken));

@@ -123,8 +123,8 @@ fn wanted_answer(seen: &str) -> &str {
     "Ok"
 }
 
-/// A box shows the lines with its mark: all of them, or where the checker has failed those of the blocks before, and perhaps
-/// some of the block of the failure.
+/// A box shows the lines with its mark: all of them, or where the checker has failed those of the
+/// blocks before, and perhaps some of the block of the failure.
 fn is_told(script: &str, mark: &str, failed: Option<usize>, output: &[u8]) -> Result<(), Stop> {
     let Ok(text) = str::from_utf8(output) else {
         return Err(Stop::Wrong(Wrong::Boxes));

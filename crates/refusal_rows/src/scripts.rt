@@ -1,7 +1,7 @@
 //! Worked rows as scripts.
 //!
-//! A script has blocks, which an empty line divides. A block is a call, and below it what is seen of the call where no memory
-//! is refused:
+//! A script has blocks, which an empty line divides. A block is a call, and below it what is seen
+//! of the call where no memory is refused:
 //!
 //! - `+ STEP`, `~ STEP`: processors, or transcripts, are told this step;
 //! - `> ANSWER`: what the call answers where it isn't `Ok`.

@@ -1,6 +1,6 @@
 -- A formula: the list of its clauses, each a list of codes.
 use Rattle.std.specs.Prelude.{◌≡◌, ℕ, ◌+◌, max, List, [], ◌∷◌, length, take, drop, sum, fold}
-use Rattle.checker_rules.specs.Clauses.{var_of}
+use Rattle.sat_rules.specs.Clauses.{var_of}
 
 -- literals in one row, cut into pieces of these lengths
 abbrev pub cut : List ℕ → List ℕ → List (List ℕ)

@@ -1,7 +1,7 @@
 -- Formulas that no assignment satisfies.
 --     IsRefuted text      no assignment satisfies the clauses of the text
 use Rattle.std.specs.Prelude.{◌≡◌, ℕ, Bool, false, List}
-use Rattle.checker_rules.specs.Clauses.{all_true}
+use Rattle.sat_rules.specs.Clauses.{all_true}
 use Rattle.sat_formula.specs.Lines.{outcome_of}
 use Rattle.sat_formula.specs.Outcome.{Ended}
 

@@ -1,6 +1,6 @@
 -- Variables by their indexes and literals by their codes.
 use Rattle.std.specs.Prelude.{◌≡◌, ℕ, ℤ, pos, negsuc, ◌+◌, ◌-◌, ◌*◌, Bool, ◌%◌, Option, Some, None, if◌then◌else◌}
-use Rattle.checker_rules.specs.Clauses.{is_negative, var_of}
+use Rattle.sat_rules.specs.Clauses.{is_negative, var_of}
 use Rattle.sat_formula.specs.declared.lit.Var.{Var}
 
 -- the index of a variable

@@ -31,7 +31,8 @@ pub(crate) fn short_number(bytes: &[u8]) -> Option<(Number, usize, u8)>
     Some((Number::Digits { negative, value }, len, end))
 }
 
-// The value of the digits in front, and how many they are. The bound is a constant, so no count is kept.
+/// The value of the digits in front, and how many they are. The bound is a constant, so no count is
+/// kept.
 #[inline(always)]
 fn few_digits(bytes: &[u8]) -> (u64, usize)
     requires { 9 ≤ length bytes.now }

@@ -6,8 +6,8 @@ use crate::lit::Lit;
 use std::alloc::{AllocError, Global};
 use std::marker::Model;
 
-/// A formula in conjunctive normal form: its clauses in the order in which they were added, each with
-/// its literals as they were given.
+/// A formula in conjunctive normal form: its clauses in the order in which they were added, each
+/// with its literals as they were given.
 #[derive(Drop)]
 pub struct CnfFormula {
     lits: Vec<Lit>,

@@ -1,7 +1,7 @@
 //! Variables and literals.
 ghost use Rattle.std.specs.Prelude.{◌≡◌, ◌↔◌, ◌+◌, ◌-◌, ◌*◌, ◌<◌, ◌≤◌, ◌^◌, ◌<ℤ◌, ◌≤ℤ◌, ℕ, pos, unsigned_abs, SomeIff, IfSome, IsSome, not, if◌then◌else◌};
 ghost use Rattle.std.specs.Coded.{coded_ℕ};
-ghost use Rattle.checker_rules.specs.Clauses.{negate, is_negative, var_of};
+ghost use Rattle.sat_rules.specs.Clauses.{is_negative, negate, var_of};
 
 use std::marker::Model;
 use std::ops::Not;
@@ -37,7 +37,7 @@ impl Var {
     /// So many variables there can be at most.
     pub const MAX_COUNT: usize = 0x1000_0000;
 
-    /// The same as `MAX_COUNT`.
+    /// `MAX_COUNT`, as a function.
     pub const fn max_count() -> usize
         ensures { result ≡ 2 ^ 28 }
     {
@@ -110,7 +110,8 @@ impl Lit {
         }
     }
 
-    /// The literal of a number with an absolute value from 1 to `Var::MAX_COUNT`, negative where the number is.
+    /// The literal of a number with an absolute value from 1 to `Var::MAX_COUNT`, negative where
+    /// the number is.
     pub fn from_dimacs(number: i64) -> Option<Lit>
         ensures value { IfSome result (λ lit. dimacs_lit lit ≡ number) }
         ensures range { IsSome result

@@ -4,7 +4,7 @@ use std::io;
 use std::io::{ErrorKind, Read};
 use std::test::Fail;
 
-// So many bytes a read, and a failure at the read of this number, counted from 1.
+/// So many bytes a read, and a failure at the read of this number, counted from 1.
 #[derive(Drop)]
 struct Pieces<'a> {
     text: &'a [u8],
@@ -28,7 +28,7 @@ impl Read for Pieces<'_> {
     }
 }
 
-// Each clause by its numbers, the text of a fault and how many literals it left, to the end.
+/// Each clause by its numbers, the text of a fault and how many literals it left, to the end.
 fn shown<R: Read + Drop>(rt: &HostRuntime, inner: R) -> Result<String, Fail> {
     let mut reader = DimacsReader::new(rt.alloc(), inner);
     let mut lits: Vec<Lit> = Vec::new(rt.alloc());
@@ -55,8 +55,8 @@ fn shown<R: Read + Drop>(rt: &HostRuntime, inner: R) -> Result<String, Fail> {
     Ok(all)
 }
 
-// Texts with their answers, each beside the number of bytes with which it is known; one more than there
-// are stands for the end.
+/// Texts with their answers, each beside the number of bytes with which it is known; one more than
+/// there are stands for the end.
 const EXAMPLES: [(&[u8], &[(usize, &str)]); 16] = [
     (b"", &[(1, "")]),
     (
@@ -94,7 +94,7 @@ const EXAMPLES: [(&[u8], &[(usize, &str)]); 16] = [
     ),
 ];
 
-// What is answered where so many bytes are read and the next read fails.
+/// What is answered where so many bytes are read and the next read fails.
 fn expected(rt: &HostRuntime, answers: &[(usize, &str)], read: usize) -> Result<String, Fail> {
     let mut all = String::new(rt.alloc());
     for (at, answer) in answers {
@@ -160,7 +160,7 @@ fn examples_cut_by_failing_reads(rt: HostRuntime) -> Result<(), Fail> {
     Ok(())
 }
 
-// A clause over more than one buffer, a long comment and a long run of blanks.
+/// A clause over more than one buffer, a long comment and a long run of blanks.
 #[test]
 fn long_texts(rt: HostRuntime) -> Result<(), Fail> {
     let mut text: Vec<u8> = Vec::new(rt.alloc());

@@ -1,4 +1,5 @@
-//! What no clause of `sat_formula` says, as tests: texts, worked examples over readers of any cut, and reads that fail.
+//! What no clause of `sat_formula` says, as tests: texts, worked examples over readers of any cut,
+//! and reads that fail.
 //!
 //! They stand apart so that the library is not proved a second time with them.
 #![tactic(auto)]

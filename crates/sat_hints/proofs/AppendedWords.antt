@@ -2,7 +2,7 @@
 use Rattle.std.proofs.Common.{◌≡◌, ℕ, ◌+◌, ◌<◌, ◌≤◌, List, [], ◌∷◌, ◌++◌, length, get_or, drop, refl, sym, ap, ◌∙◌, append_assoc, append-nil}
 use Rattle.std.specs.Prelude.{map, codes, decimal}
 use Rattle.std.proofs.lemmas.List.{at_drop_all, at_drop_more}
-use Rattle.checker_rules.specs.HintLines.{adds_clause}
+use Rattle.sat_rules.specs.HintLines.{adds_clause}
 use Rattle.sat_hints.specs.WrittenText.{further_words, literal_text, number_text, text_of, words_after_space, zero_word}
 
 -- `spread` puts each word after a space

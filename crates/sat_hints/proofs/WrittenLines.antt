@@ -6,8 +6,8 @@ use Rattle.std.specs.Str.{bytes_eq}
 use Rattle.std.proofs.lemmas.Bool.{and_from, and_parts, cases_Bool, eqb-false, eqb-true, false≢true, le-ltb, leb-true, ne_eqb}
 use Rattle.std.proofs.lemmas.List.Elements.{All-head, All-tail}
 use Rattle.std.proofs.lemmas.List.Folds.{list_all-append}
-use Rattle.checker_rules.specs.Clauses.{is_negative, var_of}
-use Rattle.checker_rules.specs.HintLines.{HintLine, adds_clause, deletes_clauses}
+use Rattle.sat_rules.specs.Clauses.{is_negative, var_of}
+use Rattle.sat_rules.specs.HintLines.{HintLine, adds_clause, deletes_clauses}
 use Rattle.sat_formula.specs.Bytes.{is_blank, is_digit, is_lf}
 use Rattle.sat_formula.specs.Vars.{lit_code}
 use Rattle.hint_checker.specs.Text.{addition, clause_to_zero, clause_word, deletion, ids_to_end, is_comment, line_after}

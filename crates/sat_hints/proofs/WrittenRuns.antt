@@ -4,15 +4,15 @@ use Rattle.std.proofs.Common.{◌≡◌, ℕ, ◌^◌, ◌<◌, Bool, true, fals
 use Rattle.std.specs.Prelude.{is_some, take}
 use Rattle.std.specs.List.{list_any}
 use Rattle.std.proofs.lemmas.List.Folds.{list_any-append}
+use Rattle.sat_rules.specs.HintLines.{HintLine, Listed, listing}
+use Rattle.sat_rules.proofs.HintLineFacts.{some-same}
 use Rattle.checker_rules.specs.CallEmissions.{empty_machine}
 use Rattle.checker_rules.specs.CheckedSteps.{NamedStep, hint_step, hint_steps}
 use Rattle.checker_rules.specs.FormulaEmissions.{input_steps}
-use Rattle.checker_rules.specs.HintLines.{HintLine, Listed, listing}
 use Rattle.checker_rules.specs.HintRun.{HintStep, IsRun, fails_core, lowers, puts_derived, puts_input, removes}
 use Rattle.checker_rules.specs.Ran.{Ran}
 use Rattle.checker_rules.specs.WrittenLines as rules
 use Rattle.checker_rules.specs.WrittenLines.{Writer, WriterFault, after_written, line_of, new_writer, writer_fault}
-use Rattle.checker_rules.proofs.HintLineFacts.{some-same}
 use Rattle.sat_formula.specs.Lines.{lines_of}
 use Rattle.hint_checker.specs.Checked.{Accepts, adds_empty, said_all}
 use Rattle.hint_checker.proofs.CheckLemmas.{added_by_lines}

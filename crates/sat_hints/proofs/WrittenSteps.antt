@@ -1,8 +1,8 @@
 -- What a checked step asks, where it asks one thing.
 use Rattle.std.proofs.Common.{◌≡◌, List, [], ◌∷◌, ◌++◌, Some, None, refl, sym, ap, ◌∙◌, append-nil}
 use Rattle.std.specs.Prelude.{cond, is_some, Option}
+use Rattle.sat_rules.specs.HintLines.{HintLine}
 use Rattle.checker_rules.specs.CheckedSteps.{CheckedStep, hint_step}
-use Rattle.checker_rules.specs.HintLines.{HintLine}
 use Rattle.checker_rules.specs.HintRun.{HintStep}
 use Rattle.checker_rules.specs.WrittenLines as rules
 use Rattle.checker_rules.specs.WrittenLines.{line_of, lines_of, writer_fault}

@@ -5,8 +5,8 @@ use Rattle.std.specs.List.{list_all, list_any}
 use Rattle.std.proofs.lemmas.Bool.{and_parts, leb-false, not-true, or_parts}
 use Rattle.std.proofs.lemmas.List.Elements.{All-append, All-cons, All-head, All-nil, All-tail}
 use Rattle.std.proofs.lemmas.Option.{none-some}
+use Rattle.sat_rules.specs.HintLines.{HintLine, adds_clause, deletes_clauses}
 use Rattle.checker_rules.specs.FormulaEmissions.{input_steps}
-use Rattle.checker_rules.specs.HintLines.{HintLine, adds_clause, deletes_clauses}
 use Rattle.checker_rules.specs.HintRun.{HintStep, fails_core, lowers, puts_derived, puts_input, removes}
 use Rattle.checker_rules.specs.WrittenLines as rules
 use Rattle.checker_rules.specs.WrittenLines.{Writer, WriterFault, after_written, fault_if, is_large, line_of, new_writer, number_of, writer_fault}

@@ -7,8 +7,8 @@
 use Rattle.std.specs.Prelude.{◌≡◌, ℕ, nat_eq, if◌then◌else◌, List, [], ◌∷◌, ◌++◌, Option, Some, None, is_some}
 use Rattle.std.specs.HashSet.{contains}
 use Rattle.std.specs.List.{list_any}
+use Rattle.sat_rules.specs.HintLines.{HintLine}
 use Rattle.checker_rules.specs.CheckedSteps.{CheckedStep, hint_step}
-use Rattle.checker_rules.specs.HintLines.{HintLine}
 use Rattle.checker_rules.specs.HintRun.{HintStep}
 use Rattle.checker_rules.specs.WrittenLines as rules
 use Rattle.checker_rules.specs.WrittenLines.{Writer, after_written, fault_if, is_large, line_of, lines_of, number_of, writer_fault}

@@ -7,10 +7,10 @@
 --     WriterIsAccepted      so it is with what a writer wrote of such a run
 use Rattle.std.specs.Prelude.{◌≡◌, ℕ, ◌^◌, ◌<◌, Bool, true, false, List, [], ◌++◌, length, take, None, All}
 use Rattle.std.specs.List.{list_any}
+use Rattle.sat_rules.specs.HintLines.{Listed, is_empty, listing}
 use Rattle.checker_rules.specs.CallEmissions.{empty_machine}
 use Rattle.checker_rules.specs.CheckedSteps.{NamedStep, hint_steps}
 use Rattle.checker_rules.specs.FormulaEmissions.{input_steps}
-use Rattle.checker_rules.specs.HintLines.{Listed, is_empty, listing}
 use Rattle.checker_rules.specs.HintRun.{HintStep, IsRun, fails_core, lowers, puts_derived, puts_input, removes}
 use Rattle.checker_rules.specs.Ran.{Ran}
 use Rattle.checker_rules.specs.WrittenLines as rules

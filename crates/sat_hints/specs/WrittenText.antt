@@ -6,8 +6,8 @@
 --     HasFittingNumbers x      what the words of a line can say
 --     WrittenIsRead      such a line is read again
 use Rattle.std.specs.Prelude.{◌≡◌, ℕ, suc, ◌^◌, ◌<◌, if◌then◌else◌, List, [], ◌∷◌, ◌++◌, map, codes, decimal, All}
-use Rattle.checker_rules.specs.Clauses.{is_negative, var_of}
-use Rattle.checker_rules.specs.HintLines.{HintLine, adds_clause, deletes_clauses}
+use Rattle.sat_rules.specs.Clauses.{is_negative, var_of}
+use Rattle.sat_rules.specs.HintLines.{HintLine, adds_clause, deletes_clauses}
 use Rattle.sat_formula.specs.Bytes.{minus_sign}
 use Rattle.hint_checker.specs.Text.{Line, said_by}
 

@@ -3,9 +3,9 @@
 --     HasFittingCodes e      the literals of a clause that a step adds can be written
 --     TextIsAccepted      the text of a run, written without a fault, is accepted after the formula's clauses
 use Rattle.std.specs.Prelude.{◌≡◌, ℕ, ◌^◌, ◌<◌, true, List, ◌++◌, length, take, Some, None, All}
+use Rattle.sat_rules.specs.HintLines.{HintLine, Listed, listing}
 use Rattle.checker_rules.specs.CallEmissions.{empty_machine}
 use Rattle.checker_rules.specs.FormulaEmissions.{input_steps}
-use Rattle.checker_rules.specs.HintLines.{HintLine, Listed, listing}
 use Rattle.checker_rules.specs.HintRun.{HintStep, IsRun, fails_core, lowers, puts_derived, puts_input, removes}
 use Rattle.checker_rules.specs.WrittenLines as rules
 use Rattle.checker_rules.specs.WrittenLines.{new_writer, no_input}

@@ -28,8 +28,8 @@ fn push_literal(text: &mut Vec<u8>, lit: Lit) -> Result<(), AllocError>
 
 /// Appends each literal after a space.
 pub(crate) fn push_literals(text: &mut Vec<u8>, lits: &[Lit]) -> Result<(), AllocError>
-    ensures { OnOk result (text.new.items ≡
-        text.old.items ++ words_after_space (map literal_text lits.now)) }
+    ensures { OnOk result (text.new.items
+        ≡ text.old.items ++ words_after_space (map literal_text lits.now)) }
 {
     for lit in lits {
         push_literal(text, *lit)?;

@@ -1,7 +1,7 @@
 //! A writer of lines of hints: a processor of checked steps.
 ghost use Rattle.std.specs.Prelude.{◌≡◌, ◌+◌, ◌++◌, ◌∷◌, ℕ, suc, List, [], None, map, decimal, IfErr, IfOk, OnErr, OnOk};
 ghost use Rattle.checker_parts.specs.CheckedSteps.{step_of};
-ghost use Rattle.checker_rules.specs.HintLines.{adds_clause, deletes_clauses};
+ghost use Rattle.sat_rules.specs.HintLines.{adds_clause, deletes_clauses};
 ghost use Rattle.checker_rules.specs.HintRun.{puts_derived, puts_input, removes};
 ghost use Rattle.checker_rules.specs.WrittenLines.{new_writer, number_of, writer_fault};
 ghost use Rattle.sat_hints.specs.WrittenText.{words_after_space, lines_text};
@@ -144,8 +144,8 @@ impl LratWriter {
         clause: &[Lit],
         propagations: &[u64],
     ) -> Result<Vec<u8>, WriterFault>
-        ensures line { IfOk result (λ line. line.items ≡
-            lines_text (adds_clause number clause.now
+        ensures line { IfOk result (λ line. line.items
+            ≡ lines_text (adds_clause number clause.now
             (map (number_of (writer_of self.now)) propagations.now) ∷ [])) }
         ensures fit { OnOk result (hints_fault (writer_of self.now) propagations.now ≡ None) }
         ensures fault { IfErr result (λ fault. IsFault fault
@@ -162,8 +162,8 @@ impl LratWriter {
 
     /// The line that deletes the clause of a number.
     fn deletion(&self, number: u64) -> Result<Vec<u8>, AllocError>
-        ensures { IfOk result (λ line. line.items ≡
-            lines_text (deletes_clauses self.now.last (number ∷ []) ∷ [])) }
+        ensures { IfOk result (λ line. line.items
+            ≡ lines_text (deletes_clauses self.now.last (number ∷ []) ∷ [])) }
     {
         let mut line = Vec::new(self.alloc);
         push_number(&mut line, self.last)?;
@@ -175,8 +175,8 @@ impl LratWriter {
 
     /// Appends the number of each id after a space.
     fn push_hints(&self, line: &mut Vec<u8>, ids: &[u64]) -> Result<(), WriterFault>
-        ensures line { OnOk result (line.new.items ≡
-            line.old.items ++ words_after_space
+        ensures line { OnOk result (line.new.items
+            ≡ line.old.items ++ words_after_space
             (map decimal (map (number_of (writer_of self.now)) ids.now))) }
         ensures fit { OnOk result (hints_fault (writer_of self.now) ids.now ≡ None) }
         ensures fault { IfErr result (λ fault. IsFault fault

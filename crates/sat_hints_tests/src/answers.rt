@@ -6,7 +6,7 @@ use std::test::Fail;
 
 type Answer = Result<bool, HintFault>;
 
-// A formula of these clauses, in numbers as in DIMACS.
+/// A formula of these clauses, in numbers as in DIMACS.
 fn formula(rt: &HostRuntime, clauses: &[&[i64]]) -> Result<CnfFormula, Fail> {
     let mut formula = CnfFormula::new(rt.alloc());
     for clause in clauses {
@@ -23,7 +23,7 @@ const UNITS: &[&[i64]] = &[&[1], &[-1]];
 
 const PAIRS: &[&[i64]] = &[&[1, 2], &[1, -2], &[-1, 2], &[-1, -2]];
 
-// A formula, and texts with their answers, one after the other.
+/// A formula, and texts with their answers, one after the other.
 const CALLS: [(&[&[i64]], &[(&[u8], Answer)]); 26] = [
     (UNITS, &[(b"", Ok(false))]),
     (UNITS, &[(b"5 0 1 2 0", Ok(true))]),
@@ -123,7 +123,7 @@ const CALLS: [(&[&[i64]], &[(&[u8], Answer)]); 26] = [
     ),
 ];
 
-// Whether the texts are answered so, one after the other.
+/// Whether the texts are answered so, one after the other.
 fn answers_are(
     rt: &HostRuntime,
     clauses: &[&[i64]],

@@ -1,4 +1,5 @@
-//! What no clause of `sat_hints` and `hint_checker` says, as tests: worked texts and worked steps, what is refused, and texts of faults.
+//! What no clause of `sat_hints` and `hint_checker` says, as tests: worked texts and worked steps,
+//! what is refused, and texts of faults.
 //!
 //! They stand apart so that the libraries are not proved a second time with them.
 #![tactic(auto)]

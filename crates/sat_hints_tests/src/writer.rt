@@ -10,10 +10,10 @@ use std::alloc::Global;
 use std::process::Abort;
 use std::test::Fail;
 
-// What a step answers.
+/// What a step answers.
 type Answer = Result<(), WriterFault>;
 
-// The literals of these numbers.
+/// The literals of these numbers.
 fn lits(alloc: Global, numbers: &[i64]) -> Result<Vec<Lit>, Fail> {
     let mut lits = Vec::new(alloc);
     for number in numbers {
@@ -22,14 +22,15 @@ fn lits(alloc: Global, numbers: &[i64]) -> Result<Vec<Lit>, Fail> {
     Ok(lits)
 }
 
-// Tells an input clause. A function that makes a step has to name the type behind the references of steps.
+/// Tells an input clause. A function that makes a step has to name the type behind the references
+/// of steps.
 fn add(alloc: Global, writer: &mut LratWriter, id: u64, numbers: &[i64]) -> Result<Answer, Fail> {
     let _propagations = ResolutionPropagations {};
     let clause = &lits(alloc, numbers)?;
     Ok(writer.write_step(&CheckedProofStep::AddClause { id, clause }))
 }
 
-// Tells a derived clause.
+/// Tells a derived clause.
 fn derive(
     alloc: Global,
     writer: &mut LratWriter,
@@ -47,7 +48,7 @@ fn derive(
     }))
 }
 
-// A writer that was told these input clauses, under the ids from 0 on.
+/// A writer that was told these input clauses, under the ids from 0 on.
 fn told(
     rt: &impl Abort,
     alloc: Global,
@@ -62,7 +63,7 @@ fn told(
     Ok(writer)
 }
 
-// The text is this.
+/// The text is this.
 fn wrote(rt: &impl Abort, writer: &LratWriter, text: &str) {
     assert_eq!(rt; writer.output(), text.as_bytes());
 }

@@ -10,7 +10,7 @@ use varisat_check::{Verdict, run_lrat};
 
 const FOUR: &[u8] = b"1 2 0 1 -2 0 -1 2 0 -1 -2 0";
 
-// With hashes of one bit, [1] and then [].
+/// With hashes of one bit, [1] and then [].
 const PROOF: &[u8] = b"\x09\x01\x06\x00\x01\x00\x02\x01\x00\x06\x00\x00\x02\x00\x01\x0D";
 
 const LINES: &[u8] = b"9 1 0 1 2 0\n10 0 9 3 4 0\n";

@@ -11,7 +11,7 @@ use std::process::Abort;
 use std::test::Fail;
 use varisat_checker::context::Context;
 
-// The ids of the clauses in the bucket of a hash.
+/// The ids of the clauses in the bucket of a hash.
 fn ids_in(alloc: Global, ctx: &Context, hash: ClauseHash) -> Result<Vec<u64>, Fail> {
     let mut ids = Vec::new(alloc);
     if let Some(bucket) = ctx.clauses.buckets.get(&hash) {
@@ -22,7 +22,7 @@ fn ids_in(alloc: Global, ctx: &Context, hash: ClauseHash) -> Result<Vec<u64>, Fa
     Ok(ids)
 }
 
-// The hash of a clause, by the names that are applied.
+/// The hash of a clause, by the names that are applied.
 fn hash_of(alloc: Global, ctx: &Context, numbers: &str) -> Result<ClauseHash, Fail>
     requires { ContextInvariant ctx.now }
 {
@@ -50,7 +50,7 @@ fn has_two_buckets(rt: &impl Abort, alloc: Global, ctx: &mut Context) -> Result<
     Ok(())
 }
 
-// The hashes of the four clauses, of one bit.
+/// The hashes of the four clauses, of one bit.
 fn has_one_bit(rt: &impl Abort, alloc: Global, ctx: &Context) -> Result<(), Fail>
     requires { ContextInvariant ctx.now }
 {
@@ -60,7 +60,7 @@ fn has_one_bit(rt: &impl Abort, alloc: Global, ctx: &Context) -> Result<(), Fail
     Ok(())
 }
 
-// Names a variable for the solver.
+/// Names a variable for the solver.
 fn name(alloc: Global, ctx: &mut Context, number: &str) -> Result<Option<CheckCause>, Fail>
     requires { ContextInvariant ctx.old }
     ensures { OnOk result (ContextInvariant ctx.new) }

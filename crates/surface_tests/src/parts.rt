@@ -13,12 +13,12 @@ use varisat_checker::clauses::{StoreClauseResult, UnitId, add_clause, store_unit
 use varisat_checker::context::Context;
 use varisat_checker::processing::process_step;
 
-// The literal of a DIMACS number.
+/// The literal of a DIMACS number.
 fn lit(number: i64) -> Result<Lit, Fail> {
     Ok(Lit::from_dimacs(number).ok_or("no literal")?)
 }
 
-// The value of a literal, with the id of the stored unit that gives it.
+/// The value of a literal, with the id of the stored unit that gives it.
 fn value_of(ctx: &Context, lit: Lit) -> Option<(bool, u64)> {
     let (value, unit) = ctx.clauses.lit_value(lit)?;
     match unit.id {
@@ -70,7 +70,7 @@ fn stores_once(rt: &impl Abort, alloc: Global, ctx: &mut Context) -> Result<(), 
     Ok(())
 }
 
-// Stores a unit of a known variable.
+/// Stores a unit of a known variable.
 fn store(ctx: &mut Context, unit: Lit) -> Result<(u64, StoreClauseResult), Fail> {
     if unit.index() >= ctx.clauses.unit_clauses.len() {
         return Err("the variable is unknown".into());

@@ -3,10 +3,10 @@
 --     counted, formula_refuted      what the verdict says
 --     processor_refused, proof_refused      what else is answered
 use Rattle.std.proofs.Common.{◌≡◌, ℕ, ◌≤◌, Bool, true, false, List, [], ◌∷◌, ◌++◌, map, get_or, Option, Ok, Err, refl, sym, ap, ◌∙◌, subst, arith, append_assoc}
+use Rattle.sat_rules.specs.Clauses.{all_true}
 use Rattle.checker_rules.specs.AddFormula.{add_clauses, added}
 use Rattle.checker_rules.specs.CallEmissions.{EmitsCalls, empty_machine}
 use Rattle.checker_rules.specs.Calls.{adds, fail, shown_inputs, shown_unsat}
-use Rattle.checker_rules.specs.Clauses.{all_true}
 use Rattle.checker_rules.specs.CheckedSteps.{NamedStep, hint_step, hint_steps}
 use Rattle.checker_rules.specs.HintRun.{IsRun, machine_after}
 use Rattle.checker_rules.specs.Machine.{Mirrors}

@@ -1,10 +1,10 @@
 -- Adding input clauses does not fail a checker.
 use Rattle.std.proofs.Common.{◌≡◌, ℕ, Bool, true, false, not, ltb, leb, ◌&&◌, List, [], ◌∷◌, Option, Some, None, refl, ap, ◌∙◌}
 use Rattle.std.proofs.lemmas.Bool.{cond_both}
+use Rattle.sat_rules.specs.Clauses.{is_tautology, var_of}
 use Rattle.checker_rules.specs.AddClause.{step_add_clause, store_input}
 use Rattle.checker_rules.specs.AddFormula.{add_clauses}
 use Rattle.checker_rules.specs.Canonical.{canonical}
-use Rattle.checker_rules.specs.Clauses.{is_tautology, var_of}
 use Rattle.checker_rules.specs.KnownVars.{know_clause, some_not_sampling}
 use Rattle.checker_rules.specs.Outcome.{Outcome, and_then, and_then_by}
 use Rattle.checker_rules.specs.State.{State, StoredUnit, makes_true, unit_of}

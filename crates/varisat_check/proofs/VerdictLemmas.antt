@@ -7,9 +7,9 @@
 use Rattle.std.proofs.Common.{◌≡◌, ◌≤◌, ℕ, Bool, true, false, not, List, [], map, Option, Some, None, Result, Ok, Err, refl, sym, ap, ◌∙◌, subst, arith}
 use Rattle.std.specs.Prelude.{◌==◌, ◌-◌, if◌then◌else◌, IfOk}
 use Rattle.std.proofs.lemmas.Bool.{and_parts, eqb-true}
+use Rattle.sat_rules.specs.Clauses.{all_true}
 use Rattle.checker_rules.specs.Calls.{shown_inputs, shown_unsat}
 use Rattle.checker_rules.specs.CheckedSteps.{NamedStep}
-use Rattle.checker_rules.specs.Clauses.{all_true}
 use Rattle.checker_rules.specs.Headline.{holds}
 use Rattle.checker_rules.specs.State.{State}
 use Rattle.checker_rules.specs.Step.{Step, add_clause}

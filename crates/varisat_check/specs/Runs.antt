@@ -5,8 +5,8 @@
 --     CheckRun cnf proof r      the run over both texts
 --     IsUnwritten r, BeginsLine      the verdict's line was not written whole, and what was written then
 use Rattle.std.specs.Prelude.{◌≡◌, ℕ, Bool, false, List, Option, Result, Ok, Err, IfOk}
+use Rattle.sat_rules.specs.Clauses.{all_true}
 use Rattle.checker_rules.specs.Calls.{shown_inputs}
-use Rattle.checker_rules.specs.Clauses.{all_true}
 use Rattle.checker_rules.specs.State.{State}
 use Rattle.checker_rules.specs.Steps.{new_state}
 use Rattle.checker_rules.specs.Step.{Step}

@@ -10,7 +10,8 @@ use std::io::Read;
 
 /// Reads a formula as DIMACS text, the whole of it, or answers the first fault, as that of a run.
 ///
-/// A failed read and want of memory are answered where they come. On a fault the clauses before it are dropped.
+/// A failed read and want of memory are answered where they come. On a fault the clauses before it
+/// are dropped.
 pub fn read_formula<F: Read + Drop>(alloc: Global, cnf: F) -> Result<CnfFormula, RunFault>
     ensures { ReadsFormula (F.remaining cnf) result }
 {

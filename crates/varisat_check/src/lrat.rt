@@ -1,7 +1,7 @@
 //! Runs whose checked steps a processor writes.
 ghost use Rattle.std.specs.Prelude.{◌≡◌, ℕ, Bool, false, IfOk, IfErr, OnErr, OnOk};
 ghost use Rattle.std.specs.Io.KnownBytes.{Appends};
-ghost use Rattle.checker_rules.specs.Clauses.{all_true};
+ghost use Rattle.sat_rules.specs.Clauses.{all_true};
 ghost use Rattle.varisat_check.specs.LratRuns.{IsRefusedRun, LratRun, RefusesRun, StopsInTurn, StopsWriting};
 ghost use Rattle.varisat_check.specs.Runs.{IsUnwritten};
 ghost use Rattle.varisat_check.specs.Verdicts.{shown_line};
@@ -23,12 +23,13 @@ use whole_writes::write_whole;
 /// A checker with processors of one type, and no transcripts.
 type WriterChecker<P> = CheckerOf<P, Box<dyn ProofTranscriptProcessor>>;
 
-/// Adds a formula to a new checker with a writer, checks the proof, and writes the writer's output and then the verdict's line.
+/// Adds a formula to a new checker with a writer, checks the proof, and writes the writer's output
+/// and then the verdict's line.
 ///
-/// The writer is registered before anything else, so it is told every step, and it is handed back. Nothing is written
-/// unless the whole proof is accepted. Where a write fails, the verdict stood: a beginning of the
-/// output is written and nothing of the line, or the whole output and a beginning of the line. On
-/// every fault the writer is dropped.
+/// The writer is registered before anything else, so it is told every step, and it is handed back.
+/// Nothing is written unless the whole proof is accepted. Where a write fails, the verdict stood: a
+/// beginning of the output is written and nothing of the line, or the whole output and a beginning
+/// of the line. On every fault the writer is dropped.
 pub fn run_lrat<L: Log, P: ProofProcessor, R: Read + Drop, W: Write, V: Write>(
     rt: &L,
     alloc: Global,
@@ -49,8 +50,8 @@ pub fn run_lrat<L: Log, P: ProofProcessor, R: Read + Drop, W: Write, V: Write>(
     ensures unwritten { IsUnwritten result → StopsWriting
         P.took P.shown (R.remaining proof) formula.now writer
         (V.contents lrat.old) (V.contents lrat.new) (W.contents out.old) (W.contents out.new) }
-    ensures refutes { IfOk result (λ given. given.0 ≡ Unsatisfiable → (a : ℕ → Bool) →
-        all_true a formula.now ≡ false) }
+    ensures refutes { IfOk result (λ given. given.0 ≡ Unsatisfiable → (a : ℕ → Bool)
+        → all_true a formula.now ≡ false) }
 {
     let mut checker: WriterChecker<P> = CheckerOf::new(alloc);
     if let Err((_, fault)) = checker.add_processor(writer) {

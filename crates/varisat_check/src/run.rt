@@ -28,8 +28,8 @@ use whole_writes::write_whole;
 
 /// Checks a proof with a checker that has its formula, and writes the verdict's line.
 ///
-/// Nothing is written unless the whole proof is accepted. Where the line can't be written whole, the
-/// verdict stood, and a beginning of the line is written. The checker stays in the state that
+/// Nothing is written unless the whole proof is accepted. Where the line can't be written whole,
+/// the verdict stood, and a beginning of the line is written. The checker stays in the state that
 /// `check_proof` leaves.
 pub fn run_proof<L: Log, R: Read + Drop, W: Write, P: ProofProcessor, T: ProofTranscriptProcessor>(
     rt: &L,
@@ -37,22 +37,22 @@ pub fn run_proof<L: Log, R: Read + Drop, W: Write, P: ProofProcessor, T: ProofTr
     proof: R,
     out: &mut W,
 ) -> Result<Verdict, RunFault>
-    ensures failed { (state checker.old).failed ≡ true →
-        IsFailedRun result × (checker.new ≡ checker.old) }
+    ensures failed { (state checker.old).failed ≡ true
+        → IsFailedRun result × (checker.new ≡ checker.old) }
     ensures run { (state checker.old).failed ≡ false → OnProof (λ answer.
         ProofRun (R.remaining proof) (state checker.old) answer (state checker.new)
         P.took P.faulted T.took T.faulted (listeners checker.old) (listeners checker.new)) result }
     ensures records { OnProof (λ answer. RecordsFailure answer (state checker.new)) result }
-    ensures verdict { IfOk result (λ verdict. verdict ≡
-        verdict_of (shown_inputs (state checker.old)) (state checker.new)) }
+    ensures verdict { IfOk result (λ verdict. verdict
+        ≡ verdict_of (shown_inputs (state checker.old)) (state checker.new)) }
     ensures line { IfOk result (λ verdict. Appends (W.contents out.old) (W.contents out.new)
         (shown_line verdict)) }
     ensures silent { IsRefusedRun result → out.new ≡ out.old }
     ensures unwritten { IsUnwritten result → AppendsBeginning (W.contents out.old)
         (W.contents out.new)
         (shown_line (verdict_of (shown_inputs (state checker.old)) (state checker.new))) }
-    ensures refutes { result ≡ Ok Unsatisfiable → (before : List Step) →
-        IsCovered before (state checker.old) → (a : ℕ → Bool) → holds before a ≡ false }
+    ensures refutes { result ≡ Ok Unsatisfiable → (before : List Step)
+        → IsCovered before (state checker.old) → (a : ℕ → Bool) → holds before a ≡ false }
 {
     let inputs = checker.input_clauses();
     if let Err(fault) = checker.check_proof(rt, proof) {
@@ -82,8 +82,8 @@ pub fn run_check<L: Log, F: Read + Drop, P: Read + Drop, W: Write>(
     ensures silent { IsRefusedRun result → out.new ≡ out.old }
     ensures unwritten { IsUnwritten result → BeginsLine (F.remaining cnf) (P.remaining proof)
         (W.contents out.old) (W.contents out.new) }
-    ensures refutes { (text : List ℕ) → F.remaining cnf ≡ Some text →
-        result ≡ Ok Unsatisfiable → IsRefuted text }
+    ensures refutes { (text : List ℕ) → F.remaining cnf ≡ Some text
+        → result ≡ Ok Unsatisfiable → IsRefuted text }
 {
     let mut checker = Checker::new(alloc);
     if let Err(fault) = checker.add_dimacs_cnf(rt, cnf) {
@@ -92,7 +92,8 @@ pub fn run_check<L: Log, F: Read + Drop, P: Read + Drop, W: Write>(
     run_proof(rt, &mut checker, proof, out)
 }
 
-/// The verdict of a checker that accepted a proof, and whose count of input clauses was this before it.
+/// The verdict of a checker that accepted a proof, and whose count of input clauses was this before
+/// it.
 pub(crate) fn verdict_after<P: ProofProcessor, T: ProofTranscriptProcessor>(
     checker: &CheckerOf<P, T>,
     inputs: u64,

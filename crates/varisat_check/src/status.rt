@@ -5,7 +5,8 @@ ghost use Rattle.varisat_check.specs.Verdicts.{status_of};
 use crate::fault::RunFault;
 use crate::verdict::Verdict;
 
-/// The exit status of a program that made this run: 0 says that no assignment satisfies the formula.
+/// The exit status of a program that made this run: 0 says that no assignment satisfies the
+/// formula.
 pub fn exit_status(outcome: &Result<Verdict, RunFault>) -> u8
     ensures { result ≡ status_of outcome.now }
 {

@@ -9,7 +9,7 @@ use std::process::Abort;
 use std::test::Fail;
 use varisat_check::{RunFault, read_formula};
 
-// Each clause by its numbers, or the text of the fault.
+/// Each clause by its numbers, or the text of the fault.
 fn shown(alloc: Global, answer: Result<CnfFormula, RunFault>) -> Result<String, Fail> {
     let formula = match answer {
         Ok(formula) => formula,

@@ -1,4 +1,5 @@
-//! Runs of the checker of hints: their lines and statuses, texts of faults, readers and writers that fail.
+//! Runs of the checker of hints: their lines and statuses, texts of faults, readers and writers
+//! that fail.
 use crate::four_clauses::FOUR;
 use crate::streams::{Full, broken, byte_by_byte, without_memory};
 use hint_check::{RunFault, Verdict, exit_status, run_check};
@@ -8,14 +9,14 @@ use std::io::{ErrorKind, Read};
 use std::process::Abort;
 use std::test::Fail;
 
-// What a run answers: its verdict or the text of its fault, what it wrote, and its exit status.
+/// What a run answers: its verdict or the text of its fault, what it wrote, and its exit status.
 type Outcome<'a> = (Result<Verdict, &'a str>, &'a str, u8);
 
 const VERIFIED: Outcome<'static> = (Ok(Verdict::Verified), "s VERIFIED UNSAT\n", 0);
 
 const NOT_VERIFIED: Outcome<'static> = (Ok(Verdict::NotVerified), "s NOT VERIFIED\n", 3);
 
-// Where the formula or the hints are refused nothing is written.
+/// Where the formula or the hints are refused nothing is written.
 fn refused(text: &str) -> Outcome<'_> {
     (Err(text), "", 1)
 }
@@ -95,7 +96,7 @@ fn reads_that_fail(rt: HostRuntime) -> Result<(), Fail> {
     check(&rt, alloc, UNITS.as_bytes(), broken(hints), refused(&text))
 }
 
-// A reader without memory is no failed read.
+/// A reader without memory is no failed read.
 #[test]
 fn reads_without_memory(rt: HostRuntime) -> Result<(), Fail> {
     let hints = without_memory("5 0 1 2 0\n".as_bytes());

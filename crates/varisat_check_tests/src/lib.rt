@@ -1,4 +1,5 @@
-//! What no clause of `varisat_check` says, as tests: runs with what they write, texts of faults, and readers and writers that fail.
+//! What no clause of `varisat_check` says, as tests: runs with what they write, texts of faults,
+//! and readers and writers that fail.
 //!
 //! They stand apart so that the library is not proved a second time with them.
 #![tactic(auto)]

@@ -12,21 +12,22 @@ use std::process::Abort;
 use std::test::Fail;
 use varisat_check::{RunFault, Verdict, read_formula, run_lrat};
 
-// The text of a formula, a proof, what is written, the verdict, and what a checker of hints answers to the text.
+/// The text of a formula, a proof, what is written, the verdict, and what a checker of hints
+/// answers to the text.
 type Row<'a> = (&'a str, &'a [u8], &'a str, Verdict, bool);
 
 const UNITS: &str = "1 0\n-1 0\n";
 
-// What is written of the four clauses and a proof of theirs.
+/// What is written of the four clauses and a proof of theirs.
 const LINES: &str = "9 1 0 1 2 0\n10 0 9 3 4 0\n";
 
-// The mark of version 2, and then the bytes at width 1, which are the same in both versions.
+/// The mark of version 2, and then the bytes at width 1, which are the same in both versions.
 const WIDTH_1_MARKED: [u8; 18] = [
     0x00, 0x02, 0x09, 0x01, 0x06, 0x00, 0x01, 0x00, 0x02, 0x01, 0x00, 0x06, 0x00, 0x00, 0x02, 0x00,
     0x01, 0x0D,
 ];
 
-// The two steps at width 64, in version 2.
+/// The two steps at width 64, in version 2.
 const MARKED: [u8; 44] = [
     0x00, 0x02, 0x06, 0x00, 0x01, 0x00, 0x02, 0x2A, 0x08, 0x95, 0x02, 0x93, 0x75, 0xAF, 0xC4, 0x41,
     0x8C, 0x63, 0x82, 0x54, 0xFF, 0xE7, 0x66, 0x06, 0x00, 0x00, 0x02, 0x15, 0x8C, 0x4B, 0x83, 0x5A,
@@ -40,7 +41,7 @@ fn formula(alloc: Global, cnf: &str) -> Result<CnfFormula, Fail> {
     }
 }
 
-// Runs over a formula and a proof, and tries what was written.
+/// Runs over a formula and a proof, and tries what was written.
 fn is_written<R: Read + Drop>(alloc: Global, proof: R, row: &Row<'_>) -> Result<bool, Fail> {
     let &(cnf, _, text, verdict, answer) = row;
     let line = format!(in alloc; "{verdict}\n")?;
@@ -58,7 +59,7 @@ fn is_written<R: Read + Drop>(alloc: Global, proof: R, row: &Row<'_>) -> Result<
     is_accepted(alloc, &formula, &lrat, answer)
 }
 
-// Whether a checker of hints answers so.
+/// Whether a checker of hints answers so.
 fn is_accepted(
     alloc: Global,
     formula: &CnfFormula,
@@ -100,7 +101,7 @@ fn runs_and_their_lines(rt: HostRuntime) -> Result<(), Fail> {
     Ok(())
 }
 
-// A formula with a writer for so many clauses, where the proof is not accepted.
+/// A formula with a writer for so many clauses, where the proof is not accepted.
 fn is_refused<R: Read + Drop>(
     rt: &impl Abort,
     alloc: Global,
@@ -119,7 +120,7 @@ fn is_refused<R: Read + Drop>(
     is_answered(rt, alloc, answer, &out, refused(text))
 }
 
-// A derived clause, and an input clause after it.
+/// A derived clause, and an input clause after it.
 fn late_input(alloc: Global) -> Result<Vec<u8>, Fail> {
     let one = Lit::from_dimacs(1).ok_or("no literal")?;
     let three = Lit::from_dimacs(3).ok_or("no literal")?;

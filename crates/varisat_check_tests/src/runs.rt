@@ -1,4 +1,5 @@
-//! Runs with their verdicts, lines and statuses, texts of faults, and readers and writers that fail.
+//! Runs with their verdicts, lines and statuses, texts of faults, and readers and writers that
+//! fail.
 use crate::four_clauses::{FIRST_MISSING, FOUR, WIDTH_1, proof_of_four};
 use crate::outcomes::{NOT_SHOWN, Outcome, SHOWN, WITH_ONE_ADDED, is_answered, refused};
 use crate::streams::{Counting, Full, broken, byte_by_byte};
@@ -13,7 +14,7 @@ use std::test::Fail;
 use varisat_check::{RunFault, run_check, run_proof};
 use varisat_checker::Checker;
 
-// A formula and a proof.
+/// A formula and a proof.
 fn check<F: Read + Drop, P: Read + Drop>(
     rt: &impl Abort,
     alloc: Global,
@@ -26,7 +27,7 @@ fn check<F: Read + Drop, P: Read + Drop>(
     is_answered(rt, alloc, answer, &out, expected)
 }
 
-// A checker with these units, and then one proof after the other.
+/// A checker with these units, and then one proof after the other.
 fn prove(
     rt: &impl Abort,
     alloc: Global,
@@ -174,7 +175,7 @@ fn lines_that_cannot_be_written(rt: HostRuntime) -> Result<(), Fail> {
     is_answered(&rt, alloc, answer, &[], refused(&text))
 }
 
-// So that no part of a line stands where the next write fails.
+/// So that no part of a line stands where the next write fails.
 #[test]
 fn a_line_is_one_write(rt: HostRuntime) -> Result<(), Fail> {
     let alloc = rt.alloc();

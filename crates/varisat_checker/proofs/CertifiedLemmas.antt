@@ -1,11 +1,12 @@
 -- Calls, and runs over a text, whose emissions are runs of the hint machine.
 use Rattle.std.proofs.Common.{◌≡◌, ℕ, false, List, [], ◌∷◌, map, refl, sym, subst, append-nil, None, Ok, Err}
+use Rattle.sat_rules.specs.Named.{Machine}
 use Rattle.checker_rules.specs.AddFormula.{add_clauses, added}
 use Rattle.checker_rules.specs.CallEmissions.{EmitsCall, EmitsCalls}
 use Rattle.checker_rules.specs.Calls.{Call, adds, answer_of, calls_after, attempt, checks}
 use Rattle.checker_rules.specs.CheckedSteps.{hint_steps, NamedStep}
 use Rattle.checker_rules.specs.HintRun.{machine_after, IsRun}
-use Rattle.checker_rules.specs.Machine.{Mirrors, Machine}
+use Rattle.checker_rules.specs.Machine.{Mirrors}
 use Rattle.checker_rules.specs.State.{State}
 use Rattle.checker_rules.specs.WellFormed.{WellFormed}
 use Rattle.checker_rules.proofs.AddedClauses.{formulas_are_fold}

@@ -3,13 +3,14 @@
 --     delivered-nothing, delivered-more      the loop's start, and a turn of it
 --     delivered-stops, delivered-ends, delivered-fault      how it ends
 use Rattle.std.proofs.Common.{◌≡◌, ℕ, Bool, true, false, List, [], ◌∷◌, ◌++◌, Option, Result, Ok, Err, refl}
+use Rattle.sat_rules.specs.Named.{Machine}
 use Rattle.checker_rules.specs.AddFormula.{add_clauses}
 use Rattle.checker_rules.specs.CallEmissions.{EmitsCall}
 use Rattle.checker_rules.specs.Calls.{adds}
 use Rattle.checker_rules.specs.CheckedSteps.{NamedStep, hint_steps}
 use Rattle.checker_rules.specs.Headline.{EntailsRedundant}
 use Rattle.checker_rules.specs.HintRun.{IsRun, machine_after}
-use Rattle.checker_rules.specs.Machine.{Mirrors, Machine}
+use Rattle.checker_rules.specs.Machine.{Mirrors}
 use Rattle.checker_rules.specs.State.{State}
 use Rattle.checker_rules.specs.Step.{add_clause}
 use Rattle.checker_rules.specs.Steps.{step}

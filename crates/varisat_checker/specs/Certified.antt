@@ -1,8 +1,9 @@
 -- What a call emits as a run of the hint machine.
 use Rattle.std.specs.Prelude.{List, Result}
+use Rattle.sat_rules.specs.Named.{Machine}
 use Rattle.checker_rules.specs.CheckedSteps.{NamedStep, hint_steps}
 use Rattle.checker_rules.specs.HintRun.{IsRun, machine_after}
-use Rattle.checker_rules.specs.Machine.{Mirrors, Machine}
+use Rattle.checker_rules.specs.Machine.{Mirrors}
 use Rattle.checker_rules.specs.State.{State}
 use Rattle.checker_parts.specs.Answers.{UnlessFailed}
 use Rattle.checker_parts.specs.declared.error.CheckerError.{CheckerError}

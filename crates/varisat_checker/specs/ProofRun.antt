@@ -93,7 +93,7 @@ pub record ProofRun {A P T : Type 0} (known : Option (List ℕ)) (s : State)
         new
     pub certified : Certifies r (EmitsProof r s text steps) s t
 
--- the same of parts whose redundant clauses need not be entailed: what rests on that has it as its premise, and it is so again after the run
+-- what a run over a text answers of parts whose redundant clauses need not be entailed: what rests on that has it as its premise, and it is so again after the run
 pub record PartsAnswer {A : Type 0} (known : Option (List ℕ)) (s : State) (text : List ℕ)
     (steps : List Step) (r : Result A CheckerError) (t : State) : Type 0 where
   pub is_text : IsReadText r known text

@@ -35,7 +35,7 @@ impl<P: ProofProcessor, T: ProofTranscriptProcessor> CheckerOf<P, T> {
     ghost use Rattle.checker_rules.specs.AddFormula.{add_clauses, added};
     ghost use Rattle.checker_rules.specs.CallEmissions.{EmitsCall, EmitsCalls};
     ghost use Rattle.checker_rules.specs.Calls.{adds, shown_inputs, shown_unsat, step_limit};
-    ghost use Rattle.checker_rules.specs.Step as rules;
+    ghost use Rattle.checker_rules.specs.Step.{};
     ghost use Rattle.checker_rules.specs.Steps.{new_state, step};
     ghost use Rattle.checker_parts.specs.declared.error.CheckerError.TheVariants.{Failed, OutOfMemory};
     ghost use Rattle.checker_parts.specs.Answers.{AnswersStep, CoversFold, IsCovered, IsFold, SetsFold, UnlessFailed};
@@ -60,28 +60,29 @@ impl<P: ProofProcessor, T: ProofTranscriptProcessor> CheckerOf<P, T> {
         }
     }
 
-    /// Adds an input clause. It is refused where a variable of it has been sampled away, and where no id is left.
+    /// Adds an input clause. It is refused where a variable of it has been sampled away, and where
+    /// no id is left.
     ///
     /// Where unsatisfiability is recorded the answer is Ok, and the checker stays as it was.
     pub fn add_clause(&mut self, clause: &[Lit]) -> Result<(), CheckerError>
         ensures failed { (state self.old).failed ≡ true → IsFailed result × (self.new ≡ self.old) }
-        ensures step { (state self.old).failed ≡ false →
-            AnswersStep result (step (state self.old) (rules.add_clause clause.now))
+        ensures step { (state self.old).failed ≡ false
+            → AnswersStep result (step (state self.old) (rules.add_clause clause.now))
             (state self.new) }
-        ensures headline { (state self.old).failed ≡ false → (before : List rules.Step) →
-            IsFold before (state self.old) →
-            SetsFold result before (rules.add_clause clause.now) (state self.new) }
-        ensures covers { (state self.old).failed ≡ false → (before : List rules.Step) →
-            IsCovered before (state self.old) →
-            CoversFold result before (rules.add_clause clause.now) (state self.new) }
-        ensures delivered { (state self.old).failed ≡ false →
-            Delivered result (EmitsCall (state self.old) (adds clause.now))
+        ensures headline { (state self.old).failed ≡ false → (before : List rules.Step)
+            → IsFold before (state self.old)
+            → SetsFold result before (rules.add_clause clause.now) (state self.new) }
+        ensures covers { (state self.old).failed ≡ false → (before : List rules.Step)
+            → IsCovered before (state self.old)
+            → CoversFold result before (rules.add_clause clause.now) (state self.new) }
+        ensures delivered { (state self.old).failed ≡ false
+            → Delivered result (EmitsCall (state self.old) (adds clause.now))
             P.took P.faulted T.took T.faulted (listeners self.old) (listeners self.new) }
-        ensures certified { (state self.old).failed ≡ false →
-            Certifies result (EmitsCall (state self.old) (adds clause.now)) (state self.old)
+        ensures certified { (state self.old).failed ≡ false
+            → Certifies result (EmitsCall (state self.old) (adds clause.now)) (state self.old)
             (state self.new) }
-        ensures after_unsat { (state self.old).failed ≡ false → (state self.old).unsat ≡ true →
-            (result ≡ Ok tt) × (self.new ≡ self.old) }
+        ensures after_unsat { (state self.old).failed ≡ false → (state self.old).unsat ≡ true
+            → (result ≡ Ok tt) × (self.new ≡ self.old) }
     {
         if self.ctx.checker_state.failed {
             return Err(CheckerError::Failed);
@@ -96,23 +97,23 @@ impl<P: ProofProcessor, T: ProofTranscriptProcessor> CheckerOf<P, T> {
     /// Adds the clauses of a formula, in their order, up to the first that is refused.
     pub fn add_formula(&mut self, formula: &CnfFormula) -> Result<(), CheckerError>
         ensures failed { (state self.old).failed ≡ true → IsFailed result × (self.new ≡ self.old) }
-        ensures steps { (state self.old).failed ≡ false →
-            AnswersStep result (add_clauses (state self.old) formula.now) (state self.new) }
-        ensures headline { (state self.old).failed ≡ false → (before : List rules.Step) →
-            IsFold before (state self.old) →
-            UnlessFailed result (IsFold (before ++
+        ensures steps { (state self.old).failed ≡ false
+            → AnswersStep result (add_clauses (state self.old) formula.now) (state self.new) }
+        ensures headline { (state self.old).failed ≡ false → (before : List rules.Step)
+            → IsFold before (state self.old)
+            → UnlessFailed result (IsFold (before ++
             map rules.add_clause (added (state self.old) formula.now)) (state self.new)) }
-        ensures covers { (state self.old).failed ≡ false → (before : List rules.Step) →
-            IsCovered before (state self.old) →
-            UnlessFailed result (IsCovered
+        ensures covers { (state self.old).failed ≡ false → (before : List rules.Step)
+            → IsCovered before (state self.old)
+            → UnlessFailed result (IsCovered
             (before ++ map rules.add_clause (added (state self.old) formula.now))
             (state self.new)) }
-        ensures delivered { (state self.old).failed ≡ false →
-            Delivered result (EmitsCalls (state self.old)
+        ensures delivered { (state self.old).failed ≡ false
+            → Delivered result (EmitsCalls (state self.old)
             (map adds (added (state self.old) formula.now))) P.took P.faulted T.took T.faulted
             (listeners self.old) (listeners self.new) }
-        ensures certified { (state self.old).failed ≡ false →
-            Certifies result (EmitsCalls (state self.old)
+        ensures certified { (state self.old).failed ≡ false
+            → Certifies result (EmitsCalls (state self.old)
             (map adds (added (state self.old) formula.now))) (state self.old) (state self.new) }
     {
         if self.ctx.checker_state.failed {
@@ -132,10 +133,10 @@ impl<P: ProofProcessor, T: ProofTranscriptProcessor> CheckerOf<P, T> {
         rt: &L,
         input: R,
     ) -> Result<(), DimacsError>
-        ensures failed { (state self.old).failed ≡ true →
-            IsTextFailed result × (self.new ≡ self.old) }
-        ensures text { (state self.old).failed ≡ false →
-            TextRun (R.remaining input) (state self.old) result (state self.new)
+        ensures failed { (state self.old).failed ≡ true
+            → IsTextFailed result × (self.new ≡ self.old) }
+        ensures text { (state self.old).failed ≡ false
+            → TextRun (R.remaining input) (state self.old) result (state self.new)
             P.took P.faulted T.took T.faulted (listeners self.old) (listeners self.new) }
     {
         if self.ctx.checker_state.failed {
@@ -174,16 +175,17 @@ impl<P: ProofProcessor, T: ProofTranscriptProcessor> CheckerOf<P, T> {
 
     /// Checks the steps of a proof up to `End`, and then the closing conflict.
     ///
-    /// Where `End` was accepted before, nothing is read. Each call begins a new text, which is read as it goes. Every 100000 steps
-    /// one line goes to the log. Where nothing is read, no memory is wanted.
+    /// Where `End` was accepted before, nothing is read. Each call begins a new text, which is read
+    /// as it goes. Every 100000 steps one line goes to the log. Where nothing is read, no memory is
+    /// wanted.
     pub fn check_proof<L: Log, R: Read + Drop>(
         &mut self,
         rt: &L,
         proof: R,
     ) -> Result<(), CheckerError>
         ensures failed { (state self.old).failed ≡ true → IsFailed result × (self.new ≡ self.old) }
-        ensures run { (state self.old).failed ≡ false →
-            ProofRun (R.remaining proof) (state self.old) result (state self.new)
+        ensures run { (state self.old).failed ≡ false
+            → ProofRun (R.remaining proof) (state self.old) result (state self.new)
             P.took P.faulted T.took T.faulted (listeners self.old) (listeners self.new) }
         ensures records { RecordsFailure result (state self.new) }
         ensures ended { (state self.old).ended ≡ true → NeedsNoMemory result }
@@ -199,7 +201,8 @@ impl<P: ProofProcessor, T: ProofTranscriptProcessor> CheckerOf<P, T> {
         answer
     }
 
-    /// Registers a processor after those that stand already. A refused one is handed back, and the checker is as it was.
+    /// Registers a processor after those that stand already. A refused one is handed back, and the
+    /// checker is as it was.
     pub fn add_processor(&mut self, processor: P) -> Result<(), (P, CheckerError)>
         ensures failed { (state self.old).failed ≡ true → (result ≡ Err (processor, Failed))
             × (self.new ≡ self.old) }
@@ -208,8 +211,8 @@ impl<P: ProofProcessor, T: ProofTranscriptProcessor> CheckerOf<P, T> {
             (listeners self.new ≡ record (listeners self.old)
             { processors = (listeners self.old).processors ++ processor ∷ [] }) }
         ensures refused { OnErr result (listeners self.new ≡ listeners self.old) }
-        ensures returned { (state self.old).failed ≡ false →
-            IfErr result (λ refusal. refusal ≡ (processor, OutOfMemory)) }
+        ensures returned { (state self.old).failed ≡ false
+            → IfErr result (λ refusal. refusal ≡ (processor, OutOfMemory)) }
     {
         if self.ctx.checker_state.failed {
             return Err((processor, CheckerError::Failed));
@@ -220,7 +223,8 @@ impl<P: ProofProcessor, T: ProofTranscriptProcessor> CheckerOf<P, T> {
         }
     }
 
-    /// Registers a transcript after those that stand already. A refused one is handed back, and the checker is as it was.
+    /// Registers a transcript after those that stand already. A refused one is handed back, and the
+    /// checker is as it was.
     pub fn add_transcript(&mut self, transcript: T) -> Result<(), (T, CheckerError)>
         ensures failed { (state self.old).failed ≡ true → (result ≡ Err (transcript, Failed))
             × (self.new ≡ self.old) }
@@ -229,8 +233,8 @@ impl<P: ProofProcessor, T: ProofTranscriptProcessor> CheckerOf<P, T> {
             (listeners self.new ≡ record (listeners self.old)
             { transcripts = (listeners self.old).transcripts ++ transcript ∷ [] }) }
         ensures refused { OnErr result (listeners self.new ≡ listeners self.old) }
-        ensures returned { (state self.old).failed ≡ false →
-            IfErr result (λ refusal. refusal ≡ (transcript, OutOfMemory)) }
+        ensures returned { (state self.old).failed ≡ false
+            → IfErr result (λ refusal. refusal ≡ (transcript, OutOfMemory)) }
     {
         if self.ctx.checker_state.failed {
             return Err((transcript, CheckerError::Failed));
@@ -241,7 +245,8 @@ impl<P: ProofProcessor, T: ProofTranscriptProcessor> CheckerOf<P, T> {
         }
     }
 
-    /// Ends the checker, and hands back the processors and the transcripts, each in order of registration.
+    /// Ends the checker, and hands back the processors and the transcripts, each in order of
+    /// registration.
     pub fn into_processors(self) -> (Vec<P>, Vec<T>)
         ensures processors { result.0.items ≡ (listeners self).processors }
         ensures transcripts { result.1.items ≡ (listeners self).transcripts }
@@ -274,7 +279,8 @@ impl<P: ProofProcessor, T: ProofTranscriptProcessor> CheckerOf<P, T> {
         }
     }
 
-    /// The length of the literal buffer, and how many literals of it are those of stored clauses; (0, 0) of a checker that has failed.
+    /// The length of the literal buffer, and how many literals of it are those of stored clauses;
+    /// (0, 0) of a checker that has failed.
     ///
     /// Only clauses that are longer than three stand in the buffer.
     #[tactic(auto, unfolding(crate::specs::Shown::buffer_length, crate::specs::Shown::state))]

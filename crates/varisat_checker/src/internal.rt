@@ -25,54 +25,56 @@ pub trait SelfChecker {
     ghost shown: { Self → State };
 
     /// What the registered processors and transcripts took of such lists, by the answer.
-    ghost delivers: { Result (Unit {0}) CheckerError → (List NamedStep → Type 0) → Self → Self →
-        Type 0 };
+    ghost delivers: { Result (Unit {0}) CheckerError → (List NamedStep → Type 0) → Self → Self
+        → Type 0 };
 
     /// Counts a step and checks it.
     ///
-    /// No memory is wanted for `End`, for an input clause where unsatisfiability is recorded, and where no step number is left.
+    /// No memory is wanted for `End`, for an input clause where unsatisfiability is recorded, and
+    /// where no step number is left.
     fn self_check_step(&mut self, step: ProofStep) -> Result<(), CheckerError>
         ensures failed { (shown self.old).failed ≡ true → IsFailed result × (self.new ≡ self.old) }
-        ensures step { (shown self.old).failed ≡ false →
-            AnswersStep result (attempt (shown self.old) (view step.entry)) (shown self.new) }
-        ensures headline { (shown self.old).failed ≡ false → (before : List rules.Step) →
-            IsFold before (shown self.old) →
-            SetsFold result before (view step.entry) (shown self.new) }
-        ensures covers { (shown self.old).failed ≡ false → (before : List rules.Step) →
-            IsCovered before (shown self.old) →
-            CoversFold result before (view step.entry) (shown self.new) }
-        ensures proves { (shown self.old).failed ≡ false → (before : List rules.Step) →
-            IsFold before (shown self.old) →
-            OnOk result (Proves (view step.entry) before (shown self.old)) }
-        ensures refutes { (shown self.old).failed ≡ false → (before : List rules.Step) →
-            IsCovered before (shown self.old) → OnOk result (Refutes (view step.entry) before) }
-        ensures delivered { (shown self.old).failed ≡ false →
-            delivers result (EmitsCall (shown self.old) (checks (view step.entry))) self.old
+        ensures step { (shown self.old).failed ≡ false
+            → AnswersStep result (attempt (shown self.old) (view step.entry)) (shown self.new) }
+        ensures headline { (shown self.old).failed ≡ false → (before : List rules.Step)
+            → IsFold before (shown self.old)
+            → SetsFold result before (view step.entry) (shown self.new) }
+        ensures covers { (shown self.old).failed ≡ false → (before : List rules.Step)
+            → IsCovered before (shown self.old)
+            → CoversFold result before (view step.entry) (shown self.new) }
+        ensures proves { (shown self.old).failed ≡ false → (before : List rules.Step)
+            → IsFold before (shown self.old)
+            → OnOk result (Proves (view step.entry) before (shown self.old)) }
+        ensures refutes { (shown self.old).failed ≡ false → (before : List rules.Step)
+            → IsCovered before (shown self.old) → OnOk result (Refutes (view step.entry) before) }
+        ensures delivered { (shown self.old).failed ≡ false
+            → delivers result (EmitsCall (shown self.old) (checks (view step.entry))) self.old
             self.new }
-        ensures certified { (shown self.old).failed ≡ false →
-            Certifies result (EmitsCall (shown self.old) (checks (view step.entry)))
+        ensures certified { (shown self.old).failed ≡ false
+            → Certifies result (EmitsCall (shown self.old) (checks (view step.entry)))
             (shown self.old) (shown self.new) }
-        ensures idle { (shown self.old).failed ≡ false →
-            wants_no_memory (shown self.old).unsat (view step.entry) ≡ true →
-            has_failed result ≡ false }
-        ensures exhausted { (shown self.old).failed ≡ false → step_limit ≤ (shown self.old).steps →
-            has_failed result ≡ false };
+        ensures idle { (shown self.old).failed ≡ false
+            → wants_no_memory (shown self.old).unsat (view step.entry) ≡ true
+            → has_failed result ≡ false }
+        ensures exhausted { (shown self.old).failed ≡ false → step_limit ≤ (shown self.old).steps
+            → has_failed result ≡ false };
 
-    /// The closing conflict, as at the end of a proof: where a unit conflict is recorded an id is taken for it. Nothing is counted.
+    /// The closing conflict, as at the end of a proof: where a unit conflict is recorded an id is
+    /// taken for it. Nothing is counted.
     ///
     /// No memory is wanted.
     fn self_check_delayed_steps(&mut self) -> Result<(), CheckerError>
         ensures failed { (shown self.old).failed ≡ true → IsFailed result × (self.new ≡ self.old) }
-        ensures closing { (shown self.old).failed ≡ false →
-            AnswersStep result (closing_conflict (shown self.old)) (shown self.new) }
-        ensures headline { (shown self.old).failed ≡ false → (before : List rules.Step) →
-            IsFold before (shown self.old) → UnlessFailed result (IsFold before (shown self.new)) }
-        ensures covers { (shown self.old).failed ≡ false → (before : List rules.Step) →
-            IsCovered before (shown self.old) →
-            UnlessFailed result (IsCovered before (shown self.new)) }
-        ensures delivered { (shown self.old).failed ≡ false →
-            delivers result (EmitsCall (shown self.old) closes) self.old self.new }
-        ensures certified { (shown self.old).failed ≡ false →
-            Certifies result (EmitsCall (shown self.old) closes) (shown self.old) (shown self.new) }
+        ensures closing { (shown self.old).failed ≡ false
+            → AnswersStep result (closing_conflict (shown self.old)) (shown self.new) }
+        ensures headline { (shown self.old).failed ≡ false → (before : List rules.Step)
+            → IsFold before (shown self.old) → UnlessFailed result (IsFold before (shown self.new)) }
+        ensures covers { (shown self.old).failed ≡ false → (before : List rules.Step)
+            → IsCovered before (shown self.old)
+            → UnlessFailed result (IsCovered before (shown self.new)) }
+        ensures delivered { (shown self.old).failed ≡ false
+            → delivers result (EmitsCall (shown self.old) closes) self.old self.new }
+        ensures certified { (shown self.old).failed ≡ false
+            → Certifies result (EmitsCall (shown self.old) closes) (shown self.old) (shown self.new) }
         ensures memory { NeedsNoMemory result };
 }

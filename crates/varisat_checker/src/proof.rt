@@ -45,7 +45,8 @@ pub fn check_proof<P: ProofProcessor, T: ProofTranscriptProcessor, L: Log, R: Re
         }
         match reader.next_step() {
             Ok(step) => {
-                // The error is made where the loop is left: it is long, and costs each step otherwise.
+                // The error is made where the loop is left: it is long, and costs each step
+                // otherwise.
                 if let Err(fault) = take_counted(alloc, ctx, &step) {
                     let number = ctx.checker_state.step;
                     return Err(step_error(alloc, &mut ctx.processing, number, fault, &step));

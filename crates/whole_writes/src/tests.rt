@@ -5,8 +5,8 @@ use std::io;
 use std::io::{BufWriter, ErrorKind, Write};
 use std::test::Fail;
 
-// Takes up to so many bytes a write, every other time after it was interrupted, and none past its
-// end. Its flush succeeds or fails, and is counted.
+/// Takes up to so many bytes a write, every other time after it was interrupted, and none past its
+/// end. Its flush succeeds or fails, and is counted.
 #[derive(Drop)]
 struct Disk {
     bytes: Vec<u8>,
@@ -54,7 +54,7 @@ impl Write for Disk {
     }
 }
 
-// The kind of an answer's error.
+/// The kind of an answer's error.
 fn kind_of(answer: io::Result<()>) -> Option<ErrorKind> {
     answer.err().map(|fault| fault.kind())
 }

@@ -1,9 +1,9 @@
 //! Input clauses.
 ghost use Rattle.std.specs.Prelude.{◌≡◌, ◌≤◌, List, None, Ok, OnOk, length, true, ◌+◌, ◌<◌, IfOk};
 ghost use Rattle.std.specs.Option.{option_map};
+ghost use Rattle.sat_rules.specs.Clauses.{is_canonical, is_tautology};
 ghost use Rattle.checker_rules.specs.AddClause.{store_input};
 ghost use Rattle.checker_rules.specs.Canonical.{var_bound};
-ghost use Rattle.checker_rules.specs.Clauses.{is_canonical, is_tautology};
 ghost use Rattle.checker_rules.specs.Emits.{Emits, emits_input};
 ghost use Rattle.checker_rules.specs.KnownVars.{know_clause};
 ghost use Rattle.checker_rules.specs.State.{Known};
@@ -53,8 +53,8 @@ pub fn add_clause<P: ProofProcessor, T: ProofTranscriptProcessor>(
         (Emits (context_state ctx.old) (rules.add_clause lits.now))
         P.took P.faulted T.took T.faulted (listeners_of ctx.old.processing)
         (listeners_of ctx.new.processing) }
-    ensures after_unsat { (context_state ctx.old).unsat ≡ true →
-        (result ≡ Ok tt) × (ctx.new ≡ ctx.old) }
+    ensures after_unsat { (context_state ctx.old).unsat ≡ true
+        → (result ≡ Ok tt) × (ctx.new ≡ ctx.old) }
 {
     if ctx.checker_state.unsat {
         return Ok(());
@@ -163,11 +163,11 @@ fn take_clause(
         clause.now }
     requires canonical { is_canonical clause.now ≡ true }
     requires tautology { tautology ≡ is_tautology clause.now }
-    ensures state { OnOk result (state_of state.new hasher.now clauses.new variables.new ≡
-        taken (state_of state.old hasher.now clauses.old variables.old) clause.now) }
+    ensures state { OnOk result (state_of state.new hasher.now clauses.new variables.new
+        ≡ taken (state_of state.old hasher.now clauses.old variables.old) clause.now) }
     ensures store { OnOk result (IsStore hasher.now clauses.new) }
-    ensures emitted { IfOk result (λ added. emitted_of added clause.now variables.new ≡
-        emits_input clause.now (know_clause clause.now
+    ensures emitted { IfOk result (λ added. emitted_of added clause.now variables.new
+        ≡ emits_input clause.now (know_clause clause.now
         (state_of state.old hasher.now clauses.old variables.old))) }
 {
     ensure_vars(clauses, variables, var_bound(clause))?;
@@ -176,7 +176,8 @@ fn take_clause(
     Ok(added)
 }
 
-/// Stores an input clause of known variables. A tautology and a clause that stands already take an id of their own.
+/// Stores an input clause of known variables. A tautology and a clause that stands already take an
+/// id of their own.
 fn store_input_clause(
     alloc: Global,
     state: &mut CheckerState,
@@ -186,19 +187,19 @@ fn store_input_clause(
     tautology: bool,
 ) -> Result<Added, AllocError>
     requires store { IsStore hasher.now clauses.old }
-    requires room { (known : List Known) →
-        HasCapacity (state_of state.old hasher.now clauses.old known) clause.now }
+    requires room { (known : List Known)
+        → HasCapacity (state_of state.old hasher.now clauses.old known) clause.now }
     requires known { var_bound clause.now ≤ length clauses.old.unit_clauses }
     requires canonical { is_canonical clause.now ≡ true }
     requires tautology { tautology ≡ is_tautology clause.now }
-    ensures state { OnOk result ((known : List Known) →
-        state_of state.new hasher.now clauses.new known ≡
-        store_input clause.now (state_of state.old hasher.now clauses.old known)) }
+    ensures state { OnOk result ((known : List Known)
+        → state_of state.new hasher.now clauses.new known
+        ≡ store_input clause.now (state_of state.old hasher.now clauses.old known)) }
     ensures store { OnOk result (IsStore hasher.now clauses.new) }
     ensures inputs { OnOk result (state.new.input_clauses ≡ state.old.input_clauses) }
-    ensures emitted { IfOk result (λ added. (known : List Known) →
-        emitted_of added clause.now known ≡
-        emits_input clause.now (state_of state.old hasher.now clauses.old known)) }
+    ensures emitted { IfOk result (λ added. (known : List Known)
+        → emitted_of added clause.now known
+        ≡ emits_input clause.now (state_of state.old hasher.now clauses.old known)) }
 {
     if tautology {
         let id = clauses.next_clause_id;

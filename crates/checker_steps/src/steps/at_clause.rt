@@ -24,7 +24,8 @@ use sat_formula::Lit;
 use std::alloc::Global;
 use std::mem::replace;
 
-/// Checks a derived clause and stores it in its kind. An irredundant one becomes the previous clause.
+/// Checks a derived clause and stores it in its kind. An irredundant one becomes the previous
+/// clause.
 #[inline(always)]
 pub fn at_clause<P: ProofProcessor, T: ProofTranscriptProcessor>(
     alloc: Global,
@@ -62,9 +63,9 @@ pub fn at_clause<P: ProofProcessor, T: ProofTranscriptProcessor>(
 /// Keeps the previous clause, with its id.
 #[inline(always)]
 fn set_previous(state: &mut CheckerState, clause: &[Lit], id: u64) -> Result<(), StepFault>
-    ensures state { OnOk result ((hasher : ClauseHasher) (clauses : Clauses) (known : List Known) →
-        state_of state.new hasher clauses known ≡
-        rules_previous clause.now id (state_of state.old hasher clauses known)) }
+    ensures state { OnOk result ((hasher : ClauseHasher) (clauses : Clauses) (known : List Known)
+        → state_of state.new hasher clauses known
+        ≡ rules_previous clause.now id (state_of state.old hasher clauses known)) }
     ensures memory { OnErr result (result ≡ Err OutOfMemory) }
 {
     state.previous_id = None;

@@ -50,7 +50,8 @@ pub fn change_sampling_mode<P: ProofProcessor, T: ProofTranscriptProcessor>(
     }
 }
 
-/// Changes the mode of a known variable, and answers its user name where it has one and the mode was another.
+/// Changes the mode of a known variable, and answers its user name where it has one and the mode
+/// was another.
 fn change_mode(variables: &mut Variables, var: Var, sample: bool) -> Result<Option<Var>, CheckCause>
     requires { index_of var < length variables.old }
     ensures { AnswersMode result (index_of var) sample variables.old variables.new }

@@ -1,6 +1,6 @@
 //! Deletions of clauses.
 ghost use Rattle.std.specs.Prelude.{◌≡◌, IsTrue, List, if◌then◌else◌, true};
-ghost use Rattle.checker_rules.specs.Clauses.{is_canonical};
+ghost use Rattle.sat_rules.specs.Clauses.{is_canonical};
 ghost use Rattle.checker_rules.specs.Emits.{Emits};
 ghost use Rattle.checker_rules.specs.State.{Known};
 ghost use Rattle.checker_rules.specs.Step as rules;
@@ -32,7 +32,8 @@ use proof_bytes::DeleteClauseProof;
 use sat_formula::Lit;
 use std::alloc::Global;
 
-/// Deletes one copy of a clause. A justification that passes makes the previous clause forgotten, also where the step is then refused.
+/// Deletes one copy of a clause. A justification that passes makes the previous clause forgotten,
+/// also where the step is then refused.
 #[inline(always)]
 pub fn delete_clause<P: ProofProcessor, T: ProofTranscriptProcessor>(
     alloc: Global,
@@ -93,8 +94,8 @@ fn justify(
     requires stored { AreStored clauses.now.unit_clauses }
     requires previous { is_previous_canonical (previous_of state.now) ≡ true }
     requires clause { IsTrue (is_canonical clause.now) }
-    ensures { (h : ClauseHasher) (known : List Known) →
-        AnswersJustified result (why proof) clause.now (state_of state.now h clauses.now known) }
+    ensures { (h : ClauseHasher) (known : List Known)
+        → AnswersJustified result (why proof) clause.now (state_of state.now h clauses.now known) }
 {
     match proof {
         DeleteClauseProof::Redundant => Ok(None),
@@ -147,7 +148,8 @@ fn no_copy(redundant: bool) -> CheckCause
     }
 }
 
-/// Delivers what the deletion of a copy did to the clause: whether it is gone, or redundant from now on.
+/// Delivers what the deletion of a copy did to the clause: whether it is gone, or redundant from
+/// now on.
 #[inline(always)]
 fn emit_deletion<P: ProofProcessor, T: ProofTranscriptProcessor>(
     processing: &mut ProcessingOf<P, T>,

@@ -32,7 +32,8 @@ use clause_store::clauses::store::global_id;
 use clause_store::state::CheckerState;
 use sat_formula::{Lit, Var};
 
-/// Deletes an unnamed variable that no clause of two or more literals holds: its unit goes, and it is as a new variable is.
+/// Deletes an unnamed variable that no clause of two or more literals holds: its unit goes, and it
+/// is as a new variable is.
 ///
 /// A conflict on its unit is closed first. A previous clause with the variable is forgotten.
 pub fn delete_var<P: ProofProcessor, T: ProofTranscriptProcessor>(
@@ -68,8 +69,8 @@ pub fn delete_var<P: ProofProcessor, T: ProofTranscriptProcessor>(
 
 /// Whether a stored clause of two or more literals holds the variable.
 fn is_held(counts: &LitCounts, var: Var) -> bool
-    ensures { (n : ℕ) (es : List Stored) → AreCounts counts.now n es →
-        result ≡ list_any (λ e. holds_var (index_of var) e.lits) es }
+    ensures { (n : ℕ) (es : List Stored) → AreCounts counts.now n es
+        → result ≡ list_any (λ e. holds_var (index_of var) e.lits) es }
 {
     counts.get(var.lit(true)).clause_count > 0 || counts.get(var.lit(false)).clause_count > 0
 }
@@ -81,14 +82,14 @@ fn close_conflict_on<P: ProofProcessor, T: ProofTranscriptProcessor>(
     processing: &mut ProcessingOf<P, T>,
     var: Var,
 ) -> Result<(), StepFault>
-    ensures answer { (st : CheckerState) (h : ClauseHasher) →
-        AnswersOutcome result (close_on (index_of var)
+    ensures answer { (st : CheckerState) (h : ClauseHasher)
+        → AnswersOutcome result (close_on (index_of var)
         (state_of st h clauses.old variables.now))
         (state_of st h clauses.new variables.now) }
     ensures store { (h : ClauseHasher) → IsStore h clauses.old → IsStore h clauses.new }
     ensures units { clauses.new.unit_clauses ≡ clauses.old.unit_clauses }
-    ensures delivered { (st : CheckerState) (h : ClauseHasher) →
-        DeliveredList result (λ es. es ≡ emits_close (index_of var)
+    ensures delivered { (st : CheckerState) (h : ClauseHasher)
+        → DeliveredList result (λ es. es ≡ emits_close (index_of var)
         (state_of st h clauses.old variables.now)) P.took P.faulted T.took T.faulted
         (listeners_of processing.old) (listeners_of processing.new) }
 {
@@ -124,8 +125,8 @@ fn emit_unit<P: ProofProcessor, T: ProofTranscriptProcessor>(
     var: Var,
 ) -> Result<(), StepFault>
     ensures not_refused { UnlessStopped result (IsOk result) }
-    ensures delivered { (st : CheckerState) (h : ClauseHasher) →
-        DeliveredList result (λ es. es ≡ emits_dropped (index_of var)
+    ensures delivered { (st : CheckerState) (h : ClauseHasher)
+        → DeliveredList result (λ es. es ≡ emits_dropped (index_of var)
         (state_of st h clauses.now variables.now)) P.took P.faulted T.took T.faulted
         (listeners_of processing.old) (listeners_of processing.new) }
 {
@@ -136,14 +137,15 @@ fn emit_unit<P: ProofProcessor, T: ProofTranscriptProcessor>(
     emit_delete_rat_clause(processing, variables, global_id(&unit), &[pivot], pivot)
 }
 
-/// Drops the unit of a known and unnamed variable. It is in mode `Sample` then, and a previous clause with it is forgotten.
+/// Drops the unit of a known and unnamed variable. It is in mode `Sample` then, and a previous
+/// clause with it is forgotten.
 fn free_var(state: &mut CheckerState, clauses: &mut Clauses, variables: &mut Variables, var: Var)
     requires place { index_of var < length clauses.old.unit_clauses }
     requires known { index_of var < length variables.old }
     requires unnamed { (known_at variables.old (index_of var)).name ≡ None }
-    ensures state { (h : ClauseHasher) →
-        state_of state.new h clauses.new variables.new ≡
-        free_var (index_of var) (state_of state.old h clauses.old variables.old) }
+    ensures state { (h : ClauseHasher)
+        → state_of state.new h clauses.new variables.new
+        ≡ free_var (index_of var) (state_of state.old h clauses.old variables.old) }
     ensures store { (h : ClauseHasher) → IsStore h clauses.old → IsStore h clauses.new }
 {
     clauses.unit_clauses.set(var.index(), None);
@@ -153,9 +155,9 @@ fn free_var(state: &mut CheckerState, clauses: &mut Clauses, variables: &mut Var
 
 /// Forgets a previous clause that holds the variable.
 fn forget_previous_with(state: &mut CheckerState, var: Var)
-    ensures { (h : ClauseHasher) (cs : Clauses) (known : List Known) →
-        state_of state.new h cs known ≡
-        record (state_of state.old h cs known)
+    ensures { (h : ClauseHasher) (cs : Clauses) (known : List Known)
+        → state_of state.new h cs known
+        ≡ record (state_of state.old h cs known)
         { previous = forget_var (index_of var) (state_of state.old h cs known).previous } }
 {
     if holds_var(&state.previous_lits, var) {

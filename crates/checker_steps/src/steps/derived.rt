@@ -1,7 +1,7 @@
 //! Derived clauses: checked, stored and handed on.
 ghost use Rattle.std.specs.Prelude.{◌≡◌, ℕ, List, IfOk, false, true};
+ghost use Rattle.sat_rules.specs.Clauses.{is_canonical, is_tautology};
 ghost use Rattle.checker_rules.specs.Check.{ready};
-ghost use Rattle.checker_rules.specs.Clauses.{is_canonical, is_tautology};
 ghost use Rattle.checker_rules.specs.Store.{id_of};
 ghost use Rattle.checker_parts.specs.Faults.{AnswersOutcome, UnlessStopped};
 ghost use Rattle.clause_store.specs.Refusal.{store_fault};
@@ -23,9 +23,11 @@ use proof_bytes::ClauseHash;
 use sat_formula::Lit;
 use std::alloc::Global;
 
-/// Checks a canonical clause without opposite literals, stores it in its kind and hands it on. Answers its id.
+/// Checks a canonical clause without opposite literals, stores it in its kind and hands it on.
+/// Answers its id.
 ///
-/// The previous clause stays. The check is traced only where a processor is registered, since transcripts see no propagations.
+/// The previous clause stays. The check is traced only where a processor is registered, since
+/// transcripts see no propagations.
 #[inline(always)]
 pub(crate) fn derive<P: ProofProcessor, T: ProofTranscriptProcessor>(
     alloc: Global,
@@ -40,8 +42,8 @@ pub(crate) fn derive<P: ProofProcessor, T: ProofTranscriptProcessor>(
     ensures answer { AnswersOutcome result
         (derived (context_state ctx.old) redundant clause.now hashes.now)
         (context_state ctx.new) }
-    ensures id { IfOk result (λ id. id ≡
-        id_of clause.now (ready (context_state ctx.old) clause.now)) }
+    ensures id { IfOk result (λ id. id
+        ≡ id_of clause.now (ready (context_state ctx.old) clause.now)) }
     ensures store { UnlessStopped result (IsStore ctx.new.clause_hasher ctx.new.clauses) }
     ensures delivered { DeliveredList result
         (λ steps. steps ≡ derived_steps (context_state ctx.old) redundant clause.now hashes.now)
@@ -108,8 +110,8 @@ fn emit_derived<P: ProofProcessor, T: ProofTranscriptProcessor>(
     clause: &[Lit],
     propagations: &[u64],
 ) -> Result<(), StepFault>
-    ensures { (ids : List ℕ) → IsTraceFor processing.old.processors.items propagations.now ids →
-        DeliveredAll result (stored_steps did variables.now id redundant clause.now ids)
+    ensures { (ids : List ℕ) → IsTraceFor processing.old.processors.items propagations.now ids
+        → DeliveredAll result (stored_steps did variables.now id redundant clause.now ids)
         P.took P.faulted T.took T.faulted (listeners_of processing.old)
         (listeners_of processing.new) }
 {

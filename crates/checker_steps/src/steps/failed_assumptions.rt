@@ -1,8 +1,8 @@
 //! Failed cores.
 ghost use Rattle.std.specs.Prelude.{◌≡◌, IfOk, IsTrue, false, is_none, map};
 ghost use Rattle.std.specs.List.{list_any};
+ghost use Rattle.sat_rules.specs.Clauses.{is_canonical, is_tautology, negate, var_of};
 ghost use Rattle.checker_rules.specs.Check.{check};
-ghost use Rattle.checker_rules.specs.Clauses.{is_canonical, is_tautology, negate, var_of};
 ghost use Rattle.checker_rules.specs.Emits.{Emits};
 ghost use Rattle.checker_rules.specs.Outcome.{accept};
 ghost use Rattle.checker_rules.specs.Step as rules;
@@ -31,7 +31,8 @@ use sat_formula::Lit;
 use std::alloc::{AllocError, Global};
 use std::mem::replace;
 
-/// Checks that assumptions fail together: the clause of their negations follows by propagation. It is not stored.
+/// Checks that assumptions fail together: the clause of their negations follows by propagation. It
+/// is not stored.
 ///
 /// A core with opposite literals fails whatever is stored.
 pub fn failed_assumptions<P: ProofProcessor, T: ProofTranscriptProcessor>(
@@ -70,8 +71,8 @@ pub fn failed_assumptions<P: ProofProcessor, T: ProofTranscriptProcessor>(
 fn judge(state: &CheckerState, variables: &Variables, core: &[Lit]) -> Result<(), CheckCause>
     requires core { IsTrue (is_canonical core.now) }
     requires assumed { IsTrue (is_canonical state.now.assumptions.items) }
-    ensures { (h : ClauseHasher) (cs : Clauses) →
-        IsJudged result (core_cause (state_of state.now h cs variables.now) core.now) }
+    ensures { (h : ClauseHasher) (cs : Clauses)
+        → IsJudged result (core_cause (state_of state.now h cs variables.now) core.now) }
 {
     if !is_subset(core, &state.assumptions, false) {
         return Err(CheckCause::NotAssumed);

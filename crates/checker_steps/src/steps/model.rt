@@ -1,7 +1,7 @@
 //! Models.
 ghost use Rattle.std.specs.Prelude.{◌≡◌, ℕ, ◌&&◌, All, OnErr, OnOk, [], eqb, false, not};
 ghost use Rattle.std.specs.List.{list_all, list_any};
-ghost use Rattle.checker_rules.specs.Clauses.{add_lit, has};
+ghost use Rattle.sat_rules.specs.Clauses.{add_lit, has};
 ghost use Rattle.checker_rules.specs.Emits.{Emits};
 ghost use Rattle.checker_rules.specs.Model.{model_cause};
 ghost use Rattle.checker_rules.specs.Step as rules;
@@ -28,7 +28,8 @@ use clause_store::clauses::{Clause, Clauses};
 use clause_store::state::CheckerState;
 use sat_formula::Lit;
 
-/// Checks a model: its literals go together and with the units, and it has every assumption and a literal of each stored clause.
+/// Checks a model: its literals go together and with the units, and it has every assumption and a
+/// literal of each stored clause.
 pub fn model<P: ProofProcessor, T: ProofTranscriptProcessor>(
     ctx: &mut ContextOf<P, T>,
     assignment: &[Lit],
@@ -79,7 +80,7 @@ fn judge(
     judged
 }
 
-/// The same. Literals of the list are marked, and stay so.
+/// Judges a model by marks of its literals, which stay.
 fn judge_marking(
     state: &CheckerState,
     clauses: &Clauses,
@@ -113,8 +114,8 @@ fn mark_literals(
 ) -> Result<(), CheckCause>
     requires places { HasPlaces marks.old variables.now }
     requires unset { (l : ℕ) → is_marked marks.old l ≡ false }
-    ensures cause { (st : CheckerState) (h : ClauseHasher) →
-        IsJudged result (model_cause (state_of st h clauses.now variables.now) [] assignment.now) }
+    ensures cause { (st : CheckerState) (h : ClauseHasher)
+        → IsJudged result (model_cause (state_of st h clauses.now variables.now) [] assignment.now) }
     ensures marked { OnOk result ((l : ℕ) → is_marked marks.new l ≡ has l assignment.now) }
     ensures listed { MarksOnly marks.new assignment.now }
 {
@@ -132,8 +133,8 @@ fn mark_literal(
     marks: &mut [bool],
 ) -> Result<(), CheckCause>
     requires { HasPlaces marks.old variables.now }
-    ensures cause { (st : CheckerState) (h : ClauseHasher) →
-        IsJudged result (lit_cause (state_of st h clauses.now variables.now)
+    ensures cause { (st : CheckerState) (h : ClauseHasher)
+        → IsJudged result (lit_cause (state_of st h clauses.now variables.now)
         (is_marked marks.old) lit) }
     ensures marked { OnOk result (is_marked marks.new ≡ add_lit lit (is_marked marks.old)) }
     ensures same { OnErr result (marks.new ≡ marks.old) }

@@ -90,8 +90,8 @@ pub fn push_clause(
 ) -> Result<(), AllocError>
     ensures pushed { OnOk result (clauses_at buckets.new hash ≡ clauses_at buckets.old hash ++
         clause ∷ []) }
-    ensures others { OnOk result ((k : ℕ) → (k ≡ hash → ⊥) →
-        clauses_at buckets.new k ≡ clauses_at buckets.old k) }
+    ensures others { OnOk result ((k : ℕ) → (k ≡ hash → ⊥)
+        → clauses_at buckets.new k ≡ clauses_at buckets.old k) }
 {
     match buckets.entry(hash)? {
         Entry::Occupied(entry) => {
@@ -133,10 +133,10 @@ fn raise_in(
 ) -> Result<Option<(u64, u32)>, CountExhausted>
     requires within { All (λ c. IsWithin c.lits buffer.now) bucket.old }
     requires apart { are_apart (map (stored_of buffer.now) bucket.old) ≡ true }
-    ensures found { IfOk result (λ found. found ≡
-        found_in lits.now (map (stored_of buffer.now) bucket.old)) }
-    ensures raised { OnOk result (map (stored_of buffer.now) bucket.new ≡
-        map (raise_in_list redundant lits.now) (map (stored_of buffer.now) bucket.old)) }
+    ensures found { IfOk result (λ found. found
+        ≡ found_in lits.now (map (stored_of buffer.now) bucket.old)) }
+    ensures raised { OnOk result (map (stored_of buffer.now) bucket.new
+        ≡ map (raise_in_list redundant lits.now) (map (stored_of buffer.now) bucket.old)) }
     ensures within { All (λ c. IsWithin c.lits buffer.now) bucket.new }
     ensures room { OnOk result (count_in redundant lits.now
         (map (stored_of buffer.now) bucket.old) < count_limit) }
@@ -160,8 +160,8 @@ fn raise_in(
     }
 }
 
-/// Counts one copy more of the clause with these literals. It answers where the clause is stored its id,
-/// and how many irredundant copies there were.
+/// Counts one copy more of the clause with these literals. It answers where the clause is stored
+/// its id, and how many irredundant copies there were.
 pub fn raise_clause(
     buckets: &mut Buckets,
     buffer: &[Lit],
@@ -171,16 +171,16 @@ pub fn raise_clause(
 ) -> Result<Option<(u64, u32)>, CountExhausted>
     requires within { All (λ c. IsWithin c.lits buffer.now) (clauses_at buckets.old hash) }
     requires apart { are_apart (stored_in buffer.now buckets.old hash) ≡ true }
-    ensures found { IfOk result (λ found. found ≡
-        found_in lits.now (stored_in buffer.now buckets.old hash)) }
+    ensures found { IfOk result (λ found. found
+        ≡ found_in lits.now (stored_in buffer.now buckets.old hash)) }
     ensures room { OnOk result (count_in redundant lits.now
         (stored_in buffer.now buckets.old hash) < count_limit) }
     ensures raised { OnOk result (IsRaised buffer.now hash redundant lits.now buckets.old
         buckets.new) }
     ensures exhausted { OnErr result
         (count_limit ≤ count_in redundant lits.now (stored_in buffer.now buckets.old hash)) }
-    ensures unchanged { OnErr result ((k : ℕ) →
-        clauses_at buckets.new k ≡ clauses_at buckets.old k) }
+    ensures unchanged { OnErr result ((k : ℕ)
+        → clauses_at buckets.new k ≡ clauses_at buckets.old k) }
 {
     match buckets.get_mut(&hash) {
         Some(bucket) => raise_in(bucket.as_mut_slice(), buffer, lits, redundant),

@@ -53,14 +53,14 @@ fn collect(alloc: Global, hasher: &ClauseHasher, clauses: &mut Clauses) -> Resul
     Ok(())
 }
 
-/// The same buckets, with the literals of their clauses in a new buffer.
+/// Buckets of these clauses, with their literals in a new buffer.
 fn move_buckets(alloc: Global, clauses: &Clauses) -> Result<(Buckets, Vec<Lit>), AllocError>
     requires { (h : ClauseHasher) × IsIndexed h clauses.now (stored_list clauses.now) }
-    ensures same { IfOk result (λ moved. (k : ℕ) →
-        stored_in moved.1.items moved.0 k ≡ stored_at clauses.now k) }
+    ensures same { IfOk result (λ moved. (k : ℕ)
+        → stored_in moved.1.items moved.0 k ≡ stored_at clauses.now k) }
     ensures within { IfOk result (λ moved. AreWithin moved.1.items moved.0) }
-    ensures used { IfOk result (λ moved. length moved.1.items ≡
-        live_literals (stored_list clauses.now)) }
+    ensures used { IfOk result (λ moved. length moved.1.items
+        ≡ live_literals (stored_list clauses.now)) }
 {
     let buffer = clauses.literal_buffer.as_slice();
     let mut moved = room_for(alloc, clauses.buckets.len())?;
@@ -73,7 +73,7 @@ fn move_buckets(alloc: Global, clauses: &Clauses) -> Result<(Buckets, Vec<Lit>),
     Ok((moved, new))
 }
 
-/// The same clauses, with their literals in a new buffer, after those that it has.
+/// A bucket's clauses, with their literals in the new buffer, after those that it has.
 fn move_bucket(
     alloc: Global,
     bucket: &[Clause],
@@ -82,8 +82,8 @@ fn move_bucket(
 ) -> Result<SmallVec<Clause, 1>, AllocError>
     requires within { All (λ c. IsWithin c.lits buffer.now) bucket.now }
     requires long { All (λ c. 1 < length (lits_of c.lits buffer.now)) bucket.now }
-    ensures same { IfOk result (λ moved. map (stored_of new.new.items) moved.items ≡
-        map (stored_of buffer.now) bucket.now) }
+    ensures same { IfOk result (λ moved. map (stored_of new.new.items) moved.items
+        ≡ map (stored_of buffer.now) bucket.now) }
     ensures within { IfOk result (λ moved. All (λ c. IsWithin c.lits new.new.items) moved.items) }
     ensures kept { OnOk result (take (length new.old.items) new.new.items ≡ new.old.items) }
     ensures used { OnOk result (length new.new.items ≡ length new.old.items +
@@ -104,8 +104,8 @@ fn put_bucket(
     bucket: SmallVec<Clause, 1>,
 ) -> Result<(), AllocError>
     ensures here { OnOk result (clauses_at buckets.new hash ≡ bucket.items) }
-    ensures others { OnOk result ((k : ℕ) → (k ≡ hash → ⊥) →
-        clauses_at buckets.new k ≡ clauses_at buckets.old k) }
+    ensures others { OnOk result ((k : ℕ) → (k ≡ hash → ⊥)
+        → clauses_at buckets.new k ≡ clauses_at buckets.old k) }
 {
     buckets.insert(hash, bucket)?;
     Ok(())

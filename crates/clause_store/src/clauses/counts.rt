@@ -1,7 +1,7 @@
 //! How many stored clauses hold each literal.
 ghost use Rattle.std.specs.Prelude.{◌≡◌, ◌+◌, ◌-◌, ◌*◌, ◌^◌, ◌<◌, ◌≤◌, ◌++◌, ℕ, [], List, false, true, length, replicate, take, IfOk, OnOk, slice_index, slice_set};
+ghost use Rattle.sat_rules.specs.Clauses.{has, is_canonical};
 ghost use Rattle.checker_rules.specs.Canonical.{var_bound};
-ghost use Rattle.checker_rules.specs.Clauses.{has, is_canonical};
 ghost use Rattle.clause_store.specs.Counts.{HoldOneMore};
 
 use checker_parts::variables::LitData;
@@ -109,15 +109,16 @@ impl LitCounts {
     }
 }
 
-/// One clause more holds the literals up to the first whose count is full. It answers how many those are.
+/// One clause more holds the literals up to the first whose count is full. It answers how many
+/// those are.
 fn raise_narrow(counts: &mut [u32], lits: &[Lit]) -> usize
     requires canonical { is_canonical lits.now ≡ true }
     requires known { 2 * var_bound lits.now ≤ length counts.old }
     ensures bound { result ≤ length lits.now }
     ensures held { HoldOneMore (take result lits.now) counts.old counts.new }
     ensures known { length counts.new ≡ length counts.old }
-    ensures full { result < length lits.now →
-        2 ^ 32 ≤ slice_index counts.new (slice_index lits.now result) + 1 }
+    ensures full { result < length lits.now
+        → 2 ^ 32 ≤ slice_index counts.new (slice_index lits.now result) + 1 }
 {
     for at in 0..lits.len() {
         if !add_narrow(counts, lits[at]) {
@@ -130,8 +131,8 @@ fn raise_narrow(counts: &mut [u32], lits: &[Lit]) -> usize
 /// One clause more holds the literal, unless its count is full. It answers whether it was not.
 fn add_narrow(counts: &mut [u32], lit: Lit) -> bool
     requires { lit < length counts.old }
-    ensures added { result ≡ true →
-        counts.new ≡ slice_set counts.old lit (slice_index counts.old lit + 1) }
+    ensures added { result ≡ true
+        → counts.new ≡ slice_set counts.old lit (slice_index counts.old lit + 1) }
     ensures full { result ≡ false → 2 ^ 32 ≤ slice_index counts.old lit + 1 }
     ensures unchanged { result ≡ false → counts.new ≡ counts.old }
 {
@@ -150,8 +151,8 @@ fn widened(counts: &Vec<u32>, lits: &[Lit], first: usize) -> Result<Vec<u64>, Al
     requires canonical { is_canonical lits.now ≡ true }
     requires known { 2 * var_bound lits.now ≤ length counts.now.items }
     requires bound { first ≤ length lits.now }
-    ensures held { (old : List ℕ) → HoldOneMore (take first lits.now) old counts.now.items →
-        IfOk result (λ wide. HoldOneMore lits.now old wide.items) }
+    ensures held { (old : List ℕ) → HoldOneMore (take first lits.now) old counts.now.items
+        → IfOk result (λ wide. HoldOneMore lits.now old wide.items) }
     ensures known { IfOk result (λ wide. length wide.items ≡ length counts.now.items) }
 {
     let mut wide = copy_wide(counts)?;
@@ -174,8 +175,8 @@ fn raise_wide(counts: &mut [u64], lits: &[Lit], first: usize) -> Result<(), Allo
     requires canonical { is_canonical lits.now ≡ true }
     requires known { 2 * var_bound lits.now ≤ length counts.old }
     requires bound { first ≤ length lits.now }
-    ensures held { (old : List ℕ) → HoldOneMore (take first lits.now) old counts.old →
-        OnOk result (HoldOneMore lits.now old counts.new) }
+    ensures held { (old : List ℕ) → HoldOneMore (take first lits.now) old counts.old
+        → OnOk result (HoldOneMore lits.now old counts.new) }
     ensures known { length counts.new ≡ length counts.old }
 {
     for at in first..lits.len() {
@@ -184,8 +185,8 @@ fn raise_wide(counts: &mut [u64], lits: &[Lit], first: usize) -> Result<(), Allo
     Ok(())
 }
 
-// No count passes 64 bits: each clause that is counted has an id of its own, and ids end before.
-// What is known here does not say so, and the error stands in place of a sum that is never made.
+/// No count passes 64 bits: each clause that is counted has an id of its own, and ids end before.
+/// What is known here does not say so, and the error stands in place of a sum that is never made.
 fn add_wide(counts: &mut [u64], lit: Lit) -> Result<(), AllocError>
     requires { lit < length counts.old }
     ensures { OnOk result (counts.new

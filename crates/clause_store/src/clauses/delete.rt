@@ -1,7 +1,7 @@
 //! Deleting copies of clauses.
 ghost use Rattle.std.specs.Prelude.{◌≡◌, ◌<◌, List, IfErr, IfOk, OnErr, OnOk, length, map, true};
+ghost use Rattle.sat_rules.specs.Clauses.{is_canonical};
 ghost use Rattle.checker_rules.specs.Buckets.{remaining};
-ghost use Rattle.checker_rules.specs.Clauses.{is_canonical};
 ghost use Rattle.checker_rules.specs.State.{Known};
 ghost use Rattle.checker_rules.specs.Store.{lower};
 ghost use Rattle.clause_store.specs.Counts.{AreCounts};
@@ -42,7 +42,8 @@ impl From<AllocError> for DeleteFault {
     }
 }
 
-/// Deletes one copy of the kind of a canonical clause, and answers the clause's id. After `OutOfMemory` the parts are of no use.
+/// Deletes one copy of the kind of a canonical clause, and answers the clause's id. After
+/// `OutOfMemory` the parts are of no use.
 pub fn delete_clause(
     alloc: Global,
     hasher: &ClauseHasher,
@@ -52,8 +53,8 @@ pub fn delete_clause(
 ) -> Result<(u64, DeleteClauseResult), DeleteFault>
     requires store { IsStore hasher.now clauses.old }
     requires canonical { is_canonical lits.now ≡ true }
-    ensures answer { (st : CheckerState) (known : List Known) →
-        AnswersDelete result lits.now redundant (state_of st hasher.now clauses.old known)
+    ensures answer { (st : CheckerState) (known : List Known)
+        → AnswersDelete result lits.now redundant (state_of st hasher.now clauses.old known)
         (state_of st hasher.now clauses.new known) }
     ensures store { UnlessOutOfMemory result (IsStore hasher.now clauses.new) }
 {
@@ -83,7 +84,8 @@ fn deleted_as(left: &Left, redundant: bool) -> DeleteClauseResult
     }
 }
 
-/// Takes one copy of a clause away. The literals of a clause that goes are garbage, and it holds them no longer.
+/// Takes one copy of a clause away. The literals of a clause that goes are garbage, and it holds
+/// them no longer.
 fn take_copy(
     hasher: &ClauseHasher,
     clauses: &mut Clauses,
@@ -103,8 +105,8 @@ fn take_copy(
     ensures missing { IfErr result (IsMissing redundant lits.now (stored_list clauses.old)) }
     ensures still_filed { OnErr result
         (IsIndexed hasher.now clauses.new (stored_list clauses.old)) }
-    ensures others { OnErr result (clauses.new ≡
-        record clauses.old { buckets = clauses.new.buckets }) }
+    ensures others { OnErr result (clauses.new
+        ≡ record clauses.old { buckets = clauses.new.buckets }) }
 {
     let hash = hasher.clause_hash(lits);
     let buffer = clauses.literal_buffer.as_slice();

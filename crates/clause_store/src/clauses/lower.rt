@@ -126,8 +126,8 @@ fn lower_in(
     }
 }
 
-/// Takes one copy of the clause with these literals away. The clause goes with its last copy, and an empty bucket too.
-/// It answers what is left of the clause.
+/// Takes one copy of the clause with these literals away. The clause goes with its last copy, and
+/// an empty bucket too. It answers what is left of the clause.
 pub fn lower_clause(
     buckets: &mut Buckets,
     buffer: &[Lit],
@@ -142,8 +142,8 @@ pub fn lower_clause(
         buckets.new) }
     ensures missing { IfErr result (IsMissing redundant lits.now
         (stored_in buffer.now buckets.old hash)) }
-    ensures unchanged { OnErr result ((k : ℕ) →
-        clauses_at buckets.new k ≡ clauses_at buckets.old k) }
+    ensures unchanged { OnErr result ((k : ℕ)
+        → clauses_at buckets.new k ≡ clauses_at buckets.old k) }
 {
     match buckets.entry(hash) {
         Ok(Entry::Occupied(mut entry)) => {

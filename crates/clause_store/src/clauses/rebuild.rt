@@ -17,10 +17,10 @@ use std::collections::HashMap;
 
 /// All clauses of two or more literals, by rising ids.
 pub fn gather(alloc: Global, clauses: &Clauses) -> Result<Vec<Clause>, AllocError>
-    ensures within { (h : ClauseHasher) (es : List Stored) → IsIndexed h clauses.now es →
-        IfOk result (λ all. All (λ c. IsWithin c.lits clauses.now.literal_buffer.items) all.items) }
-    ensures list { (h : ClauseHasher) (es : List Stored) → IsIndexed h clauses.now es →
-        IfOk result (λ all. map (stored_of clauses.now.literal_buffer.items) all.items ≡ es) }
+    ensures within { (h : ClauseHasher) (es : List Stored) → IsIndexed h clauses.now es
+        → IfOk result (λ all. All (λ c. IsWithin c.lits clauses.now.literal_buffer.items) all.items) }
+    ensures list { (h : ClauseHasher) (es : List Stored) → IsIndexed h clauses.now es
+        → IfOk result (λ all. map (stored_of clauses.now.literal_buffer.items) all.items ≡ es) }
 {
     let mut all = Vec::with_capacity(alloc, clauses.buckets.len())?;
     for bucket in clauses.buckets.values() {
@@ -48,8 +48,8 @@ pub fn rebuild(
     requires some_bits { 0 < hasher.now.hash_bits }
     requires bits { hasher.now.hash_bits ≤ 64 }
     requires within { All (λ c. IsWithin c.lits buffer.now) all.now }
-    ensures buckets { IfOk result (λ m. (k : ℕ) →
-        stored_in buffer.now m k ≡ of_hash (hash_of hasher.now) k
+    ensures buckets { IfOk result (λ m. (k : ℕ)
+        → stored_in buffer.now m k ≡ of_hash (hash_of hasher.now) k
         (map (stored_of buffer.now) all.now)) }
     ensures within { IfOk result (λ m. AreWithin buffer.now m) }
 {
@@ -72,8 +72,8 @@ pub fn rebuild_buckets(
     requires filed { (h : ClauseHasher) × IsIndexed h clauses.old (stored_list clauses.old) }
     ensures filed { OnOk result (IsIndexed hasher.now clauses.new (stored_list clauses.new)) }
     ensures list { OnOk result (stored_list clauses.new ≡ stored_list clauses.old) }
-    ensures others { OnOk result (clauses.new ≡
-        record clauses.old { buckets = clauses.new.buckets }) }
+    ensures others { OnOk result (clauses.new
+        ≡ record clauses.old { buckets = clauses.new.buckets }) }
 {
     let all = gather(alloc, clauses)?;
     clauses.buckets = rebuild(alloc, hasher, &all, &clauses.literal_buffer)?;

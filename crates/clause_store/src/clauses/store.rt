@@ -1,8 +1,8 @@
 //! Storing clauses.
 ghost use Rattle.std.specs.Prelude.{◌≡◌, ◌+◌, ◌*◌, ◌/◌, ◌<◌, ◌≤◌, ◌∷◌, [], ℕ, Bool, List, Some, true, length, IfErr, IfOk, OnErr, OnOk, slice_index, slice_set};
 ghost use Rattle.std.specs.Result.{OkIff};
+ghost use Rattle.sat_rules.specs.Clauses.{is_canonical};
 ghost use Rattle.checker_rules.specs.Canonical.{var_bound};
-ghost use Rattle.checker_rules.specs.Clauses.{is_canonical};
 ghost use Rattle.checker_rules.specs.State.{Known};
 ghost use Rattle.checker_rules.specs.Store.{count_of, id_limit};
 ghost use Rattle.clause_store.specs.Buckets.{AreWithin, first_copy_of};
@@ -68,8 +68,8 @@ pub fn store_clause(
     requires store { IsStore hasher.now clauses.old }
     requires canonical { is_canonical lits.now ≡ true }
     requires known { var_bound lits.now ≤ length clauses.old.unit_clauses }
-    ensures answer { (known : List Known) →
-        AnswersStore result lits.now redundant (state_of state.old hasher.now clauses.old known)
+    ensures answer { (known : List Known)
+        → AnswersStore result lits.now redundant (state_of state.old hasher.now clauses.old known)
         (state_of state.new hasher.now clauses.new known) }
     ensures store { UnlessOutOfMemory result (IsStore hasher.now clauses.new) }
 {
@@ -85,8 +85,8 @@ fn store_empty(
     state: &mut CheckerState,
     clauses: &mut Clauses,
 ) -> Result<(u64, StoreClauseResult), StoreFault>
-    ensures answer { (h : ClauseHasher) (known : List Known) (redundant : Bool) →
-        IsStore h clauses.old → AnswersStore result [] redundant
+    ensures answer { (h : ClauseHasher) (known : List Known) (redundant : Bool)
+        → IsStore h clauses.old → AnswersStore result [] redundant
         (state_of state.old h clauses.old known) (state_of state.new h clauses.new known) }
     ensures store { (h : ClauseHasher) → IsStore h clauses.old → IsStore h clauses.new }
 {
@@ -104,8 +104,8 @@ pub fn store_unit_clause(
     lit: Lit,
 ) -> Result<(u64, StoreClauseResult), StoreFault>
     requires { lit / 2 < length clauses.old.unit_clauses }
-    ensures answer { (h : ClauseHasher) (known : List Known) (redundant : Bool) →
-        IsStore h clauses.old → AnswersStore result (lit ∷ []) redundant
+    ensures answer { (h : ClauseHasher) (known : List Known) (redundant : Bool)
+        → IsStore h clauses.old → AnswersStore result (lit ∷ []) redundant
         (state_of state.old h clauses.old known) (state_of state.new h clauses.new known) }
     ensures store { (h : ClauseHasher) → IsStore h clauses.old → IsStore h clauses.new }
 {
@@ -128,8 +128,8 @@ fn put_unit(clauses: &mut Clauses, lit: Lit) -> Result<(u64, StoreClauseResult),
     ensures answer { OkIff result (clauses.old.next_clause_id < id_limit)
         (clauses.old.next_clause_id, New) }
     ensures exhausted { IfErr result (λ fault. fault ≡ IdsExhausted) }
-    ensures stored { OnOk result (clauses.new ≡
-        record clauses.old {
+    ensures stored { OnOk result (clauses.new
+        ≡ record clauses.old {
           unit_clauses = slice_set clauses.old.unit_clauses (lit / 2)
               (Some (unit_for lit clauses.old.next_clause_id));
           next_clause_id =
@@ -157,8 +157,8 @@ fn put_conflict(
     ensures answer { OkIff result (clauses.old.next_clause_id < id_limit)
         (clauses.old.next_clause_id, New) }
     ensures exhausted { IfErr result (λ fault. fault ≡ IdsExhausted) }
-    ensures stored { OnOk result (clauses.new ≡
-        record clauses.old {
+    ensures stored { OnOk result (clauses.new
+        ≡ record clauses.old {
           unit_conflict = Some (stored, clauses.old.next_clause_id);
           next_clause_id = clauses.old.next_clause_id + 1;
         }) }
@@ -195,8 +195,8 @@ fn store_long(
     requires long { 1 < length lits.now }
     requires canonical { is_canonical lits.now ≡ true }
     requires known { var_bound lits.now ≤ length clauses.old.unit_clauses }
-    ensures answer { (st : CheckerState) (known : List Known) →
-        AnswersStore result lits.now redundant (state_of st hasher.now clauses.old known)
+    ensures answer { (st : CheckerState) (known : List Known)
+        → AnswersStore result lits.now redundant (state_of st hasher.now clauses.old known)
         (state_of st hasher.now clauses.new known) }
     ensures store { UnlessOutOfMemory result (IsStore hasher.now clauses.new) }
 {

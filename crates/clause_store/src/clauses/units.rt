@@ -28,7 +28,8 @@ pub struct UnitClause {
 
 /// Whether a variable has a value, in one byte.
 ///
-/// The first two stand in the order of `bool`, so that one comparison tells whether a value makes a literal false.
+/// The first two stand in the order of `bool`, so that one comparison tells whether a value makes a
+/// literal false.
 #[derive(Clone, Copy, PartialEq, Eq)]
 enum Value {
     False,
@@ -53,7 +54,8 @@ impl Value {
         }
     }
 
-    /// The value of a literal whose variable has this one. A false literal, as most are that a check looks at, is told first.
+    /// The value of a literal whose variable has this one. A false literal, as most are that a
+    /// check looks at, is told first.
     #[inline(always)]
     fn of_lit(self, lit: Lit) -> Option<bool>
         ensures { result ≡ spec.signed (spec.known self) lit }
@@ -142,7 +144,7 @@ impl Model for Units {
 }
 
 impl Units {
-    ghost use Rattle.checker_rules.specs.Clauses.{negate, var_of};
+    ghost use Rattle.sat_rules.specs.Clauses.{negate, var_of};
     ghost use Rattle.clause_store.specs.Rup.{true_lits};
     ghost use Rattle.clause_store.specs.StateOf.{stored_units};
     ghost use Rattle.clause_store.specs.Trace as traces;

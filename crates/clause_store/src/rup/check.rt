@@ -1,8 +1,8 @@
 //! The check of a clause in the state that the parts stand for.
 ghost use Rattle.std.specs.Prelude.{◌≡◌, ◌≤◌, false, IsTrue, OnOk, length};
+ghost use Rattle.sat_rules.specs.Clauses.{is_tautology};
 ghost use Rattle.checker_rules.specs.Canonical.{var_bound};
 ghost use Rattle.checker_rules.specs.Check.{check, ready};
-ghost use Rattle.checker_rules.specs.Clauses.{is_tautology};
 ghost use Rattle.checker_rules.specs.Outcome.{accept};
 ghost use Rattle.checker_rules.specs.Traced.{check_trace};
 ghost use Rattle.checker_parts.specs.Faults.{AnswersOutcome, UnlessStopped};
@@ -22,10 +22,12 @@ use proof_bytes::ClauseHash;
 use sat_formula::Lit;
 use std::alloc::{AllocError, Global};
 
-/// Whether a canonical clause without opposite literals follows by propagation from the clauses that the hashes name.
+/// Whether a canonical clause without opposite literals follows by propagation from the clauses
+/// that the hashes name.
 ///
-/// Where a pending solver name waits, all pending names and removals are applied first. The variables of the clause become known.
-/// The units are those of before, passed or refused. A traced check that passes leaves the ids of what it used in `trace_ids`.
+/// Where a pending solver name waits, all pending names and removals are applied first. The
+/// variables of the clause become known. The units are those of before, passed or refused. A traced
+/// check that passes leaves the ids of what it used in `trace_ids`.
 #[inline(always)]
 pub fn check_clause_with_hashes(
     alloc: Global,
@@ -78,8 +80,8 @@ fn make_ready(
     lits: &[Lit],
 ) -> Result<(), AllocError>
     requires { PartsInvariant state.now hasher.old clauses.old variables.old }
-    ensures state { OnOk result (state_of state.now hasher.new clauses.new variables.new ≡
-        ready (state_of state.now hasher.old clauses.old variables.old) lits.now) }
+    ensures state { OnOk result (state_of state.now hasher.new clauses.new variables.new
+        ≡ ready (state_of state.now hasher.old clauses.old variables.old) lits.now) }
     ensures store { OnOk result (IsStore hasher.new clauses.new) }
     ensures known { OnOk result (var_bound lits.now ≤ length clauses.new.unit_clauses) }
 {

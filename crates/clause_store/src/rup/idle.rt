@@ -31,8 +31,8 @@ impl IdleBuckets {
         }
     }
 
-    /// None is known to be idle. What is found next grows anew, as a table that was large once would
-    /// cost its size at each check.
+    /// None is known to be idle. What is found next grows anew, as a table that was large once
+    /// would cost its size at each check.
     #[inline]
     pub fn forget(&mut self)
         ensures { (h : ℕ) → idle_at self.new h ≡ None }
@@ -54,8 +54,8 @@ impl IdleBuckets {
 
     /// The bucket was found idle at a trail of this length.
     pub fn add(&mut self, hash: ClauseHash, given: usize) -> Result<(), AllocFailed<(u64, usize)>>
-        ensures ok { OnOk result ((h : ℕ) → idle_at self.new h ≡
-            (if hash == h then Some given else idle_at self.old h)) }
+        ensures ok { OnOk result ((h : ℕ) → idle_at self.new h
+            ≡ (if hash == h then Some given else idle_at self.old h)) }
         ensures err { OnErr result ((h : ℕ) → idle_at self.new h ≡ idle_at self.old h) }
     {
         self.found.insert(hash, given)?;

@@ -1,6 +1,6 @@
 //! The trace of a check: the ids of what it uses.
 ghost use Rattle.std.specs.Prelude.{◌≡◌, ◌<◌, ◌∷◌, ℕ, List, Some, false, length, OnOk};
-ghost use Rattle.checker_rules.specs.Clauses.{var_of};
+ghost use Rattle.sat_rules.specs.Clauses.{var_of};
 ghost use Rattle.clause_store.specs.Idle.{Lengthens};
 ghost use Rattle.clause_store.specs.Rup.{true_lits};
 ghost use Rattle.clause_store.specs.Trace.{KeepsStored, looked, unlisted_lits};
@@ -55,8 +55,8 @@ fn list_unit(
     requires is_false { values.lit_value units.old lit ≡ Some false }
     requires trail { IsTrailFor units.old trail.old.items }
     // Whatever literals come after it.
-    ensures listed { OnOk result ((rest : List ℕ) →
-        looked trace.old.items units.old (lit ∷ rest) ≡ looked trace.new.items units.new rest) }
+    ensures listed { OnOk result ((rest : List ℕ)
+        → looked trace.old.items units.old (lit ∷ rest) ≡ looked trace.new.items units.new rest) }
     ensures kept { KeepsStored units.old units.new }
     ensures true_lits { true_lits units.new ≡ true_lits units.old }
     ensures lengthens { OnOk result (Lengthens units.old (length trail.old.items)

@@ -1,6 +1,6 @@
 //! Values that hold during a check only: what they overwrite is kept, and put back afterwards.
 ghost use Rattle.std.specs.Prelude.{◌≡◌, ◌+◌, ◌<◌, [], Some, false, length, OnOk, OnErr, slice_set};
-ghost use Rattle.checker_rules.specs.Clauses.{is_tautology, var_of};
+ghost use Rattle.sat_rules.specs.Clauses.{is_tautology, var_of};
 ghost use Rattle.checker_rules.specs.Hints.{unlisted_at};
 ghost use Rattle.checker_rules.specs.State.{some_true_unit, start_set};
 ghost use Rattle.clause_store.specs.Rup.{true_lits};
@@ -43,8 +43,8 @@ pub fn assume_false(units: &mut Units, trail: &mut Trail, lits: &[Lit]) -> Resul
     requires no_tautology { is_tautology lits.now ≡ false }
     requires trail { IsTrailFor units.old trail.old.items }
     ensures ok { OnOk result (true_lits units.new ≡ start_set (stored_units units.old) lits.now) }
-    ensures unlisted { OnOk result (unlisted_lits units.new ≡
-        unlisted_at (stored_units units.old) lits.now) }
+    ensures unlisted { OnOk result (unlisted_lits units.new
+        ≡ unlisted_at (stored_units units.old) lits.now) }
     ensures kept { KeepsStored units.old units.new }
     ensures undoable { IsUndoable units.old trail.old.items units.new trail.new.items }
 {

@@ -1,6 +1,6 @@
 //! The check that is not traced: it writes values alone, and only those of free variables.
 ghost use Rattle.std.specs.Prelude.{◌≡◌, ◌+◌, ◌<◌, ◌∷◌, [], All, IfOk, None, false, length, OnOk};
-ghost use Rattle.checker_rules.specs.Clauses.{is_tautology, var_of};
+ghost use Rattle.sat_rules.specs.Clauses.{is_tautology, var_of};
 ghost use Rattle.checker_rules.specs.Passes as rules;
 ghost use Rattle.checker_rules.specs.State.{some_true_unit, start_set};
 ghost use Rattle.clause_store.specs.Buckets.{AreWithin, clauses_at};
@@ -64,8 +64,8 @@ fn assume_free(units: &mut Units, trail: &mut FreeTrail, lits: &[Lit]) -> Result
     requires no_tautology { is_tautology lits.now ≡ false }
     requires trail { IsTrailFor units.old (freed trail.old.items) }
     ensures met { IfOk result (λ met. met ≡ some_true_unit (stored_units units.old) lits.now) }
-    ensures ok { IfOk result (λ met. met ≡ false →
-        true_lits units.new ≡ start_set (stored_units units.old) lits.now) }
+    ensures ok { IfOk result (λ met. met ≡ false
+        → true_lits units.new ≡ start_set (stored_units units.old) lits.now) }
     ensures undoable { IsUndoable units.old (freed trail.old.items)
         units.new (freed trail.new.items) }
 {
@@ -170,8 +170,8 @@ fn propagate_long(
         (λ h. IsIdle units.old (lits_at buffer.now buckets.now h)) }
     ensures ok { let bucket = lits_at buffer.now buckets.now hash in
         IfOk result (WalksFirst units.old bucket units.new) }
-    ensures idle { IfOk result (λ end. end ≡ None →
-        AreIdle (idle_at run.new.idle) (length run.new.trail.items)
+    ensures idle { IfOk result (λ end. end ≡ None
+        → AreIdle (idle_at run.new.idle) (length run.new.trail.items)
         (λ h. IsIdle units.new (lits_at buffer.now buckets.now h))) }
     ensures undoable { IsUndoable units.old (freed run.old.trail.items)
         units.new (freed run.new.trail.items) }
@@ -209,8 +209,8 @@ fn propagate_named(
         (λ h. IsIdle units.old (lits_at buffer.now buckets.now h)) }
     ensures ok { let bucket = lits_at buffer.now buckets.now hash in
         IfOk result (WalksFirst units.old bucket units.new) }
-    ensures idle { IfOk result (λ end. end ≡ None →
-        AreIdle (idle_at run.new.idle) (length run.new.trail.items)
+    ensures idle { IfOk result (λ end. end ≡ None
+        → AreIdle (idle_at run.new.idle) (length run.new.trail.items)
         (λ h. IsIdle units.new (lits_at buffer.now buckets.now h))) }
     ensures undoable { IsUndoable units.old (freed run.old.trail.items)
         units.new (freed run.new.trail.items) }

@@ -36,8 +36,8 @@ pub fn visit_clause(
     ensures ok { IfOk result (Walks units.old (lits_in buffer.now (clause.now ∷ [])) units.new) }
     ensures listed { IfOk result (Lists run.old.trace.items units.old
         (stored_of buffer.now clause.now ∷ []) run.new.trace.items units.new) }
-    ensures lengthens { IfOk result (λ falsified. falsified ≡ false →
-        LengthensRun units.old run.old units.new run.new) }
+    ensures lengthens { IfOk result (λ falsified. falsified ≡ false
+        → LengthensRun units.old run.old units.new run.new) }
     ensures undoable { IsUndoable units.old run.old.trail.items units.new run.new.trail.items }
     ensures idle { run.new.idle ≡ run.old.idle }
 {
@@ -75,8 +75,8 @@ pub fn visit_bucket(
     ensures ok { IfOk result (Walks units.old (lits_in buffer.now bucket.now) units.new) }
     ensures listed { IfOk result (Lists run.old.trace.items units.old
         (map (stored_of buffer.now) bucket.now) run.new.trace.items units.new) }
-    ensures lengthens { IfOk result (λ falsified. falsified ≡ false →
-        LengthensRun units.old run.old units.new run.new) }
+    ensures lengthens { IfOk result (λ falsified. falsified ≡ false
+        → LengthensRun units.old run.old units.new run.new) }
     ensures undoable { IsUndoable units.old run.old.trail.items units.new run.new.trail.items }
     ensures idle { run.new.idle ≡ run.old.idle }
 {
@@ -105,8 +105,8 @@ fn visit_named(
         IfOk result (WalksFirst units.old bucket units.new) }
     ensures listed { IfOk result (ListsFirst run.old.trace.items units.old
         (stored_in buffer.now buckets.now hash) run.new.trace.items units.new) }
-    ensures idle { IfOk result (λ end. end ≡ None →
-        AreIdle (idle_at run.new.idle) (length run.new.trail.items)
+    ensures idle { IfOk result (λ end. end ≡ None
+        → AreIdle (idle_at run.new.idle) (length run.new.trail.items)
         (λ h. IsIdleRun run.new.trace.items units.new (stored_in buffer.now buckets.now h))) }
     ensures undoable { IsUndoable units.old run.old.trail.items units.new run.new.trail.items }
 {
@@ -146,8 +146,8 @@ pub fn walk_buckets(
     ensures ok { let named = named_buckets buffer.now buckets.now hashes.now in
         IfOk result (λ a. check_answer a ≡ rules.walk_buckets (true_lits units.old) named) }
     ensures listed { let named = named_clauses buffer.now buckets.now hashes.now in
-        IfOk result (λ a. a ≡ Answer.Passed →
-        ids_after run.old.trace.items units.old named ≡ Some run.new.trace.items) }
+        IfOk result (λ a. a ≡ Answer.Passed
+        → ids_after run.old.trace.items units.old named ≡ Some run.new.trace.items) }
     ensures undoable { IsUndoable units.old run.old.trail.items units.new run.new.trail.items }
 {
     run.idle.forget();

@@ -3,7 +3,7 @@ use crate::line::LratLine;
 use crate::reader::LineReader;
 use std::test::Fail;
 
-// A long comment, a long run of blanks, and a line with many literals and hints.
+/// A long comment, a long run of blanks, and a line with many literals and hints.
 #[test]
 fn long_lines(rt: HostRuntime) -> Result<(), Fail> {
     let mut text: Vec<u8> = Vec::new(rt.alloc());
@@ -40,7 +40,7 @@ fn long_lines(rt: HostRuntime) -> Result<(), Fail> {
     Ok(())
 }
 
-// As many short lines as fill the buffer some times: their ends stand at its border too.
+/// As many short lines as fill the buffer some times: their ends stand at its border too.
 #[test]
 fn many_lines(rt: HostRuntime) -> Result<(), Fail> {
     let mut text: Vec<u8> = Vec::new(rt.alloc());

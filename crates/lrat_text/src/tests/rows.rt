@@ -149,7 +149,7 @@ const OTHER_WORDS: [Row; 14] = [
     (b"a\x08\x02\x00\x02\x00", &[(1, "malformed line")]),
 ];
 
-// What is answered where so many lines were read to their LF and the next read fails.
+/// What is answered where so many lines were read to their LF and the next read fails.
 fn expected(alloc: Global, answers: &[(usize, &str)], lines: usize) -> Result<String, Fail> {
     let mut all = String::new(alloc);
     let mut ended = false;

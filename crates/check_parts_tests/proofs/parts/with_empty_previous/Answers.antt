@@ -1,5 +1,5 @@
 use Rattle.std.proofs.Common.{ℕ, List, Some, ap}
-use Rattle.checker_rules.specs.Clauses.{is_canonical}
+use Rattle.sat_rules.specs.Clauses.{is_canonical}
 use Rattle.checker_rules.proofs.Forms.{form-previous}
 use Rattle.clause_store.specs.StateOf.{state_of}
 use Rattle.check_parts_tests.proofs.parts.with_empty_previous.Goals as goal

@@ -1,10 +1,10 @@
 use Rattle.std.proofs.Common.{◌≡◌, ◌⊎◌, ℕ, Bool, true, false, ltb, List, [], ◌∷◌, ◌++◌, length, Option, Some, None, inl, inr, sym, ap, ◌∙◌, subst, length-append, arith}
+use Rattle.sat_rules.specs.Clauses.{is_tautology}
 use Rattle.checker_rules.specs.CallEmissions.{EmitsCall, EmitsCalls, EmitsCounted}
 use Rattle.checker_rules.specs.Calls.{Call, adds, answer_of, attempt, checks, closes, count_step, step_limit}
 use Rattle.checker_rules.specs.Canonical.{canonical}
 use Rattle.checker_rules.specs.Check.{ready}
 use Rattle.checker_rules.specs.CheckedSteps.{NamedStep}
-use Rattle.checker_rules.specs.Clauses.{is_tautology}
 use Rattle.checker_rules.specs.Emits.{Emits, EmitsAccepted, EmitsBy, EmitsCoreBy, EmitsDerived, EmitsDerivedBy, EmitsRefused, EmitsThen, EmitsUnits}
 use Rattle.checker_rules.specs.Outcome.{Cause}
 use Rattle.checker_rules.specs.Run.{Runs, Stop, move}

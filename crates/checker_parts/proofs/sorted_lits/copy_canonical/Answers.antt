@@ -3,8 +3,8 @@ use Rattle.std.specs.List.Retain.{DiffersFromLast, IsFiltered}
 use Rattle.std.specs.List.Sorted.{IsPermutation, IsSorted}
 use Rattle.std.specs.Ordering.{nat_cmp}
 use Rattle.std.proofs.lemmas.List.Filters.{dedup_is}
+use Rattle.sat_rules.specs.Clauses.{is_canonical, is_tautology}
 use Rattle.checker_rules.specs.Canonical.{canonical}
-use Rattle.checker_rules.specs.Clauses.{is_canonical, is_tautology}
 use Rattle.checker_rules.proofs.Entries.{canonical-is}
 use Rattle.checker_parts.proofs.Rising.{rising_canonical, rising_is, rising_sound}
 use Rattle.checker_parts.proofs.CanonicalLists.{sorted-canonical}

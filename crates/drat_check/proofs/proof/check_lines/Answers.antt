@@ -1,6 +1,6 @@
 use Rattle.std.proofs.Common.{[], ◌∷◌, ◌++◌, false, true, sym, ◌∙◌}
 use Rattle.std.proofs.lemmas.Bool.{false_from_ne_true}
-use Rattle.checker_rules.specs.Clauses.{all_true}
+use Rattle.sat_rules.specs.Clauses.{all_true}
 use Rattle.lrat_text.specs.NextLine.{view}
 use Rattle.drat_check.proofs.proof.check_lines.Goals as goal
 

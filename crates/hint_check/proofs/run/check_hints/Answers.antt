@@ -1,5 +1,5 @@
 use Rattle.std.proofs.Common.{[], refl}
-use Rattle.checker_rules.specs.HintLines.{listing}
+use Rattle.sat_rules.specs.HintLines.{listing}
 use Rattle.hint_check.proofs.RunLemmas.{accepted_hints, gives_text, unread_hints}
 use Rattle.hint_check.proofs.run.check_hints.Goals as goal
 

@@ -1,7 +1,7 @@
 use Rattle.std.proofs.Common.{◌≡◌, Ok, subst}
 use Rattle.whole_writes.specs.Beginnings.{AppendsBeginning}
-use Rattle.lrat_check.specs.Verdicts.{shown_line, verdict_of}
-use Rattle.lrat_check.specs.declared.verdict.Verdict.TheVariants.{Verified}
+use Rattle.verdicts.specs.Verdicts.{shown_line, verdict_of}
+use Rattle.verdicts.specs.declared.verdict.Verdict.TheVariants.{Verified}
 use Rattle.lrat_check.proofs.DecideLemmas.{decided}
 use Rattle.lrat_check.proofs.RunLemmas.{fault_decided, formula_refuted, verdict_decided}
 use Rattle.lrat_check.proofs.run.run_proof.Goals as goal

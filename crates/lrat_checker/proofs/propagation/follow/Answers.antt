@@ -1,5 +1,5 @@
 use Rattle.std.proofs.Common.{sym, ap, ◌∙◌}
-use Rattle.checker_rules.specs.Clauses.{add_lit}
+use Rattle.sat_rules.specs.Clauses.{add_lit}
 use Rattle.lrat_rules.specs.Propagation.{conflict, on_named}
 use Rattle.lrat_checker.specs.Values.{among}
 use Rattle.lrat_checker.proofs.TrailLemmas.{among-with_lit}

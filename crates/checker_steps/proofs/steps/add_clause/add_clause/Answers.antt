@@ -1,5 +1,5 @@
 use Rattle.std.proofs.Common.{◌≡◌, ℕ, List, [], None, Some, ap, ◌∙◌, subst, refl}
-use Rattle.checker_rules.specs.Clauses.{is_canonical}
+use Rattle.sat_rules.specs.Clauses.{is_canonical}
 use Rattle.checker_rules.specs.Emits.{Emits, emits_input}
 use Rattle.checker_rules.specs.KnownVars.{know_clause}
 use Rattle.checker_rules.specs.Step.{add_clause}

@@ -1,6 +1,6 @@
 use Rattle.std.proofs.Common.{ℕ, List, [], Err, sym, ap, ◌∙◌, refl, Ok}
+use Rattle.sat_rules.specs.Clauses.{is_canonical}
 use Rattle.checker_rules.specs.AtClause.{set_previous}
-use Rattle.checker_rules.specs.Clauses.{is_canonical}
 use Rattle.checker_rules.specs.Outcome.{tautology}
 use Rattle.checker_rules.specs.Step.{at_clause}
 use Rattle.checker_rules.specs.Steps.{step}

@@ -1,5 +1,5 @@
 use Rattle.std.proofs.Common.{refl, sym, ap, ◌∙◌}
-use Rattle.checker_rules.specs.Clauses.{is_tautology}
+use Rattle.sat_rules.specs.Clauses.{is_tautology}
 use Rattle.clause_store.proofs.RefusalLemmas.{answers-refuse, kept-answer}
 use Rattle.checker_steps.specs.Context.{context_state}
 use Rattle.checker_steps.specs.FailedCore.{core_cause}

@@ -1,6 +1,6 @@
 use Rattle.std.proofs.Common.{length, sym, ap, ◌∙◌, arith}
 use Rattle.std.proofs.lemmas.Bool.{lt-ltb}
-use Rattle.checker_rules.specs.Clauses.{var_of}
+use Rattle.sat_rules.specs.Clauses.{var_of}
 use Rattle.clause_store.specs.StateOf.{state_of}
 use Rattle.checker_steps.specs.Marks.{is_marked}
 use Rattle.checker_steps.proofs.MarkLemmas.{lit-against_itself, lit-against_unit, lit-none}

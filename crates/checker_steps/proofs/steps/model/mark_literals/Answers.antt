@@ -1,7 +1,7 @@
 use Rattle.std.proofs.Common.{◌||◌, sym, ap, ◌∙◌}
 use Rattle.std.proofs.lemmas.List.{drop_all}
 use Rattle.std.proofs.lemmas.Result.{err_from_is_err_and}
-use Rattle.checker_rules.specs.Clauses.{has}
+use Rattle.sat_rules.specs.Clauses.{has}
 use Rattle.clause_store.specs.StateOf.{state_of}
 use Rattle.clause_store.proofs.StatusLemmas.{drop-at}
 use Rattle.checker_steps.specs.Marks.{is_marked}

@@ -1,5 +1,5 @@
 use Rattle.std.proofs.Common.{◌≡◌, ℕ, ◌||◌, [], drop}
-use Rattle.checker_rules.specs.Clauses.{has}
+use Rattle.sat_rules.specs.Clauses.{has}
 use Rattle.checker_rules.specs.Model.{model_cause}
 use Rattle.clause_store.specs.StateOf.{state_of}
 use Rattle.clause_store.specs.declared.hash.ClauseHasher.{ClauseHasher}

@@ -2,7 +2,7 @@ use Rattle.std.proofs.Common.{◌≡◌, ◌+◌, ◌/◌, [], ◌∷◌, Bool, 
 use Rattle.std.specs.Bool.{beq}
 use Rattle.std.proofs.lemmas.List.{length-set}
 use Rattle.std.proofs.lemmas.Result.{on_err_weaker, on_ok_weaker}
-use Rattle.checker_rules.specs.Clauses.{is_negative, var_of}
+use Rattle.sat_rules.specs.Clauses.{is_negative, var_of}
 use Rattle.checker_rules.specs.State.{State, makes_true, same_bool, unit_of}
 use Rattle.clause_store.specs.declared.clauses.StoreClauseResult.TheVariants.{Duplicate}
 use Rattle.clause_store.specs.StateOf.{id_of_unit, state_of, stored_unit}

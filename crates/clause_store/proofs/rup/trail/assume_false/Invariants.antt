@@ -1,5 +1,5 @@
 use Rattle.std.proofs.Common.{◌≡◌, ℕ, ◌&&◌, not, take}
-use Rattle.checker_rules.specs.Clauses.{var_of}
+use Rattle.sat_rules.specs.Clauses.{var_of}
 use Rattle.checker_rules.specs.DeleteVar.{holds_var}
 use Rattle.checker_rules.specs.State.{start_set}
 use Rattle.clause_store.specs.Rup.{true_lits}

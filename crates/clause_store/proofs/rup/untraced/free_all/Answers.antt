@@ -1,6 +1,6 @@
 use Rattle.std.proofs.Common.{ℕ, ◌+◌, ◌<◌, drop, length, set, None, List, ap, sym, ◌∙◌, subst, length-set}
 use Rattle.std.proofs.Math.ListN.{drop_of_length-le}
-use Rattle.checker_rules.specs.Clauses.{var_of}
+use Rattle.sat_rules.specs.Clauses.{var_of}
 use Rattle.clause_store.specs.Trail.{freed, undone}
 use Rattle.clause_store.proofs.StatusLemmas.{drop-at}
 use Rattle.clause_store.proofs.TrailLemmas.{freed-first, freed-known}

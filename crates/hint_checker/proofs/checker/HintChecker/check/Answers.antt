@@ -1,6 +1,6 @@
 use Rattle.std.proofs.Common.{◌≡◌, Some, None, subst, sym, ap, ◌∙◌, cond}
-use Rattle.checker_rules.specs.HintLines.{Follows, listing}
-use Rattle.checker_rules.proofs.HintLineFacts.{some-same}
+use Rattle.sat_rules.specs.HintLines.{Follows, listing}
+use Rattle.sat_rules.proofs.HintLineFacts.{some-same}
 use Rattle.hint_checker.specs.Held.{held_by}
 use Rattle.hint_checker.proofs.CheckLemmas.{accepts_after, yes_refutes}
 use Rattle.hint_checker.proofs.checker.HintChecker.check.Goals as goal

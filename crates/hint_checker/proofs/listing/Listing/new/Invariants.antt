@@ -1,5 +1,5 @@
 use Rattle.std.proofs.Common.{◌≡◌, ◌+◌, ◌<◌, ◌^◌, suc, length}
-use Rattle.checker_rules.specs.HintLines.{list_from, listing}
+use Rattle.sat_rules.specs.HintLines.{list_from, listing}
 use Rattle.hint_checker.specs.Held.{held_by}
 use Rattle.hint_checker.proofs.listing.Listing.new.Given as goal
 

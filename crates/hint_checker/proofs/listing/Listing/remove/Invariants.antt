@@ -1,5 +1,5 @@
 use Rattle.std.proofs.Common.{◌≡◌, drop}
-use Rattle.checker_rules.specs.HintLines.{drop_ids}
+use Rattle.sat_rules.specs.HintLines.{drop_ids}
 use Rattle.hint_checker.specs.Held.{held_by}
 use Rattle.hint_checker.proofs.listing.Listing.remove.Given as goal
 

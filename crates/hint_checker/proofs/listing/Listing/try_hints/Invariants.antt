@@ -1,5 +1,5 @@
 use Rattle.std.proofs.Common.{◌≡◌, [], ◌∷◌, ◌++◌, drop}
-use Rattle.checker_rules.specs.HintLines.{hints_cause}
+use Rattle.sat_rules.specs.HintLines.{hints_cause}
 use Rattle.hint_checker.specs.Held.{held_by, trues}
 use Rattle.hint_checker.proofs.listing.Listing.try_hints.Given as goal
 

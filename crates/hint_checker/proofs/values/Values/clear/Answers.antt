@@ -1,7 +1,7 @@
 use Rattle.std.proofs.Common.{◌≡◌, ℕ, false, get_or, length, sym, ap, ◌∙◌, drop, arith}
 use Rattle.std.proofs.lemmas.Bool.{false≢true}
 use Rattle.std.proofs.lemmas.List.{at_drop_all}
-use Rattle.checker_rules.specs.Clauses.{has}
+use Rattle.sat_rules.specs.Clauses.{has}
 use Rattle.hint_checker.proofs.ValueLemmas.{later_in_trail}
 use Rattle.hint_checker.proofs.values.Values.clear.Goals as goal
 

@@ -1,5 +1,5 @@
 use Rattle.std.proofs.Common.{◌≡◌, ℕ, false, true, get_or, drop}
-use Rattle.checker_rules.specs.Clauses.{has}
+use Rattle.sat_rules.specs.Clauses.{has}
 use Rattle.hint_checker.proofs.values.Values.clear.Given as goal
 
 -- what is still true comes later in the trail

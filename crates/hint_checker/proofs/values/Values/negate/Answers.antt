@@ -1,7 +1,7 @@
 use Rattle.std.proofs.Common.{◌||◌, ◌+◌, ap, ◌∙◌, drop, eqb}
 use Rattle.std.proofs.Math.Bool.{or-false}
 use Rattle.hint_checker.specs.Held.{trues}
-use Rattle.checker_rules.specs.Hints.{negated_set}
+use Rattle.sat_rules.specs.Named.{negated_set}
 use Rattle.hint_checker.proofs.ValueLemmas.{negated_next}
 use Rattle.hint_checker.proofs.values.Values.negate.Goals as goal
 

@@ -1,5 +1,5 @@
 use Rattle.std.proofs.Common.{◌≡◌, ℕ, ◌||◌, drop}
-use Rattle.checker_rules.specs.Hints.{negated_set}
+use Rattle.sat_rules.specs.Named.{negated_set}
 use Rattle.hint_checker.specs.Held.{trues}
 use Rattle.hint_checker.proofs.values.Values.negate.Given as goal
 

@@ -1,7 +1,7 @@
 use Rattle.std.proofs.Common.{◌≡◌, ℕ, Bool, true, false, [], List, drop, get_or, refl, sym, ap, ◌∙◌, subst, arith}
 use Rattle.std.proofs.lemmas.Bool.{false≢true}
 use Rattle.std.proofs.lemmas.List.{at_drop_all}
-use Rattle.checker_rules.specs.Clauses.{has}
+use Rattle.sat_rules.specs.Clauses.{has}
 use Rattle.lrat_checker.specs.Values.{IsMarked}
 use Rattle.lrat_checker.proofs.TrailLemmas.{later_in_trail, marked-none}
 use Rattle.lrat_checker.proofs.values.Values.clear.Goals as goal

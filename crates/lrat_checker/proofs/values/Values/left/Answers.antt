@@ -1,5 +1,5 @@
 use Rattle.std.proofs.Common.{Bool, List, false, get_or, sym, ap, ◌∙◌}
-use Rattle.checker_rules.specs.Clauses.{has}
+use Rattle.sat_rules.specs.Clauses.{has}
 use Rattle.std.proofs.lemmas.List.{at_drop_all}
 use Rattle.lrat_checker.specs.Values.{among, by_found, left_from}
 use Rattle.lrat_checker.proofs.SearchLemmas.{left_is, search_stops}

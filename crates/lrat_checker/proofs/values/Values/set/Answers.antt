@@ -1,5 +1,5 @@
 use Rattle.std.proofs.Common.{◌∷◌, ◌++◌, [], slice_set, true, subst, sym, ap, ◌∙◌, arith}
-use Rattle.checker_rules.specs.Clauses.{has}
+use Rattle.sat_rules.specs.Clauses.{has}
 use Rattle.lrat_checker.specs.Values.{IsMarked}
 use Rattle.lrat_checker.proofs.TrailLemmas.{marked-push}
 use Rattle.lrat_checker.proofs.values.Values.set.Goals as goal

@@ -1,5 +1,5 @@
 use Rattle.std.proofs.Common.{◌≡◌, ℕ, ◌<◌, length, set, Option, None, sym, ap, ◌∙◌}
-use Rattle.checker_rules.specs.Clauses.{var_of}
+use Rattle.sat_rules.specs.Clauses.{var_of}
 use Rattle.clause_store.specs.declared.clauses.units.UnitClause.{UnitClause}
 use Rattle.clause_store.specs.declared.clauses.units.Value.{Value}
 use Rattle.clause_store.specs.Units.{id_by, unit_by}

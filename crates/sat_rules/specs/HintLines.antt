@@ -7,9 +7,8 @@
 --     Follows h xs k      the lines are accepted in turn from h, and lead to k
 --     listing cs      a formula's clauses under 1, 2 and so on
 use Rattle.std.specs.Prelude.{◌≡◌, ℕ, suc, Bool, true, false, if◌then◌else◌, ◌||◌, nat_lt, List, [], ◌∷◌, Option, Some, None}
-use Rattle.checker_rules.specs.Clauses.{add_lit, all_true, is_falsified, is_unit_on}
-use Rattle.checker_rules.specs.Hints.{IsAdmitted, negated_set}
-use Rattle.checker_rules.specs.Machine.{Machine, drop_id, put_id}
+use Rattle.sat_rules.specs.Clauses.{add_lit, all_true, is_falsified, is_unit_on}
+use Rattle.sat_rules.specs.Named.{IsAdmitted, Machine, drop_id, negated_set, put_id}
 
 -- an addition: its id, its literals, its hints; a deletion: a number that says nothing, and the ids that go
 pub data HintLine : Type 0 where

@@ -3,12 +3,10 @@ use Rattle.std.proofs.Common.{◌≡◌, ℕ, suc, Bool, true, false, not, cond,
 use Rattle.std.specs.List.{list_all}
 use Rattle.std.proofs.lemmas.Bool.{eqb-true, and_parts, and_from, or_cases, false≢true, true≢false, not-true, both_ways}
 use Rattle.std.proofs.lemmas.Option.{none-some, cond_some}
-use Rattle.checker_rules.specs.Clauses.{Agrees, IsChain, add_lit, all_true, clause_true, has, is_falsified, is_unit_on, lit_true, negate}
-use Rattle.checker_rules.specs.HintLines.{Follows, HintCause, HintLine, HintsDecide, HintsRefute, Listed, adds_clause, after_line, deletes_clauses, drop_ids, go_on}
-use Rattle.checker_rules.specs.HintLines.{hints_cause, id_not_greater, is_empty, last_cause, list_from, listing, next_cause, no_conflict, not_unit, unit_among, unknown_id}
-use Rattle.checker_rules.specs.Hints.{IsAdmitted, NamedBy, negated_set}
-use Rattle.checker_rules.specs.Machine.{Machine, drop_id, put_id}
-use Rattle.checker_rules.proofs.Chains.{chains_sound, lit_true-negate}
+use Rattle.sat_rules.specs.Clauses.{Agrees, IsChain, add_lit, all_true, clause_true, has, is_falsified, is_unit_on, lit_true, negate}
+use Rattle.sat_rules.specs.HintLines.{Follows, HintCause, HintLine, HintsDecide, HintsRefute, Listed, adds_clause, after_line, deletes_clauses, drop_ids, go_on, hints_cause, id_not_greater, is_empty, last_cause, list_from, listing, next_cause, no_conflict, not_unit, unit_among, unknown_id}
+use Rattle.sat_rules.specs.Named.{IsAdmitted, Machine, NamedBy, drop_id, negated_set, put_id}
+use Rattle.sat_rules.proofs.Chains.{chains_sound, lit_true-negate}
 
 -- a refusal is a refusal
 refused : (x : HintCause) → Some x ≡ None → ⊥

@@ -1,5 +1,0 @@
-use Rattle.checker_rules.proofs.HintLineFacts as here
-use Rattle.checker_rules.proofs.laws.hints_decide.Goals as goal
-
-pub returns : goal.returns
-returns c = here.hints_decide
