@@ -11,7 +11,8 @@ What a document can say of files, and how it is written:
     laws `name`, `name`                 laws of some crate; so are the names in a column "law" of a table
     ```rust path                        a quotation: these words are there one after the other
 
-The table of crates has those of `crates.txt`, each with crates that are below it there.
+The table of crates has those of `crates.txt`, each with crates that are below it there. The README and FORMATS have
+each program as it says that it is called. Words over which readers of technical English stumble are not used.
 """
 
 import os
@@ -34,6 +35,15 @@ LAW = re.compile(r"^pub fn (\w+)", re.MULTILINE)
 BARE_LAW = re.compile(r"^pub fn (\w+)\(\)$", re.MULTILINE)
 ROW = re.compile(r"^\| `(\w+)` \|.*\|([^|]*)\|$", re.MULTILINE)
 CRATES_PAGE = "docs/reference/ARCHITECTURE.md"
+CALL = re.compile(r'^const CALL: &str = "(.*)";$', re.MULTILINE)
+PLAIN = {
+    "want of memory": "out of memory",
+    "is wanting": "is missing, is out of",
+    "but for": "except",
+    "of another making": "written by others",
+    "gives way": "fails",
+    "comes of it": "follows",
+}
 
 
 def documents():
@@ -145,6 +155,12 @@ def bad_tables(text):
             yield f"a row of another length than its table: {line[:60]}"
 
 
+def bad_words(text):
+    for words, plain in PLAIN.items():
+        if re.search(r"\b%s\b" % words, text, re.IGNORECASE):
+            yield f'"{words}": say "{plain}"'
+
+
 def bad_laws(text, known):
     told = [names for found in LAWS.findall(text) for names in re.findall(r"`(\w+)`", found)]
     told += [name for cell in law_columns(text) for name in re.findall(r"`(\w+)`(?!: `)", cell)]
@@ -178,6 +194,17 @@ def bad_crates():
                 yield f"{CRATES_PAGE}: {other} is not below {crate}"
 
 
+def bad_calls():
+    """How programs are called, in the pages that say it."""
+    mains = subprocess.run(["git", "ls-files", "crates/*_main/src/main.rt"], capture_output=True, text=True, check=True)
+    for main in mains.stdout.split():
+        for call in CALL.findall(text_of(main)):
+            if f"`{call}`" not in text_of("README.md"):
+                yield f"README.md: no program `{call}`"
+            if f"`usage: {call}`" not in text_of("docs/reference/FORMATS.md"):
+                yield f"docs/reference/FORMATS.md: no `usage: {call}`"
+
+
 def faults(document, known_laws):
     text = text_of(document)
     yield from bad_links(document, text)
@@ -185,13 +212,14 @@ def faults(document, known_laws):
     yield from bad_counts(text)
     yield from bad_quotations(text)
     yield from bad_tables(text)
+    yield from bad_words(text)
     yield from bad_laws(text, known_laws)
 
 
 def main():
     known_laws = set(laws())
     found = [f"{document}: {fault}" for document in documents() for fault in faults(document, known_laws)]
-    found += bad_crates()
+    found += [*bad_crates(), *bad_calls()]
     print(*found, sep="\n", end="\n" if found else "")
     return 1 if found else 0
 
