@@ -1,7 +1,7 @@
 """Runs the commands of a document and compares what they print: `tests/readme.sh`.
 
-A command is a line that begins with `$ ` in a block without a language; the lines up to the next one are what it prints,
-to standard output and then to standard error. All commands of a document run one after the other in one folder.
+A command is a line that begins with `$ ` in a block without a language. The lines up to the next one are what it
+prints, to standard output and then to standard error. All commands of a document run one after the other in one folder.
 """
 
 import os
