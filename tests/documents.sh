@@ -1,6 +1,6 @@
 #!/usr/bin/env bash
-# What the documents say of files: links, names, counts of lines, quotations, laws, clauses of contracts, crates, calls of
-# programs; and that the picture is the one of `crates.txt`.
+# What the documents say of files: links, names, counts of lines, quotations, laws, clauses of contracts, crates, calls;
+# and that the picture is the one of `crates.txt`.
 set -euo pipefail
 cd "$(dirname "$0")/.."
 python3 -B docs/picture.py --check
