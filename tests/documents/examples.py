@@ -1,4 +1,4 @@
-"""Runs the commands of a document and compares what they print: `tests/readme.sh`.
+"""Runs the commands of documents and compares what they print: `tests/examples.sh`.
 
 A command is a line that begins with `$ ` in a block without a language. The lines up to the next one are what it
 prints, to standard output and then to standard error. All commands of a document run one after the other in one folder.
@@ -35,24 +35,30 @@ def built(folder):
         os.symlink(os.path.abspath(f"crates/{crate}/out/{crate}"), os.path.join(folder, name))
 
 
-def main(document, programs=None):
-    with tempfile.TemporaryDirectory() as work:
-        if programs is None:
-            programs = os.path.join(work, "programs")
-            os.mkdir(programs)
-            built(programs)
-        room = os.path.join(work, "room")
-        os.mkdir(room)
-        environment = {**os.environ, "PATH": os.path.abspath(programs) + os.pathsep + os.environ["PATH"]}
-        wrong = tried = 0
+def wrong_examples(document, programs):
+    """The commands that print something else, and how many there are."""
+    path = os.path.abspath(programs) + os.pathsep + os.environ["PATH"]
+    wrong = tried = 0
+    with tempfile.TemporaryDirectory() as room:
         for command, printed in examples(document):
-            run = subprocess.run(["bash", "-c", command], cwd=room, env=environment, capture_output=True, text=True)
+            run = subprocess.run(
+                ["bash", "-c", command], cwd=room, env={**os.environ, "PATH": path}, capture_output=True, text=True
+            )
             tried += 1
             if run.stdout + run.stderr != printed:
                 wrong += 1
                 print(f"{document}: $ {command}\nprints\n{run.stdout}{run.stderr}and not\n{printed}", end="")
-        print(f"{tried} commands of {document}, {wrong} of them print something else")
-        return 1 if wrong or not tried else 0
+    print(f"{document}: {tried} commands, {wrong} of them print something else")
+    return wrong or not tried
+
+
+def main(programs, *documents):
+    with tempfile.TemporaryDirectory() as work:
+        if not programs:
+            programs = work
+            built(programs)
+        failed = [document for document in documents if wrong_examples(document, programs)]
+    return 1 if failed else 0
 
 
 sys.exit(main(*sys.argv[1:]))
