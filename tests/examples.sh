@@ -5,5 +5,6 @@
 #
 # Without FOLDER the programs must be built: `rt ci` does it, or `rt run` in their folders.
 set -euo pipefail
+folder=${1:+$(realpath "$1")}
 cd "$(dirname "$0")/.."
-exec python3 -B tests/documents/examples.py "${1:-}" README.md docs/reference/HINTS.md
+exec python3 -B tests/documents/examples.py "$folder" README.md docs/reference/HINTS.md
