@@ -5,7 +5,7 @@ and answers, and the edit in its body. Nothing calls the copy, so the rest of th
 the copies are looked at. A copy has to be refused by its own line, `fn NAME: not proved` or `fn NAME: no proof`. A refusal
 says something only where the same copy without the edit is proved, so that is tried first.
 
-Then `wrong-bodies/REFUSED` is written: a sum over the crate's src, specs and wrong bodies, and their count.
+Then `wrong-bodies/REFUSED` is written: a sum over the words of the crate's src, specs and wrong bodies, and their count.
 """
 
 import concurrent.futures
@@ -34,6 +34,20 @@ def crates_with_wrong_bodies():
     return [it for it in names if os.path.isdir(f"{ROOT}/crates/{it}/wrong-bodies")]
 
 
+def words_of(path):
+    """The words of a file, without comments and layout. Of an import they are what is imported, not where it stands."""
+    with open(path, encoding="utf-8") as file:
+        lines = [it.strip() for it in file.read().split("\n")]
+    imported, kept = set(), []
+    for line in lines:
+        place = re.fullmatch(r"(?:ghost )?use Rattle\.[^{}]*?(?:\.\{([^}]*)\}| as (\w+));?", line)
+        if place:
+            imported.update((place[1] or place[2] or "").split(", "))
+        elif not line.startswith(("//", "--")):
+            kept += line.split()
+    return sorted(imported) + kept
+
+
 def record(crate):
     """What a record says of the crate as it stands: of what is proved, not of how, so a change of proofs alone keeps it."""
     found = edits(crate)
@@ -41,8 +55,7 @@ def record(crate):
         found += [f"{at}/{it}" for at, _, names in os.walk(f"{crate}/{part}") for it in names]
     total = hashlib.sha256()
     for path in sorted(found):
-        with open(path, "rb") as file:
-            total.update(repr((os.path.relpath(path, crate), file.read())).encode())
+        total.update(repr((os.path.relpath(path, crate), words_of(path))).encode())
     return f"sum: {total.hexdigest()}\nrefused: {len(edits(crate))}\n"
 
 

@@ -35,7 +35,7 @@ impl<P: ProofProcessor, T: ProofTranscriptProcessor> CheckerOf<P, T> {
     ghost use Rattle.checker_rules.specs.AddFormula.{add_clauses, added};
     ghost use Rattle.checker_rules.specs.CallEmissions.{EmitsCall, EmitsCalls};
     ghost use Rattle.checker_rules.specs.Calls.{adds, shown_inputs, shown_unsat, step_limit};
-    ghost use Rattle.checker_rules.specs.Step.{};
+    ghost use Rattle.checker_rules.specs.Step as rules;
     ghost use Rattle.checker_rules.specs.Steps.{new_state, step};
     ghost use Rattle.checker_parts.specs.declared.error.CheckerError.TheVariants.{Failed, OutOfMemory};
     ghost use Rattle.checker_parts.specs.Answers.{AnswersStep, CoversFold, IsCovered, IsFold, SetsFold, UnlessFailed};
