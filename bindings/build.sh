@@ -1,0 +1,30 @@
+#!/usr/bin/env bash
+# Builds the library for other languages: libcefindrato.a and libcefindrato.so in a folder.
+#
+#   bindings/build.sh FOLDER
+#
+# `rt lib` proves and compiles it. What it takes of the toolchain's two archives is linked into it, and no name but those of
+# the header is left visible, so that it meets no other library's. RT may name another `rt`; it needs cc and binutils.
+set -euo pipefail
+
+if (($# != 1)); then
+  echo "usage: bindings/build.sh FOLDER" >&2
+  exit 2
+fi
+top=$(cd "$(dirname "$0")/.." && pwd)
+work=$(mktemp -d)
+trap 'rm -rf "$work"' EXIT
+mkdir -p "$1"
+
+(cd "$top/crates/lrat_c" && "${RT:-rt}" lib > "$work/said" 2>&1) || {
+  cat "$work/said" >&2
+  exit 1
+}
+kit=$(dirname "$(dirname "$(readlink -f "$(command -v "${RT:-rt}")")")")
+ld -r -o "$work/whole.o" --whole-archive "$top/crates/lrat_c/out/liblrat_c.a" --no-whole-archive \
+  "$kit/c/libos_c.a" "$kit/c/liblibc_c.a"
+objcopy --strip-debug --wildcard --keep-global-symbol='cefindrato_*' "$work/whole.o" "$work/cefindrato.o"
+rm -f "$1/libcefindrato.a"
+ar rcsD "$1/libcefindrato.a" "$work/cefindrato.o"
+"${CC:-cc}" -shared -Wl,-soname,libcefindrato.so.0 -o "$1/libcefindrato.so" "$work/cefindrato.o"
+strip --strip-unneeded "$1/libcefindrato.so"
