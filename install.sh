@@ -29,7 +29,7 @@ uninstall() {
   while read -r kind name; do
     case $kind in
       file) rm -f "$root/$name" ;;
-      folder) rmdir "$root/$name" 2> /dev/null || true ;;
+      folder) rmdir "$(realpath -ms "$root/$name")" 2> /dev/null || true ;;
     esac
   done < <(tac "$list")
 }

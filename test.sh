@@ -17,4 +17,7 @@ tests/refused_growths.sh
 tests/log_lines.sh
 tests/drat_solvers.sh
 tests/drat_fuzz.sh
+tests/solver_runs.sh
+tests/cubes.sh
 tests/bindings.sh
+tests/install.sh
