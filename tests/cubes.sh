@@ -77,13 +77,13 @@ mv four/1.lrat other
 mv four/2.lrat four/1.lrat
 mv other four/2.lrat
 refused='is refused: proof: line 1: clause of a hint is not unit'
-says 1 "1: four/1.lrat $refused; it is the proof of 2"$'\n'"2: four/2.lrat $refused; it is the proof of 1" \
+says 1 "1: four/1.lrat $refused; it is a proof of 2"$'\n'"2: four/2.lrat $refused; it is a proof of 1" \
   cubes check --whose four.cnf two.txt four 1 2
 says 1 $'1: not verified\n2: not verified\n2 of 3 parts are not verified' cubes report four.cnf two.txt four
 echo '6 2 0 5 3 0' > four/1.lrat
 says 1 '1: four/1.lrat is refused: s NOT VERIFIED' cubes check four.cnf two.txt four 1
 echo 'x' > four/1.lrat
-says 1 '1: four/1.lrat is refused: proof: line 1: malformed line; it is the proof of no part' \
+says 1 '1: four/1.lrat is refused: proof: line 1: malformed line; it is a proof of no part' \
   cubes check --whose four.cnf two.txt four 1
 rm four/1.lrat
 says 1 '1: no proof' cubes check four.cnf two.txt four 1
@@ -145,8 +145,8 @@ if ((status == 0)); then
   echo "what was damaged is verified"
   wrong=1
 fi
-for line in '20: no proof' '11: parts/11.drat is refused: .*; it is the proof of no part' \
-  '4: parts/4.drat is refused: .*; it is the proof of 30' '30: parts/30.drat is refused: .*; it is the proof of 4'; do
+for line in '20: no proof' '11: parts/11.drat is refused: .*; it is a proof of no part' \
+  '4: parts/4.drat is refused: .*; it is a proof of 30' '30: parts/30.drat is refused: .*; it is a proof of 4'; do
   if ! grep -qx "$line" said; then
     printf 'no line "%s" in:\n%s\n' "$line" "$(cat said)"
     wrong=1
