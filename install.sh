@@ -4,9 +4,9 @@
 #   ./install.sh [--built] PREFIX
 #   ./install.sh --uninstall PREFIX
 #
-# Each program is proved and built first, unless nothing has changed since it was. With --built the programs are taken as
-# `rt ci` or `rt run` left them in crates/*/out. PREFIX/share/cefindrato/installed lists what was installed; by this list it is
-# taken away. DESTDIR, where it is set, stands before PREFIX in all that is written. RT may name another `rt`.
+# All is proved and built first, unless nothing has changed since it was. With --built it is taken as `rt ci`, `rt run` and
+# `rt lib` left it in crates/*/out. PREFIX/share/cefindrato/installed lists what was installed; by this list it is taken away.
+# DESTDIR, where it is set, stands before PREFIX in all that is written. RT may name another `rt`.
 set -euo pipefail
 
 top=$(cd "$(dirname "$0")" && pwd)
@@ -70,7 +70,11 @@ for name in "${programs[@]}"; do
   "$top/tools/pages" man "$name" "$program" "$source" > "$work/$name.1"
   "$top/tools/pages" bash "$name" "$program" "$source" > "$work/$name.bash"
 done
-"$top/bindings/build.sh" "$work"
+if [[ $mode == built ]]; then
+  "$top/bindings/build.sh" --built "$work"
+else
+  "$top/bindings/build.sh" "$work"
+fi
 version=$("$work/${programs[0]}" --version | cut -d ' ' -f 2)
 cat > "$work/cefindrato.pc" << END
 prefix=$prefix
