@@ -1,5 +1,7 @@
-/* The header's calls on real input, wrong proofs, null and empty; exits 0 if each answers what it must. */
+/* The header's call on real input, wrong proofs, null and empty, and from several threads; exits 0 if each answers what it
+ * must. */
 #include "cefindrato.h"
+#include <pthread.h>
 #include <stdio.h>
 #include <stdlib.h>
 #include <string.h>
@@ -27,6 +29,46 @@ static char *whole_file(const char *name, size_t *len) {
     return bytes;
 }
 
+/* A text to check again and again, and how often the answer was another one than is wanted. */
+struct share {
+    const char *cnf, *proof;
+    size_t cnf_len, proof_len;
+    int wanted, others;
+};
+
+static void *check_often(void *given) {
+    struct share *share = (struct share *)given;
+    int round;
+    for (round = 0; round < 4; round++) {
+        char room[80];
+        if (cefindrato_check(share->cnf, share->cnf_len, share->proof, share->proof_len, room, sizeof room).status !=
+            share->wanted)
+            share->others++;
+    }
+    return NULL;
+}
+
+/* Threads at once, of which each other one has a proof that is cut in the middle. */
+static void expect_of_threads(const char *cnf, size_t cnf_len, const char *proof, size_t proof_len, int of_half) {
+    pthread_t threads[8];
+    struct share shares[8];
+    int n;
+    for (n = 0; n < 8; n++) {
+        struct share share = {cnf, proof, cnf_len, n % 2 ? proof_len / 2 : proof_len, 0, 0};
+        share.wanted = n % 2 ? of_half : CEFINDRATO_VERIFIED;
+        shares[n] = share;
+        if (pthread_create(&threads[n], NULL, check_often, &shares[n]) != 0)
+            exit(2);
+    }
+    for (n = 0; n < 8; n++) {
+        pthread_join(threads[n], NULL);
+        if (shares[n].others) {
+            printf("thread %d: %d other answers\n", n, shares[n].others);
+            wrong = 1;
+        }
+    }
+}
+
 int main(int count, char **names) {
     const char *cnf = "1 2 0 1 -2 0 -1 2 0 -1 -2 0";
     const char *good = "5 1 0 1 2 0\n6 0 5 3 4 0\n";
@@ -51,6 +93,9 @@ int main(int count, char **names) {
         char *formula = whole_file(names[1], &formula_len), *proof = whole_file(names[2], &proof_len);
         expect(names[1], cefindrato_check(formula, formula_len, proof, proof_len, room, sizeof room), CEFINDRATO_VERIFIED, "",
                room);
+        /* within a line the text is a fault, at its end it is only not verified */
+        expect_of_threads(formula, formula_len, proof, proof_len,
+                          proof[proof_len / 2 - 1] == '\n' ? CEFINDRATO_NOT_VERIFIED : CEFINDRATO_FAULT);
         free(formula);
         free(proof);
     }

@@ -1,4 +1,4 @@
-"""The Python binding on real input, a wrong proof, nothing, and several threads."""
+"""The Python binding on real input, wrong proofs, nothing, and several threads."""
 
 import concurrent.futures
 import sys
@@ -8,25 +8,27 @@ import cefindrato
 FOUR = b"1 2 0 1 -2 0 -1 2 0 -1 -2 0"
 
 
-def fault(call):
+def answer(cnf, proof):
     try:
-        call()
+        return cefindrato.check(cnf, proof)
     except cefindrato.Fault as why:
         return str(why)
-    return None
 
 
 def main(cnf_name, proof_name):
-    assert cefindrato.check(FOUR, b"5 1 0 1 2 0\n6 0 5 3 4 0\n") is True
-    assert cefindrato.check(FOUR, b"5 1 0 1 2 0\n") is False
-    assert cefindrato.check(b"", b"") is False
-    cause = "proof: line 2: hints end without a conflict"
-    assert fault(lambda: cefindrato.check(FOUR, b"5 1 0 1 2 0\n6 0 5 3 0\n")) == cause
+    assert answer(FOUR, b"5 1 0 1 2 0\n6 0 5 3 4 0\n") is True
+    assert answer(FOUR, b"5 1 0 1 2 0\n") is False
+    assert answer(b"", b"") is False
+    assert answer(FOUR, b"5 1 0 1 2 0\n6 0 5 3 0\n") == "proof: line 2: hints end without a conflict"
     with open(cnf_name, "rb") as cnf, open(proof_name, "rb") as proof:
         formula, text = cnf.read(), proof.read()
-    assert cefindrato.check(formula, text) is True
+    cut = text[: len(text) // 2]
+    unfinished = f"proof: line {cut.count(10) + 1}: unfinished line"
+    assert answer(formula, text) is True
+    assert answer(formula, cut) == unfinished
     with concurrent.futures.ThreadPoolExecutor(8) as pool:
-        assert all(pool.map(lambda _: cefindrato.check(formula, text), range(16)))
+        answers = list(pool.map(lambda n: answer(formula, cut if n % 2 else text), range(32)))
+    assert answers == [True, unfinished] * 16
 
 
 main(*sys.argv[1:])

@@ -62,7 +62,7 @@ pub fn check(cnf: &[u8], proof: &[u8]) -> Result<Verdict, Fault> {
 
 #[cfg(test)]
 mod tests {
-    use super::{check, Verdict};
+    use super::{check, Fault, Verdict};
 
     const FOUR: &[u8] = b"1 2 0 1 -2 0 -1 2 0 -1 -2 0";
 
@@ -75,13 +75,21 @@ mod tests {
         assert_eq!(fault.to_string(), "proof: line 2: hints end without a conflict");
     }
 
+    const BOARD: &[u8] = include_bytes!("../../../tests/data/board6.cnf");
+    const BOARD_PROOF: &[u8] = include_bytes!("../../../tests/data/board6.lrat");
+
+    /// Each other thread has a proof that is cut within a line.
     #[test]
     fn threads_at_once() {
+        let cut = &BOARD_PROOF[..BOARD_PROOF.len() / 2];
+        let line = cut.iter().filter(|byte| **byte == b'\n').count() + 1;
+        let unfinished = Err(Fault(format!("proof: line {line}: unfinished line")));
         std::thread::scope(|scope| {
-            let proof = b"5 1 0 1 2 0\n6 0 5 3 4 0\n";
-            let all: Vec<_> = (0..8).map(|_| scope.spawn(|| check(FOUR, proof))).collect();
-            for one in all {
-                assert_eq!(one.join().unwrap(), Ok(Verdict::Verified));
+            let of = |n: usize| if n % 2 == 0 { BOARD_PROOF } else { cut };
+            let all: Vec<_> = (0..8).map(|n| scope.spawn(move || check(BOARD, of(n)))).collect();
+            for (n, one) in all.into_iter().enumerate() {
+                let wanted = if n % 2 == 0 { Ok(Verdict::Verified) } else { unfinished.clone() };
+                assert_eq!(one.join().unwrap(), wanted);
             }
         });
     }

@@ -1,0 +1,41 @@
+#!/usr/bin/env bash
+# Builds the library for other languages: libcefindrato.a and libcefindrato.so in a folder.
+#
+#   bindings/build.sh [--built] FOLDER
+#
+# `rt lib` proves and compiles it; with --built what it left in crates/lrat_c/out is taken. What that needs of the toolchain's
+# two archives is linked into it, and no name but those of the header is left visible, so that it meets no other library's.
+# RT may name another `rt`; it needs cc and binutils.
+set -euo pipefail
+
+top=$(cd "$(dirname "$0")/.." && pwd)
+archive=$top/crates/lrat_c/out/liblrat_c.a
+is_built=
+if [[ ${1:-} == --built ]]; then
+  is_built=1
+  shift
+fi
+if (($# != 1)); then
+  echo "usage: bindings/build.sh [--built] FOLDER" >&2
+  exit 2
+fi
+work=$(mktemp -d)
+trap 'rm -rf "$work"' EXIT
+mkdir -p "$1"
+
+if [[ ! $is_built ]]; then
+  (cd "$top/crates/lrat_c" && "${RT:-rt}" lib > "$work/said" 2>&1) || {
+    cat "$work/said" >&2
+    exit 1
+  }
+elif [[ ! -f $archive ]]; then
+  echo "not built: $archive" >&2
+  exit 1
+fi
+kit=$(dirname "$(dirname "$(readlink -f "$(command -v "${RT:-rt}")")")")
+ld -r -o "$work/whole.o" --whole-archive "$archive" --no-whole-archive "$kit/c/libos_c.a" "$kit/c/liblibc_c.a"
+objcopy --strip-debug --wildcard --keep-global-symbol='cefindrato_*' "$work/whole.o" "$work/cefindrato.o"
+rm -f "$1/libcefindrato.a"
+ar rcsD "$1/libcefindrato.a" "$work/cefindrato.o"
+"${CC:-cc}" -shared -Wl,-soname,libcefindrato.so.0 -o "$1/libcefindrato.so" "$work/cefindrato.o"
+strip --strip-unneeded "$1/libcefindrato.so"

@@ -1,0 +1,105 @@
+#!/usr/bin/env bash
+# Installs into a fresh prefix, uses what is there, and takes it away again.
+#
+# The programs must be built: `rt ci` does it, or `rt run` in their folders; and the library, by `tests/bindings.sh`.
+set -euo pipefail
+
+top=$(cd "$(dirname "$0")/.." && pwd)
+work=$(mktemp -d)
+trap 'rm -rf "$work"' EXIT
+prefix=$work/a/prefix
+wrong=0
+
+has() {
+  command -v "$1" > "$work/where" || {
+    echo "$1 is not installed: not tried"
+    return 1
+  }
+}
+
+# same WHAT WANTED FOUND
+same() {
+  if [[ $2 != "$3" ]]; then
+    printf '%s: not\n%s\nbut\n%s\n' "$1" "$2" "$3"
+    wrong=1
+  fi
+}
+
+"$top/install.sh" --built "$prefix"
+mapfile -t programs < <(sed -n 's/^\([a-z0-9_]*\)_main:.*/\1/p' "$top/crates.txt")
+if ((${#programs[@]} < 5)); then
+  echo "crates.txt names ${#programs[@]} programs"
+  wrong=1
+fi
+
+# each program runs, and its page and its completions are of it
+for name in "${programs[@]}"; do
+  said=$("$prefix/bin/$name" --version)
+  same "$name --version" "$name" "${said%% *}"
+  page=$prefix/share/man/man1/$name.1
+  same "the page of $name" ".TH ${name^^} 1" "$(head -n 1 "$page" | cut -d ' ' -f 1-3)"
+  if has man; then
+    text=$(MANWIDTH=200 man --warnings -l "$page" 2> "$work/warned")
+    usage=$("$prefix/bin/$name" --help | head -n 1)
+    if [[ $text != *"${usage#usage: }"* || -s $work/warned ]]; then
+      printf 'man %s: %s\n%s\n' "$name" "$(cat "$work/warned")" "$text"
+      wrong=1
+    fi
+  fi
+  same "completions of $name" "$name" "$(
+    . "$prefix/share/bash-completion/completions/$name"
+    complete -p "$name" | sed -n "s/^complete -o default -W '.*--help.*--version.*' //p"
+  )"
+done
+
+# as they are used: the programs from the path, and the script with them
+printf '1 2 0\n1 -2 0\n-1 2 0\n-1 -2 0\n' > "$work/four.cnf"
+printf '1 0\n-1 0\n' > "$work/two.txt"
+mkdir "$work/parts"
+echo '0' | tee "$work/parts/1.drat" "$work/parts/2.drat" > "$work/parts/closing.drat"
+said=$(
+  PATH=$prefix/bin:$PATH
+  cd "$work"
+  cubes check four.cnf two.txt parts 1 2 closing
+  cubes report four.cnf two.txt parts
+)
+same 'cubes' 'all parts are verified: 2 cubes, and the closing formula' "$said"
+
+# the library by pkg-config: the shared one, and the static one
+if has pkg-config; then
+  export PKG_CONFIG_PATH=$prefix/lib/pkgconfig
+  same 'the version' "$("$prefix/bin/lrat_check" --version | cut -d ' ' -f 2)" "$(pkg-config --modversion cefindrato)"
+  read -r -a flags < <(pkg-config --cflags cefindrato)
+  read -r -a libraries < <(pkg-config --libs cefindrato)
+  data=("$top/tests/data/board6.cnf" "$top/tests/data/board6.lrat")
+  cc -pthread "${flags[@]}" -o "$work/shared" "$top/tests/bindings/test.c" "${libraries[@]}"
+  LD_LIBRARY_PATH=$prefix/lib "$work/shared" "${data[@]}" || wrong=1
+  cc -pthread "${flags[@]}" -o "$work/static" "$top/tests/bindings/test.c" "$prefix/lib/libcefindrato.a"
+  "$work/static" "${data[@]}" || wrong=1
+  if has c++; then
+    c++ -std=c++17 -pthread "${flags[@]}" -o "$work/cpp" "$top/tests/bindings/test.cpp" "${libraries[@]}"
+    LD_LIBRARY_PATH=$prefix/lib "$work/cpp" "${data[@]}" || wrong=1
+  fi
+fi
+
+# Once more over itself, and away: nothing is left but what others put there.
+find "$prefix" | sort > "$work/first"
+"$top/install.sh" --built "$prefix"
+same 'what is there after a second time' "$(cat "$work/first")" "$(find "$prefix" | sort)"
+touch "$prefix/bin/mine"
+"$top/install.sh" --uninstall "$prefix"
+same 'what is left' "$prefix"$'\n'"$prefix/bin"$'\n'"$prefix/bin/mine" "$(find "$prefix" | sort)"
+rm -r "$prefix"
+DESTDIR=$work/stage "$top/install.sh" --built /usr
+same 'the prefix' 'prefix=/usr' "$(head -n 1 "$work/stage/usr/lib/pkgconfig/cefindrato.pc")"
+DESTDIR=$work/stage "$top/install.sh" --uninstall /usr
+same 'what is left of it' '' "$(find "$work/stage/usr" 2> /dev/null || true)"
+
+# what is not installed is not taken away, and a wrong call says how
+for words in "--uninstall $prefix" '' '--help' '/a /b'; do
+  status=0
+  # shellcheck disable=SC2086
+  "$top/install.sh" $words > "$work/said" 2>&1 || status=$?
+  same "install.sh $words" 2 "$status"
+done
+exit "$wrong"

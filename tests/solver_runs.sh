@@ -1,0 +1,122 @@
+#!/usr/bin/env bash
+# Proofs that are checked while they are written: by `lrat_check` line by line from a pipe; and where cadical is there, by
+# `drat_check` from the solver and from a program that has the solver's library (Debian: cadical, libcadical-dev).
+#
+# The programs must be built: `rt ci` does it, or `rt run` in their folders.
+set -euo pipefail
+
+top=$(cd "$(dirname "$0")/.." && pwd)
+lrat_check=$top/crates/lrat_check_main/out/lrat_check_main
+drat_check=$top/crates/drat_check_main/out/drat_check_main
+for program in "$lrat_check" "$drat_check"; do
+  if [[ ! -x $program ]]; then
+    echo "not built: $program"
+    exit 1
+  fi
+done
+work=$(mktemp -d)
+trap 'rm -rf "$work"' EXIT
+cd "$work"
+wrong=0
+
+# wants STATUS OUTPUT NAME: what the checker has ended with, in `status` and the file `said`
+wants() {
+  if [[ $status != "$1" || $(cat said) != "$2" ]]; then
+    printf '%s: status %s, %s %s\n' "$3" "$status" "$(cat said)" "$(cat err)"
+    wrong=1
+  fi
+}
+
+# ends PID: waits for the checker, some seconds at most
+ends() {
+  for _ in {1..200}; do
+    kill -0 "$1" 2> null || break
+    sleep 0.1
+  done
+  if kill "$1" 2> null; then
+    echo "the checker waits for more"
+  fi
+  status=0
+  wait "$1" || status=$?
+}
+
+# Lines through a pipe that stays open. The checker ends at the first line that is refused, and at the empty clause.
+printf '1 2 0 1 -2 0 -1 2 0 -1 -2 0' > four.cnf
+for last in '6 0 5 3 0' '6 0 5 3 4 0'; do
+  mkfifo lines
+  "$lrat_check" four.cnf lines > said 2> err &
+  pid=$!
+  exec 3> lines
+  echo '5 1 0 1 2 0' >&3
+  sleep 0.3
+  if ! kill -0 "$pid" 2> null; then
+    echo "the checker has ended before the pipe's last line"
+    wrong=1
+  fi
+  echo "$last" >&3
+  ends "$pid"
+  exec 3>&-
+  rm lines
+  if [[ $last == '6 0 5 3 0' ]]; then
+    wants 1 '' 'a wrong line'
+    if [[ $(head -n 1 err) != 'proof: line 2: hints end without a conflict' ]]; then
+      cat err
+      wrong=1
+    fi
+  else
+    wants 0 's VERIFIED UNSAT' 'the empty clause'
+  fi
+done
+
+has() {
+  command -v "$1" > where || {
+    echo "$1 is not installed: not tried"
+    return 1
+  }
+}
+
+formula() {
+  python3 -B "$top/tests/drat/formulas.py" "$@"
+}
+
+formula pigeons 6 > pigeons.cnf
+formula multiplier 5 > multiplier.cnf
+grep -v '^1 2 3 4 5 6 0$' pigeons.cnf | sed 's/^p cnf 42 133$/p cnf 42 132/' > six.cnf
+
+if has cadical; then
+  for name in pigeons multiplier; do
+    mkfifo steps
+    cadical -q "$name.cnf" steps > solved 2>&1 &
+    solver=$!
+    status=0
+    "$drat_check" "$name.cnf" steps > said 2> err || status=$?
+    # The checker reads up to the first conflict. What is written after it meets no reader, and ends the solver by a signal.
+    solved=0
+    wait "$solver" || solved=$?
+    if ((solved != 20 && solved != 141)); then
+      echo "cadical $name: status $solved"
+      wrong=1
+    fi
+    wants 0 's VERIFIED UNSAT' "cadical $name, by a named pipe"
+    rm steps
+  done
+fi
+
+echo '#include <cadical.hpp>' > has.cpp
+if has c++ && c++ -E has.cpp > null 2>&1; then
+  c++ -std=c++17 -O2 -Wall -Wextra -Werror -o with_cadical "$top/bindings/cpp/with_cadical.cpp" -lcadical
+  # run STATUS OUTPUT ARGUMENT..: the program with the solver's library must end so
+  run() {
+    status=0
+    ./with_cadical "$drat_check" "${@:3}" > said 2> err || status=$?
+    wants "$1" "$2" "with_cadical ${*:3}"
+  }
+  run 0 's VERIFIED UNSAT' pigeons.cnf
+  run 0 's VERIFIED UNSAT' multiplier.cnf
+  # there is a model; and the solver gives up
+  run 3 's NOT VERIFIED' six.cnf
+  run 3 's NOT VERIFIED' pigeons.cnf 10
+else
+  echo "the header cadical.hpp is not installed: not tried"
+fi
+exit "$wrong"
