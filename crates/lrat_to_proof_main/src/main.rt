@@ -6,7 +6,8 @@
 #![tactic(auto)]
 
 use command::{
-    NOT_RUN, create_output, help, open_input, refuse, say_formula, say_proof, usage, version,
+    CountingReader, NOT_RUN, create_output, help, open_input, refuse, say_formula, say_proof,
+    usage, version, warn_of_header,
 };
 use lrat_convert::{Conversion, ConvertFault, HashWidth, convert, exit_status};
 use std::env;
@@ -76,20 +77,25 @@ fn convert_files(
     let Some(proof) = create_output(rt, proof_name, &cnf, &lrat) else {
         return NOT_RUN;
     };
-    let outcome = write_proof(rt, cnf.file, lrat.file, proof, width);
+    let mut cnf = CountingReader::new(cnf.file);
+    let outcome = write_proof(rt, &mut cnf, lrat.file, proof, width);
     let status = report(rt, &outcome);
     match outcome {
-        Err(ConvertFault::Formula(_)) => say_formula(rt, cnf_name),
+        Err(ConvertFault::Formula(_)) => {
+            say_formula(rt, cnf_name);
+            return status;
+        }
         Err(ConvertFault::Read(_) | ConvertFault::Unread { .. } | ConvertFault::Refused { .. }) =>
             say_proof(rt, lrat_name),
         Err(ConvertFault::Write(_) | ConvertFault::OutOfMemory) | Ok(_) => {}
     }
+    warn_of_header(rt, cnf_name, &cnf);
     status
 }
 
 fn write_proof(
     rt: &HostRuntime,
-    cnf: File,
+    cnf: &mut CountingReader<File>,
     lrat: File,
     proof: File,
     width: HashWidth,

@@ -9,7 +9,8 @@
 #![tactic(auto)]
 
 use command::{
-    NOT_RUN, create_output, help, open_input, refuse, say_formula, say_proof, usage, version,
+    CountingReader, NOT_RUN, create_output, help, open_input, refuse, say_formula, say_proof,
+    usage, version, warn_of_header,
 };
 use log::Logged;
 use log::filter::{Builder, FilteredLog};
@@ -59,9 +60,10 @@ fn check_files(rt: &HostRuntime, cnf_name: &str, proof_name: &str) -> u8 {
     let Some(proof) = open_input(rt, proof_name) else {
         return NOT_RUN;
     };
+    let mut cnf = CountingReader::new(cnf.file);
     let log = logged(rt);
-    let outcome = run_check(&log, rt.alloc(), cnf.file, proof.file, &mut io::writer(rt));
-    report_files(rt, &outcome, cnf_name, proof_name)
+    let outcome = run_check(&log, rt.alloc(), &mut cnf, proof.file, &mut io::writer(rt));
+    report_files(rt, &outcome, cnf_name, &cnf, proof_name)
 }
 
 /// The third file is made once both others are open, and before anything is read. It is neither of
@@ -76,13 +78,14 @@ fn write_hints(rt: &HostRuntime, cnf_name: &str, proof_name: &str, lrat_name: &s
     let Some(mut lrat) = create_output(rt, lrat_name, &cnf, &proof) else {
         return NOT_RUN;
     };
-    let outcome = hints_of(rt, cnf.file, proof.file, &mut lrat);
-    report_files(rt, &outcome, cnf_name, proof_name)
+    let mut cnf = CountingReader::new(cnf.file);
+    let outcome = hints_of(rt, &mut cnf, proof.file, &mut lrat);
+    report_files(rt, &outcome, cnf_name, &cnf, proof_name)
 }
 
 fn hints_of(
     rt: &HostRuntime,
-    cnf: File,
+    cnf: &mut CountingReader<File>,
     proof: File,
     lrat: &mut File,
 ) -> Result<Verdict, RunFault> {
@@ -124,19 +127,25 @@ fn logged(rt: &HostRuntime) -> Logged<&HostRuntime, FilteredLog<Console<&HostRun
     Logged::new(rt, filter.filter(), FilteredLog::new(Console(rt), filter))
 }
 
-/// Says why there is no verdict and of which file that is, and gives the exit status.
+/// Says why there is no verdict and of which file that is, warns of a header that lies, and gives the
+/// exit status.
 fn report_files(
     rt: &HostRuntime,
     outcome: &Result<Verdict, RunFault>,
     cnf_name: &str,
+    cnf: &CountingReader<File>,
     proof_name: &str,
 ) -> u8 {
     let status = report(rt, outcome);
     match outcome {
-        Err(RunFault::Formula(_)) => say_formula(rt, cnf_name),
+        Err(RunFault::Formula(_)) => {
+            say_formula(rt, cnf_name);
+            return status;
+        }
         Err(RunFault::Proof(_)) => say_proof(rt, proof_name),
         Err(RunFault::Write(_)) | Ok(_) => {}
     }
+    warn_of_header(rt, cnf_name, cnf);
     status
 }
 
