@@ -1,5 +1,5 @@
 #!/usr/bin/env bash
-# Runs the programs with outputs that are inputs, with standard input, with headers that say something else than the formula,
+# Runs the programs with outputs that are inputs, with standard input and output, with headers that say something else than the formula,
 # and with a full disk as output.
 #
 # The programs must be built: `rt ci` does it, or `rt run` in their folders.
@@ -59,6 +59,11 @@ wants 0 's UNSATISFIABLE' '' "$check" f p /dev/null
 wants 0 '' '' "$convert" f l new
 wants 0 's UNSATISFIABLE' '' "$check" f new
 
+# standard output that is a full disk
+full() {
+  "$@" > /dev/full
+}
+
 # standard input, from a file and from a pipe
 from() {
   "${@:2}" < "$1"
@@ -71,6 +76,26 @@ for way in from piped; do
   wants 0 's VERIFIED UNSAT' '' "$way" f "$hint_check" - l
   wants 0 's UNSATISFIABLE' '' "$way" p "$check" f -
 done
+
+# standard output in place of the third file: the line of a verdict comes after the lines of hints, and the bytes of a proof can
+# be checked as they come
+"$check" f p hints > out
+converted() {
+  "$convert" f l - | "$check" f -
+}
+appended() {
+  echo before > both
+  "$check" f p - >> both
+  cat both
+}
+wants 0 "$(cat hints)"$'\ns UNSATISFIABLE' '' "$check" f p -
+wants 0 $'before\n'"$(cat hints)"$'\ns UNSATISFIABLE' '' appended
+wants 0 's UNSATISFIABLE' '' converted
+wants 1 '' 'error writing: No space left on device (os error 28)' full "$convert" f l -
+if [[ -e - ]]; then
+  echo 'WRONG a file of the name -'
+  wrong=1
+fi
 
 # a header that says something else than what was read is told of on standard error, after all else, and changes nothing
 
@@ -120,9 +145,6 @@ echo x >> f.told
 wants 1 '' $'formula: line 77: bad number\nin f.told' "$lrat_check" f.told l
 
 # a full disk: nothing is claimed, and no run ends well
-full() {
-  "$@" > /dev/full
-}
 no_space='error writing: No space left on device (os error 28)'
 wants 1 '' "$no_space" full "$check" f p
 wants 1 '' "$no_space" full "$lrat_check" f l
