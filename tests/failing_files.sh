@@ -1,5 +1,5 @@
 #!/usr/bin/env bash
-# Runs the programs on files that can't be read or written to their end, and on files that never end.
+# Runs the programs on files that can't be read or written to their end, on files that never end, and on long ones.
 #
 # The programs must be built: `rt ci` does it, or `rt run` in their folders. It needs `cc`.
 set -euo pipefail
@@ -7,10 +7,12 @@ set -euo pipefail
 top=$(cd "$(dirname "$0")/.." && pwd)
 check=$top/crates/varisat_check_main/out/varisat_check_main
 hint_check=$top/crates/hint_check_main/out/hint_check_main
+lrat_check=$top/crates/lrat_check_main/out/lrat_check_main
+drat_check=$top/crates/drat_check_main/out/drat_check_main
 data=$top/tests/data
 work=$(mktemp -d)
 trap 'rm -rf "$work"' EXIT
-for program in "$check" "$hint_check"; do
+for program in "$check" "$hint_check" "$lrat_check" "$drat_check"; do
   if [[ ! -x $program ]]; then
     echo "not built: $program"
     exit 1
@@ -47,12 +49,12 @@ counted() {
   runs=0
 }
 
-# Byte by byte, with a read of the formula failing at some forty places.
+# Byte by byte, with a read of the formula failing at some forty places. BEFORE stands before the fault.
 fail_reads_of_formula() {
-  local size=$1 cnf=$2 proof=$3 read
+  local program=$1 before=$2 size=$3 cnf=$4 proof=$5 read
   for ((read = 1; read <= size + 1; read += size / 40 + 1)); do
-    failing "SHORT_READS=1 FAIL_READ=$read" "$check" "$cnf" "$proof"
-    refused "$cnf, read $read" "$cnf" 'error reading formula: Input/output error (os error 5)'
+    failing "SHORT_READS=1 FAIL_READ=$read" "$program" "$cnf" "$proof"
+    refused "$cnf, read $read" "$cnf" "${before}error reading formula: Input/output error (os error 5)"
   done
 }
 
@@ -77,6 +79,22 @@ fail_reads_of_hints() {
   for ((place = 0; place <= length; place += length / 40 + 1)); do
     failing "SHORT_READS=1 FAIL_READ=$((size + 2 + place))" "$hint_check" "$cnf" "$lrat"
     refused "$lrat, byte $place" "$lrat" 'error reading hints: Input/output error (os error 5)'
+  done
+}
+
+# The same of a proof whose text is read up to what refutes the formula. Where the failed read is not met, what stands before it
+# is verified as a proof of its own.
+fail_reads_of_text() {
+  local program=$1 size=$2 cnf=$3 proof=$4 length=$5 place cut
+  for ((place = 0; place <= length; place += length / 40 + 1)); do
+    head -c "$place" "$proof" > "$work/cut"
+    cut=$("$program" "$cnf" "$work/cut" 2> "$work/err") || true
+    failing "SHORT_READS=1 FAIL_READ=$((size + 2 + place))" "$program" "$cnf" "$proof"
+    if [[ $status == 0 && $cut == 's VERIFIED UNSAT' ]]; then
+      wants "$proof, byte $place" 0 's VERIFIED UNSAT' ''
+    else
+      refused "$proof, byte $place" "$proof" 'proof: error reading proof: Input/output error (os error 5)'
+    fi
   done
 }
 
@@ -105,6 +123,10 @@ fail_writes() {
   wants 'the line of hints' 1 '' "$full"
   failing 'FAIL_WRITE=2' "$hint_check" "$cnf" "$lrat"
   wants 'the line of hints is one write' 0 's VERIFIED UNSAT' ''
+  failing 'FAIL_WRITE=1' "$lrat_check" "$cnf" "$lrat"
+  wants 'the line of LRAT' 1 '' "$full"
+  failing 'FAIL_WRITE=1' "$drat_check" "$cnf" "$drat"
+  wants 'the line of DRAT' 1 '' "$full"
 }
 
 # The program's own output is full, closed, or a pipe that no one reads.
@@ -137,7 +159,7 @@ for name in par10.whole board6.whole grid5.whole grid5.v2; do
   cnf=$data/${name%.*}.cnf
   proof=$data/$name.proof
   size=$(stat -c %s "$cnf")
-  fail_reads_of_formula "$size" "$cnf" "$proof"
+  fail_reads_of_formula "$check" '' "$size" "$cnf" "$proof"
   fail_reads_of_proof "$size" "$cnf" "$proof" "$(stat -c %s "$proof")"
   for most in 1 2 7 4095; do
     failing "SHORT_READS=$most" "$check" "$cnf" "$proof"
@@ -146,7 +168,26 @@ for name in par10.whole board6.whole grid5.whole grid5.v2; do
 done
 cnf=$data/par10.cnf
 lrat=$data/par10.lrat
-fail_reads_of_hints "$(stat -c %s "$cnf")" "$cnf" "$lrat" "$(stat -c %s "$lrat")"
+size=$(stat -c %s "$cnf")
+fail_reads_of_hints "$size" "$cnf" "$lrat" "$(stat -c %s "$lrat")"
+# the added clauses of the proof, as DRAT text and as binary DRAT
+drat=$work/drat
+sed '/ d /d;s/^[0-9]* //;s/^0 .*/0/;s/ 0 .*/ 0/' "$lrat" > "$drat"
+python3 -B "$top/tests/failing_files/binary.py" < "$drat" > "$work/binary"
+fail_reads_of_text "$lrat_check" "$size" "$cnf" "$lrat" "$(stat -c %s "$lrat")"
+for proof in "$drat" "$work/binary"; do
+  fail_reads_of_text "$drat_check" "$size" "$cnf" "$proof" "$(stat -c %s "$proof")"
+done
+fail_reads_of_formula "$lrat_check" 'formula: ' "$size" "$cnf" "$lrat"
+fail_reads_of_formula "$drat_check" 'formula: ' "$size" "$cnf" "$drat"
+for most in 1 2 7 4095; do
+  failing "SHORT_READS=$most" "$lrat_check" "$cnf" "$lrat"
+  wants "$lrat, $most bytes a read" 0 's VERIFIED UNSAT' ''
+  for proof in "$drat" "$work/binary"; do
+    failing "SHORT_READS=$most" "$drat_check" "$cnf" "$proof"
+    wants "$proof, $most bytes a read" 0 's VERIFIED UNSAT' ''
+  done
+done
 counted 'reads'
 
 proof=$data/par10.whole.proof
@@ -171,4 +212,26 @@ printf '\x03\xff\xff\xff\x7f\x0d' > "$work/last_var"
 failing '' bash -c 'ulimit -v 300000; "$0" "$1" "$2"' "$check" "$cnf" "$work/last_var"
 refused 'the last variable there may be, in little memory' "$work/last_var" 'out of memory'
 counted 'files that never end, or ask for too much'
+
+# 22 MB of clauses, and 101 MB of hints in one line: that a file is long is no fault
+yes '1 -2 3 -4 5 -6 7 0' | head -n 1100000 > "$work/clauses" || true
+printf '\x0d' > "$work/end"
+: > "$work/nothing"
+failing '' "$check" "$work/clauses" "$work/end"
+wants 'many clauses, by varisat_check' 3 's NOT SHOWN' ''
+for program in "$hint_check" "$lrat_check" "$drat_check"; do
+  failing '' "$program" "$work/clauses" "$work/nothing"
+  wants "many clauses, by $program" 3 's NOT VERIFIED' ''
+done
+printf '1 0\n-1 0\n' > "$work/units"
+{
+  printf '3 0 1 2'
+  head -c 101000000 /dev/zero | tr '\0' ' '
+  printf '0\n'
+} > "$work/hints"
+for program in "$hint_check" "$lrat_check"; do
+  failing '' "$program" "$work/units" "$work/hints"
+  wants "a long line of hints, by $program" 0 's VERIFIED UNSAT' ''
+done
+counted 'long files'
 exit "$wrong"

@@ -1,5 +1,6 @@
 #!/usr/bin/env bash
-# Runs the programs with outputs that are inputs, with standard input, and with a full disk as output.
+# Runs the programs with outputs that are inputs, with standard input and output, with headers that say something else than the formula,
+# and with a full disk as output.
 #
 # The programs must be built: `rt ci` does it, or `rt run` in their folders.
 set -euo pipefail
@@ -12,7 +13,8 @@ check=$(built varisat_check)
 hint_check=$(built hint_check)
 lrat_check=$(built lrat_check)
 convert=$(built lrat_to_proof)
-for program in "$check" "$hint_check" "$lrat_check" "$convert"; do
+drat_check=$(built drat_check)
+for program in "$check" "$hint_check" "$lrat_check" "$convert" "$drat_check"; do
   if [[ ! -x $program ]]; then
     echo "not built: $program"
     exit 1
@@ -57,6 +59,11 @@ wants 0 's UNSATISFIABLE' '' "$check" f p /dev/null
 wants 0 '' '' "$convert" f l new
 wants 0 's UNSATISFIABLE' '' "$check" f new
 
+# standard output that is a full disk
+full() {
+  "$@" > /dev/full
+}
+
 # standard input, from a file and from a pipe
 from() {
   "${@:2}" < "$1"
@@ -70,10 +77,74 @@ for way in from piped; do
   wants 0 's UNSATISFIABLE' '' "$way" p "$check" f -
 done
 
-# a full disk: nothing is claimed, and no run ends well
-full() {
-  "$@" > /dev/full
+# standard output in place of the third file: the line of a verdict comes after the lines of hints, and the bytes of a proof can
+# be checked as they come
+"$check" f p hints > out
+converted() {
+  "$convert" f l - | "$check" f -
 }
+appended() {
+  echo before > both
+  "$check" f p - >> both
+  cat both
+}
+wants 0 "$(cat hints)"$'\ns UNSATISFIABLE' '' "$check" f p -
+wants 0 $'before\n'"$(cat hints)"$'\ns UNSATISFIABLE' '' appended
+wants 0 's UNSATISFIABLE' '' converted
+wants 1 '' 'error writing: No space left on device (os error 28)' full "$convert" f l -
+if [[ -e - ]]; then
+  echo 'WRONG a file of the name -'
+  wrong=1
+fi
+
+# a header that says something else than what was read is told of on standard error, after all else, and changes nothing
+
+# retold LINE: the formula with this line in place of its header
+retold() {
+  sed "2s/.*/$1/" "$top/tests/data/par10.cnf" > f.told
+}
+
+# lies SAID READ PLACE: the warning of a header
+lies() {
+  local said=$1 read=$2 place=$3
+  warning="warning: the header of $place is p cnf $said, but what was read is p cnf $read"
+}
+
+# the added clauses of the proof alone
+sed '/ d /d;s/^[0-9]* //;s/^0 .*/0/;s/ 0 .*/ 0/' "$top/tests/data/par10.lrat" > d
+for said in '27 74' '28 73' '28 75' '0 0' '99 1'; do
+  retold "p cnf $said"
+  lies "$said" '28 74' f.told
+  wants 0 's UNSATISFIABLE' "$warning" "$check" f.told p
+  wants 0 's UNSATISFIABLE' "$warning" "$check" f.told p new
+  wants 0 's VERIFIED UNSAT' "$warning" "$lrat_check" f.told l
+  wants 0 's VERIFIED UNSAT' "$warning" "$hint_check" f.told new
+  wants 0 's VERIFIED UNSAT' "$warning" "$drat_check" f.told d
+  wants 0 '' "$warning" "$convert" f.told l bytes
+  wants 0 's UNSATISFIABLE' '' "$check" f bytes
+done
+lies '99 1' '28 74' 'standard input'
+for way in from piped; do
+  wants 0 's VERIFIED UNSAT' "$warning" "$way" f.told "$lrat_check" - l
+done
+# more variables may be said than there are, and a header may be absent
+retold 'p cnf 29 74'
+wants 0 's VERIFIED UNSAT' '' "$lrat_check" f.told l
+retold 'c none'
+wants 0 's VERIFIED UNSAT' '' "$lrat_check" f.told l
+# no verdict, a refused proof, and a formula that is not read to its end, whose header nothing is said of
+retold 'p cnf 28 75'
+lies '28 75' '28 74' f.told
+: > nothing
+wants 3 's NOT VERIFIED' "$warning" "$lrat_check" f.told nothing
+wants 3 's NOT VERIFIED' "$warning" "$hint_check" f.told nothing
+wants 3 's NOT VERIFIED' "$warning" "$drat_check" f.told nothing
+echo x > x
+wants 1 '' $'proof: line 1: malformed line\nin x\n'"$warning" "$lrat_check" f.told x
+echo x >> f.told
+wants 1 '' $'formula: line 77: bad number\nin f.told' "$lrat_check" f.told l
+
+# a full disk: nothing is claimed, and no run ends well
 no_space='error writing: No space left on device (os error 28)'
 wants 1 '' "$no_space" full "$check" f p
 wants 1 '' "$no_space" full "$lrat_check" f l

@@ -11,10 +11,11 @@ check=$top/crates/varisat_check_main/out/varisat_check_main
 hint_check=$top/crates/hint_check_main/out/hint_check_main
 lrat_check=$top/crates/lrat_check_main/out/lrat_check_main
 lrat_to_proof=$top/crates/lrat_to_proof_main/out/lrat_to_proof_main
+drat_check=$top/crates/drat_check_main/out/drat_check_main
 data=$top/tests/data
 work=$(mktemp -d)
 trap 'rm -rf "$work"' EXIT
-for program in "$rows" "$check" "$hint_check" "$lrat_check" "$lrat_to_proof"; do
+for program in "$rows" "$check" "$hint_check" "$lrat_check" "$lrat_to_proof" "$drat_check"; do
   if [[ ! -x $program ]]; then
     echo "not built: $program"
     exit 1
@@ -90,6 +91,8 @@ run() {
 
 "$rows" > "$work/all" || { cat "$work/all"; exit 1; }
 "$check" "$data"/par10.{cnf,whole.proof} "$work/whole_hints" > "$work/out"
+# the added clauses of the LRAT proof alone
+sed '/ d /d;s/^[0-9]* //;s/^0 .*/0/;s/ 0 .*/ 0/' "$data/par10.lrat" > "$work/drat"
 mapfile -t names < <(sed 's/: as written$//' "$work/all")
 for mode in FAIL_AT FAIL_FROM; do
   for row in "${names[@]}"; do
@@ -104,6 +107,7 @@ for mode in FAIL_AT FAIL_FROM; do
   for lrat in "$data"/*.lrat; do
     run "$(basename "$lrat") by lrat_check" "$mode" 's VERIFIED UNSAT' "$lrat_check" "${lrat%.lrat}.cnf" "$lrat"
   done
+  run 'par10 by drat_check' "$mode" 's VERIFIED UNSAT' "$drat_check" "$data/par10.cnf" "$work/drat"
   run 'par10.lrat by lrat_to_proof' "$mode" '' "$lrat_to_proof" "$data"/par10.{cnf,lrat} "$work/bytes"
 done
 # Nothing is grown for the number of literals that a proof announces: there are fewer growths than where one literal follows.

@@ -1,6 +1,7 @@
 //! Files by their names.
 ghost use Rattle.std.specs.Prelude.{◌≡◌, ◌⊎◌, ◌↔◌, IfSome, IsNone, IsTrue};
 
+use crate::header::CountingReader;
 use crate::kind::{Kind, kind_of};
 use std::fs::File;
 use std::io::Read;
@@ -76,6 +77,15 @@ fn is_input(rt: &HostRuntime, name: &str, input: &Input<'_>) -> bool {
             one.is_file() && one.dev() == other.dev() && one.ino() == other.ino()
         }
         _ => false,
+    }
+}
+
+/// Warns on standard error where the header of a formula that was read whole says something else than
+/// what was read.
+pub fn warn_of_header<R: Read>(rt: &HostRuntime, name: &str, cnf: &CountingReader<R>) {
+    if let Some(header) = cnf.lying_header() {
+        let place = if name == "-" { "standard input" } else { name };
+        let _ = eprintln!(rt; "warning: the header of {place} is {header}");
     }
 }
 

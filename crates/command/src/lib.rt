@@ -2,11 +2,15 @@
 #![tactic(auto)]
 
 mod files;
+mod header;
 mod kind;
 mod status;
 #[cfg(test)]
 mod tests;
 
-pub use files::{Input, create_output, open_input, say_drat_proof, say_formula, say_proof};
+pub use files::{
+    Input, create_output, open_input, say_drat_proof, say_formula, say_proof, warn_of_header,
+};
+pub use header::{CountingReader, Counts, LyingHeader};
 pub use kind::{Kind, kind_of};
 pub use status::{NOT_RUN, help, refuse, usage, version};

@@ -1,5 +1,7 @@
-//! Files by their first bytes. The bytes are those that other programs write.
+//! Files by their first bytes, which are those that other programs write, and headers by the rules.
+use crate::header::{CountingReader, Counts, LyingHeader};
 use crate::kind::{Kind, kind_of};
+use std::io::Read;
 use std::test::Fail;
 
 #[test]
@@ -44,5 +46,82 @@ fn files_of_no_such_kind(rt: HostRuntime) -> Result<(), Fail> {
     for bytes in rows {
         assert_eq!(rt; kind_of(bytes), None);
     }
+    Ok(())
+}
+
+/// What is said of the header of a text that is read in parts of so many bytes.
+fn lying_header(text: &[u8], part: usize) -> Result<Option<LyingHeader>, Fail> {
+    let mut reader = CountingReader::new(text);
+    let mut buffer = [0; 64];
+    let room = part.min(64);
+    for _ in 0..=text.len() {
+        if reader.read(&mut buffer[..room])? == 0 {
+            break;
+        }
+    }
+    Ok(reader.lying_header())
+}
+
+#[test]
+fn headers_that_lie(rt: HostRuntime) -> Result<(), Fail> {
+    // the text, the two counts of its header, and the largest variable and the number of clauses
+    let rows: [(&[u8], [u64; 4]); 12] = [
+        (b"p cnf 1 1\n1 2 0\n", [1, 1, 2, 1]),
+        (b"p cnf 2 2\n1 -2 0\n", [2, 2, 2, 1]),
+        (b"p cnf 2 0\n1 -2 0\n", [2, 0, 2, 1]),
+        (b"p cnf 2 1\n1 -3 0 2 0\n", [2, 1, 3, 2]),
+        (b"p cnf 0 1", [0, 1, 0, 0]),
+        (b"p cnf 9 2\n9\n0 0\n0", [9, 2, 9, 3]),
+        (b"c 7 0\n \tp  cnf 03\t2 \r\n\t1 2 3 0\r\n", [3, 2, 3, 1]),
+        (b"p cnf 2 1\n1 2 0\nc 3 0\n2 0\n", [2, 1, 2, 2]),
+        (b"p cnf 2 2\n1 2 0\n%\n3 0\n0\n", [2, 2, 2, 1]),
+        (b"p cnf 10 1\n010 0 -11 0\n", [10, 1, 11, 2]),
+        (b"p cnf 1 18446744073709551616\n1 0\n", [1, u64::MAX, 1, 1]),
+        (b"p cnf 1 1\n1 -268435456 0", [1, 1, 268_435_456, 1]),
+    ];
+    for (text, [variables, clauses, largest, number]) in rows {
+        let lie = LyingHeader {
+            said: Counts { variables, clauses },
+            counts: Counts {
+                variables: largest,
+                clauses: number,
+            },
+        };
+        for part in [1, 2, 3, 64] {
+            assert_eq!(rt; lying_header(text, part)?, Some(lie));
+        }
+    }
+    Ok(())
+}
+
+#[test]
+fn headers_that_are_right_or_absent(rt: HostRuntime) -> Result<(), Fail> {
+    let rows: [&[u8]; 11] = [
+        b"",
+        b"p cnf 0 0",
+        b"p cnf 0 0\n",
+        b"1 2 0\n",
+        b"c p cnf 9 9\n1 2 0\n",
+        b"p cnf 2 1\n1 -2 0\n",
+        // more variables may be said than there are
+        b"p cnf 5 2\n1 -2 0\n0\n",
+        b"c 3 0\np cnf 2 2\nc 4 0\n1\n2 0 -1 0",
+        b"p cnf 2 1\n1 2 0\n%\n3 0\n",
+        b"p cnf 99999999999999999999 1\n268435456 0\n",
+        b"  p cnf 2 1 \n\n\n1 2\nc\n0\n",
+    ];
+    for text in rows {
+        for part in [1, 2, 3, 64] {
+            assert_eq!(rt; lying_header(text, part)?, None);
+        }
+    }
+    Ok(())
+}
+
+#[test]
+fn text_of_a_lying_header(rt: HostRuntime) -> Result<(), Fail> {
+    let lie = lying_header(b"p cnf 1 3\n1 2 0\n", 64)?;
+    let text = format!(in rt.alloc(); "{}", lie.expect(&rt, "a lie"))?;
+    assert_eq!(rt; text.as_str(), "p cnf 1 3, but what was read is p cnf 2 1");
     Ok(())
 }

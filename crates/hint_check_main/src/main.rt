@@ -5,7 +5,10 @@
 //! `--version` of which version it is. The name `-` stands for standard input.
 #![tactic(auto)]
 
-use command::{NOT_RUN, help, open_input, refuse, say_formula, say_proof, usage, version};
+use command::{
+    CountingReader, NOT_RUN, help, open_input, refuse, say_formula, say_proof, usage, version,
+    warn_of_header,
+};
 use hint_check::{RunFault, Verdict, exit_status, run_check};
 use std::process::ExitCode;
 use std::{env, io};
@@ -42,13 +45,18 @@ fn check_files(rt: &HostRuntime, cnf_name: &str, lrat_name: &str) -> u8 {
     let Some(lrat) = open_input(rt, lrat_name) else {
         return NOT_RUN;
     };
-    let outcome = run_check(rt.alloc(), cnf.file, lrat.file, &mut io::writer(rt));
+    let mut cnf = CountingReader::new(cnf.file);
+    let outcome = run_check(rt.alloc(), &mut cnf, lrat.file, &mut io::writer(rt));
     let status = report(rt, &outcome);
     match outcome {
-        Err(RunFault::Formula(_)) => say_formula(rt, cnf_name),
+        Err(RunFault::Formula(_)) => {
+            say_formula(rt, cnf_name);
+            return status;
+        }
         Err(RunFault::Read(_) | RunFault::Hints(_)) => say_proof(rt, lrat_name),
         Err(RunFault::Write(_)) | Ok(_) => {}
     }
+    warn_of_header(rt, cnf_name, &cnf);
     status
 }
 

@@ -5,7 +5,10 @@
 //! `--version` of which version it is. The name `-` stands for standard input.
 #![tactic(auto)]
 
-use command::{NOT_RUN, help, open_input, refuse, say_formula, say_proof, usage, version};
+use command::{
+    CountingReader, NOT_RUN, help, open_input, refuse, say_formula, say_proof, usage, version,
+    warn_of_header,
+};
 use lrat_check::{RunFault, Verdict, exit_status, run_check};
 use std::process::ExitCode;
 use std::{env, io};
@@ -48,13 +51,18 @@ fn check_files(rt: &HostRuntime, cnf_name: &str, proof_name: &str) -> u8 {
     let Some(proof) = open_input(rt, proof_name) else {
         return NOT_RUN;
     };
-    let outcome = run_check(rt.alloc(), cnf.file, proof.file, &mut io::writer(rt));
+    let mut cnf = CountingReader::new(cnf.file);
+    let outcome = run_check(rt.alloc(), &mut cnf, proof.file, &mut io::writer(rt));
     let status = report(rt, &outcome);
     match outcome {
-        Err(RunFault::Formula(_)) => say_formula(rt, cnf_name),
+        Err(RunFault::Formula(_)) => {
+            say_formula(rt, cnf_name);
+            return status;
+        }
         Err(RunFault::Proof(_)) => say_proof(rt, proof_name),
         Err(RunFault::Write(_)) | Ok(_) => {}
     }
+    warn_of_header(rt, cnf_name, &cnf);
     status
 }
 

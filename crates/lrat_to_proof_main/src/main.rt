@@ -1,18 +1,19 @@
 //! The command `lrat_to_proof CNF LRAT PROOF [--width N]`: writes an LRAT proof of a formula as
 //! proof bytes, which `varisat_check` takes.
 //!
-//! `--help` says how the program is called, and `--version` of which version it is. The name `-` of
-//! a file that is read stands for standard input.
+//! `--help` says how the program is called, and `--version` of which version it is. The name `-`
+//! stands for standard input, and as the third one for standard output.
 #![tactic(auto)]
 
 use command::{
-    NOT_RUN, create_output, help, open_input, refuse, say_formula, say_proof, usage, version,
+    CountingReader, Input, NOT_RUN, create_output, help, open_input, refuse, say_formula,
+    say_proof, usage, version, warn_of_header,
 };
 use lrat_convert::{Conversion, ConvertFault, HashWidth, convert, exit_status};
-use std::env;
 use std::fs::File;
-use std::io::BufWriter;
+use std::io::{BufWriter, Write};
 use std::process::ExitCode;
+use std::{env, io};
 
 /// How the program is called.
 const CALL: &str = "lrat_to_proof CNF LRAT PROOF [--width N]";
@@ -73,25 +74,44 @@ fn convert_files(
     let Some(lrat) = open_input(rt, lrat_name) else {
         return NOT_RUN;
     };
-    let Some(proof) = create_output(rt, proof_name, &cnf, &lrat) else {
-        return NOT_RUN;
-    };
-    let outcome = write_proof(rt, cnf.file, lrat.file, proof, width);
+    if proof_name == "-" {
+        return convert_to(rt, cnf, lrat, io::writer(rt), width);
+    }
+    match create_output(rt, proof_name, &cnf, &lrat) {
+        Some(proof) => convert_to(rt, cnf, lrat, proof, width),
+        None => NOT_RUN,
+    }
+}
+
+fn convert_to<W: Write + Drop>(
+    rt: &HostRuntime,
+    cnf: Input<'_>,
+    lrat: Input<'_>,
+    proof: W,
+    width: HashWidth,
+) -> u8 {
+    let (cnf_name, lrat_name) = (cnf.name, lrat.name);
+    let mut cnf = CountingReader::new(cnf.file);
+    let outcome = write_proof(rt, &mut cnf, lrat.file, proof, width);
     let status = report(rt, &outcome);
     match outcome {
-        Err(ConvertFault::Formula(_)) => say_formula(rt, cnf_name),
+        Err(ConvertFault::Formula(_)) => {
+            say_formula(rt, cnf_name);
+            return status;
+        }
         Err(ConvertFault::Read(_) | ConvertFault::Unread { .. } | ConvertFault::Refused { .. }) =>
             say_proof(rt, lrat_name),
         Err(ConvertFault::Write(_) | ConvertFault::OutOfMemory) | Ok(_) => {}
     }
+    warn_of_header(rt, cnf_name, &cnf);
     status
 }
 
-fn write_proof(
+fn write_proof<W: Write + Drop>(
     rt: &HostRuntime,
-    cnf: File,
+    cnf: &mut CountingReader<File>,
     lrat: File,
-    proof: File,
+    proof: W,
     width: HashWidth,
 ) -> Result<Conversion, ConvertFault> {
     match BufWriter::new(rt.alloc(), proof) {

@@ -3,13 +3,14 @@
 //!
 //! With a third file the checked steps are written to it as lines of hints.
 //! Without arguments it checks a small fixed example; `--help` says how the program is called, and
-//! `--version` of which version it is. The name `-` of a file that is read stands for standard
-//! input.
+//! `--version` of which version it is. The name `-` stands for standard input, and as the third one
+//! for standard output.
 //! What `RUST_LOG` asks for, as `RUST_LOG=info`, is logged to standard error; else nothing is.
 #![tactic(auto)]
 
 use command::{
-    NOT_RUN, create_output, help, open_input, refuse, say_formula, say_proof, usage, version,
+    CountingReader, Input, NOT_RUN, create_output, help, open_input, refuse, say_formula,
+    say_proof, usage, version, warn_of_header,
 };
 use log::Logged;
 use log::filter::{Builder, FilteredLog};
@@ -17,6 +18,7 @@ use log::sink::Console;
 use sat_formula::Lit;
 use sat_hints::LratWriter;
 use std::fs::File;
+use std::io::Write;
 use std::process::ExitCode;
 use std::{env, io};
 use varisat_check::{RunFault, Verdict, exit_status, read_formula, run_check, run_lrat, run_proof};
@@ -59,9 +61,10 @@ fn check_files(rt: &HostRuntime, cnf_name: &str, proof_name: &str) -> u8 {
     let Some(proof) = open_input(rt, proof_name) else {
         return NOT_RUN;
     };
+    let mut cnf = CountingReader::new(cnf.file);
     let log = logged(rt);
-    let outcome = run_check(&log, rt.alloc(), cnf.file, proof.file, &mut io::writer(rt));
-    report_files(rt, &outcome, cnf_name, proof_name)
+    let outcome = run_check(&log, rt.alloc(), &mut cnf, proof.file, &mut io::writer(rt));
+    report_files(rt, &outcome, cnf_name, &cnf, proof_name)
 }
 
 /// The third file is made once both others are open, and before anything is read. It is neither of
@@ -73,18 +76,32 @@ fn write_hints(rt: &HostRuntime, cnf_name: &str, proof_name: &str, lrat_name: &s
     let Some(proof) = open_input(rt, proof_name) else {
         return NOT_RUN;
     };
-    let Some(mut lrat) = create_output(rt, lrat_name, &cnf, &proof) else {
-        return NOT_RUN;
-    };
-    let outcome = hints_of(rt, cnf.file, proof.file, &mut lrat);
-    report_files(rt, &outcome, cnf_name, proof_name)
+    if lrat_name == "-" {
+        return write_hints_to(rt, cnf, proof, &mut io::writer(rt));
+    }
+    match create_output(rt, lrat_name, &cnf, &proof) {
+        Some(mut lrat) => write_hints_to(rt, cnf, proof, &mut lrat),
+        None => NOT_RUN,
+    }
 }
 
-fn hints_of(
+fn write_hints_to<W: Write>(
     rt: &HostRuntime,
-    cnf: File,
+    cnf: Input<'_>,
+    proof: Input<'_>,
+    lrat: &mut W,
+) -> u8 {
+    let (cnf_name, proof_name) = (cnf.name, proof.name);
+    let mut cnf = CountingReader::new(cnf.file);
+    let outcome = hints_of(rt, &mut cnf, proof.file, lrat);
+    report_files(rt, &outcome, cnf_name, &cnf, proof_name)
+}
+
+fn hints_of<W: Write>(
+    rt: &HostRuntime,
+    cnf: &mut CountingReader<File>,
     proof: File,
-    lrat: &mut File,
+    lrat: &mut W,
 ) -> Result<Verdict, RunFault> {
     let formula = read_formula(rt.alloc(), cnf)?;
     let writer = LratWriter::new(rt.alloc(), formula.len() as u64);
@@ -124,19 +141,25 @@ fn logged(rt: &HostRuntime) -> Logged<&HostRuntime, FilteredLog<Console<&HostRun
     Logged::new(rt, filter.filter(), FilteredLog::new(Console(rt), filter))
 }
 
-/// Says why there is no verdict and of which file that is, and gives the exit status.
+/// Says why there is no verdict and of which file that is, warns of a header that lies, and gives the
+/// exit status.
 fn report_files(
     rt: &HostRuntime,
     outcome: &Result<Verdict, RunFault>,
     cnf_name: &str,
+    cnf: &CountingReader<File>,
     proof_name: &str,
 ) -> u8 {
     let status = report(rt, outcome);
     match outcome {
-        Err(RunFault::Formula(_)) => say_formula(rt, cnf_name),
+        Err(RunFault::Formula(_)) => {
+            say_formula(rt, cnf_name);
+            return status;
+        }
         Err(RunFault::Proof(_)) => say_proof(rt, proof_name),
         Err(RunFault::Write(_)) | Ok(_) => {}
     }
+    warn_of_header(rt, cnf_name, cnf);
     status
 }
 
