@@ -29,7 +29,9 @@ class Function:
 
     def calls_itself(self, lines):
         body = "\n".join(lines[self.opens + 1 : self.end])
-        return bool(re.search(rf"(self\.|Self::|(?<![\w.:])){self.name}\s*(::<[^(]*)?\(", body))
+        # A plain name in a method is that of a function beside the impl.
+        plain = "" if self.block and self.block[0] == "impl" else r"|(?<![\w.:])"
+        return bool(re.search(rf"(self\.|Self::{plain}){self.name}\s*(::<[^(]*)?\(", body))
 
 
 def functions(lines):
@@ -51,33 +53,38 @@ class NoCopy(Exception):
 
 
 class WrongBody:
-    """A wrong body: lines 'file:', 'old:' and 'new:', as in a must-fail edit."""
+    """A wrong body: lines 'file:', 'old:' and 'new:', as in a must-fail edit.
+
+    With a line 'only: FUNCTION' it is no copy: the text is changed where it stands, and this function has to be refused.
+    """
 
     def __init__(self, path, number):
         self.label, self.number = os.path.basename(path).removesuffix(".edit"), number
-        self.said = None
-        self.files, self.pairs = [], []
+        self.said, self.only = None, None
+        self.pairs, file = [], None
         with open(path, encoding="utf-8") as edit:
             for line in edit.read().split("\n"):
                 word, _, text = line.partition(":")
                 text = text.removeprefix(" ")
                 if word == "file":
-                    self.files.append(text.strip())
+                    file = text.strip()
+                elif word == "only":
+                    self.only = text.strip()
                 elif word == "old":
-                    self.pairs.append((text, ""))
+                    self.pairs.append((file, text, ""))
                 elif word == "new":
-                    self.pairs[-1] = (self.pairs[-1][0], text)
+                    self.pairs[-1] = (*self.pairs[-1][:2], text)
 
     def place(self, crate, unchanged=False):
         """Finds the function in which all of it stands, and makes the copy's text. `unchanged`: the copy without the edit."""
-        self.file = self.files[0]
-        if len(set(self.files)) != 1:
+        self.file = self.pairs[0][0]
+        if {file for file, _, _ in self.pairs} != {self.file}:
             raise NoCopy("it changes more than one file")
         with open(f"{crate}/{self.file}", encoding="utf-8") as source:
             text = source.read()
         lines = text.split("\n")
         found = functions(lines)
-        holders = {self.holder(text, found, old) for old, _ in self.pairs}
+        holders = {self.holder(text, found, old) for _, old, _ in self.pairs}
         if len(holders) != 1 or None in holders:
             raise NoCopy("it is not in the body of one function")
         function = holders.pop()
@@ -87,12 +94,24 @@ class WrongBody:
         if function.calls_itself(lines):
             raise NoCopy("its function calls itself")
         whole = "\n".join(lines[function.first : function.end + 1])
-        for old, new in self.pairs if not unchanged else []:
+        for _, old, new in self.pairs if not unchanged else []:
             whole = whole.replace(old, new)
         self.function = function
         self.name = f"{function.name}_{'copy' if unchanged else 'wrong'}{self.number}"
         head = rf"(?m)^( *(?:pub(?:\([^)]*\))? )?(?:const )?(?:unsafe )?fn ){function.name}\b"
         self.text = re.sub(head, rf"\g<1>{self.name}", whole, count=1)
+
+    def place_alone(self, crate):
+        """Makes the texts of the files that it changes, pair by pair, as the gate does with an edit."""
+        self.name, self.texts = self.only, {}
+        for file, old, new in self.pairs:
+            if file not in self.texts:
+                with open(f"{crate}/{file}", encoding="utf-8") as source:
+                    self.texts[file] = source.read()
+            count = self.texts[file].count(old)
+            if count != 1 or old == new:
+                raise NoCopy(f"an old text stands there {count} times, or is not changed")
+            self.texts[file] = self.texts[file].replace(old, new)
 
     @staticmethod
     def holder(text, found, old):

@@ -5,6 +5,9 @@ and answers, and the edit in its body. Nothing calls the copy, so the rest of th
 the copies are looked at. A copy has to be refused by its own line, `fn NAME: not proved` or `fn NAME: no proof`. A refusal
 says something only where the same copy without the edit is proved, so that is tried first.
 
+What can't be a copy, as a method of a trait or a constant, names the function that has to be refused, by a line `only:`. It is
+changed where it stands, and has a check of its own, of that function alone.
+
 Then `wrong-bodies/REFUSED` is written: a sum over the words of the crate's src, specs and wrong bodies, and their count.
 """
 
@@ -112,18 +115,37 @@ def copy_proofs(crate, wrong, room):
             file.write(re.sub(named, rf"\g<1>{wrong.name}", text))
 
 
+def write_alone(crate, wrong, room):
+    """Writes the crate into the room with the edit in it."""
+    toolchain.copy_crate(crate, room)
+    for file, text in wrong.texts.items():
+        with open(f"{room}/{file}", "w", encoding="utf-8") as to:
+            to.write(text)
+
+
+def judge_alone(crate, wrong, room):
+    write_alone(crate, wrong, room)
+    told = toolchain.check_copies(crate, [wrong.name], room)
+    wrong.said = f"not judged: {told[:300]}"
+    read_judgements(told, [wrong])
+
+
+def read_judgements(told, wrongs):
+    """Gives each what the check says of its function, and answers whether it says anything of any."""
+    judged = [it[3:].partition(": ") for it in told.split("\n") if it.startswith("fn ")]
+    for symbol, _, words in judged:
+        for wrong in wrongs:
+            if symbol.endswith(f"::{wrong.name}"):
+                wrong.said = words
+    return bool(judged)
+
+
 def judge(crate, wrongs, room):
     """Gives each what the check says of it. What does not compile is set aside, and the others are tried without it."""
     while wrongs:
         places = write_copies(crate, wrongs, room)
         told = toolchain.check_copies(crate, [it.name for it in wrongs], room)
-        lines = told.split("\n")
-        judged = [it[3:].partition(": ") for it in lines if it.startswith("fn ")]
-        if judged:
-            for symbol, _, words in judged:
-                for wrong in wrongs:
-                    if symbol.endswith(f"::{wrong.name}"):
-                        wrong.said = words
+        if read_judgements(told, wrongs):
             return
         errors = re.findall(r"(?m)^(?:\./)?(src/\S+\.rt):(\d+):\d+: error", told)
         bad = {places.get((file, int(line))) for file, line in errors} - {None}
@@ -138,11 +160,11 @@ def is_refused(wrong):
 
 
 class Trial:
-    """The wrong bodies of one crate, and an unchanged copy of each function that they are of."""
+    """The wrong bodies of one crate, those that are no copies apart, and an unchanged copy of each function that is copied."""
 
     def __init__(self, name):
         self.name, self.crate = name, f"{ROOT}/crates/{name}"
-        self.wrongs, self.controls, self.say = [], [], []
+        self.wrongs, self.alone, self.controls, self.say = [], [], [], []
 
     def begin(self):
         """Proves the crate, and places the copies."""
@@ -153,10 +175,14 @@ class Trial:
         for number, path in enumerate(edits(self.crate)):
             wrong, control = WrongBody(path, number), WrongBody(path, number)
             try:
+                if wrong.only:
+                    wrong.place_alone(self.crate)
+                    self.alone.append(wrong)
+                    continue
                 wrong.place(self.crate)
                 control.place(self.crate, unchanged=True)
             except NoCopy as why:
-                self.say.append(f"{self.name}/{wrong.label}: belongs into must-fail/: {why}")
+                self.say.append(f"{self.name}/{wrong.label}: needs a line 'only:', or belongs into must-fail/: {why}")
                 continue
             self.wrongs.append(wrong)
             controls.setdefault((control.file, control.function.at), control)
@@ -165,12 +191,16 @@ class Trial:
 
     def batches(self):
         both = [self.controls, self.wrongs]
-        return [some[at : at + BATCH] for some in both for at in range(0, len(some), BATCH)]
+        copies = [some[at : at + BATCH] for some in both for at in range(0, len(some), BATCH)]
+        return copies + [[it] for it in self.alone]
 
     def try_batch(self, batch):
         with tempfile.TemporaryDirectory(prefix="wrong-bodies-") as room:
             toolchain.take_kept(self.crate, room)
-            judge(self.crate, batch, room)
+            if batch[0].only:
+                judge_alone(self.crate, batch[0], room)
+            else:
+                judge(self.crate, batch, room)
 
     def end(self):
         """Says what is wrong, or else notes that all were refused; and answers whether they were."""
@@ -178,14 +208,15 @@ class Trial:
         for it in self.controls:
             if not (it.said or "").startswith("proved"):
                 say.append(f"{name}/{it.function.name}: THE UNCHANGED COPY IS NOT PROVED: {(it.said or 'no line')[:300]}")
-        for it in self.wrongs:
+        tried = self.wrongs + self.alone
+        for it in tried:
             if not is_refused(it):
-                say.append(f"{name}/{it.label}: NOT REFUSED: {it.function.name}: {(it.said or 'no line')[:300]}")
+                say.append(f"{name}/{it.label}: NOT REFUSED: {it.name}: {(it.said or 'no line')[:300]}")
         well = not say
         if well:
             with open(f"{self.crate}/wrong-bodies/REFUSED", "w", encoding="utf-8") as to:
                 to.write(record(self.crate))
-        refused = sum(map(is_refused, self.wrongs))
+        refused = sum(map(is_refused, tried))
         say.append(f"{name}: {refused} of {len(edits(self.crate))} refused, {len(self.controls)} unchanged copies tried")
         print(*say, sep="\n", flush=True)
         return well
