@@ -1,3 +1,6 @@
+pub mod Room
+pub mod Marks
+pub mod Counts
 pub mod Values
 pub mod Spans
 pub mod Near
