@@ -1,5 +1,6 @@
 pub mod Room
 pub mod Marks
+pub mod FarCounts
 pub mod Counts
 pub mod Values
 pub mod Spans

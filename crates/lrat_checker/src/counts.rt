@@ -1,6 +1,6 @@
 //! How often each literal stands in stored clauses.
 ghost use Rattle.std.specs.Prelude.{◌≡◌, ◌+◌, ◌-◌, ◌*◌, ◌==◌, ◌<◌, ◌≤◌, ◌^◌, ℕ, if◌then◌else◌, length, max, min, nat_lt, slice_index, IsOk, OnOk};
-ghost use Rattle.lrat_checker.specs.Counts.{far_count};
+ghost use Rattle.lrat_checker.specs.FarCounts.{far_count};
 ghost use Rattle.lrat_checker.specs.Room.{spare_lits};
 ghost use Rattle.lrat_rules.specs.Counts.{count_of};
 
@@ -88,10 +88,11 @@ impl LitCounts {
     {
         let code = lit.code();
         if code < self.near.len() || gets_room(code, self.stored) {
-            add_near(&mut self.near, code)
+            add_near(&mut self.near, code)?;
         } else {
-            add_far(&mut self.far, code)
+            add_far(&mut self.far, code)?;
         }
+        Ok(())
     }
 
     fn take_one(&mut self, lit: Lit)
@@ -99,8 +100,9 @@ impl LitCounts {
             → lit_count self.new l ≡ lit_count self.old l - (if l == lit then 1 else 0) }
         ensures stored { self.new.stored ≡ self.old.stored }
     {
-        if !take_near(&mut self.near, lit.code()) {
-            take_far(&mut self.far, lit.code());
+        let code = lit.code();
+        if !take_near(&mut self.near, code) {
+            take_far(&mut self.far, code);
         }
     }
 }
@@ -132,17 +134,17 @@ fn add_far(far: &mut HashMap<usize, u32>, code: usize) -> Result<(), AllocError>
 }
 
 /// Counts a code once less at its place, where it is counted there; answers whether it was.
-fn take_near(near: &mut [u32], code: usize) -> bool
-    ensures counts { (l : ℕ) → slice_index near.new l
-        ≡ slice_index near.old l - (if l == code then 1 else 0) }
-    ensures taken { result ≡ nat_lt 0 (slice_index near.old code) }
+fn take_near(near: &mut Vec<u32>, code: usize) -> bool
+    ensures counts { (l : ℕ) → slice_index near.new.items l
+        ≡ slice_index near.old.items l - (if l == code then 1 else 0) }
+    ensures taken { result ≡ nat_lt 0 (slice_index near.old.items code) }
+    ensures places { length near.new.items ≡ length near.old.items }
 {
-    match near.get_mut(code) {
-        Some(count) if *count > 0 => {
-            *count -= 1;
-            true
-        }
-        _ => false,
+    if code < near.len() && near[code] > 0 {
+        near[code] -= 1;
+        true
+    } else {
+        false
     }
 }
 

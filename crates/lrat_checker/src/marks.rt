@@ -46,17 +46,18 @@ impl Marks {
     pub(crate) fn has(&self, lit: Lit) -> bool
         ensures { result ≡ has_mark self.now lit }
     {
-        match self.near.get(lit.code()) {
-            Some(mark) => *mark,
-            None => self.has_far(lit),
+        let code = lit.code();
+        if code < self.near.len() {
+            self.near[code]
+        } else {
+            self.has_far(code)
         }
     }
 
-    fn has_far(&self, lit: Lit) -> bool
-        requires { length self.now.near.items ≤ lit }
-        ensures { result ≡ has_mark self.now lit }
+    fn has_far(&self, code: usize) -> bool
+        ensures { result ≡ contains nat_eq self.now.far code }
     {
-        !self.far.is_empty() && self.far.contains(&lit.code())
+        !self.far.is_empty() && self.far.contains(&code)
     }
 
     /// The literal is marked from here on.
@@ -86,8 +87,10 @@ impl Marks {
             self.near[code] = true;
             return Ok(());
         }
-        self.far.insert(code)?;
-        Ok(())
+        match self.far.insert(code) {
+            Ok(_) => Ok(()),
+            Err(_) => Err(AllocError),
+        }
     }
 
     /// The literal is not marked from here on.

@@ -82,11 +82,13 @@ impl Values {
             return Ok(());
         }
         self.marks.set(lit)?;
-        if self.trail.push(lit).is_err() {
-            self.marks.clear(lit);
-            return Err(AllocError);
+        match self.trail.push(lit) {
+            Ok(()) => Ok(()),
+            Err(_) => {
+                self.marks.clear(lit);
+                Err(AllocError)
+            }
         }
-        Ok(())
     }
 
     /// The negations of the literals of a clause, or of those besides one, are true from here on.
