@@ -14,6 +14,7 @@ tests/failing_files.sh
 tests/named_files.sh
 tests/lrat_fuzz.sh
 tests/refused_growths.sh
+tests/memory.sh
 tests/log_lines.sh
 tests/drat_solvers.sh
 tests/drat_fuzz.sh

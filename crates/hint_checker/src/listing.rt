@@ -20,6 +20,8 @@ pub(crate) struct Listing {
     /// The greatest id so far, or 0.
     greatest: u64,
     added_empty: bool,
+    /// How many literals were stored so far.
+    stored: u64,
 }
 
 impl Listing {
@@ -31,6 +33,7 @@ impl Listing {
             clauses: HashMap::with_capacity(alloc, formula.len())?,
             greatest: 0,
             added_empty: false,
+            stored: 0,
         };
         for clause in formula {
             let id = held.greatest + 1;
@@ -47,8 +50,10 @@ impl Listing {
                   (held_by self.old).machine;
             }) }
     {
+        let lits = clause.len() as u64;
         self.clauses.insert(id, clause)?;
         self.greatest = id;
+        self.stored = self.stored.saturating_add(lits);
         Ok(())
     }
 
@@ -78,6 +83,7 @@ impl Listing {
         if id <= self.greatest {
             return Err(LineFault::IdNotGreater);
         }
+        values.allow(self.stored);
         values.negate(&clause)?;
         self.try_hints(values, hints)?;
         let is_empty = clause.is_empty();
