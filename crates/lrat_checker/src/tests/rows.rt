@@ -1,5 +1,5 @@
 //! Lines that add clauses by propagation, deletions and ids.
-use super::{BOTH, FOUR, Row, THREE, UNITS, checker, shown, wrong_broken_row, wrong_row};
+use super::{BOTH, FOUR, Numbers, Row, THREE, UNITS, checker, shown, wrong_broken_row, wrong_row};
 use std::test::Fail;
 
 const PROPAGATION: [Row; 18] = [
@@ -59,6 +59,45 @@ const LINES_OF_HINTS: [Row; 9] = [
         "line 2: no clause has the id of a hint",
     ),
     (UNITS, "x", "line 1: malformed line"),
+];
+
+// 2^28 is the greatest number of a variable, and its literals have no places.
+const PAIRS: Numbers = &[
+    &[1, 268435456],
+    &[1, -268435456],
+    &[-1, 268435456],
+    &[-1, -268435456],
+];
+
+const FAR_LITERALS: [Row; 9] = [
+    (UNITS, "3 268435456 0 1 2 0\n4 0 1 2 0", "refuted"),
+    (PAIRS, "5 268435456 0 1 3 0\n6 0 5 2 4 0\n", "refuted"),
+    (PAIRS, "5 -268435456 0 2 4 0\n6 0 5 1 3 0\n", "refuted"),
+    // the value of the line before is gone
+    (
+        PAIRS,
+        "5 268435456 0 1 3 0\n6 0 1 3 0\n",
+        "line 2: clause of a hint is not unit",
+    ),
+    // with a far literal true, one that would have a place is new
+    (
+        &[&[268435456, 9], &[268435456, -9]],
+        "3 268435456 0 1 2 0\n4 268435456 9 0 3 0",
+        "accepted",
+    ),
+    // clauses that are redundant by it: none has its negation, none any more, one, and one of two
+    (UNITS, "3 -268435456 0 0", "accepted"),
+    (&[&[268435456]], "1 d 1 0\n3 -268435456 0 0", "accepted"),
+    (
+        &[&[268435456, 1]],
+        "3 -268435456 0 0",
+        "line 1: hints end without a conflict",
+    ),
+    (
+        &[&[268435456, 1], &[268435456, 2]],
+        "1 d 1 0\n3 -268435456 0 0",
+        "line 2: hints end without a conflict",
+    ),
 ];
 
 const IDS: [Row; 15] = [
@@ -121,6 +160,13 @@ fn lines_by_propagation(rt: HostRuntime) -> Result<(), Fail> {
 fn lines_of_hints(rt: HostRuntime) -> Result<(), Fail> {
     assert_eq!(rt; wrong_row(&rt, &LINES_OF_HINTS)?, None);
     assert_eq!(rt; wrong_broken_row(&rt, &LINES_OF_HINTS)?, None);
+    Ok(())
+}
+
+#[test]
+fn far_literals(rt: HostRuntime) -> Result<(), Fail> {
+    assert_eq!(rt; wrong_row(&rt, &FAR_LITERALS)?, None);
+    assert_eq!(rt; wrong_broken_row(&rt, &FAR_LITERALS)?, None);
     Ok(())
 }
 
