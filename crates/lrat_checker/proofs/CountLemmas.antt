@@ -1,5 +1,5 @@
 -- Counts of literals, by places and by a map.
-use Rattle.std.proofs.Common.{◌≡◌, ℕ, zero, suc, ◌+◌, ◌-◌, ◌<◌, Bool, true, false, cond, eqb, List, [], length, get_or, nat_lt, set, unwrap_or, refl, sym, ap, ◌∙◌, arith}
+use Rattle.std.proofs.Common.{◌≡◌, ℕ, ◌+◌, ◌-◌, ◌<◌, Bool, true, false, cond, eqb, List, [], length, get_or, nat_lt, set, unwrap_or, refl, ap, arith}
 use Rattle.std.specs.Map.{lookup}
 use Rattle.std.specs.HashMap.{HashMap}
 use Rattle.std.specs.declared.hash.BuildHasherDefault.{BuildHasherDefault}

@@ -1,4 +1,4 @@
-use Rattle.std.proofs.Common.{◌-◌, ◌∙◌, cond, eqb, get_or, sym, ap}
+use Rattle.std.proofs.Common.{◌-◌, ◌∙◌, cond, eqb, sym, ap}
 use Rattle.lrat_checker.specs.Counts.{lit_count}
 use Rattle.lrat_checker.proofs.CountLemmas.{count-far-less, count-near-less}
 use Rattle.lrat_checker.proofs.counts.LitCounts.take_one.Goals as goal

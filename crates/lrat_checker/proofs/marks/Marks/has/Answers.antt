@@ -1,4 +1,4 @@
-use Rattle.std.proofs.Common.{sym, ap, ◌∙◌, false, arith}
+use Rattle.std.proofs.Common.{sym, ap, ◌∙◌, arith}
 use Rattle.lrat_checker.specs.Marks.{has_mark}
 use Rattle.lrat_checker.proofs.MarkLemmas.{mark-at, mark-past}
 use Rattle.lrat_checker.proofs.marks.Marks.has.Goals as goal
