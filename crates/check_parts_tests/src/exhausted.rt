@@ -205,11 +205,28 @@ fn takes_last_step_number(rt: &impl Abort, alloc: Global, ctx: &mut Context) -> 
 #[test]
 fn nothing_is_read_without_a_step_number(rt: HostRuntime) -> Result<(), Fail> {
     let mut ctx = after_steps(rt.alloc(), u64::MAX);
+    reads_nothing(&rt, rt.alloc(), &mut ctx)
+}
+
+fn reads_nothing(rt: &impl Abort, alloc: Global, ctx: &mut Context) -> Result<(), Fail>
+    requires { ContextInvariant ctx.old }
+{
     let unread = Cuts::failing_at(b"\x0D", 1, ErrorKind::Other);
-    lacks_step_number(&rt, rt.alloc(), &mut ctx, unread)?;
+    lacks_step_number(rt, alloc, ctx, unread)?;
     assert!(rt; !ctx.checker_state.ended);
+    Ok(())
+}
+
+#[test]
+fn a_last_step_is_read(rt: HostRuntime) -> Result<(), Fail> {
     let mut ctx = after_steps(rt.alloc(), u64::MAX - 1);
-    lacks_step_number(&rt, rt.alloc(), &mut ctx, b"\x05\x00\x05".as_slice())?;
+    reads_one_step(&rt, rt.alloc(), &mut ctx)
+}
+
+fn reads_one_step(rt: &impl Abort, alloc: Global, ctx: &mut Context) -> Result<(), Fail>
+    requires { ContextInvariant ctx.old }
+{
+    lacks_step_number(rt, alloc, ctx, b"\x05\x00\x05".as_slice())?;
     assert_eq!(rt; ctx.checker_state.input_clauses, 1);
     Ok(())
 }
