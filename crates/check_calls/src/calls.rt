@@ -238,7 +238,7 @@ pub fn hash(name: &str) -> Result<ClauseHash, Fail> {
 }
 
 /// The bytes that stand here in hexadecimal.
-fn bytes(alloc: Global, numbers: &str) -> Result<Vec<u8>, Fail> {
+pub fn bytes(alloc: Global, numbers: &str) -> Result<Vec<u8>, Fail> {
     let mut bytes = Vec::new(alloc);
     for number in numbers.split_whitespace() {
         bytes.push(u8::from_str_radix(number, 16)?)?;
@@ -246,6 +246,7 @@ fn bytes(alloc: Global, numbers: &str) -> Result<Vec<u8>, Fail> {
     Ok(bytes)
 }
 
-fn lines_at_bars(alloc: Global, text: &str) -> Result<String, Fail> {
+/// The text whose lines end at bars here.
+pub fn lines_at_bars(alloc: Global, text: &str) -> Result<String, Fail> {
     Ok(text.replace(alloc, '|', "\n")?)
 }

@@ -1,11 +1,9 @@
 //! Reads that fail, and reads that are not made.
-use check_calls::calls::{make, prove, read};
-use check_calls::cuts::Cuts;
+use crate::script::agrees;
 use std::alloc::Global;
+use std::io;
 use std::io::ErrorKind;
-use std::process::Abort;
 use std::test::Fail;
-use varisat_checker::Checker;
 
 const KINDS: [ErrorKind; 3] = [
     ErrorKind::UnexpectedEof,
@@ -13,152 +11,96 @@ const KINDS: [ErrorKind; 3] = [
     ErrorKind::Other,
 ];
 
-/// Two opposite units and the end, whose steps end at 3, 6 and 7 bytes.
-const PROOF: &[u8] = b"\x05\x01\x00\x05\x01\x01\x0D";
-
-/// By one byte a read, of which one fails: so many steps stand then. The checker goes on with the
-/// number after the failing step's.
-fn proof_with_failing_read(
-    rt: &impl Abort,
-    alloc: Global,
-    failing: u32,
-    kind: ErrorKind,
-    steps: u64,
-) -> Result<(), Fail> {
-    let mut checker = Checker::new(alloc);
-    proof_goes_on(rt, alloc, &mut checker, failing, kind, steps)
+/// Two opposite units and the end, whose steps end at 3, 6 and 7 bytes. One read fails: so many
+/// steps stand then. The checker goes on with the number after the failing step's.
+fn of_proof(alloc: Global, failing: u32, kind: ErrorKind) -> Result<String, Fail> {
+    let (steps, failed, next) = match failing {
+        1..4 => (0u64, 1u64, 2u64),
+        4..7 => (1, 2, 3),
+        _ => (2, 3, 4),
+    };
+    Ok(format!(in alloc;
+        "\
+failing {failing} {kind:?} proof 05 01 00 05 01 01 0D
+> IoError {failed} {kind:?}
+inputs
+> {steps}
+proof
+> ProofIncomplete {next}
+failing 0 Other proof 05 01 00 05 01 01 0D
+unsat
+> true
+"
+    )?)
 }
 
-fn proof_goes_on(
-    rt: &impl Abort,
-    alloc: Global,
-    checker: &mut Checker,
-    failing: u32,
-    kind: ErrorKind,
-    steps: u64,
-) -> Result<(), Fail> {
-    let cut = Cuts::failing_at(PROOF, failing, kind);
-    let refused = format!(in alloc; "IoError {} {kind:?}", steps.saturating_add(1))?;
-    proves(rt, alloc, checker, cut, &refused)?;
-    assert_eq!(rt; checker.input_clauses(), steps, "{failing}");
-    let refused = format!(in alloc; "ProofIncomplete {}", steps.saturating_add(2))?;
-    proves(rt, alloc, checker, Cuts::of_size(b"", 1), &refused)?;
-    proves(rt, alloc, checker, Cuts::of_size(PROOF, 1), "Ok")?;
-    assert!(rt; checker.unsat());
-    Ok(())
-}
-
-/// Checks a proof, which is answered so.
-fn proves(
-    rt: &impl Abort,
-    alloc: Global,
-    checker: &mut Checker,
-    proof: Cuts<'_>,
-    answer: &str,
-) -> Result<(), Fail> {
-    let seen = prove(alloc, checker, proof)?;
-    assert_eq!(rt; seen.as_str(), answer);
-    Ok(())
+/// Two opposite units, whose clauses end at 4 and 9 bytes. One read fails: so many clauses stand
+/// then. The checker goes on with the whole text.
+fn of_text(alloc: Global, failing: u32, kind: ErrorKind) -> Result<String, Fail> {
+    let clauses = match failing {
+        1..5 => 0u64,
+        5..10 => 1,
+        _ => 2,
+    };
+    Ok(format!(in alloc;
+        "\
+failing {failing} {kind:?} dimacs 1 0|-1 0|
+> Read {kind:?}
+inputs
+> {clauses}
+failing 0 Other dimacs 1 0|-1 0|
+unsat
+> true
+"
+    )?)
 }
 
 #[test]
-fn proofs(rt: HostRuntime) -> Result<(), Fail> {
+fn failing_reads(rt: HostRuntime) -> Result<(), Fail> {
     for kind in KINDS {
-        for failing in 1..8 {
-            let steps = match failing {
-                1..4 => 0,
-                4..7 => 1,
-                _ => 2,
-            };
-            proof_with_failing_read(&rt, rt.alloc(), failing, kind, steps)?;
+        for failing in 1..8u32 {
+            agrees(&rt, rt.alloc(), &of_proof(rt.alloc(), failing, kind)?)?;
+        }
+        for failing in 1..11u32 {
+            agrees(&rt, rt.alloc(), &of_text(rt.alloc(), failing, kind)?)?;
         }
     }
     Ok(())
 }
 
-/// Two opposite units, whose clauses end at 4 and 9 bytes.
-const TEXT: &[u8] = b"1 0\n-1 0\n";
-
-/// By one byte a read, of which one fails: so many clauses stand then. The checker goes on with the
-/// whole text.
-fn text_with_failing_read(
-    rt: &impl Abort,
-    alloc: Global,
-    failing: u32,
-    kind: ErrorKind,
-    clauses: u64,
-) -> Result<(), Fail> {
-    let mut checker = Checker::new(alloc);
-    text_goes_on(rt, alloc, &mut checker, failing, kind, clauses)
-}
-
-fn text_goes_on(
-    rt: &impl Abort,
-    alloc: Global,
-    checker: &mut Checker,
-    failing: u32,
-    kind: ErrorKind,
-    clauses: u64,
-) -> Result<(), Fail> {
-    let cut = Cuts::failing_at(TEXT, failing, kind);
-    let refused = format!(in alloc; "Read {kind:?}")?;
-    reads(rt, alloc, checker, cut, &refused)?;
-    assert_eq!(rt; checker.input_clauses(), clauses, "{failing}");
-    reads(rt, alloc, checker, Cuts::of_size(TEXT, 1), "Ok")?;
-    assert!(rt; checker.unsat());
-    Ok(())
-}
-
-/// Adds a formula's text, which is answered so.
-fn reads(
-    rt: &impl Abort,
-    alloc: Global,
-    checker: &mut Checker,
-    text: Cuts<'_>,
-    answer: &str,
-) -> Result<(), Fail> {
-    let seen = read(alloc, checker, text)?;
-    assert_eq!(rt; seen.as_str(), answer);
-    Ok(())
-}
-
+/// The cause stands in the text of the fault.
 #[test]
-fn texts(rt: HostRuntime) -> Result<(), Fail> {
-    for kind in KINDS {
-        for failing in 1..11 {
-            let clauses = match failing {
-                1..5 => 0,
-                5..10 => 1,
-                _ => 2,
-            };
-            text_with_failing_read(&rt, rt.alloc(), failing, kind, clauses)?;
-        }
+fn texts_of_failed_reads(rt: HostRuntime) -> Result<(), Fail> {
+    for kind in [ErrorKind::UnexpectedEof, ErrorKind::PermissionDenied] {
+        let cause = io::Error::from(kind).to_string(rt.alloc())?;
+        let proof = format!(in rt.alloc();
+            "\
+says failing 3 {kind:?} proof 05 00 0D
+> step 2: Error reading proof file: {cause}
+"
+        )?;
+        agrees(&rt, rt.alloc(), &proof)?;
+        let text = format!(in rt.alloc();
+            "\
+says failing 3 {kind:?} dimacs 1 0|
+> error reading formula: {cause}
+"
+        )?;
+        agrees(&rt, rt.alloc(), &text)?;
     }
     Ok(())
 }
 
 /// Nothing is read after the end: neither past it, nor once it was accepted, also where it was
 /// handed in as a step.
-#[test]
-fn no_read_after_the_end(rt: HostRuntime) -> Result<(), Fail> {
-    let mut checker = Checker::new(rt.alloc());
-    ends_once(&rt, rt.alloc(), &mut checker)?;
-    let mut checker = Checker::new(rt.alloc());
-    ends_by_a_step(&rt, rt.alloc(), &mut checker)
-}
-
-fn ends_once(rt: &impl Abort, alloc: Global, checker: &mut Checker) -> Result<(), Fail> {
-    let past = Cuts::failing_at(TEXT, 11, ErrorKind::Other);
-    reads(rt, alloc, checker, past, "Ok")?;
-    let past = Cuts::failing_at(PROOF, 8, ErrorKind::Other);
-    proves(rt, alloc, checker, past, "Ok")?;
-    let ended = Cuts::failing_at(b"\x0E", 1, ErrorKind::Other);
-    proves(rt, alloc, checker, ended, "Ok")
-}
-
-fn ends_by_a_step(rt: &impl Abort, alloc: Global, checker: &mut Checker) -> Result<(), Fail> {
-    let seen = make(alloc, checker, "end", 1)?;
-    assert_eq!(rt; seen.as_str(), "Ok");
-    let ended = Cuts::failing_at(b"", 1, ErrorKind::Other);
-    proves(rt, alloc, checker, ended, "Ok")
-}
+pub const NO_READ_AFTER_THE_END: [&str; 2] = [
+    "\
+failing 11 Other dimacs 1 0|-1 0|
+failing 8 Other proof 05 01 00 05 01 01 0D
+failing 1 Other proof 0E
+",
+    "\
+end
+failing 1 Other proof
+",
+];

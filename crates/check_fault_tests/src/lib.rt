@@ -13,3 +13,7 @@ mod faults;
 mod hints;
 #[cfg(test)]
 mod logs;
+#[cfg(test)]
+mod script;
+#[cfg(test)]
+mod scripts;

@@ -2,17 +2,9 @@
 use check_calls::cuts::Cuts;
 use log::sink::Memory;
 use std::alloc::Global;
-use std::io::{ErrorKind, Read};
+use std::io::ErrorKind;
 use std::test::Fail;
 use varisat_checker::Checker;
-
-/// Whether a text gives one line, which ends so, or none.
-fn tells<R: Read + Drop>(alloc: Global, text: R, line: Option<&str>) -> bool {
-    let mut checker = Checker::new(alloc);
-    let memory = Memory::new(alloc);
-    let _ = checker.add_dimacs_cnf(&memory, text);
-    is_told(memory, line)
-}
 
 fn is_told(memory: Memory, line: Option<&str>) -> bool {
     let lines = memory.into_lines();
@@ -23,28 +15,40 @@ fn is_told(memory: Memory, line: Option<&str>) -> bool {
     }
 }
 
-#[test]
-fn formulas_are_told(rt: HostRuntime) -> Result<(), Fail> {
-    let text = b"p cnf 9 9\n1 -2 0\n2 0\n".as_slice();
-    let told = Some(" Parsed formula with 2 variables and 2 clauses");
-    assert!(rt; tells(rt.alloc(), text, told));
-    let none = Some(" Parsed formula with 0 variables and 0 clauses");
-    assert!(rt; tells(rt.alloc(), b"".as_slice(), none));
-    let after = Some(" Parsed formula with 7 variables and 3 clauses");
-    assert!(rt; tells(rt.alloc(), b"0 -7 0 1 0".as_slice(), after));
-    Ok(())
+/// Whether a text gives one line, which ends so, or none. The read of this number fails, counted
+/// from 1.
+fn tells(alloc: Global, text: &[u8], failing: u32, line: Option<&str>) -> bool {
+    let mut checker = Checker::new(alloc);
+    let memory = Memory::new(alloc);
+    let _ = checker.add_dimacs_cnf(&memory, Cuts::failing_at(text, failing, ErrorKind::Other));
+    is_told(memory, line)
 }
 
 #[test]
-fn faulty_formula_is_not_told(rt: HostRuntime) -> Result<(), Fail> {
-    assert!(rt; tells(rt.alloc(), b"1 0\n2 x 0".as_slice(), None));
-    assert!(rt;
-        tells(
-            rt.alloc(),
-            Cuts::failing_at(b"1 0\n", 5, ErrorKind::Other),
-            None
-        )
-    );
+fn formulas_are_told(rt: HostRuntime) -> Result<(), Fail> {
+    let rows: [(&[u8], u32, Option<&str>); 5] = [
+        (
+            b"p cnf 9 9\n1 -2 0\n2 0\n",
+            0,
+            Some(" Parsed formula with 2 variables and 2 clauses"),
+        ),
+        (
+            b"",
+            0,
+            Some(" Parsed formula with 0 variables and 0 clauses"),
+        ),
+        (
+            b"0 -7 0 1 0",
+            0,
+            Some(" Parsed formula with 7 variables and 3 clauses"),
+        ),
+        // Where there is a fault nothing is told.
+        (b"1 0\n2 x 0", 0, None),
+        (b"1 0\n", 5, None),
+    ];
+    for (text, failing, line) in rows {
+        assert!(rt; tells(rt.alloc(), text, failing, line), "{line:?}");
+    }
     Ok(())
 }
 
@@ -52,54 +56,53 @@ fn faulty_formula_is_not_told(rt: HostRuntime) -> Result<(), Fail> {
 fn long_proof(alloc: Global, count: u32, last: &[u8]) -> Result<Vec<u8>, Fail> {
     let mut proof = Vec::new(alloc);
     for _ in 0..count {
-        proof.push(5)?;
-        proof.push(0)?;
+        proof.extend_from_slice(b"\x05\x00".as_slice())?;
     }
     proof.extend_from_slice(last)?;
     Ok(proof)
 }
 
+/// Proofs of one checker, each with the end of the line that it gives.
+type Proofs<'a> = &'a [(u32, &'a [u8], Option<&'a str>)];
+
+const PROGRESS: [Proofs<'static>; 5] = [
+    &[(99_998, b"\x0D", None)],
+    &[(99_999, b"\x0E", None)],
+    &[(99_999, b"\x0D", Some(" checking step 100k"))],
+    &[(100_001, b"\x0D", Some(" checking step 100k"))],
+    // Earlier proofs count.
+    &[
+        (150_000, b"", Some(" checking step 100k")),
+        (49_999, b"\x0D", Some(" checking step 200k")),
+    ],
+];
+
 #[test]
 fn progress_is_told(rt: HostRuntime) -> Result<(), Fail> {
-    let rows: [(u32, &[u8], Option<&str>); 4] = [
-        (99_998, b"\x0D", None),
-        (99_999, b"\x0E", None),
-        (99_999, b"\x0D", Some(" checking step 100k")),
-        (100_001, b"\x0D", Some(" checking step 100k")),
-    ];
-    for (count, last, line) in rows {
-        let proof = long_proof(rt.alloc(), count, last)?;
-        assert!(rt; of_new(rt.alloc(), &proof, line), "{count}");
+    for proofs in PROGRESS {
+        assert!(rt; tell_progress(rt.alloc(), proofs)?, "{proofs:?}");
     }
     Ok(())
 }
 
-/// Whether a new checker tells this of a proof.
-fn of_new(alloc: Global, proof: &[u8], line: Option<&str>) -> bool {
+/// Whether each of these proofs gives one line, which ends so, or none.
+fn tell_progress(alloc: Global, proofs: Proofs<'_>) -> Result<bool, Fail> {
     let mut checker = Checker::new(alloc);
-    checking_tells(alloc, &mut checker, proof, line)
+    all_tell(alloc, &mut checker, proofs)
+}
+
+fn all_tell(alloc: Global, checker: &mut Checker, proofs: Proofs<'_>) -> Result<bool, Fail> {
+    for (count, last, line) in proofs {
+        let proof = long_proof(alloc, *count, last)?;
+        if !checking_tells(alloc, checker, &proof, *line) {
+            return Ok(false);
+        }
+    }
+    Ok(true)
 }
 
 fn checking_tells(alloc: Global, checker: &mut Checker, proof: &[u8], line: Option<&str>) -> bool {
     let memory = Memory::new(alloc);
     let _ = checker.check_proof(&memory, proof);
     is_told(memory, line)
-}
-
-#[test]
-fn progress_counts_earlier_proofs(rt: HostRuntime) -> Result<(), Fail> {
-    let alloc = rt.alloc();
-    let first = long_proof(alloc, 150_000, b"")?;
-    let second = long_proof(alloc, 49_999, b"\x0D")?;
-    let (told, told_later) = both_told(alloc, &first, &second);
-    assert!(rt; told);
-    assert!(rt; told_later);
-    Ok(())
-}
-
-fn both_told(alloc: Global, first: &[u8], second: &[u8]) -> (bool, bool) {
-    let mut checker = Checker::new(alloc);
-    let told = checking_tells(alloc, &mut checker, first, Some(" checking step 100k"));
-    let told_later = checking_tells(alloc, &mut checker, second, Some(" checking step 200k"));
-    (told, told_later)
 }

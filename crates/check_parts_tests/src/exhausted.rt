@@ -134,20 +134,28 @@ fn takes_last_id(rt: &impl Abort, alloc: Global, ctx: &mut Context) -> Result<()
     requires { ContextInvariant ctx.old }
 {
     let added = add(alloc, ctx, "1")?;
-    assert_eq!(rt; added, Seen::Done);
-    assert_eq!(rt; ctx.clauses.next_clause_id, u64::MAX);
-    let unseen = Seen::Refused(0, CheckCause::IdsExhausted, false);
+    let next = ctx.clauses.next_clause_id;
     let other = add(alloc, ctx, "2")?;
-    assert_eq!(rt; other, unseen);
     let again = add(alloc, ctx, "1")?;
-    assert_eq!(rt; again, unseen);
-    assert_eq!(rt; ctx.checker_state.input_clauses, 1);
+    let inputs = ctx.checker_state.input_clauses;
     // A unit that stands needs none.
     let stood = derive(alloc, ctx, "1")?;
-    assert_eq!(rt; stood, Seen::Done);
     let longer = derive(alloc, ctx, "1 2")?;
-    assert_eq!(rt; longer, Seen::Refused(2, CheckCause::IdsExhausted, true));
-    assert_eq!(rt; ctx.clauses.next_clause_id, u64::MAX);
+    let unseen = Seen::Refused(0, CheckCause::IdsExhausted, false);
+    assert_eq!(rt;
+        [added, other, again, stood, longer],
+        [
+            Seen::Done,
+            unseen,
+            unseen,
+            Seen::Done,
+            Seen::Refused(2, CheckCause::IdsExhausted, true)
+        ]
+    );
+    assert_eq!(rt;
+        [next, inputs, ctx.clauses.next_clause_id],
+        [u64::MAX, 1, u64::MAX]
+    );
     Ok(())
 }
 
@@ -161,18 +169,21 @@ fn closes_without_id(rt: &impl Abort, alloc: Global, ctx: &mut Context) -> Resul
     requires { ContextInvariant ctx.old }
 {
     let first = add(alloc, ctx, "1")?;
-    assert_eq!(rt; first, Seen::Done);
     let second = add(alloc, ctx, "-1")?;
-    assert_eq!(rt; second, Seen::Done);
-    assert_eq!(rt;
-        ctx.clauses.unit_conflict,
-        Some((u64::MAX - 2, u64::MAX - 1))
-    );
+    let conflict = ctx.clauses.unit_conflict;
     let closed = close(alloc, ctx)?;
-    assert_eq!(rt; closed, Seen::Refused(0, CheckCause::IdsExhausted, false));
     // At the end of a proof it is refused with the number of the step before.
     let proved = prove(alloc, ctx, b"\x0D".as_slice())?;
-    assert_eq!(rt; proved, Seen::Refused(1, CheckCause::IdsExhausted, false));
+    assert_eq!(rt;
+        [first, second, closed, proved],
+        [
+            Seen::Done,
+            Seen::Done,
+            Seen::Refused(0, CheckCause::IdsExhausted, false),
+            Seen::Refused(1, CheckCause::IdsExhausted, false)
+        ]
+    );
+    assert_eq!(rt; conflict, Some((u64::MAX - 2, u64::MAX - 1)));
     assert!(rt; ctx.checker_state.unsat);
     Ok(())
 }
@@ -187,29 +198,48 @@ fn takes_last_step_number(rt: &impl Abort, alloc: Global, ctx: &mut Context) -> 
     requires { ContextInvariant ctx.old }
 {
     let first = attempt(alloc, ctx, &ProofStep::End)?;
-    assert_eq!(rt; first, Seen::Done);
     let second = attempt(alloc, ctx, &ProofStep::End)?;
-    assert_eq!(rt;
-        second,
-        Seen::Refused(u64::MAX, CheckCause::StepsExhausted, false)
-    );
     // The end was accepted: nothing is left to count.
     let proved = prove(alloc, ctx, b"".as_slice())?;
-    assert_eq!(rt; proved, Seen::Done);
     // Input clauses are not counted.
     let added = add(alloc, ctx, "1")?;
-    assert_eq!(rt; added, Seen::Done);
+    assert_eq!(rt;
+        [first, second, proved, added],
+        [
+            Seen::Done,
+            Seen::Refused(u64::MAX, CheckCause::StepsExhausted, false),
+            Seen::Done,
+            Seen::Done
+        ]
+    );
     Ok(())
 }
 
 #[test]
 fn nothing_is_read_without_a_step_number(rt: HostRuntime) -> Result<(), Fail> {
     let mut ctx = after_steps(rt.alloc(), u64::MAX);
+    reads_nothing(&rt, rt.alloc(), &mut ctx)
+}
+
+fn reads_nothing(rt: &impl Abort, alloc: Global, ctx: &mut Context) -> Result<(), Fail>
+    requires { ContextInvariant ctx.old }
+{
     let unread = Cuts::failing_at(b"\x0D", 1, ErrorKind::Other);
-    lacks_step_number(&rt, rt.alloc(), &mut ctx, unread)?;
+    lacks_step_number(rt, alloc, ctx, unread)?;
     assert!(rt; !ctx.checker_state.ended);
+    Ok(())
+}
+
+#[test]
+fn a_last_step_is_read(rt: HostRuntime) -> Result<(), Fail> {
     let mut ctx = after_steps(rt.alloc(), u64::MAX - 1);
-    lacks_step_number(&rt, rt.alloc(), &mut ctx, b"\x05\x00\x05".as_slice())?;
+    reads_one_step(&rt, rt.alloc(), &mut ctx)
+}
+
+fn reads_one_step(rt: &impl Abort, alloc: Global, ctx: &mut Context) -> Result<(), Fail>
+    requires { ContextInvariant ctx.old }
+{
+    lacks_step_number(rt, alloc, ctx, b"\x05\x00\x05".as_slice())?;
     assert_eq!(rt; ctx.checker_state.input_clauses, 1);
     Ok(())
 }

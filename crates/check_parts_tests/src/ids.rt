@@ -52,15 +52,14 @@ fn takes_ids(rt: &impl Abort, alloc: Global, ctx: &mut Context) -> Result<(), Fa
     requires { ContextInvariant ctx.old }
 {
     let clause = lits(alloc, "1 2")?;
-    let next = add(alloc, ctx, "1 2")?;
-    assert_eq!(rt; next, 1);
-    let next = add(alloc, ctx, "2 1 1")?;
-    assert_eq!(rt; next, 2);
-    assert_eq!(rt; copies(&ctx.clause_hasher, &ctx.clauses, &clause, false), 2);
-    assert_eq!(rt; copies(&ctx.clause_hasher, &ctx.clauses, &clause, true), 0);
+    let first = add(alloc, ctx, "1 2")?;
+    let second = add(alloc, ctx, "2 1 1")?;
+    let irredundant = copies(&ctx.clause_hasher, &ctx.clauses, &clause, false);
+    let redundant = copies(&ctx.clause_hasher, &ctx.clauses, &clause, true);
     // A tautology too, whose variables are known then.
-    let next = add(alloc, ctx, "3 -3")?;
-    assert_eq!(rt; next, 3);
+    let third = add(alloc, ctx, "3 -3")?;
+    assert_eq!(rt; [first, second, third], [1, 2, 3]);
+    assert_eq!(rt; (irredundant, redundant), (2, 0));
     assert_eq!(rt; ctx.clauses.unit_clauses.len(), 3);
     Ok(())
 }
@@ -76,18 +75,17 @@ fn derived_clause_that_stands(rt: HostRuntime) -> Result<(), Fail> {
 fn derives_what_stands(rt: &impl Abort, alloc: Global, ctx: &mut Context) -> Result<(), Fail>
     requires { ContextInvariant ctx.old }
 {
-    let next = add(alloc, ctx, "1 2 3")?;
-    assert_eq!(rt; next, 1);
-    let next = add(alloc, ctx, "1 2")?;
-    assert_eq!(rt; next, 2);
-    let next = add(alloc, ctx, "4")?;
-    assert_eq!(rt; next, 3);
-    let next = derive(alloc, ctx, "1 2", "A")?;
-    assert_eq!(rt; next, 3);
-    assert_eq!(rt; ctx.checker_state.previous_id, Some(1));
-    let next = derive(alloc, ctx, "4", "")?;
-    assert_eq!(rt; next, 3);
-    assert_eq!(rt; ctx.checker_state.previous_id, Some(2));
+    let first = add(alloc, ctx, "1 2 3")?;
+    let second = add(alloc, ctx, "1 2")?;
+    let third = add(alloc, ctx, "4")?;
+    let longer = derive(alloc, ctx, "1 2", "A")?;
+    let previous = ctx.checker_state.previous_id;
+    let unit = derive(alloc, ctx, "4", "")?;
+    assert_eq!(rt; [first, second, third, longer, unit], [1, 2, 3, 3, 3]);
+    assert_eq!(rt;
+        [previous, ctx.checker_state.previous_id],
+        [Some(1), Some(2)]
+    );
     Ok(())
 }
 

@@ -85,21 +85,20 @@ fn clauses_that_nothing_entails(rt: HostRuntime) -> Result<(), Fail> {
 fn goes_by_the_rules(rt: &impl Abort, alloc: Global, ctx: &mut Context) -> Result<(), Fail>
     requires { ContextInvariant ctx.old }
 {
+    let clause = lits(alloc, "1 2 3")?;
     let added = add(alloc, ctx, "1 2")?;
-    assert_eq!(rt; added, None);
     let derived = derive(alloc, ctx, true, "1 2 3", "A")?;
-    assert_eq!(rt; derived, None);
     with_empty_previous(alloc, ctx);
     let gone = simplify(alloc, ctx, "1 2")?;
-    assert_eq!(rt; gone, None);
     // The previous clause is forgotten, and the redundant one is left alone.
     let stays = simplify(alloc, ctx, "1 2 3")?;
-    assert_eq!(rt; stays, Some(CheckCause::NotSubsumed));
     // Nothing entails it now, and by itself it passes.
     let passed = derive(alloc, ctx, false, "1 2 3", "8251C5B11EE16443")?;
-    assert_eq!(rt; passed, None);
+    assert_eq!(rt;
+        [added, derived, gone, stays, passed],
+        [None, None, None, Some(CheckCause::NotSubsumed), None]
+    );
     assert_eq!(rt; ctx.checker_state.previous_id, Some(1));
-    let clause = lits(alloc, "1 2 3")?;
     assert_eq!(rt; copies(&ctx.clause_hasher, &ctx.clauses, &clause, false), 1);
     Ok(())
 }

@@ -15,6 +15,13 @@ use varisat_checker::variables::{
 fn variables_become_known(rt: HostRuntime) -> Result<(), Fail> {
     let (first, third) = (var("1")?, var("3")?);
     let mut ctx = Context::new(rt.alloc());
+    knows_three(&rt, &mut ctx, first, third);
+    Ok(())
+}
+
+fn knows_three(rt: &impl Abort, ctx: &mut Context, first: Var, third: Var)
+    requires { length ctx.old.clauses.unit_clauses ≡ length ctx.old.variables }
+{
     let known = ensure_var(&mut ctx.clauses, &mut ctx.variables, third);
     assert!(rt; known.is_ok());
     assert_eq!(rt; ctx.variables.len(), 3);
@@ -22,7 +29,6 @@ fn variables_become_known(rt: HostRuntime) -> Result<(), Fail> {
     let known = ensure_var(&mut ctx.clauses, &mut ctx.variables, first);
     assert!(rt; known.is_ok());
     assert_eq!(rt; ctx.variables.len(), 3);
-    Ok(())
 }
 
 #[test]
@@ -75,8 +81,14 @@ fn is_hidden(ctx: &mut Context, var: Var) -> bool
 fn new_variables_are_samples(rt: HostRuntime) -> Result<(), Fail> {
     let fourth = var("4")?;
     let mut ctx = Context::new(rt.alloc());
+    is_sample(&rt, &mut ctx, fourth);
+    Ok(())
+}
+
+fn is_sample(rt: &impl Abort, ctx: &mut Context, fourth: Var)
+    requires { length ctx.old.clauses.unit_clauses ≡ length ctx.old.variables }
+{
     let known = ensure_sampling_var(&mut ctx.clauses, &mut ctx.variables, fourth);
     assert!(rt; known.is_ok());
     assert_eq!(rt; ctx.variables.len(), 4);
-    Ok(())
 }

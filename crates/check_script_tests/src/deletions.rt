@@ -1,8 +1,7 @@
 //! Deleted clauses.
-use crate::script::agrees;
-use std::test::Fail;
 
-const DELETED_COPIES: &str = "
+/// Copies of a clause, of which one after the other goes.
+pub const DELETED_COPIES: &str = "
 # A clause goes with its last copy.
 new
 given 1 2
@@ -38,12 +37,8 @@ del redundant 1 2
 > CheckFailed 3 DeleteUnknown
 ";
 
-#[test]
-fn deleted_copies(rt: HostRuntime) -> Result<(), Fail> {
-    agrees(&rt, rt.alloc(), DELETED_COPIES)
-}
-
-const DELETIONS_BY_THE_PREVIOUS_CLAUSE: &str = "
+/// Clauses that the previous one subsumes, or does not.
+pub const DELETIONS_BY_THE_PREVIOUS_CLAUSE: &str = "
 new
 given 1 2 3
 given 1 2
@@ -93,12 +88,8 @@ del simplified 1 2
 > CheckFailed 2 NotSubsumed
 ";
 
-#[test]
-fn deletions_by_the_previous_clause(rt: HostRuntime) -> Result<(), Fail> {
-    agrees(&rt, rt.alloc(), DELETIONS_BY_THE_PREVIOUS_CLAUSE)
-}
-
-const DELETED_VARS: &str = "
+/// Variables that go, or stay since clauses name them.
+pub const DELETED_VARS: &str = "
 # The variable is as a new one is.
 new
 given 1
@@ -148,12 +139,8 @@ delvar 2
 > CheckFailed 2 DeletedVarHasClauses
 ";
 
-#[test]
-fn deleted_vars(rt: HostRuntime) -> Result<(), Fail> {
-    agrees(&rt, rt.alloc(), DELETED_VARS)
-}
-
-const LITERAL_COUNTS: &str = "
+/// How many literals the buffer has, and how many of them count.
+pub const LITERAL_COUNTS: &str = "
 # Half of the buffer is no reason to collect.
 new
 given 1 2 3 4
@@ -192,8 +179,3 @@ model 1 -2
 > + Model [1 -2]
 > ~ Model [1 -2]
 ";
-
-#[test]
-fn literal_counts(rt: HostRuntime) -> Result<(), Fail> {
-    agrees(&rt, rt.alloc(), LITERAL_COUNTS)
-}

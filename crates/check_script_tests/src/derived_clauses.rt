@@ -1,11 +1,7 @@
 //! Derived clauses: what they are checked by, their ids and their propagations.
-use crate::script::agrees;
-use check_calls::accepted::given;
-use check_calls::calls::make;
-use std::test::Fail;
-use varisat_checker::Checker;
 
-const DERIVED_CLAUSES: &str = "
+/// Clauses that follow, and some that do not.
+pub const DERIVED_CLAUSES: &str = "
 new
 given 1 2
 given 1 -2
@@ -56,12 +52,8 @@ at red 3 2 : A C
 at red 2 3 : 4C710C8D01AB1856
 ";
 
-#[test]
-fn derived_clauses(rt: HostRuntime) -> Result<(), Fail> {
-    agrees(&rt, rt.alloc(), DERIVED_CLAUSES)
-}
-
-const DERIVED_UNITS_AND_EMPTY_CLAUSES: &str = "
+/// Units and empty clauses that follow.
+pub const DERIVED_UNITS_AND_EMPTY_CLAUSES: &str = "
 # Units have no redundant mark: opposite ones are a conflict.
 new
 given 1 2
@@ -104,12 +96,8 @@ add 3
 > ~ AddClause [3]
 ";
 
-#[test]
-fn derived_units_and_empty_clauses(rt: HostRuntime) -> Result<(), Fail> {
-    agrees(&rt, rt.alloc(), DERIVED_UNITS_AND_EMPTY_CLAUSES)
-}
-
-const WALKS: &str = "
+/// Hashes in one order and another.
+pub const WALKS: &str = "
 # The walk goes through the hashes in the order in which they are named, once.
 new
 given -1 2
@@ -144,12 +132,8 @@ at irr -2 : 7 C D
 > CheckFailed 2 NoClauseForHash
 ";
 
-#[test]
-fn walks(rt: HostRuntime) -> Result<(), Fail> {
-    agrees(&rt, rt.alloc(), WALKS)
-}
-
-const UNITS_MET_ON_THE_WAY: &str = "
+/// Which units are listed as propagations.
+pub const UNITS_MET_ON_THE_WAY: &str = "
 # A unit that a clause meets false is listed, also beside free literals.
 new
 given 1
@@ -185,12 +169,8 @@ at irr 2 : C
 > + AtClause 3 irr [2] (1 2)
 ";
 
-#[test]
-fn units_met_on_the_way(rt: HostRuntime) -> Result<(), Fail> {
-    agrees(&rt, rt.alloc(), UNITS_MET_ON_THE_WAY)
-}
-
-const CHECKS_LEAVE_NO_VALUES: &str = "
+/// Checks after checks that ended early.
+pub const CHECKS_LEAVE_NO_VALUES: &str = "
 # With 1 false or 2 true left behind, a later one would pass.
 new
 given 1 2
@@ -224,12 +204,8 @@ at irr -1
 > CheckFailed 6 AtCheckFailed
 ";
 
-#[test]
-fn checks_leave_no_values(rt: HostRuntime) -> Result<(), Fail> {
-    agrees(&rt, rt.alloc(), CHECKS_LEAVE_NO_VALUES)
-}
-
-const LONG_BUCKETS: &str = "
+/// Many clauses of one hash.
+pub const LONG_BUCKETS: &str = "
 # With hashes of one bit the bucket 0 has ten clauses, and nothing follows from them before 2 has a value.
 new
 given 4 5
@@ -301,53 +277,111 @@ at red 1 : 0 0 0 1 0
 > + AtClause 12 red [1] (0 11 8 9)
 ";
 
-#[test]
-fn long_buckets(rt: HostRuntime) -> Result<(), Fail> {
-    agrees(&rt, rt.alloc(), LONG_BUCKETS)
-}
-
-/// The ten clauses of one bucket, and one of the other.
-const LONG_BUCKET: [&str; 11] = [
-    "4 5", "4 9", "4 10", "5 9", "5 10", "7 8", "7 11", "-2 6", "-2 -6", "2 3", "1 2",
-];
-
 /// A check without processors goes another way.
-#[test]
-fn long_buckets_without_processors(rt: HostRuntime) -> Result<(), Fail> {
-    let rows: [(&str, &str); 6] = [
-        ("at red 1 : 0 0 0", "CheckFailed 2 AtCheckFailed"),
-        ("at red 3 : 0", "CheckFailed 2 AtCheckFailed"),
-        ("at red 12 : 0 0 1 0", "CheckFailed 2 AtCheckFailed"),
-        ("at red 1 : 0 0 1 0", "Ok"),
-        ("at red 3 : 0 0", "Ok"),
-        ("at red -2 : 0", "Ok"),
-    ];
-    let alloc = rt.alloc();
-    for (call, answer) in rows {
-        let mut checker = Checker::new(alloc);
-        for clause in LONG_BUCKET {
-            given(alloc, &mut checker, clause)?;
-        }
-        make(alloc, &mut checker, "bits 1", 1)?;
-        assert_eq!(rt; make(alloc, &mut checker, call, 1)?.as_str(), answer);
-    }
-    Ok(())
-}
-
-/// Where nothing follows in one check, something can in the next.
-#[test]
-fn long_buckets_in_turn(rt: HostRuntime) -> Result<(), Fail> {
-    let alloc = rt.alloc();
-    let mut checker = Checker::new(alloc);
-    for clause in LONG_BUCKET {
-        given(alloc, &mut checker, clause)?;
-    }
-    make(alloc, &mut checker, "bits 1", 1)?;
-    let failed = make(alloc, &mut checker, "at red 12 : 0 0", 1)?;
-    assert_eq!(rt; failed.as_str(), "CheckFailed 2 AtCheckFailed");
-    assert_eq!(rt;
-        make(alloc, &mut checker, "at red -2 : 0", 1)?.as_str(),
-        "Ok"
-    );
-    Ok(())
-}
+pub const LONG_BUCKETS_WITHOUT_PROCESSORS: &str = "
+# The ten clauses of one bucket, and one of the other.
+bare
+given 4 5
+given 4 9
+given 4 10
+given 5 9
+given 5 10
+given 7 8
+given 7 11
+given -2 6
+given -2 -6
+given 2 3
+given 1 2
+bits 1
+at red 1 : 0 0 0
+> CheckFailed 2 AtCheckFailed
+bare
+given 4 5
+given 4 9
+given 4 10
+given 5 9
+given 5 10
+given 7 8
+given 7 11
+given -2 6
+given -2 -6
+given 2 3
+given 1 2
+bits 1
+at red 3 : 0
+> CheckFailed 2 AtCheckFailed
+bare
+given 4 5
+given 4 9
+given 4 10
+given 5 9
+given 5 10
+given 7 8
+given 7 11
+given -2 6
+given -2 -6
+given 2 3
+given 1 2
+bits 1
+at red 12 : 0 0 1 0
+> CheckFailed 2 AtCheckFailed
+bare
+given 4 5
+given 4 9
+given 4 10
+given 5 9
+given 5 10
+given 7 8
+given 7 11
+given -2 6
+given -2 -6
+given 2 3
+given 1 2
+bits 1
+at red 1 : 0 0 1 0
+bare
+given 4 5
+given 4 9
+given 4 10
+given 5 9
+given 5 10
+given 7 8
+given 7 11
+given -2 6
+given -2 -6
+given 2 3
+given 1 2
+bits 1
+at red 3 : 0 0
+bare
+given 4 5
+given 4 9
+given 4 10
+given 5 9
+given 5 10
+given 7 8
+given 7 11
+given -2 6
+given -2 -6
+given 2 3
+given 1 2
+bits 1
+at red -2 : 0
+# Where nothing follows in one check, something can in the next.
+bare
+given 4 5
+given 4 9
+given 4 10
+given 5 9
+given 5 10
+given 7 8
+given 7 11
+given -2 6
+given -2 -6
+given 2 3
+given 1 2
+bits 1
+at red 12 : 0 0
+> CheckFailed 2 AtCheckFailed
+at red -2 : 0
+";

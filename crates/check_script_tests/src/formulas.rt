@@ -1,12 +1,7 @@
 //! Formulas, and their texts.
-use crate::script::agrees;
-use check_calls::calls::lits;
-use sat_formula::CnfFormula;
-use std::alloc::Global;
-use std::test::Fail;
-use varisat_checker::Checker;
 
-const TEXTS: &str = "
+/// Texts, whole and malformed.
+pub const TEXTS: &str = "
 new
 dimacs
 inputs
@@ -77,12 +72,8 @@ dimacs 1 -1 0 2 1 2 0 1 2 0
 > ~ AddClause [1 2]
 ";
 
-#[test]
-fn texts(rt: HostRuntime) -> Result<(), Fail> {
-    agrees(&rt, rt.alloc(), TEXTS)
-}
-
-const CALLS_AFTER_A_TEXT: &str = "
+/// What the checker does after a text.
+pub const CALLS_AFTER_A_TEXT: &str = "
 # The checker goes on after a fault, and each text is read from its first line.
 new
 dimacs p cnf 1 1|1 0|x
@@ -118,39 +109,28 @@ inputs
 > 2
 ";
 
-#[test]
-fn calls_after_a_text(rt: HostRuntime) -> Result<(), Fail> {
-    agrees(&rt, rt.alloc(), CALLS_AFTER_A_TEXT)
-}
-
-/// What a new checker records that is given a formula with these clauses.
-fn recorded_of(alloc: Global, clauses: &[&str]) -> Result<(bool, u64), Fail> {
-    let mut formula = CnfFormula::new(alloc);
-    for clause in clauses {
-        formula.add_clause(&lits(alloc, clause)?)?;
-    }
-    let mut checker = Checker::new(alloc);
-    match checker.add_formula(&formula) {
-        Ok(()) => Ok((checker.unsat(), checker.input_clauses())),
-        Err(_) => Err("the formula is refused".into()),
-    }
-}
-
-#[test]
-fn clauses_of_a_formula_are_added(rt: HostRuntime) -> Result<(), Fail> {
-    let alloc = rt.alloc();
-    assert_eq!(rt; recorded_of(alloc, &["1 -2", ""])?, (true, 2));
-    // A clause that comes after the empty one takes no id.
-    assert_eq!(rt; recorded_of(alloc, &["", "1"])?, (true, 1));
-    assert_eq!(rt; recorded_of(alloc, &[])?, (false, 0));
-    Ok(())
-}
-
-#[test]
-fn variables_of_a_formula_are_counted(rt: HostRuntime) -> Result<(), Fail> {
-    let mut formula = CnfFormula::new(rt.alloc());
-    formula.add_clause(&lits(rt.alloc(), "1 -2")?)?;
-    formula.add_clause(&[])?;
-    assert_eq!(rt; (formula.len(), formula.var_count()), (2, 2));
-    Ok(())
-}
+/// Formulas that are handed in: the answer has their clauses and their variables.
+pub const FORMULAS: &str = "
+bare
+formula 1 -2||
+> 2 2
+unsat
+> true
+inputs
+> 2
+# A clause that comes after the empty one takes no id.
+bare
+formula |1|
+> 2 1
+unsat
+> true
+inputs
+> 1
+bare
+formula
+> 0 0
+unsat
+> false
+inputs
+> 0
+";

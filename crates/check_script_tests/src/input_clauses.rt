@@ -1,8 +1,7 @@
 //! Input clauses, and conflicts among units.
-use crate::script::agrees;
-use std::test::Fail;
 
-const INPUT_CLAUSES: &str = "
+/// Input clauses of each kind.
+pub const INPUT_CLAUSES: &str = "
 # Once the empty clause stands, nothing more is told.
 new
 add
@@ -37,12 +36,8 @@ add 1 -1
 > CheckFailed 1 NotSampling
 ";
 
-#[test]
-fn input_clauses(rt: HostRuntime) -> Result<(), Fail> {
-    agrees(&rt, rt.alloc(), INPUT_CLAUSES)
-}
-
-const CONFLICTS_OF_UNITS: &str = "
+/// Opposite units, and when their conflict is closed.
+pub const CONFLICTS_OF_UNITS: &str = "
 # Each time, the conflict is closed anew.
 new
 add 1
@@ -87,8 +82,3 @@ unsat
 inputs
 > 4
 ";
-
-#[test]
-fn conflicts_of_units(rt: HostRuntime) -> Result<(), Fail> {
-    agrees(&rt, rt.alloc(), CONFLICTS_OF_UNITS)
-}

@@ -19,3 +19,5 @@ mod names;
 mod proofs;
 #[cfg(test)]
 mod script;
+#[cfg(test)]
+mod scripts;

@@ -1,8 +1,7 @@
 //! Models, assumptions, and cores of them that fail.
-use crate::script::agrees;
-use std::test::Fail;
 
-const MODELS: &str = "
+/// Models, and what is none.
+pub const MODELS: &str = "
 new
 given 1
 model
@@ -53,7 +52,7 @@ model 1 2
 ";
 
 /// Marks of a model that is refused half way, or accepted, are seen by none that comes later.
-const MODELS_IN_TURN: &str = "
+pub const MODELS_IN_TURN: &str = "
 new
 given 1 2
 given -1 2 3
@@ -85,17 +84,8 @@ model 2 4 -1
 > ~ Model [2 4 -1]
 ";
 
-#[test]
-fn models_in_turn(rt: HostRuntime) -> Result<(), Fail> {
-    agrees(&rt, rt.alloc(), MODELS_IN_TURN)
-}
-
-#[test]
-fn models(rt: HostRuntime) -> Result<(), Fail> {
-    agrees(&rt, rt.alloc(), MODELS)
-}
-
-const ASSUMPTIONS: &str = "
+/// Assumptions, and cores of them.
+pub const ASSUMPTIONS: &str = "
 new
 given -1 2
 assume 1 -2
@@ -134,8 +124,3 @@ model 2 1
 > + Model [2 1]
 > ~ Model [2 1]
 ";
-
-#[test]
-fn assumptions(rt: HostRuntime) -> Result<(), Fail> {
-    agrees(&rt, rt.alloc(), ASSUMPTIONS)
-}

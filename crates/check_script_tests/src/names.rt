@@ -1,8 +1,7 @@
 //! Names of variables: the solver's, which are in the hashes, and the user's.
-use crate::script::agrees;
-use std::test::Fail;
 
-const NARROW_HASHES: &str = "
+/// Hashes of few bits.
+pub const NARROW_HASHES: &str = "
 # Of the four clauses two share each hash of one bit.
 new
 given 1 2
@@ -56,12 +55,8 @@ at irr -1 7 : 0 0
 > + AtClause 3 irr [-1 7] (1 2 0)
 ";
 
-#[test]
-fn narrow_hashes(rt: HostRuntime) -> Result<(), Fail> {
-    agrees(&rt, rt.alloc(), NARROW_HASHES)
-}
-
-const NAMES_OF_THE_SOLVER: &str = "
+/// Names that are in the hashes.
+pub const NAMES_OF_THE_SOLVER: &str = "
 # Pending names are applied by the next check.
 new
 given 1 2
@@ -110,12 +105,8 @@ bits 64
 at irr 1 2 : A
 ";
 
-#[test]
-fn names_of_the_solver(rt: HostRuntime) -> Result<(), Fail> {
-    agrees(&rt, rt.alloc(), NAMES_OF_THE_SOLVER)
-}
-
-const NAMES_OF_THE_USER: &str = "
+/// Names that processors and transcripts are told.
+pub const NAMES_OF_THE_USER: &str = "
 new
 given 1 2
 user 1 2
@@ -154,8 +145,3 @@ add 1 -2
 > + AddClause 1 [1 -2]
 > ~ AddClause [2 -2]
 ";
-
-#[test]
-fn names_of_the_user(rt: HostRuntime) -> Result<(), Fail> {
-    agrees(&rt, rt.alloc(), NAMES_OF_THE_USER)
-}

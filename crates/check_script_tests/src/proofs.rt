@@ -1,17 +1,11 @@
 //! Proofs as bytes, and what a second proof finds.
-use crate::script::agrees;
-use check_calls::accepted::given;
-use check_calls::calls::{lits, prove};
-use check_calls::cuts::Cuts;
+use crate::script::formula;
 use check_vectors::counting::count_steps;
 use log::sink::Discard;
-use sat_formula::CnfFormula;
-use std::alloc::Global;
-use std::process::Abort;
 use std::test::Fail;
-use varisat_checker::Checker;
 
-const SHORT_PROOFS: &str = "
+/// Proofs of a few bytes.
+pub const SHORT_PROOFS: &str = "
 new
 proof
 > ProofIncomplete 1
@@ -51,12 +45,8 @@ inputs
 > 2
 ";
 
-#[test]
-fn short_proofs(rt: HostRuntime) -> Result<(), Fail> {
-    agrees(&rt, rt.alloc(), SHORT_PROOFS)
-}
-
-const MALFORMED_PROOFS: &str = "
+/// Bytes that are no proof.
+pub const MALFORMED_PROOFS: &str = "
 new
 proof 05 81 00
 > ParseError 1 BadNumber
@@ -105,12 +95,8 @@ proof 00 02 09 09 06 00 00 01 00 02 0D
 > ParseError 2 OutOfRange
 ";
 
-#[test]
-fn malformed_proofs(rt: HostRuntime) -> Result<(), Fail> {
-    agrees(&rt, rt.alloc(), MALFORMED_PROOFS)
-}
-
-const REFUSED_PROOFS: &str = "
+/// Proofs whose first step is refused.
+pub const REFUSED_PROOFS: &str = "
 new
 proof 06 00 02 00 01 00
 > CheckFailed 1 Tautology
@@ -153,12 +139,8 @@ proof 00 02 09 09 06 00 00 01 FF 01 0D
 > CheckFailed 2 NoClauseForHash
 ";
 
-#[test]
-fn refused_proofs(rt: HostRuntime) -> Result<(), Fail> {
-    agrees(&rt, rt.alloc(), REFUSED_PROOFS)
-}
-
-const REFUTATIONS: &str = "
+/// Refutations of the four clauses over two variables, by hashes of several widths.
+pub const REFUTATIONS: &str = "
 # With hashes of one bit, without a mark and with it.
 new
 given 1 2
@@ -202,12 +184,8 @@ proof 00 02 06 00 01 00 02 2A 08 95 02 93 75 AF C4 41 8C 63 82 54 FF E7 66 06 00
 > CheckFailed 2 NoClauseForHash
 ";
 
-#[test]
-fn refutations(rt: HostRuntime) -> Result<(), Fail> {
-    agrees(&rt, rt.alloc(), REFUTATIONS)
-}
-
-const SECOND_PROOFS: &str = "
+/// Proofs after proofs.
+pub const SECOND_PROOFS: &str = "
 # A second proof goes on where the first ended; steps are counted on.
 new
 proof 05 01 00
@@ -251,63 +229,129 @@ proof 00 02 09 09 09 00
 proof 00 02 09 09 0D
 ";
 
-#[test]
-fn second_proofs(rt: HostRuntime) -> Result<(), Fail> {
-    agrees(&rt, rt.alloc(), SECOND_PROOFS)
-}
-
-/// With hashes of one bit, [1] and then [].
-const NARROW: [u8; 16] = *b"\x09\x01\x06\x00\x01\x00\x02\x01\x00\x06\x00\x00\x02\x00\x01\x0D";
-
-/// Byte by byte, and all at once.
-#[test]
-fn beginnings(rt: HostRuntime) -> Result<(), Fail> {
-    lack_steps(&rt, rt.alloc(), 1)?;
-    lack_steps(&rt, rt.alloc(), usize::MAX)
-}
-
-/// The steps end at 2, 9, 15 and 16 bytes, whichever number of bytes a read gives.
-fn lack_steps(rt: &impl Abort, alloc: Global, size: usize) -> Result<(), Fail> {
-    for len in 0..NARROW.len() {
-        let step = match len {
-            0..2 => 1,
-            2..9 => 2,
-            9..15 => 3,
-            _ => 4,
-        };
-        let mut checker = Checker::new(alloc);
-        let proof = Cuts::of_size(&NARROW[..len], size);
-        lacks_step(rt, alloc, &mut checker, proof, step)?;
-    }
-    Ok(())
-}
-
-/// Over the four clauses of two variables, a proof ends where this step should stand.
-fn lacks_step(
-    rt: &impl Abort,
-    alloc: Global,
-    checker: &mut Checker,
-    proof: Cuts<'_>,
-    step: u64,
-) -> Result<(), Fail> {
-    for clause in ["1 2", "1 -2", "-1 2", "-1 -2"] {
-        given(alloc, checker, clause)?;
-    }
-    let seen = prove(alloc, checker, proof)?;
-    let expected = format!(in alloc; "ProofIncomplete {step}")?;
-    assert_eq!(rt; seen, expected);
-    Ok(())
-}
+/// Beginnings of a proof, whose steps end at 2, 9, 15 and 16 bytes: with hashes of one bit, [1] and
+/// then [].
+pub const BEGINNINGS: &str = "
+bare
+given 1 2
+given 1 -2
+given -1 2
+given -1 -2
+proof
+> ProofIncomplete 1
+bare
+given 1 2
+given 1 -2
+given -1 2
+given -1 -2
+proof 09
+> ProofIncomplete 1
+bare
+given 1 2
+given 1 -2
+given -1 2
+given -1 -2
+proof 09 01
+> ProofIncomplete 2
+bare
+given 1 2
+given 1 -2
+given -1 2
+given -1 -2
+proof 09 01 06
+> ProofIncomplete 2
+bare
+given 1 2
+given 1 -2
+given -1 2
+given -1 -2
+proof 09 01 06 00
+> ProofIncomplete 2
+bare
+given 1 2
+given 1 -2
+given -1 2
+given -1 -2
+proof 09 01 06 00 01
+> ProofIncomplete 2
+bare
+given 1 2
+given 1 -2
+given -1 2
+given -1 -2
+proof 09 01 06 00 01 00
+> ProofIncomplete 2
+bare
+given 1 2
+given 1 -2
+given -1 2
+given -1 -2
+proof 09 01 06 00 01 00 02
+> ProofIncomplete 2
+bare
+given 1 2
+given 1 -2
+given -1 2
+given -1 -2
+proof 09 01 06 00 01 00 02 01
+> ProofIncomplete 2
+bare
+given 1 2
+given 1 -2
+given -1 2
+given -1 -2
+proof 09 01 06 00 01 00 02 01 00
+> ProofIncomplete 3
+bare
+given 1 2
+given 1 -2
+given -1 2
+given -1 -2
+proof 09 01 06 00 01 00 02 01 00 06
+> ProofIncomplete 3
+bare
+given 1 2
+given 1 -2
+given -1 2
+given -1 -2
+proof 09 01 06 00 01 00 02 01 00 06 00
+> ProofIncomplete 3
+bare
+given 1 2
+given 1 -2
+given -1 2
+given -1 -2
+proof 09 01 06 00 01 00 02 01 00 06 00 00
+> ProofIncomplete 3
+bare
+given 1 2
+given 1 -2
+given -1 2
+given -1 -2
+proof 09 01 06 00 01 00 02 01 00 06 00 00 02
+> ProofIncomplete 3
+bare
+given 1 2
+given 1 -2
+given -1 2
+given -1 -2
+proof 09 01 06 00 01 00 02 01 00 06 00 00 02 00
+> ProofIncomplete 3
+bare
+given 1 2
+given 1 -2
+given -1 2
+given -1 -2
+proof 09 01 06 00 01 00 02 01 00 06 00 00 02 00 01
+> ProofIncomplete 4
+";
 
 /// Four input clauses and two derived ones.
 #[test]
 fn steps_are_counted(rt: HostRuntime) -> Result<(), Fail> {
-    let alloc = rt.alloc();
-    let mut formula = CnfFormula::new(alloc);
-    for clause in ["1 2", "1 -2", "-1 2", "-1 -2"] {
-        formula.add_clause(&lits(alloc, clause)?)?;
-    }
-    match count_steps(&Discard, alloc, &formula, NARROW.as_slice()) {
+    let formula = formula(rt.alloc(), "1 2|1 -2|-1 2|-1 -2|")?;
+    let proof = b"\x09\x01\x06\x00\x01\x00\x02\x01\x00\x06\x00\x00\x02\x00\x01\x0D".as_slice();
+    match count_steps(&Discard, rt.alloc(), &formula, proof) {
         Ok(count) => assert_eq!(rt; count, 6),
         Err(_) => return Err("the proof is refused".into()),
     }

@@ -2,16 +2,21 @@
 //!
 //! A line is
 //!
-//! - `new`: what follows is called of a new checker;
+//! - `new`: what follows is called of a new checker with boxes;
+//! - `bare`: what follows is called of a new checker without any;
 //! - a call, as in [`check_calls::calls`];
+//! - `formula CLAUSES`: adds a formula, each of whose clauses ends with a bar; where it is
+//!   accepted, the answer is how many clauses and variables it has;
 //! - `given LITS`: an input clause that is accepted, of which nothing more is said;
 //! - `> + STEP`, `> ~ STEP`: processors, or transcripts, are told this step by the call above;
 //! - `> ANSWER`: what the call above answers where it isn't `Ok`;
 //! - `# WORDS`: why the script goes on so.
 use check_calls::accepted::{given, register, register_transcript};
-use check_calls::calls::{first_word, make};
+use check_calls::answers::answer;
+use check_calls::calls::{first_word, lits, make};
 use check_vectors::boxes::{Faulty, StepList, Tally, TranscriptList};
 use checker_parts::processor::{ProofProcessor, ProofTranscriptProcessor};
+use sat_formula::CnfFormula;
 use std::alloc::Global;
 use std::process::Abort;
 use std::test::Fail;
@@ -37,10 +42,11 @@ fn played(alloc: Global, script: &str, size: usize) -> Result<String, Fail> {
             continue;
         }
         writeln!(seen, "{line}")?;
-        if line == "new" {
+        if line == "new" || line == "bare" {
             calls.clear();
             before = Seen::nothing(alloc);
-        } else if !line.starts_with('#') && !line.is_empty() {
+        }
+        if !line.starts_with('#') && !line.is_empty() {
             writeln!(calls, "{line}")?;
             let after = Seen::of(alloc, &calls, size)?;
             if first_word(line).0 != "given" {
@@ -71,7 +77,7 @@ impl Seen {
         }
     }
 
-    /// Makes the calls of these lines of a new checker with three processors and two transcripts.
+    /// Makes the calls of these lines of a new checker.
     fn of(alloc: Global, calls: &str, size: usize) -> Result<Seen, Fail> {
         let mut checker = Checker::new(alloc);
         let answer = last_answer(alloc, &mut checker, calls, size)?;
@@ -96,22 +102,21 @@ impl Seen {
     }
 }
 
-/// Registers three processors and two transcripts, makes the calls of these lines, and gives the
-/// answer to the last one.
+/// Makes the calls of these lines, and gives the answer to the last one.
 fn last_answer(
     alloc: Global,
     checker: &mut Checker,
     calls: &str,
     size: usize,
 ) -> Result<String, Fail> {
-    register_boxes(alloc, checker)?;
     let mut answer = String::new(alloc);
     for call in calls.lines() {
-        answer = make_or_give(alloc, checker, call, size)?;
+        answer = answer_to(alloc, checker, call, size)?;
     }
     Ok(answer)
 }
 
+/// Registers three processors and two transcripts.
 fn register_boxes(alloc: Global, checker: &mut Checker) -> Result<(), Fail> {
     register(checker, Box::new(alloc, StepList::new(alloc))?)?;
     register(checker, Box::new(alloc, Faulty::after(u64::MAX))?)?;
@@ -121,20 +126,22 @@ fn register_boxes(alloc: Global, checker: &mut Checker) -> Result<(), Fail> {
 }
 
 fn steps_listed(alloc: Global, processors: &[Box<dyn ProofProcessor>]) -> Result<String, Fail> {
-    let [list, _, tally] = processors else {
-        return Err("not these processors".into());
-    };
-    Ok(counted(list.output(), tally.output())?.to_string(alloc)?)
+    match processors {
+        [] => Ok(String::new(alloc)),
+        [list, _, tally] => Ok(counted(list.output(), tally.output())?.to_string(alloc)?),
+        _ => Err("not these processors".into()),
+    }
 }
 
 fn transcript_listed(
     alloc: Global,
     transcripts: &[Box<dyn ProofTranscriptProcessor>],
 ) -> Result<String, Fail> {
-    let [list, tally] = transcripts else {
-        return Err("not these transcripts".into());
-    };
-    Ok(counted(list.output(), tally.output())?.to_string(alloc)?)
+    match transcripts {
+        [] => Ok(String::new(alloc)),
+        [list, tally] => Ok(counted(list.output(), tally.output())?.to_string(alloc)?),
+        _ => Err("not these transcripts".into()),
+    }
 }
 
 /// Writes the lines of a list that are new.
@@ -159,18 +166,43 @@ fn counted<'a>(list: &'a [u8], strokes: &[u8]) -> Result<&'a str, Fail> {
     Ok(text)
 }
 
-/// Makes the call of a line, or adds a clause that is given.
-fn make_or_give(
+/// Does what a line says.
+fn answer_to(
     alloc: Global,
     checker: &mut Checker,
     line: &str,
     size: usize,
 ) -> Result<String, Fail> {
     match first_word(line) {
+        ("new", _) => {
+            register_boxes(alloc, checker)?;
+            Ok("Ok".to_string(alloc)?)
+        }
+        ("bare", _) => Ok("Ok".to_string(alloc)?),
         ("given", numbers) => {
             given(alloc, checker, numbers)?;
             Ok(String::new(alloc))
         }
+        ("formula", clauses) => {
+            let formula = formula(alloc, clauses)?;
+            add_formula(alloc, checker, &formula)
+        }
         _ => make(alloc, checker, line, size),
     }
+}
+
+fn add_formula(alloc: Global, checker: &mut Checker, formula: &CnfFormula) -> Result<String, Fail> {
+    match checker.add_formula(formula) {
+        Ok(()) => Ok(format!(in alloc; "{} {}", formula.len(), formula.var_count())?),
+        Err(fault) => Ok(answer(alloc, Err(fault))?),
+    }
+}
+
+/// The formula of these clauses, each of which ends with a bar.
+pub fn formula(alloc: Global, clauses: &str) -> Result<CnfFormula, Fail> {
+    let mut formula = CnfFormula::new(alloc);
+    for clause in clauses.replace(alloc, '|', "\n")?.lines() {
+        formula.add_clause(&lits(alloc, clause)?)?;
+    }
+    Ok(formula)
 }

@@ -6,6 +6,7 @@ use sat_formula::DimacsKind;
 use std::alloc::Global;
 use std::io;
 use std::io::ErrorKind;
+use std::process::Abort;
 use std::test::Fail;
 
 fn refused(alloc: Global, msg: CheckCause) -> CheckerError {
@@ -110,44 +111,48 @@ fn causes(rt: HostRuntime) -> Result<(), Fail> {
     Ok(())
 }
 
+/// The text of an error is this.
+fn says(rt: &impl Abort, alloc: Global, error: CheckerError, text: &str) -> Result<(), Fail> {
+    let seen = error.to_string(alloc)?;
+    assert_eq!(rt; seen.as_str(), text);
+    Ok(())
+}
+
 #[test]
 fn checker_errors(rt: HostRuntime) -> Result<(), Fail> {
     let alloc = rt.alloc();
     let incomplete = CheckerError::ProofIncomplete { step: 1 };
-    assert_eq!(rt;
-        incomplete.to_string(alloc)?.as_str(),
-        "step 1: Unexpected end of proof file"
-    );
+    says(
+        &rt,
+        alloc,
+        incomplete,
+        "step 1: Unexpected end of proof file",
+    )?;
+    let cause = io::Error::from(ErrorKind::UnexpectedEof).to_string(alloc)?;
+    let text = format!(in alloc; "step 2: Error reading proof file: {cause}")?;
     let unread = CheckerError::IoError {
         step: 2,
         cause: io::Error::from(ErrorKind::UnexpectedEof),
     };
-    let cause = io::Error::from(ErrorKind::UnexpectedEof).to_string(alloc)?;
-    let expected = format!(in alloc; "step 2: Error reading proof file: {cause}")?;
-    assert_eq!(rt; unread.to_string(alloc)?, expected);
+    says(&rt, alloc, unread, &text)?;
     let malformed = CheckerError::ParseError {
         step: 3,
         cause: MalformedStep::BadNumber,
     };
-    assert_eq!(rt;
-        malformed.to_string(alloc)?.as_str(),
-        "step 3: Could not parse proof step: malformed number"
-    );
+    let text = "step 3: Could not parse proof step: malformed number";
+    says(&rt, alloc, malformed, text)?;
     let fault = CheckerError::ProofProcessorError {
         cause: anyhow!("disk full"),
     };
-    assert_eq!(rt;
-        fault.to_string(alloc)?.as_str(),
-        "Error in proof processor: disk full"
-    );
-    assert_eq!(rt;
-        CheckerError::OutOfMemory.to_string(alloc)?.as_str(),
-        "out of memory"
-    );
-    assert_eq!(rt;
-        CheckerError::Failed.to_string(alloc)?.as_str(),
-        "checker has failed"
-    );
+    says(&rt, alloc, fault, "Error in proof processor: disk full")?;
+    says(&rt, alloc, CheckerError::OutOfMemory, "out of memory")?;
+    says(&rt, alloc, CheckerError::Failed, "checker has failed")
+}
+
+/// The text of an error in reading a formula is this.
+fn tells(rt: &impl Abort, alloc: Global, error: DimacsError, text: &str) -> Result<(), Fail> {
+    let seen = error.to_string(alloc)?;
+    assert_eq!(rt; seen.as_str(), text);
     Ok(())
 }
 
@@ -165,19 +170,15 @@ fn dimacs_errors(rt: HostRuntime) -> Result<(), Fail> {
         ),
     ];
     for (kind, text) in rows {
-        let malformed = DimacsError::Malformed { line: 4, kind };
-        assert_eq!(rt; malformed.to_string(alloc)?.as_str(), text);
+        tells(&rt, alloc, DimacsError::Malformed { line: 4, kind }, text)?;
     }
     let cause = io::Error::from(ErrorKind::UnexpectedEof).to_string(alloc)?;
+    let text = format!(in alloc; "error reading formula: {cause}")?;
     let unread = DimacsError::Read(io::Error::from(ErrorKind::UnexpectedEof));
-    let expected = format!(in alloc; "error reading formula: {cause}")?;
-    assert_eq!(rt; unread.to_string(alloc)?, expected);
+    tells(&rt, alloc, unread, &text)?;
     let refused = DimacsError::Checker(refused(alloc, CheckCause::NotSampling));
-    assert_eq!(rt;
-        refused.to_string(alloc)?.as_str(),
-        "step 7: Checking proof failed: variable is not a sampling variable"
-    );
+    let text = "step 7: Checking proof failed: variable is not a sampling variable";
+    tells(&rt, alloc, refused, text)?;
     let memory = DimacsError::Checker(CheckerError::OutOfMemory);
-    assert_eq!(rt; memory.to_string(alloc)?.as_str(), "out of memory");
-    Ok(())
+    tells(&rt, alloc, memory, "out of memory")
 }

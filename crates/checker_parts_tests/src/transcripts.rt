@@ -7,21 +7,31 @@ use checker_parts::step::{
 };
 use checker_parts::transcript::Transcript;
 use checker_parts::variables::Variables;
+use std::alloc::Global;
+use std::process::Abort;
 use std::test::Fail;
 
 #[test]
 fn clauses(rt: HostRuntime) -> Result<(), Fail> {
-    let alloc = rt.alloc();
-    let mut variables = Variables::new(alloc);
+    let mut variables = Variables::new(rt.alloc());
+    let mut transcript = Transcript::new(rt.alloc());
+    tells_clauses(&rt, rt.alloc(), &mut variables, &mut transcript)
+}
+
+fn tells_clauses(
+    rt: &impl Abort,
+    alloc: Global,
+    variables: &mut Variables,
+    transcript: &mut Transcript,
+) -> Result<(), Fail> {
     variables.know(2)?;
     let _propagations = ResolutionPropagations {};
     let clause = lits(alloc, &[1, -2])?;
-    let mut transcript = Transcript::new(alloc);
     let step = CheckedProofStep::AddClause {
         id: 0,
         clause: &clause,
     };
-    match transcript.transcript_step(&step, CheckerData(&variables))? {
+    match transcript.transcript_step(&step, CheckerData(variables))? {
         Some(ProofTranscriptStep::AddClause { clause: told }) => {
             assert_eq!(rt; told, clause.as_slice());
         }
@@ -33,17 +43,24 @@ fn clauses(rt: HostRuntime) -> Result<(), Fail> {
         clause: &[],
         propagations: &[0],
     };
-    let told = transcript.transcript_step(&empty, CheckerData(&variables))?;
+    let told = transcript.transcript_step(&empty, CheckerData(variables))?;
     assert!(rt; matches!(&told, Some(ProofTranscriptStep::Unsat)));
     Ok(())
 }
 
 #[test]
 fn user_vars(rt: HostRuntime) -> Result<(), Fail> {
-    let alloc = rt.alloc();
-    let variables = Variables::new(alloc);
+    let variables = Variables::new(rt.alloc());
+    let mut transcript = Transcript::new(rt.alloc());
+    tells_user_var(&rt, &variables, &mut transcript)
+}
+
+fn tells_user_var(
+    rt: &impl Abort,
+    variables: &Variables,
+    transcript: &mut Transcript,
+) -> Result<(), Fail> {
     let _propagations = ResolutionPropagations {};
-    let mut transcript = Transcript::new(alloc);
     let step = CheckedProofStep::UserVar {
         var: var(0)?,
         user_var: Some(CheckedUserVar {
@@ -52,7 +69,7 @@ fn user_vars(rt: HostRuntime) -> Result<(), Fail> {
             new_var: true,
         }),
     };
-    match transcript.transcript_step(&step, CheckerData(&variables))? {
+    match transcript.transcript_step(&step, CheckerData(variables))? {
         Some(ProofTranscriptStep::ObserveInternalVar { var: told }) => {
             assert_eq!(rt; told.index(), 1);
         }

@@ -18,21 +18,25 @@ const CLAUSES: [(&str, usize); 5] = [
 /// Adds clauses to a formula. A refused one leaves it as it was, and is added once more.
 pub fn add_clauses(alloc: Global) -> Played {
     let mut formula = CnfFormula::new(alloc);
+    add_all(&mut formula)
+}
+
+fn add_all(formula: &mut CnfFormula) -> Played {
     let mut memory = Memory::Ample;
     let mut vars = 0;
     for (number, (numbers, vars_after)) in CLAUSES.iter().enumerate() {
         let clause = lits(numbers).ok_or(Wrong::NoCall)?;
         if formula.add_clause(clause.as_slice()).is_err() {
             memory = Memory::Wanting;
-            is_formula(&formula, number, vars)?;
+            is_formula(formula, number, vars)?;
             if formula.add_clause(clause.as_slice()).is_err() {
-                is_formula(&formula, number, vars)?;
+                is_formula(formula, number, vars)?;
                 return Ok(memory);
             }
         }
         vars = *vars_after;
     }
-    is_formula(&formula, CLAUSES.len(), vars)?;
+    is_formula(formula, CLAUSES.len(), vars)?;
     Ok(memory)
 }
 
@@ -51,19 +55,23 @@ fn is_formula(formula: &CnfFormula, count: usize, vars: usize) -> Result<(), Sto
 /// Reads the clauses of a text. Once memory is wanted there are no more, and none is half read.
 pub fn read_clauses(alloc: Global) -> Played {
     let mut reader = DimacsReader::new(alloc, Bytewise::new(b"p cnf 9 9\n1 -2 0\n2 0\n"));
+    read_both(alloc, &mut reader)
+}
+
+fn read_both(alloc: Global, reader: &mut DimacsReader<Bytewise<'_>>) -> Played {
     let mut clause = Vec::new(alloc);
     for numbers in ["1 -2", "2"] {
         match reader.next_clause(&mut clause) {
             Ok(true) => is_clause(&clause, numbers)?,
             Err(DimacsFault::OutOfMemory) => {
                 is_clause(&clause, "")?;
-                is_ended(&mut reader, &mut clause)?;
+                is_ended(reader, &mut clause)?;
                 return Ok(Memory::Wanting);
             }
             _ => return Err(Stop::Wrong(Wrong::Answer)),
         }
     }
-    is_ended(&mut reader, &mut clause)?;
+    is_ended(reader, &mut clause)?;
     Ok(Memory::Ample)
 }
 
@@ -77,6 +85,14 @@ pub fn read_large_variables(alloc: Global) -> Played {
 /// nothing after it.
 fn read_one(alloc: Global, text: &[u8], code: Option<usize>) -> Played {
     let mut reader = DimacsReader::new(alloc, Bytewise::new(text));
+    read_literal(alloc, &mut reader, code)
+}
+
+fn read_literal(
+    alloc: Global,
+    reader: &mut DimacsReader<Bytewise<'_>>,
+    code: Option<usize>,
+) -> Played {
     let mut clause = Vec::new(alloc);
     let memory = match (reader.next_clause(&mut clause), code) {
         (Ok(true), Some(code)) => has_code(&clause, code)?,
@@ -84,7 +100,7 @@ fn read_one(alloc: Global, text: &[u8], code: Option<usize>) -> Played {
         (Err(DimacsFault::Malformed { line, kind }), None) => is_too_large(line, kind)?,
         _ => return Err(Stop::Wrong(Wrong::Answer)),
     };
-    is_ended(&mut reader, &mut clause)?;
+    is_ended(reader, &mut clause)?;
     Ok(memory)
 }
 

@@ -61,6 +61,10 @@ pub const LINES: &str = "9 1 0 1 2 0\n10 0 9 3 4 0\n";
 /// Hands steps to a writer. A refused one leaves its output as it was, and is handed in once more.
 pub fn write_lines(alloc: Global) -> Played {
     let mut writer = LratWriter::new(alloc, 4);
+    write_all(&mut writer)
+}
+
+fn write_all(writer: &mut LratWriter) -> Played {
     let mut memory = Memory::Ample;
     let mut before = "";
     for (place, row) in STEPS.iter().enumerate() {
@@ -77,15 +81,15 @@ pub fn write_lines(alloc: Global) -> Played {
                 propagations: row.propagations,
             }
         };
-        if !is_taken(&mut writer, &step)? {
+        if !is_taken(writer, &step)? {
             memory = Memory::Wanting;
-            shows(&writer, before)?;
-            if !is_taken(&mut writer, &step)? {
-                shows(&writer, before)?;
+            shows(writer, before)?;
+            if !is_taken(writer, &step)? {
+                shows(writer, before)?;
                 return Ok(memory);
             }
         }
-        shows(&writer, row.written)?;
+        shows(writer, row.written)?;
         before = row.written;
     }
     Ok(memory)
@@ -114,11 +118,14 @@ pub fn check_lines(alloc: Global) -> Played {
     let Some(formula) = formula(alloc)? else {
         return Ok(Memory::Wanting);
     };
-    let mut checker = match HintChecker::new(alloc, &formula) {
-        Ok(checker) => checker,
-        Err(HintFault::OutOfMemory) => return Ok(Memory::Wanting),
-        Err(_) => return Err(Stop::Wrong(Wrong::Answer)),
-    };
+    match HintChecker::new(alloc, &formula) {
+        Ok(mut checker) => check_both(&mut checker),
+        Err(HintFault::OutOfMemory) => Ok(Memory::Wanting),
+        Err(_) => Err(Stop::Wrong(Wrong::Answer)),
+    }
+}
+
+fn check_both(checker: &mut HintChecker) -> Played {
     for (line, answer) in [(UNIT_LINE, false), (EMPTY_LINE, true)] {
         match checker.check(line.as_bytes()) {
             Ok(given) if given == answer => {}

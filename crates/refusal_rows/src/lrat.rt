@@ -46,9 +46,13 @@ pub fn check_lines(alloc: Global) -> Played {
     let Some(formula) = formula(alloc)? else {
         return Ok(Memory::Wanting);
     };
-    let Ok(mut checker) = LratChecker::new(alloc, &formula) else {
-        return Ok(Memory::Wanting);
-    };
+    match LratChecker::new(alloc, &formula) {
+        Ok(mut checker) => check_both(&mut checker),
+        Err(_) => Ok(Memory::Wanting),
+    }
+}
+
+fn check_both(checker: &mut LratChecker) -> Played {
     for addition in ADDITIONS.iter() {
         let clause = lits(addition.clause).ok_or(Wrong::NoCall)?;
         let line = LratLine::Add {
@@ -56,7 +60,7 @@ pub fn check_lines(alloc: Global) -> Played {
             clause: clause.as_slice(),
             hints: addition.hints,
         };
-        if !is_accepted(&mut checker, line)? {
+        if !is_accepted(checker, line)? {
             return Ok(Memory::Wanting);
         }
     }

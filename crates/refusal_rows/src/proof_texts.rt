@@ -98,6 +98,10 @@ fn is_written(out: &[u8], mark: &[u8], end: usize) -> Result<(), Stop> {
 pub fn read_steps(alloc: Global) -> Played {
     let mut bytes = Bytewise::new(PROOF);
     let mut reader = StepReader::new(alloc, &mut bytes);
+    read_all(&mut reader)
+}
+
+fn read_all(reader: &mut StepReader<&mut Bytewise<'_>>) -> Played {
     let unit = [lit("1").ok_or(Wrong::NoCall)?];
     for place in 0..ENDS.len() {
         match reader.next_step() {

@@ -1,7 +1,9 @@
 //! Worked texts over readers of any cut, and reads that fail.
 use sat_formula::{DimacsFault, DimacsReader, Lit};
+use std::alloc::Global;
 use std::io;
 use std::io::{ErrorKind, Read};
+use std::process::Abort;
 use std::test::Fail;
 
 /// So many bytes a read, and a failure at the read of this number, counted from 1.
@@ -20,39 +22,46 @@ impl Read for Pieces<'_> {
             return Err(io::Error::new(ErrorKind::Interrupted, "broken"));
         }
         let count = self.size.min(buf.len()).min(self.text.len());
-        for i in 0..count {
-            buf[i] = self.text[i];
-        }
+        buf[..count].copy_from_slice(&self.text[..count]);
         self.text = &self.text[count..];
         Ok(count)
     }
 }
 
 /// Each clause by its numbers, the text of a fault and how many literals it left, to the end.
-fn shown<R: Read + Drop>(rt: &HostRuntime, inner: R) -> Result<String, Fail> {
-    let mut reader = DimacsReader::new(rt.alloc(), inner);
-    let mut lits: Vec<Lit> = Vec::new(rt.alloc());
-    let mut all = String::new(rt.alloc());
+fn shown<R: Read + Drop>(alloc: Global, inner: R) -> Result<String, Fail> {
+    let mut reader = DimacsReader::new(alloc, inner);
+    all_shown(alloc, &mut reader)
+}
+
+fn all_shown<R: Read + Drop>(alloc: Global, reader: &mut DimacsReader<R>) -> Result<String, Fail> {
+    let mut lits: Vec<Lit> = Vec::new(alloc);
+    let mut all = String::new(alloc);
     for _ in 0..100u32 {
-        match reader.next_clause(&mut lits) {
-            Ok(true) => {
-                write!(all, "[")?;
-                for lit in lits.iter() {
-                    write!(all, "{} ", lit.to_dimacs())?;
-                }
-                write!(all, "]")?;
-            }
-            Ok(false) => {
-                write!(all, "end")?;
-                break;
-            }
-            Err(fault) => {
-                let kept = lits.len();
-                write!(all, "{fault}, {kept} kept, ")?;
-            }
+        let answer = reader.next_clause(&mut lits);
+        let ended = matches!(&answer, Ok(false));
+        show(&mut all, answer, &lits)?;
+        if ended {
+            break;
         }
     }
     Ok(all)
+}
+
+fn show(all: &mut String, answer: Result<bool, DimacsFault>, lits: &[Lit]) -> Result<(), Fail> {
+    match answer {
+        Ok(true) => show_clause(all, lits),
+        Ok(false) => Ok(write!(all, "end")?),
+        Err(fault) => Ok(write!(all, "{fault}, {} kept, ", lits.len())?),
+    }
+}
+
+fn show_clause(all: &mut String, lits: &[Lit]) -> Result<(), Fail> {
+    write!(all, "[")?;
+    for lit in lits {
+        write!(all, "{} ", lit.to_dimacs())?;
+    }
+    Ok(write!(all, "]")?)
 }
 
 /// Texts with their answers, each beside the number of bytes with which it is known; one more than
@@ -95,8 +104,8 @@ const EXAMPLES: [(&[u8], &[(usize, &str)]); 16] = [
 ];
 
 /// What is answered where so many bytes are read and the next read fails.
-fn expected(rt: &HostRuntime, answers: &[(usize, &str)], read: usize) -> Result<String, Fail> {
-    let mut all = String::new(rt.alloc());
+fn expected(alloc: Global, answers: &[(usize, &str)], read: usize) -> Result<String, Fail> {
+    let mut all = String::new(alloc);
     for (at, answer) in answers {
         if *at > read {
             write!(all, "error reading formula: broken, 0 kept, ")?;
@@ -109,87 +118,92 @@ fn expected(rt: &HostRuntime, answers: &[(usize, &str)], read: usize) -> Result<
 }
 
 #[test]
-fn examples_at_once(rt: HostRuntime) -> Result<(), Fail> {
+fn examples(rt: HostRuntime) -> Result<(), Fail> {
     for (text, answers) in EXAMPLES {
-        let whole = expected(&rt, answers, usize::MAX)?;
-        assert_eq!(rt; shown(&rt, text)?.as_str(), whole.as_str());
+        is_answered(&rt, rt.alloc(), text, answers)?;
     }
     Ok(())
 }
 
-#[test]
-fn examples_in_pieces(rt: HostRuntime) -> Result<(), Fail> {
-    for (text, answers) in EXAMPLES {
-        let whole = expected(&rt, answers, usize::MAX)?;
-        for size in 1..4usize {
-            let pieces = Pieces {
-                text,
-                size,
-                reads: 0,
-                fails_at: 0,
-            };
-            assert_eq!(rt;
-                shown(&rt, pieces)?.as_str(),
-                whole.as_str(),
-                "by {size} bytes"
-            );
-        }
+/// The text is answered so at once, in pieces, and where any of its reads fails.
+fn is_answered(
+    rt: &impl Abort,
+    alloc: Global,
+    text: &[u8],
+    answers: &[(usize, &str)],
+) -> Result<(), Fail> {
+    for size in [usize::MAX, 1, 2, 3] {
+        is_shown(rt, alloc, text, answers, size, usize::MAX)?;
+    }
+    for read in 0..=text.len() {
+        is_shown(rt, alloc, text, answers, 1, read)?;
     }
     Ok(())
 }
 
-#[test]
-fn examples_cut_by_failing_reads(rt: HostRuntime) -> Result<(), Fail> {
-    for (text, answers) in EXAMPLES {
-        for read in 0..text.len().saturating_add(1) {
-            let cut = expected(&rt, answers, read)?;
-            let fails_at = read.saturating_add(1);
-            let pieces = Pieces {
-                text,
-                size: 1,
-                reads: 0,
-                fails_at,
-            };
-            assert_eq!(rt;
-                shown(&rt, pieces)?.as_str(),
-                cut.as_str(),
-                "after {read} bytes"
-            );
-        }
-    }
+/// So many bytes a read, of which the one after so many fails.
+fn is_shown(
+    rt: &impl Abort,
+    alloc: Global,
+    text: &[u8],
+    answers: &[(usize, &str)],
+    size: usize,
+    read: usize,
+) -> Result<(), Fail> {
+    let pieces = Pieces {
+        text,
+        size,
+        reads: 0,
+        fails_at: read.saturating_add(1),
+    };
+    let seen = shown(alloc, pieces)?;
+    let wanted = expected(alloc, answers, read)?;
+    assert_eq!(rt; seen, wanted, "by {size} bytes, {read} read");
     Ok(())
 }
 
 /// A clause over more than one buffer, a long comment and a long run of blanks.
+fn long_text(alloc: Global) -> Result<String, Fail> {
+    let comment = "7".repeat(alloc, 40000)?;
+    let blanks = " ".repeat(alloc, 40000)?;
+    let clause = "-12 ".repeat(alloc, 20000)?;
+    Ok(format!(in alloc; "c{comment}\n{blanks}{clause}0 x\n")?)
+}
+
 #[test]
 fn long_texts(rt: HostRuntime) -> Result<(), Fail> {
-    let mut text: Vec<u8> = Vec::new(rt.alloc());
-    text.push(b'c')?;
-    for _ in 0..40000u32 {
-        text.push(b'7')?;
+    let text = long_text(rt.alloc())?;
+    let mut reader = DimacsReader::new(rt.alloc(), text.as_bytes());
+    reads_long_clause(&rt, rt.alloc(), &mut reader)
+}
+
+fn reads_long_clause(
+    rt: &impl Abort,
+    alloc: Global,
+    reader: &mut DimacsReader<&[u8]>,
+) -> Result<(), Fail> {
+    let mut lits: Vec<Lit> = Vec::new(alloc);
+    let first = reader.next_clause(&mut lits);
+    let of_first = lits.len();
+    let all_alike = lits.iter().all(|lit| lit.to_dimacs() == -12);
+    let (vars, clauses) = (reader.var_count(), reader.clause_count());
+    let second = reader.next_clause(&mut lits);
+    let third = reader.next_clause(&mut lits);
+    let seen = [
+        ("a clause", matches!(&first, Ok(true))),
+        ("its length", of_first == 20000),
+        ("its literals", all_alike),
+        ("variables", vars == 12),
+        ("clauses", clauses == 1),
+        (
+            "a fault",
+            matches!(&second, Err(DimacsFault::Malformed { line: 2, kind: _ })),
+        ),
+        ("the end", matches!(&third, Ok(false))),
+        ("clauses at the end", reader.clause_count() == 1),
+    ];
+    for (what, holds) in seen {
+        assert!(rt; holds, "{what}");
     }
-    text.push(b'\n')?;
-    for _ in 0..40000u32 {
-        text.push(b' ')?;
-    }
-    for _ in 0..20000u32 {
-        text.extend_from_slice(b"-12 ".as_slice())?;
-    }
-    text.extend_from_slice(b"0 x\n".as_slice())?;
-    let mut reader = DimacsReader::new(rt.alloc(), text.as_slice());
-    let mut lits: Vec<Lit> = Vec::new(rt.alloc());
-    assert!(rt; reader.next_clause(&mut lits)?);
-    assert_eq!(rt; lits.len(), 20000);
-    for lit in lits.iter() {
-        assert_eq!(rt; lit.to_dimacs(), -12);
-    }
-    assert_eq!(rt; reader.var_count(), 12);
-    assert_eq!(rt; reader.clause_count(), 1);
-    match reader.next_clause(&mut lits) {
-        Err(DimacsFault::Malformed { line, kind: _ }) => assert_eq!(rt; line, 2),
-        _ => assert!(rt; false),
-    }
-    assert!(rt; !reader.next_clause(&mut lits)?);
-    assert_eq!(rt; reader.clause_count(), 1);
     Ok(())
 }

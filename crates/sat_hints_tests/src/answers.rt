@@ -131,12 +131,16 @@ fn answers_are(
 ) -> Result<bool, Fail> {
     let formula = formula(rt, clauses)?;
     let mut checker = HintChecker::new(rt.alloc(), &formula)?;
+    Ok(all_answered(&mut checker, texts))
+}
+
+fn all_answered(checker: &mut HintChecker, texts: &[(&[u8], Answer)]) -> bool {
     for (text, answer) in texts {
         if checker.check(text) != *answer {
-            return Ok(false);
+            return false;
         }
     }
-    Ok(true)
+    true
 }
 
 #[test]

@@ -1,6 +1,7 @@
 //! Lines that say nothing of hints.
 use sat_formula::CnfFormula;
 use sat_hints::{HintChecker, HintFault};
+use std::alloc::Global;
 use std::test::Fail;
 
 const MALFORMED: [&[u8]; 46] = [
@@ -61,12 +62,18 @@ const MALFORMED: [&[u8]; 46] = [
 fn malformed_lines(rt: HostRuntime) -> Result<(), Fail> {
     let formula = CnfFormula::new(rt.alloc());
     for line in MALFORMED {
-        let mut checker = HintChecker::new(rt.alloc(), &formula)?;
-        assert_eq!(rt;
-            checker.check(line),
-            Err(HintFault::Malformed { line: 1 }),
-            "{line:?}"
-        );
+        let answer = answer_of_new(rt.alloc(), &formula, line)?;
+        assert_eq!(rt; answer, Err(HintFault::Malformed { line: 1 }), "{line:?}");
     }
     Ok(())
+}
+
+/// What a new checker answers.
+fn answer_of_new(
+    alloc: Global,
+    formula: &CnfFormula,
+    line: &[u8],
+) -> Result<Result<bool, HintFault>, Fail> {
+    let mut checker = HintChecker::new(alloc, formula)?;
+    Ok(checker.check(line))
 }

@@ -48,19 +48,18 @@ fn derive(
     }))
 }
 
-/// A writer that was told these input clauses, under the ids from 0 on.
-fn told(
+/// Tells these input clauses, under the ids from 0 on.
+fn tell(
     rt: &impl Abort,
     alloc: Global,
-    announced: u64,
+    writer: &mut LratWriter,
     clauses: &[&[i64]],
-) -> Result<LratWriter, Fail> {
-    let mut writer = LratWriter::new(alloc, announced);
+) -> Result<(), Fail> {
     for (id, numbers) in clauses.iter().enumerate() {
-        assert_eq!(rt; add(alloc, &mut writer, id as u64, numbers)?, Ok(()));
+        assert_eq!(rt; add(alloc, writer, id as u64, numbers)?, Ok(()));
     }
-    wrote(rt, &writer, "");
-    Ok(writer)
+    wrote(rt, writer, "");
+    Ok(())
 }
 
 /// The text is this.
@@ -70,21 +69,29 @@ fn wrote(rt: &impl Abort, writer: &LratWriter, text: &str) {
 
 #[test]
 fn a_refutation(rt: HostRuntime) -> Result<(), Fail> {
-    let alloc = rt.alloc();
+    let mut writer = LratWriter::new(rt.alloc(), 4);
+    refutes(&rt, rt.alloc(), &mut writer)
+}
+
+fn refutes(rt: &impl Abort, alloc: Global, writer: &mut LratWriter) -> Result<(), Fail> {
     let clauses: [&[i64]; 4] = [&[1, 2], &[1, -2], &[-1, 2], &[-1, -2]];
-    let mut writer = told(&rt, alloc, 4, &clauses)?;
-    assert_eq!(rt; derive(alloc, &mut writer, 4, &[1], &[0, 1])?, Ok(()));
-    wrote(&rt, &writer, "9 1 0 1 2 0\n");
-    assert_eq!(rt; derive(alloc, &mut writer, 5, &[], &[4, 2, 3])?, Ok(()));
-    wrote(&rt, &writer, "9 1 0 1 2 0\n10 0 9 3 4 0\n");
+    tell(rt, alloc, writer, &clauses)?;
+    assert_eq!(rt; derive(alloc, writer, 4, &[1], &[0, 1])?, Ok(()));
+    wrote(rt, writer, "9 1 0 1 2 0\n");
+    assert_eq!(rt; derive(alloc, writer, 5, &[], &[4, 2, 3])?, Ok(()));
+    wrote(rt, writer, "9 1 0 1 2 0\n10 0 9 3 4 0\n");
     Ok(())
 }
 
 #[test]
 fn repeated_clauses_have_numbers(rt: HostRuntime) -> Result<(), Fail> {
-    let alloc = rt.alloc();
+    let mut writer = LratWriter::new(rt.alloc(), 3);
+    counts_repeated(&rt, rt.alloc(), &mut writer)
+}
+
+fn counts_repeated(rt: &impl Abort, alloc: Global, writer: &mut LratWriter) -> Result<(), Fail> {
     let _propagations = ResolutionPropagations {};
-    let mut writer = told(&rt, alloc, 3, &[&[1, 2]])?;
+    tell(rt, alloc, writer, &[&[1, 2]])?;
     let clause = &lits(alloc, &[1, 2])?;
     let repeated = CheckedProofStep::DuplicatedClause {
         id: 1,
@@ -92,7 +99,7 @@ fn repeated_clauses_have_numbers(rt: HostRuntime) -> Result<(), Fail> {
         clause,
     };
     assert_eq!(rt; writer.write_step(&repeated), Ok(()));
-    assert_eq!(rt; add(alloc, &mut writer, 2, &[1])?, Ok(()));
+    assert_eq!(rt; add(alloc, writer, 2, &[1])?, Ok(()));
     let deletion = CheckedProofStep::DeleteAtClause {
         id: 0,
         keep_as_redundant: false,
@@ -100,28 +107,36 @@ fn repeated_clauses_have_numbers(rt: HostRuntime) -> Result<(), Fail> {
         propagations: &[2],
     };
     assert_eq!(rt; writer.write_step(&deletion), Ok(()));
-    wrote(&rt, &writer, "3 d 1 0\n");
+    wrote(rt, writer, "3 d 1 0\n");
     Ok(())
 }
 
 #[test]
 fn tautologies_have_numbers(rt: HostRuntime) -> Result<(), Fail> {
-    let alloc = rt.alloc();
+    let mut writer = LratWriter::new(rt.alloc(), 2);
+    counts_tautologies(&rt, rt.alloc(), &mut writer)
+}
+
+fn counts_tautologies(rt: &impl Abort, alloc: Global, writer: &mut LratWriter) -> Result<(), Fail> {
     let _propagations = ResolutionPropagations {};
-    let mut writer = told(&rt, alloc, 2, &[&[1, 2]])?;
+    tell(rt, alloc, writer, &[&[1, 2]])?;
     let clause = &lits(alloc, &[2, -2])?;
     let tautology = CheckedProofStep::TautologicalClause { id: 1, clause };
     assert_eq!(rt; writer.write_step(&tautology), Ok(()));
-    assert_eq!(rt; derive(alloc, &mut writer, 2, &[-1, 2], &[1, 2])?, Ok(()));
-    wrote(&rt, &writer, "5 -1 2 0 2 5 0\n");
+    assert_eq!(rt; derive(alloc, writer, 2, &[-1, 2], &[1, 2])?, Ok(()));
+    wrote(rt, writer, "5 -1 2 0 2 5 0\n");
     Ok(())
 }
 
 #[test]
 fn input_clauses_come_first(rt: HostRuntime) -> Result<(), Fail> {
-    let alloc = rt.alloc();
+    let mut writer = LratWriter::new(rt.alloc(), 2);
+    refuses_late_input(&rt, rt.alloc(), &mut writer)
+}
+
+fn refuses_late_input(rt: &impl Abort, alloc: Global, writer: &mut LratWriter) -> Result<(), Fail> {
     let _propagations = ResolutionPropagations {};
-    let mut writer = told(&rt, alloc, 2, &[&[1]])?;
+    tell(rt, alloc, writer, &[&[1]])?;
     let clause = &lits(alloc, &[1, 2])?;
     let redundant = CheckedProofStep::AtClause {
         id: 1,
@@ -130,24 +145,28 @@ fn input_clauses_come_first(rt: HostRuntime) -> Result<(), Fail> {
         propagations: &[0],
     };
     assert_eq!(rt; writer.write_step(&redundant), Ok(()));
-    wrote(&rt, &writer, "4 1 2 0 1 0\n");
+    wrote(rt, writer, "4 1 2 0 1 0\n");
     assert_eq!(rt;
-        add(alloc, &mut writer, 2, &[3])?,
+        add(alloc, writer, 2, &[3])?,
         Err(WriterFault::InputAfterDerived)
     );
-    wrote(&rt, &writer, "4 1 2 0 1 0\n");
+    wrote(rt, writer, "4 1 2 0 1 0\n");
     Ok(())
 }
 
 #[test]
 fn no_more_input_clauses_than_announced(rt: HostRuntime) -> Result<(), Fail> {
-    let alloc = rt.alloc();
-    let mut writer = told(&rt, alloc, 1, &[&[1]])?;
+    let mut writer = LratWriter::new(rt.alloc(), 1);
+    refuses_one_more(&rt, rt.alloc(), &mut writer)
+}
+
+fn refuses_one_more(rt: &impl Abort, alloc: Global, writer: &mut LratWriter) -> Result<(), Fail> {
+    tell(rt, alloc, writer, &[&[1]])?;
     assert_eq!(rt;
-        add(alloc, &mut writer, 1, &[-1])?,
+        add(alloc, writer, 1, &[-1])?,
         Err(WriterFault::TooManyInputs)
     );
-    wrote(&rt, &writer, "");
+    wrote(rt, writer, "");
     Ok(())
 }
 
@@ -166,12 +185,23 @@ fn deletions_repeat_the_last_number(rt: HostRuntime) -> Result<(), Fail> {
         },
     ];
     for step in &steps {
-        let mut writer = told(&rt, alloc, 2, &[&[1], &[-1]])?;
-        assert_eq!(rt; derive(alloc, &mut writer, 2, &[], &[0, 1])?, Ok(()));
-        wrote(&rt, &writer, "5 0 1 2 0\n");
-        assert_eq!(rt; writer.write_step(step), Ok(()));
-        wrote(&rt, &writer, "5 0 1 2 0\n5 d 1 0\n");
+        let mut writer = LratWriter::new(alloc, 2);
+        repeats_number(&rt, alloc, &mut writer, step)?;
     }
+    Ok(())
+}
+
+fn repeats_number(
+    rt: &impl Abort,
+    alloc: Global,
+    writer: &mut LratWriter,
+    step: &CheckedProofStep<'_>,
+) -> Result<(), Fail> {
+    tell(rt, alloc, writer, &[&[1], &[-1]])?;
+    assert_eq!(rt; derive(alloc, writer, 2, &[], &[0, 1])?, Ok(()));
+    wrote(rt, writer, "5 0 1 2 0\n");
+    assert_eq!(rt; writer.write_step(step), Ok(()));
+    wrote(rt, writer, "5 0 1 2 0\n5 d 1 0\n");
     Ok(())
 }
 
@@ -209,43 +239,58 @@ fn steps_without_a_line(rt: HostRuntime) -> Result<(), Fail> {
             }),
         },
     ];
-    let mut writer = told(&rt, alloc, 2, &[&[1]])?;
-    for step in &steps {
+    let mut writer = LratWriter::new(alloc, 2);
+    writes_nothing(&rt, alloc, &mut writer, &steps)
+}
+
+fn writes_nothing(
+    rt: &impl Abort,
+    alloc: Global,
+    writer: &mut LratWriter,
+    steps: &[CheckedProofStep<'_>],
+) -> Result<(), Fail> {
+    tell(rt, alloc, writer, &[&[1]])?;
+    for step in steps {
         assert_eq!(rt; writer.write_step(step), Ok(()));
-        wrote(&rt, &writer, "");
+        wrote(rt, writer, "");
     }
-    assert_eq!(rt; add(alloc, &mut writer, 1, &[2])?, Ok(()));
+    assert_eq!(rt; add(alloc, writer, 1, &[2])?, Ok(()));
     Ok(())
 }
 
+const OUT_OF_RANGE: Answer = Err(WriterFault::NumberOutOfRange);
+
 #[test]
 fn numbers_stay_below_two_to_the_64(rt: HostRuntime) -> Result<(), Fail> {
-    let alloc = rt.alloc();
-    let _propagations = ResolutionPropagations {};
-    let out_of_range = Err(WriterFault::NumberOutOfRange);
-    let mut full = LratWriter::new(alloc, u64::MAX);
-    assert_eq!(rt; derive(alloc, &mut full, 0, &[], &[])?, out_of_range);
-    assert_eq!(rt; add(alloc, &mut full, u64::MAX, &[])?, out_of_range);
-    wrote(&rt, &full, "");
+    let mut writer = LratWriter::new(rt.alloc(), u64::MAX);
+    has_no_number(&rt, rt.alloc(), &mut writer)?;
+    let mut writer = LratWriter::new(rt.alloc(), 0);
+    has_one_number(&rt, rt.alloc(), &mut writer)
+}
 
-    let mut writer = LratWriter::new(alloc, 0);
+fn has_no_number(rt: &impl Abort, alloc: Global, writer: &mut LratWriter) -> Result<(), Fail> {
+    assert_eq!(rt; derive(alloc, writer, 0, &[], &[])?, OUT_OF_RANGE);
+    assert_eq!(rt; add(alloc, writer, u64::MAX, &[])?, OUT_OF_RANGE);
+    wrote(rt, writer, "");
+    Ok(())
+}
+
+fn has_one_number(rt: &impl Abort, alloc: Global, writer: &mut LratWriter) -> Result<(), Fail> {
+    let _propagations = ResolutionPropagations {};
     let text = "18446744073709551615 0 0\n";
-    assert_eq!(rt; derive(alloc, &mut writer, u64::MAX - 1, &[], &[])?, Ok(()));
-    wrote(&rt, &writer, text);
+    assert_eq!(rt; derive(alloc, writer, u64::MAX - 1, &[], &[])?, Ok(()));
+    wrote(rt, writer, text);
+    assert_eq!(rt; derive(alloc, writer, u64::MAX, &[], &[])?, OUT_OF_RANGE);
     assert_eq!(rt;
-        derive(alloc, &mut writer, u64::MAX, &[], &[])?,
-        out_of_range
-    );
-    assert_eq!(rt;
-        derive(alloc, &mut writer, 0, &[], &[1, u64::MAX])?,
-        out_of_range
+        derive(alloc, writer, 0, &[], &[1, u64::MAX])?,
+        OUT_OF_RANGE
     );
     let deletion = CheckedProofStep::DeleteClause {
         id: u64::MAX,
         clause: &[],
     };
-    assert_eq!(rt; writer.write_step(&deletion), out_of_range);
-    wrote(&rt, &writer, text);
+    assert_eq!(rt; writer.write_step(&deletion), OUT_OF_RANGE);
+    wrote(rt, writer, text);
     Ok(())
 }
 

@@ -35,44 +35,48 @@ fn prove(
     proofs: &[(&[u8], Outcome<'_>)],
 ) -> Result<(), Fail> {
     let mut checker = Checker::new(alloc);
+    prove_with(rt, alloc, &mut checker, units, proofs)
+}
+
+fn prove_with(
+    rt: &impl Abort,
+    alloc: Global,
+    checker: &mut Checker,
+    units: &[i64],
+    proofs: &[(&[u8], Outcome<'_>)],
+) -> Result<(), Fail> {
     for &number in units {
         let lit = Lit::from_dimacs(number).ok_or("no literal")?;
         assert!(rt; checker.add_clause(&[lit]).is_ok());
     }
     for &(proof, expected) in proofs {
         let mut out = Vec::new(alloc);
-        let answer = run_proof(&Discard, &mut checker, proof, &mut out);
+        let answer = run_proof(&Discard, checker, proof, &mut out);
         is_answered(rt, alloc, answer, &out, expected)?;
     }
     Ok(())
 }
 
-#[test]
-fn opposite_units_are_unsatisfiable(rt: HostRuntime) -> Result<(), Fail> {
-    prove(&rt, rt.alloc(), &[1, -1], &[(&[0x0D], SHOWN)])
-}
+/// Units, and the proofs over them in turn.
+type Proofs<'a> = (&'a [i64], &'a [(&'a [u8], Outcome<'a>)]);
 
 #[test]
 fn proofs_on_a_new_checker(rt: HostRuntime) -> Result<(), Fail> {
-    let rows: [(&[u8], Outcome<'_>); 3] = [
-        (&[0x0D], NOT_SHOWN),
-        (&[0x05, 0x00, 0x0D], WITH_ONE_ADDED),
-        (&[], refused("step 1: Unexpected end of proof file")),
+    let rows: [Proofs<'_>; 5] = [
+        (&[1, -1], &[(&[0x0D], SHOWN)]),
+        (&[], &[(&[0x0D], NOT_SHOWN)]),
+        (&[], &[(&[0x05, 0x00, 0x0D], WITH_ONE_ADDED)]),
+        (
+            &[],
+            &[(&[], refused("step 1: Unexpected end of proof file"))],
+        ),
+        // An accepted end asks for nothing more.
+        (&[], &[(&[0x05, 0x00, 0x0D], WITH_ONE_ADDED), (&[], SHOWN)]),
     ];
-    for row in rows {
-        prove(&rt, rt.alloc(), &[], &[row])?;
+    for (units, proofs) in rows {
+        prove(&rt, rt.alloc(), units, proofs)?;
     }
     Ok(())
-}
-
-#[test]
-fn an_accepted_end_asks_for_nothing_more(rt: HostRuntime) -> Result<(), Fail> {
-    prove(
-        &rt,
-        rt.alloc(),
-        &[],
-        &[(&[0x05, 0x00, 0x0D], WITH_ONE_ADDED), (&[], SHOWN)],
-    )
 }
 
 #[test]
@@ -114,24 +118,13 @@ fn no_beginning_of_a_proof_will_do(rt: HostRuntime) -> Result<(), Fail> {
 }
 
 #[test]
-fn texts_of_refused_formulas(rt: HostRuntime) -> Result<(), Fail> {
-    let rows: [(&str, &str); 5] = [
-        ("1 0\n2 x 0", "line 2: bad number"),
-        ("1 2", "line 1: unterminated clause"),
-        ("p cnf 1\n", "line 1: bad header"),
-        ("1 0\np cnf 1 1\n", "line 2: late header"),
-        ("268435457 0", "line 1: variable too large"),
-    ];
-    let end: &[u8] = &[0x0D];
-    for (cnf, text) in rows {
-        check(&rt, rt.alloc(), cnf.as_bytes(), end, refused(text))?;
-    }
-    Ok(())
-}
-
-#[test]
-fn texts_of_refused_proofs(rt: HostRuntime) -> Result<(), Fail> {
-    let rows: [(&str, &[u8], &str); 3] = [
+fn texts_of_refusals(rt: HostRuntime) -> Result<(), Fail> {
+    let rows: [(&str, &[u8], &str); 8] = [
+        ("1 0\n2 x 0", &[0x0D], "line 2: bad number"),
+        ("1 2", &[0x0D], "line 1: unterminated clause"),
+        ("p cnf 1\n", &[0x0D], "line 1: bad header"),
+        ("1 0\np cnf 1 1\n", &[0x0D], "line 2: late header"),
+        ("268435457 0", &[0x0D], "line 1: variable too large"),
         ("1 0", &[], "step 1: Unexpected end of proof file"),
         (
             "1 0",

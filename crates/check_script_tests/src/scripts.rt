@@ -1,0 +1,56 @@
+//! All scripts, played.
+use crate::deletions::{
+    DELETED_COPIES, DELETED_VARS, DELETIONS_BY_THE_PREVIOUS_CLAUSE, LITERAL_COUNTS,
+};
+use crate::derived_clauses::{
+    CHECKS_LEAVE_NO_VALUES, DERIVED_CLAUSES, DERIVED_UNITS_AND_EMPTY_CLAUSES, LONG_BUCKETS,
+    LONG_BUCKETS_WITHOUT_PROCESSORS, UNITS_MET_ON_THE_WAY, WALKS,
+};
+use crate::formulas::{CALLS_AFTER_A_TEXT, FORMULAS, TEXTS};
+use crate::input_clauses::{CONFLICTS_OF_UNITS, INPUT_CLAUSES};
+use crate::models::{ASSUMPTIONS, MODELS, MODELS_IN_TURN};
+use crate::names::{NAMES_OF_THE_SOLVER, NAMES_OF_THE_USER, NARROW_HASHES};
+use crate::proofs::{
+    BEGINNINGS, MALFORMED_PROOFS, REFUSED_PROOFS, REFUTATIONS, SECOND_PROOFS, SHORT_PROOFS,
+};
+use crate::script::agrees;
+use std::test::Fail;
+
+const SCRIPTS: [&str; 28] = [
+    DELETED_COPIES,
+    DELETIONS_BY_THE_PREVIOUS_CLAUSE,
+    DELETED_VARS,
+    LITERAL_COUNTS,
+    DERIVED_CLAUSES,
+    DERIVED_UNITS_AND_EMPTY_CLAUSES,
+    WALKS,
+    UNITS_MET_ON_THE_WAY,
+    CHECKS_LEAVE_NO_VALUES,
+    LONG_BUCKETS,
+    LONG_BUCKETS_WITHOUT_PROCESSORS,
+    TEXTS,
+    CALLS_AFTER_A_TEXT,
+    FORMULAS,
+    INPUT_CLAUSES,
+    CONFLICTS_OF_UNITS,
+    MODELS,
+    MODELS_IN_TURN,
+    ASSUMPTIONS,
+    NARROW_HASHES,
+    NAMES_OF_THE_SOLVER,
+    NAMES_OF_THE_USER,
+    SHORT_PROOFS,
+    MALFORMED_PROOFS,
+    REFUSED_PROOFS,
+    REFUTATIONS,
+    SECOND_PROOFS,
+    BEGINNINGS,
+];
+
+#[test]
+fn scripts(rt: HostRuntime) -> Result<(), Fail> {
+    for script in SCRIPTS {
+        agrees(&rt, rt.alloc(), script)?;
+    }
+    Ok(())
+}
