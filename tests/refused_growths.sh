@@ -93,6 +93,8 @@ run() {
 "$check" "$data"/par10.{cnf,whole.proof} "$work/whole_hints" > "$work/out"
 # the added clauses of the LRAT proof alone
 sed '/ d /d;s/^[0-9]* //;s/^0 .*/0/;s/ 0 .*/ 0/' "$data/par10.lrat" > "$work/drat"
+printf '1 268435456 0\n1 -268435456 0\n-1 268435456 0\n-1 -268435456 0\n' > "$work/far.cnf"
+printf '5 268435456 0 1 3 0\n6 0 5 2 4 0\n' > "$work/far.lrat"
 mapfile -t names < <(sed 's/: as written$//' "$work/all")
 for mode in FAIL_AT FAIL_FROM; do
   for row in "${names[@]}"; do
@@ -108,6 +110,9 @@ for mode in FAIL_AT FAIL_FROM; do
     run "$(basename "$lrat") by lrat_check" "$mode" 's VERIFIED UNSAT' "$lrat_check" "${lrat%.lrat}.cnf" "$lrat"
   done
   run 'par10 by drat_check' "$mode" 's VERIFIED UNSAT' "$drat_check" "$data/par10.cnf" "$work/drat"
+  # the variable of the greatest number, which has no place in a table
+  run 'far literals' "$mode" 's VERIFIED UNSAT' "$hint_check" "$work"/far.{cnf,lrat}
+  run 'far literals by lrat_check' "$mode" 's VERIFIED UNSAT' "$lrat_check" "$work"/far.{cnf,lrat}
   run 'par10.lrat by lrat_to_proof' "$mode" '' "$lrat_to_proof" "$data"/par10.{cnf,lrat} "$work/bytes"
 done
 # Nothing is grown for the number of literals that a proof announces: there are fewer growths than where one literal follows.

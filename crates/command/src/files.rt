@@ -80,8 +80,8 @@ fn is_input(rt: &HostRuntime, name: &str, input: &Input<'_>) -> bool {
     }
 }
 
-/// Warns on standard error where the header of a formula that was read whole says something else than
-/// what was read.
+/// Warns on standard error where the header of a formula that was read whole says something else
+/// than what was read.
 pub fn warn_of_header<R: Read>(rt: &HostRuntime, name: &str, cnf: &CountingReader<R>) {
     if let Some(header) = cnf.lying_header() {
         let place = if name == "-" { "standard input" } else { name };

@@ -96,8 +96,8 @@ impl<R: Read> CountingReader<R> {
         CountingReader { inner, tally }
     }
 
-    /// Whether the header, if there was one, says fewer variables than there were, or another number
-    /// of clauses. It is asked once all is read.
+    /// Whether the header, if there was one, says fewer variables than there were, or another
+    /// number of clauses. It is asked once all is read.
     pub fn lying_header(&self) -> Option<LyingHeader>
         ensures { result ≡ warning_by (tally_of self.now) }
     {
@@ -186,8 +186,8 @@ impl Tally {
         }
     }
 
-    /// A number ends, where one has begun: in a header it is said, else it ends a clause or is that of
-    /// a variable.
+    /// A number ends, where one has begun: in a header it is said, else it ends a clause or is that
+    /// of a variable.
     #[tactic(auto, unfolding(crate::specs::Headers::counted))]
     fn counted(self) -> Tally
         ensures { result ≡ counted self }

@@ -6,7 +6,8 @@ use std::fmt::Display;
 /// The exit status of a call that can't be run.
 pub const NOT_RUN: u8 = 2;
 
-/// The version of all programs, and that of the Rust crate whose rules the checker of proof bytes has.
+/// The version of all programs, and that of the Rust crate whose rules the checker of proof bytes
+/// has.
 const VERSION: &str = "0.3.0 (varisat-checker 0.2.2)";
 
 /// Says on standard error why a call can't be run, and gives its exit status.

@@ -1,5 +1,6 @@
 pub mod CheckLemmas
 pub mod LineLemmas
+pub mod MarkLemmas
 pub mod NumberLemmas
 pub mod OneAnswer
 pub mod Parts

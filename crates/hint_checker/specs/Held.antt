@@ -1,16 +1,17 @@
 -- What the parts of a checker of hints say.
 --     trues v      the literals that are true
 --     held_by x, holds c      what is held, and what a checker holds until its first fault
-use Rattle.std.specs.Prelude.{ℕ, Bool, false, if◌then◌else◌, Option, Some, None, get_or}
+use Rattle.std.specs.Prelude.{ℕ, Bool, if◌then◌else◌, Option, Some, None}
 use Rattle.sat_rules.specs.HintLines.{Listed}
 use Rattle.hint_checker.specs.Checked.{listed_by}
+use Rattle.hint_checker.specs.Marks.{has_mark}
 use Rattle.hint_checker.specs.declared.checker.HintChecker.{HintChecker}
 use Rattle.hint_checker.specs.declared.listing.Listing.{Listing}
 use Rattle.hint_checker.specs.declared.values.Values.{Values}
 
 -- the literals that are true
 abbrev pub trues : Values → ℕ → Bool
-trues values l = get_or values.is_true.items l false
+trues values = has_mark values.marks
 
 -- the clauses, the greatest id, and whether the empty clause was added
 abbrev pub held_by : Listing → Listed

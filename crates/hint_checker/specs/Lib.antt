@@ -1,7 +1,9 @@
 pub mod Checked
 pub mod Held
 pub mod Lines
+pub mod Marks
 pub mod OneAnswer
 pub mod ReadLine
+pub mod Room
 pub mod Text
 pub mod Unit

@@ -50,17 +50,17 @@ impl HintChecker {
     pub fn check(&mut self, text: &[u8]) -> Result<bool, HintFault>
         ensures failed { holds self.old ≡ None → (result ≡ Err (Malformed 0))
             × (holds self.new ≡ None) }
-        ensures accepted { (h : Listed) → holds self.old ≡ Some h →
-            IfOk result (λ yes. (k : Listed) × Accepts h text.now k × (holds self.new ≡ Some k)
+        ensures accepted { (h : Listed) → holds self.old ≡ Some h
+            → IfOk result (λ yes. (k : Listed) × Accepts h text.now k × (holds self.new ≡ Some k)
             × (yes ≡ k.added_empty)) }
-        ensures refused { (h : Listed) → holds self.old ≡ Some h →
-            IfErr result (λ fault. IsRefusal h text.now fault × (holds self.new ≡ None)) }
-        ensures refutes { (formula : List (List ℕ)) (lines : List rules.HintLine) (h : Listed) →
-            holds self.old ≡ Some h → Follows (listing formula) lines h →
-            IfOk result (λ yes. yes ≡ true → (a : ℕ → Bool) → all_true a formula ≡ true → ⊥) }
-        ensures lines { (formula : List (List ℕ)) (lines : List rules.HintLine) (h : Listed) →
-            holds self.old ≡ Some h → Follows (listing formula) lines h →
-            IfOk result (λ yes. AcceptsAfter formula lines text.now (holds self.new) yes) }
+        ensures refused { (h : Listed) → holds self.old ≡ Some h
+            → IfErr result (λ fault. IsRefusal h text.now fault × (holds self.new ≡ None)) }
+        ensures refutes { (formula : List (List ℕ)) (lines : List rules.HintLine) (h : Listed)
+            → holds self.old ≡ Some h → Follows (listing formula) lines h
+            → IfOk result (λ yes. yes ≡ true → (a : ℕ → Bool) → all_true a formula ≡ true → ⊥) }
+        ensures lines { (formula : List (List ℕ)) (lines : List rules.HintLine) (h : Listed)
+            → holds self.old ≡ Some h → Follows (listing formula) lines h
+            → IfOk result (λ yes. AcceptsAfter formula lines text.now (holds self.new) yes) }
     {
         if self.faulted {
             return Err(HintFault::Malformed { line: 0 });
@@ -97,8 +97,8 @@ fn check_line(
     line: &[u8],
 ) -> Result<(), LineFault>
     ensures ok { OnOk result (refusal (held_by held.old) (said_by line.now) ≡ None) }
-    ensures after { OnOk result (held_by held.new ≡
-        after_said (held_by held.old) (said_by line.now)) }
+    ensures after { OnOk result (held_by held.new
+        ≡ after_said (held_by held.old) (said_by line.now)) }
     ensures err { IfErr result (λ fault. IsCause fault
         (refusal (held_by held.old) (said_by line.now))) }
 {

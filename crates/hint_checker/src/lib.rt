@@ -7,6 +7,8 @@ pub mod laws;
 mod line;
 mod lines;
 mod listing;
+mod marks;
+mod room;
 #[cfg(test)]
 mod tests;
 mod values;

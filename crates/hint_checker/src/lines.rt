@@ -7,7 +7,8 @@ ghost use Rattle.hint_checker.specs.Lines.{lines_after, lines_left};
 
 use std::marker::Model;
 
-/// The lines of a text that are still to come, without their LF. After a last LF comes an empty line.
+/// The lines of a text that are still to come, without their LF. After a last LF comes an empty
+/// line.
 #[derive(Drop)]
 pub(crate) struct Lines<'a> {
     rest: Option<&'a [u8]>,

@@ -20,6 +20,8 @@ pub(crate) struct Listing {
     /// The greatest id so far, or 0.
     greatest: u64,
     added_empty: bool,
+    /// How many literals were stored so far.
+    stored: u64,
 }
 
 impl Listing {
@@ -31,6 +33,7 @@ impl Listing {
             clauses: HashMap::with_capacity(alloc, formula.len())?,
             greatest: 0,
             added_empty: false,
+            stored: 0,
         };
         for clause in formula {
             let id = held.greatest + 1;
@@ -41,14 +44,16 @@ impl Listing {
 
     /// Puts a clause under an id.
     fn put(&mut self, id: u64, clause: Vec<Lit>) -> Result<(), AllocError>
-        ensures { OnOk result (held_by self.new ≡
-            record (held_by self.old) {
+        ensures { OnOk result (held_by self.new
+            ≡ record (held_by self.old) {
               machine = put_id id clause.items
                   (held_by self.old).machine;
             }) }
     {
+        let lits = clause.len() as u64;
         self.clauses.insert(id, clause)?;
         self.greatest = id;
+        self.stored = self.stored.saturating_add(lits);
         Ok(())
     }
 
@@ -69,8 +74,8 @@ impl Listing {
     ) -> Result<(), LineFault>
         ensures ok { OnOk result (line_cause (held_by self.old)
             (adds_clause id clause.items hints.now) ≡ None) }
-        ensures added { OnOk result (held_by self.new ≡
-            after_line (held_by self.old) (adds_clause id clause.items hints.now)) }
+        ensures added { OnOk result (held_by self.new
+            ≡ after_line (held_by self.old) (adds_clause id clause.items hints.now)) }
         ensures err { IfErr result (λ fault. IsCause fault
             (option_map cause_of (line_cause (held_by self.old)
             (adds_clause id clause.items hints.now)))) }
@@ -78,6 +83,7 @@ impl Listing {
         if id <= self.greatest {
             return Err(LineFault::IdNotGreater);
         }
+        values.allow(self.stored);
         values.negate(&clause)?;
         self.try_hints(values, hints)?;
         let is_empty = clause.is_empty();
@@ -107,11 +113,11 @@ impl Listing {
 
     /// Makes the literal true on which the clause of a hint is unit.
     fn follow(&self, values: &mut Values, id: u64) -> Result<(), LineFault>
-        ensures ok { OnOk result ((rest : (ℕ → Bool) → Option HintCause) →
-            next_cause (trues values.old) ((held_by self.now).machine.named id) rest ≡
-            rest (trues values.new)) }
-        ensures err { IfErr result (λ fault. (rest : (ℕ → Bool) → Option HintCause) →
-            IsCause fault (option_map cause_of
+        ensures ok { OnOk result ((rest : (ℕ → Bool) → Option HintCause)
+            → next_cause (trues values.old) ((held_by self.now).machine.named id) rest
+            ≡ rest (trues values.new)) }
+        ensures err { IfErr result (λ fault. (rest : (ℕ → Bool) → Option HintCause)
+            → IsCause fault (option_map cause_of
             (next_cause (trues values.old) ((held_by self.now).machine.named id) rest))) }
     {
         let clause = self.clauses.get(&id).ok_or(LineFault::UnknownId)?;

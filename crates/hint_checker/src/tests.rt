@@ -2,7 +2,7 @@
 use crate::line::{HintLine, read_line};
 use std::test::Fail;
 
-// What a line says, in words.
+/// What a line says, in words.
 fn shown(rt: &HostRuntime, line: &[u8]) -> Result<String, Fail> {
     let mut said = String::new(rt.alloc());
     match read_line(rt.alloc(), line) {

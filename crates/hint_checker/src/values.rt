@@ -1,10 +1,12 @@
 //! Which literals are true.
-ghost use Rattle.std.specs.Prelude.{◌≡◌, ◌<◌, ◌^◌, ◌&&◌, ℕ, eqb, not, false, true, length, get_or, OnOk};
+ghost use Rattle.std.specs.Prelude.{◌≡◌, ℕ, false, true, OnOk};
 ghost use Rattle.sat_rules.specs.Clauses.{add_lit, has, is_falsified};
 ghost use Rattle.sat_rules.specs.HintLines.{unit_among};
 ghost use Rattle.sat_rules.specs.Named.{negated_set};
+ghost use Rattle.hint_checker.specs.Marks.{has_mark};
 ghost use Rattle.hint_checker.specs.Unit.{is_other};
 
+use crate::marks::Marks;
 use sat_formula::lit::Lit;
 use std::alloc::{AllocError, Global};
 
@@ -12,10 +14,9 @@ use std::alloc::{AllocError, Global};
 /// both be.
 #[derive(Drop)]
 pub(crate) struct Values {
-    /// By the code of the literal.
-    is_true: Vec<bool>,
+    marks: Marks,
     trail: Vec<Lit>,
-    ghost noted: { (l : ℕ) → get_or is_true.items l false ≡ true → has l trail.items ≡ true },
+    ghost noted: { (l : ℕ) → has_mark marks l ≡ true → has l trail.items ≡ true },
 }
 
 impl Values {
@@ -26,9 +27,16 @@ impl Values {
         ensures { trues result ≡ (λ l. false) }
     {
         Values {
-            is_true: Vec::new(alloc),
+            marks: Marks::new(alloc),
             trail: Vec::new(alloc),
         }
+    }
+
+    /// There may be places for the literals of so many that are stored.
+    pub(crate) fn allow(&mut self, stored: u64)
+        ensures { trues self.new ≡ trues self.old }
+    {
+        self.marks.allow(stored);
     }
 
     /// No literal is true any more.
@@ -36,7 +44,7 @@ impl Values {
         ensures { trues self.new ≡ (λ l. false) }
     {
         for lit in &self.trail {
-            clear_value(&mut self.is_true, *lit);
+            self.marks.clear(*lit);
         }
         self.trail.clear();
     }
@@ -45,21 +53,8 @@ impl Values {
     pub(crate) fn set(&mut self, lit: Lit) -> Result<(), AllocError>
         ensures { OnOk result (trues self.new ≡ add_lit lit (trues self.old)) }
     {
-        self.make_room(lit.code())?;
         self.trail.push(lit)?;
-        self.is_true[lit.code()] = true;
-        Ok(())
-    }
-
-    /// Makes room for the value of a code.
-    fn make_room(&mut self, code: usize) -> Result<(), AllocError>
-        requires { code < 2 ^ 29 }
-        ensures same { trues self.new ≡ trues self.old }
-        ensures room { OnOk result (code < length self.new.is_true.items) }
-    {
-        if self.is_true.len() <= code {
-            self.is_true.resize(code + 1, false)?;
-        }
+        self.marks.set(lit)?;
         Ok(())
     }
 
@@ -77,7 +72,7 @@ impl Values {
     fn is_true(&self, lit: Lit) -> bool
         ensures { result ≡ trues self.now lit }
     {
-        self.is_true.get(lit.code()).copied().unwrap_or(false)
+        self.marks.has(lit)
     }
 
     /// Whether all literals are false.
@@ -102,16 +97,6 @@ impl Values {
             unit = Some(*lit);
         }
         unit
-    }
-}
-
-/// The literal is not true from here on.
-fn clear_value(is_true: &mut Vec<bool>, lit: Lit)
-    ensures { (l : ℕ) → get_or is_true.new.items l false ≡
-        (not (eqb l lit) && get_or is_true.old.items l false) }
-{
-    if let Some(value) = is_true.get_mut(lit.code()) {
-        *value = false;
     }
 }
 

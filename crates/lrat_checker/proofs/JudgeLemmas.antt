@@ -1,9 +1,9 @@
 -- A clause before its groups, and groups in turn.
-use Rattle.std.proofs.Common.{◌≡◌, ℕ, ◌+◌, Bool, true, false, cond, ◌||◌, eqb, List, [], ◌∷◌, Option, Some, None, is_some, refl, sym, ap, ◌∙◌}
+use Rattle.std.proofs.Common.{◌≡◌, ℕ, ◌+◌, Bool, true, false, cond, eqb, List, [], ◌∷◌, Option, Some, None, is_some, sym, ap, ◌∙◌}
 use mathlib.Core.Path.{fun_ext}
 use Rattle.std.proofs.Math.Bool.{or-false}
 use Rattle.sat_rules.specs.Named.{negated_set}
-use Rattle.lrat_rules.specs.Causes.{Cause, id_taken}
+use Rattle.lrat_rules.specs.Causes.{id_taken}
 use Rattle.lrat_rules.specs.Counts.{count_of}
 use Rattle.lrat_rules.specs.Groups.{Group, add_negated, rest_met, without}
 use Rattle.lrat_rules.specs.Lines.{Hint, adds, groups, leading}

@@ -1,3 +1,5 @@
+pub mod MarkLemmas
+pub mod CountLemmas
 pub mod TrailLemmas
 pub mod SearchLemmas
 pub mod SpanLemmas

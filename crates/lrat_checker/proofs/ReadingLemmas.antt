@@ -1,5 +1,5 @@
 -- What a reader of lines gave, for a checker that has accepted the lines before.
-use Rattle.std.proofs.Common.{◌≡◌, ℕ, Bool, true, false, ◌&&◌, List, [], ◌∷◌, ◌++◌, Option, Some, None, Result, Ok, Err, refl, sym, ap, ◌∙◌, subst}
+use Rattle.std.proofs.Common.{◌≡◌, ℕ, Bool, true, false, ◌&&◌, List, [], ◌∷◌, ◌++◌, Option, Some, None, Result, Ok, Err, refl, sym, subst}
 use Rattle.lrat_rules.specs.Lines.{Line}
 use Rattle.lrat_text.specs.NextLine.{Gives, bytes_left, has_ended, line_number, view}
 use Rattle.lrat_text.specs.Taking.{Follows}

@@ -3,7 +3,7 @@ use Rattle.std.proofs.Common.{◌≡◌, ℕ, Bool, true, false, cond, ◌||◌,
 use Rattle.std.proofs.Math.Bool.{or-false}
 use Rattle.sat_rules.specs.Named.{Item}
 use Rattle.sat_rules.proofs.HintLineFacts.{some-same}
-use Rattle.lrat_rules.specs.Lines.{Line, accepts, adds_empty, after, has_empty, is_refuted, refutes, run, step, then_run, then_test}
+use Rattle.lrat_rules.specs.Lines.{Line, adds_empty, after, has_empty, is_refuted, refutes, run, step, then_run, then_test}
 use Rattle.lrat_rules.specs.Refusals.{cause_of_line}
 use Rattle.lrat_rules.specs.Stores.{formula_store}
 use Rattle.lrat_rules.specs.Tables.{IsTableOf, Table, cause_by_table, table_after}

@@ -1,10 +1,8 @@
 -- Trails of literals, and marks of what they hold.
-use Rattle.std.proofs.Common.{◌≡◌, ℕ, ◌+◌, ◌<◌, Bool, true, false, cond, not, ◌&&◌, ◌||◌, eqb, List, [], ◌∷◌, ◌++◌, length, get_or, set, drop, refl, sym, ap, ◌∙◌, eq-eqb, inl, inr}
+use Rattle.std.proofs.Common.{◌≡◌, ℕ, ◌+◌, ◌<◌, Bool, true, false, cond, not, ◌&&◌, ◌||◌, eqb, List, [], ◌∷◌, ◌++◌, length, get_or, drop, refl, sym, ap, ◌∙◌, eq-eqb, inl, inr}
 use mathlib.Core.Path.{fun_ext}
 use Rattle.std.proofs.lemmas.Bool.{eqb-true, eqb-false, and_parts, and_from, both_ways, not-true, ne_eqb, or_cases}
 use Rattle.std.proofs.lemmas.List.{at_drop_more}
-use Rattle.std.proofs.lemmas.Grind.{get_or-set_at}
-use Rattle.std.proofs.lemmas.List.{get_or-set_other}
 use Rattle.sat_rules.specs.Clauses.{add_lit, has}
 use Rattle.lrat_rules.specs.Counts.{all_once}
 use Rattle.lrat_checker.specs.Values.{IsMarked, among, with_lit}
@@ -59,28 +57,24 @@ among-with_lit l t = fun_ext (λ k. go (has l t) refl k)
 -- ---- marks
 
 -- a mark is set for a new literal
-pub marked-push : (marks : List Bool) (t : List ℕ) (l : ℕ) → IsMarked marks t → has l t ≡ false → (more : List Bool) →
-    ((k : ℕ) → get_or more k false ≡ get_or marks k false) → l < length more → IsMarked (set more l true) (t ++ l ∷ [])
-marked-push marks t l m new more same w = record {
-  marked = λ k. at k (eqb k l) refl;
+pub marked-push : (marks : ℕ → Bool) (t : List ℕ) (l : ℕ) → IsMarked marks t → has l t ≡ false → (more : ℕ → Bool) →
+    ((k : ℕ) → more k ≡ (eqb k l || marks k)) → IsMarked more (t ++ l ∷ [])
+marked-push marks t l m new more set = record {
+  marked = λ k. set k ∙ ap (λ b. eqb k l || b) (m.marked k) ∙ sym (has-push t l k);
   once = all_once-push t l ∙ and_from (not (has l t)) (all_once t) (ap not new) m.once;
 }
-  where
-    at : (k : ℕ) (b : Bool) → eqb k l ≡ b → get_or (set more l true) k false ≡ has k (t ++ l ∷ [])
-    at k true e = get_or-set_at more l k true false (eqb-true k l e) w ∙ sym (has-push t l k ∙ ap (λ b. b || has k t) e)
-    at k false e = get_or-set_other more l k true false (eqb-false k l e) ∙ same k ∙ m.marked k ∙ sym (has-push t l k ∙ ap (λ b. b || has k t) e)
 
 -- the mark of the last literal is cleared
-pub marked-pop : (marks : List Bool) (t : List ℕ) (l : ℕ) → IsMarked marks (t ++ l ∷ []) → (fewer : List Bool) →
-    ((k : ℕ) → get_or fewer k false ≡ (not (eqb k l) && get_or marks k false)) → IsMarked fewer t
+pub marked-pop : (marks : ℕ → Bool) (t : List ℕ) (l : ℕ) → IsMarked marks (t ++ l ∷ []) → (fewer : ℕ → Bool) →
+    ((k : ℕ) → fewer k ≡ (not (eqb k l) && marks k)) → IsMarked fewer t
 marked-pop marks t l m fewer cleared = record { marked = λ k. at k (eqb k l) refl; once = parts.1 }
   where
     parts : (not (has l t) ≡ true) × (all_once t ≡ true)
     parts = and_parts (not (has l t)) (all_once t) (sym (all_once-push t l) ∙ m.once)
 
-    at : (k : ℕ) (b : Bool) → eqb k l ≡ b → get_or fewer k false ≡ has k t
-    at k true e = cleared k ∙ ap (λ b. not b && get_or marks k false) e ∙ sym (ap (λ j. has j t) (eqb-true k l e) ∙ not-true (has l t) parts.0)
-    at k false e = cleared k ∙ ap (λ b. not b && get_or marks k false) e ∙ m.marked k ∙ has-push t l k ∙ ap (λ b. b || has k t) e
+    at : (k : ℕ) (b : Bool) → eqb k l ≡ b → fewer k ≡ has k t
+    at k true e = cleared k ∙ ap (λ b. not b && marks k) e ∙ sym (ap (λ j. has j t) (eqb-true k l e) ∙ not-true (has l t) parts.0)
+    at k false e = cleared k ∙ ap (λ b. not b && marks k) e ∙ m.marked k ∙ has-push t l k ∙ ap (λ b. b || has k t) e
 
 -- a mark that is left after the first ones of a trail were cleared is that of a later literal
 pub later_in_trail : (trail : List ℕ) (i k m : ℕ) (b : Bool) → i < length trail → m ≡ get_or trail i m →
@@ -94,9 +88,9 @@ later_in_trail trail i k m b w e h t =
     ]
 
 -- no mark is left
-pub marked-none : (marks : List Bool) → ((k : ℕ) → get_or marks k false ≡ true → ⊥) → IsMarked marks []
-marked-none marks none = record { marked = λ k. go k (get_or marks k false) refl; once = refl }
+pub marked-none : (marks : ℕ → Bool) → ((k : ℕ) → marks k ≡ true → ⊥) → IsMarked marks []
+marked-none marks none = record { marked = λ k. go k (marks k) refl; once = refl }
   where
-    go : (k : ℕ) (b : Bool) → get_or marks k false ≡ b → b ≡ false
+    go : (k : ℕ) (b : Bool) → marks k ≡ b → b ≡ false
     go k true e = absurd (none k e)
     go k false e = refl

@@ -1,9 +1,10 @@
 -- What the parts of a checker hold.
 --     table_of x      the clauses of the ids, and how often each literal stands in them
 --     seen_by w      the ids whose groups were met
-use Rattle.std.specs.Prelude.{ℕ, Bool, List, Option, Some, None, slice_index, nat_eq}
+use Rattle.std.specs.Prelude.{ℕ, Bool, List, Option, Some, None, nat_eq}
 use Rattle.std.specs.HashSet.{contains}
 use Rattle.lrat_rules.specs.Tables.{Table}
+use Rattle.lrat_checker.specs.Counts.{lit_count}
 use Rattle.lrat_checker.specs.Far.{far_clause}
 use Rattle.lrat_checker.specs.Near.{near_clause}
 use Rattle.lrat_checker.specs.declared.clauses.Clauses.{Clauses}
@@ -18,7 +19,7 @@ near_or (Some c) far = Some c
 abbrev pub table_of : Clauses → Table
 table_of x = record {
   named = λ i. near_or (near_clause x.near i) (far_clause x.far i);
-  counts = λ l. slice_index x.counts l;
+  counts = λ l. lit_count x.counts l;
 }
 
 -- the ids whose groups were met

@@ -1,3 +1,7 @@
+pub mod Room
+pub mod Marks
+pub mod FarCounts
+pub mod Counts
 pub mod Values
 pub mod Spans
 pub mod Near

@@ -5,7 +5,7 @@
 --     IsMarked marks t      the marks are those of the literals of the trail, which has none twice
 --     IsGrown t u      the trail t with more at its end
 --     left_from s found c none one      the search for the literals that are not false, from the one found before
-use Rattle.std.specs.Prelude.{◌≡◌, ℕ, ◌==◌, Bool, true, false, not, if◌then◌else◌, List, [], ◌∷◌, ◌++◌, length, get_or, take, Option, Some, None}
+use Rattle.std.specs.Prelude.{◌≡◌, ℕ, ◌==◌, Bool, true, false, not, if◌then◌else◌, List, [], ◌∷◌, ◌++◌, length, take, Option, Some, None}
 use Rattle.sat_rules.specs.Clauses.{has, negate}
 use Rattle.lrat_rules.specs.Causes.{not_unit}
 use Rattle.lrat_rules.specs.Counts.{all_once}
@@ -26,8 +26,8 @@ lits_besides None c = c
 lits_besides (Some n) c = without n c
 
 -- the marks are those of the literals of the trail, which has none twice
-pub record IsMarked (marks : List Bool) (t : List ℕ) : Type 0 where
-  pub marked : (l : ℕ) → get_or marks l false ≡ has l t
+pub record IsMarked (marks : ℕ → Bool) (t : List ℕ) : Type 0 where
+  pub marked : (l : ℕ) → marks l ≡ has l t
   pub once : all_once t ≡ true
 
 -- the trail t with more at its end

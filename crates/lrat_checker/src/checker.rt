@@ -91,7 +91,8 @@ impl LratChecker {
     }
 
     /// Checks the lines of a text after those of earlier calls. The answer is whether the formula
-    /// has the empty clause, or some line so far added it: then no assignment satisfies the formula.
+    /// has the empty clause, or some line so far added it: then no assignment satisfies the
+    /// formula.
     ///
     /// The text is read as it goes, line by line. After a fault every later call answers `Failed`.
     pub fn check<R: Read + Drop>(&mut self, proof: R) -> Result<bool, LratFault>

@@ -1,5 +1,6 @@
 //! The stored clauses.
 ghost use Rattle.std.specs.Prelude.{◌≡◌, ◌==◌, ◌+◌, ◌-◌, ◌*◌, ◌≤◌, ◌^◌, ◌&&◌, ℕ, None, Some, true, false, if◌then◌else◌, is_some, length, min, nat_eq, IfOk, OnOk};
+ghost use Rattle.std.specs.List.{sum_by};
 ghost use Rattle.std.specs.Option.{option_copied};
 ghost use Rattle.std.specs.HashMap.{get};
 ghost use Rattle.lrat_rules.specs.Tables.{drop_all, drop_one, empty_table, formula_table, put};
@@ -41,7 +42,7 @@ impl Clauses {
         ensures table { IfOk result (λ made. table_of made ≡ formula_table formula.now) }
         ensures tight { IfOk result (λ made. IsTight made.near) }
     {
-        let mut made = Clauses::empty(alloc, formula.len())?;
+        let mut made = Clauses::empty(alloc, formula.len(), lits_of(formula))?;
         let mut id = 0u64;
         for clause in formula {
             id += 1;
@@ -51,7 +52,7 @@ impl Clauses {
     }
 
     /// No clause, with places for some.
-    fn empty(alloc: Global, room: usize) -> Result<Clauses, AllocError>
+    fn empty(alloc: Global, room: usize, lits: u64) -> Result<Clauses, AllocError>
         ensures table { IfOk result (λ made. table_of made ≡ empty_table) }
         ensures tight { IfOk result (λ made. IsTight made.near) }
     {
@@ -60,7 +61,7 @@ impl Clauses {
             near: NearClauses::new(alloc, room)?,
             far: HashMap::new(alloc),
             stored: 0,
-            counts: LitCounts::new(alloc),
+            counts: LitCounts::new(alloc, lits),
         })
     }
 
@@ -88,8 +89,15 @@ impl Clauses {
         self.get(id).is_some()
     }
 
+    /// For how many literals there may be places.
+    pub(crate) fn lits_stored(&self) -> u64
+        ensures { result ≡ self.now.counts.stored }
+    {
+        self.counts.stored()
+    }
+
     /// How often a literal stands in the clauses.
-    pub(crate) fn count(&self, lit: Lit) -> u32
+    pub(crate) fn count(&self, lit: Lit) -> u64
         ensures { result ≡ (table_of self.now).counts lit }
     {
         self.counts.get(lit)
@@ -159,4 +167,15 @@ impl Clauses {
             self.counts.lower(&clause);
         }
     }
+}
+
+/// How many literals the clauses of a formula have.
+fn lits_of(formula: &CnfFormula) -> u64
+    ensures { result ≡ min (sum_by length formula.now) (2 ^ 64 - 1) }
+{
+    let mut lits = 0u64;
+    for clause in formula {
+        lits = lits.saturating_add(clause.len() as u64);
+    }
+    lits
 }

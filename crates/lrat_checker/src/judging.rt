@@ -36,6 +36,7 @@ pub(crate) fn judge(
     if clauses.contains(id) {
         return Err(Stop::Refused(LratCause::IdTaken));
     }
+    work.values.allow(clauses.lits_stored());
     work.values.clear();
     work.values.negate(clause, None)?;
     match propagate(clauses, &mut work.values, hints)? {

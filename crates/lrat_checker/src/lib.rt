@@ -8,9 +8,11 @@ mod counts;
 mod fault;
 mod groups;
 mod judging;
+mod marks;
 mod near;
 mod propagation;
 mod redundancy;
+mod room;
 mod span;
 #[cfg(test)]
 mod tests;

@@ -81,8 +81,8 @@ impl NearClauses {
         }
     }
 
-    /// Where more than half of the buffer is garbage, and more than there are places to look at, all
-    /// clauses move to a buffer without any.
+    /// Where more than half of the buffer is garbage, and more than there are places to look at,
+    /// all clauses move to a buffer without any.
     pub(crate) fn collect_garbage(&mut self, alloc: Global) -> Result<(), AllocError>
         ensures same { (k : ℕ) → near_clause self.new k ≡ near_clause self.old k }
         ensures places { length self.new.spans.items ≡ length self.old.spans.items }

@@ -42,7 +42,7 @@ pub(crate) fn check_groups(
     };
     let negation = !*pivot;
     let met = meet_groups(clauses, work, negation, hints)?;
-    if met != u64::from(clauses.count(negation)) {
+    if met != clauses.count(negation) {
         return Err(Stop::Refused(missing_cause(hints)));
     }
     Ok(())

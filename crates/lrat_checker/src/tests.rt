@@ -16,13 +16,13 @@ type Numbers = &'static [&'static [i64]];
 /// A formula, and a proof with its answer.
 type Row = (Numbers, &'static str, &'static str);
 
-// 1: -1 2    2: 2 3    3: 2 -3
+/// 1: -1 2    2: 2 3    3: 2 -3
 const THREE: Numbers = &[&[-1, 2], &[2, 3], &[2, -3]];
 
-// 1: 1 2    2: 1 -2    3: -1 2    4: -1 -2
+/// 1: 1 2    2: 1 -2    3: -1 2    4: -1 -2
 const FOUR: Numbers = &[&[1, 2], &[1, -2], &[-1, 2], &[-1, -2]];
 
-// 1: -1 2    2: -1 3
+/// 1: -1 2    2: -1 3
 const BOTH: Numbers = &[&[-1, 2], &[-1, 3]];
 
 const UNITS: Numbers = &[&[1], &[-1]];
@@ -45,7 +45,7 @@ fn checker(rt: &HostRuntime, clauses: Numbers) -> Result<LratChecker, Fail> {
     Ok(checker)
 }
 
-// An answer in words.
+/// An answer in words.
 fn shown(rt: &HostRuntime, answer: Result<bool, LratFault>) -> Result<String, Fail> {
     let text = match answer {
         Ok(true) => String::from_str(rt.alloc(), "refuted")?,
@@ -84,13 +84,13 @@ const BROKEN: &str = "error reading proof: broken";
 /// How answers of refused lines begin.
 const LINES: [(usize, &str); 3] = [(1, "line 1:"), (2, "line 2:"), (3, "line 3:")];
 
-// The answer of a new checker in words.
+/// The answer of a new checker in words.
 fn answer_to<R: Read + Drop>(rt: &HostRuntime, clauses: Numbers, proof: R) -> Result<String, Fail> {
     let mut checker = checker(rt, clauses)?;
     shown(rt, checker.check(proof))
 }
 
-// The number of the first row that is answered otherwise, read at once or byte by byte.
+/// The number of the first row that is answered otherwise, read at once or byte by byte.
 fn wrong_row(rt: &HostRuntime, rows: &[Row]) -> Result<Option<usize>, Fail> {
     for (row, (clauses, proof, answer)) in rows.iter().enumerate() {
         let text = proof.as_bytes();
@@ -108,7 +108,7 @@ fn wrong_row(rt: &HostRuntime, rows: &[Row]) -> Result<Option<usize>, Fail> {
     Ok(None)
 }
 
-// What is answered where so many lines were read to their ends before a read fails.
+/// What is answered where so many lines were read to their ends before a read fails.
 fn broken_after<'a>(answer: &'a str, lines: usize) -> &'a str {
     for (line, begins) in LINES {
         if line <= lines && answer.starts_with(begins) {
@@ -118,7 +118,7 @@ fn broken_after<'a>(answer: &'a str, lines: usize) -> &'a str {
     BROKEN
 }
 
-// The number of the first row that is answered otherwise where some read fails.
+/// The number of the first row that is answered otherwise where some read fails.
 fn wrong_broken_row(rt: &HostRuntime, rows: &[Row]) -> Result<Option<usize>, Fail> {
     for (row, (clauses, proof, answer)) in rows.iter().enumerate() {
         let all = proof.as_bytes();

@@ -1,11 +1,12 @@
 //! Which literals are true.
-ghost use Rattle.std.specs.Prelude.{◌≡◌, ◌<◌, ◌≤◌, ◌^◌, ◌-◌, [], ℕ, length, take, get_or, false, true, not, eqb, ◌&&◌, OnOk};
+ghost use Rattle.std.specs.Prelude.{◌≡◌, ◌<◌, ◌-◌, [], ℕ, length, take, OnOk};
 ghost use Rattle.std.specs.List.{list_any};
 ghost use Rattle.sat_rules.specs.Clauses.{has, unfalsified};
 ghost use Rattle.lrat_rules.specs.Groups.{add_negated};
 ghost use Rattle.lrat_rules.specs.Propagation.{Ending, by_left};
 ghost use Rattle.lrat_checker.specs.Values.{IsGrown, among, is_other, lits_besides, with_lit};
 
+use crate::marks::Marks;
 use sat_formula::Lit;
 use std::alloc::{AllocError, Global};
 use std::marker::Model;
@@ -14,20 +15,20 @@ use std::marker::Model;
 /// literal and its negation can both be.
 #[derive(Drop)]
 pub(crate) struct Values {
-    /// By the code of the literal.
-    is_true: Vec<bool>,
+    marks: Marks,
     trail: Vec<Lit>,
 }
 
 impl Model for Values {
     ghost use Rattle.std.specs.Prelude.{ℕ, List};
+    ghost use Rattle.lrat_checker.specs.Marks.{has_mark};
     ghost use Rattle.lrat_checker.specs.Values.{IsMarked};
 
     ghost Value = { List ℕ };
 
     ghost view = { λ v. v.trail.items };
 
-    ghost invariant = { λ v. IsMarked v.is_true.items v.trail.items };
+    ghost invariant = { λ v. IsMarked (has_mark v.marks) v.trail.items };
 }
 
 /// The literals of a clause that are not false.
@@ -47,7 +48,7 @@ impl Values {
         ensures { result ≡ [] }
     {
         Values {
-            is_true: Vec::new(alloc),
+            marks: Marks::new(alloc),
             trail: Vec::new(alloc),
         }
     }
@@ -59,10 +60,17 @@ impl Values {
         self.trail.len()
     }
 
+    /// There may be places for the literals of so many that are stored.
+    pub(crate) fn allow(&mut self, stored: u64)
+        ensures { self.new ≡ self.old }
+    {
+        self.marks.allow(stored);
+    }
+
     fn is_true(&self, lit: Lit) -> bool
         ensures { result ≡ has lit self.now }
     {
-        is_marked(&self.is_true, lit)
+        self.marks.has(lit)
     }
 
     /// The literal is true from here on.
@@ -72,10 +80,14 @@ impl Values {
         if self.is_true(lit) {
             return Ok(());
         }
-        make_room(&mut self.is_true, lit.code())?;
-        self.trail.push(lit)?;
-        self.is_true[lit.code()] = true;
-        Ok(())
+        self.marks.set(lit)?;
+        match self.trail.push(lit) {
+            Ok(()) => Ok(()),
+            Err(_) => {
+                self.marks.clear(lit);
+                Err(AllocError)
+            }
+        }
     }
 
     /// The negations of the literals of a clause, or of those besides one, are true from here on.
@@ -97,7 +109,7 @@ impl Values {
         ensures { self.new ≡ [] }
     {
         for lit in &self.trail {
-            clear_value(&mut self.is_true, *lit);
+            self.marks.clear(*lit);
         }
         self.trail.clear();
     }
@@ -116,7 +128,7 @@ impl Values {
         ensures { self.new ≡ take (length self.old - 1) self.old }
     {
         if let Some(lit) = self.trail.pop() {
-            clear_value(&mut self.is_true, lit);
+            self.marks.clear(lit);
         }
     }
 
@@ -136,10 +148,9 @@ impl Values {
             → by_left (unfalsified (among self.now) clause.now) none one
             ≡ on_left result none one }
     {
-        let is_true = self.is_true.as_slice();
         let mut found = None;
         for lit in clause {
-            if is_marked(is_true, !*lit) {
+            if self.marks.has(!*lit) {
                 continue;
             }
             if is_other(found, *lit) {
@@ -151,36 +162,6 @@ impl Values {
             None => Left::Nothing,
             Some(lit) => Left::One(lit),
         }
-    }
-}
-
-/// The value of a literal.
-#[inline(always)]
-fn is_marked(is_true: &[bool], lit: Lit) -> bool
-    ensures { result ≡ get_or is_true.now lit false }
-{
-    is_true.get(lit.code()).copied().unwrap_or(false)
-}
-
-/// Makes room for the value of a code.
-fn make_room(is_true: &mut Vec<bool>, code: usize) -> Result<(), AllocError>
-    requires { code < 2 ^ 29 }
-    ensures same { (l : ℕ) → get_or is_true.new.items l false ≡ get_or is_true.old.items l false }
-    ensures room { OnOk result (code < length is_true.new.items) }
-{
-    if is_true.len() <= code {
-        is_true.resize(code + 1, false)?;
-    }
-    Ok(())
-}
-
-/// The literal is not true from here on.
-fn clear_value(is_true: &mut Vec<bool>, lit: Lit)
-    ensures { (l : ℕ) → get_or is_true.new.items l false
-        ≡ (not (eqb l lit) && get_or is_true.old.items l false) }
-{
-    if let Some(value) = is_true.get_mut(lit.code()) {
-        *value = false;
     }
 }
 

@@ -141,8 +141,8 @@ fn logged(rt: &HostRuntime) -> Logged<&HostRuntime, FilteredLog<Console<&HostRun
     Logged::new(rt, filter.filter(), FilteredLog::new(Console(rt), filter))
 }
 
-/// Says why there is no verdict and of which file that is, warns of a header that lies, and gives the
-/// exit status.
+/// Says why there is no verdict and of which file that is, warns of a header that lies, and gives
+/// the exit status.
 fn report_files(
     rt: &HostRuntime,
     outcome: &Result<Verdict, RunFault>,

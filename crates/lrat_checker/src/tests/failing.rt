@@ -29,7 +29,7 @@ fn readers_that_fail(rt: HostRuntime) -> Result<(), Fail> {
     Ok(())
 }
 
-// What is answered after a fault, by each call.
+/// What is answered after a fault, by each call.
 #[test]
 fn calls_after_a_fault(rt: HostRuntime) -> Result<(), Fail> {
     let mut checker = checker(&rt, UNITS)?;

@@ -1,5 +1,5 @@
 //! Lines that add clauses by propagation, deletions and ids.
-use super::{BOTH, FOUR, Row, THREE, UNITS, checker, shown, wrong_broken_row, wrong_row};
+use super::{BOTH, FOUR, Numbers, Row, THREE, UNITS, checker, shown, wrong_broken_row, wrong_row};
 use std::test::Fail;
 
 const PROPAGATION: [Row; 18] = [
@@ -43,8 +43,8 @@ const PROPAGATION: [Row; 18] = [
     (&[&[-2, 2]], "2 2 -2 0 1 0", "accepted"),
 ];
 
-// What a checker of lines of hints would refuse too, or would not: ids need not rise, and hints may
-// go on after the conflict.
+/// What a checker of lines of hints would refuse too, or would not: ids need not rise, and hints
+/// may go on after the conflict.
 const LINES_OF_HINTS: [Row; 9] = [
     (FOUR, "9 1 0 1 2 0\n10 0 9 3 4 0\n", "refuted"),
     (UNITS, "5 0 1 2 0", "refuted"),
@@ -59,6 +59,45 @@ const LINES_OF_HINTS: [Row; 9] = [
         "line 2: no clause has the id of a hint",
     ),
     (UNITS, "x", "line 1: malformed line"),
+];
+
+/// 2^28 is the greatest number of a variable, and its literals have no places.
+const PAIRS: Numbers = &[
+    &[1, 268435456],
+    &[1, -268435456],
+    &[-1, 268435456],
+    &[-1, -268435456],
+];
+
+const FAR_LITERALS: [Row; 9] = [
+    (UNITS, "3 268435456 0 1 2 0\n4 0 1 2 0", "refuted"),
+    (PAIRS, "5 268435456 0 1 3 0\n6 0 5 2 4 0\n", "refuted"),
+    (PAIRS, "5 -268435456 0 2 4 0\n6 0 5 1 3 0\n", "refuted"),
+    // the value of the line before is gone
+    (
+        PAIRS,
+        "5 268435456 0 1 3 0\n6 0 1 3 0\n",
+        "line 2: clause of a hint is not unit",
+    ),
+    // with a far literal true, one that would have a place is new
+    (
+        &[&[268435456, 9], &[268435456, -9]],
+        "3 268435456 0 1 2 0\n4 268435456 9 0 3 0",
+        "accepted",
+    ),
+    // clauses that are redundant by it: none has its negation, none any more, one, and one of two
+    (UNITS, "3 -268435456 0 0", "accepted"),
+    (&[&[268435456]], "1 d 1 0\n3 -268435456 0 0", "accepted"),
+    (
+        &[&[268435456, 1]],
+        "3 -268435456 0 0",
+        "line 1: hints end without a conflict",
+    ),
+    (
+        &[&[268435456, 1], &[268435456, 2]],
+        "1 d 1 0\n3 -268435456 0 0",
+        "line 2: hints end without a conflict",
+    ),
 ];
 
 const IDS: [Row; 15] = [
@@ -125,13 +164,20 @@ fn lines_of_hints(rt: HostRuntime) -> Result<(), Fail> {
 }
 
 #[test]
+fn far_literals(rt: HostRuntime) -> Result<(), Fail> {
+    assert_eq!(rt; wrong_row(&rt, &FAR_LITERALS)?, None);
+    assert_eq!(rt; wrong_broken_row(&rt, &FAR_LITERALS)?, None);
+    Ok(())
+}
+
+#[test]
 fn ids_of_lines(rt: HostRuntime) -> Result<(), Fail> {
     assert_eq!(rt; wrong_row(&rt, &IDS)?, None);
     assert_eq!(rt; wrong_broken_row(&rt, &IDS)?, None);
     Ok(())
 }
 
-// Clauses are added and deleted again, more than the checker first has room for.
+/// Clauses are added and deleted again, more than the checker first has room for.
 #[test]
 fn many_deletions(rt: HostRuntime) -> Result<(), Fail> {
     let mut checker = checker(&rt, FOUR)?;
@@ -151,7 +197,7 @@ fn many_deletions(rt: HostRuntime) -> Result<(), Fail> {
     Ok(())
 }
 
-// An id far above the number of clauses is no longer far when it comes again.
+/// An id far above the number of clauses is no longer far when it comes again.
 #[test]
 fn ids_that_were_far(rt: HostRuntime) -> Result<(), Fail> {
     let mut text = String::from_str(rt.alloc(), "20000 2 0 2 3 0\n")?;
@@ -171,7 +217,7 @@ fn ids_that_were_far(rt: HostRuntime) -> Result<(), Fail> {
     Ok(())
 }
 
-// Lines of several texts are checked one after the other; each text counts its lines from 1.
+/// Lines of several texts are checked one after the other; each text counts its lines from 1.
 #[test]
 fn several_texts(rt: HostRuntime) -> Result<(), Fail> {
     let mut checker = checker(&rt, FOUR)?;
@@ -223,7 +269,7 @@ fn refuting_stops_at_the_empty_clause(rt: HostRuntime) -> Result<(), Fail> {
     Ok(())
 }
 
-// The empty clause of a formula refutes it, whatever the proof.
+/// The empty clause of a formula refutes it, whatever the proof.
 #[test]
 fn empty_clause_of_the_formula(rt: HostRuntime) -> Result<(), Fail> {
     let rows: [Row; 3] = [

@@ -1,5 +1,5 @@
-use Rattle.std.proofs.Common.{true, Some, None, Ok, Err, subst, sym, ap, ◌∙◌}
-use Rattle.lrat_text.specs.NextLine.{Gives, bytes_left, has_ended, line_number}
+use Rattle.std.proofs.Common.{true, Err, subst, sym, ap, ◌∙◌}
+use Rattle.lrat_text.specs.NextLine.{bytes_left, has_ended, line_number}
 use Rattle.lrat_checker.specs.Faults.{in_line}
 use Rattle.lrat_checker.specs.TextAnswers.{IfCut, IsCut, IsTextAnswer}
 use Rattle.lrat_checker.proofs.ReadingLemmas.{next_cut, next_ended, next_more, next_refused, next_unread}

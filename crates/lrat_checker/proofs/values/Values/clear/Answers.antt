@@ -1,7 +1,8 @@
-use Rattle.std.proofs.Common.{◌≡◌, ℕ, Bool, true, false, [], List, drop, get_or, refl, sym, ap, ◌∙◌, subst, arith}
+use Rattle.std.proofs.Common.{◌≡◌, ℕ, false, drop, sym, ap, ◌∙◌, subst}
 use Rattle.std.proofs.lemmas.Bool.{false≢true}
 use Rattle.std.proofs.lemmas.List.{at_drop_all}
 use Rattle.sat_rules.specs.Clauses.{has}
+use Rattle.lrat_checker.specs.Marks.{has_mark}
 use Rattle.lrat_checker.specs.Values.{IsMarked}
 use Rattle.lrat_checker.proofs.TrailLemmas.{later_in_trail, marked-none}
 use Rattle.lrat_checker.proofs.values.Values.clear.Goals as goal
@@ -11,10 +12,10 @@ loop-lit-init c = λ k t. ap (has k) c.deref-lit-items.ensures.value ∙ sym (c.
 
 pub loop-lit-preserved : goal.loop-lit-preserved
 loop-lit-preserved c = λ k t.
-    later_in_trail c.deref-lit-items.result.now c.loop-lit.lit-index k c.lit-item.result _ c.loop-lit-test.true c.lit-item.is (c.loop-lit.invariant k) (sym (c.clear_value.ensures k) ∙ t)
+    later_in_trail c.deref-lit-items.result.now c.loop-lit.lit-index k c.lit-item.result _ c.loop-lit-test.true c.lit-item.is (c.loop-lit.invariant k) (sym (c.clear.ensures k) ∙ t)
 
 pub invariant_of-self : goal.invariant_of-self
 invariant_of-self c =
-    let marks = c.loop-lit.self-inside.1.0.items in
+    let marks = has_mark c.loop-lit.self-inside.1.0 in
     let past : (k : ℕ) → has k (drop c.loop-lit.lit-index c.deref-lit-items.result.now) ≡ false = λ k. at_drop_all (has k) c.deref-lit-items.result.now c.loop-lit.lit-index c.loop-lit-test.false in
-    subst (IsMarked marks) (sym c.clear.ensures.items) (marked-none marks (λ k t. false≢true (sym (past k) ∙ c.loop-lit.invariant k t)))
+    subst (IsMarked marks) (sym c.clear-2.ensures.items) (marked-none marks (λ k t. false≢true (sym (past k) ∙ c.loop-lit.invariant k t)))

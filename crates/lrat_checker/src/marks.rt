@@ -1,0 +1,107 @@
+//! Marks of literals.
+ghost use Rattle.std.specs.Prelude.{◌≡◌, ◌+◌, ◌*◌, ◌<◌, ◌≤◌, ◌^◌, ◌&&◌, ◌||◌, ◌==◌, ℕ, false, not, length, nat_eq, OnErr, OnOk};
+ghost use Rattle.std.specs.HashSet.{contains, hash_set_len};
+ghost use Rattle.lrat_checker.specs.Room.{gets_room, spare_lits};
+
+use crate::room::gets_room;
+use sat_formula::Lit;
+use std::alloc::{AllocError, Global};
+use std::collections::HashSet;
+
+/// Marks of literals: near ones by their codes in turn, and far ones, whose codes are far above the
+/// number of literals that were stored, in a set.
+#[derive(Drop)]
+pub(crate) struct Marks {
+    near: Vec<bool>,
+    /// The codes of the marked literals beyond those.
+    far: HashSet<usize>,
+    /// There may be four places for each of so many literals, spare ones aside.
+    stored: u64,
+    ghost few: { length near.items ≤ 4 * (stored + spare_lits) + 4 },
+}
+
+impl Marks {
+    ghost use Rattle.lrat_checker.specs.Marks.{has_mark};
+
+    /// No literal is marked.
+    pub(crate) fn new(alloc: Global) -> Marks
+        ensures { (l : ℕ) → has_mark result l ≡ false }
+    {
+        Marks {
+            near: Vec::new(alloc),
+            far: HashSet::new(alloc),
+            stored: 0,
+        }
+    }
+
+    /// There may be places for the literals of so many that are stored.
+    pub(crate) fn allow(&mut self, stored: u64)
+        ensures { (l : ℕ) → has_mark self.new l ≡ has_mark self.old l }
+    {
+        self.stored = self.stored.max(stored);
+    }
+
+    /// Whether a literal is marked.
+    #[inline(always)]
+    pub(crate) fn has(&self, lit: Lit) -> bool
+        ensures { result ≡ has_mark self.now lit }
+    {
+        let code = lit.code();
+        if code < self.near.len() {
+            self.near[code]
+        } else {
+            self.has_far(code)
+        }
+    }
+
+    fn has_far(&self, code: usize) -> bool
+        ensures { result ≡ contains nat_eq self.now.far code }
+    {
+        !self.far.is_empty() && self.far.contains(&code)
+    }
+
+    /// The literal is marked from here on.
+    #[inline(always)]
+    pub(crate) fn set(&mut self, lit: Lit) -> Result<(), AllocError>
+        ensures ok { OnOk result ((l : ℕ)
+            → has_mark self.new l ≡ (l == lit || has_mark self.old l)) }
+        ensures err { OnErr result ((l : ℕ) → has_mark self.new l ≡ has_mark self.old l) }
+    {
+        let code = lit.code();
+        if code < self.near.len() {
+            self.near[code] = true;
+            return Ok(());
+        }
+        self.set_new(code)
+    }
+
+    fn set_new(&mut self, code: usize) -> Result<(), AllocError>
+        requires beyond { length self.old.near.items ≤ code }
+        requires small { code < 2 ^ 29 }
+        ensures ok { OnOk result ((l : ℕ)
+            → has_mark self.new l ≡ (l == code || has_mark self.old l)) }
+        ensures err { OnErr result ((l : ℕ) → has_mark self.new l ≡ has_mark self.old l) }
+    {
+        if self.far.is_empty() && gets_room(code, self.stored) {
+            self.near.resize(code + 1, false)?;
+            self.near[code] = true;
+            return Ok(());
+        }
+        match self.far.insert(code) {
+            Ok(_) => Ok(()),
+            Err(_) => Err(AllocError),
+        }
+    }
+
+    /// The literal is not marked from here on.
+    pub(crate) fn clear(&mut self, lit: Lit)
+        ensures { (l : ℕ) → has_mark self.new l ≡ (not (l == lit) && has_mark self.old l) }
+    {
+        let code = lit.code();
+        if code < self.near.len() {
+            self.near[code] = false;
+        } else {
+            self.far.remove(&code);
+        }
+    }
+}
