@@ -23,7 +23,7 @@ import sys
 from sources import below, calls, cited, contracts, crates, laws, lines_of, listed, text_of
 
 LINK = re.compile(r"\]\(([^)#:\s]*)(#[^)\s]*)?\)")
-FOLDERS = ("benches", "bindings", "crates", "docs", "tests")
+FOLDERS = ("benches", "bindings", "crates", "docs", "tests", "tools")
 NAMED = re.compile(r"`((?:%s)/[\w./-]+)`" % "|".join(FOLDERS))
 PLACEHOLDER = re.compile(r"NAME|CRATE|SUBJECT|MODULE|/out/")
 LINES = re.compile(r"`([\w./-]+)` \((\d+) lines\)")
