@@ -52,6 +52,7 @@ int main(int count, char **words) {
 
     CaDiCaL::Solver solver;
     int variables;
+    solver.set("quiet", 1);
     if (!solver.trace_proof(proof, "pipe"))
         refuse("trace_proof");
     if (const char *fault = solver.read_dimacs(words[2], variables)) {
