@@ -117,6 +117,7 @@ done
 put 755 "$top/tools/cubes" bin/cubes
 put 644 "$top/bindings/c/cefindrato.h" include/cefindrato.h
 put 644 "$top/bindings/cpp/cefindrato.hpp" include/cefindrato.hpp
+put 644 "$top/bindings/cpp/cefindrato_running.hpp" include/cefindrato_running.hpp
 put 644 "$work/libcefindrato.a" lib/libcefindrato.a
 put 755 "$work/libcefindrato.so" "lib/libcefindrato.so.$version"
 for name in libcefindrato.so.0 libcefindrato.so; do

@@ -1,6 +1,7 @@
 #!/usr/bin/env bash
-# Proofs that are checked while they are written: by `lrat_check` line by line from a pipe; and where cadical is there, by
-# `drat_check` from the solver and from a program that has the solver's library (Debian: cadical, libcadical-dev).
+# Proofs that are checked while they are written: by `lrat_check` line by line from a pipe, from C++ and Python too; and where
+# cadical is there, by `drat_check` from the solver and from a program that has the solver's library (Debian: cadical,
+# libcadical-dev).
 #
 # The programs must be built: `rt ci` does it, or `rt run` in their folders.
 set -euo pipefail
@@ -75,6 +76,13 @@ has() {
   }
 }
 
+compiled=(c++ -std=c++17 -O2 -Wall -Wextra -Werror -pthread -I"$top/bindings/c" -I"$top/bindings/cpp")
+if has c++; then
+  "${compiled[@]}" -o running "$top/tests/bindings/running.cpp"
+  ./running "$lrat_check" four.cnf || wrong=1
+fi
+PYTHONPATH=$top/bindings/python python3 -B "$top/tests/bindings/running.py" "$lrat_check" four.cnf || wrong=1
+
 formula() {
   python3 -B "$top/tests/drat/formulas.py" "$@"
 }
@@ -104,18 +112,21 @@ fi
 
 echo '#include <cadical.hpp>' > has.cpp
 if has c++ && c++ -E has.cpp > null 2>&1; then
-  c++ -std=c++17 -O2 -Wall -Wextra -Werror -o with_cadical "$top/bindings/cpp/with_cadical.cpp" -lcadical
+  "${compiled[@]}" -o with_cadical "$top/bindings/cpp/with_cadical.cpp" -lcadical
   # run STATUS OUTPUT ARGUMENT..: the program with the solver's library must end so
   run() {
     status=0
     ./with_cadical "$drat_check" "${@:3}" > said 2> err || status=$?
     wants "$1" "$2" "with_cadical ${*:3}"
   }
-  run 0 's VERIFIED UNSAT' pigeons.cnf
-  run 0 's VERIFIED UNSAT' multiplier.cnf
+  run 0 verified pigeons.cnf
+  run 0 verified multiplier.cnf
   # there is a model; and the solver gives up
-  run 3 's NOT VERIFIED' six.cnf
-  run 3 's NOT VERIFIED' pigeons.cnf 10
+  run 3 'not verified' six.cnf
+  run 3 'not verified' pigeons.cnf 10
+  # a checker that is not there
+  drat_check=./none
+  run 2 '' pigeons.cnf
 else
   echo "the header cadical.hpp is not installed: not tried"
 fi
