@@ -20,7 +20,7 @@ WAYS = {
     "lrat_check": ("lrat_text", "lrat_checker", "lrat_check"),
     "hint_check": ("hint_checker", "hint_check"),
     "varisat_check": ("proof_bytes", "checker_steps", "clause_store", "varisat_checker", "varisat_check"),
-    "lrat_to_proof": ("lrat_text", "lrat_convert"),
+    "lrat_to_proof": ("lrat_text", "lrat_to_proof"),
 }
 
 # The crates that hold the formula and decide. A way without one ends in the crate that takes the formula.

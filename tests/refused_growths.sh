@@ -1,12 +1,12 @@
 #!/usr/bin/env bash
 # Refuses the growths of programs, one after the other: first each alone, and then all from each one on.
 #
-# It plays the rows of `refusal_rows`, which judges them itself, and runs the programs on real proofs: no verdict may stand in
+# It plays the rows of `refused_growths`, which judges them itself, and runs the programs on real proofs: no verdict may stand in
 # place of an error. The programs must be built: `rt ci` does it, or `rt run` in their folders. It needs `cc`.
 set -euo pipefail
 
 top=$(cd "$(dirname "$0")/.." && pwd)
-rows=$top/crates/refusal_rows/out/refusal_rows
+rows=$top/crates/refused_growths/out/refused_growths
 check=$top/crates/varisat_check_main/out/varisat_check_main
 hint_check=$top/crates/hint_check_main/out/hint_check_main
 lrat_check=$top/crates/lrat_check_main/out/lrat_check_main

@@ -16,9 +16,9 @@
 use check_calls::answers::answer;
 use check_calls::calls::{bytes, first_word, lines_at_bars, lits, make, prove, read};
 use check_calls::cuts::Cuts;
-use check_vectors::boxes::{Faulty, NameList, StepList, Tally, TranscriptList};
 use checker_parts::processor::{ProofProcessor, ProofTranscriptProcessor};
 use checker_parts::step::ProofTranscriptStep;
+use example_processors::boxes::{Faulty, NameList, StepList, Tally, TranscriptList};
 use log::sink::Discard;
 use sat_hints::LratWriter;
 use std::alloc::Global;

@@ -1,6 +1,23 @@
-//! Processors and transcripts of several kinds, and a caller that counts steps by one.
+//! Scripts of calls of the checker as tests: what each call answers, and what boxes are told of it.
+//!
+//! They go over several crates, and stand apart so that nothing is proved a second time with them.
 #![tactic(auto)]
 
-pub mod boxes;
-pub mod counting;
-mod lines;
+#[cfg(test)]
+mod deletions;
+#[cfg(test)]
+mod derived_clauses;
+#[cfg(test)]
+mod formulas;
+#[cfg(test)]
+mod input_clauses;
+#[cfg(test)]
+mod models;
+#[cfg(test)]
+mod names;
+#[cfg(test)]
+mod proofs;
+#[cfg(test)]
+mod script;
+#[cfg(test)]
+mod scripts;

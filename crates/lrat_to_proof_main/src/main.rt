@@ -9,7 +9,7 @@ use command::{
     CountingReader, Input, NOT_RUN, create_output, help, open_input, refuse, say_formula,
     say_proof, usage, version, warn_of_header,
 };
-use lrat_convert::{Conversion, ConvertFault, HashWidth, convert, exit_status};
+use lrat_to_proof::{Conversion, ConvertFault, HashWidth, convert, exit_status};
 use std::fs::File;
 use std::io::{BufWriter, Write};
 use std::process::ExitCode;

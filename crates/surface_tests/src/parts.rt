@@ -2,9 +2,9 @@
 ghost use Rattle.checker_steps.specs.Context.{ContextInvariant};
 
 use check_calls::calls::lits;
-use check_vectors::boxes::Tally;
 use checker_parts::processor::ProofProcessor;
 use checker_parts::step::CheckedProofStep;
+use example_processors::boxes::Tally;
 use sat_formula::Lit;
 use std::alloc::Global;
 use std::process::Abort;

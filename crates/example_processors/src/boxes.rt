@@ -1,0 +1,248 @@
+//! Processors and transcripts of several kinds, for tests and as examples.
+ghost use Rattle.std.specs.Prelude.{◌≡◌, ◌+◌, [], ◌++◌, codes, OnOk, OnErr};
+ghost use Rattle.std.specs.String.{string_bytes};
+ghost use Rattle.example_processors.specs.Texts.{Appends};
+
+use crate::lines::{name_line, step_line, transcript_line};
+use anyhow::bail;
+use checker_parts::processor::{CheckerData, ProofProcessor, ProofTranscriptProcessor};
+use checker_parts::step::{CheckedProofStep, ProofTranscriptStep};
+use std::alloc::Global;
+
+/// Makes a stroke for each step, and shows the strokes.
+#[derive(Drop)]
+pub struct Tally {
+    strokes: Vec<u8>,
+}
+
+impl Tally {
+    /// No strokes.
+    pub fn new(alloc: Global) -> Tally
+        ensures { result.strokes.items ≡ [] }
+    {
+        Tally {
+            strokes: Vec::new(alloc),
+        }
+    }
+
+    /// Makes one stroke more.
+    fn stroke(&mut self) -> Result<(), anyhow::Error>
+        ensures made { OnOk result (self.new.strokes.items ≡ self.old.strokes.items ++ codes "|") }
+        ensures kept { OnErr result (self.new.strokes.items ≡ self.old.strokes.items) }
+    {
+        self.strokes.push(b'|')?;
+        Ok(())
+    }
+}
+
+impl ProofProcessor for Tally {
+    ghost took = { λ old e new. new.strokes.items ≡ old.strokes.items ++ codes "|" };
+
+    ghost faulted = { λ old e new. new.strokes.items ≡ old.strokes.items };
+
+    ghost shown = { λ it. it.strokes.items };
+
+    fn process_step(
+        &mut self,
+        _step: &CheckedProofStep,
+        _names: CheckerData,
+    ) -> Result<(), anyhow::Error> {
+        self.stroke()
+    }
+
+    fn output(&self) -> &[u8] {
+        &self.strokes
+    }
+}
+
+impl ProofTranscriptProcessor for Tally {
+    ghost took = { λ old e new. new.strokes.items ≡ old.strokes.items ++ codes "|" };
+
+    ghost faulted = { λ old e new. new.strokes.items ≡ old.strokes.items };
+
+    ghost shown = { λ it. it.strokes.items };
+
+    fn process_step(&mut self, _step: &ProofTranscriptStep) -> Result<(), anyhow::Error> {
+        self.stroke()
+    }
+
+    fn output(&self) -> &[u8] {
+        &self.strokes
+    }
+}
+
+/// Takes so many steps, answers a fault at each one after them, and shows nothing.
+#[derive(Drop)]
+pub struct Faulty {
+    left: u64,
+}
+
+impl Faulty {
+    pub fn after(left: u64) -> Faulty
+        ensures { result.left ≡ left }
+    {
+        Faulty { left }
+    }
+
+    /// Takes one step more, or answers the fault.
+    fn take(&mut self) -> Result<(), anyhow::Error>
+        ensures took { OnOk result (self.old.left ≡ self.new.left + 1) }
+        ensures faulted { OnErr result ((self.old.left ≡ 0) × (self.new ≡ self.old)) }
+    {
+        if self.left == 0 {
+            bail!("the planned fault");
+        }
+        self.left -= 1;
+        Ok(())
+    }
+}
+
+impl ProofProcessor for Faulty {
+    ghost took = { λ old e new. old.left ≡ new.left + 1 };
+
+    ghost faulted = { λ old e new. (old.left ≡ 0) × (new ≡ old) };
+
+    ghost shown = { λ it. [] };
+
+    fn process_step(
+        &mut self,
+        _step: &CheckedProofStep,
+        _names: CheckerData,
+    ) -> Result<(), anyhow::Error> {
+        self.take()
+    }
+
+    fn output(&self) -> &[u8] {
+        &[]
+    }
+}
+
+impl ProofTranscriptProcessor for Faulty {
+    ghost took = { λ old e new. old.left ≡ new.left + 1 };
+
+    ghost faulted = { λ old e new. (old.left ≡ 0) × (new ≡ old) };
+
+    ghost shown = { λ it. [] };
+
+    fn process_step(&mut self, _step: &ProofTranscriptStep) -> Result<(), anyhow::Error> {
+        self.take()
+    }
+
+    fn output(&self) -> &[u8] {
+        &[]
+    }
+}
+
+/// Lists the steps as text, a line each.
+#[derive(Drop)]
+pub struct StepList {
+    alloc: Global,
+    text: String,
+}
+
+impl StepList {
+    /// No lines.
+    pub fn new(alloc: Global) -> StepList {
+        StepList {
+            alloc,
+            text: String::new(alloc),
+        }
+    }
+}
+
+impl ProofProcessor for StepList {
+    ghost took = { λ old e new. Appends (string_bytes old.text) (string_bytes new.text) };
+
+    ghost faulted = { λ old e new. string_bytes new.text ≡ string_bytes old.text };
+
+    ghost shown = { λ it. string_bytes it.text };
+
+    fn process_step(
+        &mut self,
+        step: &CheckedProofStep,
+        _names: CheckerData,
+    ) -> Result<(), anyhow::Error> {
+        let line = step_line(self.alloc, step)?;
+        self.text.push_str(&line)?;
+        Ok(())
+    }
+
+    fn output(&self) -> &[u8] {
+        self.text.as_bytes()
+    }
+}
+
+/// Lists the steps of a transcript as text, a line each.
+#[derive(Drop)]
+pub struct TranscriptList {
+    alloc: Global,
+    text: String,
+}
+
+impl TranscriptList {
+    /// No lines.
+    pub fn new(alloc: Global) -> TranscriptList {
+        TranscriptList {
+            alloc,
+            text: String::new(alloc),
+        }
+    }
+}
+
+impl ProofTranscriptProcessor for TranscriptList {
+    ghost took = { λ old e new. Appends (string_bytes old.text) (string_bytes new.text) };
+
+    ghost faulted = { λ old e new. string_bytes new.text ≡ string_bytes old.text };
+
+    ghost shown = { λ it. string_bytes it.text };
+
+    fn process_step(&mut self, step: &ProofTranscriptStep) -> Result<(), anyhow::Error> {
+        let line = transcript_line(self.alloc, step)?;
+        self.text.push_str(&line)?;
+        Ok(())
+    }
+
+    fn output(&self) -> &[u8] {
+        self.text.as_bytes()
+    }
+}
+
+/// Lists, a line each, the variables that get or lose a name or are deleted, with the user variable
+/// that is shown with the step.
+#[derive(Drop)]
+pub struct NameList {
+    alloc: Global,
+    text: String,
+}
+
+impl NameList {
+    /// No lines.
+    pub fn new(alloc: Global) -> NameList {
+        NameList {
+            alloc,
+            text: String::new(alloc),
+        }
+    }
+}
+
+impl ProofProcessor for NameList {
+    ghost took = { λ old e new. Appends (string_bytes old.text) (string_bytes new.text) };
+
+    ghost faulted = { λ old e new. string_bytes new.text ≡ string_bytes old.text };
+
+    ghost shown = { λ it. string_bytes it.text };
+
+    fn process_step(
+        &mut self,
+        step: &CheckedProofStep,
+        names: CheckerData,
+    ) -> Result<(), anyhow::Error> {
+        let line = name_line(self.alloc, step, names)?;
+        self.text.push_str(&line)?;
+        Ok(())
+    }
+
+    fn output(&self) -> &[u8] {
+        self.text.as_bytes()
+    }
+}

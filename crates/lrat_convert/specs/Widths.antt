@@ -1,7 +1,0 @@
--- Widths of clause hashes.
-use Rattle.std.specs.Prelude.{ℕ}
-use Rattle.lrat_convert.specs.declared.width.HashWidth.{HashWidth}
-
--- how many bits
-abbrev pub bits_of : HashWidth → ℕ
-bits_of width = width.bits

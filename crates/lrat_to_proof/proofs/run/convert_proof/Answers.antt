@@ -1,0 +1,34 @@
+use Rattle.std.proofs.Common.{ap, ◌∙◌}
+use Rattle.std.proofs.lemmas.Result.{err_from_is_err_and}
+use Rattle.lrat_to_proof.specs.Converting.{begun}
+use Rattle.lrat_to_proof.specs.Holding.{Holding}
+use Rattle.lrat_to_proof.specs.Standing.{holding_of}
+use Rattle.lrat_to_proof.specs.Statuses.{conversion_of}
+use Rattle.lrat_to_proof.specs.Widths.{bits_of}
+use Rattle.lrat_to_proof.proofs.run.convert_proof.Goals as goal
+
+pub returns-in_err-convert_lines : goal.returns-in_err-convert_lines
+returns-in_err-convert_lines g c =
+    let width = bits_of c.args.width in
+    let p = err_from_is_err_and c.from_residual-in_err-convert_lines.result c.from_residual-in_err-convert_lines.ensures.1 in
+    record {
+      run = rw (p.1, p.2) (c.in_err-convert_lines.ensures width (g.W.Write.contents c.args.out.now) (begun width c.args.formula.now) c.in_ok-converter.ensures);
+    }
+
+pub returns : goal.returns
+returns g c =
+    let width = bits_of c.args.width in
+    let start = g.W.Write.contents c.args.out.now in
+    let k = c.in_ok-convert_lines.ensures width start (begun width c.args.formula.now) c.in_ok-converter.ensures in
+    let ended = c.in_ok-end.ensures in
+    let wrote = ended.ok width start k.1 k.3 in
+    record {
+      run = record {
+        lines = k.0;
+        end = k.1;
+        leads = k.2;
+        answer = c.of.ensures ∙ ap conversion_of (c.is_done.ensures ∙ ap (λ held. (holding_of held).refuted) ended.held ∙ ap (λ (held : Holding). held.refuted) k.3.held);
+        written = wrote.bytes;
+        fits = wrote.fits;
+      };
+    }

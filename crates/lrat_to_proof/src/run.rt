@@ -1,0 +1,83 @@
+//! Conversions of a whole proof.
+ghost use Rattle.std.specs.Prelude.{ℕ, List, Option};
+ghost use Rattle.lrat_to_proof.specs.Converting.{Converted};
+ghost use Rattle.lrat_to_proof.specs.Runs.{ConvertsLines, IsProofRun, IsRun};
+ghost use Rattle.lrat_to_proof.specs.Standing.{HasConverted};
+ghost use Rattle.lrat_to_proof.specs.Widths.{bits_of};
+
+use crate::converter::Converter;
+use crate::fault::ConvertFault;
+use crate::status::Conversion;
+use crate::width::HashWidth;
+use lrat_text::LineReader;
+use sat_formula::{CnfFormula, read_formula};
+use std::alloc::Global;
+use std::io::{Read, Write};
+
+/// Writes the lines of an LRAT proof after a formula as proof bytes of version 2, up to the first
+/// line that adds the empty clause or the opposite of a unit. What stands after that line is not
+/// read.
+///
+/// Lines are read and written one after the other. Whether the added clauses follow is not judged:
+/// that is for the checker that reads the bytes.
+pub fn convert_proof<P: Read + Drop, W: Write>(
+    alloc: Global,
+    formula: &CnfFormula,
+    proof: P,
+    width: HashWidth,
+    out: &mut W,
+) -> Result<Conversion, ConvertFault>
+    ensures run { IsProofRun (P.remaining proof) (bits_of width) formula.now
+        (W.contents out.old) (W.contents out.new) result }
+{
+    let mut converter = Converter::new(alloc, formula, width, out)?;
+    convert_lines(alloc, &mut converter, proof, out)?;
+    converter.end(out)?;
+    Ok(Conversion::of(converter.is_done()))
+}
+
+/// Reads a formula in DIMACS CNF, and writes the lines of an LRAT proof as above.
+///
+/// The proof is read only once the formula was read whole.
+pub fn convert<F: Read + Drop, P: Read + Drop, W: Write>(
+    alloc: Global,
+    cnf: F,
+    proof: P,
+    width: HashWidth,
+    out: &mut W,
+) -> Result<Conversion, ConvertFault>
+    ensures run { IsRun (F.remaining cnf) (P.remaining proof) (bits_of width)
+        (W.contents out.old) (W.contents out.new) result }
+{
+    match read_formula(alloc, cnf) {
+        Ok(formula) => convert_proof(alloc, &formula, proof, width, out),
+        Err(fault) => Err(ConvertFault::Formula(fault)),
+    }
+}
+
+/// The lines of a text in turn.
+fn convert_lines<P: Read + Drop, W: Write>(
+    alloc: Global,
+    converter: &mut Converter,
+    proof: P,
+    out: &mut W,
+) -> Result<(), ConvertFault>
+    ensures { (width : ℕ) (start : Option (List ℕ)) (c : Converted)
+        → HasConverted width start (W.contents out.old) c converter.old
+        → ConvertsLines (P.remaining proof) width c start (W.contents out.new) converter.new
+        result }
+{
+    let mut reader = LineReader::new(alloc, proof);
+    'lines: while !converter.is_done() {
+        match reader.next_line() {
+            Ok(Some(line)) => {
+                if let Err(stop) = converter.take_line(line, out) {
+                    return Err(stop.in_line(reader.line()));
+                }
+            }
+            Ok(None) => return Ok(()),
+            Err(fault) => return Err(ConvertFault::from(fault)),
+        }
+    }
+    Ok(())
+}

@@ -1,0 +1,108 @@
+//! Steps, written one after the other.
+ghost use Rattle.std.specs.Prelude.{◌≡◌, [], ◌∷◌, ◌++◌, ℕ, List, Option, Some, OnOk};
+ghost use Rattle.checker_rules.specs.Step.{Step};
+ghost use Rattle.proof_bytes.specs.NextStep.{view};
+ghost use Rattle.lrat_to_proof.specs.Converting.{deletion, derivation, header};
+ghost use Rattle.lrat_to_proof.specs.Standing.{HasWritten, entry_of};
+ghost use Rattle.lrat_to_proof.specs.Widths.{bits_of};
+
+use crate::clause::HeldClause;
+use crate::fault::GivenUp;
+use crate::width::HashWidth;
+use proof_bytes::{ClauseHash, DeleteClauseProof, ProofStep, ProofWriter};
+use std::alloc::Global;
+use std::io::Write;
+
+/// Writes steps in version 2 of the proof bytes.
+#[derive(Drop)]
+pub(crate) struct StepWriter {
+    writer: ProofWriter,
+    /// The bytes of one step.
+    bytes: Vec<u8>,
+}
+
+impl StepWriter {
+    /// A writer that has written nothing.
+    pub(crate) fn new(alloc: Global) -> StepWriter
+        ensures { (start : Option (List ℕ)) → HasWritten start start [] result }
+    {
+        StepWriter {
+            writer: ProofWriter::new(),
+            bytes: Vec::new(alloc),
+        }
+    }
+
+    /// Sets a width other than 64.
+    pub(crate) fn begin<W: Write>(&mut self, width: HashWidth, out: &mut W) -> Result<(), GivenUp>
+        ensures ok { (start : Option (List ℕ)) → HasWritten start (W.contents out.old) [] self.old
+            → OnOk result
+            (HasWritten start (W.contents out.new) (header (bits_of width)) self.new) }
+    {
+        let bits = width.bits();
+        if bits == 64 {
+            return Ok(());
+        }
+        self.write(&ProofStep::ChangeHashBits { bits }, out)
+    }
+
+    /// Adds a clause by these hashes, unless it is a tautology.
+    pub(crate) fn derive<W: Write>(
+        &mut self,
+        clause: &HeldClause,
+        hashes: &[ClauseHash],
+        out: &mut W,
+    ) -> Result<(), GivenUp>
+        ensures ok { (start : Option (List ℕ)) (steps : List Step)
+            → HasWritten start (W.contents out.old) steps self.old
+            → OnOk result (HasWritten start (W.contents out.new)
+            (steps ++ derivation (entry_of clause.now).lits hashes.now) self.new) }
+    {
+        if clause.is_tautology() {
+            return Ok(());
+        }
+        let step = ProofStep::AtClause {
+            redundant: true,
+            clause: clause.lits(),
+            propagation_hashes: hashes,
+        };
+        self.write(&step, out)
+    }
+
+    /// Deletes one copy of a clause, where a step has to.
+    pub(crate) fn delete<W: Write>(
+        &mut self,
+        clause: &HeldClause,
+        out: &mut W,
+    ) -> Result<(), GivenUp>
+        ensures ok { (start : Option (List ℕ)) (steps : List Step)
+            → HasWritten start (W.contents out.old) steps self.old
+            → OnOk result (HasWritten start (W.contents out.new)
+            (steps ++ deletion (Some (entry_of clause.now))) self.new) }
+    {
+        if !clause.is_deleted_by_a_step() {
+            return Ok(());
+        }
+        let step = ProofStep::DeleteClause {
+            clause: clause.lits(),
+            proof: DeleteClauseProof::Redundant,
+        };
+        self.write(&step, out)
+    }
+
+    /// Writes one step more.
+    pub(crate) fn write<W: Write>(
+        &mut self,
+        step: &ProofStep<'_>,
+        out: &mut W,
+    ) -> Result<(), GivenUp>
+        ensures ok { (start : Option (List ℕ)) (steps : List Step)
+            → HasWritten start (W.contents out.old) steps self.old
+            → OnOk result (HasWritten start (W.contents out.new) (steps ++ view step.now ∷ [])
+            self.new) }
+    {
+        self.bytes.clear();
+        self.writer.write(&mut self.bytes, step)?;
+        out.write_all(&self.bytes)?;
+        Ok(())
+    }
+}

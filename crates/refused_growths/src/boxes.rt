@@ -1,0 +1,274 @@
+//! Boxes that are registered, handed back and dropped.
+use crate::answer::step_answer;
+use crate::few::lits;
+use crate::outcome::{Memory, Played, Stop, Wrong};
+use crate::runs::{is_failed, is_want};
+use anyhow::Error;
+use checker_parts::error::CheckerError;
+use checker_parts::processor::{CheckerData, ProofProcessor, ProofTranscriptProcessor};
+use checker_parts::step::{CheckedProofStep, ProofTranscriptStep};
+use example_processors::boxes::Tally;
+use log::sink::Discard;
+use sat_formula::CnfFormula;
+use std::alloc::Global;
+use std::cell::Cell;
+use std::rc::Rc;
+use varisat_check::{RunFault, run_lrat};
+use varisat_checker::Checker;
+
+/// Registers a processor, and once more where it is handed back for want of memory. None: it is
+/// handed back again.
+///
+/// What it shows and what the checker records are as before each time.
+pub fn register(
+    checker: &mut Checker,
+    processor: Box<dyn ProofProcessor>,
+) -> Result<Option<Memory>, Stop> {
+    let (shown, inputs) = (processor.output().len(), checker.input_clauses());
+    let handed_back = match checker.add_processor(processor) {
+        Ok(()) => return Ok(Some(Memory::Ample)),
+        Err((processor, CheckerError::OutOfMemory)) => processor,
+        Err(_) => return Err(Stop::Wrong(Wrong::Answer)),
+    };
+    if handed_back.output().len() != shown || checker.input_clauses() != inputs {
+        return Err(Stop::Wrong(Wrong::ChangedByRefusal));
+    }
+    match checker.add_processor(handed_back) {
+        Ok(()) => Ok(Some(Memory::Wanting)),
+        Err((_, CheckerError::OutOfMemory)) => Ok(None),
+        Err(_) => Err(Stop::Wrong(Wrong::Answer)),
+    }
+}
+
+/// A box for a transcript.
+pub fn register_transcript(
+    checker: &mut Checker,
+    transcript: Box<dyn ProofTranscriptProcessor>,
+) -> Result<Option<Memory>, Stop> {
+    let (shown, inputs) = (transcript.output().len(), checker.input_clauses());
+    let handed_back = match checker.add_transcript(transcript) {
+        Ok(()) => return Ok(Some(Memory::Ample)),
+        Err((transcript, CheckerError::OutOfMemory)) => transcript,
+        Err(_) => return Err(Stop::Wrong(Wrong::Answer)),
+    };
+    if handed_back.output().len() != shown || checker.input_clauses() != inputs {
+        return Err(Stop::Wrong(Wrong::ChangedByRefusal));
+    }
+    match checker.add_transcript(handed_back) {
+        Ok(()) => Ok(Some(Memory::Wanting)),
+        Err((_, CheckerError::OutOfMemory)) => Ok(None),
+        Err(_) => Err(Stop::Wrong(Wrong::Answer)),
+    }
+}
+
+/// Registers boxes that have taken a step with another checker, which has a clause. They go on
+/// where they were.
+pub fn hand_on(alloc: Global) -> Played {
+    let processor = Box::new(alloc, Tally::new(alloc))?;
+    let transcript = Box::new(alloc, Tally::new(alloc))?;
+    handed_on(alloc, processor, transcript)
+}
+
+fn handed_on(
+    alloc: Global,
+    processor: Box<dyn ProofProcessor>,
+    transcript: Box<dyn ProofTranscriptProcessor>,
+) -> Played {
+    let mut first = Checker::new(alloc);
+    let filled = fill(&mut first, processor, transcript, "1 2");
+    let (mut processors, mut transcripts) = first.into_processors();
+    let Some(memory) = filled? else {
+        return Ok(Memory::Wanting);
+    };
+    let (Some(processor), Some(transcript)) = (processors.pop(), transcripts.pop()) else {
+        return Err(Stop::Wrong(Wrong::Boxes));
+    };
+    let mut second = Checker::new(alloc);
+    let taken_over = take_over(&mut second, processor, transcript);
+    let (processors, transcripts) = second.into_processors();
+    match (taken_over?, processors.as_slice(), transcripts.as_slice()) {
+        (Some(met), [processor], [transcript]) => {
+            have_strokes(processor.output(), transcript.output(), b"||")?;
+            Ok(memory.and(met))
+        }
+        (None, _, _) => Ok(Memory::Wanting),
+        _ => Err(Stop::Wrong(Wrong::Boxes)),
+    }
+}
+
+/// Registers both boxes and adds a clause. None: memory is wanted, and the checker has failed or a
+/// box is refused.
+fn fill(
+    checker: &mut Checker,
+    processor: Box<dyn ProofProcessor>,
+    transcript: Box<dyn ProofTranscriptProcessor>,
+    numbers: &str,
+) -> Result<Option<Memory>, Stop> {
+    let Some(with_processor) = register(checker, processor)? else {
+        return Ok(None);
+    };
+    let Some(with_transcript) = register_transcript(checker, transcript)? else {
+        return Ok(None);
+    };
+    if !is_added(checker, numbers)? {
+        return Ok(None);
+    }
+    Ok(Some(with_processor.and(with_transcript)))
+}
+
+/// Adds a clause, registers both boxes, and adds another one. None: as above. A checker that has
+/// failed takes no box.
+fn take_over(
+    checker: &mut Checker,
+    processor: Box<dyn ProofProcessor>,
+    transcript: Box<dyn ProofTranscriptProcessor>,
+) -> Result<Option<Memory>, Stop> {
+    if is_added(checker, "3 4")? {
+        return fill(checker, processor, transcript, "5 6");
+    }
+    let Err((processor, CheckerError::Failed)) = checker.add_processor(processor) else {
+        return Err(Stop::Wrong(Wrong::AnswerAfterFailure));
+    };
+    let Err((transcript, CheckerError::Failed)) = checker.add_transcript(transcript) else {
+        return Err(Stop::Wrong(Wrong::AnswerAfterFailure));
+    };
+    have_strokes(processor.output(), transcript.output(), b"|")?;
+    Ok(None)
+}
+
+/// Both boxes show these strokes.
+fn have_strokes(processor: &[u8], transcript: &[u8], strokes: &[u8]) -> Result<(), Stop> {
+    if processor == strokes && transcript == strokes {
+        Ok(())
+    } else {
+        Err(Stop::Wrong(Wrong::Boxes))
+    }
+}
+
+/// Adds a clause. False: memory is wanted, and the checker has failed.
+fn is_added(checker: &mut Checker, numbers: &str) -> Result<bool, Stop> {
+    let clause = lits(numbers).ok_or(Wrong::NoCall)?;
+    let answer = step_answer(&checker.add_clause(clause.as_slice()));
+    if answer.as_str() == "Ok" {
+        return Ok(true);
+    }
+    is_failed(checker, answer.as_str())?;
+    Ok(false)
+}
+
+/// Counts in a common cell that it was dropped.
+pub struct Counted {
+    drops: Rc<Cell<u64>>,
+}
+
+impl Counted {
+    fn new(drops: &Rc<Cell<u64>>) -> Result<Counted, Stop> {
+        Ok(Counted {
+            drops: drops.clone()?,
+        })
+    }
+}
+
+impl Drop for Counted {
+    fn drop(self) {
+        let Counted { drops } = self;
+        drops.set(drops.get().saturating_add(1));
+    }
+}
+
+impl ProofProcessor for Counted {
+    ghost use Rattle.std.specs.Prelude.{[]};
+
+    ghost took = { λ old e new. Unit {0} };
+
+    ghost faulted = { λ old e new. Unit {0} };
+
+    ghost shown = { λ it. [] };
+
+    fn process_step(&mut self, _step: &CheckedProofStep, _names: CheckerData) -> Result<(), Error> {
+        Ok(())
+    }
+
+    fn output(&self) -> &[u8] {
+        &[]
+    }
+}
+
+impl ProofTranscriptProcessor for Counted {
+    ghost use Rattle.std.specs.Prelude.{[]};
+
+    ghost took = { λ old e new. Unit {0} };
+
+    ghost faulted = { λ old e new. Unit {0} };
+
+    ghost shown = { λ it. [] };
+
+    fn process_step(&mut self, _step: &ProofTranscriptStep) -> Result<(), Error> {
+        Ok(())
+    }
+
+    fn output(&self) -> &[u8] {
+        &[]
+    }
+}
+
+/// A checker that is dropped drops its boxes, each once.
+pub fn drop_boxes(alloc: Global) -> Played {
+    let drops = Rc::new(alloc, Cell::new(0))?;
+    let first = Box::new(alloc, Counted::new(&drops)?)?;
+    let second = Box::new(alloc, Counted::new(&drops)?)?;
+    let transcript = Box::new(alloc, Counted::new(&drops)?)?;
+    let memory = dropped(alloc, first, second, transcript)?;
+    if drops.get() == 3 && Rc::strong_count(&drops) == 1 {
+        Ok(memory)
+    } else {
+        Err(Stop::Wrong(Wrong::Boxes))
+    }
+}
+
+/// Registers two processors and a transcript with a checker, and drops it. A box that is refused is
+/// dropped too.
+fn dropped(
+    alloc: Global,
+    first: Box<dyn ProofProcessor>,
+    second: Box<dyn ProofProcessor>,
+    transcript: Box<dyn ProofTranscriptProcessor>,
+) -> Played {
+    let mut checker = Checker::new(alloc);
+    register_three(&mut checker, first, second, transcript)
+}
+
+fn register_three(
+    checker: &mut Checker,
+    first: Box<dyn ProofProcessor>,
+    second: Box<dyn ProofProcessor>,
+    transcript: Box<dyn ProofTranscriptProcessor>,
+) -> Played {
+    let with_first = register(checker, first)?;
+    let with_second = register(checker, second)?;
+    let with_transcript = register_transcript(checker, transcript)?;
+    match (with_first, with_second, with_transcript) {
+        (Some(first), Some(second), Some(third)) => Ok(first.and(second).and(third)),
+        _ => Ok(Memory::Wanting),
+    }
+}
+
+/// A run that comes to no verdict drops its writer.
+pub fn drop_writer(alloc: Global) -> Played {
+    let drops = Rc::new(alloc, Cell::new(0))?;
+    let writer = Counted::new(&drops)?;
+    let formula = CnfFormula::new(alloc);
+    let (mut out, mut lrat) = (Vec::new(alloc), Vec::new(alloc));
+    let no_steps: &[u8] = &[];
+    let answer = run_lrat(
+        &Discard, alloc, &formula, writer, no_steps, &mut out, &mut lrat,
+    );
+    if drops.get() != 1 || !out.is_empty() || !lrat.is_empty() {
+        return Err(Stop::Wrong(Wrong::Boxes));
+    }
+    match answer {
+        Err(RunFault::Proof(CheckerError::ProofIncomplete { step: 1 })) => Ok(Memory::Ample),
+        Err(fault) => is_want(&fault),
+        Ok(_) => Err(Stop::Wrong(Wrong::Answer)),
+    }
+}
