@@ -1,5 +1,5 @@
 //! Marks of literals.
-ghost use Rattle.std.specs.Prelude.{◌≡◌, ◌+◌, ◌*◌, ◌<◌, ◌≤◌, ◌^◌, ◌&&◌, ◌||◌, ◌==◌, ℕ, false, not, length, nat_eq, OnErr, OnOk};
+ghost use Rattle.std.specs.Prelude.{◌≡◌, ◌+◌, ◌*◌, ◌<◌, ◌≤◌, ◌^◌, ◌&&◌, ◌||◌, ◌==◌, ℕ, false, not, length, max, nat_eq, OnErr, OnOk};
 ghost use Rattle.std.specs.HashSet.{contains, hash_set_len};
 ghost use Rattle.hint_checker.specs.Room.{gets_room, spare_lits};
 
@@ -25,7 +25,8 @@ impl Marks {
 
     /// No literal is marked.
     pub(crate) fn new(alloc: Global) -> Marks
-        ensures { (l : ℕ) → has_mark result l ≡ false }
+        ensures marks { (l : ℕ) → has_mark result l ≡ false }
+        ensures stored { result.stored ≡ 0 }
     {
         Marks {
             near: Vec::new(alloc),
@@ -36,7 +37,8 @@ impl Marks {
 
     /// There may be places for the literals of so many that are stored.
     pub(crate) fn allow(&mut self, stored: u64)
-        ensures { (l : ℕ) → has_mark self.new l ≡ has_mark self.old l }
+        ensures marks { (l : ℕ) → has_mark self.new l ≡ has_mark self.old l }
+        ensures stored { self.new.stored ≡ max self.old.stored stored }
     {
         self.stored = self.stored.max(stored);
     }
@@ -66,6 +68,7 @@ impl Marks {
         ensures ok { OnOk result ((l : ℕ)
             → has_mark self.new l ≡ (l == lit || has_mark self.old l)) }
         ensures err { OnErr result ((l : ℕ) → has_mark self.new l ≡ has_mark self.old l) }
+        ensures stored { self.new.stored ≡ self.old.stored }
     {
         let code = lit.code();
         if code < self.near.len() {
@@ -81,6 +84,7 @@ impl Marks {
         ensures ok { OnOk result ((l : ℕ)
             → has_mark self.new l ≡ (l == code || has_mark self.old l)) }
         ensures err { OnErr result ((l : ℕ) → has_mark self.new l ≡ has_mark self.old l) }
+        ensures stored { self.new.stored ≡ self.old.stored }
     {
         if self.far.is_empty() && gets_room(code, self.stored) {
             self.near.resize(code + 1, false)?;
@@ -95,7 +99,8 @@ impl Marks {
 
     /// The literal is not marked from here on.
     pub(crate) fn clear(&mut self, lit: Lit)
-        ensures { (l : ℕ) → has_mark self.new l ≡ (not (l == lit) && has_mark self.old l) }
+        ensures marks { (l : ℕ) → has_mark self.new l ≡ (not (l == lit) && has_mark self.old l) }
+        ensures stored { self.new.stored ≡ self.old.stored }
     {
         let code = lit.code();
         if code < self.near.len() {

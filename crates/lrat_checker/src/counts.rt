@@ -26,7 +26,8 @@ impl LitCounts {
 
     /// No literal stands in a clause. There may be places for the literals of so many.
     pub(crate) fn new(alloc: Global, lits: u64) -> LitCounts
-        ensures { (l : ℕ) → lit_count result l ≡ 0 }
+        ensures counts { (l : ℕ) → lit_count result l ≡ 0 }
+        ensures stored { result.stored ≡ lits }
     {
         LitCounts {
             near: Vec::new(alloc),

@@ -3,14 +3,14 @@ use Rattle.hint_checker.specs.Marks.{has_mark}
 use Rattle.hint_checker.proofs.MarkLemmas.{mark-removed, mark-unset}
 use Rattle.hint_checker.proofs.marks.Marks.clear.Goals as goal
 
-pub returns-then-code-len : goal.returns-then-code-len
-returns-then-code-len c l =
+pub returns-then-code-len-clause-marks : goal.returns-then-code-len-clause-marks
+returns-then-code-len-clause-marks c l =
     let m = c.args.self.now in
     mark-unset m.near.items m.far c.code-code.result (omega (arith, c.if-code-len.true, c.len.ensures)) l
     ∙ ap (λ k. not (eqb l k) && has_mark m l) c.code-code.ensures.value
 
-pub returns-else-code-len : goal.returns-else-code-len
-returns-else-code-len c l =
+pub returns-else-code-len-clause-marks : goal.returns-else-code-len-clause-marks
+returns-else-code-len-clause-marks c l =
     let m = c.args.self.now in
     mark-removed m.near.items m.far c.remove.new.self c.code-code.result (omega (arith, c.if-code-len.false, c.len.ensures)) c.remove.ensures.updates.0 l
     ∙ ap (λ k. not (eqb l k) && has_mark m l) c.code-code.ensures.value

@@ -11,7 +11,7 @@ loop-lit-preserved c = λ k t.
     let i = c.loop-lit.lit-index in
     let m = c.lit-item.result in
     later_in_trail trail i k m _ (omega (arith, c.loop-lit-test.true, ap (λ xs. length xs) c.deref-lit-items.ensures.value)) (c.lit-item.is ∙ ap (λ xs. get_or xs i m) c.deref-lit-items.ensures.value)
-    (c.loop-lit.invariant k) (sym (c.clear.ensures k) ∙ t)
+    (c.loop-lit.invariant k) (sym (c.clear.ensures.marks k) ∙ t)
 
 pub invariant_of-self : goal.invariant_of-self
 invariant_of-self c = record { noted = λ l t. absurd (false≢true (sym (past l) ∙ c.loop-lit.invariant l t)) }

@@ -12,7 +12,7 @@ loop-lit-init c = λ k t. ap (has k) c.deref-lit-items.ensures.value ∙ sym (c.
 
 pub loop-lit-preserved : goal.loop-lit-preserved
 loop-lit-preserved c = λ k t.
-    later_in_trail c.deref-lit-items.result.now c.loop-lit.lit-index k c.lit-item.result _ c.loop-lit-test.true c.lit-item.is (c.loop-lit.invariant k) (sym (c.clear.ensures k) ∙ t)
+    later_in_trail c.deref-lit-items.result.now c.loop-lit.lit-index k c.lit-item.result _ c.loop-lit-test.true c.lit-item.is (c.loop-lit.invariant k) (sym (c.clear.ensures.marks k) ∙ t)
 
 pub invariant_of-self : goal.invariant_of-self
 invariant_of-self c =
