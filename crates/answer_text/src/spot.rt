@@ -83,6 +83,7 @@ impl Spot {
 
     /// What the next byte does.
     #[inline(always)]
+    #[tactic(auto, unfolding(crate::specs::Places::after))]
     pub(crate) fn after(self, byte: u8) -> After
         ensures { result ≡ after self byte }
     {
