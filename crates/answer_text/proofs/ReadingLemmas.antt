@@ -1,6 +1,7 @@
 -- Bytes of an answer, one after the other.
-use Rattle.std.proofs.Common.{◌≡◌, ℕ, Bool, true, false, cond, not, ◌&&◌, List, [], ◌∷◌, ◌++◌, Option, Some, None, IfSome, Result, Ok, Err, IfOk, refl, sym, ap, ◌∙◌, append_assoc, append-nil, subst}
-use Rattle.std.specs.Prelude.{IsErrAnd, IfErr}
+use Rattle.std.proofs.Common.{◌≡◌, ℕ, suc, ◌<◌, arith, Bool, true, false, cond, not, ◌&&◌, List, [], ◌∷◌, ◌++◌, Option, Some, None, IfSome, Result, Ok, Err, IfOk, refl, sym, ap, ◌∙◌, append_assoc, append-nil, subst}
+use Rattle.std.specs.Option.{option_map}
+use Rattle.std.specs.Prelude.{IsErrAnd, IfErr, unwrap_or}
 use Rattle.std.proofs.lemmas.Result.{err_from_is_err_and}
 use Rattle.std.specs.Io.KnownBytes.{Consumes, Keeps, IsAtEnd}
 use Rattle.std.proofs.KnownBytes.{Consumes-trans, Consumes-nil, Consumes-kept}
@@ -113,3 +114,15 @@ ends_ill a b c lits s (Ok table) p k e h = tt
 ends_ill a b c lits s (Err (faults.Read d)) p k e h = absurd h
 ends_ill a b c lits s (Err (faults.Wrong line kind)) p k e h = said_so a (at_end s.line (step lits s 10)) (Faulty line kind) (text_ends a b c lits s p k e) h
 ends_ill a b c lits s (Err faults.OutOfMemory) p k e h = tt
+
+-- ---- room
+
+-- a byte takes one from the room
+pub room_less : (old new : Option ℕ) (n : ℕ) → old ≡ option_map suc new → old ≡ Some n → (m : ℕ) × (new ≡ Some m) × (n ≡ suc m)
+room_less old None n h e = let no : None ≡ Some n = sym h ∙ e in absurd (cc)
+room_less old (Some m) n h e = let is : Some (suc m) ≡ Some n = sym h ∙ e in (m, refl, cc)
+
+pub room_falls : (old new : Option ℕ) (n : ℕ) → old ≡ option_map suc new → old ≡ Some n → unwrap_or new 0 < unwrap_or old 0
+room_falls None new n h e = absurd (cc)
+room_falls (Some k) None n h e = absurd (cc)
+room_falls (Some k) (Some m) n h e = let is : k ≡ suc m = cc in omega arith
