@@ -1,5 +1,5 @@
 -- No two literals of an answer are opposite.
-use Rattle.std.proofs.Common.{◌≡◌, ℕ, Bool, true, false, cond, not, ◌&&◌, ◌||◌, List, [], ◌∷◌, ◌++◌, refl, sym, ap, ◌∙◌, subst}
+use Rattle.std.proofs.Common.{◌≡◌, ℕ, Bool, true, false, cond, not, ◌&&◌, ◌||◌, List, [], ◌∷◌, ◌++◌, refl, sym, ◌∙◌, subst}
 use Rattle.std.proofs.lemmas.Bool.{false≢true}
 use Rattle.std.proofs.lemmas.List.Folds.{list_any-append}
 use Rattle.checker_rules.specs.Clauses.{has, negate, add_lit}
@@ -9,7 +9,7 @@ use Rattle.answer_text.specs.declared.fault.AnswerKind.TheVariants.{BothSigns, U
 use Rattle.answer_text.specs.declared.spot.Spot.{Spot}
 use Rattle.answer_text.specs.declared.spot.After.{After}
 use Rattle.answer_text.specs.declared.spot.After.TheVariants.{Goes, Gives, Stops}
-use Rattle.answer_text.specs.Answers.{Outcome, Lists, Faulty, Step, On, Off, taken, step, at_end, finish, outcome_at, outcome_of}
+use Rattle.answer_text.specs.Answers.{Lists, Faulty, Step, On, Off, taken, step, at_end, finish, outcome_at, outcome_of}
 use Rattle.answer_text.specs.Literals.{listed}
 use Rattle.answer_text.specs.Places.{after, start}
 

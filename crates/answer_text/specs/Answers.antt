@@ -1,6 +1,6 @@
 -- What the text of an answer says: the literals that it lists, or its first fault.
 --     outcome_of text      the literals in their order, or the first fault and its line
-use Rattle.std.specs.Prelude.{ℕ, Bool, not, ◌&&◌, List, [], ◌∷◌, ◌++◌, if◌then◌else◌}
+use Rattle.std.specs.Prelude.{ℕ, not, ◌&&◌, List, [], ◌∷◌, ◌++◌, if◌then◌else◌}
 use Rattle.checker_rules.specs.Clauses.{has, negate}
 use Rattle.answer_text.specs.declared.fault.AnswerKind.{AnswerKind}
 use Rattle.answer_text.specs.declared.fault.AnswerKind.TheVariants.{BothSigns, Unfinished, NoStatus}

@@ -1,4 +1,4 @@
-use Rattle.std.proofs.Common.{ap, ◌∙◌, rules}
+use Rattle.std.proofs.Common.{ap, ◌∙◌}
 use Rattle.answer_text.specs.Answers.{at_end}
 use Rattle.answer_text.specs.Reading.{Ends}
 use Rattle.answer_text.proofs.ReadingLemmas.{exits, ends_off, unlisted, untold}

@@ -1,7 +1,7 @@
-use Rattle.std.proofs.Common.{ap, sym, ◌∙◌, rules, []}
+use Rattle.std.proofs.Common.{[]}
 use Rattle.std.specs.Prelude.{IfErr}
 use Rattle.answer_text.specs.Reading.{FailsBy}
-use Rattle.answer_text.proofs.ReadingLemmas.{leads_nil, byte_on, ends_ill, ends_well, exits, fails_taken, leads_kept, room_falls, room_less}
+use Rattle.answer_text.proofs.ReadingLemmas.{leads_nil, byte_on, ends_ill, ends_well, exits, fails_taken, room_falls, room_less}
 use Rattle.answer_text.proofs.reader.read_answer.Goals as goal
 
 pub bytes-init : goal.bytes-init

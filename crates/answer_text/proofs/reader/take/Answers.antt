@@ -1,4 +1,4 @@
-use Rattle.std.proofs.Common.{ap, sym, ◌∙◌, [], ◌∷◌, ◌++◌, rules}
+use Rattle.std.proofs.Common.{ap, sym, ◌∙◌, [], ◌∷◌, ◌++◌}
 use Rattle.answer_text.specs.Answers.{taken}
 use Rattle.answer_text.proofs.ReadingLemmas.{literal_on}
 use Rattle.answer_text.proofs.reader.take.Goals as goal

@@ -1,0 +1,70 @@
+-- Verdicts, a clause after the other.
+use Rattle.std.proofs.Common.{◌≡◌, ℕ, ◌+◌, Bool, true, false, not, ◌&&◌, List, [], ◌∷◌, ◌++◌, length, Option, Some, None, Result, Ok, refl, sym, ap, ◌∙◌, append_assoc, subst}
+use mathlib.Core.Path.{fun_ext}
+use Rattle.std.proofs.lemmas.List.Folds.{list_all-append}
+use Rattle.std.specs.Option.{option_map}
+use Rattle.sat_formula.specs.Lines as dimacs
+use Rattle.sat_formula.specs.Outcome as dimacs_outcome
+use Rattle.answer_text.specs.declared.literals.Literals.{Literals}
+use Rattle.answer_text.specs.Answers as answers
+use Rattle.answer_text.specs.Literals.{HasThe, all_met, has_lit, is_met, listed}
+use Rattle.answer_text.specs.Reading as reading
+use Rattle.model_check.specs.declared.verdict.Verdict.{Verdict}
+use Rattle.model_check.specs.declared.verdict.Verdict.TheVariants.{Verified, NotVerified}
+use Rattle.model_check.specs.Models.{IsSatisfiedBy}
+use Rattle.model_check.specs.Runs.{IsShown}
+use Rattle.model_check.specs.Verdicts.{IsFirstUnmet, IsJudged, IsVerdict}
+use Rattle.model_check.proofs.ModelLemmas.{answers_are_satisfied}
+
+and_true : (b : Bool) → b ≡ true → (b && true) ≡ true
+and_true true h = refl
+and_true false h = h
+
+-- one more clause that has a literal
+pub still_met : (s : ℕ → Bool) (cs : List (List ℕ)) (c : List ℕ) → all_met s cs ≡ true → is_met s c ≡ true → all_met s (cs ++ c ∷ []) ≡ true
+still_met s cs c h k = list_all-append (is_met s) cs (c ∷ []) ∙ ap (λ (b : Bool). b && (is_met s c && true)) h ∙ and_true (is_met s c) k
+
+-- the first clause that has none
+pub first_unmet : (s : ℕ → Bool) (cs : List (List ℕ)) (c : List ℕ) (n : ℕ) → all_met s cs ≡ true → is_met s c ≡ false → n ≡ length cs + 1 → IsFirstUnmet s (cs ++ c ∷ []) n
+first_unmet s cs c n h k e = record { before = cs; clause = c; rest = []; split = refl; place = e; met = h; unmet = k }
+
+-- one more clause after it
+pub still_first : (s : ℕ → Bool) (cs : List (List ℕ)) (c : List ℕ) (n : ℕ) → IsFirstUnmet s cs n → IsFirstUnmet s (cs ++ c ∷ []) n
+still_first s cs c n f = record {
+  before = f.before;
+  clause = f.clause;
+  rest = f.rest ++ c ∷ [];
+  split = ap (λ (l : List (List ℕ)). l ++ c ∷ []) f.split ∙ append_assoc f.before (f.clause ∷ f.rest) (c ∷ []);
+  place = f.place;
+  met = f.met;
+  unmet = f.unmet;
+}
+
+-- the set is that of the literals
+same_set : (table : Literals) (lits : List ℕ) → HasThe lits table → has_lit table ≡ listed lits
+same_set table lits h = fun_ext h
+
+pub shown : (cnf answer : Option (List ℕ)) (table : Literals) (verdict : Verdict) → reading.ListsThe answer table → IsJudged (option_map dimacs.outcome_of cnf) (has_lit table) verdict
+    → IsShown cnf answer verdict
+shown cnf answer table verdict read judged = record {
+  lits = read.lits;
+  lists = read.said;
+  judged = subst (λ (s : ℕ → Bool). IsJudged (option_map dimacs.outcome_of cnf) s verdict) (same_set table read.lits read.listed) judged;
+}
+
+-- a verdict on two texts that are known
+pub satisfied : (cnf answer : Option (List ℕ)) (text said : List ℕ) → cnf ≡ Some text → answer ≡ Some said → IsShown cnf answer Verified → IsSatisfiedBy text said
+satisfied None answer text said e d h = absurd (cc)
+satisfied (Some t) None text said e d h = absurd (cc)
+satisfied (Some t) (Some u) text said e d h =
+    let of_text : t ≡ text = cc in
+    let of_answer : u ≡ said = cc in
+    let formula : dimacs.outcome_of text ≡ (h.judged.formula, dimacs_outcome.Ended) = ap dimacs.outcome_of (sym of_text) ∙ h.judged.whole in
+    let lists : answers.outcome_of said ≡ answers.Lists h.lits = ap answers.outcome_of (sym of_answer) ∙ h.lists in
+    record {
+      clauses = h.judged.formula;
+      formula = formula;
+      lits = h.lits;
+      lists = lists;
+      model = answers_are_satisfied said h.lits h.judged.formula lists h.judged.shown;
+    }
