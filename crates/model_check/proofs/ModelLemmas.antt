@@ -1,5 +1,5 @@
 -- Literals that satisfy a formula.
-use Rattle.std.proofs.Common.{◌≡◌, ℕ, ◌+◌, ◌-◌, ◌*◌, ◌/◌, ◌%◌, Bool, true, false, cond, not, ◌||◌, ◌&&◌, List, [], ◌∷◌, refl, sym, ap, ◌∙◌, arith, inl, inr}
+use Rattle.std.proofs.Common.{◌≡◌, ℕ, ◌+◌, ◌-◌, ◌*◌, ◌%◌, Bool, true, false, cond, not, ◌||◌, ◌&&◌, List, [], ◌∷◌, refl, sym, ap, ◌∙◌, arith, inl, inr}
 use Rattle.std.proofs.lemmas.Bool.{or_cases, eqb-true, eqb-false, false≢true}
 use Rattle.checker_rules.specs.Clauses.{Agrees, all_true, clause_true, has, is_negative, lit_true, negate, var_of}
 use Rattle.checker_rules.specs.Passes.{IsConsistent}
@@ -55,8 +55,8 @@ agrees_at lits c m true e h =
     ∙ ap (λ (k : ℕ). not (has k lits)) (before ∙ sym is) ∙ absent (has (negate m) lits) (c m h)
   where
     absent : (b : Bool) → (b ≡ true → ⊥) → not b ≡ true
-    absent true no = absurd (no refl)
-    absent false no = refl
+    absent true never = absurd (never refl)
+    absent false never = refl
 
 pub answers_are_satisfied : (said lits : List ℕ) (clauses : List (List ℕ)) → outcome_of said ≡ Lists lits → all_met (listed lits) clauses ≡ true → IsModel lits clauses
 answers_are_satisfied said lits clauses h met = record {

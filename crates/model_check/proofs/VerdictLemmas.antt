@@ -1,5 +1,5 @@
 -- Verdicts, a clause after the other.
-use Rattle.std.proofs.Common.{◌≡◌, ℕ, ◌+◌, Bool, true, false, not, ◌&&◌, List, [], ◌∷◌, ◌++◌, length, Option, Some, None, Result, Ok, refl, sym, ap, ◌∙◌, append_assoc, subst}
+use Rattle.std.proofs.Common.{◌≡◌, ℕ, ◌+◌, Bool, true, false, ◌&&◌, List, [], ◌∷◌, ◌++◌, length, Option, Some, None, refl, sym, ap, ◌∙◌, append_assoc, length-append, subst}
 use mathlib.Core.Path.{fun_ext}
 use Rattle.std.proofs.lemmas.List.Folds.{list_all-append}
 use Rattle.std.specs.Option.{option_map}
@@ -10,10 +10,10 @@ use Rattle.answer_text.specs.Answers as answers
 use Rattle.answer_text.specs.Literals.{HasThe, all_met, has_lit, is_met, listed}
 use Rattle.answer_text.specs.Reading as reading
 use Rattle.model_check.specs.declared.verdict.Verdict.{Verdict}
-use Rattle.model_check.specs.declared.verdict.Verdict.TheVariants.{Verified, NotVerified}
+use Rattle.model_check.specs.declared.verdict.Verdict.TheVariants.{Verified}
 use Rattle.model_check.specs.Models.{IsSatisfiedBy}
 use Rattle.model_check.specs.Runs.{IsShown}
-use Rattle.model_check.specs.Verdicts.{IsFirstUnmet, IsJudged, IsVerdict}
+use Rattle.model_check.specs.Verdicts.{IsFirstUnmet, IsJudged}
 use Rattle.model_check.proofs.ModelLemmas.{answers_are_satisfied}
 
 and_true : (b : Bool) → b ≡ true → (b && true) ≡ true
@@ -39,6 +39,9 @@ still_first s cs c n f = record {
   met = f.met;
   unmet = f.unmet;
 }
+
+pub length_more : (cs : List (List ℕ)) (c : List ℕ) (n : ℕ) → n ≡ length cs → n + 1 ≡ length (cs ++ c ∷ [])
+length_more cs c n e = ap (λ (k : ℕ). k + 1) e ∙ sym (length-append cs (c ∷ []))
 
 -- the set is that of the literals
 same_set : (table : Literals) (lits : List ℕ) → HasThe lits table → has_lit table ≡ listed lits

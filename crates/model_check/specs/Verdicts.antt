@@ -1,7 +1,7 @@
 -- Verdicts on a set of literals and a formula, their lines and their exit statuses.
 --     IsVerdict listed formula v      this is so of the set and the formula
 --     IsJudged known listed v      the text is a formula, and this is so of it
-use Rattle.std.specs.Prelude.{◌≡◌, ℕ, ◌+◌, Bool, true, false, List, [], ◌∷◌, ◌++◌, length, Option, Result, Ok, Err, codes}
+use Rattle.std.specs.Prelude.{◌≡◌, ℕ, ◌+◌, Bool, true, false, List, ◌∷◌, ◌++◌, length, Option, Result, Ok, Err, codes}
 use Rattle.sat_formula.specs.Outcome as dimacs
 use Rattle.sat_formula.specs.Whole as dimacs_text
 use Rattle.answer_text.specs.Literals.{is_met, all_met}

@@ -41,7 +41,8 @@ fn after_clause(verdict: Verdict, literals: &Literals, clause: &[Lit], number: u
         → IsVerdict (has_lit literals.now) (clauses ++ clause.now ∷ []) result }
 {
     match verdict {
-        Verdict::Verified if !literals.meets(clause) => Verdict::NotVerified { clause: number },
-        Verdict::Verified | Verdict::NotVerified { .. } => verdict,
+        Verdict::NotVerified { .. } => verdict,
+        Verdict::Verified if literals.meets(clause) => Verdict::Verified,
+        Verdict::Verified => Verdict::NotVerified { clause: number },
     }
 }
