@@ -34,7 +34,7 @@ given : (lits : List ℕ) (line lit : ℕ) (s : Spot) (more : List ℕ) (next : 
 given lits line lit s more next c true e h = absurd (cc)
 given lits line lit s more next c false e h = let is : lits ++ lit ∷ [] ≡ more = cc in subst (λ (l : List ℕ). IsConsistent (listed l)) is (more_consistent lits lit c e)
 
-taken_consistent : (lits : List ℕ) (line : ℕ) (a : After) (more : List ℕ) (next : Spot) → IsConsistent (listed lits) → taken lits line a ≡ On more next → IsConsistent (listed more)
+pub taken_consistent : (lits : List ℕ) (line : ℕ) (a : After) (more : List ℕ) (next : Spot) → IsConsistent (listed lits) → taken lits line a ≡ On more next → IsConsistent (listed more)
 taken_consistent lits line (Goes s) more next c h = let is : lits ≡ more = cc in subst (λ (l : List ℕ). IsConsistent (listed l)) is c
 taken_consistent lits line (Gives lit s) more next c h = given lits line lit s more next c (has (negate lit) lits) refl h
 taken_consistent lits line (Stops kind) more next c h = absurd (cc)
@@ -49,7 +49,7 @@ finished line lits out s h = by_flags s.listed (s.marked && not s.told) h
     by_flags true false h = cc
     by_flags false b h = absurd (cc)
 
-ended : (line : ℕ) (d : Step) (out : List ℕ) → ((more : List ℕ) (next : Spot) → d ≡ On more next → IsConsistent (listed more)) → at_end line d ≡ Lists out → IsConsistent (listed out)
+pub ended : (line : ℕ) (d : Step) (out : List ℕ) → ((more : List ℕ) (next : Spot) → d ≡ On more next → IsConsistent (listed more)) → at_end line d ≡ Lists out → IsConsistent (listed out)
 ended line (On more next) out c h = subst (λ (l : List ℕ). IsConsistent (listed l)) (finished line more out next h) (c more next refl)
 ended line (Off at kind) out c h = absurd (cc)
 

@@ -4,7 +4,7 @@ use Rattle.std.specs.Option.{option_map}
 use Rattle.std.specs.Prelude.{IsErrAnd, IfErr, unwrap_or}
 use Rattle.std.proofs.lemmas.Result.{err_from_is_err_and}
 use Rattle.std.specs.Io.KnownBytes.{Consumes, Keeps, IsAtEnd}
-use Rattle.std.proofs.KnownBytes.{Consumes-trans, Consumes-nil, Consumes-kept}
+use Rattle.std.proofs.KnownBytes.{Consumes-trans, Consumes-nil}
 use Rattle.checker_rules.specs.Clauses.{has, negate}
 use Rattle.answer_text.specs.declared.fault.AnswerFault.{AnswerFault}
 use Rattle.answer_text.specs.declared.fault.AnswerFault.TheVariants as faults
@@ -15,8 +15,10 @@ use Rattle.answer_text.specs.declared.spot.Spot.{Spot}
 use Rattle.answer_text.specs.declared.spot.After.{After}
 use Rattle.answer_text.specs.declared.spot.After.TheVariants.{Gives}
 use Rattle.answer_text.specs.Answers.{Outcome, Lists, Faulty, Step, On, Off, taken, step, at_end, finish, outcome_at, outcome_of}
-use Rattle.answer_text.specs.Literals.{HasThe, has_lit}
-use Rattle.answer_text.specs.Places.{start}
+use Rattle.answer_text.specs.Literals.{HasThe, has_lit, listed}
+use Rattle.answer_text.specs.Places.{after, start}
+use Rattle.checker_rules.specs.Passes.{IsConsistent}
+use Rattle.answer_text.proofs.ConsistencyLemmas.{ended, taken_consistent}
 use Rattle.answer_text.specs.Reading.{IsOutcome, Leads, IsTaken, FailsBy, ListsThe, Ends}
 
 abbrev pub Known : Type 0
@@ -37,9 +39,6 @@ no_byte lits s = refl
 -- nothing is taken
 pub leads_nil : (a : Known) → Leads a a [] start
 leads_nil a = record { bytes = []; consumed = Consumes-nil a; same = λ m. refl }
-
-pub leads_kept : (a b c : Known) (lits : List ℕ) (s : Spot) → Leads a b lits s → Keeps b c → Leads a c lits s
-leads_kept a b c lits s p k = record { bytes = p.bytes; consumed = Consumes-kept a b c p.bytes p.consumed k; same = p.same }
 
 -- a byte leads on
 pub byte_on : (a b c : Known) (lits : List ℕ) (s : Spot) (x : ℕ) (more : List ℕ) (next : Spot) → Leads a b lits s → Consumes b c (x ∷ []) → step lits s x ≡ On more next
@@ -103,10 +102,15 @@ pub untold : (line : ℕ) (lits : List ℕ) (s : Spot) → not s.listed ≡ fals
 untold line lits s h k m = rw (h, k, m) refl
 
 -- the whole text was read
-pub ends_well : (a b c : Known) (lits : List ℕ) (s : Spot) (r : Result Literals AnswerFault) → Leads a b lits s → Keeps b c → IsAtEnd c → Ends (at_end s.line (step lits s 10)) r
-    → IfOk r (ListsThe a)
-ends_well a b c lits s (Ok table) p k e h = record { lits = h.0; said = said_so a (at_end s.line (step lits s 10)) (Lists h.0) (text_ends a b c lits s p k e) h.1; listed = h.2 }
-ends_well a b c lits s (Err f) p k e h = tt
+pub ends_well : (a b c : Known) (lits : List ℕ) (s : Spot) (r : Result Literals AnswerFault) → IsConsistent (listed lits) → Leads a b lits s → Keeps b c → IsAtEnd c →
+    Ends (at_end s.line (step lits s 10)) r → IfOk r (ListsThe a)
+ends_well a b c lits s (Ok table) apart p k e h = record {
+  lits = h.0;
+  said = said_so a (at_end s.line (step lits s 10)) (Lists h.0) (text_ends a b c lits s p k e) h.1;
+  apart = ended s.line (step lits s 10) h.0 (λ more next on. taken_consistent lits s.line (after s 10) more next apart on) h.1;
+  has = h.2;
+}
+ends_well a b c lits s (Err f) apart p k e h = tt
 
 pub ends_ill : (a b c : Known) (lits : List ℕ) (s : Spot) (r : Result Literals AnswerFault) → Leads a b lits s → Keeps b c → IsAtEnd c → Ends (at_end s.line (step lits s 10)) r
     → IfErr r (FailsBy a)

@@ -2,11 +2,12 @@
 --     IsAnswer known r      the whole text lists these literals, or this is its fault
 use Rattle.std.specs.Prelude.{◌≡◌, ℕ, List, ◌++◌, Option, Result, Ok, Err, IfSome}
 use Rattle.std.specs.Io.KnownBytes.{Consumes}
+use Rattle.checker_rules.specs.Passes.{IsConsistent}
 use Rattle.answer_text.specs.declared.fault.AnswerFault.{AnswerFault}
 use Rattle.answer_text.specs.declared.fault.AnswerFault.TheVariants as faults
 use Rattle.answer_text.specs.declared.literals.Literals.{Literals}
 use Rattle.answer_text.specs.declared.spot.Spot.{Spot}
-use Rattle.answer_text.specs.Literals.{HasThe}
+use Rattle.answer_text.specs.Literals.{HasThe, listed}
 use Rattle.answer_text.specs.Answers.{Outcome, Lists, Faulty, Step, On, Off, outcome_of, outcome_at}
 
 -- this is what the text says, where it is known
@@ -19,10 +20,11 @@ pub record Leads (old new : Option (List ℕ)) (lits : List ℕ) (s : Spot) : Ty
   pub consumed : Consumes old new bytes
   pub same : (more : List ℕ) → outcome_of (bytes ++ more) ≡ outcome_at lits s more
 
--- the literals so far are in the set, and the bytes so far lead to this spot
+-- the literals so far, of which no two are opposite, are in the set, and the bytes so far lead to this spot
 pub record HasRead (old new : Option (List ℕ)) (table : Literals) (s : Spot) : Type 0 where
   pub lits : List ℕ
-  pub listed : HasThe lits table
+  pub apart : IsConsistent (listed lits)
+  pub has : HasThe lits table
   pub leads : Leads old new lits s
 
 -- a beginning of the text has no fault
@@ -32,11 +34,12 @@ pub record BeginsWell (known : Option (List ℕ)) : Type 0 where
   pub spot : Spot
   pub leads : Leads known left lits spot
 
--- the literals that the text lists are in the set
+-- the literals that the text lists are in the set, and no two of them are opposite
 pub record ListsThe (known : Option (List ℕ)) (table : Literals) : Type 0 where
   pub lits : List ℕ
   pub said : IsOutcome known (Lists lits)
-  pub listed : HasThe lits table
+  pub apart : IsConsistent (listed lits)
+  pub has : HasThe lits table
 
 -- why no literals are given; a failed read comes before any fault of the text, want of memory can come anywhere
 abbrev pub FailsBy : Option (List ℕ) → AnswerFault → Type 0

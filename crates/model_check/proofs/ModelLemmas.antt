@@ -3,9 +3,7 @@ use Rattle.std.proofs.Common.{◌≡◌, ℕ, ◌+◌, ◌-◌, ◌*◌, ◌%◌
 use Rattle.std.proofs.lemmas.Bool.{or_cases, eqb-true, eqb-false, false≢true}
 use Rattle.checker_rules.specs.Clauses.{Agrees, all_true, clause_true, has, is_negative, lit_true, negate, var_of}
 use Rattle.checker_rules.specs.Passes.{IsConsistent}
-use Rattle.answer_text.specs.Answers.{Lists, outcome_of}
 use Rattle.answer_text.specs.Literals.{all_met, is_met, listed}
-use Rattle.answer_text.proofs.ConsistencyLemmas.{answers_are_consistent}
 use Rattle.model_check.specs.Models.{IsModel}
 
 or_left : (x y : Bool) → x ≡ true → (x || y) ≡ true
@@ -58,9 +56,9 @@ agrees_at lits c m true e h =
     absent true never = absurd (never refl)
     absent false never = refl
 
-pub answers_are_satisfied : (said lits : List ℕ) (clauses : List (List ℕ)) → outcome_of said ≡ Lists lits → all_met (listed lits) clauses ≡ true → IsModel lits clauses
-answers_are_satisfied said lits clauses h met = record {
+pub met_clauses_are_satisfied : (lits : List ℕ) (clauses : List (List ℕ)) → IsConsistent (listed lits) → all_met (listed lits) clauses ≡ true → IsModel lits clauses
+met_clauses_are_satisfied lits clauses apart met = record {
   satisfies = λ a agrees. all_true_of_met a (listed lits) clauses agrees met;
   agreeing = assignment lits;
-  agrees = λ m t. agrees_at lits (answers_are_consistent said lits h) m (is_negative m) refl t;
+  agrees = λ m t. agrees_at lits apart m (is_negative m) refl t;
 }

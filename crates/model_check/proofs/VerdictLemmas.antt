@@ -1,32 +1,19 @@
 -- Verdicts, a clause after the other.
-use Rattle.std.proofs.Common.{◌≡◌, ℕ, ◌+◌, Bool, true, false, ◌&&◌, List, [], ◌∷◌, ◌++◌, length, Option, Some, None, refl, sym, ap, ◌∙◌, append_assoc, length-append, subst}
+use Rattle.std.proofs.Common.{◌≡◌, ℕ, ◌+◌, Bool, List, [], ◌∷◌, ◌++◌, length, Option, Some, None, sym, ap, ◌∙◌, append_assoc, length-append, subst}
 use mathlib.Core.Path.{fun_ext}
-use Rattle.std.proofs.lemmas.List.Folds.{list_all-append}
 use Rattle.std.specs.Option.{option_map}
 use Rattle.sat_formula.specs.Lines as dimacs
 use Rattle.sat_formula.specs.Outcome as dimacs_outcome
 use Rattle.answer_text.specs.declared.literals.Literals.{Literals}
 use Rattle.answer_text.specs.Answers as answers
-use Rattle.answer_text.specs.Literals.{HasThe, all_met, has_lit, is_met, listed}
+use Rattle.answer_text.specs.Literals.{HasThe, has_lit, listed}
 use Rattle.answer_text.specs.Reading as reading
 use Rattle.model_check.specs.declared.verdict.Verdict.{Verdict}
 use Rattle.model_check.specs.declared.verdict.Verdict.TheVariants.{Verified}
 use Rattle.model_check.specs.Models.{IsSatisfiedBy}
 use Rattle.model_check.specs.Runs.{IsShown}
 use Rattle.model_check.specs.Verdicts.{IsFirstUnmet, IsJudged}
-use Rattle.model_check.proofs.ModelLemmas.{answers_are_satisfied}
-
-and_true : (b : Bool) → b ≡ true → (b && true) ≡ true
-and_true true h = refl
-and_true false h = h
-
--- one more clause that has a literal
-pub still_met : (s : ℕ → Bool) (cs : List (List ℕ)) (c : List ℕ) → all_met s cs ≡ true → is_met s c ≡ true → all_met s (cs ++ c ∷ []) ≡ true
-still_met s cs c h k = list_all-append (is_met s) cs (c ∷ []) ∙ ap (λ (b : Bool). b && (is_met s c && true)) h ∙ and_true (is_met s c) k
-
--- the first clause that has none
-pub first_unmet : (s : ℕ → Bool) (cs : List (List ℕ)) (c : List ℕ) (n : ℕ) → all_met s cs ≡ true → is_met s c ≡ false → n ≡ length cs + 1 → IsFirstUnmet s (cs ++ c ∷ []) n
-first_unmet s cs c n h k e = record { before = cs; clause = c; rest = []; split = refl; place = e; met = h; unmet = k }
+use Rattle.model_check.proofs.ModelLemmas.{met_clauses_are_satisfied}
 
 -- one more clause after it
 pub still_first : (s : ℕ → Bool) (cs : List (List ℕ)) (c : List ℕ) (n : ℕ) → IsFirstUnmet s cs n → IsFirstUnmet s (cs ++ c ∷ []) n
@@ -52,7 +39,8 @@ pub shown : (cnf answer : Option (List ℕ)) (table : Literals) (verdict : Verdi
 shown cnf answer table verdict read judged = record {
   lits = read.lits;
   lists = read.said;
-  judged = subst (λ (s : ℕ → Bool). IsJudged (option_map dimacs.outcome_of cnf) s verdict) (same_set table read.lits read.listed) judged;
+  apart = read.apart;
+  judged = subst (λ (s : ℕ → Bool). IsJudged (option_map dimacs.outcome_of cnf) s verdict) (same_set table read.lits read.has) judged;
 }
 
 -- a verdict on two texts that are known
@@ -69,5 +57,5 @@ satisfied (Some t) (Some u) text said e d h =
       formula = formula;
       lits = h.lits;
       lists = lists;
-      model = answers_are_satisfied said h.lits h.judged.formula lists h.judged.shown;
+      model = met_clauses_are_satisfied h.lits h.judged.formula h.apart h.judged.shown;
     }

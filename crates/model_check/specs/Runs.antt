@@ -5,6 +5,7 @@
 --     BeginsLine cnf answer old new      what was written then
 use Rattle.std.specs.Prelude.{ℕ, List, Option, Result, Ok, Err}
 use Rattle.std.specs.Option.{option_map}
+use Rattle.checker_rules.specs.Passes.{IsConsistent}
 use Rattle.sat_formula.specs.declared.fault.DimacsFault.{DimacsFault}
 use Rattle.sat_formula.specs.Lines as dimacs
 use Rattle.sat_formula.specs.Whole.{FailsAfter}
@@ -17,10 +18,11 @@ use Rattle.model_check.specs.declared.fault.RunFault.{RunFault}
 use Rattle.model_check.specs.declared.fault.RunFault.TheVariants.{Answer, Formula, Write}
 use Rattle.model_check.specs.declared.verdict.Verdict.{Verdict}
 
--- the answer lists these literals, and the verdict is that on them and the formula
+-- the answer lists these literals, of which no two are opposite, and the verdict is that on them and the formula
 pub record IsShown (cnf answer : Option (List ℕ)) (verdict : Verdict) : Type 0 where
   pub lits : List ℕ
   pub lists : IsOutcome answer (Lists lits)
+  pub apart : IsConsistent (listed lits)
   pub judged : IsJudged (option_map dimacs.outcome_of cnf) (listed lits) verdict
 
 -- the answer lists these literals, and the formula has this fault after these clauses

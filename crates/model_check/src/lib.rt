@@ -11,7 +11,7 @@ mod tests;
 mod verdict;
 
 pub use fault::RunFault;
-pub use laws::answers_are_satisfied;
+pub use laws::met_clauses_are_satisfied;
 pub use run::run_check;
 pub use status::exit_status;
 pub use verdict::{Verdict, write_line};
