@@ -1,0 +1,40 @@
+-- Worked answers, by computing what they say.
+use Rattle.std.proofs.Common.{refl}
+use Rattle.answer_text.specs.Answers.{outcome_at}
+use Rattle.answer_text.specs.Places.{after}
+use Rattle.answer_text.specs.Rows.{AnswerRows}
+
+pub answer_rows : AnswerRows
+unfolding outcome_at after
+answer_rows = record {
+  one_line = refl;
+  comments = refl;
+  status_last = refl;
+  no_literal = refl;
+  bare_list = refl;
+  bare_with_status = refl;
+  carriage_returns = refl;
+  both_signs = refl;
+  repeated = refl;
+  largest = refl;
+  too_large = refl;
+  unsatisfiable = refl;
+  unknown = refl;
+  told_twice = refl;
+  other_word = refl;
+  half_a_word = refl;
+  two_words = refl;
+  no_blank = refl;
+  no_blank_after_v = refl;
+  no_number = refl;
+  letter_after_digits = refl;
+  minus_zero = refl;
+  sign_alone = refl;
+  number_after_the_end = refl;
+  second_end = refl;
+  no_end = refl;
+  no_end_cut = refl;
+  no_list = refl;
+  empty = refl;
+  no_status = refl;
+}

@@ -1,0 +1,3 @@
+pub mod AnswerRowsFacts
+pub mod ConsistencyLemmas
+pub mod ReadingLemmas

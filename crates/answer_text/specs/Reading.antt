@@ -1,0 +1,62 @@
+-- What reading an answer gives.
+--     IsAnswer known r      the whole text lists these literals, or this is its fault
+use Rattle.std.specs.Prelude.{◌≡◌, ℕ, List, ◌++◌, Option, Result, Ok, Err, IfSome}
+use Rattle.std.specs.Io.KnownBytes.{Consumes}
+use Rattle.checker_rules.specs.Passes.{IsConsistent}
+use Rattle.answer_text.specs.declared.fault.AnswerFault.{AnswerFault}
+use Rattle.answer_text.specs.declared.fault.AnswerFault.TheVariants as faults
+use Rattle.answer_text.specs.declared.literals.Literals.{Literals}
+use Rattle.answer_text.specs.declared.spot.Spot.{Spot}
+use Rattle.answer_text.specs.Literals.{HasThe, listed}
+use Rattle.answer_text.specs.Answers.{Outcome, Lists, Faulty, Step, On, Off, outcome_of, outcome_at}
+
+-- this is what the text says, where it is known
+abbrev pub IsOutcome : Option (List ℕ) → Outcome → Type 0
+IsOutcome known o = IfSome known (λ text. outcome_of text ≡ o)
+
+-- From old to new some bytes were taken: whatever comes after them, the text says what comes from this spot on.
+pub record Leads (old new : Option (List ℕ)) (lits : List ℕ) (s : Spot) : Type 0 where
+  pub bytes : List ℕ
+  pub consumed : Consumes old new bytes
+  pub same : (more : List ℕ) → outcome_of (bytes ++ more) ≡ outcome_at lits s more
+
+-- the literals so far, of which no two are opposite, are in the set, and the bytes so far lead to this spot
+pub record HasRead (old new : Option (List ℕ)) (table : Literals) (s : Spot) : Type 0 where
+  pub lits : List ℕ
+  pub apart : IsConsistent (listed lits)
+  pub has : HasThe lits table
+  pub leads : Leads old new lits s
+
+-- a beginning of the text has no fault
+pub record BeginsWell (known : Option (List ℕ)) : Type 0 where
+  pub left : Option (List ℕ)
+  pub lits : List ℕ
+  pub spot : Spot
+  pub leads : Leads known left lits spot
+
+-- the literals that the text lists are in the set, and no two of them are opposite
+pub record ListsThe (known : Option (List ℕ)) (table : Literals) : Type 0 where
+  pub lits : List ℕ
+  pub said : IsOutcome known (Lists lits)
+  pub apart : IsConsistent (listed lits)
+  pub has : HasThe lits table
+
+-- why no literals are given; a failed read comes before any fault of the text, want of memory can come anywhere
+abbrev pub FailsBy : Option (List ℕ) → AnswerFault → Type 0
+FailsBy known (faults.Read e) = BeginsWell known
+FailsBy known (faults.Wrong line kind) = IsOutcome known (Faulty line kind)
+FailsBy known faults.OutOfMemory = Unit {0}
+
+-- what a byte did: the literals and the spot after it, or the fault
+abbrev pub IsTaken : Step → Literals → Result Spot AnswerFault → Type 0
+IsTaken step table (Ok s) = (lits : List ℕ) × (step ≡ On lits s) × HasThe lits table
+IsTaken step table (Err (faults.Read e)) = ⊥
+IsTaken step table (Err (faults.Wrong line kind)) = step ≡ Off line kind
+IsTaken step table (Err faults.OutOfMemory) = Unit {0}
+
+-- the end of the text, which says this
+abbrev pub Ends : Outcome → Result Literals AnswerFault → Type 0
+Ends o (Ok table) = (lits : List ℕ) × (o ≡ Lists lits) × HasThe lits table
+Ends o (Err (faults.Read e)) = ⊥
+Ends o (Err (faults.Wrong line kind)) = o ≡ Faulty line kind
+Ends o (Err faults.OutOfMemory) = Unit {0}

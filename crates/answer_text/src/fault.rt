@@ -1,0 +1,62 @@
+//! Why an answer is not taken.
+ghost use Rattle.answer_text.specs.declared.fault.AnswerFault.TheVariants as faults;
+
+use std::alloc::AllocFailed;
+use std::io;
+use thiserror::Error;
+
+/// What is wrong with an answer.
+#[derive(Clone, Copy, Debug, PartialEq, Eq, Error)]
+pub enum AnswerKind {
+    /// A line that is none of an answer's, or a word in it that is none of this line's.
+    #[error("malformed")]
+    Malformed,
+    /// A variable above `Var::MAX_COUNT`.
+    #[error("number too large")]
+    NumberTooLarge,
+    /// `s UNSATISFIABLE`.
+    #[error("the answer is UNSATISFIABLE")]
+    Unsatisfiable,
+    /// `s UNKNOWN`.
+    #[error("the answer is UNKNOWN")]
+    Unknown,
+    /// A second `s SATISFIABLE`.
+    #[error("a second status line")]
+    SecondStatus,
+    /// A number after the 0 that ends the literals.
+    #[error("a number after the last one")]
+    AfterEnd,
+    /// A literal, and its negation before it.
+    #[error("both signs of a variable")]
+    BothSigns,
+    /// The text ends before the 0 that ends the literals.
+    #[error("the answer ends early")]
+    Unfinished,
+    /// The literals stand in `v` lines, and there is no `s SATISFIABLE`.
+    #[error("no status line")]
+    NoStatus,
+}
+
+/// Why a reader of an answer gave up.
+#[derive(Debug, Drop, Error)]
+pub enum AnswerFault {
+    /// A read failed, or the answer is longer than any that is read.
+    #[error("error reading answer: {0}")]
+    Read(io::Error),
+    /// The first fault of the text, and the line in which it stands; lines count from 1.
+    #[error("line {line}: {kind}")]
+    Wrong { line: u64, kind: AnswerKind },
+    /// There was no memory for a literal or for the bytes read ahead.
+    #[error("out of memory")]
+    OutOfMemory,
+}
+
+impl<T: Drop> From<AllocFailed<T>> for AnswerFault {
+    ghost use Rattle.std.specs.Prelude.{◌≡◌};
+
+    ghost from_gives = { λ _ fault. fault ≡ faults.OutOfMemory };
+
+    fn from(_e: AllocFailed<T>) -> AnswerFault {
+        AnswerFault::OutOfMemory
+    }
+}

@@ -1,0 +1,81 @@
+//! Answers from a reader's bytes.
+ghost use Rattle.std.specs.Prelude.{◌≡◌, ℕ, List, [], IfErr, IfOk};
+ghost use Rattle.answer_text.specs.Answers.{at_end, finish, step};
+ghost use Rattle.answer_text.specs.Literals.{HasThe};
+ghost use Rattle.answer_text.specs.Reading.{Ends, FailsBy, IsTaken, ListsThe};
+
+use crate::fault::{AnswerFault, AnswerKind};
+use crate::literals::Literals;
+use crate::spot::{After, Spot};
+use sat_formula::source::{NoByte, Source};
+use std::alloc::Global;
+use std::io::Read;
+
+/// Reads an answer whole: the literals that it lists, or its first fault.
+///
+/// A line that begins with `c` says nothing. Other lines are a status, `s` and `SATISFIABLE`, or
+/// have numbers, after a `v` or not; the literals go up to the first 0, after which no number
+/// stands. Where a line begins with `v` there is one status line. Space, tab and CR are blanks.
+///
+/// No two literals may be opposite. A read that fails is not tried again. Of an answer at most
+/// `u64::MAX` bytes are taken; where more would be, it is as if a read had failed.
+pub fn read_answer<R: Read + Drop>(alloc: Global, answer: R) -> Result<Literals, AnswerFault>
+    ensures lists { IfOk result (ListsThe (R.remaining answer)) }
+    ensures fault { IfErr result (FailsBy (R.remaining answer)) }
+{
+    let mut source = Source::limited(alloc, answer, u64::MAX);
+    let mut literals = Literals::new(alloc);
+    let mut spot = Spot::start();
+    'bytes: loop {
+        match source.next_byte() {
+            Ok(byte) => spot = take(&mut literals, spot, byte)?,
+            Err(NoByte::End) => return end(literals, spot),
+            Err(NoByte::Read) => return Err(AnswerFault::Read(source.error())),
+            Err(NoByte::OutOfMemory) => return Err(AnswerFault::OutOfMemory),
+        }
+    }
+}
+
+/// Takes a byte: where the reading stands after it.
+#[inline(always)]
+fn take(literals: &mut Literals, spot: Spot, byte: u8) -> Result<Spot, AnswerFault>
+    ensures { (lits : List ℕ) → HasThe lits literals.old
+        → IsTaken (step lits spot byte) literals.new result }
+{
+    match spot.after(byte) {
+        After::Goes(next) => Ok(next),
+        After::Gives(lit, next) => {
+            if literals.contains(!lit) {
+                return Err(wrong(spot, AnswerKind::BothSigns));
+            }
+            literals.add(lit)?;
+            Ok(next)
+        }
+        After::Stops(kind) => Err(wrong(spot, kind)),
+    }
+}
+
+/// Ends the text.
+fn end(mut literals: Literals, spot: Spot) -> Result<Literals, AnswerFault>
+    ensures { (lits : List ℕ) → HasThe lits literals
+        → Ends (at_end spot.line (step lits spot 10)) result }
+{
+    let last = take(&mut literals, spot, b'\n')?;
+    if !last.listed {
+        return Err(wrong(spot, AnswerKind::Unfinished));
+    }
+    if last.marked && !last.told {
+        return Err(wrong(spot, AnswerKind::NoStatus));
+    }
+    Ok(literals)
+}
+
+/// A fault on the line where the reading stands.
+fn wrong(spot: Spot, kind: AnswerKind) -> AnswerFault
+    ensures { result ≡ AnswerFault.Wrong spot.line kind }
+{
+    AnswerFault::Wrong {
+        line: spot.line,
+        kind,
+    }
+}

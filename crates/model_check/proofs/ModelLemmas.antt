@@ -1,0 +1,64 @@
+-- Literals that satisfy a formula.
+use Rattle.std.proofs.Common.{◌≡◌, ℕ, ◌+◌, ◌-◌, ◌*◌, ◌%◌, Bool, true, false, cond, not, ◌||◌, ◌&&◌, List, [], ◌∷◌, refl, sym, ap, ◌∙◌, arith, inl, inr}
+use Rattle.std.proofs.lemmas.Bool.{or_cases, eqb-true, eqb-false, false≢true}
+use Rattle.sat_rules.specs.Clauses.{Agrees, all_true, clause_true, has, is_negative, lit_true, negate, var_of}
+use Rattle.checker_rules.specs.Passes.{IsConsistent}
+use Rattle.answer_text.specs.Literals.{all_met, is_met, listed}
+use Rattle.model_check.specs.Models.{IsModel}
+
+or_left : (x y : Bool) → x ≡ true → (x || y) ≡ true
+or_left true y h = refl
+or_left false y h = absurd (false≢true h)
+
+or_right : (x y : Bool) → y ≡ true → (x || y) ≡ true
+or_right true y h = refl
+or_right false y h = h
+
+and_both : (x y : Bool) → x ≡ true → y ≡ true → (x && y) ≡ true
+and_both true y h k = k
+and_both false y h k = h
+
+and_parts : (x y : Bool) → (x && y) ≡ true → (x ≡ true) × (y ≡ true)
+and_parts true y h = (refl, h)
+and_parts false y h = absurd (false≢true h)
+
+met_is_true : (a s : ℕ → Bool) (c : List ℕ) → Agrees a s → is_met s c ≡ true → clause_true a c ≡ true
+met_is_true a s [] agrees h = h
+met_is_true a s (l ∷ c) agrees h = elim (or_cases (s l) (is_met s c) h) [
+  | inl here ↦ or_left (lit_true a l) (clause_true a c) (agrees l here)
+  | inr later ↦ or_right (lit_true a l) (clause_true a c) (met_is_true a s c agrees later)
+]
+
+all_true_of_met : (a s : ℕ → Bool) (cs : List (List ℕ)) → Agrees a s → all_met s cs ≡ true → all_true a cs ≡ true
+all_true_of_met a s [] agrees h = refl
+all_true_of_met a s (c ∷ cs) agrees h =
+    let parts = and_parts (is_met s c) (all_met s cs) h in
+    and_both (clause_true a c) (all_true a cs) (met_is_true a s c agrees parts.0) (all_true_of_met a s cs agrees parts.1)
+
+-- the positive literals of the list are true, and no others
+assignment : List ℕ → ℕ → Bool
+assignment lits v = has (2 * v) lits
+
+agrees_at : (lits : List ℕ) → IsConsistent (listed lits) → (m : ℕ) → (b : Bool) → is_negative m ≡ b → listed lits m ≡ true → lit_true (assignment lits) m ≡ true
+unfolding assignment
+agrees_at lits c m false e h =
+    let even = eqb-false (m % 2) 1 e in
+    let is : 2 * var_of m ≡ m = omega arith in
+    ap (λ (b : Bool). cond b (not (has (2 * var_of m) lits)) (has (2 * var_of m) lits)) e ∙ ap (λ (k : ℕ). has k lits) is ∙ h
+agrees_at lits c m true e h =
+    let odd = eqb-true (m % 2) 1 e in
+    let before : 2 * var_of m ≡ m - 1 = omega arith in
+    let is : negate m ≡ m - 1 = ap (λ (b : Bool). cond b (m - 1) (m + 1)) e in
+    ap (λ (b : Bool). cond b (not (has (2 * var_of m) lits)) (has (2 * var_of m) lits)) e
+    ∙ ap (λ (k : ℕ). not (has k lits)) (before ∙ sym is) ∙ absent (has (negate m) lits) (c m h)
+  where
+    absent : (b : Bool) → (b ≡ true → ⊥) → not b ≡ true
+    absent true never = absurd (never refl)
+    absent false never = refl
+
+pub met_clauses_are_satisfied : (lits : List ℕ) (clauses : List (List ℕ)) → IsConsistent (listed lits) → all_met (listed lits) clauses ≡ true → IsModel lits clauses
+met_clauses_are_satisfied lits clauses apart met = record {
+  satisfies = λ a agrees. all_true_of_met a (listed lits) clauses agrees met;
+  agreeing = assignment lits;
+  agrees = λ m t. agrees_at lits apart m (is_negative m) refl t;
+}

@@ -1,0 +1,61 @@
+-- Verdicts, a clause after the other.
+use Rattle.std.proofs.Common.{◌≡◌, ℕ, ◌+◌, Bool, List, [], ◌∷◌, ◌++◌, length, Option, Some, None, sym, ap, ◌∙◌, append_assoc, length-append, subst}
+use mathlib.Core.Path.{fun_ext}
+use Rattle.std.specs.Option.{option_map}
+use Rattle.sat_formula.specs.Lines as dimacs
+use Rattle.sat_formula.specs.Outcome as dimacs_outcome
+use Rattle.answer_text.specs.declared.literals.Literals.{Literals}
+use Rattle.answer_text.specs.Answers as answers
+use Rattle.answer_text.specs.Literals.{HasThe, has_lit, listed}
+use Rattle.answer_text.specs.Reading as reading
+use Rattle.model_check.specs.declared.verdict.Verdict.{Verdict}
+use Rattle.model_check.specs.declared.verdict.Verdict.TheVariants.{Verified}
+use Rattle.model_check.specs.Models.{IsSatisfiedBy}
+use Rattle.model_check.specs.Runs.{IsShown}
+use Rattle.model_check.specs.Verdicts.{IsFirstUnmet, IsJudged}
+use Rattle.model_check.proofs.ModelLemmas.{met_clauses_are_satisfied}
+
+-- one more clause after it
+pub still_first : (s : ℕ → Bool) (cs : List (List ℕ)) (c : List ℕ) (n : ℕ) → IsFirstUnmet s cs n → IsFirstUnmet s (cs ++ c ∷ []) n
+still_first s cs c n f = record {
+  before = f.before;
+  clause = f.clause;
+  rest = f.rest ++ c ∷ [];
+  split = ap (λ (l : List (List ℕ)). l ++ c ∷ []) f.split ∙ append_assoc f.before (f.clause ∷ f.rest) (c ∷ []);
+  place = f.place;
+  met = f.met;
+  unmet = f.unmet;
+}
+
+pub length_more : (cs : List (List ℕ)) (c : List ℕ) (n : ℕ) → n ≡ length cs → n + 1 ≡ length (cs ++ c ∷ [])
+length_more cs c n e = ap (λ (k : ℕ). k + 1) e ∙ sym (length-append cs (c ∷ []))
+
+-- the set is that of the literals
+same_set : (table : Literals) (lits : List ℕ) → HasThe lits table → has_lit table ≡ listed lits
+same_set table lits h = fun_ext h
+
+pub shown : (cnf answer : Option (List ℕ)) (table : Literals) (verdict : Verdict) → reading.ListsThe answer table → IsJudged (option_map dimacs.outcome_of cnf) (has_lit table) verdict
+    → IsShown cnf answer verdict
+shown cnf answer table verdict read judged = record {
+  lits = read.lits;
+  lists = read.said;
+  apart = read.apart;
+  judged = subst (λ (s : ℕ → Bool). IsJudged (option_map dimacs.outcome_of cnf) s verdict) (same_set table read.lits read.has) judged;
+}
+
+-- a verdict on two texts that are known
+pub satisfied : (cnf answer : Option (List ℕ)) (text said : List ℕ) → cnf ≡ Some text → answer ≡ Some said → IsShown cnf answer Verified → IsSatisfiedBy text said
+satisfied None answer text said e d h = absurd (cc)
+satisfied (Some t) None text said e d h = absurd (cc)
+satisfied (Some t) (Some u) text said e d h =
+    let of_text : t ≡ text = cc in
+    let of_answer : u ≡ said = cc in
+    let formula : dimacs.outcome_of text ≡ (h.judged.formula, dimacs_outcome.Ended) = ap dimacs.outcome_of (sym of_text) ∙ h.judged.whole in
+    let lists : answers.outcome_of said ≡ answers.Lists h.lits = ap answers.outcome_of (sym of_answer) ∙ h.lists in
+    record {
+      clauses = h.judged.formula;
+      formula = formula;
+      lits = h.lits;
+      lists = lists;
+      model = met_clauses_are_satisfied h.lits h.judged.formula h.apart h.judged.shown;
+    }

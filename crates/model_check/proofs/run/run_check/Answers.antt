@@ -1,0 +1,25 @@
+use Rattle.std.proofs.Common.{◌≡◌, subst}
+use Rattle.model_check.specs.declared.verdict.Verdict.TheVariants.{Verified}
+use Rattle.model_check.specs.Runs.{IsShown}
+use Rattle.model_check.proofs.VerdictLemmas.{satisfied, shown}
+use Rattle.model_check.proofs.run.run_check.Goals as goal
+
+pub returns-in-Ok-write_line-clause-run : goal.returns-in-Ok-write_line-clause-run
+returns-in-Ok-write_line-clause-run g c = shown _ _ c.in-Ok.literals c.in-Ok-judge.verdict c.in-Ok.ensures.lists c.in-Ok-judge.ensures.whole
+
+pub returns-in-Ok-write_line-clause-satisfies : goal.returns-in-Ok-write_line-clause-satisfies
+returns-in-Ok-write_line-clause-satisfies g c = λ text said of_cnf of_answer verified.
+    let is : c.in-Ok-judge.verdict ≡ Verified = cc in
+    satisfied _ _ text said of_cnf of_answer
+    (subst (λ v. IsShown (g.F.Read.remaining c.args.cnf) (g.P.Read.remaining c.args.answer) v) is
+    (shown _ _ c.in-Ok.literals c.in-Ok-judge.verdict c.in-Ok.ensures.lists c.in-Ok-judge.ensures.whole))
+
+pub returns-clause-run : goal.returns-clause-run
+returns-clause-run g c = (c.in-Ok-judge.verdict, shown _ _ c.in-Ok.literals c.in-Ok-judge.verdict c.in-Ok.ensures.lists c.in-Ok-judge.ensures.whole)
+
+pub returns-clause-unwritten : goal.returns-clause-unwritten
+returns-clause-unwritten g c = λ unwritten. record {
+  verdict = c.in-Ok-judge.verdict;
+  shown = shown _ _ c.in-Ok.literals c.in-Ok-judge.verdict c.in-Ok.ensures.lists c.in-Ok-judge.ensures.whole;
+  begins = c.in-Err-write_line.ensures.beginning;
+}

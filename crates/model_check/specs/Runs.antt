@@ -1,0 +1,60 @@
+-- Runs of an answer after a formula.
+--     IsCheckRun cnf answer r      the verdict on the two texts, or why there is none
+--     IsRefusedRun r      the answer or the formula was refused
+--     IsUnwritten r      the verdict's line was not written whole
+--     BeginsLine cnf answer old new      what was written then
+use Rattle.std.specs.Prelude.{ℕ, List, Option, Result, Ok, Err}
+use Rattle.std.specs.Option.{option_map}
+use Rattle.checker_rules.specs.Passes.{IsConsistent}
+use Rattle.sat_formula.specs.declared.fault.DimacsFault.{DimacsFault}
+use Rattle.sat_formula.specs.Lines as dimacs
+use Rattle.sat_formula.specs.Whole.{FailsAfter}
+use Rattle.whole_writes.specs.Beginnings.{AppendsBeginning}
+use Rattle.answer_text.specs.Answers.{Lists}
+use Rattle.answer_text.specs.Literals.{listed}
+use Rattle.answer_text.specs.Reading.{IsOutcome, FailsBy}
+use Rattle.model_check.specs.Verdicts.{IsJudged, shown_line}
+use Rattle.model_check.specs.declared.fault.RunFault.{RunFault}
+use Rattle.model_check.specs.declared.fault.RunFault.TheVariants.{Answer, Formula, Write}
+use Rattle.model_check.specs.declared.verdict.Verdict.{Verdict}
+
+-- the answer lists these literals, of which no two are opposite, and the verdict is that on them and the formula
+pub record IsShown (cnf answer : Option (List ℕ)) (verdict : Verdict) : Type 0 where
+  pub lits : List ℕ
+  pub lists : IsOutcome answer (Lists lits)
+  pub apart : IsConsistent (listed lits)
+  pub judged : IsJudged (option_map dimacs.outcome_of cnf) (listed lits) verdict
+
+-- the answer lists these literals, and the formula has this fault after these clauses
+pub record IsAnswered (cnf answer : Option (List ℕ)) (fault : DimacsFault) : Type 0 where
+  pub lits : List ℕ
+  pub lists : IsOutcome answer (Lists lits)
+  pub clauses : List (List ℕ)
+  pub fails : FailsAfter (option_map dimacs.outcome_of cnf) clauses fault
+
+-- the run over both texts: the fault of the answer, then that of the formula, then the verdict, written or not
+abbrev pub IsCheckRun : Option (List ℕ) → Option (List ℕ) → Result Verdict RunFault → Type 0
+IsCheckRun cnf answer (Ok verdict) = IsShown cnf answer verdict
+IsCheckRun cnf answer (Err (Answer fault)) = FailsBy answer fault
+IsCheckRun cnf answer (Err (Formula fault)) = IsAnswered cnf answer fault
+IsCheckRun cnf answer (Err (Write cause)) = (verdict : Verdict) × IsShown cnf answer verdict
+
+-- the answer or the formula was refused
+abbrev pub IsRefusedRun : Result Verdict RunFault → Type 0
+IsRefusedRun (Ok verdict) = ⊥
+IsRefusedRun (Err (Answer fault)) = Unit {0}
+IsRefusedRun (Err (Formula fault)) = Unit {0}
+IsRefusedRun (Err (Write cause)) = ⊥
+
+-- the verdict stands, and its line was not written whole
+abbrev pub IsUnwritten : Result Verdict RunFault → Type 0
+IsUnwritten (Ok verdict) = ⊥
+IsUnwritten (Err (Answer fault)) = ⊥
+IsUnwritten (Err (Formula fault)) = ⊥
+IsUnwritten (Err (Write cause)) = Unit {0}
+
+-- an output grew by a beginning of the line of the verdict on the two texts
+pub record BeginsLine (cnf answer old new : Option (List ℕ)) : Type 0 where
+  pub verdict : Verdict
+  pub shown : IsShown cnf answer verdict
+  pub begins : AppendsBeginning old new (shown_line verdict)

@@ -1,0 +1,12 @@
+//! Laws of literals and formulas.
+ghost use Rattle.std.specs.Prelude.{◌≡◌, ℕ, List, true};
+ghost use Rattle.checker_rules.specs.Passes.{IsConsistent};
+ghost use Rattle.answer_text.specs.Literals.{all_met, listed};
+ghost use Rattle.model_check.specs.Models.{IsModel};
+
+/// Literals of which no two are opposite, and one of which stands in each clause, are a model of
+/// the clauses.
+pub fn met_clauses_are_satisfied()
+    ensures { (lits : List ℕ) (clauses : List (List ℕ)) → IsConsistent (listed lits)
+        → all_met (listed lits) clauses ≡ true → IsModel lits clauses }
+{}

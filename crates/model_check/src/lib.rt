@@ -1,0 +1,17 @@
+//! Whether the literals that a solver answers satisfy a formula, said in one line.
+#![tactic(auto)]
+
+mod clauses;
+mod fault;
+mod laws;
+mod run;
+mod status;
+#[cfg(test)]
+mod tests;
+mod verdict;
+
+pub use fault::RunFault;
+pub use laws::met_clauses_are_satisfied;
+pub use run::run_check;
+pub use status::exit_status;
+pub use verdict::{Verdict, write_line};

@@ -1,0 +1,50 @@
+//! Runs: a formula and an answer are read, and the verdict is written.
+ghost use Rattle.std.specs.Prelude.{◌≡◌, ℕ, List, IfOk, Ok, Some};
+ghost use Rattle.std.specs.Io.KnownBytes.{Appends};
+ghost use Rattle.model_check.specs.Models.{IsSatisfiedBy};
+ghost use Rattle.model_check.specs.Runs.{BeginsLine, IsCheckRun, IsRefusedRun, IsUnwritten};
+ghost use Rattle.model_check.specs.Verdicts.{shown_line};
+ghost use Rattle.model_check.specs.declared.verdict.Verdict.TheVariants.{Verified};
+
+use crate::clauses::judge;
+use crate::fault::RunFault;
+use crate::verdict::{Verdict, write_line};
+use answer_text::read_answer;
+use std::alloc::Global;
+use std::io::{Read, Write};
+
+/// Reads an answer, and then a formula in DIMACS CNF a clause at a time, and writes the verdict's
+/// line.
+///
+/// The formula is read whole, also after a clause that has no literal of the answer. Nothing is
+/// written where one of the two can't be read, or where the answer is none that the formula is
+/// satisfiable. Where the verdict's line can't be written whole, the verdict stood, and a beginning
+/// of the line is written.
+pub fn run_check<F: Read + Drop, P: Read + Drop, W: Write>(
+    alloc: Global,
+    cnf: F,
+    answer: P,
+    out: &mut W,
+) -> Result<Verdict, RunFault>
+    ensures run { IsCheckRun (F.remaining cnf) (P.remaining answer) result }
+    ensures line { IfOk result (λ verdict.
+        Appends (W.contents out.old) (W.contents out.new) (shown_line verdict)) }
+    ensures silent { IsRefusedRun result → out.new ≡ out.old }
+    ensures unwritten { IsUnwritten result → BeginsLine (F.remaining cnf) (P.remaining answer)
+        (W.contents out.old) (W.contents out.new) }
+    ensures satisfies { (text said : List ℕ) → F.remaining cnf ≡ Some text
+        → P.remaining answer ≡ Some said → result ≡ Ok Verified → IsSatisfiedBy text said }
+{
+    let literals = match read_answer(alloc, answer) {
+        Ok(literals) => literals,
+        Err(fault) => return Err(RunFault::Answer(fault)),
+    };
+    let verdict = match judge(alloc, cnf, &literals) {
+        Ok(verdict) => verdict,
+        Err(fault) => return Err(RunFault::Formula(fault)),
+    };
+    match write_line(out, verdict) {
+        Ok(()) => Ok(verdict),
+        Err(fault) => Err(RunFault::Write(fault)),
+    }
+}

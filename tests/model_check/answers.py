@@ -1,0 +1,134 @@
+"""What `model_check` says of answers, by the definition.
+
+answers.py PROGRAM solved CNF ANSWER      a solver's answer to a formula, and damaged copies of it
+answers.py PROGRAM random COUNT SEED      random formulas and lists of literals
+
+The definition: each clause has a literal of the list, and the list has no two opposite ones. Where a clause has none, the first
+such clause is named.
+"""
+
+import random
+import subprocess
+import sys
+import tempfile
+from pathlib import Path
+
+VERIFIED, NOT_VERIFIED = "s VERIFIED SAT\n", "s NOT VERIFIED\n"
+
+
+class Tries:
+    def __init__(self, program, folder):
+        self.program, self.folder, self.wrong, self.tried = program, Path(folder), 0, 0
+
+    def run(self, cnf, answer):
+        (self.folder / "cnf").write_text(cnf)
+        (self.folder / "answer").write_text(answer)
+        done = subprocess.run([self.program, "cnf", "answer"], cwd=self.folder, capture_output=True, text=True)
+        return done.returncode, done.stdout, done.stderr.partition("\n")[0]
+
+    def wants(self, name, cnf, answer, *wanted):
+        self.tried += 1
+        said = self.run(cnf, answer)
+        if said != wanted:
+            self.wrong += 1
+            print(f"{name}: {said}, and not {wanted}\n{cnf[:300]}\n{answer[:300]}")
+
+    def judged(self, name, clauses, literals):
+        """A list after a status line, in `v` lines of some literals each."""
+        rows = [literals[i : i + 7] for i in range(0, len(literals), 7)]
+        text = "".join(f"v {' '.join(map(str, row))}\n" for row in rows)
+        self.wants(name, dimacs(clauses), f"s SATISFIABLE\n{text}v 0\n", *definition(clauses, literals))
+
+    def refused(self, name, cnf, answer, line, why):
+        self.wants(name, cnf, answer, 1, "", f"answer: line {line}: {why}")
+
+
+def dimacs(clauses):
+    return "".join(f"{' '.join(map(str, [*clause, 0]))}\n" for clause in clauses)
+
+
+def definition(clauses, literals):
+    seen = set()
+    for place, literal in enumerate(literals):
+        if -literal in seen:
+            return 1, "", f"answer: line {2 + place // 7}: both signs of a variable"
+        seen.add(literal)
+    for number, clause in enumerate(clauses, 1):
+        if not any(it in seen for it in clause):
+            return 3, NOT_VERIFIED, f"formula: clause {number} has no literal of the answer"
+    return 0, VERIFIED, ""
+
+
+def read_formula(text):
+    numbers = [int(it) for line in text.splitlines() if line[:1] not in ("c", "p") for it in line.split()]
+    clauses, clause = [], []
+    for number in numbers:
+        if number:
+            clause.append(number)
+        else:
+            clauses.append(clause)
+            clause = []
+    return clauses
+
+
+def solved(tries, cnf_name, answer_name):
+    cnf, answer = Path(cnf_name).read_text(), Path(answer_name).read_text()
+    clauses = read_formula(cnf)
+    literals = [int(it) for line in answer.splitlines() if line[:1] == "v" for it in line.split()[1:]]
+    assert literals.pop() == 0
+    tries.judged("as it is", clauses, literals)
+    tries.wants("bare", cnf, " ".join(map(str, [*literals, 0])), 0, VERIFIED, "")
+    for place in range(0, len(literals), 5):
+        before, literal, after = literals[:place], literals[place], literals[place + 1 :]
+        tries.judged(f"turned {literal}", clauses, [*before, -literal, *after])
+        tries.judged(f"without {literal}", clauses, before + after)
+        tries.judged(f"both signs of {literal}", clauses, literals + [-literal])
+    turned = [-it for it in literals]
+    tries.judged("a last clause that is not met", clauses + [turned], literals)
+    tries.judged("a last clause that is empty", clauses + [[]], literals)
+    tries.judged("no literal", clauses, [])
+    lines = answer.splitlines(keepends=True)
+    status = next(i for i, line in enumerate(lines) if line[0] == "s")
+    last = max(i for i, line in enumerate(lines) if line[0] == "v")
+    for word, why in (
+        ("UNSATISFIABLE", "the answer is UNSATISFIABLE"),
+        ("UNKNOWN", "the answer is UNKNOWN"),
+        ("SATISFIABL", "malformed"),
+    ):
+        other = [*lines[:status], f"s {word}\n", *lines[status + 1 :]]
+        tries.refused(word, cnf, "".join(other), status + 1, why)
+    tries.refused("no status", cnf, "".join(line for line in lines if line[0] == "v"), last - status + 1, "no status line")
+    for end in range(1, last + 1):
+        tries.refused("cut", cnf, "".join(lines[:end]), end + 1, "the answer ends early")
+    tries.refused("cut in its last line", cnf, "".join(lines[: last + 1])[:-2], last + 1, "the answer ends early")
+    tries.refused("more numbers", cnf, answer + "v 1 0\n", len(lines) + 1, "a number after the last one")
+
+
+def drawn(tries, count, seed):
+    source = random.Random(seed)
+    for _ in range(count):
+        variables = source.randint(1, 6)
+        clauses = [
+            [source.choice((1, -1)) * source.randint(1, variables) for _ in range(source.randint(1, 3))]
+            for _ in range(source.randint(0, 5))
+        ]
+        names = source.sample(range(1, variables + 1), source.randint(0, variables))
+        literals = [source.choice((1, -1)) * it for it in names]
+        if literals and source.random() < 0.2:
+            literals.append(source.choice((1, -1)) * source.choice(literals))
+        tries.judged("random", clauses, literals)
+
+
+def main(program, mode, *words):
+    with tempfile.TemporaryDirectory() as folder:
+        tries = Tries(program, folder)
+        if mode == "solved":
+            solved(tries, *words)
+        else:
+            drawn(tries, *map(int, words))
+    print(f"{mode}: {tries.tried} tried, {tries.wrong} wrong")
+    return 1 if tries.wrong else 0
+
+
+if __name__ == "__main__":
+    sys.exit(main(*sys.argv[1:]))
