@@ -3,14 +3,13 @@ use Rattle.std.proofs.Common.{◌≡◌, ℕ, Bool, true, false, cond, not, ◌&
 use Rattle.std.proofs.lemmas.Bool.{false≢true}
 use Rattle.std.proofs.lemmas.List.Folds.{list_any-append}
 use Rattle.sat_rules.specs.Clauses.{add_lit, has, negate}
-use Rattle.checker_rules.specs.Passes.{IsConsistent}
 use Rattle.checker_rules.proofs.Walks.{consistent_more}
 use Rattle.answer_text.specs.declared.fault.AnswerKind.TheVariants.{BothSigns, Unfinished, NoStatus}
 use Rattle.answer_text.specs.declared.spot.Spot.{Spot}
 use Rattle.answer_text.specs.declared.spot.After.{After}
 use Rattle.answer_text.specs.declared.spot.After.TheVariants.{Goes, Gives, Stops}
 use Rattle.answer_text.specs.Answers.{Lists, Faulty, Step, On, Off, taken, step, at_end, finish, outcome_at, outcome_of}
-use Rattle.answer_text.specs.Literals.{listed}
+use Rattle.answer_text.specs.Literals.{IsConsistent, listed}
 use Rattle.answer_text.specs.Places.{after, start}
 
 last_first : (b c : Bool) → (c || (b || false)) ≡ (b || c)

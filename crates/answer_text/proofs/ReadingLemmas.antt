@@ -15,9 +15,8 @@ use Rattle.answer_text.specs.declared.spot.Spot.{Spot}
 use Rattle.answer_text.specs.declared.spot.After.{After}
 use Rattle.answer_text.specs.declared.spot.After.TheVariants.{Gives}
 use Rattle.answer_text.specs.Answers.{Outcome, Lists, Faulty, Step, On, Off, taken, step, at_end, finish, outcome_at, outcome_of}
-use Rattle.answer_text.specs.Literals.{HasThe, has_lit, listed}
+use Rattle.answer_text.specs.Literals.{HasThe, IsConsistent, has_lit, listed}
 use Rattle.answer_text.specs.Places.{after, start}
-use Rattle.checker_rules.specs.Passes.{IsConsistent}
 use Rattle.answer_text.proofs.ConsistencyLemmas.{ended, taken_consistent}
 use Rattle.answer_text.specs.Reading.{IsOutcome, Leads, IsTaken, FailsBy, ListsThe, Ends}
 

@@ -3,10 +3,11 @@
 --     HasThe lits table      these literals are listed, and no others
 --     is_met, all_met      some literal of the clause is in the set; of each clause
 --     listed lits      the set of these literals
-use Rattle.std.specs.Prelude.{◌≡◌, ℕ, nat_eq, Bool, List}
+--     IsConsistent s      no two literals of the set are opposite
+use Rattle.std.specs.Prelude.{◌≡◌, ℕ, nat_eq, Bool, true, List}
 use Rattle.std.specs.HashSet.{contains}
 use Rattle.std.specs.List.{list_any, list_all}
-use Rattle.sat_rules.specs.Clauses.{has}
+use Rattle.sat_rules.specs.Clauses.{has, negate}
 use Rattle.answer_text.specs.declared.literals.Literals.{Literals}
 
 -- the literal of this code is listed
@@ -28,3 +29,7 @@ is_met listed clause = list_any listed clause
 -- some literal of each clause is in the set
 abbrev pub all_met : (ℕ → Bool) → List (List ℕ) → Bool
 all_met listed clauses = list_all (is_met listed) clauses
+
+-- no two literals of the set are opposite
+abbrev pub IsConsistent : (ℕ → Bool) → Type 0
+IsConsistent s = (m : ℕ) → s m ≡ true → s (negate m) ≡ true → ⊥

@@ -2,12 +2,11 @@
 --     IsAnswer known r      the whole text lists these literals, or this is its fault
 use Rattle.std.specs.Prelude.{◌≡◌, ℕ, List, ◌++◌, Option, Result, Ok, Err, IfSome}
 use Rattle.std.specs.Io.KnownBytes.{Consumes}
-use Rattle.checker_rules.specs.Passes.{IsConsistent}
 use Rattle.answer_text.specs.declared.fault.AnswerFault.{AnswerFault}
 use Rattle.answer_text.specs.declared.fault.AnswerFault.TheVariants as faults
 use Rattle.answer_text.specs.declared.literals.Literals.{Literals}
 use Rattle.answer_text.specs.declared.spot.Spot.{Spot}
-use Rattle.answer_text.specs.Literals.{HasThe, listed}
+use Rattle.answer_text.specs.Literals.{HasThe, IsConsistent, listed}
 use Rattle.answer_text.specs.Answers.{Outcome, Lists, Faulty, Step, On, Off, outcome_of, outcome_at}
 
 -- this is what the text says, where it is known

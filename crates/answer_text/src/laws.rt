@@ -1,8 +1,7 @@
 //! Laws of answers.
 ghost use Rattle.std.specs.Prelude.{◌≡◌, ℕ, List};
-ghost use Rattle.checker_rules.specs.Passes.{IsConsistent};
 ghost use Rattle.answer_text.specs.Answers.{Lists, outcome_of};
-ghost use Rattle.answer_text.specs.Literals.{listed};
+ghost use Rattle.answer_text.specs.Literals.{IsConsistent, listed};
 ghost use Rattle.answer_text.specs.Rows.{AnswerRows};
 
 /// What some answers say.

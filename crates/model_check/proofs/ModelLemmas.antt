@@ -2,8 +2,7 @@
 use Rattle.std.proofs.Common.{◌≡◌, ℕ, ◌+◌, ◌-◌, ◌*◌, ◌%◌, Bool, true, false, cond, not, ◌||◌, ◌&&◌, List, [], ◌∷◌, refl, sym, ap, ◌∙◌, arith, inl, inr}
 use Rattle.std.proofs.lemmas.Bool.{or_cases, eqb-true, eqb-false, false≢true}
 use Rattle.sat_rules.specs.Clauses.{Agrees, all_true, clause_true, has, is_negative, lit_true, negate, var_of}
-use Rattle.checker_rules.specs.Passes.{IsConsistent}
-use Rattle.answer_text.specs.Literals.{all_met, is_met, listed}
+use Rattle.answer_text.specs.Literals.{IsConsistent, all_met, is_met, listed}
 use Rattle.model_check.specs.Models.{IsModel}
 
 or_left : (x y : Bool) → x ≡ true → (x || y) ≡ true

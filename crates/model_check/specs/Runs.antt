@@ -5,13 +5,12 @@
 --     BeginsLine cnf answer old new      what was written then
 use Rattle.std.specs.Prelude.{ℕ, List, Option, Result, Ok, Err}
 use Rattle.std.specs.Option.{option_map}
-use Rattle.checker_rules.specs.Passes.{IsConsistent}
 use Rattle.sat_formula.specs.declared.fault.DimacsFault.{DimacsFault}
 use Rattle.sat_formula.specs.Lines as dimacs
 use Rattle.sat_formula.specs.Whole.{FailsAfter}
 use Rattle.whole_writes.specs.Beginnings.{AppendsBeginning}
 use Rattle.answer_text.specs.Answers.{Lists}
-use Rattle.answer_text.specs.Literals.{listed}
+use Rattle.answer_text.specs.Literals.{IsConsistent, listed}
 use Rattle.answer_text.specs.Reading.{IsOutcome, FailsBy}
 use Rattle.model_check.specs.Verdicts.{IsJudged, shown_line}
 use Rattle.model_check.specs.declared.fault.RunFault.{RunFault}

@@ -1,7 +1,6 @@
 //! Laws of literals and formulas.
 ghost use Rattle.std.specs.Prelude.{◌≡◌, ℕ, List, true};
-ghost use Rattle.checker_rules.specs.Passes.{IsConsistent};
-ghost use Rattle.answer_text.specs.Literals.{all_met, listed};
+ghost use Rattle.answer_text.specs.Literals.{IsConsistent, all_met, listed};
 ghost use Rattle.model_check.specs.Models.{IsModel};
 
 /// Literals of which no two are opposite, and one of which stands in each clause, are a model of
