@@ -1,9 +1,9 @@
 -- No two literals of an answer are opposite.
-use Rattle.std.proofs.Common.{◌≡◌, ℕ, Bool, true, false, cond, not, ◌&&◌, ◌||◌, List, [], ◌∷◌, ◌++◌, refl, sym, ◌∙◌, subst}
-use Rattle.std.proofs.lemmas.Bool.{false≢true}
+use Rattle.std.proofs.Common.{◌≡◌, ℕ, Bool, true, false, cond, not, ◌&&◌, ◌||◌, eqb, List, [], ◌∷◌, ◌++◌, refl, sym, ap, ◌∙◌, subst, inl, inr}
+use Rattle.std.proofs.lemmas.Bool.{false≢true, or_cases, both_ways, eqb-true}
 use Rattle.std.proofs.lemmas.List.Folds.{list_any-append}
 use Rattle.sat_rules.specs.Clauses.{add_lit, has, negate}
-use Rattle.checker_rules.proofs.Walks.{consistent_more}
+use Rattle.sat_rules.proofs.Chains.{negate-negate, negate-other}
 use Rattle.answer_text.specs.declared.fault.AnswerKind.TheVariants.{BothSigns, Unfinished, NoStatus}
 use Rattle.answer_text.specs.declared.spot.Spot.{Spot}
 use Rattle.answer_text.specs.declared.spot.After.{After}
@@ -11,6 +11,19 @@ use Rattle.answer_text.specs.declared.spot.After.TheVariants.{Goes, Gives, Stops
 use Rattle.answer_text.specs.Answers.{Lists, Faulty, Step, On, Off, taken, step, at_end, finish, outcome_at, outcome_of}
 use Rattle.answer_text.specs.Literals.{IsConsistent, listed}
 use Rattle.answer_text.specs.Places.{after, start}
+
+-- a literal more whose negation is not in the set
+consistent_more : (s : ℕ → Bool) (l : ℕ) → IsConsistent s → s (negate l) ≡ false → IsConsistent (add_lit l s)
+consistent_more s l c f m h n = elim (or_cases (eqb m l) (s m) h) [
+  | inl same ↦ elim (or_cases (eqb (negate m) l) (s (negate m)) n) [
+    | inl this ↦ negate-other m (eqb-true (negate m) l this ∙ sym (eqb-true m l same))
+    | inr old ↦ both_ways (s (negate l)) f (subst (λ x. s (negate x) ≡ true) (eqb-true m l same) old)
+  ]
+  | inr old ↦ elim (or_cases (eqb (negate m) l) (s (negate m)) n) [
+    | inl this ↦ both_ways (s (negate l)) f (subst (λ x. s x ≡ true) (sym (negate-negate m) ∙ ap negate (eqb-true (negate m) l this)) old)
+    | inr older ↦ c m old older
+  ]
+]
 
 last_first : (b c : Bool) → (c || (b || false)) ≡ (b || c)
 last_first true true = refl
