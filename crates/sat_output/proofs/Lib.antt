@@ -1,0 +1,3 @@
+pub mod AppendedWords
+pub mod Beginnings
+pub mod WrittenClauses
