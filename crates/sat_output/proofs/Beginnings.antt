@@ -9,8 +9,10 @@ Known = Option (List ℕ)
 
 -- a beginning of the second part, after the first
 take-past : (xs ys : List ℕ) (n : ℕ) → xs ++ take n ys ≡ take (length xs + n) (xs ++ ys)
-take-past [] ys n = ap (λ m. take m ys) (omega arith)
-take-past (x ∷ xs) ys n = ap (λ t. x ∷ t) (take-past xs ys n) ∙ ap (λ m. take m (x ∷ (xs ++ ys))) (omega arith)
+take-past [] ys n = let e : n ≡ 0 + n = omega arith in ap (λ (m : ℕ). take m ys) e
+take-past (x ∷ xs) ys n =
+    let e : suc (length xs + n) ≡ suc (length xs) + n = omega arith in
+    ap (λ t. x ∷ t) (take-past xs ys n) ∙ ap (λ (m : ℕ). take m (x ∷ (xs ++ ys))) e
 
 -- a beginning of the first part
 take-front : (xs ys : List ℕ) (n : ℕ) → n ≤ length xs → take n xs ≡ take n (xs ++ ys)

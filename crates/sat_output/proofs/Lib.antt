@@ -1,3 +1,6 @@
 pub mod AppendedWords
 pub mod Beginnings
+pub mod Decimals
+pub mod LratLines
+pub mod SpacedWords
 pub mod WrittenClauses
