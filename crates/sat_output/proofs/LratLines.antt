@@ -1,7 +1,6 @@
 -- What is written of LRAT lines is read again.
-use Rattle.std.proofs.Common.{◌≡◌, ℕ, suc, ◌%◌, ◌^◌, ◌<◌, ◌≤◌, Bool, true, false, List, [], ◌∷◌, ◌++◌, Some, Ok, refl, sym, ap, ◌∙◌, subst, append_assoc, inl, inr, arith}
-use Rattle.std.specs.Prelude.{All, codes, decimal, map, not}
-use Rattle.std.specs.List.{list_all}
+use Rattle.std.proofs.Common.{◌≡◌, ℕ, suc, ◌%◌, ◌^◌, ◌<◌, ◌≤◌, Bool, true, false, List, [], ◌∷◌, ◌++◌, Some, Ok, refl, ap, ◌∙◌, append_assoc, inl, inr, arith}
+use Rattle.std.specs.Prelude.{All, codes, decimal, map}
 use Rattle.std.specs.Str.{bytes_eq}
 use Rattle.std.proofs.lemmas.Bool.{cases_Bool, eqb-false, eqb-true, false≢true, le-ltb, lt-ltb, ne_eqb}
 use Rattle.std.proofs.lemmas.List.Elements.{All-head, All-tail}
@@ -11,15 +10,14 @@ use Rattle.lrat_rules.specs.Lines.{Line, along, against, adds, deletes}
 use Rattle.lrat_text.specs.declared.fault.LineKind.{LineKind}
 use Rattle.lrat_text.specs.declared.line.Hint.{Hint}
 use Rattle.lrat_text.specs.declared.line.Hint.TheVariants.{Along, Against}
-use Rattle.lrat_text.specs.Grammar.{after_id, clause_at, deletion_at, hint_of, is_comment, says}
+use Rattle.lrat_text.specs.Grammar.{after_id, clause_at, hint_of, is_comment, says}
 use Rattle.lrat_text.specs.Items.{hint_said, id_said, items_at, lit_said}
 use Rattle.lrat_text.specs.Numbers.{number_of, signed}
-use Rattle.lrat_text.specs.Texts.{Ended, lines_from, outcome_of, short_before, with_line}
-use Rattle.sat_formula.specs.Bytes.{is_lf}
+use Rattle.lrat_text.specs.Texts.{Ended, lines_from, short_before}
 use Rattle.sat_formula.specs.Lines.{lines_of, words_of}
 use Rattle.sat_formula.specs.Outcome.{next_line}
 use Rattle.sat_formula.specs.Vars.{lit_code}
-use Rattle.sat_output.specs.LratTexts.{HasFittingNumbers, IsHint, LinesAreRead, addition_words, last_after, line_text, lines_text, numbered, words_before_end}
+use Rattle.sat_output.specs.LratTexts.{HasFittingNumbers, IsHint, LinesAreRead, last_after, line_text, lines_text, numbered, words_before_end}
 use Rattle.sat_output.specs.Words.{IsCode, IsId, hint_text, literal_text}
 use Rattle.sat_output.proofs.Decimals.{AreDigitsOf, decimal_is, decimal_is_word, digits_are_word, first_is_digit, signed_are_word}
 use Rattle.sat_output.proofs.SpacedWords.{AreWords, AreWords-append, AreWords-map, IsWord, lines_of-line, one_line-spaced, words_of-spaced, zero_is_word}
@@ -155,9 +153,11 @@ line_said short last (deletes ids) low fit =
     rw (no_comment last (decimal last) (decimal_is last low), number_read last low, ids_read short ids [] fit) refl
 
 line_words : (last : ℕ) (x : Line) → last < 2 ^ 64 → HasFittingNumbers x → AreWords (words_before_end last x)
-line_words last (adds id c hints) low fit =
-    (decimal_is_word id fit.0.1, AreWords-append (map literal_text c) (codes "0" ∷ map hint_text hints) (literals_are_words c fit.1)
-    (zero_is_word, AreWords-map hint_text IsHint hints hint_is_word fit.2))
+line_words last (adds id c hints) low fit = (
+  decimal_is_word id fit.0.1,
+  AreWords-append (map literal_text c) (codes "0" ∷ map hint_text hints) (literals_are_words c fit.1)
+      (zero_is_word, AreWords-map hint_text IsHint hints hint_is_word fit.2),
+)
 line_words last (deletes ids) low fit =
     (decimal_is_word last low, (record { some = refl; solid = refl; one_line = refl }, AreWords-map decimal IsId ids (λ id is. decimal_is_word id is.1) fit))
 
@@ -173,7 +173,7 @@ lines_read n last (x ∷ xs) low fit =
     let are = line_words last x low this in
     let rest = lines_text (last_after last x) xs in
     let said : says (short_before (lines_of rest)) (words_of (line_text words)) ≡ Ok (Some x) =
-      ap (says (short_before (lines_of rest))) (words_of-spaced words (codes "0") are zero_is_word) ∙ line_said (short_before (lines_of rest)) last x low this in
+    ap (says (short_before (lines_of rest))) (words_of-spaced words (codes "0") are zero_is_word) ∙ line_said (short_before (lines_of rest)) last x low this in
     ap (lines_from n) (lines_of-line (line_text words) rest (one_line-spaced words (codes "0") are zero_is_word))
     ∙ rw (said, lines_read (next_line n) (last_after last x) xs (last_low last x low this) (All-tail HasFittingNumbers x xs fit)) refl
 

@@ -1,5 +1,5 @@
 -- Words, each before a space, and one at the end, are the words of the line.
-use Rattle.std.proofs.Common.{◌≡◌, ℕ, true, false, List, [], ◌∷◌, ◌++◌, refl, sym, ap, ◌∙◌, append_assoc, codes}
+use Rattle.std.proofs.Common.{◌≡◌, ℕ, true, false, List, [], ◌∷◌, ◌++◌, refl, ap, ◌∙◌, append_assoc, codes}
 use Rattle.std.specs.Prelude.{All, filter, map, not}
 use Rattle.std.specs.List.{list_all, slice_split}
 use Rattle.std.proofs.lemmas.List.Elements.{All-head, All-tail}
@@ -35,7 +35,7 @@ slice_split-last (b ∷ word) solid =
     rw (other, slice_split-last word parts.1) refl
 
 -- the first word, its space, and the rest of the line
-first_of_spaced : (w rest last : List ℕ) → (spaced_word w ++ rest) ++ last ≡ w ++ 32 ∷ (rest ++ last)
+pub first_of_spaced : (w rest last : List ℕ) → (spaced_word w ++ rest) ++ last ≡ w ++ 32 ∷ (rest ++ last)
 first_of_spaced w rest last = ap (λ t. t ++ last) (append_assoc w (32 ∷ []) rest) ∙ append_assoc w (32 ∷ rest) last
 
 pub words_of-spaced : (words : List (List ℕ)) (last : List ℕ) → AreWords words → IsWord last → words_of (spaced words ++ last) ≡ words ++ last ∷ []

@@ -17,11 +17,7 @@ use whole_writes::append_whole;
 ///
 /// After an error a beginning of the text is written. A writer with a buffer may hold some of it
 /// back.
-pub fn write_formula<W: Write>(
-    alloc: Global,
-    out: &mut W,
-    formula: &CnfFormula,
-) -> io::Result<()>
+pub fn write_formula<W: Write>(alloc: Global, out: &mut W, formula: &CnfFormula) -> io::Result<()>
     ensures whole { OnOk result (Appends (W.contents out.old) (W.contents out.new)
         (formula_text formula.now)) }
     ensures beginning { OnErr result (AppendsBeginning (W.contents out.old) (W.contents out.new)

@@ -56,12 +56,7 @@ fn text_of(alloc: Global, last: u64, line: LratLine<'_>) -> Result<Vec<u8>, Allo
 }
 
 /// The text of a line that adds a clause.
-fn addition(
-    alloc: Global,
-    id: u64,
-    clause: &[Lit],
-    hints: &[Hint],
-) -> Result<Vec<u8>, AllocError>
+fn addition(alloc: Global, id: u64, clause: &[Lit], hints: &[Hint]) -> Result<Vec<u8>, AllocError>
     ensures { IfOk result (λ text. text.items ≡
         line_text (addition_words id clause.now (map hint_of hints.now)) ++ 10 ∷ []) }
 {
