@@ -5,11 +5,14 @@
 #![tactic(auto)]
 
 mod fault;
+mod outputs;
 mod proof;
 mod run;
 #[cfg(test)]
 mod tests;
+mod with_outputs;
 
-pub use fault::{ProofFault, RunFault};
+pub use fault::{OutputFault, ProofFault, RunFault};
 pub use run::{run_check, run_proof};
 pub use verdicts::{Verdict, exit_status};
+pub use with_outputs::{run_check_with_outputs, run_proof_with_outputs};

@@ -30,7 +30,7 @@ pub(crate) fn verdict_of<P: Read + Drop>(
 }
 
 /// Reads a formula and a proof into an elaborator, up to the first conflict.
-fn read_proof<P: Read + Drop>(
+pub(crate) fn read_proof<P: Read + Drop>(
     alloc: Global,
     formula: &CnfFormula,
     proof: P,
