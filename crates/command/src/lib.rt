@@ -3,10 +3,12 @@
 
 mod files;
 mod kind;
+mod outputs;
 mod status;
 #[cfg(test)]
 mod tests;
 
 pub use files::{Input, create_output, open_input, say_drat_proof, say_formula, say_proof};
 pub use kind::{Kind, kind_of};
+pub use outputs::create_two_outputs;
 pub use status::{NOT_RUN, help, refuse, usage, version};
