@@ -16,5 +16,6 @@ tests/lrat_fuzz.sh
 tests/refused_growths.sh
 tests/log_lines.sh
 tests/drat_solvers.sh
+tests/drat_outputs.sh
 tests/drat_fuzz.sh
 tests/bindings.sh
