@@ -63,7 +63,7 @@ pub fn create_output(
 }
 
 /// Whether one of two inputs was opened by this name.
-fn is_named(name: &str, first: &Input<'_>, second: &Input<'_>) -> bool
+pub(crate) fn is_named(name: &str, first: &Input<'_>, second: &Input<'_>) -> bool
     ensures { IsTrue result
         ↔ ((name.now ≡ first.now.name.now) ⊎ (name.now ≡ second.now.name.now)) }
 {
@@ -71,7 +71,7 @@ fn is_named(name: &str, first: &Input<'_>, second: &Input<'_>) -> bool
 }
 
 /// Whether a name leads to the regular file that is open.
-fn is_input(rt: &HostRuntime, name: &str, input: &Input<'_>) -> bool {
+pub(crate) fn is_input(rt: &HostRuntime, name: &str, input: &Input<'_>) -> bool {
     match (fs::metadata(rt, name), input.file.metadata()) {
         (Ok(one), Ok(other)) => {
             one.is_file() && one.dev() == other.dev() && one.ino() == other.ino()

@@ -4,6 +4,7 @@
 mod files;
 mod header;
 mod kind;
+mod outputs;
 mod status;
 #[cfg(test)]
 mod tests;
@@ -13,4 +14,5 @@ pub use files::{
 };
 pub use header::{CountingReader, Counts, LyingHeader};
 pub use kind::{Kind, kind_of};
+pub use outputs::create_two_outputs;
 pub use status::{NOT_RUN, help, refuse, usage, version};

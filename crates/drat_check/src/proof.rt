@@ -11,8 +11,8 @@ use std::alloc::Global;
 use std::io::Read;
 use verdicts::Verdict;
 
-/// What a proof shows of a formula. `Verified` is answered where the checker of LRAT proofs has taken
-/// the empty clause.
+/// What a proof shows of a formula. `Verified` is answered where the checker of LRAT proofs has
+/// taken the empty clause.
 pub(crate) fn verdict_of<P: Read + Drop>(
     alloc: Global,
     formula: &CnfFormula,
@@ -30,7 +30,7 @@ pub(crate) fn verdict_of<P: Read + Drop>(
 }
 
 /// Reads a formula and a proof into an elaborator, up to the first conflict.
-fn read_proof<P: Read + Drop>(
+pub(crate) fn read_proof<P: Read + Drop>(
     alloc: Global,
     formula: &CnfFormula,
     proof: P,

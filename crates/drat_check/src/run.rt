@@ -30,8 +30,8 @@ pub fn run_check<F: Read + Drop, P: Read + Drop, W: Write>(
     ensures silent { IsRefusedRun result → out.new ≡ out.old }
     ensures unwritten { IsUnwritten result → BeginsLineAfter (F.remaining cnf)
         (W.contents out.old) (W.contents out.new) }
-    ensures refutes { (text : List ℕ) → F.remaining cnf ≡ Some text →
-        result ≡ Ok Verified → IsRefuted text }
+    ensures refutes { (text : List ℕ) → F.remaining cnf ≡ Some text
+        → result ≡ Ok Verified → IsRefuted text }
 {
     match read_formula(alloc, cnf) {
         Ok(formula) => run_proof(alloc, &formula, proof, out),

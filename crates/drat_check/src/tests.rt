@@ -8,23 +8,23 @@ use std::process::Abort;
 use std::test::Fail;
 use verdicts::exit_status;
 
-// Four clauses, one against each pair of values of two variables.
+/// Four clauses, one against each pair of values of two variables.
 const FOUR: &[u8] = b"1 2 0 1 -2 0 -1 2 0 -1 -2 0";
 
-// What a run answers: its line or the text of its fault, and its exit status.
+/// What a run answers: its line or the text of its fault, and its exit status.
 type Outcome = (&'static str, u8);
 
 const VERIFIED: Outcome = ("s VERIFIED UNSAT\n", 0);
 
 const NOT_VERIFIED: Outcome = ("s NOT VERIFIED\n", 3);
 
-// The second step is needed, and is not right.
+/// The second step is needed, and is not right.
 const UNFOUNDED: Outcome = (
     "proof: step 2: clause neither follows nor is redundant by its first literal",
     1,
 );
 
-// Takes no byte.
+/// Takes no byte.
 #[derive(Drop)]
 struct Full;
 
@@ -38,7 +38,7 @@ impl Write for Full {
     }
 }
 
-// Gives these bytes one a read, and then a fault.
+/// Gives these bytes one a read, and then a fault.
 #[derive(Drop)]
 struct Broken<'a> {
     bytes: &'a [u8],
@@ -55,7 +55,7 @@ impl Read for Broken<'_> {
     }
 }
 
-// The line that was written, or else the text of the fault.
+/// The line that was written, or else the text of the fault.
 fn check<F: Read + Drop, P: Read + Drop>(
     rt: &impl Abort,
     alloc: Global,
@@ -95,7 +95,7 @@ fn proofs_of_four_clauses(rt: HostRuntime) -> Result<(), Fail> {
     Ok(())
 }
 
-// Steps of one byte before the lits: `a`, then 2 v + sign, then 0.
+/// Steps of one byte before the lits: `a`, then 2 v + sign, then 0.
 #[test]
 fn binary_proofs(rt: HostRuntime) -> Result<(), Fail> {
     let rows: [(&[u8], Outcome); 3] = [
@@ -109,7 +109,7 @@ fn binary_proofs(rt: HostRuntime) -> Result<(), Fail> {
     Ok(())
 }
 
-// A clause with a variable of its own is redundant by it; one that cuts is not.
+/// A clause with a variable of its own is redundant by it; one that cuts is not.
 #[test]
 fn redundant_clauses(rt: HostRuntime) -> Result<(), Fail> {
     let three = b"1 2 0 -1 -2 0".as_slice();

@@ -1,15 +1,21 @@
-//! The command `drat_check CNF DRAT`: checks a DRAT proof, text or binary, against a formula, and says
-//! in one line what it shows.
+//! The command `drat_check CNF DRAT [--lrat FILE] [--core FILE]`: checks a DRAT proof, text or
+//! binary, against a formula, and says in one line what it shows.
 //!
+//! With `--lrat` the lines that the checker of LRAT proofs accepted are written to a file, and with
+//! `--core` the clauses of the formula that they use.
 //! `--example` checks a small fixed example, `--help` says how the program is called, and
-//! `--version` of which version it is. The name `-` stands for standard input.
+//! `--version` of which version it is. The name `-` of a file that is read stands for standard
+//! input.
 #![tactic(auto)]
 
 use command::{
-    CountingReader, NOT_RUN, help, open_input, refuse, say_drat_proof, say_formula, usage, version,
-    warn_of_header,
+    CountingReader, Input, NOT_RUN, create_output, create_two_outputs, help, open_input, refuse,
+    say_drat_proof, say_formula, usage, version, warn_of_header,
 };
-use drat_check::{RunFault, Verdict, exit_status, run_check};
+use drat_check::{OutputFault, RunFault, Verdict, exit_status, run_check, run_check_with_outputs};
+use std::fmt::Display;
+use std::fs::File;
+use std::io::BufWriter;
 use std::process::ExitCode;
 use std::{env, io};
 
@@ -20,7 +26,21 @@ const EXAMPLE_FORMULA: &[u8] = b"p cnf 2 4\n1 2 0\n1 -2 0\n-1 2 0\n-1 -2 0\n";
 const EXAMPLE_PROOF: &[u8] = b"1 0\nd 1 2 0\n0\n";
 
 /// How the program is called.
-const CALL: &str = "drat_check CNF DRAT";
+const CALL: &str = "drat_check CNF DRAT [--lrat FILE] [--core FILE]";
+
+/// The names of the files that are written, where they are wanted.
+#[derive(Drop)]
+struct OutputNames {
+    lrat: Option<String>,
+    core: Option<String>,
+}
+
+/// The files that are written, where they are wanted.
+#[derive(Drop)]
+struct Outputs {
+    lrat: Option<BufWriter<File>>,
+    core: Option<BufWriter<File>>,
+}
 
 fn main(rt: HostRuntime) -> ExitCode {
     ExitCode::from(status_of_call(&rt))
@@ -34,12 +54,46 @@ fn status_of_call(rt: &HostRuntime) -> u8 {
     let Some(first) = words.next() else {
         return usage(rt, CALL);
     };
-    match (first.as_str(), words.next(), words.next()) {
-        ("--example", None, _) => check_example(rt),
-        ("--help", None, _) => help(rt, CALL),
-        ("--version", None, _) => version(rt, "drat_check"),
-        (cnf, Some(proof), None) => check_files(rt, cnf, proof.as_str()),
-        _ => usage(rt, CALL),
+    let Some(proof) = words.next() else {
+        return match first.as_str() {
+            "--example" => check_example(rt),
+            "--help" => help(rt, CALL),
+            "--version" => version(rt, "drat_check"),
+            _ => usage(rt, CALL),
+        };
+    };
+    match output_names(words) {
+        Some(
+            OutputNames {
+                lrat: None,
+                core: None,
+            },
+        ) => check_files(rt, first.as_str(), proof.as_str()),
+        Some(names) => check_with_outputs(rt, first.as_str(), proof.as_str(), &names),
+        None => usage(rt, CALL),
+    }
+}
+
+/// The options that the words say: each with a name, and at most once.
+fn output_names<I: Iterator<Item = String> + Drop>(mut words: I) -> Option<OutputNames> {
+    let mut names = OutputNames {
+        lrat: None,
+        core: None,
+    };
+    for _ in 0..2 {
+        let Some(option) = words.next() else {
+            return Some(names);
+        };
+        let name = words.next()?;
+        match option.as_str() {
+            "--lrat" if names.lrat.is_none() => names.lrat = Some(name),
+            "--core" if names.core.is_none() => names.core = Some(name),
+            _ => return None,
+        }
+    }
+    match words.next() {
+        None => Some(names),
+        Some(_) => None,
     }
 }
 
@@ -66,6 +120,87 @@ fn check_files(rt: &HostRuntime, cnf_name: &str, proof_name: &str) -> u8 {
     status
 }
 
+/// The files that are written are made once both others are open, and before anything is read.
+fn check_with_outputs(
+    rt: &HostRuntime,
+    cnf_name: &str,
+    proof_name: &str,
+    names: &OutputNames,
+) -> u8 {
+    let Some(cnf) = open_input(rt, cnf_name) else {
+        return NOT_RUN;
+    };
+    let Some(proof) = open_input(rt, proof_name) else {
+        return NOT_RUN;
+    };
+    let Some(mut outputs) = create_outputs(rt, names, &cnf, &proof) else {
+        return NOT_RUN;
+    };
+    let mut cnf = CountingReader::new(cnf.file);
+    let outcome = run_check_with_outputs(
+        rt.alloc(),
+        &mut cnf,
+        proof.file,
+        &mut io::writer(rt),
+        &mut outputs.lrat,
+        &mut outputs.core,
+    );
+    let status = report(rt, &outcome);
+    match outcome {
+        Err(OutputFault::Run(RunFault::Formula(_))) => {
+            say_formula(rt, cnf_name);
+            return status;
+        }
+        Err(OutputFault::Run(RunFault::Proof(_))) => say_drat_proof(rt, proof_name),
+        Err(OutputFault::Lrat(_)) => say_output(rt, &names.lrat),
+        Err(OutputFault::Core(_)) => say_output(rt, &names.core),
+        Err(OutputFault::Run(RunFault::Write(_))) | Ok(_) => {}
+    }
+    warn_of_header(rt, cnf_name, &cnf);
+    status
+}
+
+/// Makes the files that are wanted. None of them is one of the inputs, nor is one file made twice.
+fn create_outputs(
+    rt: &HostRuntime,
+    names: &OutputNames,
+    cnf: &Input<'_>,
+    proof: &Input<'_>,
+) -> Option<Outputs> {
+    match (&names.lrat, &names.core) {
+        (Some(lrat), Some(core)) => {
+            let (lrat, core) = create_two_outputs(rt, lrat.as_str(), core.as_str(), cnf, proof)?;
+            Some(Outputs {
+                lrat: Some(buffered(rt, lrat)?),
+                core: Some(buffered(rt, core)?),
+            })
+        }
+        (Some(lrat), None) => Some(Outputs {
+            lrat: Some(buffered(rt, create_output(rt, lrat.as_str(), cnf, proof)?)?),
+            core: None,
+        }),
+        (None, Some(core)) => Some(Outputs {
+            lrat: None,
+            core: Some(buffered(rt, create_output(rt, core.as_str(), cnf, proof)?)?),
+        }),
+        (None, None) => Some(Outputs {
+            lrat: None,
+            core: None,
+        }),
+    }
+}
+
+/// A file with a buffer before it. Where there is no memory for one, a line says so.
+fn buffered(rt: &HostRuntime, file: File) -> Option<BufWriter<File>> {
+    match BufWriter::new(rt.alloc(), file) {
+        Ok(writer) => Some(writer),
+        Err(fault) => {
+            let _ = eprintln!(rt; "{fault}");
+            None
+        }
+    }
+}
+
 fn check_example(rt: &HostRuntime) -> u8 {
     let outcome = run_check(
         rt.alloc(),
@@ -77,9 +212,16 @@ fn check_example(rt: &HostRuntime) -> u8 {
 }
 
 /// Says why there is no verdict, and gives the exit status.
-fn report(rt: &HostRuntime, outcome: &Result<Verdict, RunFault>) -> u8 {
+fn report<E: Display>(rt: &HostRuntime, outcome: &Result<Verdict, E>) -> u8 {
     if let Err(fault) = outcome {
         let _ = eprintln!(rt; "{fault}");
     }
     exit_status(outcome)
+}
+
+/// Says which file could not be written.
+fn say_output(rt: &HostRuntime, name: &Option<String>) {
+    if let Some(name) = name {
+        let _ = eprintln!(rt; "in {name}");
+    }
 }

@@ -22,7 +22,7 @@ fn begun(rt: &HostRuntime, clauses: &[&[i64]]) -> Result<Elaborator, Fail> {
     Ok(elaborator)
 }
 
-// A line as in LRAT text.
+/// A line as in LRAT text.
 fn shown(rt: &HostRuntime, line: LratLine<'_>) -> Result<String, Fail> {
     let mut text = String::new(rt.alloc());
     match line {
@@ -62,7 +62,7 @@ fn all_lines(rt: &HostRuntime, elaborator: &mut Elaborator) -> Result<String, Fa
     Ok(text)
 }
 
-// Four clauses on two variables, and one that is not needed.
+/// Four clauses on two variables, and one that is not needed.
 #[test]
 fn lemma_by_propagation(rt: HostRuntime) -> Result<(), Fail> {
     let mut elaborator = begun(&rt, &[&[1, 2], &[1, -2], &[-1, 2], &[-1, -2], &[3, 4]])?;
@@ -79,8 +79,8 @@ fn lemma_by_propagation(rt: HostRuntime) -> Result<(), Fail> {
     Ok(())
 }
 
-// The first two lemmas don't follow. No clause has 4 when the first comes; the second is resolved
-// with it, which propagation refutes.
+/// The first two lemmas don't follow. No clause has 4 when the first comes; the second is resolved
+/// with it, which propagation refutes.
 #[test]
 fn redundant_lemmas(rt: HostRuntime) -> Result<(), Fail> {
     let clauses: &[&[i64]] = &[
@@ -112,7 +112,7 @@ fn redundant_lemmas(rt: HostRuntime) -> Result<(), Fail> {
     Ok(())
 }
 
-// The clause 3 doesn't follow, and neither does what it makes with 1 2 -3.
+/// The clause 3 doesn't follow, and neither does what it makes with 1 2 -3.
 #[test]
 fn refused_lemma(rt: HostRuntime) -> Result<(), Fail> {
     let clauses: &[&[i64]] = &[&[1, 2, -3], &[1, -2], &[-1, 2], &[-1, -2, -3]];
@@ -127,7 +127,7 @@ fn refused_lemma(rt: HostRuntime) -> Result<(), Fail> {
     Ok(())
 }
 
-// The proof stops before a conflict.
+/// The proof stops before a conflict.
 #[test]
 fn no_conflict(rt: HostRuntime) -> Result<(), Fail> {
     let mut elaborator = begun(&rt, &[&[1, 2], &[1, -2]])?;
@@ -139,8 +139,8 @@ fn no_conflict(rt: HostRuntime) -> Result<(), Fail> {
     Ok(())
 }
 
-// The clause 1 forces its literal, and is kept; the tautology goes first; a literal stands twice in
-// the lemma, and a deletion names the clause in another order.
+/// The clause 1 forces its literal, and is kept; the tautology goes first; a literal stands twice
+/// in the lemma, and a deletion names the clause in another order.
 #[test]
 fn kept_reason(rt: HostRuntime) -> Result<(), Fail> {
     let clauses: &[&[i64]] = &[
@@ -164,8 +164,8 @@ fn kept_reason(rt: HostRuntime) -> Result<(), Fail> {
     Ok(())
 }
 
-// The empty clause of a formula needs no proof. What comes out of order is refused, or says
-// nothing.
+/// The empty clause of a formula needs no proof. What comes out of order is refused, or says
+/// nothing.
 #[test]
 fn empty_clause(rt: HostRuntime) -> Result<(), Fail> {
     let mut elaborator = begun(&rt, &[&[1], &[], &[2, 3]])?;

@@ -1,0 +1,3 @@
+pub mod UsedClauses
+pub mod WrittenCores
+pub mod WrittenLines

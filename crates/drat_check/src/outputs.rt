@@ -1,0 +1,154 @@
+//! What a run writes beside its verdict: the lines that the checker accepted, and the clauses of
+//! the formula that they use.
+ghost use Rattle.std.specs.Prelude.{◌≡◌, ◌∷◌, [], IfOk, OnErr, OnOk};
+ghost use Rattle.std.specs.Io.KnownBytes.{Appends, Keeps};
+ghost use Rattle.lrat_text.specs.NextLine.{view};
+ghost use Rattle.sat_output.specs.FormulaTexts.{formula_text};
+ghost use Rattle.sat_output.specs.LratTexts.{lines_text};
+ghost use Rattle.whole_writes.specs.Beginnings.{AppendsBeginning};
+ghost use Rattle.drat_check.specs.Outputs.{BeganCore, BeganLines, IsLineFault, IsPartOf, WroteCore, WroteProof, bytes_in};
+ghost use Rattle.drat_check.specs.Runs.{IsUnsatisfiable};
+
+use crate::fault::{OutputFault, ProofFault};
+use drat_elaborate::Elaborator;
+use lrat_checker::LratChecker;
+use lrat_text::LratLine;
+use sat_formula::CnfFormula;
+use sat_output::{number_after, write_formula, write_lrat_line};
+use std::alloc::{AllocError, Global};
+use std::io;
+use std::io::Write;
+
+/// Hands the elaborated lines to a checker that holds the formula, up to the empty clause, and
+/// writes each that it accepts.
+pub(crate) fn write_lines<L: Write>(
+    alloc: Global,
+    formula: &CnfFormula,
+    elaborator: &mut Elaborator,
+    lrat: &mut Option<L>,
+) -> Result<(), OutputFault>
+    ensures shown { OnOk result (IsUnsatisfiable formula.now) }
+    ensures whole { OnOk result (WroteProof formula.now
+        (bytes_in L.contents lrat.old) (bytes_in L.contents lrat.new)) }
+    ensures beginning { OnErr result (BeganLines formula.now
+        (bytes_in L.contents lrat.old) (bytes_in L.contents lrat.new)) }
+    ensures fault { IsLineFault result }
+{
+    let mut checker = match LratChecker::new(alloc, formula) {
+        Ok(checker) => checker,
+        Err(fault) => return Err(OutputFault::from(ProofFault::from(fault))),
+    };
+    let mut last = formula.len() as u64;
+    'lines: for line in 1..u64::MAX {
+        if checker.refuted() {
+            return end_lines(lrat);
+        }
+        match elaborator.next_line() {
+            Ok(Some(entry)) => {
+                if let Err(fault) = checker.check_line(entry) {
+                    return Err(OutputFault::from(ProofFault::Internal { line, fault }));
+                }
+                if let Err(fault) = write_accepted(alloc, lrat, last, entry) {
+                    return Err(OutputFault::Lrat(fault));
+                }
+                last = number_after(last, entry);
+            }
+            Ok(None) => return Err(OutputFault::from(ProofFault::Unfinished)),
+            Err(fault) => return Err(OutputFault::from(ProofFault::from(fault))),
+        }
+    }
+    Err(OutputFault::from(ProofFault::Unfinished))
+}
+
+/// Writes a line, where lines are wanted.
+fn write_accepted<L: Write>(
+    alloc: Global,
+    lrat: &mut Option<L>,
+    last: u64,
+    line: LratLine<'_>,
+) -> io::Result<()>
+    ensures whole { OnOk result (Appends (bytes_in L.contents lrat.old)
+        (bytes_in L.contents lrat.new) (lines_text last (view line.entry ∷ []))) }
+    ensures beginning { OnErr result (AppendsBeginning (bytes_in L.contents lrat.old)
+        (bytes_in L.contents lrat.new) (lines_text last (view line.entry ∷ []))) }
+{
+    match lrat {
+        Some(out) => write_lrat_line(alloc, out, last, line),
+        None => Ok(()),
+    }
+}
+
+/// Writes what a writer of lines holds back.
+fn end_lines<L: Write>(lrat: &mut Option<L>) -> Result<(), OutputFault>
+    ensures kept { Keeps (bytes_in L.contents lrat.old) (bytes_in L.contents lrat.new) }
+    ensures fault { IsLineFault result }
+{
+    match flush(lrat) {
+        Ok(()) => Ok(()),
+        Err(fault) => Err(OutputFault::Lrat(fault)),
+    }
+}
+
+/// Writes what a writer holds back, where there is one.
+fn flush<W: Write>(out: &mut Option<W>) -> io::Result<()>
+    ensures { Keeps (bytes_in W.contents out.old) (bytes_in W.contents out.new) }
+{
+    match out {
+        Some(out) => out.flush(),
+        None => Ok(()),
+    }
+}
+
+/// Writes the clauses of the formula that the elaborated lines use, where they are wanted.
+pub(crate) fn write_core<C: Write>(
+    alloc: Global,
+    formula: &CnfFormula,
+    elaborator: &Elaborator,
+    core: &mut Option<C>,
+) -> io::Result<()>
+    ensures whole { OnOk result (WroteCore formula.now
+        (bytes_in C.contents core.old) (bytes_in C.contents core.new)) }
+    ensures beginning { OnErr result (BeganCore formula.now
+        (bytes_in C.contents core.old) (bytes_in C.contents core.new)) }
+{
+    match core {
+        Some(out) => write_used(alloc, formula, elaborator, out),
+        None => Ok(()),
+    }
+}
+
+/// Writes the clauses of the formula that the elaborated lines use.
+fn write_used<C: Write>(
+    alloc: Global,
+    formula: &CnfFormula,
+    elaborator: &Elaborator,
+    out: &mut C,
+) -> io::Result<()>
+    ensures whole { OnOk result (WroteCore formula.now
+        (C.contents out.old) (C.contents out.new)) }
+    ensures beginning { OnErr result (BeganCore formula.now
+        (C.contents out.old) (C.contents out.new)) }
+{
+    let used = used_clauses(alloc, formula, elaborator)?;
+    write_formula(alloc, out, &used)?;
+    out.flush()
+}
+
+/// The clauses of the formula that the elaborated lines use, in their order.
+fn used_clauses(
+    alloc: Global,
+    formula: &CnfFormula,
+    elaborator: &Elaborator,
+) -> Result<CnfFormula, AllocError>
+    ensures { IfOk result (λ used. IsPartOf used formula.now) }
+{
+    let mut used = CnfFormula::new(alloc);
+    let mut index: usize = 0;
+    for clause in formula {
+        if elaborator.is_used(index) {
+            used.add_clause(clause)?;
+        }
+        index = index.saturating_add(1);
+    }
+    Ok(used)
+}

@@ -1,0 +1,3 @@
+pub mod FormulaTexts
+pub mod LratTexts
+pub mod Words

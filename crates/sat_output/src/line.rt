@@ -1,0 +1,83 @@
+//! Lines of LRAT proofs.
+ghost use Rattle.std.specs.Prelude.{◌≡◌, ◌++◌, ◌∷◌, [], map, IfOk, OnErr, OnOk};
+ghost use Rattle.std.specs.Io.KnownBytes.{Appends};
+ghost use Rattle.lrat_text.specs.Grammar.{hint_of};
+ghost use Rattle.lrat_text.specs.NextLine.{view};
+ghost use Rattle.sat_output.specs.LratTexts.{addition_words, deletion_words, last_after, line_text, lines_text};
+ghost use Rattle.sat_output.specs.Words.{spaced};
+ghost use Rattle.whole_writes.specs.Beginnings.{AppendsBeginning};
+
+use crate::words::{push_hints, push_literals, push_number, push_numbers};
+use lrat_text::{Hint, LratLine};
+use sat_formula::Lit;
+use std::alloc::{AllocError, Global};
+use std::io;
+use std::io::Write;
+use whole_writes::append_whole;
+
+/// Writes a line of an LRAT proof, with its LF.
+///
+/// `last` is the number in front of a line that deletes clauses: by custom that of the last clause
+/// that was added. After an error a beginning of the line is written, and nothing where there was
+/// no memory for its text. A writer with a buffer may hold some of it back.
+pub fn write_lrat_line<W: Write>(
+    alloc: Global,
+    out: &mut W,
+    last: u64,
+    line: LratLine<'_>,
+) -> io::Result<()>
+    ensures whole { OnOk result (Appends (W.contents out.old) (W.contents out.new)
+        (lines_text last (view line.entry ∷ []))) }
+    ensures beginning { OnErr result (AppendsBeginning (W.contents out.old) (W.contents out.new)
+        (lines_text last (view line.entry ∷ []))) }
+{
+    let text = text_of(alloc, last, line)?;
+    append_whole(out, &text)
+}
+
+/// The number in front of a deletion after this line: its own id, where it adds a clause.
+pub fn number_after(last: u64, line: LratLine<'_>) -> u64
+    ensures { result ≡ last_after last (view line.entry) }
+{
+    match line {
+        LratLine::Add { id, .. } => id,
+        LratLine::Delete { .. } => last,
+    }
+}
+
+/// The text of a line, with its LF.
+fn text_of(alloc: Global, last: u64, line: LratLine<'_>) -> Result<Vec<u8>, AllocError>
+    ensures { IfOk result (λ text. text.items ≡ lines_text last (view line.entry ∷ [])) }
+{
+    match line {
+        LratLine::Add { id, clause, hints } => addition(alloc, id, clause, hints),
+        LratLine::Delete { ids } => deletion(alloc, last, ids),
+    }
+}
+
+/// The text of a line that adds a clause.
+fn addition(alloc: Global, id: u64, clause: &[Lit], hints: &[Hint]) -> Result<Vec<u8>, AllocError>
+    ensures { IfOk result (λ text. text.items
+        ≡ line_text (addition_words id clause.now (map hint_of hints.now)) ++ 10 ∷ []) }
+{
+    let mut text = Vec::new(alloc);
+    push_number(&mut text, id)?;
+    push_literals(&mut text, clause)?;
+    text.extend_from_slice(b"0 ")?;
+    push_hints(&mut text, hints)?;
+    text.extend_from_slice(b"0\n")?;
+    Ok(text)
+}
+
+/// The text of a line that deletes clauses.
+fn deletion(alloc: Global, last: u64, ids: &[u64]) -> Result<Vec<u8>, AllocError>
+    ensures { IfOk result (λ text. text.items
+        ≡ line_text (deletion_words last ids.now) ++ 10 ∷ []) }
+{
+    let mut text = Vec::new(alloc);
+    push_number(&mut text, last)?;
+    text.extend_from_slice(b"d ")?;
+    push_numbers(&mut text, ids)?;
+    text.extend_from_slice(b"0\n")?;
+    Ok(text)
+}

@@ -1,0 +1,144 @@
+#!/usr/bin/env bash
+# What `drat_check` writes by its options --lrat and --core: the lines are accepted by `lrat_check`, and the clauses are
+# some of the formula's, as their header says, and can't be satisfied. And which files it refuses to write.
+#
+# The programs must be built: `rt ci` does it, or `rt run` in their folders.
+set -euo pipefail
+
+top=$(cd "$(dirname "$0")/.." && pwd)
+check=$top/crates/drat_check_main/out/drat_check_main
+lrat_check=$top/crates/lrat_check_main/out/lrat_check_main
+for program in "$check" "$lrat_check"; do
+  if [[ ! -x $program ]]; then
+    echo "not built: $program"
+    exit 1
+  fi
+done
+work=$(mktemp -d)
+trap 'rm -rf "$work"' EXIT
+cd "$work"
+wrong=0
+
+fault() {
+  echo "WRONG $*"
+  wrong=1
+}
+
+# wants STATUS OUTPUT ERRORS ARGUMENT..: a run over the formula f and the proof p must do this, and leave both as they are
+wants() {
+  local status=0
+  printf 'p cnf 4 5\n1 2 0\n1 -2 0\n-1 2 0\n-1 -2 0\n3 4 0\n' > f
+  printf '1 0\nd 1 2 0\n0\n' > p
+  cp f f.before
+  cp p p.before
+  ln -f p hard
+  ln -sf f soft
+  "$check" "${@:4}" > out 2> err || status=$?
+  if [[ $status == "$1" && $(cat out) == "$2" && $(cat err) == "$3" ]] && cmp -s f f.before && cmp -s p p.before; then
+    echo "ok    ${*:4}"
+  else
+    fault "${*:4}: status $status, output '$(cat out)', errors '$(cat err)'"
+  fi
+}
+
+# empty FILE..: the files are there, and nothing is in them
+empty() {
+  local file
+  for file; do
+    [[ -f $file && ! -s $file ]] || fault "$file is not there, or not empty"
+  done
+}
+
+# clauses FILE: the clauses of a text with one on each line, in the order of their text
+clauses() {
+  grep -v '^[pc]' "$1" | sort
+}
+
+# outputs NAME CNF PROOF: both outputs, and each alone, say what they should
+outputs() {
+  local name=$1 said
+  rm -f lrat core lrat.alone core.alone
+  said=$("$check" "$2" "$3" --lrat lrat --core core 2> err) || true
+  [[ $said == 's VERIFIED UNSAT' ]] || fault "$name: $said $(cat err)"
+  said=$("$lrat_check" "$2" lrat 2> err) || true
+  [[ $said == 's VERIFIED UNSAT' ]] || fault "$name, its lines: $said $(cat err)"
+  [[ -z $(comm -13 <(clauses "$2") <(clauses core)) ]] || fault "$name: the core has clauses of its own"
+  [[ $(awk '$1 == "p" { print $4 }' core) == $(clauses core | wc -l) ]] || fault "$name: the core's header"
+  if command -v cadical > where; then
+    local status=0
+    cadical -q core > said 2>&1 || status=$?
+    ((status == 20)) || fault "$name, its core: cadical ended with status $status"
+  fi
+  said=$("$check" "$2" "$3" --core core.alone 2> err) || true
+  [[ $said == 's VERIFIED UNSAT' ]] && cmp -s core core.alone || fault "$name, the core alone: $said $(cat err)"
+  said=$("$check" "$2" "$3" --lrat lrat.alone 2> err) || true
+  [[ $said == 's VERIFIED UNSAT' ]] && cmp -s lrat lrat.alone || fault "$name, the lines alone: $said $(cat err)"
+}
+
+formula() {
+  python3 -B "$top/tests/drat/formulas.py" "$@"
+}
+
+wants 0 's VERIFIED UNSAT' '' f p --lrat l --core c
+outputs four f p
+[[ $(clauses core) != *'3 4 0'* ]] || fault 'a clause that is not needed stands in the core'
+formula random 150 4.8 1 > random.cnf
+if command -v cadical > where; then
+  cadical -q random.cnf random.drat > said 2>&1 || true
+  outputs random random.cnf random.drat
+fi
+for holes in 6 9; do
+  formula pigeons "$holes" > pigeons.cnf
+  for family in extended swaps; do
+    formula "$family" "$holes" > pigeons.drat
+    outputs "$family $holes" pigeons.cnf pigeons.drat
+  done
+done
+
+# nothing is written where the proof shows nothing, or is refused before a line is made
+printf '1 x 0\n' > malformed
+printf 'd 1 2 0\n1 0\n' > unfounded
+printf '' > open
+wants 3 's NOT VERIFIED' '' f open --lrat l --core c
+empty l c
+wants 1 '' $'proof: step 1: malformed\nin malformed' f malformed --lrat l --core c
+empty l c
+wants 1 '' $'proof: step 2: clause neither follows nor is redundant by its first literal\nin unfounded' \
+  f unfounded --core c --lrat l
+empty l c
+wants 1 '' $'formula: line 1: bad number\nin malformed' malformed p --lrat l --core c
+empty l c
+
+# an output that is a file that is read, or the other output
+for output in f p ./f ./p "$PWD/p" hard soft; do
+  for option in --lrat --core; do
+    wants 2 '' "cannot open $output"$'\n'"the output is a file that is read" f p "$option" "$output"
+  done
+  printf 'kept' > l
+  for arguments in "--lrat l --core $output" "--core l --lrat $output"; do
+    # shellcheck disable=SC2086
+    wants 2 '' "cannot open $output"$'\n'"the output is a file that is read" f p $arguments
+    [[ $(cat l) == kept ]] || fault "the other output is emptied: $arguments"
+  done
+done
+printf 'kept' > same
+ln -f same other
+for output in same ./same other; do
+  wants 2 '' "cannot open $output"$'\n'"both outputs are one file" f p --lrat same --core "$output"
+  [[ $(cat same) == kept ]] || fault "one file is emptied: $output"
+done
+wants 2 '' $'cannot open ./new\nboth outputs are one file' f p --lrat new --core ./new
+wants 0 's VERIFIED UNSAT' '' f p --lrat /dev/null --core /dev/null
+
+# a disk that is full: no line of a verdict, and the file is named
+wants 1 '' $'error writing: No space left on device (os error 28)\nin /dev/full' f p --lrat /dev/full --core c
+wants 1 '' $'error writing: No space left on device (os error 28)\nin /dev/full' f p --core /dev/full --lrat l
+[[ $("$lrat_check" f l) == 's VERIFIED UNSAT' ]] || fault 'the lines before a core that can not be written'
+
+# calls that are none
+usage='usage: drat_check CNF DRAT [--lrat FILE] [--core FILE]'
+for arguments in 'f' 'f p --lrat' 'f p --lrat l --core' 'f p --lrat l --lrat c' 'f p --other l' 'f p --lrat l --core c d'; do
+  # shellcheck disable=SC2086
+  wants 2 '' "$usage" $arguments
+done
+exit "$wrong"
