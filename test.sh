@@ -17,4 +17,5 @@ tests/refused_growths.sh
 tests/log_lines.sh
 tests/drat_solvers.sh
 tests/drat_fuzz.sh
+tests/model_check.sh
 tests/bindings.sh
