@@ -20,11 +20,12 @@ WAYS = {
     "lrat_check": ("lrat_text", "lrat_checker", "lrat_check"),
     "hint_check": ("hint_checker", "hint_check"),
     "varisat_check": ("proof_bytes", "checker_steps", "clause_store", "varisat_checker", "varisat_check"),
+    "model_check": ("answer_text", "model_check"),
     "lrat_to_proof": ("lrat_text", "lrat_to_proof"),
 }
 
-# The crates that hold the formula and decide. A way without one ends in the crate that takes the formula.
-DECIDING = ("lrat_checker", "hint_checker", "varisat_checker")
+# The crates that decide. A way without one ends in the crate that takes the formula.
+DECIDING = ("lrat_checker", "hint_checker", "varisat_checker", "model_check")
 
 # What a program writes beside its verdict, and by which crate.
 WRITERS = {"varisat_check": ("sat_hints", "LRAT")}
@@ -236,7 +237,7 @@ def draw_legend(drawing, y):
         ("read", False, "its definitions are read to believe a verdict"),
         ("proved", False, "proved against its contracts"),
         ("unclaimed", False, "safe and ends, nothing rests on it"),
-        ("proved", True, "holds the formula, and decides"),
+        ("proved", True, "decides"),
     )
     x = 28
     for kind, deciding, words in entries:
