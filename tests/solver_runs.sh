@@ -41,8 +41,9 @@ ends() {
   wait "$1" || status=$?
 }
 
-# Lines through a pipe that stays open. The checker ends at the first line that is refused, and at the empty clause.
-printf '1 2 0 1 -2 0 -1 2 0 -1 -2 0' > four.cnf
+# Lines through a pipe that stays open. The checker ends at the first line that is refused, and at the empty clause. The
+# header is wrong, so that there may be a warning beside the answer.
+printf 'p cnf 1 9\n1 2 0 1 -2 0 -1 2 0 -1 -2 0' > four.cnf
 for last in '6 0 5 3 0' '6 0 5 3 4 0'; do
   mkfifo lines
   "$lrat_check" four.cnf lines > said 2> err &

@@ -55,7 +55,8 @@ class Running {
     // Where the proof is written. A write fails once the program has ended.
     FILE *proof() { return proof_file; }
 
-    // Ends the proof, waits for the program, and says what it answered; later calls say it again.
+    // Ends the proof, waits for the program, and says what it answered; later calls say it again. Where `why` is given it gets
+    // the text of a fault, and nothing otherwise.
     Answer finish(std::string *why = nullptr) {
         if (proof_file) {
             std::fclose(proof_file);
@@ -76,6 +77,9 @@ class Running {
                 answer = Answer::verified;
             else if (WIFEXITED(status) && WEXITSTATUS(status) == 3)
                 answer = Answer::not_verified;
+            // beside a verdict there may be a warning
+            if (answer != Answer::fault)
+                text.clear();
         }
         if (why)
             *why = text;

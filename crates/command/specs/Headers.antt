@@ -1,11 +1,11 @@
 -- What the header of a formula says, beside what the formula has.
 --     tally_all tally bytes      what was counted before the bytes, and in them
 --     warning_by tally           the header, where it says something else than the clauses
-use Rattle.std.specs.Prelude.{ℕ, ◌+◌, ◌-◌, ◌*◌, ◌^◌, min, max, Bool, ◌||◌, ◌==◌, not, nat_lt, if◌then◌else◌, List, [], ◌∷◌, Option, Some, None, unwrap_or}
+use Rattle.std.specs.Prelude.{ℕ, ◌+◌, ◌-◌, ◌*◌, ◌^◌, min, max, Bool, false, true, ◌||◌, ◌==◌, not, nat_lt, if◌then◌else◌, List, [], ◌∷◌, Option, Some, None}
 use Rattle.command.specs.declared.header.Counts.{Counts}
 use Rattle.command.specs.declared.header.CountingReader.{CountingReader}
 use Rattle.command.specs.declared.header.Line.{Line}
-use Rattle.command.specs.declared.header.Line.TheVariants.{Blank, Comment, Header, Numbers, EndMark}
+use Rattle.command.specs.declared.header.Line.TheVariants.{Clauses, Header, Comment, Ended}
 use Rattle.command.specs.declared.header.LyingHeader.{LyingHeader}
 use Rattle.command.specs.declared.header.Said.{Said}
 use Rattle.command.specs.declared.header.Said.TheVariants.{Nothing, Variables, Both}
@@ -13,9 +13,8 @@ use Rattle.command.specs.declared.header.Tally.{Tally}
 use Rattle.command.specs.Kinds.{is_digit}
 
 -- the value of digits and one more; it stays at the largest of 64 bits
-abbrev pub value_after : Option ℕ → ℕ → ℕ
-value_after digits digit =
-    min (min (unwrap_or digits 0 * 10) (2 ^ 64 - 1) + digit) (2 ^ 64 - 1)
+abbrev pub value_after : ℕ → ℕ → ℕ
+value_after value digit = min (min (value * 10) (2 ^ 64 - 1) + digit) (2 ^ 64 - 1)
 
 -- of the numbers of a header the first is that of the variables and the second that of the clauses
 abbrev pub said_after : Said → ℕ → Said
@@ -24,76 +23,50 @@ said_after (Variables variables) value =
     Both (record { variables = variables; clauses = value })
 said_after (Both counts) value = Both counts
 
--- a line's first byte that is no blank tells what it is, and an LF ends it
-abbrev pub line_after : Line → ℕ → Line
-line_after Blank byte =
-    if byte == 99 then Comment
-    else if byte == 112 then Header
-    else if byte == 37 then EndMark
-    else if byte == 45 then Numbers
-    else Blank
-line_after Comment byte = if byte == 10 then Blank else Comment
-line_after Header byte = if byte == 10 then Blank else Header
-line_after Numbers byte = if byte == 10 then Blank else Numbers
-line_after EndMark byte = if byte == 10 then Blank else EndMark
-
 -- 0 ends a clause, and any other number is that of a variable
 abbrev pub counts_after : Counts → ℕ → Counts
 counts_after counts value =
     if value == 0 then record counts { clauses = min (counts.clauses + 1) (2 ^ 64 - 1) }
     else record counts { variables = max counts.variables value }
 
--- a number ends that stands in such a line
-abbrev pub number_counted : Line → ℕ → Tally → Tally
-number_counted Header value tally =
-    record tally { digits = None; said = said_after tally.said value }
-number_counted Blank value tally =
-    record tally { digits = None; counts = counts_after tally.counts value }
-number_counted Comment value tally =
-    record tally { digits = None; counts = counts_after tally.counts value }
-number_counted Numbers value tally =
-    record tally { digits = None; counts = counts_after tally.counts value }
-number_counted EndMark value tally =
-    record tally { digits = None; counts = counts_after tally.counts value }
+-- a line of clauses or of nothing yet may begin as another one; an LF ends each, and nothing comes after the end mark
+abbrev pub line_after : Line → ℕ → Line
+line_after Clauses byte =
+    if byte == 99 then Comment
+    else if byte == 112 then Header
+    else if byte == 37 then Ended
+    else Clauses
+line_after Header byte = if byte == 10 then Clauses else Header
+line_after Comment byte = if byte == 10 then Clauses else Comment
+line_after Ended byte = Ended
+
+-- a number of such a line ends
+abbrev pub number_counted : Line → Tally → Tally
+number_counted Clauses tally = record tally {
+  in_number = false;
+  value = 0;
+  counts = counts_after tally.counts tally.value;
+}
+number_counted Header tally = record tally {
+  in_number = false;
+  value = 0;
+  said = said_after tally.said tally.value;
+}
+number_counted Comment tally = record tally { in_number = false; value = 0 }
+number_counted Ended tally = record tally { in_number = false; value = 0 }
 
 -- a number ends, where one has begun
-abbrev pub counted_at : Option ℕ → Tally → Tally
-counted_at None tally = tally
-counted_at (Some value) tally = number_counted tally.line value tally
-
 unfoldable pub counted : Tally → Tally
-counted tally = counted_at tally.digits tally
+counted tally = if tally.in_number then number_counted tally.line tally else tally
 
--- a line that begins with a digit has numbers
-abbrev pub line_with_digit : Line → Line
-line_with_digit Blank = Numbers
-line_with_digit Comment = Comment
-line_with_digit Header = Header
-line_with_digit Numbers = Numbers
-line_with_digit EndMark = EndMark
-
-unfoldable pub with_digit : Tally → ℕ → Tally
-with_digit tally digit = record tally {
-  line = line_with_digit tally.line;
-  digits = Some (value_after tally.digits digit);
-}
-
--- a byte of a line that is read
-abbrev pub byte_read : Tally → ℕ → Tally
-byte_read tally byte =
-    if is_digit byte then with_digit tally (byte - 48)
-    else record (counted tally) { line = line_after (counted tally).line byte }
-
--- a byte in such a line; a comment is read to its end, and nothing after the end mark
-abbrev pub byte_after : Line → Tally → ℕ → Tally
-byte_after Comment tally byte = if byte == 10 then record tally { line = Blank } else tally
-byte_after EndMark tally byte = tally
-byte_after Blank tally byte = byte_read tally byte
-byte_after Header tally byte = byte_read tally byte
-byte_after Numbers tally byte = byte_read tally byte
-
+-- a byte of a number, or one that ends it
 unfoldable pub tally_after : Tally → ℕ → Tally
-tally_after tally byte = byte_after tally.line tally byte
+tally_after tally byte =
+    if is_digit byte then record tally {
+      in_number = true;
+      value = value_after tally.value (byte - 48);
+    }
+    else record (counted tally) { line = line_after tally.line byte }
 
 abbrev pub tally_all : Tally → List ℕ → Tally
 tally_all tally [] = tally
@@ -102,8 +75,9 @@ tally_all tally (byte ∷ bytes) = tally_all (tally_after tally byte) bytes
 -- before the first byte
 abbrev pub start : Tally
 start = record {
-  line = Blank;
-  digits = None;
+  line = Clauses;
+  in_number = false;
+  value = 0;
   said = Nothing;
   counts = record { variables = 0; clauses = 0 };
 }

@@ -2,7 +2,7 @@
 ghost use Rattle.std.specs.Prelude.{◌≡◌, take, MatchResult};
 ghost use Rattle.std.specs.Io.{ReadsAtMost};
 ghost use Rattle.std.specs.Io.KnownBytes.{ReadConsumes};
-ghost use Rattle.command.specs.Headers.{counted, is_lie, line_after, said_after, tally_after, tally_all, tally_of, unread_of, value_after, warning_by, with_digit};
+ghost use Rattle.command.specs.Headers.{counted, counts_after, is_lie, line_after, said_after, tally_after, tally_all, tally_of, unread_of, value_after, warning_by};
 
 use std::fmt::{Display, Formatter};
 use std::io::Read;
@@ -15,16 +15,15 @@ pub struct Counts {
     pub clauses: u64,
 }
 
-/// What a line is, by its first byte that is no blank.
+/// What the digits of a line are.
 #[derive(Clone, Copy)]
 enum Line {
-    /// It has had none so far.
-    Blank,
-    Comment,
+    /// Numbers of clauses, so far.
+    Clauses,
     Header,
-    Numbers,
-    /// The mark after which a formula has nothing.
-    EndMark,
+    Comment,
+    /// Nothing: the mark was read after which a formula has no more.
+    Ended,
 }
 
 /// What was read of the counts of a header.
@@ -39,8 +38,9 @@ enum Said {
 #[derive(Clone, Copy)]
 struct Tally {
     line: Line,
-    /// The value of the digits that end with the last byte, where it is one.
-    digits: Option<u64>,
+    /// Whether the last byte is a digit, and the value of the digits up to it; else 0.
+    in_number: bool,
+    value: u64,
     said: Said,
     counts: Counts,
 }
@@ -88,8 +88,9 @@ impl<R: Read> CountingReader<R> {
             clauses: 0,
         };
         let tally = Tally {
-            line: Line::Blank,
-            digits: None,
+            line: Line::Clauses,
+            in_number: false,
+            value: 0,
             said: Said::Nothing,
             counts,
         };
@@ -149,76 +150,72 @@ impl Tally {
         tally
     }
 
+    #[inline(always)]
     #[tactic(auto, unfolding(crate::specs::Headers::tally_after))]
     fn after(self, byte: u8) -> Tally
         ensures { result ≡ tally_after self byte }
     {
-        match (self.line, byte) {
-            (Line::Comment, b'\n') => Tally {
-                line: Line::Blank,
-                ..self
-            },
-            (Line::Comment | Line::EndMark, _) => self,
-            (_, b'0'..=b'9') => self.with_digit(byte - b'0'),
-            _ => {
-                let tally = self.counted();
-                Tally {
-                    line: tally.line.after(byte),
-                    ..tally
-                }
-            }
+        let mut tally = self;
+        if byte.is_ascii_digit() {
+            tally.in_number = true;
+            tally.value = value_after(self.value, byte - b'0');
+        } else {
+            tally = self.counted();
+            tally.line = self.line.after(byte);
         }
+        tally
     }
 
-    /// One more digit of a number. A line that had nothing before has numbers.
-    #[tactic(auto, unfolding(crate::specs::Headers::with_digit))]
-    fn with_digit(self, digit: u8) -> Tally
-        ensures { result ≡ with_digit self digit }
-    {
-        let line = match self.line {
-            Line::Blank => Line::Numbers,
-            line => line,
-        };
-        Tally {
-            line,
-            digits: Some(value_after(self.digits, digit)),
-            ..self
-        }
-    }
-
-    /// A number ends, where one has begun: in a header it is said, else it ends a clause or is that
-    /// of a variable.
+    /// A number ends, where one has begun: of a header it is said, and of clauses it ends one or is
+    /// that of a variable.
+    #[inline(always)]
     #[tactic(auto, unfolding(crate::specs::Headers::counted))]
     fn counted(self) -> Tally
         ensures { result ≡ counted self }
     {
-        let Some(value) = self.digits else {
+        if !self.in_number {
             return self;
-        };
-        let mut tally = Tally {
-            digits: None,
-            ..self
-        };
+        }
+        let mut tally = self;
+        tally.in_number = false;
+        tally.value = 0;
         match self.line {
-            Line::Header => tally.said = self.said.after(value),
-            _ if value == 0 => tally.counts.clauses = self.counts.clauses.saturating_add(1),
-            _ => tally.counts.variables = self.counts.variables.max(value),
+            Line::Clauses => tally.counts = self.counts.after(self.value),
+            Line::Header => tally.said = self.said.after(self.value),
+            Line::Comment | Line::Ended => {}
         }
         tally
     }
 }
 
+impl Counts {
+    /// 0 ends a clause, and any other number is that of a variable.
+    #[inline(always)]
+    fn after(self, value: u64) -> Counts
+        ensures { result ≡ counts_after self value }
+    {
+        let mut counts = self;
+        if value == 0 {
+            counts.clauses = self.clauses.saturating_add(1);
+        } else {
+            counts.variables = self.variables.max(value);
+        }
+        counts
+    }
+}
+
 impl Line {
     /// What the line is after a byte that is no digit, or what the next one is.
+    #[inline(always)]
     fn after(self, byte: u8) -> Line
         ensures { result ≡ line_after self byte }
     {
         match (self, byte) {
-            (_, b'\n') => Line::Blank,
-            (Line::Blank, b'c') => Line::Comment,
-            (Line::Blank, b'p') => Line::Header,
-            (Line::Blank, b'%') => Line::EndMark,
-            (Line::Blank, b'-') => Line::Numbers,
+            (Line::Ended, _) => Line::Ended,
+            (_, b'\n') => Line::Clauses,
+            (Line::Clauses, b'c') => Line::Comment,
+            (Line::Clauses, b'p') => Line::Header,
+            (Line::Clauses, b'%') => Line::Ended,
             (line, _) => line,
         }
     }
@@ -240,11 +237,9 @@ impl Said {
 }
 
 /// The value of digits and one more.
-fn value_after(digits: Option<u64>, digit: u8) -> u64
-    ensures { result ≡ value_after digits digit }
+#[inline(always)]
+fn value_after(value: u64, digit: u8) -> u64
+    ensures { result ≡ value_after value digit }
 {
-    digits
-        .unwrap_or(0)
-        .saturating_mul(10)
-        .saturating_add(u64::from(digit))
+    value.saturating_mul(10).saturating_add(u64::from(digit))
 }
