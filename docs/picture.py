@@ -20,14 +20,15 @@ WAYS = {
     "lrat_check": ("lrat_text", "lrat_checker", "lrat_check"),
     "hint_check": ("hint_checker", "hint_check"),
     "varisat_check": ("proof_bytes", "checker_steps", "clause_store", "varisat_checker", "varisat_check"),
+    "model_check": ("answer_text", "model_check"),
     "lrat_to_proof": ("lrat_text", "lrat_to_proof"),
 }
 
-# The crates that hold the formula and decide. A way without one ends in the crate that takes the formula.
-DECIDING = ("lrat_checker", "hint_checker", "varisat_checker")
+# The crates that decide. A way without one ends in the crate that takes the formula.
+DECIDING = ("lrat_checker", "hint_checker", "varisat_checker", "model_check")
 
-# What a program writes beside its verdict, and by which crate.
-WRITERS = {"varisat_check": ("sat_hints", "LRAT")}
+# What a program writes in addition to its verdict: by which crate, which text, and for whom.
+WRITERS = {"varisat_check": ("sat_hints", "LRAT", "for hint_check")}
 
 # Words of calls, as a reader knows them.
 FILES = {"CNF": "formula", "DRAT": "DRAT proof", "LRAT": "LRAT text", "PROOF": "proof bytes", "ANSWER": "answer"}
@@ -155,7 +156,7 @@ def way_of(program, crate, listed):
     if way is None:
         others = {name for other in programs_of(listed) if other != crate for name in below(other, listed)}
         return [name for name in below(crate, listed) if name in listed and name not in others]
-    for name in way:
+    for name in (*way, *WRITERS.get(program, ())[:1]):
         if name not in below(crate, listed):
             sys.exit(f"docs/picture.py: {name} is not below {crate}")
     return list(way)
@@ -182,13 +183,13 @@ def draw_way(drawing, y, program, words, way, line, read):
 
 
 def draw_writer(drawing, y, program, joins, read):
-    crate, word = WRITERS[program]
+    crate, word, reader = WRITERS[program]
     start = joins + GAP
     drawing.arrow((joins, y - 14), (joins, y + BOX / 2), (start, y + BOX / 2))
     x = drawing.box(start, y, crate, kind_of(crate, read))
     drawing.arrow((x, y + BOX / 2), (x + GAP, y + BOX / 2))
     x = drawing.box(x + GAP, y, FILES[word], "file")
-    drawing.text(x + 12, y + 19, "for hint_check")
+    drawing.text(x + 12, y + 19, reader)
 
 
 def draw_lane(drawing, y, crate, listed, shared, read):
@@ -236,7 +237,7 @@ def draw_legend(drawing, y):
         ("read", False, "its definitions are read to believe a verdict"),
         ("proved", False, "proved against its contracts"),
         ("unclaimed", False, "safe and ends, nothing rests on it"),
-        ("proved", True, "holds the formula, and decides"),
+        ("proved", True, "decides"),
     )
     x = 28
     for kind, deciding, words in entries:
