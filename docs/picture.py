@@ -27,8 +27,8 @@ WAYS = {
 # The crates that decide. A way without one ends in the crate that takes the formula.
 DECIDING = ("lrat_checker", "hint_checker", "varisat_checker", "model_check")
 
-# What a program writes beside its verdict, and by which crate.
-WRITERS = {"varisat_check": ("sat_hints", "LRAT")}
+# What a program writes in addition to its verdict: by which crate, which text, and for whom.
+WRITERS = {"varisat_check": ("sat_hints", "LRAT", "for hint_check")}
 
 # Words of calls, as a reader knows them.
 FILES = {"CNF": "formula", "DRAT": "DRAT proof", "LRAT": "LRAT text", "PROOF": "proof bytes", "ANSWER": "answer"}
@@ -183,13 +183,13 @@ def draw_way(drawing, y, program, words, way, line, read):
 
 
 def draw_writer(drawing, y, program, joins, read):
-    crate, word = WRITERS[program]
+    crate, word, reader = WRITERS[program]
     start = joins + GAP
     drawing.arrow((joins, y - 14), (joins, y + BOX / 2), (start, y + BOX / 2))
     x = drawing.box(start, y, crate, kind_of(crate, read))
     drawing.arrow((x, y + BOX / 2), (x + GAP, y + BOX / 2))
     x = drawing.box(x + GAP, y, FILES[word], "file")
-    drawing.text(x + 12, y + 19, "for hint_check")
+    drawing.text(x + 12, y + 19, reader)
 
 
 def draw_lane(drawing, y, crate, listed, shared, read):
