@@ -159,7 +159,7 @@ def way_of(program, crate, listed):
     if way is None:
         others = {name for other in programs_of(listed) if other != crate for name in below(other, listed)}
         return [name for name in below(crate, listed) if name in listed and name not in others]
-    for name in way:
+    for name in (*way, *WRITERS.get(program, ())[:1]):
         if name not in below(crate, listed):
             sys.exit(f"docs/picture.py: {name} is not below {crate}")
     return list(way)
