@@ -28,7 +28,10 @@ WAYS = {
 DECIDING = ("lrat_checker", "hint_checker", "varisat_checker", "model_check")
 
 # What a program writes in addition to its verdict: by which crate, which text, and for whom.
-WRITERS = {"varisat_check": ("sat_hints", "LRAT", "for hint_check")}
+WRITERS = {
+    "drat_check": ("sat_output", "LRAT", "for lrat_check"),
+    "varisat_check": ("sat_hints", "LRAT", "for hint_check"),
+}
 
 # Words of calls, as a reader knows them.
 FILES = {"CNF": "formula", "DRAT": "DRAT proof", "LRAT": "LRAT text", "PROOF": "proof bytes", "ANSWER": "answer"}
