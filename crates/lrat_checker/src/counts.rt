@@ -96,6 +96,7 @@ impl LitCounts {
         Ok(())
     }
 
+    #[inline(always)]
     fn take_one(&mut self, lit: Lit)
         ensures counts { (l : ℕ)
             → lit_count self.new l ≡ lit_count self.old l - (if l == lit then 1 else 0) }
@@ -124,6 +125,8 @@ fn add_near(near: &mut Vec<u32>, code: usize) -> Result<(), AllocError>
 }
 
 /// Counts a code once more in the map.
+#[cold]
+#[inline(never)]
 fn add_far(far: &mut HashMap<usize, u32>, code: usize) -> Result<(), AllocError>
     ensures { OnOk result ((l : ℕ)
         → far_count far.new l ≡ (if l == code then 1 else 0) + far_count far.old l) }
@@ -135,6 +138,7 @@ fn add_far(far: &mut HashMap<usize, u32>, code: usize) -> Result<(), AllocError>
 }
 
 /// Counts a code once less at its place, where it is counted there; answers whether it was.
+#[inline(always)]
 fn take_near(near: &mut Vec<u32>, code: usize) -> bool
     ensures counts { (l : ℕ) → slice_index near.new.items l
         ≡ slice_index near.old.items l - (if l == code then 1 else 0) }
@@ -150,6 +154,8 @@ fn take_near(near: &mut Vec<u32>, code: usize) -> bool
 }
 
 /// Counts a code once less in the map, where it is counted there.
+#[cold]
+#[inline(never)]
 fn take_far(far: &mut HashMap<usize, u32>, code: usize)
     ensures { (l : ℕ) → far_count far.new l ≡ far_count far.old l - (if l == code then 1 else 0) }
 {

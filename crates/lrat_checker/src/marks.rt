@@ -1,7 +1,7 @@
 //! Marks of literals.
 ghost use Rattle.std.specs.Prelude.{◌≡◌, ◌+◌, ◌*◌, ◌<◌, ◌≤◌, ◌^◌, ◌&&◌, ◌||◌, ◌==◌, ℕ, false, not, length, max, nat_eq, OnErr, OnOk};
-ghost use Rattle.std.specs.HashSet.{contains, hash_set_len};
-ghost use Rattle.lrat_checker.specs.Room.{gets_room, spare_lits};
+ghost use Rattle.std.specs.HashSet.{contains};
+ghost use Rattle.lrat_checker.specs.Room.{spare_lits};
 
 use crate::room::gets_room;
 use sat_formula::Lit;
@@ -48,14 +48,33 @@ impl Marks {
     pub(crate) fn has(&self, lit: Lit) -> bool
         ensures { result ≡ has_mark self.now lit }
     {
+        self.has_in(&self.near, lit)
+    }
+
+    /// The places, for `has_in`.
+    #[inline(always)]
+    pub(crate) fn near(&self) -> &[bool]
+        ensures { result.now ≡ self.now.near.items }
+    {
+        self.near.as_slice()
+    }
+
+    /// Whether a literal is marked, where the places are at hand.
+    #[inline(always)]
+    pub(crate) fn has_in(&self, near: &[bool], lit: Lit) -> bool
+        requires { near.now ≡ self.now.near.items }
+        ensures { result ≡ has_mark self.now lit }
+    {
         let code = lit.code();
-        if code < self.near.len() {
-            self.near[code]
+        if code < near.len() {
+            near[code]
         } else {
             self.has_far(code)
         }
     }
 
+    #[cold]
+    #[inline(never)]
     fn has_far(&self, code: usize) -> bool
         ensures { result ≡ contains nat_eq self.now.far code }
     {
@@ -78,6 +97,8 @@ impl Marks {
         self.set_new(code)
     }
 
+    #[cold]
+    #[inline(never)]
     fn set_new(&mut self, code: usize) -> Result<(), AllocError>
         requires beyond { length self.old.near.items ≤ code }
         requires small { code < 2 ^ 29 }
@@ -98,6 +119,7 @@ impl Marks {
     }
 
     /// The literal is not marked from here on.
+    #[inline(always)]
     pub(crate) fn clear(&mut self, lit: Lit)
         ensures marks { (l : ℕ) → has_mark self.new l ≡ (not (l == lit) && has_mark self.old l) }
         ensures stored { self.new.stored ≡ self.old.stored }
@@ -106,7 +128,17 @@ impl Marks {
         if code < self.near.len() {
             self.near[code] = false;
         } else {
-            self.far.remove(&code);
+            self.clear_far(code);
         }
+    }
+
+    #[cold]
+    #[inline(never)]
+    fn clear_far(&mut self, code: usize)
+        requires { length self.old.near.items ≤ code }
+        ensures marks { (l : ℕ) → has_mark self.new l ≡ (not (l == code) && has_mark self.old l) }
+        ensures stored { self.new.stored ≡ self.old.stored }
+    {
+        self.far.remove(&code);
     }
 }

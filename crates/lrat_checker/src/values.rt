@@ -74,6 +74,7 @@ impl Values {
     }
 
     /// The literal is true from here on.
+    #[inline(always)]
     pub(crate) fn set(&mut self, lit: Lit) -> Result<(), AllocError>
         ensures { OnOk result (self.new ≡ with_lit lit self.old) }
     {
@@ -148,9 +149,10 @@ impl Values {
             → by_left (unfalsified (among self.now) clause.now) none one
             ≡ on_left result none one }
     {
+        let near = self.marks.near();
         let mut found = None;
         for lit in clause {
-            if self.marks.has(!*lit) {
+            if self.marks.has_in(near, !*lit) {
                 continue;
             }
             if is_other(found, *lit) {

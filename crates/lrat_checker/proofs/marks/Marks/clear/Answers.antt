@@ -1,6 +1,6 @@
 use Rattle.std.proofs.Common.{◌&&◌, ◌∙◌, not, ap, eqb, arith}
 use Rattle.lrat_checker.specs.Marks.{has_mark}
-use Rattle.lrat_checker.proofs.MarkLemmas.{mark-removed, mark-unset}
+use Rattle.lrat_checker.proofs.MarkLemmas.{mark-unset}
 use Rattle.lrat_checker.proofs.marks.Marks.clear.Goals as goal
 
 pub returns-then-code-len-clause-marks : goal.returns-then-code-len-clause-marks
@@ -10,7 +10,4 @@ returns-then-code-len-clause-marks c l =
     ∙ ap (λ k. not (eqb l k) && has_mark m l) c.code-code.ensures.value
 
 pub returns-else-code-len-clause-marks : goal.returns-else-code-len-clause-marks
-returns-else-code-len-clause-marks c l =
-    let m = c.args.self.now in
-    mark-removed m.near.items m.far c.remove.new.self c.code-code.result (omega (arith, c.if-code-len.false, c.len.ensures)) c.remove.ensures.updates.0 l
-    ∙ ap (λ k. not (eqb l k) && has_mark m l) c.code-code.ensures.value
+returns-else-code-len-clause-marks c l = c.clear_far.ensures.marks l ∙ ap (λ k. not (eqb l k) && has_mark c.args.self.now l) c.code-code.ensures.value

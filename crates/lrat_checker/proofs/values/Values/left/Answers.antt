@@ -13,7 +13,7 @@ returns-then-is_other c none one =
     let clause = c.args.clause.now in
     sym (left_is s clause none one) ∙ sym (c.loop-lit.invariant none one)
     ∙ search_stops s clause c.loop-lit.lit-index c.lit-item.result c.loop-lit-test.true c.lit-item.is none one c.loop-lit.found
-    (ap s (sym c.not.ensures) ∙ sym (ap (has m) c.self.view_is) ∙ sym (c.self.invariant.marked m) ∙ sym c.has.ensures ∙ c.if-has.false) (sym c.is_other.ensures ∙ c.if-is_other.true)
+    (ap s (sym c.not.ensures) ∙ sym (ap (has m) c.self.view_is) ∙ sym (c.self.invariant.marked m) ∙ sym c.has_in.ensures ∙ c.if-has_in.false) (sym c.is_other.ensures ∙ c.if-is_other.true)
 
 pub returns-in-None : goal.returns-in-None
 returns-in-None c none one =
