@@ -1,183 +1,254 @@
-//! Small proofs.
+//! Small proofs, as rows: what is told of each.
 use crate::elaborator::Elaborator;
 use crate::fault::ElaborateFault;
 use lrat_text::{Hint, LratLine};
-use sat_formula::Lit;
+use sat_formula::{CnfFormula, Lit, read_formula};
+use std::alloc::Global;
+use std::process::Abort;
 use std::test::Fail;
 
-fn lits(rt: &HostRuntime, numbers: &[i64]) -> Result<Vec<Lit>, Fail> {
-    let mut lits = Vec::new(rt.alloc());
-    for number in numbers {
-        lits.push(Lit::from_dimacs(*number).ok_or("in range")?)?;
-    }
-    Ok(lits)
+/// A formula and the steps of a proof, as DIMACS: the clauses that it deletes, and then those that
+/// it adds. What is told: how many additions are taken before a conflict; the lines, or the fault;
+/// the clauses of the formula that are used; the deletions that met none, or only reasons.
+type Row = (&'static str, &'static str, &'static str, &'static str);
+
+/// Reads clauses.
+fn clauses(alloc: Global, text: &str) -> Result<CnfFormula, Fail> {
+    Ok(read_formula(alloc, text.as_bytes())?)
 }
 
-fn begun(rt: &HostRuntime, clauses: &[&[i64]]) -> Result<Elaborator, Fail> {
-    let mut elaborator = Elaborator::new(rt.alloc());
-    for clause in clauses {
-        elaborator.add_clause(&lits(rt, clause)?)?;
+fn add_formula(elaborator: &mut Elaborator, formula: &CnfFormula) -> Result<(), ElaborateFault> {
+    for clause in formula {
+        elaborator.add_clause(clause)?;
     }
-    elaborator.begin_proof()?;
-    Ok(elaborator)
+    elaborator.begin_proof()
 }
 
-/// A line as in LRAT text.
-fn shown(rt: &HostRuntime, line: LratLine<'_>) -> Result<String, Fail> {
-    let mut text = String::new(rt.alloc());
+fn delete_clauses(elaborator: &mut Elaborator, deleted: &CnfFormula) -> Result<(), ElaborateFault> {
+    for clause in deleted {
+        elaborator.delete_clause(clause)?;
+    }
+    Ok(())
+}
+
+/// How many clauses are added before a conflict.
+fn add_lemmas(elaborator: &mut Elaborator, lemmas: &CnfFormula) -> Result<u64, ElaborateFault> {
+    let mut count: u64 = 0;
+    for clause in lemmas {
+        if elaborator.is_refuted() {
+            break;
+        }
+        elaborator.add_lemma(clause)?;
+        count = count.saturating_add(1);
+    }
+    Ok(count)
+}
+
+/// Tells a line, as LRAT text without a last 0.
+fn tell_line(text: &mut String, line: LratLine<'_>) -> Result<(), Fail> {
     match line {
         LratLine::Add { id, clause, hints } => {
-            write!(text, "{id}")?;
-            for lit in clause {
-                let number = lit.to_dimacs();
-                write!(text, " {number}")?;
-            }
-            write!(text, " 0")?;
-            for hint in hints {
-                match *hint {
-                    Hint::Along(id) => write!(text, " {id}")?,
-                    Hint::Against(id) => write!(text, " -{id}")?,
-                }
-            }
+            write!(text, "{id} ")?;
+            tell_clause(text, clause)?;
+            tell_hints(text, hints)?;
         }
         LratLine::Delete { ids } => {
             write!(text, "d")?;
-            for id in ids {
-                write!(text, " {id}")?;
-            }
+            tell_ids(text, ids)?;
         }
     }
-    Ok(text)
+    write!(text, "; ")?;
+    Ok(())
 }
 
-fn all_lines(rt: &HostRuntime, elaborator: &mut Elaborator) -> Result<String, Fail> {
-    let mut text = String::new(rt.alloc());
-    for _ in 0..20 {
-        let Some(line) = elaborator.next_line()? else {
-            break;
-        };
-        let line = shown(rt, line)?;
-        write!(text, "{line}; ")?;
+fn tell_clause(text: &mut String, clause: &[Lit]) -> Result<(), Fail> {
+    for lit in clause {
+        let number = lit.to_dimacs();
+        write!(text, "{number} ")?;
     }
-    Ok(text)
+    write!(text, "0")?;
+    Ok(())
 }
 
-/// Four clauses on two variables, and one that is not needed.
+fn tell_hints(text: &mut String, hints: &[Hint]) -> Result<(), Fail> {
+    for hint in hints {
+        match *hint {
+            Hint::Along(id) => write!(text, " {id}")?,
+            Hint::Against(id) => write!(text, " -{id}")?,
+        }
+    }
+    Ok(())
+}
+
+fn tell_ids(text: &mut String, ids: &[u64]) -> Result<(), Fail> {
+    for id in ids {
+        write!(text, " {id}")?;
+    }
+    Ok(())
+}
+
+fn tell_lines(text: &mut String, elaborator: &mut Elaborator) -> Result<(), Fail> {
+    for _ in 0..20 {
+        match elaborator.next_line()? {
+            Some(line) => tell_line(text, line)?,
+            None => break,
+        }
+    }
+    Ok(())
+}
+
+/// Tells the ids of the clauses that are used, and the deletions that were passed over.
+fn tell_use(text: &mut String, elaborator: &Elaborator) -> Result<(), Fail> {
+    write!(text, "used")?;
+    for index in 0..20 {
+        if elaborator.is_used(index) {
+            let id = index + 1;
+            write!(text, " {id}")?;
+        }
+    }
+    let missing = elaborator.missing_deletions();
+    let kept = elaborator.kept_reasons();
+    write!(text, "; {missing} missing, {kept} kept")?;
+    Ok(())
+}
+
+/// Tells what is elaborated.
+fn tell_proof(text: &mut String, elaborator: &mut Elaborator) -> Result<(), Fail> {
+    match elaborator.elaborate() {
+        Ok(()) => {
+            tell_lines(text, elaborator)?;
+            tell_use(text, elaborator)
+        }
+        Err(fault) => {
+            write!(text, "{fault}")?;
+            Ok(())
+        }
+    }
+}
+
+/// Tells all of a row. What comes out of order is refused, or says nothing: the lines before they
+/// are made are none.
+fn tell(
+    text: &mut String,
+    elaborator: &mut Elaborator,
+    (formula, deleted, lemmas): (&CnfFormula, &CnfFormula, &CnfFormula),
+) -> Result<(), Fail> {
+    add_formula(elaborator, formula)?;
+    match elaborator.add_clause(&[]) {
+        Ok(()) => write!(text, "a late clause is taken; ")?,
+        Err(fault) => write!(text, "late clause: {fault}; ")?,
+    }
+    delete_clauses(elaborator, deleted)?;
+    let count = add_lemmas(elaborator, lemmas)?;
+    write!(text, "{count} added: ")?;
+    tell_lines(text, elaborator)?;
+    tell_proof(text, elaborator)
+}
+
+/// What is told of a row. The elaborator, which has many parts, stands in this function alone.
+fn told_of(
+    text: &mut String,
+    alloc: Global,
+    parts: (&CnfFormula, &CnfFormula, &CnfFormula),
+) -> Result<(), Fail> {
+    let mut elaborator = Elaborator::new(alloc);
+    tell(text, &mut elaborator, parts)
+}
+
+fn check(rt: &impl Abort, alloc: Global, row: Row) -> Result<(), Fail> {
+    let (formula, deleted, lemmas, told) = row;
+    let formula = clauses(alloc, formula)?;
+    let deleted = clauses(alloc, deleted)?;
+    let lemmas = clauses(alloc, lemmas)?;
+    let mut text = String::new(alloc);
+    told_of(&mut text, alloc, (&formula, &deleted, &lemmas))?;
+    assert_eq!(rt; text.as_str(), told);
+    Ok(())
+}
+
+/// Four clauses on two variables, and one that is not needed. The deletion meets none.
+const BY_PROPAGATION: Row = (
+    "1 2 0 1 -2 0 -1 2 0 -1 -2 0 3 4 0",
+    "5 6 0",
+    "1 0",
+    "late clause: internal error; 1 added: d 5; 6 1 0 1 2; d 2 1; 7 0 6 3 4; \
+     used 1 2 3 4; 1 missing, 0 kept",
+);
+
 #[test]
 fn lemma_by_propagation(rt: HostRuntime) -> Result<(), Fail> {
-    let mut elaborator = begun(&rt, &[&[1, 2], &[1, -2], &[-1, 2], &[-1, -2], &[3, 4]])?;
-    assert!(rt; !elaborator.is_refuted());
-    elaborator.delete_clause(&lits(&rt, &[5, 6])?)?;
-    elaborator.add_lemma(&lits(&rt, &[1])?)?;
-    assert!(rt; elaborator.is_refuted());
-    elaborator.elaborate()?;
-    let text = all_lines(&rt, &mut elaborator)?;
-    assert!(rt; !elaborator.is_used(4));
-    assert!(rt; elaborator.is_used(0));
-    assert_eq!(rt; elaborator.missing_deletions(), 1);
-    assert_eq!(rt; text.as_str(), "d 5; 6 1 0 1 2; d 2 1; 7 0 6 3 4; ");
-    Ok(())
+    check(&rt, rt.alloc(), BY_PROPAGATION)
 }
 
 /// The first two lemmas don't follow. No clause has 4 when the first comes; the second is resolved
 /// with it, which propagation refutes.
+const REDUNDANT: Row = (
+    "1 2 3 0 1 2 -3 0 1 -2 3 0 1 -2 -3 0 -1 2 -3 0 -1 -2 3 0 -1 -2 -3 0 -6 -1 2 3 0 -7 -1 2 3 0 \
+     6 8 -1 0 7 -8 -1 0",
+    "",
+    "-4 6 7 0 4 -1 0 1 2 0 1 0 2 0",
+    "late clause: internal error; 5 added: \
+     12 -4 7 6 0; 13 4 -1 0 -12 10 11; d 11 10; 14 1 2 0 1 2; d 2 1; 15 1 0 14 3 4; \
+     d 4 3 14; 16 2 0 15 13 5 9 8 12; d 12 8 9 5 13; 17 0 15 16 6 7; \
+     used 1 2 3 4 5 6 7 8 9 10 11; 0 missing, 0 kept",
+);
+
 #[test]
 fn redundant_lemmas(rt: HostRuntime) -> Result<(), Fail> {
-    let clauses: &[&[i64]] = &[
-        &[1, 2, 3],
-        &[1, 2, -3],
-        &[1, -2, 3],
-        &[1, -2, -3],
-        &[-1, 2, -3],
-        &[-1, -2, 3],
-        &[-1, -2, -3],
-        &[-6, -1, 2, 3],
-        &[-7, -1, 2, 3],
-        &[6, 8, -1],
-        &[7, -8, -1],
-    ];
-    let lemmas: &[&[i64]] = &[&[-4, 6, 7], &[4, -1], &[1, 2], &[1], &[2]];
-    let mut elaborator = begun(&rt, clauses)?;
-    for lemma in lemmas {
-        assert!(rt; !elaborator.is_refuted());
-        elaborator.add_lemma(&lits(&rt, lemma)?)?;
-    }
-    elaborator.elaborate()?;
-    let text = all_lines(&rt, &mut elaborator)?;
-    assert_eq!(rt;
-        text.as_str(),
-        "12 -4 7 6 0; 13 4 -1 0 -12 10 11; d 11 10; 14 1 2 0 1 2; d 2 1; 15 1 0 14 3 4; \
-         d 4 3 14; 16 2 0 15 13 5 9 8 12; d 12 8 9 5 13; 17 0 15 16 6 7; "
-    );
-    Ok(())
+    check(&rt, rt.alloc(), REDUNDANT)
 }
 
 /// The clause 3 doesn't follow, and neither does what it makes with 1 2 -3.
+const UNFOUNDED: Row = (
+    "1 2 -3 0 1 -2 0 -1 2 0 -1 -2 -3 0",
+    "",
+    "3 0 1 0",
+    "late clause: internal error; 2 added: \
+     step 1: clause neither follows nor is redundant by its first literal",
+);
+
 #[test]
 fn refused_lemma(rt: HostRuntime) -> Result<(), Fail> {
-    let clauses: &[&[i64]] = &[&[1, 2, -3], &[1, -2], &[-1, 2], &[-1, -2, -3]];
-    let mut elaborator = begun(&rt, clauses)?;
-    elaborator.add_lemma(&lits(&rt, &[3])?)?;
-    elaborator.add_lemma(&lits(&rt, &[1])?)?;
-    assert!(rt; elaborator.is_refuted());
-    assert_eq!(rt;
-        elaborator.elaborate(),
-        Err(ElaborateFault::NotRedundant { step: 1 })
-    );
-    Ok(())
+    check(&rt, rt.alloc(), UNFOUNDED)
 }
 
 /// The proof stops before a conflict.
+const OPEN: Row = (
+    "1 2 0 1 -2 0",
+    "",
+    "1 0",
+    "late clause: internal error; 1 added: no conflict after 1 steps",
+);
+
 #[test]
 fn no_conflict(rt: HostRuntime) -> Result<(), Fail> {
-    let mut elaborator = begun(&rt, &[&[1, 2], &[1, -2]])?;
-    elaborator.add_lemma(&lits(&rt, &[1])?)?;
-    assert_eq!(rt;
-        elaborator.elaborate(),
-        Err(ElaborateFault::NoConflict { steps: 1 })
-    );
-    Ok(())
+    check(&rt, rt.alloc(), OPEN)
 }
 
 /// The clause 1 forces its literal, and is kept; the tautology goes first; a literal stands twice
 /// in the lemma, and a deletion names the clause in another order.
+const REASON: Row = (
+    "1 0 -1 2 3 0 -1 2 -3 0 -2 3 0 -2 -3 0 4 -4 5 0",
+    "1 0 5 4 -4 4 0",
+    "2 2 -1 0",
+    "late clause: internal error; 1 added: d 6; 7 2 -1 0 2 3; d 3 2; 8 0 1 7 4 5; \
+     used 1 2 3 4 5; 0 missing, 1 kept",
+);
+
 #[test]
 fn kept_reason(rt: HostRuntime) -> Result<(), Fail> {
-    let clauses: &[&[i64]] = &[
-        &[1],
-        &[-1, 2, 3],
-        &[-1, 2, -3],
-        &[-2, 3],
-        &[-2, -3],
-        &[4, -4, 5],
-    ];
-    let mut elaborator = begun(&rt, clauses)?;
-    elaborator.delete_clause(&lits(&rt, &[1])?)?;
-    elaborator.delete_clause(&lits(&rt, &[5, 4, -4, 4])?)?;
-    elaborator.add_lemma(&lits(&rt, &[2, 2, -1])?)?;
-    assert!(rt; elaborator.is_refuted());
-    elaborator.elaborate()?;
-    let text = all_lines(&rt, &mut elaborator)?;
-    assert_eq!(rt; elaborator.kept_reasons(), 1);
-    assert_eq!(rt; elaborator.missing_deletions(), 0);
-    assert_eq!(rt; text.as_str(), "d 6; 7 2 -1 0 2 3; d 3 2; 8 0 1 7 4 5; ");
-    Ok(())
+    check(&rt, rt.alloc(), REASON)
 }
 
-/// The empty clause of a formula needs no proof. What comes out of order is refused, or says
-/// nothing.
+/// The empty clause of a formula needs no proof.
+const EMPTY: Row = (
+    "1 0 0 2 3 0",
+    "",
+    "1 0",
+    "late clause: internal error; 0 added: d 1 3; 4 0 2; used 2; 0 missing, 0 kept",
+);
+
 #[test]
 fn empty_clause(rt: HostRuntime) -> Result<(), Fail> {
-    let mut elaborator = begun(&rt, &[&[1], &[], &[2, 3]])?;
-    assert!(rt; elaborator.is_refuted());
-    assert_eq!(rt;
-        elaborator.add_clause(&lits(&rt, &[1])?),
-        Err(ElaborateFault::Internal)
-    );
-    let text = all_lines(&rt, &mut elaborator)?;
-    assert_eq!(rt; text.as_str(), "");
-    elaborator.elaborate()?;
-    let text = all_lines(&rt, &mut elaborator)?;
-    assert_eq!(rt; text.as_str(), "d 1 3; 4 0 2; ");
-    Ok(())
+    check(&rt, rt.alloc(), EMPTY)
 }

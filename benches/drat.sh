@@ -1,0 +1,51 @@
+#!/usr/bin/env bash
+# Counts the instructions that `drat_check` takes for four proofs, beside another program that makes LRAT of DRAT:
+#
+#   benches/drat.sh [OTHER.cc]
+#
+# OTHER.cc is compiled by `g++ -O2` and called with a formula, a proof, and `--chains`; without it only `drat_check` is
+# counted. The formulas are made by seeds, and three of the proofs by cadical. The program is the one that `rt run` left in
+# out/; PROGRAM may name another. It needs valgrind, python3 and cadical.
+set -euo pipefail
+top=$(cd "$(dirname "$0")/.." && pwd)
+program=${PROGRAM:-$top/crates/drat_check_main/out/drat_check_main}
+work=$(mktemp -d)
+trap 'rm -rf "$work"' EXIT
+
+made() {
+  python3 -B "$top/tests/drat/formulas.py" "$@"
+}
+
+# instructions WANTED COMMAND..: what the whole program takes, which must print this, if it is not empty
+instructions() {
+  local said
+  said=$(valgrind --tool=callgrind --callgrind-out-file=/dev/null "${@:2}" 2> "$work/log") || true
+  if [[ -n $1 && $said != "$1" ]]; then
+    echo "${*:2}: ${said:-no verdict}" >&2
+    tail -5 "$work/log" >&2
+    return 1
+  fi
+  sed -n 's/^==[0-9]*== Collected : \([0-9]*\)$/\1/p' "$work/log"
+}
+
+made random 200 4.8 1 > "$work/random.cnf"
+made pigeons 8 > "$work/pigeons.cnf"
+made multiplier 7 > "$work/multiplier.cnf"
+made pigeons 20 > "$work/extended.cnf"
+made extended 20 > "$work/extended.drat"
+for name in random pigeons multiplier; do
+  cadical -q --no-binary "$work/$name.cnf" "$work/$name.drat" > "$work/said" || true
+done
+if (($# > 0)); then
+  g++ -O2 -std=c++17 -o "$work/other" "$1"
+fi
+printf '%-12s %10s %14s %14s\n' proof bytes drat_check other
+for name in random pigeons multiplier extended; do
+  files=("$work/$name.cnf" "$work/$name.drat")
+  ours=$(instructions 's VERIFIED UNSAT' "$program" "${files[@]}")
+  other=
+  if (($# > 0)); then
+    other=$(instructions '' "$work/other" "${files[@]}" --chains)
+  fi
+  printf '%-12s %10d %14d %14s\n' "$name" "$(stat -c %s "$work/$name.drat")" "$ours" "$other"
+done
