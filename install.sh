@@ -4,9 +4,9 @@
 #   ./install.sh [--built] PREFIX
 #   ./install.sh --uninstall PREFIX
 #
-# All is proved and built first, unless nothing has changed since it was. With --built it is taken as `rt ci`, `rt run` and
-# `rt lib` left it in crates/*/out. PREFIX/share/cefindrato/installed lists what was installed; by this list it is taken away.
-# DESTDIR, where it is set, stands before PREFIX in all that is written. RT may name another `rt`.
+# All is proved and built first, unless nothing has changed since it was. With --built the programs are taken as `rt ci` or
+# `rt run` left them in crates/*/out, and the library if it is there. PREFIX/share/cefindrato/installed lists what was installed;
+# by this list it is taken away. DESTDIR, where it is set, stands before PREFIX in all that is written. RT may name another `rt`.
 set -euo pipefail
 
 top=$(cd "$(dirname "$0")" && pwd)

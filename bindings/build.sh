@@ -3,9 +3,9 @@
 #
 #   bindings/build.sh [--built] FOLDER
 #
-# `rt lib` proves and compiles it; with --built what it left in crates/lrat_c/out is taken. What that needs of the toolchain's
-# two archives is linked into it, and no name but those of the header is left visible, so that it meets no other library's.
-# RT may name another `rt`; it needs cc and binutils.
+# `rt lib` proves and compiles it; with --built what it left in crates/lrat_c/out is taken, if it is there. What that needs of
+# the toolchain's two archives is linked into it, and no name but those of the header is left visible, so that it meets no other
+# library's. RT may name another `rt`; it needs cc and binutils.
 set -euo pipefail
 
 top=$(cd "$(dirname "$0")/.." && pwd)
@@ -23,17 +23,21 @@ work=$(mktemp -d)
 trap 'rm -rf "$work"' EXIT
 mkdir -p "$1"
 
-if [[ ! $is_built ]]; then
-  (cd "$top/crates/lrat_c" && "${RT:-rt}" lib > "$work/said" 2>&1) || {
+# Others may build it at the same time, and what is there is rewritten then.
+mkdir -p "${archive%/*}"
+exec 3> "${archive%/*}/building"
+flock 3
+if [[ ! $is_built || ! -f $archive ]]; then
+  (cd "$top/crates/lrat_c" && "${RT:-rt}" lib > "$work/said" 2>&1 3>&-) || {
     cat "$work/said" >&2
     exit 1
   }
-elif [[ ! -f $archive ]]; then
-  echo "not built: $archive" >&2
-  exit 1
 fi
+cp "$archive" "$work"
+exec 3>&-
+
 kit=$(dirname "$(dirname "$(readlink -f "$(command -v "${RT:-rt}")")")")
-ld -r -o "$work/whole.o" --whole-archive "$archive" --no-whole-archive "$kit/c/libos_c.a" "$kit/c/liblibc_c.a"
+ld -r -o "$work/whole.o" --whole-archive "$work/${archive##*/}" --no-whole-archive "$kit/c/libos_c.a" "$kit/c/liblibc_c.a"
 objcopy --strip-debug --wildcard --keep-global-symbol='cefindrato_*' "$work/whole.o" "$work/cefindrato.o"
 rm -f "$1/libcefindrato.a"
 ar rcsD "$1/libcefindrato.a" "$work/cefindrato.o"

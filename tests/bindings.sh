@@ -33,6 +33,7 @@ cc -g -fsanitize=address -pthread -I"$header" -o "$work/checked" "$top/tests/bin
 "$work/checked" "$cnf" "$proof"
 if has valgrind; then
   valgrind -q --leak-check=full --error-exitcode=9 "$work/c" "$cnf" "$proof"
+  valgrind -q --tool=helgrind --error-exitcode=9 "$work/c" "$cnf" "$proof"
 fi
 if has c++; then
   c++ -O2 -Wall -Werror -pthread -x c++ -I"$header" -o "$work/c_as_cpp" "$top/tests/bindings/test.c" -x none "$library"

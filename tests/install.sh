@@ -1,7 +1,7 @@
 #!/usr/bin/env bash
 # Installs into a fresh prefix, uses what is there, and takes it away again.
 #
-# The programs must be built: `rt ci` does it, or `rt run` in their folders; and the library, by `tests/bindings.sh`.
+# The programs must be built: `rt ci` does it, or `rt run` in their folders. The library is built if it is not there.
 set -euo pipefail
 
 top=$(cd "$(dirname "$0")/.." && pwd)
