@@ -19,7 +19,8 @@ fn of_proof(alloc: Global, failing: u32, kind: ErrorKind) -> Result<String, Fail
         4..7 => (1, 2, 3),
         _ => (2, 3, 4),
     };
-    Ok(format!(in alloc; "\
+    Ok(format!(in alloc;
+        "\
 failing {failing} {kind:?} proof 05 01 00 05 01 01 0D
 > IoError {failed} {kind:?}
 inputs
@@ -29,7 +30,8 @@ proof
 failing 0 Other proof 05 01 00 05 01 01 0D
 unsat
 > true
-")?)
+"
+    )?)
 }
 
 // Two opposite units, whose clauses end at 4 and 9 bytes. One read fails: so many clauses stand then. The checker goes on with the
@@ -40,7 +42,8 @@ fn of_text(alloc: Global, failing: u32, kind: ErrorKind) -> Result<String, Fail>
         5..10 => 1,
         _ => 2,
     };
-    Ok(format!(in alloc; "\
+    Ok(format!(in alloc;
+        "\
 failing {failing} {kind:?} dimacs 1 0|-1 0|
 > Read {kind:?}
 inputs
@@ -48,7 +51,8 @@ inputs
 failing 0 Other dimacs 1 0|-1 0|
 unsat
 > true
-")?)
+"
+    )?)
 }
 
 #[test]
@@ -69,15 +73,19 @@ fn failing_reads(rt: HostRuntime) -> Result<(), Fail> {
 fn texts_of_failed_reads(rt: HostRuntime) -> Result<(), Fail> {
     for kind in [ErrorKind::UnexpectedEof, ErrorKind::PermissionDenied] {
         let cause = io::Error::from(kind).to_string(rt.alloc())?;
-        let proof = format!(in rt.alloc(); "\
+        let proof = format!(in rt.alloc();
+            "\
 says failing 3 {kind:?} proof 05 00 0D
 > step 2: Error reading proof file: {cause}
-")?;
+"
+        )?;
         agrees(&rt, rt.alloc(), &proof)?;
-        let text = format!(in rt.alloc(); "\
+        let text = format!(in rt.alloc();
+            "\
 says failing 3 {kind:?} dimacs 1 0|
 > error reading formula: {cause}
-")?;
+"
+        )?;
         agrees(&rt, rt.alloc(), &text)?;
     }
     Ok(())

@@ -201,7 +201,11 @@ fn add_processor(alloc: Global, checker: &mut Checker, kind: &str) -> Result<Str
         }
         ("writer", clauses) => {
             let clauses = clauses.parse::<u64>()?;
-            hand_in(alloc, checker, Box::new(alloc, LratWriter::new(alloc, clauses))?)
+            hand_in(
+                alloc,
+                checker,
+                Box::new(alloc, LratWriter::new(alloc, clauses))?,
+            )
         }
         _ => Err("no such processor".into()),
     }

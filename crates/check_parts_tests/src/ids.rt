@@ -81,7 +81,10 @@ fn derives_what_stands(rt: &impl Abort, alloc: Global, ctx: &mut Context) -> Res
     let previous = ctx.checker_state.previous_id;
     let unit = derive(alloc, ctx, "4", "")?;
     assert_eq!(rt; [first, second, third, longer, unit], [1, 2, 3, 3, 3]);
-    assert_eq!(rt; [previous, ctx.checker_state.previous_id], [Some(1), Some(2)]);
+    assert_eq!(rt;
+        [previous, ctx.checker_state.previous_id],
+        [Some(1), Some(2)]
+    );
     Ok(())
 }
 

@@ -122,7 +122,12 @@ fn says(rt: &impl Abort, alloc: Global, error: CheckerError, text: &str) -> Resu
 fn checker_errors(rt: HostRuntime) -> Result<(), Fail> {
     let alloc = rt.alloc();
     let incomplete = CheckerError::ProofIncomplete { step: 1 };
-    says(&rt, alloc, incomplete, "step 1: Unexpected end of proof file")?;
+    says(
+        &rt,
+        alloc,
+        incomplete,
+        "step 1: Unexpected end of proof file",
+    )?;
     let cause = io::Error::from(ErrorKind::UnexpectedEof).to_string(alloc)?;
     let text = format!(in alloc; "step 2: Error reading proof file: {cause}")?;
     let unread = CheckerError::IoError {

@@ -195,7 +195,10 @@ fn reads_long_clause(
         ("its literals", all_alike),
         ("variables", vars == 12),
         ("clauses", clauses == 1),
-        ("a fault", matches!(&second, Err(DimacsFault::Malformed { line: 2, kind: _ }))),
+        (
+            "a fault",
+            matches!(&second, Err(DimacsFault::Malformed { line: 2, kind: _ })),
+        ),
         ("the end", matches!(&third, Ok(false))),
         ("clauses at the end", reader.clause_count() == 1),
     ];

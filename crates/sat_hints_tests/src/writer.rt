@@ -280,7 +280,10 @@ fn has_one_number(rt: &impl Abort, alloc: Global, writer: &mut LratWriter) -> Re
     assert_eq!(rt; derive(alloc, writer, u64::MAX - 1, &[], &[])?, Ok(()));
     wrote(rt, writer, text);
     assert_eq!(rt; derive(alloc, writer, u64::MAX, &[], &[])?, OUT_OF_RANGE);
-    assert_eq!(rt; derive(alloc, writer, 0, &[], &[1, u64::MAX])?, OUT_OF_RANGE);
+    assert_eq!(rt;
+        derive(alloc, writer, 0, &[], &[1, u64::MAX])?,
+        OUT_OF_RANGE
+    );
     let deletion = CheckedProofStep::DeleteClause {
         id: u64::MAX,
         clause: &[],

@@ -65,12 +65,12 @@ fn proofs_on_a_new_checker(rt: HostRuntime) -> Result<(), Fail> {
         (&[1, -1], &[(&[0x0D], SHOWN)]),
         (&[], &[(&[0x0D], NOT_SHOWN)]),
         (&[], &[(&[0x05, 0x00, 0x0D], WITH_ONE_ADDED)]),
-        (&[], &[(&[], refused("step 1: Unexpected end of proof file"))]),
-        // An accepted end asks for nothing more.
         (
             &[],
-            &[(&[0x05, 0x00, 0x0D], WITH_ONE_ADDED), (&[], SHOWN)],
+            &[(&[], refused("step 1: Unexpected end of proof file"))],
         ),
+        // An accepted end asks for nothing more.
+        (&[], &[(&[0x05, 0x00, 0x0D], WITH_ONE_ADDED), (&[], SHOWN)]),
     ];
     for (units, proofs) in rows {
         prove(&rt, rt.alloc(), units, proofs)?;
