@@ -240,12 +240,12 @@ add 3
 processor faulty 0
 add 1 2 3 4
 > ProofProcessorError
+",
+        "\
 processor told
 > Failed, and back comes |
 transcript told
 > Failed, and back comes |
-",
-        "\
 =
 ",
     ),
