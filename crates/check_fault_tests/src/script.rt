@@ -4,8 +4,8 @@
 //! A line is
 //!
 //! - a call, as in [`check_calls::calls`];
-//! - `failing READ KIND CALL`: the call takes a proof or a formula's text by one byte a read, and the
-//!   read of this number, counted from 1, fails;
+//! - `failing READ KIND CALL`: the call takes a proof or a formula's text by one byte a read, and
+//!   the read of this number, counted from 1, fails;
 //! - `says CALL`: the call adds a clause, or takes a proof or a text, and is answered by the text
 //!   of its fault;
 //! - `processor KIND`, `transcript KIND`: registers a box of this kind, see [`add_processor`] and
