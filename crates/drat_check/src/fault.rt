@@ -23,7 +23,8 @@ pub enum ProofFault {
     /// The lines that were made of the proof end before the empty clause: a fault of the same part.
     #[error("internal: no empty clause in the lines")]
     Unfinished,
-    /// There was no memory for the formula in the checker.
+    /// There was no memory in the checker, for the formula or for a line that was made of the
+    /// proof.
     #[error("proof: out of memory")]
     OutOfMemory,
 }

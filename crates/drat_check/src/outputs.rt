@@ -10,6 +10,7 @@ ghost use Rattle.drat_check.specs.Outputs.{BeganCore, BeganLines, IsLineFault, I
 ghost use Rattle.drat_check.specs.Runs.{IsUnsatisfiable};
 
 use crate::fault::{OutputFault, ProofFault};
+use crate::proof::line_fault;
 use drat_elaborate::Elaborator;
 use lrat_checker::LratChecker;
 use lrat_text::LratLine;
@@ -46,7 +47,7 @@ pub(crate) fn write_lines<L: Write>(
         match elaborator.next_line() {
             Ok(Some(entry)) => {
                 if let Err(fault) = checker.check_line(entry) {
-                    return Err(OutputFault::from(ProofFault::Internal { line, fault }));
+                    return Err(OutputFault::from(line_fault(line, fault)));
                 }
                 if let Err(fault) = write_accepted(alloc, lrat, last, entry) {
                     return Err(OutputFault::Lrat(fault));

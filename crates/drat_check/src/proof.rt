@@ -1,11 +1,11 @@
 //! The verdict on a proof.
-ghost use Rattle.std.specs.Prelude.{IfOk, OnOk};
+ghost use Rattle.std.specs.Prelude.{◌≡◌, ◌≢◌, IfOk, OnOk};
 ghost use Rattle.drat_check.specs.Runs.{IsShown, IsUnsatisfiable};
 
 use crate::fault::ProofFault;
 use drat_elaborate::Elaborator;
 use drat_text::{DratReader, DratStep};
-use lrat_checker::LratChecker;
+use lrat_checker::{LineFault, LratChecker};
 use sat_formula::CnfFormula;
 use std::alloc::Global;
 use std::io::Read;
@@ -77,11 +77,23 @@ fn check_lines(
         match elaborator.next_line()? {
             Some(entry) => {
                 if let Err(fault) = checker.check_line(entry) {
-                    return Err(ProofFault::Internal { line, fault });
+                    return Err(line_fault(line, fault));
                 }
             }
             None => return Err(ProofFault::Unfinished),
         }
     }
     Err(ProofFault::Unfinished)
+}
+
+/// Why there is no verdict where the checker does not accept a line: there was no memory for it, or
+/// else it is a fault of the part that made it.
+pub(crate) fn line_fault(line: u64, fault: LineFault) -> ProofFault
+    ensures memory { fault ≡ LineFault.OutOfMemory → result ≡ ProofFault.OutOfMemory }
+    ensures internal { fault ≢ LineFault.OutOfMemory → result ≡ ProofFault.Internal line fault }
+{
+    match fault {
+        LineFault::OutOfMemory => ProofFault::OutOfMemory,
+        LineFault::Refused(_) | LineFault::Failed => ProofFault::Internal { line, fault },
+    }
 }
