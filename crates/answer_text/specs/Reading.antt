@@ -1,5 +1,6 @@
 -- What reading an answer gives.
---     IsAnswer known r      the whole text lists these literals, or this is its fault
+--     ListsThe known table      the literals that the text lists are in the set
+--     FailsBy known fault      why no literals are given
 use Rattle.std.specs.Prelude.{◌≡◌, ℕ, List, ◌++◌, Option, Result, Ok, Err, IfSome}
 use Rattle.std.specs.Io.KnownBytes.{Consumes}
 use Rattle.answer_text.specs.declared.fault.AnswerFault.{AnswerFault}
@@ -26,13 +27,6 @@ pub record HasRead (old new : Option (List ℕ)) (table : Literals) (s : Spot) :
   pub has : HasThe lits table
   pub leads : Leads old new lits s
 
--- a beginning of the text has no fault
-pub record BeginsWell (known : Option (List ℕ)) : Type 0 where
-  pub left : Option (List ℕ)
-  pub lits : List ℕ
-  pub spot : Spot
-  pub leads : Leads known left lits spot
-
 -- the literals that the text lists are in the set, and no two of them are opposite
 pub record ListsThe (known : Option (List ℕ)) (table : Literals) : Type 0 where
   pub lits : List ℕ
@@ -40,9 +34,9 @@ pub record ListsThe (known : Option (List ℕ)) (table : Literals) : Type 0 wher
   pub apart : IsConsistent (listed lits)
   pub has : HasThe lits table
 
--- why no literals are given; a failed read comes before any fault of the text, want of memory can come anywhere
+-- why no literals are given: the text has this fault; a failed read and want of memory can come anywhere
 abbrev pub FailsBy : Option (List ℕ) → AnswerFault → Type 0
-FailsBy known (faults.Read e) = BeginsWell known
+FailsBy known (faults.Read e) = Unit {0}
 FailsBy known (faults.Wrong line kind) = IsOutcome known (Faulty line kind)
 FailsBy known faults.OutOfMemory = Unit {0}
 
