@@ -11,9 +11,7 @@ use command::{
     Input, NOT_RUN, create_output, create_two_outputs, help, open_input, refuse, say_drat_proof,
     say_formula, usage, version,
 };
-use drat_check::{
-    OutputFault, RunFault, Verdict, exit_status, run_check, run_check_with_outputs,
-};
+use drat_check::{OutputFault, RunFault, Verdict, exit_status, run_check, run_check_with_outputs};
 use std::fmt::Display;
 use std::fs::File;
 use std::io::BufWriter;
@@ -64,10 +62,12 @@ fn status_of_call(rt: &HostRuntime) -> u8 {
         };
     };
     match output_names(words) {
-        Some(OutputNames {
-            lrat: None,
-            core: None,
-        }) => check_files(rt, first.as_str(), proof.as_str()),
+        Some(
+            OutputNames {
+                lrat: None,
+                core: None,
+            },
+        ) => check_files(rt, first.as_str(), proof.as_str()),
         Some(names) => check_with_outputs(rt, first.as_str(), proof.as_str(), &names),
         None => usage(rt, CALL),
     }
@@ -155,8 +155,7 @@ fn create_outputs(
 ) -> Option<Outputs> {
     match (&names.lrat, &names.core) {
         (Some(lrat), Some(core)) => {
-            let (lrat, core) =
-                create_two_outputs(rt, lrat.as_str(), core.as_str(), cnf, proof)?;
+            let (lrat, core) = create_two_outputs(rt, lrat.as_str(), core.as_str(), cnf, proof)?;
             Some(Outputs {
                 lrat: Some(buffered(rt, lrat)?),
                 core: Some(buffered(rt, core)?),
