@@ -8,7 +8,7 @@
 --     IsEarlyFault r, IsSilent r, IsUnwrittenWith r      a fault before the line of the verdict;  none of it was written;  not all of it was
 --     WritesOutputs      what such a run wrote
 --     OfFormula cnf P, HasNoFormula r      the whole text is a formula of which this is so;  it is none
-use Rattle.std.specs.Prelude.{◌≡◌, ℕ, ◌⊎◌, Bool, true, false, List, [], ◌∷◌, length, Option, Some, None, Result, Ok, Err}
+use Rattle.std.specs.Prelude.{◌≡◌, ℕ, Bool, true, false, List, [], ◌∷◌, length, Option, Some, None, Result, Ok, Err}
 use Rattle.std.specs.Option.{option_map}
 use Rattle.std.specs.Io.KnownBytes.{Appends}
 use Rattle.checker_rules.specs.Hints.{Item}
@@ -120,33 +120,33 @@ IsUnwrittenWith (Err (Lrat cause)) = ⊥
 IsUnwrittenWith (Err (Core cause)) = ⊥
 
 module _ {L C : Type 0} (formula : List (List ℕ)) (lrat : L → Option (List ℕ)) (core : C → Option (List ℕ))
-  (l l' : Option L) (c c' : Option C) where
-    -- neither is touched
-    abbrev pub Untouched : Type 0
-    Untouched = (l' ≡ l) × (c' ≡ c)
+    (l l' : Option L) (c c' : Option C) where
+  -- neither is touched
+  abbrev pub Untouched : Type 0
+  Untouched = (l' ≡ l) × (c' ≡ c)
 
-    -- both are written whole
-    abbrev pub BothWritten : Type 0
-    BothWritten = WroteProof formula (bytes_in lrat l) (bytes_in lrat l')
-        × WroteCore formula (bytes_in core c) (bytes_in core c')
+  -- both are written whole
+  abbrev pub BothWritten : Type 0
+  BothWritten = WroteProof formula (bytes_in lrat l) (bytes_in lrat l')
+      × WroteCore formula (bytes_in core c) (bytes_in core c')
 
-    -- what the verdict stands on was written, where it says anything
-    abbrev pub WritesFor : Verdict → Type 0
-    WritesFor Verified = BothWritten
-    WritesFor NotVerified = Untouched
+  -- what the verdict stands on was written, where it says anything
+  abbrev pub WritesFor : Verdict → Type 0
+  WritesFor Verified = BothWritten
+  WritesFor NotVerified = Untouched
 
-    -- what the run of a proof after a formula wrote
-    abbrev pub WritesOutputs : Result Verdict OutputFault → Type 0
-    WritesOutputs (Ok verdict) = WritesFor verdict
-    WritesOutputs (Err (Run (Proof fault))) =
-        BeganLines formula (bytes_in lrat l) (bytes_in lrat l') × (c' ≡ c)
-    WritesOutputs (Err (Run (Write cause))) = (verdict : Verdict) × WritesFor verdict
-    WritesOutputs (Err (Run (Formula fault))) = Untouched
-    WritesOutputs (Err (Lrat cause)) =
-        BeganLines formula (bytes_in lrat l) (bytes_in lrat l') × (c' ≡ c)
-    WritesOutputs (Err (Core cause)) =
-        WroteProof formula (bytes_in lrat l) (bytes_in lrat l')
-        × BeganCore formula (bytes_in core c) (bytes_in core c')
+  -- what the run of a proof after a formula wrote
+  abbrev pub WritesOutputs : Result Verdict OutputFault → Type 0
+  WritesOutputs (Ok verdict) = WritesFor verdict
+  WritesOutputs (Err (Run (Proof fault))) =
+      BeganLines formula (bytes_in lrat l) (bytes_in lrat l') × (c' ≡ c)
+  WritesOutputs (Err (Run (Write cause))) = (verdict : Verdict) × WritesFor verdict
+  WritesOutputs (Err (Run (Formula fault))) = Untouched
+  WritesOutputs (Err (Lrat cause)) =
+      BeganLines formula (bytes_in lrat l) (bytes_in lrat l') × (c' ≡ c)
+  WritesOutputs (Err (Core cause)) =
+      WroteProof formula (bytes_in lrat l) (bytes_in lrat l')
+      × BeganCore formula (bytes_in core c) (bytes_in core c')
 
 -- the whole text is this formula, of which this is so
 pub record OfFormula (cnf : Option (List ℕ)) (P : List (List ℕ) → Type 0) : Type 0 where
