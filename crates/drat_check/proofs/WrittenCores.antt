@@ -1,5 +1,5 @@
 -- A part of a formula that is written.
-use Rattle.std.proofs.Common.{◌≡◌, ℕ, List, [], Option, Result, refl}
+use Rattle.std.proofs.Common.{ℕ, List, [], Option, Result, refl}
 use Rattle.std.specs.Io.KnownBytes.{Appends, Keeps}
 use Rattle.std.proofs.KnownBytes.{Appends-kept}
 use Rattle.std.specs.Prelude.{OnErr}

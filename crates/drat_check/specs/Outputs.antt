@@ -8,7 +8,7 @@
 --     IsEarlyFault r, IsSilent r, IsUnwrittenWith r      a fault before the line of the verdict;  none of it was written;  not all of it was
 --     WritesOutputs      what such a run wrote
 --     OfFormula cnf P, HasNoFormula r      the whole text is a formula of which this is so;  it is none
-use Rattle.std.specs.Prelude.{◌≡◌, ℕ, ◌⊎◌, Bool, true, false, List, [], ◌∷◌, length, Option, Some, None, Result, Ok, Err}
+use Rattle.std.specs.Prelude.{◌≡◌, ℕ, Bool, true, false, List, [], ◌∷◌, length, Option, Some, None, Result, Ok, Err}
 use Rattle.std.specs.Option.{option_map}
 use Rattle.std.specs.Io.KnownBytes.{Appends}
 use Rattle.sat_rules.specs.Named.{Item}

@@ -3,7 +3,7 @@ use Rattle.std.proofs.KnownBytes.{Keeps-refl}
 use Rattle.std.proofs.lemmas.Bool.{false_from_ne_true}
 use Rattle.sat_rules.specs.Clauses.{all_true}
 use Rattle.lrat_text.specs.NextLine.{view}
-use Rattle.drat_check.specs.Outputs.{BeganLines, WroteProof, bytes_in}
+use Rattle.drat_check.specs.Outputs.{bytes_in}
 use Rattle.drat_check.specs.Runs.{IsUnsatisfiable}
 use Rattle.drat_check.proofs.WrittenLines.{began, began_line, began_none, on_err, on_ok, one_more, wrote}
 use Rattle.drat_check.proofs.outputs.write_lines.Goals as goal
