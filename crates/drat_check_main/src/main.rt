@@ -62,38 +62,39 @@ fn status_of_call(rt: &HostRuntime) -> u8 {
             _ => usage(rt, CALL),
         };
     };
-    match output_names(words) {
-        Some(
-            OutputNames {
-                lrat: None,
-                core: None,
-            },
-        ) => check_files(rt, first.as_str(), proof.as_str()),
-        Some(names) => check_with_outputs(rt, first.as_str(), proof.as_str(), &names),
-        None => usage(rt, CALL),
-    }
-}
-
-/// The options that the words say: each with a name, and at most once.
-fn output_names<I: Iterator<Item = String> + Drop>(mut words: I) -> Option<OutputNames> {
     let mut names = OutputNames {
         lrat: None,
         core: None,
     };
-    for _ in 0..2 {
-        let Some(option) = words.next() else {
-            return Some(names);
-        };
-        let name = words.next()?;
-        match option.as_str() {
-            "--lrat" if names.lrat.is_none() => names.lrat = Some(name),
-            "--core" if names.core.is_none() => names.core = Some(name),
-            _ => return None,
-        }
+    let are_options = add_option(&mut names, words.next(), words.next())
+        && add_option(&mut names, words.next(), words.next())
+        && words.next().is_none();
+    if !are_options {
+        usage(rt, CALL)
+    } else if names.lrat.is_none() && names.core.is_none() {
+        check_files(rt, first.as_str(), proof.as_str())
+    } else {
+        check_with_outputs(rt, first.as_str(), proof.as_str(), &names)
     }
-    match words.next() {
-        None => Some(names),
-        Some(_) => None,
+}
+
+/// Takes an option and its name, where there are such, and says whether that could be: each option
+/// has a name, and comes at most once.
+fn add_option(names: &mut OutputNames, option: Option<String>, name: Option<String>) -> bool {
+    match (option, name) {
+        (None, None) => true,
+        (Some(option), Some(name)) => match option.as_str() {
+            "--lrat" if names.lrat.is_none() => {
+                names.lrat = Some(name);
+                true
+            }
+            "--core" if names.core.is_none() => {
+                names.core = Some(name);
+                true
+            }
+            _ => false,
+        },
+        _ => false,
     }
 }
 
