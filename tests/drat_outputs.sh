@@ -128,7 +128,8 @@ for output in same ./same other; do
   [[ $(cat same) == kept ]] || fault "one file is emptied: $output"
 done
 wants 2 '' $'cannot open ./new\nboth outputs are one file' f p --lrat new --core ./new
-wants 0 's VERIFIED UNSAT' '' f p --lrat /dev/null --core /dev/null
+wants 2 '' $'cannot open /dev/null\nboth outputs are one file' f p --lrat /dev/null --core /dev/null
+wants 0 's VERIFIED UNSAT' '' f p --lrat /dev/null --core c
 
 # a disk that is full: no line of a verdict, and the file is named
 wants 1 '' $'error writing: No space left on device (os error 28)\nin /dev/full' f p --lrat /dev/full --core c

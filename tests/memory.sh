@@ -51,12 +51,12 @@ for program in lrat_check hint_check; do
   takes_little 0 's VERIFIED UNSAT' '' $program "$pairs" '5 -268435456 0 2 4 0\n6 0 5 1 3 0\n'
 done
 # hints that lead to no conflict
-takes_little 1 '' 'line 2: clause of a hint is not unit\np' hint_check "$pairs" '5 268435456 0 1 3 0\n6 0 1 2 0\n'
-takes_little 1 '' 'proof: line 2: clause of a hint is not unit\np' lrat_check "$pairs" '5 268435456 0 1 3 0\n6 0 1 2 0\n'
+takes_little 1 '' 'line 2: clause of a hint is not unit\nin p' hint_check "$pairs" '5 268435456 0 1 3 0\n6 0 1 2 0\n'
+takes_little 1 '' 'proof: line 2: clause of a hint is not unit\nin p' lrat_check "$pairs" '5 268435456 0 1 3 0\n6 0 1 2 0\n'
 # clauses that are redundant by it, where no clause has its negation, or not any more, and where one has it
 takes_little 3 's NOT VERIFIED' '' lrat_check "$units" '3 -268435456 0 0\n'
 takes_little 3 's NOT VERIFIED' '' lrat_check '268435456 0\n' '1 d 1 0\n3 -268435456 0 0\n'
-takes_little 1 '' 'proof: line 1: hints end without a conflict\np' lrat_check '268435456 1 0\n' '3 -268435456 0 0\n'
-takes_little 1 '' 'proof: line 2: hints end without a conflict\np' lrat_check '268435456 1 0\n268435456 2 0\n' \
+takes_little 1 '' 'proof: line 1: hints end without a conflict\nin p' lrat_check '268435456 1 0\n' '3 -268435456 0 0\n'
+takes_little 1 '' 'proof: line 2: hints end without a conflict\nin p' lrat_check '268435456 1 0\n268435456 2 0\n' \
   '1 d 1 0\n3 -268435456 0 0\n'
 exit $wrong
