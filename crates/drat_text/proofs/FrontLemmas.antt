@@ -10,7 +10,7 @@ abbrev pub Known : Type 0
 Known = Option (List ℕ)
 
 -- a place without a byte
-ends_before : (bytes : List ℕ) (place : ℕ) → slice_get bytes place ≡ None → length bytes ≤ place
+pub ends_before : (bytes : List ℕ) (place : ℕ) → slice_get bytes place ≡ None → length bytes ≤ place
 ends_before [] place e = omega arith
 ends_before (x ∷ xs) zero e = absurd (none-some x (sym e))
 ends_before (x ∷ xs) (suc i) e = let more : length xs ≤ i = ends_before xs i e in omega arith

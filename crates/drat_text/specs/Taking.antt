@@ -14,6 +14,10 @@ use Rattle.drat_text.specs.Places.{Place}
 use Rattle.drat_text.specs.Proofs.{outcome_at}
 use Rattle.drat_text.specs.Steps.{Outcome, Ended, Faulty}
 
+-- the source behind what was looked at
+abbrev pub source_of : {R : Type 0} → Bytes R → Source R
+source_of s = s.source
+
 -- what was looked at and not taken
 abbrev pub front_of : {R : Type 0} → Bytes R → List ℕ
 front_of s = drop s.taken s.front.items

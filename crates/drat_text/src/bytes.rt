@@ -10,18 +10,18 @@ use std::io;
 use std::io::Read;
 
 /// So many bytes are looked at before a proof counts as text.
-const LOOKED_AT: usize = 4096;
+pub const LOOKED_AT: usize = 4096;
 
 /// How steps are written.
 #[derive(Clone, Copy, Debug, PartialEq, Eq)]
-pub(crate) enum Format {
+pub enum Format {
     Text,
     Binary,
 }
 
 /// A source, and in front of it the bytes that were looked at and not taken yet.
 #[derive(Drop)]
-pub(crate) struct Bytes<R> {
+pub struct Bytes<R> {
     source: Source<R>,
     front: Vec<u8>,
     taken: usize,
@@ -33,7 +33,8 @@ impl<R: Read> Bytes<R> {
     ghost use Rattle.sat_formula.specs.Source.{IsStopped, IsErrorOf};
     ghost use Rattle.drat_text.specs.Taking.{front_of, unread_bytes, room_in, Takes, TakesWithin, Looks, LooksOn, Peeks};
 
-    pub(crate) fn new(alloc: Global, inner: R) -> Bytes<R>
+    /// All the bytes of a reader, up to `u64::MAX` of them.
+    pub fn new(alloc: Global, inner: R) -> Bytes<R>
         ensures bytes { unread_bytes R.remaining result ≡ R.remaining inner }
         ensures front { result.front.items ≡ [] }
     {
@@ -45,7 +46,7 @@ impl<R: Read> Bytes<R> {
     }
 
     /// The error of a stop by the source.
-    pub(crate) fn error(&self) -> io::Error
+    pub fn error(&self) -> io::Error
         requires { IsStopped self.now.source }
         ensures { IsErrorOf self.now.source result }
     {
@@ -54,7 +55,7 @@ impl<R: Read> Bytes<R> {
 
     /// Takes the next byte.
     #[inline(always)]
-    pub(crate) fn next_byte(&mut self) -> Result<u8, Stop>
+    pub fn next_byte(&mut self) -> Result<u8, Stop>
         ensures byte { Takes (unread_bytes R.remaining self.old)
             (unread_bytes R.remaining self.new) self.new.source result }
         ensures nearer { IfOk result (λ _. room_in self.new < room_in self.old) }
@@ -73,7 +74,7 @@ impl<R: Read> Bytes<R> {
 
     /// Takes the next byte of a step that was begun, which is unfinished where the input ends.
     #[inline(always)]
-    pub(crate) fn next_within(&mut self) -> Result<u8, Stop>
+    pub fn next_within(&mut self) -> Result<u8, Stop>
         ensures byte { TakesWithin (unread_bytes R.remaining self.old)
             (unread_bytes R.remaining self.new) self.new.source result }
         ensures nearer { IfOk result (λ _. room_in self.new < room_in self.old) }
@@ -86,7 +87,7 @@ impl<R: Read> Bytes<R> {
     }
 
     /// Tells the format by the next bytes, and takes none of them.
-    pub(crate) fn look(&mut self) -> Result<Format, Stop>
+    pub fn look(&mut self) -> Result<Format, Stop>
         ensures format { Looks (unread_bytes R.remaining self.old)
             (unread_bytes R.remaining self.new) self.new.source result }
         ensures room { room_in self.new ≤ room_in self.old }
@@ -103,8 +104,9 @@ impl<R: Read> Bytes<R> {
         Ok(Format::Text)
     }
 
-    /// Looks on where the next byte is a `d`.
-    fn look_on(&mut self) -> Result<Format, Stop>
+    /// Tells text from binary steps by whether each of the next bytes is one that a text can have,
+    /// and takes none of them.
+    pub fn look_on(&mut self) -> Result<Format, Stop>
         ensures format { LooksOn (unread_bytes R.remaining self.old)
             (unread_bytes R.remaining self.new) self.new.source result }
         ensures room { room_in self.new ≤ room_in self.old }
@@ -124,7 +126,7 @@ impl<R: Read> Bytes<R> {
 
     /// The byte at a place of those to come, if there is one. It stands in front from then on, as
     /// those before it do already.
-    fn peek(&mut self, place: usize) -> Result<Option<u8>, Stop>
+    pub fn peek(&mut self, place: usize) -> Result<Option<u8>, Stop>
         requires { place ≤ length (front_of self.old) }
         ensures peek { Peeks (unread_bytes R.remaining self.old)
             (unread_bytes R.remaining self.new) place self.new.source result }

@@ -39,11 +39,14 @@ pub enum DratFault {
 
 /// Why reading stops. It is small, since it passes through the loops over bytes.
 #[derive(Clone, Copy)]
-pub(crate) enum Stop {
+pub enum Stop {
     /// The input ended, and no step was begun.
     End,
+    /// A read failed; the source has the error.
     Read,
+    /// The first fault of the proof.
     Wrong(DratKind),
+    /// There was no memory.
     OutOfMemory,
 }
 

@@ -2,9 +2,12 @@
 #![tactic(auto)]
 
 mod binary;
-mod bytes;
-mod fault;
-mod number;
+#[doc(hidden)]
+pub mod bytes;
+#[doc(hidden)]
+pub mod fault;
+#[doc(hidden)]
+pub mod number;
 mod reader;
 mod step;
 #[cfg(test)]

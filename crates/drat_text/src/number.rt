@@ -7,18 +7,20 @@ ghost use Rattle.drat_text.specs.Numbers.{lit_said, code_said};
 use crate::fault::DratKind;
 use sat_formula::{Lit, Var};
 
-pub(crate) const MAX_VARIABLE: u64 = Var::MAX_COUNT as u64;
+/// The largest number of a variable.
+pub const MAX_VARIABLE: u64 = Var::MAX_COUNT as u64;
 
 /// Whether the byte stands between words: a blank or an LF.
 #[inline(always)]
-pub(crate) fn is_space(byte: u8) -> bool
+pub fn is_space(byte: u8) -> bool
     ensures { result ≡ is_space byte }
 {
     byte == b' ' || byte == b'\n' || byte == b'\r' || byte == b'\t'
 }
 
+/// Whether the byte is `0` to `9`.
 #[inline(always)]
-pub(crate) fn is_digit(byte: u8) -> bool
+pub fn is_digit(byte: u8) -> bool
     ensures { result ≡ is_digit byte }
 {
     b'0' <= byte && byte <= b'9'
@@ -26,14 +28,14 @@ pub(crate) fn is_digit(byte: u8) -> bool
 
 /// Whether the byte begins a comment, where it stands between steps.
 #[inline(always)]
-pub(crate) fn begins_comment(byte: u8) -> bool
+pub fn begins_comment(byte: u8) -> bool
     ensures { result ≡ begins_comment byte }
 {
     byte == b'c' || byte == b'%'
 }
 
 /// Whether a text can have the byte.
-pub(crate) fn is_text_byte(byte: u8) -> bool
+pub fn is_text_byte(byte: u8) -> bool
     ensures { result ≡ is_text_byte byte }
 {
     is_space(byte) || b' ' <= byte && byte <= b'~'
@@ -41,7 +43,7 @@ pub(crate) fn is_text_byte(byte: u8) -> bool
 
 /// What digits of this value say, after a `-` or not: a literal, or none at a step's 0.
 #[inline(always)]
-pub(crate) fn lit_said(negative: bool, value: u64) -> Result<Option<Lit>, DratKind>
+pub fn lit_said(negative: bool, value: u64) -> Result<Option<Lit>, DratKind>
     ensures { result ≡ lit_said negative value }
 {
     if value == 0 {
@@ -59,7 +61,7 @@ pub(crate) fn lit_said(negative: bool, value: u64) -> Result<Option<Lit>, DratKi
 
 /// What a binary number says: a literal, or none at a step's 0.
 #[inline(always)]
-pub(crate) fn code_said(number: u64) -> Result<Option<Lit>, DratKind>
+pub fn code_said(number: u64) -> Result<Option<Lit>, DratKind>
     ensures { result ≡ code_said number }
 {
     if number == 0 {

@@ -41,6 +41,7 @@ impl<R: Read> DratReader<R> {
     ghost use Rattle.sat_formula.specs.Source.{IsStopped};
     ghost use Rattle.drat_text.specs.NextStep.{bytes_left, has_ended, steps_given, known_format, reads_binary, view, Gives, Answers, ReadsOn, SeesFormat, Explains};
     ghost use Rattle.drat_text.specs.Steps.{step_of};
+    ghost use Rattle.drat_text.specs.Taking.{unread_bytes};
     ghost use Rattle.drat_text.specs.contracts.reader.DratReader.{the_row};
 
     /// A reader at the start of a proof. It takes no memory and reads nothing yet.
@@ -50,8 +51,19 @@ impl<R: Read> DratReader<R> {
         ensures format { known_format result ≡ None }
         ensures ended { has_ended result ≡ false }
     {
+        DratReader::over(alloc, Bytes::new(alloc, input))
+    }
+
+    /// A reader of the steps that bytes say of which none was taken yet.
+    #[doc(hidden)]
+    pub fn over(alloc: Global, bytes: Bytes<R>) -> DratReader<R>
+        ensures bytes { bytes_left R.remaining result ≡ unread_bytes R.remaining bytes }
+        ensures steps { steps_given result ≡ 0 }
+        ensures format { known_format result ≡ None }
+        ensures ended { has_ended result ≡ false }
+    {
         DratReader {
-            bytes: Bytes::new(alloc, input),
+            bytes,
             lits: Vec::new(alloc),
             format: None,
             steps: 0,

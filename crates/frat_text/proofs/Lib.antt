@@ -1,0 +1,6 @@
+pub mod Takings
+pub mod NumberLemmas
+pub mod GroupLemmas
+pub mod LookLemmas
+pub mod TellLemmas
+pub mod ReaderLemmas

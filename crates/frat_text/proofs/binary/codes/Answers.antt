@@ -1,0 +1,38 @@
+use Rattle.std.proofs.Common.{rules, false}
+use Rattle.drat_text.specs.Taking.{source_of}
+use Rattle.drat_text.specs.declared.bytes.Format.TheVariants.{Binary}
+use Rattle.frat_text.specs.Drafts.{found_step, slot_of}
+use Rattle.frat_text.specs.Places.{coded}
+use Rattle.frat_text.specs.Reading.{ReadsStep}
+use Rattle.frat_text.proofs.NumberLemmas.{code_ended, code_faulty, code_going}
+use Rattle.frat_text.proofs.Takings.{exits, given_on, leads_nil, leads_on, stopped_on}
+use Rattle.frat_text.proofs.binary.codes.Goals as goal
+
+pub codes-init : goal.codes-init
+codes-init g c = record { room = search rules; read = leads_nil _ _ }
+
+pub returns-in_err-code-clause-read : goal.returns-in_err-code-clause-read
+returns-in_err-code-clause-read g c =
+    exits (ReadsStep Binary _ _ _ _ (source_of c.number.new.bytes)) _ _ c.from_residual.ensures.1
+    (stopped_on _ Binary (source_of c.number.new.bytes) _ c.codes.invariant.read (c.in_err-code.ensures.read (slot_of c.codes.draft)))
+
+pub returns-in_err-take_code-clause-read : goal.returns-in_err-take_code-clause-read
+returns-in_err-take_code-clause-read g c =
+    exits (ReadsStep Binary _ _ _ _ (source_of c.number.new.bytes)) _ _ c.from_residual-in_err-take_code.ensures.1
+    (stopped_on _ Binary (source_of c.number.new.bytes) _ c.codes.invariant.read
+    (code_faulty c.take_code.new.self (coded (slot_of c.codes.draft) c.in_ok-code.code) (source_of c.number.new.bytes) _
+    (c.in_ok-code.ensures.read (slot_of c.codes.draft)) c.in_err-take_code.ensures))
+
+pub returns-in-Some-clause-read : goal.returns-in-Some-clause-read
+returns-in-Some-clause-read g c =
+    given_on _ Binary (found_step c.take_code.new.self c.in-Some.found) false c.codes.invariant.read
+    (code_ended c.take_code.new.self (coded (slot_of c.codes.draft) c.in_ok-code.code) c.in-Some.found
+    (c.in_ok-code.ensures.read (slot_of c.codes.draft)) (rw c.in-Some.is at c.in_ok-take_code.ensures))
+
+pub codes-preserved : goal.codes-preserved
+codes-preserved g c = record {
+  room = search rules;
+  read = leads_on c.codes.invariant.read
+      (code_going c.take_code.new.self (coded (slot_of c.codes.draft) c.in_ok-code.code)
+      (c.in_ok-code.ensures.read (slot_of c.codes.draft)) (rw c.in_default.is at c.in_ok-take_code.ensures));
+}

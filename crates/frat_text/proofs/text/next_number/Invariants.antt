@@ -1,0 +1,18 @@
+use Rattle.std.proofs.Common.{◌≤◌}
+use Rattle.drat_text.specs.Taking.{room_in, unread_bytes}
+use Rattle.drat_text.specs.declared.bytes.Format.TheVariants.{Text}
+use Rattle.frat_text.specs.Places.{Within}
+use Rattle.frat_text.specs.Proofs.{outcome_at}
+use Rattle.frat_text.specs.Slots.{Slot}
+use Rattle.frat_text.specs.Taking.{Leads}
+use Rattle.frat_text.proofs.text.next_number.Given as goal
+
+abbrev pub invariant-blanks : goal.invariant-blanks
+invariant-blanks g l = record {
+  room : room_in l.bytes ≤ room_in l.fn.bytes;
+  read : (slot : Slot) → Leads (unread_bytes g.R.Read.remaining l.fn.bytes) (unread_bytes g.R.Read.remaining l.bytes)
+      (outcome_at Text (Within slot)) (outcome_at Text (Within slot));
+}
+
+abbrev pub decreases-blanks : goal.decreases-blanks
+decreases-blanks g l = room_in l.bytes

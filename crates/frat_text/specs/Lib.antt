@@ -1,0 +1,9 @@
+pub mod Slots
+pub mod Steps
+pub mod Bytes
+pub mod Places
+pub mod Proofs
+pub mod Drafts
+pub mod Taking
+pub mod Reading
+pub mod NextStep

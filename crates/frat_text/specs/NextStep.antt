@@ -1,0 +1,160 @@
+-- What `next_step` answers.
+--     bytes_left, steps_given, has_ended, format_now, work_left, IsReadError      what a caller knows of a reader
+--     Gives      what a call gave, and the reader after it
+use Rattle.std.specs.Prelude.{◌≡◌, ℕ, suc, ◌<◌, Bool, true, false, List, [], Option, Some, None, Result, Ok, Err, IfSome, IfOk, OnOk, ◌≤◌, unwrap_or, if◌then◌else◌}
+use Rattle.std.specs.declared.io.Error.{Error}
+use Rattle.std.specs.Io.KnownBytes.{Keeps}
+use Rattle.sat_formula.specs.Outcome.{next_line}
+use Rattle.sat_formula.specs.declared.source.Source.{Source}
+use Rattle.sat_formula.specs.Source.{IsErrorOf, IsStopped}
+use Rattle.drat_text.specs.declared.bytes.Format.{Format}
+use Rattle.drat_text.specs.declared.bytes.Format.TheVariants as formats
+use Rattle.drat_text.specs.declared.fault.DratFault.{DratFault}
+use Rattle.drat_text.specs.declared.fault.DratFault.TheVariants as faults
+use Rattle.drat_text.specs.declared.fault.Stop.{Stop}
+use Rattle.drat_text.specs.declared.fault.Stop.TheVariants as stops
+use Rattle.drat_text.specs.Taking.{unread_bytes, room_in, source_of}
+use Rattle.frat_text.specs.declared.draft.StepEnd.{StepEnd}
+use Rattle.frat_text.specs.declared.reader.FratReader.{FratReader}
+use Rattle.frat_text.specs.declared.step.FratStep.{FratStep}
+use Rattle.frat_text.specs.Bytes.{format_of}
+use Rattle.frat_text.specs.Drafts.{view}
+use Rattle.frat_text.specs.Proofs.{outcome_in}
+use Rattle.frat_text.specs.Steps.{Step, Ended, Outcome}
+use Rattle.frat_text.specs.Reading.{GivesStep, ReadsStep}
+use Rattle.frat_text.specs.Taking.{EndsAll, Breaks, Fails}
+
+-- the bytes that are still to come, where the reader beneath tells them
+abbrev pub bytes_left : {R : Type 0} → (R → Option (List ℕ)) → FratReader R → Option (List ℕ)
+bytes_left remaining r = unread_bytes remaining r.bytes
+
+-- no step comes any more
+abbrev pub has_ended : {R : Type 0} → FratReader R → Bool
+has_ended r = r.ended
+
+-- how many steps it gave
+abbrev pub steps_given : {R : Type 0} → FratReader R → ℕ
+steps_given r = r.steps
+
+-- the format, where the first bytes have told it
+abbrev pub known_format : {R : Type 0} → FratReader R → Option Format
+known_format r = r.format
+
+-- how it reads steps now
+abbrev pub format_now : {R : Type 0} → FratReader R → Format
+format_now r = unwrap_or (known_format r) formats.Text
+
+-- the binary format
+abbrev pub is_binary : Format → Bool
+is_binary formats.Text = false
+is_binary formats.Binary = true
+
+-- the format of these bytes to come: it stays, and is told by them before the first step
+abbrev pub format_for : {R : Type 0} → FratReader R → List ℕ → Format
+format_for r bytes = unwrap_or (known_format r) (format_of bytes)
+
+-- a number that falls with each step that is given
+abbrev pub work_left : {R : Type 0} → FratReader R → ℕ
+work_left r = if has_ended r then 0 else suc (room_in r.bytes)
+
+-- the error of the read that failed, or where none did and the proof is too long, one that says so
+abbrev pub IsReadError : {R : Type 0} → FratReader R → Error → Type 0
+IsReadError r e = IsErrorOf (source_of r.bytes) e
+
+-- the format is that of the bytes
+abbrev pub TellsFormat : {R : Type 0} → (R → Option (List ℕ)) → FratReader R → FratReader R →
+    Type 0
+TellsFormat remaining old new =
+    IfSome (bytes_left remaining old) (λ bytes. format_now new ≡ format_for old bytes)
+
+-- what the bytes to come say, in the format of the reader after the call
+abbrev pub left_to_say : {R : Type 0} → FratReader R → List ℕ → Outcome
+left_to_say new bytes = outcome_in (format_now new) bytes
+
+-- a call's answer, where a step is seen so: the next step of the proof, its end or its fault
+abbrev pub Answers : {R X : Type 0} → (R → Option (List ℕ)) → (X → Step) → FratReader R →
+    FratReader R → Result (Option X) DratFault → Type 0
+Answers remaining seen old new (Ok (Some x)) =
+    GivesStep (format_now new) (bytes_left remaining old) (bytes_left remaining new)
+    (left_to_say new) (seen x) (has_ended new)
+    × TellsFormat remaining old new
+    × (steps_given new ≡ next_line (steps_given old)) × (work_left new < work_left old)
+Answers remaining seen old new (Ok None) =
+    EndsAll (bytes_left remaining old) (bytes_left remaining new) (left_to_say new) ([], Ended)
+    × TellsFormat remaining old new
+    × (steps_given new ≡ steps_given old) × (has_ended new ≡ true)
+Answers remaining seen old new (Err (faults.Read e)) =
+    Breaks (format_now new) (bytes_left remaining old) (bytes_left remaining new)
+    (left_to_say new)
+    × IsReadError new e × (steps_given new ≡ steps_given old) × (has_ended new ≡ true)
+Answers remaining seen old new (Err (faults.Step number kind)) =
+    Fails (bytes_left remaining old) (bytes_left remaining new) (left_to_say new) kind
+    × TellsFormat remaining old new
+    × (number ≡ next_line (steps_given old))
+    × (steps_given new ≡ steps_given old) × (has_ended new ≡ true)
+Answers remaining seen old new (Err faults.OutOfMemory) =
+    (steps_given new ≡ steps_given old) × (has_ended new ≡ true)
+
+-- the call gave the next step, the end or the fault of the proof; after the end or a fault it gives none and stays as it is
+pub record Gives {R : Type 0} (remaining : R → Option (List ℕ)) (old new : FratReader R)
+    (r : Result (Option FratStep) DratFault) : Type 0 where
+  pub reads : has_ended old ≡ false → Answers remaining view old new r
+  pub stays : has_ended old ≡ true → (r ≡ Ok None) × (new ≡ old)
+  pub format : (format : Format) → known_format old ≡ Some format
+      → known_format new ≡ Some format
+
+-- steps are read as binary ones
+abbrev pub reads_binary : {R : Type 0} → FratReader R → Bool
+reads_binary r = is_binary (format_now r)
+
+-- the format was told, unless a read failed or memory was wanted
+abbrev pub ToldBy : {R X : Type 0} → (R → Option (List ℕ)) → FratReader R → FratReader R →
+    Result X Stop → Type 0
+ToldBy remaining old new (Ok x) = TellsFormat remaining old new
+ToldBy remaining old new (Err stops.End) = TellsFormat remaining old new
+ToldBy remaining old new (Err (stops.Wrong kind)) = TellsFormat remaining old new
+ToldBy remaining old new (Err stops.Read) = Unit {0}
+ToldBy remaining old new (Err stops.OutOfMemory) = Unit {0}
+
+-- a step was read into the list, or none
+pub record ReadsOn {R : Type 0} (remaining : R → Option (List ℕ)) (old new : FratReader R)
+    (r : Result StepEnd Stop) : Type 0 where
+  pub step : ReadsStep (format_now new) new.draft (bytes_left remaining old)
+      (bytes_left remaining new) (left_to_say new) (source_of new.bytes) r
+  pub nearer : IfOk r (λ _. room_in new.bytes < room_in old.bytes)
+  pub stays : (format : Format) → known_format old ≡ Some format
+      → known_format new ≡ Some format
+  pub told : ToldBy remaining old new r
+  pub steps : steps_given new ≡ steps_given old
+  pub ended : has_ended new ≡ has_ended old
+
+-- no byte was taken, where memory was found
+abbrev pub Looked : {R X : Type 0} → Option (List ℕ) → Option (List ℕ) → Source R →
+    Result X Stop → Type 0
+Looked old new source (Ok x) = Keeps old new
+Looked old new source (Err stops.End) = ⊥
+Looked old new source (Err stops.Read) = Keeps old new × IsStopped source
+Looked old new source (Err (stops.Wrong kind)) = ⊥
+Looked old new source (Err stops.OutOfMemory) = Unit {0}
+
+-- the format was told, and no byte taken
+pub record SeesFormat {R : Type 0} (remaining : R → Option (List ℕ)) (old new : FratReader R)
+    (r : Result Format Stop) : Type 0 where
+  pub looks : Looked (bytes_left remaining old) (bytes_left remaining new) (source_of new.bytes) r
+  pub format : OnOk r (TellsFormat remaining old new)
+  pub now : IfOk r (λ format. known_format new ≡ Some format)
+  pub room : room_in new.bytes ≤ room_in old.bytes
+  pub stays : (format : Format) → known_format old ≡ Some format
+      → known_format new ≡ Some format
+  pub steps : steps_given new ≡ steps_given old
+  pub ended : has_ended new ≡ has_ended old
+
+-- what a stop answers, with this source, after so many steps
+abbrev pub Explains : {R X : Type 0} → Source R → ℕ → Stop → Result (Option X) DratFault → Type 0
+Explains source steps stops.End r = r ≡ Ok None
+Explains source steps stops.Read (Ok x) = ⊥
+Explains source steps stops.Read (Err (faults.Read e)) = IsErrorOf source e
+Explains source steps stops.Read (Err (faults.Step number kind)) = ⊥
+Explains source steps stops.Read (Err faults.OutOfMemory) = ⊥
+Explains source steps (stops.Wrong kind) r = r ≡ Err (faults.Step (next_line steps) kind)
+Explains source steps stops.OutOfMemory r = r ≡ Err faults.OutOfMemory

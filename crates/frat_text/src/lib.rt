@@ -1,0 +1,17 @@
+//! FRAT proofs, text or binary, as solvers write them: steps that name clauses by ids, and may say
+//! why a clause follows.
+#![tactic(auto)]
+
+mod binary;
+mod draft;
+mod format;
+mod reader;
+mod step;
+mod telling;
+#[cfg(test)]
+mod tests;
+mod text;
+
+pub use reader::FratReader;
+pub use step::{FratAction, FratHint, FratStep, Renaming};
+pub use telling::is_frat;
