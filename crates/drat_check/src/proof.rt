@@ -11,6 +11,9 @@ use std::alloc::Global;
 use std::io::Read;
 use verdicts::Verdict;
 
+/// After so many steps it is said how far the work has come.
+const STEPS_A_LINE: u64 = 1 << 20;
+
 /// What a proof shows of a formula. `Verified` is answered where the checker of LRAT proofs has
 /// taken the empty clause.
 pub(crate) fn verdict_of<P: Read + Drop>(
@@ -24,7 +27,7 @@ pub(crate) fn verdict_of<P: Read + Drop>(
     if !elaborator.is_refuted() {
         return Ok(Verdict::NotVerified);
     }
-    elaborator.elaborate()?;
+    elaborate(&mut elaborator)?;
     check_lines(alloc, formula, &mut elaborator)?;
     Ok(Verdict::Verified)
 }
@@ -59,6 +62,16 @@ fn begun(alloc: Global, formula: &CnfFormula) -> Result<Elaborator, ProofFault> 
     }
     elaborator.begin_proof()?;
     Ok(elaborator)
+}
+
+/// Checks backward what the conflict needs.
+pub(crate) fn elaborate(elaborator: &mut Elaborator) -> Result<(), ProofFault> {
+    for _ in 0..u64::MAX {
+        if elaborator.elaborate(STEPS_A_LINE)? {
+            break;
+        }
+    }
+    Ok(())
 }
 
 /// Hands the elaborated lines to a checker that holds the formula, up to the empty clause.

@@ -8,9 +8,9 @@ ghost use Rattle.drat_check.specs.Runs.{BeginsLine, BeginsLineAfter};
 ghost use Rattle.verdicts.specs.Verdicts.{shown_line};
 ghost use Rattle.verdicts.specs.declared.verdict.Verdict.TheVariants.{Verified};
 
-use crate::fault::{OutputFault, ProofFault, RunFault};
+use crate::fault::{OutputFault, RunFault};
 use crate::outputs::{write_core, write_lines};
-use crate::proof::read_proof;
+use crate::proof::{elaborate, read_proof};
 use sat_formula::{CnfFormula, read_formula};
 use std::alloc::Global;
 use std::io::{Read, Write};
@@ -102,8 +102,8 @@ fn verdict_with<P: Read + Drop, L: Write, C: Write>(
     if !elaborator.is_refuted() {
         return Ok(Verdict::NotVerified);
     }
-    if let Err(fault) = elaborator.elaborate() {
-        return Err(OutputFault::from(ProofFault::from(fault)));
+    if let Err(fault) = elaborate(&mut elaborator) {
+        return Err(OutputFault::from(fault));
     }
     if let Err(fault) = write_lines(alloc, formula, &mut elaborator, lrat) {
         return Err(fault);

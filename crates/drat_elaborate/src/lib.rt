@@ -4,10 +4,12 @@
 //! whatever they are.
 #![tactic(auto)]
 
+mod backward;
 mod check;
 mod clauses;
 mod elaborator;
 mod fault;
+mod forward;
 mod lines;
 mod lit_set;
 mod lookup;
@@ -16,6 +18,7 @@ mod place_set;
 mod propagator;
 mod records;
 mod redundancy;
+mod steps;
 mod sweep;
 #[cfg(test)]
 mod tests;

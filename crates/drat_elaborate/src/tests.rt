@@ -114,7 +114,7 @@ fn tell_use(text: &mut String, elaborator: &Elaborator) -> Result<(), Fail> {
 
 /// Tells what is elaborated.
 fn tell_proof(text: &mut String, elaborator: &mut Elaborator) -> Result<(), Fail> {
-    match elaborator.elaborate() {
+    match elaborate(elaborator) {
         Ok(()) => {
             tell_lines(text, elaborator)?;
             tell_use(text, elaborator)
@@ -124,6 +124,16 @@ fn tell_proof(text: &mut String, elaborator: &mut Elaborator) -> Result<(), Fail
             Ok(())
         }
     }
+}
+
+/// Goes over all steps, two in a call.
+fn elaborate(elaborator: &mut Elaborator) -> Result<(), ElaborateFault> {
+    for _ in 0..20 {
+        if elaborator.elaborate(2)? {
+            break;
+        }
+    }
+    Ok(())
 }
 
 /// Tells all of a row. What comes out of order is refused, or says nothing: the lines before they
