@@ -1,6 +1,6 @@
 //! The backward pass: what the conflict needs is checked, the last step first.
 use crate::check::Check;
-use crate::clauses::{ClauseIndex, Clauses};
+use crate::clauses::{ClauseIndex, ClauseLink, Clauses};
 use crate::fault::ElaborateFault;
 use crate::occurrences::Occurrences;
 use crate::propagator::Propagator;
@@ -46,7 +46,13 @@ impl Backward {
         }
         self.check.start()?;
         self.check.explain(propagator, conflict)?;
-        self.record(None)
+        self.record(ClauseLink::none())
+    }
+
+    /// Gives back the memory that is of use only while clauses are checked.
+    pub(crate) fn end(&mut self) {
+        self.check = Check::new(self.alloc);
+        self.occurrences = None;
     }
 
     /// Goes back over the last of the steps, which is taken off. Nothing where there is none.
@@ -85,7 +91,7 @@ impl Backward {
             return Err(ElaborateFault::NotRedundant { step });
         }
         self.checked = self.checked.saturating_add(1);
-        self.record(Some(clause))
+        self.record(ClauseLink::to(clause))
     }
 
     /// Whether a clause follows, or is redundant by its pivot. The hints are left in the check.
@@ -112,7 +118,7 @@ impl Backward {
         propagator: &mut Propagator,
         clause: ClauseIndex,
     ) -> Result<bool, ElaborateFault> {
-        let Some(pivot) = propagator.clauses.get(clause)?.pivot else {
+        let Some(pivot) = propagator.clauses.get(clause)?.pivot() else {
             return Ok(false);
         };
         let lit_count = propagator.trail.lit_count();
@@ -144,7 +150,7 @@ impl Backward {
     }
 
     /// Keeps what the check found.
-    fn record(&mut self, clause: Option<ClauseIndex>) -> Result<(), ElaborateFault> {
+    fn record(&mut self, clause: ClauseLink) -> Result<(), ElaborateFault> {
         self.records.push(
             clause,
             &self.check.leading,

@@ -1,5 +1,5 @@
 //! The check of one clause by propagation, and the walk back from its conflict.
-use crate::clauses::ClauseIndex;
+use crate::clauses::{ClauseIndex, ClauseLink};
 use crate::fault::ElaborateFault;
 use crate::lit_set::LitSet;
 use crate::place_set::PlaceSet;
@@ -84,7 +84,7 @@ impl Check {
         let end = propagator.trail.len();
         for lit in propagator.clauses.lits(clause)? {
             if propagator.trail.value(*lit) == Value::Free {
-                propagator.trail.assign(!*lit, None)?;
+                propagator.trail.assign(!*lit, ClauseLink::none())?;
             }
         }
         propagator.propagate(end)

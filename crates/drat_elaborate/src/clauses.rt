@@ -34,15 +34,41 @@ impl ClauseIndex {
     }
 }
 
+/// A clause or none, in four bytes.
+#[derive(Clone, Copy)]
+pub(crate) struct ClauseLink(u32);
+
+impl ClauseLink {
+    /// No clause has this number.
+    const NONE: u32 = u32::MAX;
+
+    pub(crate) fn none() -> ClauseLink {
+        ClauseLink(ClauseLink::NONE)
+    }
+
+    pub(crate) fn to(clause: ClauseIndex) -> ClauseLink {
+        ClauseLink(clause.0)
+    }
+
+    #[inline(always)]
+    pub(crate) fn get(self) -> Option<ClauseIndex> {
+        if self.0 == ClauseLink::NONE {
+            None
+        } else {
+            Some(ClauseIndex(self.0))
+        }
+    }
+}
+
 /// What is known of a clause besides its literals.
 #[derive(Clone, Copy)]
 pub(crate) struct Clause {
     start: u32,
     end: u32,
-    /// Its first literal as it was written; none in the empty clause.
-    pub(crate) pivot: Option<Lit>,
+    /// The code of the pivot; that of no literal in the empty clause.
+    pivot: u32,
     /// The next clause of the same bucket.
-    pub(crate) next: Option<ClauseIndex>,
+    pub(crate) next: ClauseLink,
     /// It is used by the conflict or by a clause that is.
     pub(crate) is_core: bool,
     /// It is there at the step where the elaborator stands.
@@ -50,6 +76,16 @@ pub(crate) struct Clause {
     /// Its first two literals are watched while it is there.
     pub(crate) is_watched: bool,
     pub(crate) is_tautology: bool,
+}
+
+impl Clause {
+    /// The code of no literal.
+    const NO_PIVOT: u32 = u32::MAX;
+
+    /// Its first literal as it was written; none in the empty clause.
+    pub(crate) fn pivot(&self) -> Option<Lit> {
+        Lit::from_code(self.pivot as usize)
+    }
 }
 
 /// All clauses.
@@ -84,8 +120,11 @@ impl Clauses {
         self.table.push(Clause {
             start,
             end,
-            pivot: lits.first().copied(),
-            next: None,
+            pivot: match lits.first() {
+                Some(lit) => lit.code() as u32,
+                None => Clause::NO_PIVOT,
+            },
+            next: ClauseLink::none(),
             is_core: false,
             is_active: true,
             is_watched: false,

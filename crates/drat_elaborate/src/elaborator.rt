@@ -106,10 +106,13 @@ impl Elaborator {
             self.backward
                 .undo_last(&mut self.forward.propagator, &mut self.forward.steps)?;
         }
-        if self.forward.steps.len() == 0 {
-            self.phase = Phase::Elaborated;
+        if self.forward.steps.len() > 0 {
+            return Ok(false);
         }
-        Ok(self.phase == Phase::Elaborated)
+        self.phase = Phase::Elaborated;
+        self.forward.propagator.end();
+        self.backward.end();
+        Ok(true)
     }
 
     /// The first call begins with the conflict.
@@ -124,6 +127,7 @@ impl Elaborator {
             });
         };
         self.phase = Phase::Checking;
+        self.forward.end();
         self.backward.begin(
             &mut self.forward.propagator,
             self.forward.formula_len,

@@ -1,6 +1,6 @@
 //! The forward pass: the formula and the steps are taken in, up to the first conflict by
 //! propagation.
-use crate::clauses::ClauseIndex;
+use crate::clauses::{ClauseIndex, ClauseLink};
 use crate::fault::ElaborateFault;
 use crate::lit_set::LitSet;
 use crate::lookup::{ClauseTable, Lookup};
@@ -13,6 +13,7 @@ use std::alloc::Global;
 /// What was taken in.
 #[derive(Drop)]
 pub(crate) struct Forward {
+    alloc: Global,
     pub(crate) propagator: Propagator,
     pub(crate) steps: Steps,
     /// So many clauses are of the formula.
@@ -31,6 +32,7 @@ pub(crate) struct Forward {
 impl Forward {
     pub(crate) fn new(alloc: Global) -> Forward {
         Forward {
+            alloc,
             propagator: Propagator::new(alloc),
             steps: Steps::new(alloc),
             formula_len: 0,
@@ -65,6 +67,13 @@ impl Forward {
         Ok(())
     }
 
+    /// Gives back the memory that is of use only while steps are read.
+    pub(crate) fn end(&mut self) {
+        self.table = ClauseTable::new(self.alloc);
+        self.lits = Vec::new(self.alloc);
+        self.set = LitSet::new(self.alloc);
+    }
+
     fn watch_formula_clause(&mut self, clause: ClauseIndex) -> Result<(), ElaborateFault> {
         let is_tautology = self.propagator.clauses.get(clause)?.is_tautology;
         if !is_tautology && self.propagator.clauses.lits(clause)?.len() >= 2 {
@@ -87,7 +96,7 @@ impl Forward {
         match self.propagator.trail.value(lit) {
             Value::True => {}
             Value::False => self.conflict = Some(clause),
-            Value::Free => self.propagator.trail.assign(lit, Some(clause))?,
+            Value::Free => { self.propagator.trail.assign(lit, ClauseLink::to(clause))? }
         }
         Ok(())
     }

@@ -88,7 +88,7 @@ impl Lines {
         clauses: &Clauses,
         clause: ClauseIndex,
     ) -> Result<(), ElaborateFault> {
-        let Some(pivot) = clauses.get(clause)?.pivot else {
+        let Some(pivot) = clauses.get(clause)?.pivot() else {
             return Ok(());
         };
         self.clause.push(pivot)?;

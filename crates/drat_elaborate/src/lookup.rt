@@ -1,5 +1,5 @@
 //! Clauses by their literals.
-use crate::clauses::{ClauseIndex, Clauses};
+use crate::clauses::{ClauseIndex, ClauseLink, Clauses};
 use crate::fault::ElaborateFault;
 use crate::lit_set::LitSet;
 use crate::propagator::Propagator;
@@ -20,7 +20,7 @@ pub(crate) enum Lookup {
 #[derive(Drop)]
 pub(crate) struct ClauseTable {
     /// The first clause of each bucket; the next one is told by the clause.
-    buckets: Vec<Option<ClauseIndex>>,
+    buckets: Vec<ClauseLink>,
 }
 
 impl ClauseTable {
@@ -53,7 +53,7 @@ impl ClauseTable {
             .saturating_mul(2)
             .max(ClauseTable::FIRST_SIZE);
         self.buckets.clear();
-        self.buckets.resize(size, None)
+        self.buckets.resize(size, ClauseLink::none())
     }
 
     /// Enters the clauses before one that are there.
@@ -75,7 +75,7 @@ impl ClauseTable {
         let hash = hash(clauses.lits(clause)?);
         let bucket = bucket_of(&mut self.buckets, hash)?;
         clauses.get_mut(clause)?.next = *bucket;
-        *bucket = Some(clause);
+        *bucket = ClauseLink::to(clause);
         Ok(())
     }
 
@@ -95,7 +95,7 @@ impl ClauseTable {
         let mut at = *bucket;
         let mut answer = Lookup::Missing;
         for _ in 0..propagator.clauses.len() {
-            let Some(clause) = at else {
+            let Some(clause) = at.get() else {
                 return Ok(answer);
             };
             at = propagator.clauses.get(clause)?.next;
@@ -116,10 +116,7 @@ impl ClauseTable {
 }
 
 /// The bucket of a hash.
-fn bucket_of(
-    buckets: &mut Vec<Option<ClauseIndex>>,
-    hash: u32,
-) -> Result<&mut Option<ClauseIndex>, ElaborateFault> {
+fn bucket_of(buckets: &mut Vec<ClauseLink>, hash: u32) -> Result<&mut ClauseLink, ElaborateFault> {
     let mask = buckets.len().wrapping_sub(1);
     buckets
         .get_mut(hash as usize & mask)

@@ -1,5 +1,5 @@
 //! Unit propagation over two watched literals, first in the clauses that are used.
-use crate::clauses::{ClauseIndex, Clauses};
+use crate::clauses::{ClauseIndex, ClauseLink, Clauses};
 use crate::fault::ElaborateFault;
 use crate::sweep::{Sweep, Sweeper, Until};
 use crate::trail::{Trail, Value};
@@ -10,6 +10,7 @@ use std::alloc::{AllocError, Global};
 /// The clauses with their watches, and the literals that are true.
 #[derive(Drop)]
 pub(crate) struct Propagator {
+    alloc: Global,
     pub(crate) clauses: Clauses,
     pub(crate) trail: Trail,
     core: Watches,
@@ -38,11 +39,19 @@ enum Progress {
 impl Propagator {
     pub(crate) fn new(alloc: Global) -> Propagator {
         Propagator {
+            alloc,
             clauses: Clauses::new(alloc),
             trail: Trail::new(alloc),
             core: Watches::new(alloc),
             rest: Watches::new(alloc),
         }
+    }
+
+    /// Gives back the memory of all but the clauses, when no more is propagated.
+    pub(crate) fn end(&mut self) {
+        self.trail = Trail::new(self.alloc);
+        self.core = Watches::new(self.alloc);
+        self.rest = Watches::new(self.alloc);
     }
 
     /// Makes room for the variable of a literal.
@@ -145,7 +154,7 @@ impl Propagator {
             Standing::False => Ok(Some(clause)),
             Standing::Unit(lit) => {
                 let end = self.trail.len();
-                self.trail.assign(lit, Some(clause))?;
+                self.trail.assign(lit, ClauseLink::to(clause))?;
                 self.propagate(end)
             }
             Standing::True | Standing::Open => Ok(None),

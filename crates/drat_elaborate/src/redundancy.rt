@@ -1,6 +1,6 @@
 //! The check that a clause is redundant by its first literal.
 use crate::check::{After, Assumed, Check};
-use crate::clauses::ClauseIndex;
+use crate::clauses::{ClauseIndex, ClauseLink};
 use crate::fault::ElaborateFault;
 use crate::occurrences::Occurrences;
 use crate::propagator::Propagator;
@@ -141,7 +141,7 @@ fn assume_negated(
         }
         check.by_group.insert(!*lit)?;
         if propagator.trail.value(*lit) == Value::Free {
-            propagator.trail.assign(!*lit, None)?;
+            propagator.trail.assign(!*lit, ClauseLink::none())?;
         }
     }
     Ok(())

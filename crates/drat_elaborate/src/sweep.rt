@@ -1,5 +1,5 @@
 //! One list of watches, gone through when its literal became false.
-use crate::clauses::{ClauseIndex, Clauses};
+use crate::clauses::{ClauseIndex, ClauseLink, Clauses};
 use crate::fault::ElaborateFault;
 use crate::trail::{Trail, Value};
 use crate::watches::{Watch, Watches};
@@ -82,7 +82,7 @@ impl Sweeper<'_> {
                     watches.swap_remove(at);
                 }
                 Found::Unit(lit) => {
-                    self.trail.assign(lit, Some(clause))?;
+                    self.trail.assign(lit, ClauseLink::to(clause))?;
                     at += 1;
                     if until == Until::Unit {
                         return Ok(Sweep::Unit(at));

@@ -1,5 +1,5 @@
 //! Which literals are true, in what order they became so, and why.
-use crate::clauses::{ClauseIndex, narrow};
+use crate::clauses::{ClauseIndex, ClauseLink, narrow};
 use crate::fault::ElaborateFault;
 use sat_formula::Lit;
 use std::alloc::{AllocError, Global};
@@ -16,7 +16,7 @@ pub(crate) enum Value {
 #[derive(Clone, Copy)]
 struct Cause {
     /// None where it is assumed.
-    reason: Option<ClauseIndex>,
+    reason: ClauseLink,
     place: u32,
 }
 
@@ -44,7 +44,7 @@ impl Trail {
         let count = lit.index() + 1;
         if self.causes.len() < count {
             let cause = Cause {
-                reason: None,
+                reason: ClauseLink::none(),
                 place: 0,
             };
             self.causes.resize(count, cause)?;
@@ -73,7 +73,7 @@ impl Trail {
 
     /// The clause that forced the variable of a literal.
     pub(crate) fn reason(&self, lit: Lit) -> Option<ClauseIndex> {
-        self.causes.get(lit.index())?.reason
+        self.causes.get(lit.index())?.reason.get()
     }
 
     /// The place of the variable of a literal that has a value.
@@ -85,11 +85,7 @@ impl Trail {
     }
 
     /// Makes a free literal true.
-    pub(crate) fn assign(
-        &mut self,
-        lit: Lit,
-        reason: Option<ClauseIndex>,
-    ) -> Result<(), ElaborateFault> {
+    pub(crate) fn assign(&mut self, lit: Lit, reason: ClauseLink) -> Result<(), ElaborateFault> {
         let place = narrow(self.lits.len())?;
         self.lits.push(lit)?;
         set_value(&mut self.values, lit, Value::True);
