@@ -1,6 +1,6 @@
 //! The clauses: their literals in one buffer, and what is known of each.
 use crate::fault::ElaborateFault;
-use sat_formula::Lit;
+use crate::local::LocalLit;
 use std::alloc::Global;
 
 /// The number of a clause. Those of the formula come first.
@@ -83,8 +83,12 @@ impl Clause {
     const NO_PIVOT: u32 = u32::MAX;
 
     /// Its first literal as it was written; none in the empty clause.
-    pub(crate) fn pivot(&self) -> Option<Lit> {
-        Lit::from_code(self.pivot as usize)
+    pub(crate) fn pivot(&self) -> Option<LocalLit> {
+        if self.pivot == Clause::NO_PIVOT {
+            None
+        } else {
+            Some(LocalLit::from_code(self.pivot))
+        }
     }
 }
 
@@ -92,7 +96,7 @@ impl Clause {
 #[derive(Drop)]
 pub(crate) struct Clauses {
     table: Vec<Clause>,
-    lits: Vec<Lit>,
+    lits: Vec<LocalLit>,
 }
 
 impl Clauses {
@@ -110,7 +114,7 @@ impl Clauses {
     /// Stores a clause, which is there from now on.
     pub(crate) fn push(
         &mut self,
-        lits: &[Lit],
+        lits: &[LocalLit],
         is_tautology: bool,
     ) -> Result<ClauseIndex, ElaborateFault> {
         let index = ClauseIndex::new(self.table.len())?;
@@ -121,7 +125,7 @@ impl Clauses {
             start,
             end,
             pivot: match lits.first() {
-                Some(lit) => lit.code() as u32,
+                Some(lit) => lit.code(),
                 None => Clause::NO_PIVOT,
             },
             next: ClauseLink::none(),
@@ -145,7 +149,7 @@ impl Clauses {
     }
 
     /// The literals of a clause, in the order in which they are watched.
-    pub(crate) fn lits(&self, clause: ClauseIndex) -> Result<&[Lit], ElaborateFault> {
+    pub(crate) fn lits(&self, clause: ClauseIndex) -> Result<&[LocalLit], ElaborateFault> {
         let found = self.get(clause)?;
         let (start, end) = (found.start as usize, found.end as usize);
         if start <= end && end <= self.lits.len() {
@@ -155,7 +159,10 @@ impl Clauses {
         }
     }
 
-    pub(crate) fn lits_mut(&mut self, clause: ClauseIndex) -> Result<&mut [Lit], ElaborateFault> {
+    pub(crate) fn lits_mut(
+        &mut self,
+        clause: ClauseIndex,
+    ) -> Result<&mut [LocalLit], ElaborateFault> {
         let found = self.get(clause)?;
         let (start, end) = (found.start as usize, found.end as usize);
         if start <= end && end <= self.lits.len() {

@@ -163,7 +163,7 @@ impl Elaborator {
         let Some(record) = self.backward.records.last()? else {
             return Ok(None);
         };
-        self.lines.read(clauses, &record)?;
+        self.lines.read(clauses, &self.forward.variables, &record)?;
         self.backward.records.pop();
         Ok(Some(LratLine::Add {
             id: self.lines.last_id,

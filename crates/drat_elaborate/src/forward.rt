@@ -3,10 +3,12 @@
 use crate::clauses::{ClauseIndex, ClauseLink};
 use crate::fault::ElaborateFault;
 use crate::lit_set::LitSet;
+use crate::local::LocalLit;
 use crate::lookup::{ClauseTable, Lookup};
 use crate::propagator::Propagator;
 use crate::steps::{Step, Steps};
 use crate::trail::Value;
+use crate::variables::Variables;
 use sat_formula::Lit;
 use std::alloc::Global;
 
@@ -14,6 +16,7 @@ use std::alloc::Global;
 #[derive(Drop)]
 pub(crate) struct Forward {
     alloc: Global,
+    pub(crate) variables: Variables,
     pub(crate) propagator: Propagator,
     pub(crate) steps: Steps,
     /// So many clauses are of the formula.
@@ -21,7 +24,7 @@ pub(crate) struct Forward {
     pub(crate) conflict: Option<ClauseIndex>,
     table: ClauseTable,
     /// The literals of the clause that is read, each once.
-    lits: Vec<Lit>,
+    lits: Vec<LocalLit>,
     set: LitSet,
     /// How many deletions met no clause.
     pub(crate) missing_deletions: u64,
@@ -33,6 +36,7 @@ impl Forward {
     pub(crate) fn new(alloc: Global) -> Forward {
         Forward {
             alloc,
+            variables: Variables::new(alloc),
             propagator: Propagator::new(alloc),
             steps: Steps::new(alloc),
             formula_len: 0,
@@ -69,6 +73,7 @@ impl Forward {
 
     /// Gives back the memory that is of use only while steps are read.
     pub(crate) fn end(&mut self) {
+        self.variables.end();
         self.table = ClauseTable::new(self.alloc);
         self.lits = Vec::new(self.alloc);
         self.set = LitSet::new(self.alloc);
@@ -158,14 +163,15 @@ impl Forward {
         self.lits.clear();
         let mut is_tautology = false;
         for lit in lits {
-            if self.set.contains(*lit) {
+            let lit = self.variables.local(*lit)?;
+            if self.set.contains(lit) {
                 continue;
             }
-            self.propagator.make_room(*lit)?;
-            self.set.insert(*lit)?;
-            self.lits.push(*lit)?;
-            is_tautology = is_tautology || self.set.contains(!*lit);
+            self.set.insert(lit)?;
+            self.lits.push(lit)?;
+            is_tautology = is_tautology || self.set.contains(!lit);
         }
+        self.propagator.make_room(self.variables.len())?;
         Ok(is_tautology)
     }
 }

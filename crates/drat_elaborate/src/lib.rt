@@ -12,6 +12,7 @@ mod fault;
 mod forward;
 mod lines;
 mod lit_set;
+mod local;
 mod lookup;
 mod occurrences;
 mod place_set;
@@ -23,6 +24,7 @@ mod sweep;
 #[cfg(test)]
 mod tests;
 mod trail;
+mod variables;
 mod watches;
 
 pub use elaborator::Elaborator;

@@ -2,8 +2,8 @@
 use crate::clauses::{ClauseIndex, ClauseLink, Clauses};
 use crate::fault::ElaborateFault;
 use crate::lit_set::LitSet;
+use crate::local::LocalLit;
 use crate::propagator::Propagator;
-use sat_formula::Lit;
 use std::alloc::{AllocError, Global};
 
 /// What a search for a clause came to.
@@ -84,7 +84,7 @@ impl ClauseTable {
     pub(crate) fn take(
         &mut self,
         propagator: &mut Propagator,
-        lits: &[Lit],
+        lits: &[LocalLit],
         set: &LitSet,
     ) -> Result<Lookup, ElaborateFault> {
         if self.buckets.is_empty() {
@@ -124,17 +124,17 @@ fn bucket_of(buckets: &mut Vec<ClauseLink>, hash: u32) -> Result<&mut ClauseLink
 }
 
 /// Whether a clause has just these literals.
-fn is_same(clause: &[Lit], lits: &[Lit], set: &LitSet) -> bool {
+fn is_same(clause: &[LocalLit], lits: &[LocalLit], set: &LitSet) -> bool {
     clause.len() == lits.len() && clause.iter().all(|lit| set.contains(*lit))
 }
 
 /// A hash in which the order of the literals doesn't matter.
-fn hash(lits: &[Lit]) -> u32 {
+fn hash(lits: &[LocalLit]) -> u32 {
     let mut sum = 0u32;
     let mut mixed = 0u32;
     let mut product = 1u32;
     for lit in lits {
-        let key = (lit.code() as u32 + 1).wrapping_mul(0x9E37_79B1);
+        let key = lit.code().wrapping_add(1).wrapping_mul(0x9E37_79B1);
         sum = sum.wrapping_add(key);
         mixed ^= key ^ (key >> 15);
         product = product.wrapping_mul(key | 1);

@@ -190,6 +190,20 @@ fn lemma_by_propagation(rt: HostRuntime) -> Result<(), Fail> {
     check(&rt, rt.alloc(), BY_PROPAGATION)
 }
 
+/// The four clauses over variables with large numbers, which the lines have as they are.
+const FAR: Row = (
+    "100000 268435456 0 100000 -268435456 0 -100000 268435456 0 -100000 -268435456 0",
+    "-268435456 7 0",
+    "100000 0",
+    "late clause: internal error; 1 added: 5 100000 0 1 2; d 2 1; 6 0 5 3 4; \
+     used 1 2 3 4; 1 missing, 0 kept",
+);
+
+#[test]
+fn large_variables(rt: HostRuntime) -> Result<(), Fail> {
+    check(&rt, rt.alloc(), FAR)
+}
+
 /// The first two lemmas don't follow. No clause has 4 when the first comes; the second is resolved
 /// with it, which propagation refutes.
 const REDUNDANT: Row = (
