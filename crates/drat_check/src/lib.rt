@@ -6,6 +6,7 @@
 
 mod fault;
 mod outputs;
+mod progress;
 mod proof;
 mod run;
 #[cfg(test)]

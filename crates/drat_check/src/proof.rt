@@ -3,42 +3,48 @@ ghost use Rattle.std.specs.Prelude.{◌≡◌, ◌≢◌, IfOk, OnOk};
 ghost use Rattle.drat_check.specs.Runs.{IsShown, IsUnsatisfiable};
 
 use crate::fault::ProofFault;
+use crate::progress::{CountedBytes, STEPS_A_REPORT, tell_checked, tell_read};
 use drat_elaborate::Elaborator;
 use drat_text::{DratReader, DratStep};
+use log::Log;
 use lrat_checker::{LineFault, LratChecker};
 use sat_formula::CnfFormula;
 use std::alloc::Global;
+use std::cell::Cell;
 use std::io::Read;
 use verdicts::Verdict;
 
 /// What a proof shows of a formula. `Verified` is answered where the checker of LRAT proofs has
 /// taken the empty clause.
-pub(crate) fn verdict_of<P: Read + Drop>(
+pub(crate) fn verdict_of<L: Log, P: Read + Drop>(
+    rt: &L,
     alloc: Global,
     formula: &CnfFormula,
     proof: P,
 ) -> Result<Verdict, ProofFault>
     ensures { IfOk result (λ verdict. IsShown formula.now verdict) }
 {
-    let mut elaborator = read_proof(alloc, formula, proof)?;
+    let mut elaborator = read_proof(rt, alloc, formula, proof)?;
     if !elaborator.is_refuted() {
         return Ok(Verdict::NotVerified);
     }
-    elaborator.elaborate()?;
+    elaborate(rt, &mut elaborator)?;
     check_lines(alloc, formula, &mut elaborator)?;
     Ok(Verdict::Verified)
 }
 
 /// Reads a formula and a proof into an elaborator, up to the first conflict.
-pub(crate) fn read_proof<P: Read + Drop>(
+pub(crate) fn read_proof<L: Log, P: Read + Drop>(
+    rt: &L,
     alloc: Global,
     formula: &CnfFormula,
     proof: P,
 ) -> Result<Elaborator, ProofFault> {
     let mut elaborator = begun(alloc, formula)?;
-    let mut reader = DratReader::new(alloc, proof);
+    let bytes = Cell::new(0);
+    let mut reader = DratReader::new(alloc, CountedBytes::new(proof, &bytes));
     // The steps are fewer: the reader counts its bytes in 64 bits.
-    for _ in 0..u64::MAX {
+    for step in 1..u64::MAX {
         if elaborator.is_refuted() {
             break;
         }
@@ -47,6 +53,7 @@ pub(crate) fn read_proof<P: Read + Drop>(
             Some(DratStep::Delete(lits)) => elaborator.delete_clause(lits)?,
             None => break,
         }
+        tell_read(rt, step, &bytes);
     }
     Ok(elaborator)
 }
@@ -59,6 +66,18 @@ fn begun(alloc: Global, formula: &CnfFormula) -> Result<Elaborator, ProofFault> 
     }
     elaborator.begin_proof()?;
     Ok(elaborator)
+}
+
+/// Checks backward what the conflict needs.
+pub(crate) fn elaborate<L: Log>(rt: &L, elaborator: &mut Elaborator) -> Result<(), ProofFault> {
+    // Each call but the last goes over steps, of which there are fewer.
+    for _ in 0..u64::MAX {
+        if elaborator.elaborate(STEPS_A_REPORT)? {
+            break;
+        }
+        tell_checked(rt, elaborator);
+    }
+    Ok(())
 }
 
 /// Hands the elaborated lines to a checker that holds the formula, up to the empty clause.

@@ -9,6 +9,7 @@ ghost use Rattle.verdicts.specs.declared.verdict.Verdict.TheVariants.{Verified};
 
 use crate::fault::RunFault;
 use crate::proof::verdict_of;
+use log::Log;
 use sat_formula::{CnfFormula, read_formula};
 use std::alloc::Global;
 use std::io::{Read, Write};
@@ -18,7 +19,8 @@ use verdicts::{Verdict, write_line};
 ///
 /// The proof is read only once the formula was read whole. What is written is as for `run_proof`;
 /// nothing is where the formula can't be read.
-pub fn run_check<F: Read + Drop, P: Read + Drop, W: Write>(
+pub fn run_check<L: Log, F: Read + Drop, P: Read + Drop, W: Write>(
+    rt: &L,
     alloc: Global,
     cnf: F,
     proof: P,
@@ -34,7 +36,7 @@ pub fn run_check<F: Read + Drop, P: Read + Drop, W: Write>(
         → result ≡ Ok Verified → IsRefuted text }
 {
     match read_formula(alloc, cnf) {
-        Ok(formula) => run_proof(alloc, &formula, proof, out),
+        Ok(formula) => run_proof(rt, alloc, &formula, proof, out),
         Err(fault) => Err(RunFault::Formula(fault)),
     }
 }
@@ -45,7 +47,8 @@ pub fn run_check<F: Read + Drop, P: Read + Drop, W: Write>(
 /// ends without one. Nothing is written where a step can't be read, or where one that the conflict
 /// needs is not right. Where the verdict's line can't be written whole, the verdict stood, and a
 /// beginning of the line is written.
-pub fn run_proof<P: Read + Drop, W: Write>(
+pub fn run_proof<L: Log, P: Read + Drop, W: Write>(
+    rt: &L,
     alloc: Global,
     formula: &CnfFormula,
     proof: P,
@@ -59,7 +62,7 @@ pub fn run_proof<P: Read + Drop, W: Write>(
         (W.contents out.old) (W.contents out.new) }
     ensures refutes { result ≡ Ok Verified → (a : ℕ → Bool) → all_true a formula.now ≡ false }
 {
-    let verdict = match verdict_of(alloc, formula, proof) {
+    let verdict = match verdict_of(rt, alloc, formula, proof) {
         Ok(verdict) => verdict,
         Err(fault) => return Err(RunFault::Proof(fault)),
     };

@@ -1,6 +1,7 @@
 //! Runs with their verdicts, lines and statuses, texts of faults, and reads and writes that fail.
 use crate::fault::RunFault;
 use crate::run::run_check;
+use log::sink::Discard;
 use std::alloc::Global;
 use std::io;
 use std::io::{ErrorKind, Read, Write};
@@ -64,7 +65,7 @@ fn check<F: Read + Drop, P: Read + Drop>(
     (text, status): Outcome,
 ) -> Result<(), Fail> {
     let mut out = Vec::new(alloc);
-    let answer = run_check(alloc, cnf, proof, &mut out);
+    let answer = run_check(&Discard, alloc, cnf, proof, &mut out);
     assert_eq!(rt; exit_status(&answer), status, "{text}");
     match answer {
         Ok(_) => assert_eq!(rt; out.as_slice(), text.as_bytes()),
@@ -154,7 +155,7 @@ fn reads_and_writes_that_fail(rt: HostRuntime) -> Result<(), Fail> {
     let fault = ("proof: error reading proof: broken", 1);
     check(&rt, rt.alloc(), FOUR, Broken { bytes: b"1 0\n" }, VERIFIED)?;
     check(&rt, rt.alloc(), FOUR, Broken { bytes: b"1 2 0\n1" }, fault)?;
-    let answer = run_check(rt.alloc(), FOUR, b"1 0\n".as_slice(), &mut Full);
+    let answer = run_check(&Discard, rt.alloc(), FOUR, b"1 0\n".as_slice(), &mut Full);
     assert_eq!(&rt; matches!(answer, Err(RunFault::Write(_))), true);
     assert_eq!(&rt; exit_status(&answer), 1);
     Ok(())

@@ -8,9 +8,10 @@ ghost use Rattle.drat_check.specs.Runs.{BeginsLine, BeginsLineAfter};
 ghost use Rattle.verdicts.specs.Verdicts.{shown_line};
 ghost use Rattle.verdicts.specs.declared.verdict.Verdict.TheVariants.{Verified};
 
-use crate::fault::{OutputFault, ProofFault, RunFault};
+use crate::fault::{OutputFault, RunFault};
 use crate::outputs::{write_core, write_lines};
-use crate::proof::read_proof;
+use crate::proof::{elaborate, read_proof};
+use log::Log;
 use sat_formula::{CnfFormula, read_formula};
 use std::alloc::Global;
 use std::io::{Read, Write};
@@ -20,7 +21,8 @@ use verdicts::{Verdict, write_line};
 /// there is a writer for it.
 ///
 /// What is written is as for `run_proof_with_outputs`; nothing is where the formula can't be read.
-pub fn run_check_with_outputs<F: Read + Drop, P: Read + Drop, W: Write, L: Write, C: Write>(
+pub fn run_check_with_outputs<R: Log, F: Read + Drop, P: Read + Drop, W: Write, L: Write, C: Write>(
+    rt: &R,
     alloc: Global,
     cnf: F,
     proof: P,
@@ -41,7 +43,7 @@ pub fn run_check_with_outputs<F: Read + Drop, P: Read + Drop, W: Write, L: Write
         → result ≡ Ok Verified → IsRefuted text }
 {
     match read_formula(alloc, cnf) {
-        Ok(formula) => run_proof_with_outputs(alloc, &formula, proof, out, lrat, core),
+        Ok(formula) => run_proof_with_outputs(rt, alloc, &formula, proof, out, lrat, core),
         Err(fault) => Err(OutputFault::Run(RunFault::Formula(fault))),
     }
 }
@@ -54,7 +56,8 @@ pub fn run_check_with_outputs<F: Read + Drop, P: Read + Drop, W: Write, L: Write
 /// verdict's line. Where the proof shows nothing, and where it is refused before a line is made,
 /// the two are not written. A write that fails ends the run: nothing of what comes later is
 /// written.
-pub fn run_proof_with_outputs<P: Read + Drop, W: Write, L: Write, C: Write>(
+pub fn run_proof_with_outputs<R: Log, P: Read + Drop, W: Write, L: Write, C: Write>(
+    rt: &R,
     alloc: Global,
     formula: &CnfFormula,
     proof: P,
@@ -72,7 +75,7 @@ pub fn run_proof_with_outputs<P: Read + Drop, W: Write, L: Write, C: Write>(
         lrat.old lrat.new core.old core.new result }
     ensures refutes { result ≡ Ok Verified → (a : ℕ → Bool) → all_true a formula.now ≡ false }
 {
-    let verdict = match verdict_with(alloc, formula, proof, lrat, core) {
+    let verdict = match verdict_with(rt, alloc, formula, proof, lrat, core) {
         Ok(verdict) => verdict,
         Err(fault) => return Err(fault),
     };
@@ -83,7 +86,8 @@ pub fn run_proof_with_outputs<P: Read + Drop, W: Write, L: Write, C: Write>(
 }
 
 /// What a proof shows of a formula, once the lines and the used clauses are written.
-fn verdict_with<P: Read + Drop, L: Write, C: Write>(
+fn verdict_with<R: Log, P: Read + Drop, L: Write, C: Write>(
+    rt: &R,
     alloc: Global,
     formula: &CnfFormula,
     proof: P,
@@ -95,15 +99,15 @@ fn verdict_with<P: Read + Drop, L: Write, C: Write>(
     ensures outputs { WritesOutputs formula.now L.contents C.contents
         lrat.old lrat.new core.old core.new result }
 {
-    let mut elaborator = match read_proof(alloc, formula, proof) {
+    let mut elaborator = match read_proof(rt, alloc, formula, proof) {
         Ok(elaborator) => elaborator,
         Err(fault) => return Err(OutputFault::from(fault)),
     };
     if !elaborator.is_refuted() {
         return Ok(Verdict::NotVerified);
     }
-    if let Err(fault) = elaborator.elaborate() {
-        return Err(OutputFault::from(ProofFault::from(fault)));
+    if let Err(fault) = elaborate(rt, &mut elaborator) {
+        return Err(OutputFault::from(fault));
     }
     if let Err(fault) = write_lines(alloc, formula, &mut elaborator, lrat) {
         return Err(fault);

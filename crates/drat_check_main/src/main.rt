@@ -5,7 +5,8 @@
 //! `--core` the clauses of the formula that they use.
 //! `--example` checks a small fixed example, `--help` says how the program is called, and
 //! `--version` of which version it is. The name `-` of a file that is read stands for standard
-//! input.
+//! input. What `RUST_LOG` asks for, as `RUST_LOG=info`, is logged to standard error; else nothing
+//! is.
 #![tactic(auto)]
 
 use command::{
@@ -13,6 +14,7 @@ use command::{
     say_drat_proof, say_formula, usage, version, warn_of_header,
 };
 use drat_check::{OutputFault, RunFault, Verdict, exit_status, run_check, run_check_with_outputs};
+use progress::logged;
 use std::fmt::Display;
 use std::fs::File;
 use std::io::BufWriter;
@@ -107,7 +109,8 @@ fn check_files(rt: &HostRuntime, cnf_name: &str, proof_name: &str) -> u8 {
         return NOT_RUN;
     };
     let mut cnf = CountingReader::new(cnf.file);
-    let outcome = run_check(rt.alloc(), &mut cnf, proof.file, &mut io::writer(rt));
+    let log = logged(rt);
+    let outcome = run_check(&log, rt.alloc(), &mut cnf, proof.file, &mut io::writer(rt));
     let status = report(rt, &outcome);
     match outcome {
         Err(RunFault::Formula(_)) => {
@@ -138,7 +141,9 @@ fn check_with_outputs(
         return NOT_RUN;
     };
     let mut cnf = CountingReader::new(cnf.file);
+    let log = logged(rt);
     let outcome = run_check_with_outputs(
+        &log,
         rt.alloc(),
         &mut cnf,
         proof.file,
@@ -204,6 +209,7 @@ fn buffered(rt: &HostRuntime, file: File) -> Option<BufWriter<File>> {
 
 fn check_example(rt: &HostRuntime) -> u8 {
     let outcome = run_check(
+        &logged(rt),
         rt.alloc(),
         EXAMPLE_FORMULA,
         EXAMPLE_PROOF,

@@ -1,12 +1,12 @@
 //! The check of one clause by propagation, and the walk back from its conflict.
-use crate::clauses::ClauseIndex;
+use crate::clauses::{ClauseIndex, ClauseLink};
 use crate::fault::ElaborateFault;
 use crate::lit_set::LitSet;
+use crate::local::LocalLit;
 use crate::place_set::PlaceSet;
 use crate::propagator::Propagator;
 use crate::records::PackedHint;
 use crate::trail::Value;
-use sat_formula::Lit;
 use std::alloc::Global;
 
 /// Which literals are true by assumption, besides the negated literals of the clause.
@@ -84,7 +84,7 @@ impl Check {
         let end = propagator.trail.len();
         for lit in propagator.clauses.lits(clause)? {
             if propagator.trail.value(*lit) == Value::Free {
-                propagator.trail.assign(!*lit, None)?;
+                propagator.trail.assign(!*lit, ClauseLink::none())?;
             }
         }
         propagator.propagate(end)
@@ -148,7 +148,11 @@ impl Check {
     }
 
     /// The place of the variable of a literal is wanted.
-    pub(crate) fn want(&mut self, propagator: &Propagator, lit: Lit) -> Result<(), ElaborateFault> {
+    pub(crate) fn want(
+        &mut self,
+        propagator: &Propagator,
+        lit: LocalLit,
+    ) -> Result<(), ElaborateFault> {
         let place = propagator.trail.place(lit)?;
         self.wanted.insert(place)?;
         Ok(())
@@ -160,7 +164,7 @@ impl Check {
         &mut self,
         propagator: &Propagator,
         clause: ClauseIndex,
-        besides: Option<Lit>,
+        besides: Option<LocalLit>,
         assumed: Assumed,
     ) -> Result<(), ElaborateFault> {
         for lit in propagator.clauses.lits(clause)? {
@@ -172,7 +176,7 @@ impl Check {
     }
 
     #[inline(always)]
-    fn is_assumed(&self, lit: Lit, assumed: Assumed) -> bool {
+    fn is_assumed(&self, lit: LocalLit, assumed: Assumed) -> bool {
         self.by_clause.contains(lit) || (assumed == Assumed::Group && self.by_group.contains(lit))
     }
 

@@ -1,6 +1,6 @@
 //! The clauses: their literals in one buffer, and what is known of each.
 use crate::fault::ElaborateFault;
-use sat_formula::Lit;
+use crate::local::LocalLit;
 use std::alloc::Global;
 
 /// The number of a clause. Those of the formula come first.
@@ -34,15 +34,41 @@ impl ClauseIndex {
     }
 }
 
+/// A clause or none, in four bytes.
+#[derive(Clone, Copy)]
+pub(crate) struct ClauseLink(u32);
+
+impl ClauseLink {
+    /// No clause has this number.
+    const NONE: u32 = u32::MAX;
+
+    pub(crate) fn none() -> ClauseLink {
+        ClauseLink(ClauseLink::NONE)
+    }
+
+    pub(crate) fn to(clause: ClauseIndex) -> ClauseLink {
+        ClauseLink(clause.0)
+    }
+
+    #[inline(always)]
+    pub(crate) fn get(self) -> Option<ClauseIndex> {
+        if self.0 == ClauseLink::NONE {
+            None
+        } else {
+            Some(ClauseIndex(self.0))
+        }
+    }
+}
+
 /// What is known of a clause besides its literals.
 #[derive(Clone, Copy)]
 pub(crate) struct Clause {
     start: u32,
     end: u32,
-    /// Its first literal as it was written; none in the empty clause.
-    pub(crate) pivot: Option<Lit>,
+    /// The code of the pivot; that of no literal in the empty clause.
+    pivot: u32,
     /// The next clause of the same bucket.
-    pub(crate) next: Option<ClauseIndex>,
+    pub(crate) next: ClauseLink,
     /// It is used by the conflict or by a clause that is.
     pub(crate) is_core: bool,
     /// It is there at the step where the elaborator stands.
@@ -52,11 +78,25 @@ pub(crate) struct Clause {
     pub(crate) is_tautology: bool,
 }
 
+impl Clause {
+    /// The code of no literal.
+    const NO_PIVOT: u32 = u32::MAX;
+
+    /// Its first literal as it was written; none in the empty clause.
+    pub(crate) fn pivot(&self) -> Option<LocalLit> {
+        if self.pivot == Clause::NO_PIVOT {
+            None
+        } else {
+            Some(LocalLit::from_code(self.pivot))
+        }
+    }
+}
+
 /// All clauses.
 #[derive(Drop)]
 pub(crate) struct Clauses {
     table: Vec<Clause>,
-    lits: Vec<Lit>,
+    lits: Vec<LocalLit>,
 }
 
 impl Clauses {
@@ -74,7 +114,7 @@ impl Clauses {
     /// Stores a clause, which is there from now on.
     pub(crate) fn push(
         &mut self,
-        lits: &[Lit],
+        lits: &[LocalLit],
         is_tautology: bool,
     ) -> Result<ClauseIndex, ElaborateFault> {
         let index = ClauseIndex::new(self.table.len())?;
@@ -84,8 +124,11 @@ impl Clauses {
         self.table.push(Clause {
             start,
             end,
-            pivot: lits.first().copied(),
-            next: None,
+            pivot: match lits.first() {
+                Some(lit) => lit.code(),
+                None => Clause::NO_PIVOT,
+            },
+            next: ClauseLink::none(),
             is_core: false,
             is_active: true,
             is_watched: false,
@@ -106,7 +149,7 @@ impl Clauses {
     }
 
     /// The literals of a clause, in the order in which they are watched.
-    pub(crate) fn lits(&self, clause: ClauseIndex) -> Result<&[Lit], ElaborateFault> {
+    pub(crate) fn lits(&self, clause: ClauseIndex) -> Result<&[LocalLit], ElaborateFault> {
         let found = self.get(clause)?;
         let (start, end) = (found.start as usize, found.end as usize);
         if start <= end && end <= self.lits.len() {
@@ -116,7 +159,10 @@ impl Clauses {
         }
     }
 
-    pub(crate) fn lits_mut(&mut self, clause: ClauseIndex) -> Result<&mut [Lit], ElaborateFault> {
+    pub(crate) fn lits_mut(
+        &mut self,
+        clause: ClauseIndex,
+    ) -> Result<&mut [LocalLit], ElaborateFault> {
         let found = self.get(clause)?;
         let (start, end) = (found.start as usize, found.end as usize);
         if start <= end && end <= self.lits.len() {

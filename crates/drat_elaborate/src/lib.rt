@@ -4,22 +4,27 @@
 //! whatever they are.
 #![tactic(auto)]
 
+mod backward;
 mod check;
 mod clauses;
 mod elaborator;
 mod fault;
+mod forward;
 mod lines;
 mod lit_set;
+mod local;
 mod lookup;
 mod occurrences;
 mod place_set;
 mod propagator;
 mod records;
 mod redundancy;
+mod steps;
 mod sweep;
 #[cfg(test)]
 mod tests;
 mod trail;
+mod variables;
 mod watches;
 
 pub use elaborator::Elaborator;

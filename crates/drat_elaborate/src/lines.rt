@@ -2,6 +2,7 @@
 use crate::clauses::{ClauseIndex, Clauses, narrow};
 use crate::fault::ElaborateFault;
 use crate::records::{PackedHint, RecordView};
+use crate::variables::Variables;
 use lrat_text::Hint;
 use sat_formula::Lit;
 use std::alloc::Global;
@@ -66,13 +67,14 @@ impl Lines {
     pub(crate) fn read(
         &mut self,
         clauses: &Clauses,
+        variables: &Variables,
         record: &RecordView<'_>,
     ) -> Result<(), ElaborateFault> {
         self.read_hints(record.hints)?;
         self.clause.clear();
         match record.clause {
             Some(clause) => {
-                self.read_clause(clauses, clause)?;
+                self.read_clause(clauses, variables, clause)?;
                 self.name(clause)?;
             }
             None => self.last_id = self.last_id.saturating_add(1),
@@ -86,15 +88,16 @@ impl Lines {
     fn read_clause(
         &mut self,
         clauses: &Clauses,
+        variables: &Variables,
         clause: ClauseIndex,
     ) -> Result<(), ElaborateFault> {
-        let Some(pivot) = clauses.get(clause)?.pivot else {
+        let Some(pivot) = clauses.get(clause)?.pivot() else {
             return Ok(());
         };
-        self.clause.push(pivot)?;
+        self.clause.push(variables.named(pivot)?)?;
         for lit in clauses.lits(clause)? {
             if *lit != pivot {
-                self.clause.push(*lit)?;
+                self.clause.push(variables.named(*lit)?)?;
             }
         }
         Ok(())

@@ -1,6 +1,6 @@
 //! Sets of literals that are emptied in one step.
 use crate::fault::ElaborateFault;
-use sat_formula::Lit;
+use crate::local::LocalLit;
 use std::alloc::Global;
 
 /// A set of literals.
@@ -24,15 +24,15 @@ impl LitSet {
         Ok(())
     }
 
-    pub(crate) fn contains(&self, lit: Lit) -> bool {
-        self.stamps.get(lit.code()).copied().unwrap_or(0) == self.now
+    pub(crate) fn contains(&self, lit: LocalLit) -> bool {
+        self.stamps.get(lit.place()).copied().unwrap_or(0) == self.now
     }
 
-    pub(crate) fn insert(&mut self, lit: Lit) -> Result<(), ElaborateFault> {
-        if self.stamps.len() <= lit.code() {
-            self.stamps.resize(lit.code() + 1, 0)?;
+    pub(crate) fn insert(&mut self, lit: LocalLit) -> Result<(), ElaborateFault> {
+        if self.stamps.len() <= lit.place() {
+            self.stamps.resize(lit.place() + 1, 0)?;
         }
-        self.stamps[lit.code()] = self.now;
+        self.stamps[lit.place()] = self.now;
         Ok(())
     }
 }

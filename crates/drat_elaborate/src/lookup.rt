@@ -1,9 +1,9 @@
 //! Clauses by their literals.
-use crate::clauses::{ClauseIndex, Clauses};
+use crate::clauses::{ClauseIndex, ClauseLink, Clauses};
 use crate::fault::ElaborateFault;
 use crate::lit_set::LitSet;
+use crate::local::LocalLit;
 use crate::propagator::Propagator;
-use sat_formula::Lit;
 use std::alloc::{AllocError, Global};
 
 /// What a search for a clause came to.
@@ -20,7 +20,7 @@ pub(crate) enum Lookup {
 #[derive(Drop)]
 pub(crate) struct ClauseTable {
     /// The first clause of each bucket; the next one is told by the clause.
-    buckets: Vec<Option<ClauseIndex>>,
+    buckets: Vec<ClauseLink>,
 }
 
 impl ClauseTable {
@@ -53,7 +53,7 @@ impl ClauseTable {
             .saturating_mul(2)
             .max(ClauseTable::FIRST_SIZE);
         self.buckets.clear();
-        self.buckets.resize(size, None)
+        self.buckets.resize(size, ClauseLink::none())
     }
 
     /// Enters the clauses before one that are there.
@@ -75,7 +75,7 @@ impl ClauseTable {
         let hash = hash(clauses.lits(clause)?);
         let bucket = bucket_of(&mut self.buckets, hash)?;
         clauses.get_mut(clause)?.next = *bucket;
-        *bucket = Some(clause);
+        *bucket = ClauseLink::to(clause);
         Ok(())
     }
 
@@ -84,7 +84,7 @@ impl ClauseTable {
     pub(crate) fn take(
         &mut self,
         propagator: &mut Propagator,
-        lits: &[Lit],
+        lits: &[LocalLit],
         set: &LitSet,
     ) -> Result<Lookup, ElaborateFault> {
         if self.buckets.is_empty() {
@@ -95,7 +95,7 @@ impl ClauseTable {
         let mut at = *bucket;
         let mut answer = Lookup::Missing;
         for _ in 0..propagator.clauses.len() {
-            let Some(clause) = at else {
+            let Some(clause) = at.get() else {
                 return Ok(answer);
             };
             at = propagator.clauses.get(clause)?.next;
@@ -116,10 +116,7 @@ impl ClauseTable {
 }
 
 /// The bucket of a hash.
-fn bucket_of(
-    buckets: &mut Vec<Option<ClauseIndex>>,
-    hash: u32,
-) -> Result<&mut Option<ClauseIndex>, ElaborateFault> {
+fn bucket_of(buckets: &mut Vec<ClauseLink>, hash: u32) -> Result<&mut ClauseLink, ElaborateFault> {
     let mask = buckets.len().wrapping_sub(1);
     buckets
         .get_mut(hash as usize & mask)
@@ -127,17 +124,17 @@ fn bucket_of(
 }
 
 /// Whether a clause has just these literals.
-fn is_same(clause: &[Lit], lits: &[Lit], set: &LitSet) -> bool {
+fn is_same(clause: &[LocalLit], lits: &[LocalLit], set: &LitSet) -> bool {
     clause.len() == lits.len() && clause.iter().all(|lit| set.contains(*lit))
 }
 
 /// A hash in which the order of the literals doesn't matter.
-fn hash(lits: &[Lit]) -> u32 {
+fn hash(lits: &[LocalLit]) -> u32 {
     let mut sum = 0u32;
     let mut mixed = 0u32;
     let mut product = 1u32;
     for lit in lits {
-        let key = (lit.code() as u32 + 1).wrapping_mul(0x9E37_79B1);
+        let key = lit.code().wrapping_add(1).wrapping_mul(0x9E37_79B1);
         sum = sum.wrapping_add(key);
         mixed ^= key ^ (key >> 15);
         product = product.wrapping_mul(key | 1);

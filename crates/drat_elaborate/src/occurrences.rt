@@ -1,7 +1,7 @@
 //! In which clauses each literal stands.
 use crate::clauses::{ClauseIndex, Clauses};
 use crate::fault::ElaborateFault;
-use sat_formula::Lit;
+use crate::local::LocalLit;
 use std::alloc::Global;
 
 /// For each literal the clauses that it stands in, among those before a certain one.
@@ -38,9 +38,9 @@ impl Occurrences {
     }
 
     /// The clauses that a literal stands in.
-    pub(crate) fn of(&self, lit: Lit) -> &[ClauseIndex] {
-        let start = self.starts.get(lit.code()).copied().unwrap_or(0);
-        let end = self.starts.get(lit.code() + 1).copied().unwrap_or(0);
+    pub(crate) fn of(&self, lit: LocalLit) -> &[ClauseIndex] {
+        let start = self.starts.get(lit.place()).copied().unwrap_or(0);
+        let end = self.starts.get(lit.place() + 1).copied().unwrap_or(0);
         if start <= end && end <= self.clauses.len() {
             &self.clauses[start..end]
         } else {
@@ -59,7 +59,7 @@ fn count(
         return Ok(());
     }
     for lit in clauses.lits(clause)? {
-        if let Some(count) = counts.get_mut(lit.code()) {
+        if let Some(count) = counts.get_mut(lit.place()) {
             *count = count.saturating_add(1);
         }
     }
@@ -87,7 +87,7 @@ fn place(
         return Ok(());
     }
     for lit in clauses.lits(clause)? {
-        if let Some(start) = starts.get_mut(lit.code()) {
+        if let Some(start) = starts.get_mut(lit.place()) {
             *start = start.saturating_sub(1);
             if let Some(place) = found.get_mut(*start) {
                 *place = clause;

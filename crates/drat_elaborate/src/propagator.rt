@@ -1,15 +1,16 @@
 //! Unit propagation over two watched literals, first in the clauses that are used.
-use crate::clauses::{ClauseIndex, Clauses};
+use crate::clauses::{ClauseIndex, ClauseLink, Clauses};
 use crate::fault::ElaborateFault;
+use crate::local::LocalLit;
 use crate::sweep::{Sweep, Sweeper, Until};
 use crate::trail::{Trail, Value};
 use crate::watches::{Watch, Watches};
-use sat_formula::Lit;
 use std::alloc::{AllocError, Global};
 
 /// The clauses with their watches, and the literals that are true.
 #[derive(Drop)]
 pub(crate) struct Propagator {
+    alloc: Global,
     pub(crate) clauses: Clauses,
     pub(crate) trail: Trail,
     core: Watches,
@@ -38,6 +39,7 @@ enum Progress {
 impl Propagator {
     pub(crate) fn new(alloc: Global) -> Propagator {
         Propagator {
+            alloc,
             clauses: Clauses::new(alloc),
             trail: Trail::new(alloc),
             core: Watches::new(alloc),
@@ -45,11 +47,21 @@ impl Propagator {
         }
     }
 
-    /// Makes room for the variable of a literal.
-    pub(crate) fn make_room(&mut self, lit: Lit) -> Result<(), AllocError> {
-        self.trail.make_room(lit)?;
-        self.core.make_room(lit)?;
-        self.rest.make_room(lit)
+    /// Gives back the memory of all but the clauses, when no more is propagated.
+    pub(crate) fn end(&mut self) {
+        self.trail = Trail::new(self.alloc);
+        self.core = Watches::new(self.alloc);
+        self.rest = Watches::new(self.alloc);
+    }
+
+    /// Makes room for so many variables.
+    pub(crate) fn make_room(&mut self, count: usize) -> Result<(), AllocError> {
+        if self.trail.lit_count() / 2 >= count {
+            return Ok(());
+        }
+        self.trail.make_room(count)?;
+        self.core.make_room(count)?;
+        self.rest.make_room(count)
     }
 
     /// Watches the first two literals of a clause.
@@ -88,7 +100,7 @@ impl Propagator {
         lists.remove(second, clause)
     }
 
-    fn watched(&self, clause: ClauseIndex) -> Result<(Lit, Lit), ElaborateFault> {
+    fn watched(&self, clause: ClauseIndex) -> Result<(LocalLit, LocalLit), ElaborateFault> {
         let lits = self.clauses.lits(clause)?;
         if lits.len() < 2 {
             return Err(ElaborateFault::Internal);
@@ -145,7 +157,7 @@ impl Propagator {
             Standing::False => Ok(Some(clause)),
             Standing::Unit(lit) => {
                 let end = self.trail.len();
-                self.trail.assign(lit, Some(clause))?;
+                self.trail.assign(lit, ClauseLink::to(clause))?;
                 self.propagate(end)
             }
             Standing::True | Standing::Open => Ok(None),
@@ -183,7 +195,7 @@ impl Propagator {
     }
 
     /// Goes through all the used clauses that watch a literal.
-    fn advance_core(&mut self, falsified: Lit) -> Result<Progress, ElaborateFault> {
+    fn advance_core(&mut self, falsified: LocalLit) -> Result<Progress, ElaborateFault> {
         let mut watches = self.core.take(falsified)?;
         let mut sweeper = Sweeper {
             clauses: &mut self.clauses,
@@ -202,7 +214,7 @@ impl Propagator {
     /// Goes through the other clauses that watch a literal, up to the first that is unit.
     fn advance_rest(
         &mut self,
-        falsified: Lit,
+        falsified: LocalLit,
         heads: &mut Heads,
     ) -> Result<Progress, ElaborateFault> {
         let mut watches = self.rest.take(falsified)?;
@@ -234,12 +246,12 @@ impl Propagator {
 enum Standing {
     True,
     False,
-    Unit(Lit),
+    Unit(LocalLit),
     Open,
 }
 
 impl Standing {
-    fn of(lits: &[Lit], trail: &Trail) -> Standing {
+    fn of(lits: &[LocalLit], trail: &Trail) -> Standing {
         let Some(first) = lits.first().copied() else {
             return Standing::False;
         };
@@ -255,7 +267,7 @@ impl Standing {
 }
 
 /// Puts the two literals first that are best to be watched.
-fn choose_watches(lits: &mut [Lit], trail: &Trail) {
+fn choose_watches(lits: &mut [LocalLit], trail: &Trail) {
     for place in 0..2 {
         let best = best_from(lits, place, trail);
         if place < lits.len() && best < lits.len() {
@@ -265,7 +277,7 @@ fn choose_watches(lits: &mut [Lit], trail: &Trail) {
 }
 
 /// The place of the best literal from a place on.
-fn best_from(lits: &[Lit], first: usize, trail: &Trail) -> usize {
+fn best_from(lits: &[LocalLit], first: usize, trail: &Trail) -> usize {
     let mut best = first;
     let mut best_rank = 0;
     for (place, lit) in lits.iter().enumerate().skip(first) {

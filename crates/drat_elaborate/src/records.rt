@@ -1,5 +1,5 @@
 //! What was found of each checked clause, kept until the lines are asked for.
-use crate::clauses::{ClauseIndex, narrow};
+use crate::clauses::{ClauseIndex, ClauseLink, narrow};
 use crate::fault::ElaborateFault;
 use lrat_text::Hint;
 use std::alloc::Global;
@@ -35,7 +35,7 @@ impl PackedHint {
 #[derive(Clone, Copy)]
 struct Record {
     /// None for the empty clause that ends the proof.
-    clause: Option<ClauseIndex>,
+    clause: ClauseLink,
     hints: u32,
     dying: u32,
 }
@@ -68,7 +68,7 @@ impl Records {
 
     pub(crate) fn push(
         &mut self,
-        clause: Option<ClauseIndex>,
+        clause: ClauseLink,
         leading: &[ClauseIndex],
         groups: &[PackedHint],
         dying: &[ClauseIndex],
@@ -95,7 +95,7 @@ impl Records {
         let dying = self.dying.get(record.dying as usize..);
         match (hints, dying) {
             (Some(hints), Some(dying)) => Ok(Some(RecordView {
-                clause: record.clause,
+                clause: record.clause.get(),
                 hints,
                 dying,
             })),

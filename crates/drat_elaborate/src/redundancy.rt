@@ -1,12 +1,12 @@
 //! The check that a clause is redundant by its first literal.
 use crate::check::{After, Assumed, Check};
-use crate::clauses::ClauseIndex;
+use crate::clauses::{ClauseIndex, ClauseLink};
 use crate::fault::ElaborateFault;
+use crate::local::LocalLit;
 use crate::occurrences::Occurrences;
 use crate::propagator::Propagator;
 use crate::records::PackedHint;
 use crate::trail::Value;
-use sat_formula::Lit;
 use std::alloc::Global;
 
 /// Whether a clause is redundant by its pivot. Its negated literals are assumed and propagated
@@ -20,7 +20,7 @@ pub(crate) fn is_redundant(
     check: &mut Check,
     occurrences: &Occurrences,
     clause: ClauseIndex,
-    pivot: Lit,
+    pivot: LocalLit,
 ) -> Result<bool, ElaborateFault> {
     let mut candidates = candidates(alloc, propagator, occurrences, clause, pivot)?;
     let mut seen = check.fresh.len();
@@ -48,7 +48,7 @@ fn candidates(
     propagator: &Propagator,
     occurrences: &Occurrences,
     clause: ClauseIndex,
-    pivot: Lit,
+    pivot: LocalLit,
 ) -> Result<Vec<ClauseIndex>, ElaborateFault> {
     let mut candidates = Vec::new(alloc);
     for found in occurrences.of(!pivot) {
@@ -64,7 +64,7 @@ fn add_fresh(
     propagator: &Propagator,
     check: &Check,
     seen: usize,
-    pivot: Lit,
+    pivot: LocalLit,
     candidates: &mut Vec<ClauseIndex>,
 ) -> Result<(), ElaborateFault> {
     for fresh in check.fresh.iter().skip(seen) {
@@ -81,7 +81,7 @@ fn meet(
     propagator: &mut Propagator,
     check: &mut Check,
     candidate: ClauseIndex,
-    pivot: Lit,
+    pivot: LocalLit,
 ) -> Result<bool, ElaborateFault> {
     check.groups.push(PackedHint::against(candidate))?;
     if let Some(lit) = best_true(propagator, check, candidate, pivot)? {
@@ -106,8 +106,8 @@ fn best_true(
     propagator: &Propagator,
     check: &Check,
     candidate: ClauseIndex,
-    pivot: Lit,
-) -> Result<Option<Lit>, ElaborateFault> {
+    pivot: LocalLit,
+) -> Result<Option<LocalLit>, ElaborateFault> {
     let mut best = None;
     for lit in propagator.clauses.lits(candidate)? {
         if *lit == !pivot || propagator.trail.value(*lit) != Value::True {
@@ -132,7 +132,7 @@ fn assume_negated(
     propagator: &mut Propagator,
     check: &mut Check,
     candidate: ClauseIndex,
-    pivot: Lit,
+    pivot: LocalLit,
 ) -> Result<(), ElaborateFault> {
     check.by_group.clear()?;
     for lit in propagator.clauses.lits(candidate)? {
@@ -141,7 +141,7 @@ fn assume_negated(
         }
         check.by_group.insert(!*lit)?;
         if propagator.trail.value(*lit) == Value::Free {
-            propagator.trail.assign(!*lit, None)?;
+            propagator.trail.assign(!*lit, ClauseLink::none())?;
         }
     }
     Ok(())

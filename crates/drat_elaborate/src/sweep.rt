@@ -1,9 +1,9 @@
 //! One list of watches, gone through when its literal became false.
-use crate::clauses::{ClauseIndex, Clauses};
+use crate::clauses::{ClauseIndex, ClauseLink, Clauses};
 use crate::fault::ElaborateFault;
+use crate::local::LocalLit;
 use crate::trail::{Trail, Value};
 use crate::watches::{Watch, Watches};
-use sat_formula::Lit;
 
 /// Where a list is left.
 #[derive(Clone, Copy, PartialEq, Eq)]
@@ -25,10 +25,10 @@ pub(crate) enum Sweep {
 #[derive(Clone, Copy)]
 enum Found {
     /// This literal of it is true.
-    True(Lit),
+    True(LocalLit),
     /// The first literal watches it instead; the second is the other one that does.
-    Moved(Lit, Lit),
-    Unit(Lit),
+    Moved(LocalLit, LocalLit),
+    Unit(LocalLit),
     Conflict,
 }
 
@@ -39,7 +39,7 @@ pub(crate) struct Sweeper<'a> {
     pub(crate) trail: &'a mut Trail,
     /// The lists that the clauses move to.
     pub(crate) lists: &'a mut Watches,
-    pub(crate) falsified: Lit,
+    pub(crate) falsified: LocalLit,
 }
 
 impl Sweeper<'_> {
@@ -82,7 +82,7 @@ impl Sweeper<'_> {
                     watches.swap_remove(at);
                 }
                 Found::Unit(lit) => {
-                    self.trail.assign(lit, Some(clause))?;
+                    self.trail.assign(lit, ClauseLink::to(clause))?;
                     at += 1;
                     if until == Until::Unit {
                         return Ok(Sweep::Unit(at));
@@ -98,7 +98,11 @@ impl Sweeper<'_> {
 /// Looks for a literal of a clause that is not false, to be watched in place of one that became
 /// false.
 #[inline(always)]
-fn look(lits: &mut [Lit], falsified: Lit, trail: &Trail) -> Result<Found, ElaborateFault> {
+fn look(
+    lits: &mut [LocalLit],
+    falsified: LocalLit,
+    trail: &Trail,
+) -> Result<Found, ElaborateFault> {
     if lits.len() < 2 {
         return Err(ElaborateFault::Internal);
     }

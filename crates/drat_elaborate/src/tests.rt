@@ -114,7 +114,7 @@ fn tell_use(text: &mut String, elaborator: &Elaborator) -> Result<(), Fail> {
 
 /// Tells what is elaborated.
 fn tell_proof(text: &mut String, elaborator: &mut Elaborator) -> Result<(), Fail> {
-    match elaborator.elaborate() {
+    match elaborate(elaborator) {
         Ok(()) => {
             tell_lines(text, elaborator)?;
             tell_use(text, elaborator)
@@ -124,6 +124,16 @@ fn tell_proof(text: &mut String, elaborator: &mut Elaborator) -> Result<(), Fail
             Ok(())
         }
     }
+}
+
+/// Goes over all steps, two in a call.
+fn elaborate(elaborator: &mut Elaborator) -> Result<(), ElaborateFault> {
+    for _ in 0..20 {
+        if elaborator.elaborate(2)? {
+            break;
+        }
+    }
+    Ok(())
 }
 
 /// Tells all of a row. What comes out of order is refused, or says nothing: the lines before they
@@ -178,6 +188,20 @@ const BY_PROPAGATION: Row = (
 #[test]
 fn lemma_by_propagation(rt: HostRuntime) -> Result<(), Fail> {
     check(&rt, rt.alloc(), BY_PROPAGATION)
+}
+
+/// The four clauses over variables with large numbers, which the lines have as they are.
+const FAR: Row = (
+    "100000 268435456 0 100000 -268435456 0 -100000 268435456 0 -100000 -268435456 0",
+    "-268435456 7 0",
+    "100000 0",
+    "late clause: internal error; 1 added: 5 100000 0 1 2; d 2 1; 6 0 5 3 4; \
+     used 1 2 3 4; 1 missing, 0 kept",
+);
+
+#[test]
+fn large_variables(rt: HostRuntime) -> Result<(), Fail> {
+    check(&rt, rt.alloc(), FAR)
 }
 
 /// The first two lemmas don't follow. No clause has 4 when the first comes; the second is resolved

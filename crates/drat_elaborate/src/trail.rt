@@ -1,7 +1,7 @@
 //! Which literals are true, in what order they became so, and why.
-use crate::clauses::{ClauseIndex, narrow};
+use crate::clauses::{ClauseIndex, ClauseLink, narrow};
 use crate::fault::ElaborateFault;
-use sat_formula::Lit;
+use crate::local::LocalLit;
 use std::alloc::{AllocError, Global};
 
 /// What is known of a literal.
@@ -16,7 +16,7 @@ pub(crate) enum Value {
 #[derive(Clone, Copy)]
 struct Cause {
     /// None where it is assumed.
-    reason: Option<ClauseIndex>,
+    reason: ClauseLink,
     place: u32,
 }
 
@@ -27,7 +27,7 @@ pub(crate) struct Trail {
     values: Vec<Value>,
     /// By index of the variable; of use only where it has a value.
     causes: Vec<Cause>,
-    lits: Vec<Lit>,
+    lits: Vec<LocalLit>,
 }
 
 impl Trail {
@@ -39,18 +39,14 @@ impl Trail {
         }
     }
 
-    /// Makes room for the variable of a literal.
-    pub(crate) fn make_room(&mut self, lit: Lit) -> Result<(), AllocError> {
-        let count = lit.index() + 1;
-        if self.causes.len() < count {
-            let cause = Cause {
-                reason: None,
-                place: 0,
-            };
-            self.causes.resize(count, cause)?;
-            self.values.resize(2 * count, Value::Free)?;
-        }
-        Ok(())
+    /// Makes room for so many variables, of which there were fewer.
+    pub(crate) fn make_room(&mut self, count: usize) -> Result<(), AllocError> {
+        let cause = Cause {
+            reason: ClauseLink::none(),
+            place: 0,
+        };
+        self.causes.resize(count, cause)?;
+        self.values.resize(count.saturating_mul(2), Value::Free)
     }
 
     pub(crate) fn len(&self) -> usize {
@@ -62,23 +58,23 @@ impl Trail {
         self.values.len()
     }
 
-    pub(crate) fn get(&self, place: usize) -> Option<Lit> {
+    pub(crate) fn get(&self, place: usize) -> Option<LocalLit> {
         self.lits.get(place).copied()
     }
 
     #[inline(always)]
-    pub(crate) fn value(&self, lit: Lit) -> Value {
-        self.values.get(lit.code()).copied().unwrap_or(Value::Free)
+    pub(crate) fn value(&self, lit: LocalLit) -> Value {
+        self.values.get(lit.place()).copied().unwrap_or(Value::Free)
     }
 
     /// The clause that forced the variable of a literal.
-    pub(crate) fn reason(&self, lit: Lit) -> Option<ClauseIndex> {
-        self.causes.get(lit.index())?.reason
+    pub(crate) fn reason(&self, lit: LocalLit) -> Option<ClauseIndex> {
+        self.causes.get(lit.variable())?.reason.get()
     }
 
     /// The place of the variable of a literal that has a value.
-    pub(crate) fn place(&self, lit: Lit) -> Result<usize, ElaborateFault> {
-        match self.causes.get(lit.index()) {
+    pub(crate) fn place(&self, lit: LocalLit) -> Result<usize, ElaborateFault> {
+        match self.causes.get(lit.variable()) {
             Some(cause) => Ok(cause.place as usize),
             None => Err(ElaborateFault::Internal),
         }
@@ -87,14 +83,14 @@ impl Trail {
     /// Makes a free literal true.
     pub(crate) fn assign(
         &mut self,
-        lit: Lit,
-        reason: Option<ClauseIndex>,
+        lit: LocalLit,
+        reason: ClauseLink,
     ) -> Result<(), ElaborateFault> {
         let place = narrow(self.lits.len())?;
         self.lits.push(lit)?;
         set_value(&mut self.values, lit, Value::True);
         set_value(&mut self.values, !lit, Value::False);
-        match self.causes.get_mut(lit.index()) {
+        match self.causes.get_mut(lit.variable()) {
             Some(cause) => *cause = Cause { reason, place },
             None => return Err(ElaborateFault::Internal),
         }
@@ -112,8 +108,8 @@ impl Trail {
 
     /// How good a literal is to be watched: one that has been true longest is best, then a free
     /// one, then one that became false late.
-    pub(crate) fn rank(&self, lit: Lit) -> u64 {
-        let place = match self.causes.get(lit.index()) {
+    pub(crate) fn rank(&self, lit: LocalLit) -> u64 {
+        let place = match self.causes.get(lit.variable()) {
             Some(cause) => cause.place,
             None => 0,
         };
@@ -126,8 +122,8 @@ impl Trail {
 }
 
 #[inline(always)]
-fn set_value(values: &mut Vec<Value>, lit: Lit, value: Value) {
-    if let Some(found) = values.get_mut(lit.code()) {
+fn set_value(values: &mut Vec<Value>, lit: LocalLit, value: Value) {
+    if let Some(found) = values.get_mut(lit.place()) {
         *found = value;
     }
 }

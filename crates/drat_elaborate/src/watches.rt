@@ -1,7 +1,7 @@
 //! The lists of watches.
 use crate::clauses::ClauseIndex;
 use crate::fault::ElaborateFault;
-use sat_formula::Lit;
+use crate::local::LocalLit;
 use std::alloc::{AllocError, Global};
 use std::mem;
 
@@ -9,7 +9,7 @@ use std::mem;
 #[derive(Clone, Copy)]
 pub(crate) struct Watch {
     pub(crate) clause: ClauseIndex,
-    pub(crate) blocker: Lit,
+    pub(crate) blocker: LocalLit,
 }
 
 /// For each literal the clauses that watch it.
@@ -27,17 +27,17 @@ impl Watches {
         }
     }
 
-    /// Makes room for the variable of a literal.
-    pub(crate) fn make_room(&mut self, lit: Lit) -> Result<(), AllocError> {
-        for _ in self.lists.len()..2 * lit.index() + 2 {
+    /// Makes room for so many variables.
+    pub(crate) fn make_room(&mut self, count: usize) -> Result<(), AllocError> {
+        for _ in self.lists.len()..count.saturating_mul(2) {
             self.lists.push(Vec::new(self.alloc))?;
         }
         Ok(())
     }
 
     #[inline(always)]
-    pub(crate) fn push(&mut self, lit: Lit, watch: Watch) -> Result<(), ElaborateFault> {
-        match self.lists.get_mut(lit.code()) {
+    pub(crate) fn push(&mut self, lit: LocalLit, watch: Watch) -> Result<(), ElaborateFault> {
+        match self.lists.get_mut(lit.place()) {
             Some(list) => list.push(watch)?,
             None => return Err(ElaborateFault::Internal),
         }
@@ -45,24 +45,28 @@ impl Watches {
     }
 
     /// Takes a clause out of the list of a literal.
-    pub(crate) fn remove(&mut self, lit: Lit, clause: ClauseIndex) -> Result<(), ElaborateFault> {
-        match self.lists.get_mut(lit.code()) {
+    pub(crate) fn remove(
+        &mut self,
+        lit: LocalLit,
+        clause: ClauseIndex,
+    ) -> Result<(), ElaborateFault> {
+        match self.lists.get_mut(lit.place()) {
             Some(list) => remove_from(list, clause),
             None => Err(ElaborateFault::Internal),
         }
     }
 
     /// Takes the list of a literal away, until it is put back.
-    pub(crate) fn take(&mut self, lit: Lit) -> Result<Vec<Watch>, ElaborateFault> {
-        match self.lists.get_mut(lit.code()) {
+    pub(crate) fn take(&mut self, lit: LocalLit) -> Result<Vec<Watch>, ElaborateFault> {
+        match self.lists.get_mut(lit.place()) {
             Some(list) => Ok(mem::replace(list, Vec::new(self.alloc))),
             None => Err(ElaborateFault::Internal),
         }
     }
 
     /// Puts the list of a literal back.
-    pub(crate) fn put(&mut self, lit: Lit, watches: Vec<Watch>) {
-        if let Some(list) = self.lists.get_mut(lit.code()) {
+    pub(crate) fn put(&mut self, lit: LocalLit, watches: Vec<Watch>) {
+        if let Some(list) = self.lists.get_mut(lit.place()) {
             *list = watches;
         }
     }

@@ -3,6 +3,7 @@
 //!
 //! `--example` checks a small fixed example, `--help` says how the program is called, and
 //! `--version` of which version it is. The name `-` stands for standard input.
+//! What `RUST_LOG` asks for, as `RUST_LOG=info`, is logged to standard error; else nothing is.
 #![tactic(auto)]
 
 use command::{
@@ -10,6 +11,7 @@ use command::{
     warn_of_header,
 };
 use lrat_check::{RunFault, Verdict, exit_status, run_check};
+use progress::{LoggedLines, logged};
 use std::process::ExitCode;
 use std::{env, io};
 
@@ -52,7 +54,9 @@ fn check_files(rt: &HostRuntime, cnf_name: &str, proof_name: &str) -> u8 {
         return NOT_RUN;
     };
     let mut cnf = CountingReader::new(cnf.file);
-    let outcome = run_check(rt.alloc(), &mut cnf, proof.file, &mut io::writer(rt));
+    let log = logged(rt);
+    let proof = LoggedLines::new(&log, proof.file);
+    let outcome = run_check(rt.alloc(), &mut cnf, proof, &mut io::writer(rt));
     let status = report(rt, &outcome);
     match outcome {
         Err(RunFault::Formula(_)) => {

@@ -12,9 +12,7 @@ use command::{
     CountingReader, Input, NOT_RUN, create_output, help, open_input, refuse, say_formula,
     say_proof, usage, version, warn_of_header,
 };
-use log::Logged;
-use log::filter::{Builder, FilteredLog};
-use log::sink::Console;
+use progress::logged;
 use sat_formula::Lit;
 use sat_hints::LratWriter;
 use std::fs::File;
@@ -129,16 +127,6 @@ fn check_example(rt: &HostRuntime) -> u8 {
         &mut io::writer(rt),
     );
     report(rt, &outcome)
-}
-
-/// A runtime with the log that the environment asks for. Where there is no memory to read what that
-/// is, it asks for nothing.
-fn logged(rt: &HostRuntime) -> Logged<&HostRuntime, FilteredLog<Console<&HostRuntime>>> {
-    let filter = match Builder::from_env(rt, "RUST_LOG") {
-        Ok(builder) => builder.build(),
-        Err(_) => Builder::new(rt.alloc()).build(),
-    };
-    Logged::new(rt, filter.filter(), FilteredLog::new(Console(rt), filter))
 }
 
 /// Says why there is no verdict and of which file that is, warns of a header that lies, and gives

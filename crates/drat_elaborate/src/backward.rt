@@ -1,0 +1,170 @@
+//! The backward pass: what the conflict needs is checked, the last step first.
+use crate::check::Check;
+use crate::clauses::{ClauseIndex, ClauseLink, Clauses};
+use crate::fault::ElaborateFault;
+use crate::occurrences::Occurrences;
+use crate::propagator::Propagator;
+use crate::records::Records;
+use crate::redundancy::is_redundant;
+use crate::steps::{Step, Steps};
+use std::alloc::Global;
+
+/// What the pass works with, and what it found.
+#[derive(Drop)]
+pub(crate) struct Backward {
+    alloc: Global,
+    check: Check,
+    /// Where literals stand, once a clause is checked that does not follow.
+    occurrences: Option<Occurrences>,
+    pub(crate) records: Records,
+    /// How many clauses were checked.
+    pub(crate) checked: u64,
+}
+
+impl Backward {
+    pub(crate) fn new(alloc: Global) -> Backward {
+        Backward {
+            alloc,
+            check: Check::new(alloc),
+            occurrences: None,
+            records: Records::new(alloc),
+            checked: 0,
+        }
+    }
+
+    /// The line of the empty clause. Where the proof adds it itself, it is checked as a step.
+    pub(crate) fn begin(
+        &mut self,
+        propagator: &mut Propagator,
+        formula_len: usize,
+        conflict: ClauseIndex,
+    ) -> Result<(), ElaborateFault> {
+        let is_empty = propagator.clauses.lits(conflict)?.is_empty();
+        if is_empty && conflict.get() >= formula_len {
+            propagator.clauses.get_mut(conflict)?.is_core = true;
+            return Ok(());
+        }
+        self.check.start()?;
+        self.check.explain(propagator, conflict)?;
+        self.record(ClauseLink::none())
+    }
+
+    /// Gives back the memory that is of use only while clauses are checked.
+    pub(crate) fn end(&mut self) {
+        self.check = Check::new(self.alloc);
+        self.occurrences = None;
+    }
+
+    /// Goes back over the last of the steps, which is taken off. Nothing where there is none.
+    pub(crate) fn undo_last(
+        &mut self,
+        propagator: &mut Propagator,
+        steps: &mut Steps,
+    ) -> Result<(), ElaborateFault> {
+        match steps.pop() {
+            Some(Step::Add(clause)) => self.undo_addition(propagator, steps, clause),
+            Some(Step::Delete(clause)) => undo_deletion(propagator, clause),
+            Some(Step::Nothing) | None => Ok(()),
+        }
+    }
+
+    /// The clause that the last step added is not there any more, and the trail is as it was before
+    /// it. Where the clause is used, it is checked.
+    fn undo_addition(
+        &mut self,
+        propagator: &mut Propagator,
+        steps: &mut Steps,
+        clause: ClauseIndex,
+    ) -> Result<(), ElaborateFault> {
+        if let Some(len) = steps.pop_growth() {
+            propagator.trail.cut(len);
+        }
+        if propagator.clauses.get(clause)?.is_watched {
+            propagator.unwatch(clause)?;
+        }
+        propagator.clauses.get_mut(clause)?.is_active = false;
+        if !propagator.clauses.get(clause)?.is_core {
+            return Ok(());
+        }
+        if !self.check_clause(propagator, clause)? {
+            let step = (steps.len() as u64).saturating_add(1);
+            return Err(ElaborateFault::NotRedundant { step });
+        }
+        self.checked = self.checked.saturating_add(1);
+        self.record(ClauseLink::to(clause))
+    }
+
+    /// Whether a clause follows, or is redundant by its pivot. The hints are left in the check.
+    fn check_clause(
+        &mut self,
+        propagator: &mut Propagator,
+        clause: ClauseIndex,
+    ) -> Result<bool, ElaborateFault> {
+        self.check.start()?;
+        let end = propagator.trail.len();
+        let is_accepted = match self.check.refute(propagator, clause)? {
+            Some(conflict) => {
+                self.check.explain(propagator, conflict)?;
+                true
+            }
+            None => self.check_redundant(propagator, clause)?,
+        };
+        propagator.trail.cut(end);
+        Ok(is_accepted)
+    }
+
+    fn check_redundant(
+        &mut self,
+        propagator: &mut Propagator,
+        clause: ClauseIndex,
+    ) -> Result<bool, ElaborateFault> {
+        let Some(pivot) = propagator.clauses.get(clause)?.pivot() else {
+            return Ok(false);
+        };
+        let lit_count = propagator.trail.lit_count();
+        self.collect(&propagator.clauses, clause, lit_count)?;
+        match &self.occurrences {
+            Some(occurrences) => is_redundant(
+                self.alloc,
+                propagator,
+                &mut self.check,
+                occurrences,
+                clause,
+                pivot,
+            ),
+            None => Err(ElaborateFault::Internal),
+        }
+    }
+
+    /// The occurrences in the clauses before one, where none were collected before.
+    fn collect(
+        &mut self,
+        clauses: &Clauses,
+        clause: ClauseIndex,
+        lit_count: usize,
+    ) -> Result<(), ElaborateFault> {
+        if self.occurrences.is_none() {
+            self.occurrences = Some(Occurrences::collect(self.alloc, clauses, clause, lit_count)?);
+        }
+        Ok(())
+    }
+
+    /// Keeps what the check found.
+    fn record(&mut self, clause: ClauseLink) -> Result<(), ElaborateFault> {
+        self.records.push(
+            clause,
+            &self.check.leading,
+            &self.check.groups,
+            &self.check.fresh,
+        )
+    }
+}
+
+/// A clause that was deleted is there again.
+fn undo_deletion(propagator: &mut Propagator, clause: ClauseIndex) -> Result<(), ElaborateFault> {
+    propagator.clauses.get_mut(clause)?.is_active = true;
+    if propagator.clauses.get(clause)?.is_watched {
+        propagator.watch(clause)?;
+    }
+    Ok(())
+}

@@ -1,0 +1,177 @@
+//! The forward pass: the formula and the steps are taken in, up to the first conflict by
+//! propagation.
+use crate::clauses::{ClauseIndex, ClauseLink};
+use crate::fault::ElaborateFault;
+use crate::lit_set::LitSet;
+use crate::local::LocalLit;
+use crate::lookup::{ClauseTable, Lookup};
+use crate::propagator::Propagator;
+use crate::steps::{Step, Steps};
+use crate::trail::Value;
+use crate::variables::Variables;
+use sat_formula::Lit;
+use std::alloc::Global;
+
+/// What was taken in.
+#[derive(Drop)]
+pub(crate) struct Forward {
+    alloc: Global,
+    pub(crate) variables: Variables,
+    pub(crate) propagator: Propagator,
+    pub(crate) steps: Steps,
+    /// So many clauses are of the formula.
+    pub(crate) formula_len: usize,
+    pub(crate) conflict: Option<ClauseIndex>,
+    table: ClauseTable,
+    /// The literals of the clause that is read, each once.
+    lits: Vec<LocalLit>,
+    set: LitSet,
+    /// How many deletions met no clause.
+    pub(crate) missing_deletions: u64,
+    /// How many deletions met only clauses that force a literal.
+    pub(crate) kept_reasons: u64,
+}
+
+impl Forward {
+    pub(crate) fn new(alloc: Global) -> Forward {
+        Forward {
+            alloc,
+            variables: Variables::new(alloc),
+            propagator: Propagator::new(alloc),
+            steps: Steps::new(alloc),
+            formula_len: 0,
+            conflict: None,
+            table: ClauseTable::new(alloc),
+            lits: Vec::new(alloc),
+            set: LitSet::new(alloc),
+            missing_deletions: 0,
+            kept_reasons: 0,
+        }
+    }
+
+    pub(crate) fn add_clause(&mut self, lits: &[Lit]) -> Result<(), ElaborateFault> {
+        self.store(lits)?;
+        self.formula_len = self.propagator.clauses.len();
+        Ok(())
+    }
+
+    /// Watches the clauses of the formula, and propagates its units.
+    pub(crate) fn begin(&mut self) -> Result<(), ElaborateFault> {
+        for index in 0..self.formula_len {
+            self.watch_formula_clause(ClauseIndex::new(index)?)?;
+        }
+        for index in 0..self.formula_len {
+            if self.conflict.is_none() {
+                self.assign_formula_unit(ClauseIndex::new(index)?)?;
+            }
+        }
+        if self.conflict.is_none() {
+            self.conflict = self.propagator.propagate(0)?;
+        }
+        Ok(())
+    }
+
+    /// Gives back the memory that is of use only while steps are read.
+    pub(crate) fn end(&mut self) {
+        self.variables.end();
+        self.table = ClauseTable::new(self.alloc);
+        self.lits = Vec::new(self.alloc);
+        self.set = LitSet::new(self.alloc);
+    }
+
+    fn watch_formula_clause(&mut self, clause: ClauseIndex) -> Result<(), ElaborateFault> {
+        let is_tautology = self.propagator.clauses.get(clause)?.is_tautology;
+        if !is_tautology && self.propagator.clauses.lits(clause)?.len() >= 2 {
+            self.propagator.watch(clause)?;
+            self.propagator.clauses.get_mut(clause)?.is_watched = true;
+        }
+        Ok(())
+    }
+
+    /// Makes the literal of a unit clause true. An empty clause is a conflict.
+    fn assign_formula_unit(&mut self, clause: ClauseIndex) -> Result<(), ElaborateFault> {
+        let lits = self.propagator.clauses.lits(clause)?;
+        if lits.len() >= 2 {
+            return Ok(());
+        }
+        let Some(lit) = lits.first().copied() else {
+            self.conflict = Some(clause);
+            return Ok(());
+        };
+        match self.propagator.trail.value(lit) {
+            Value::True => {}
+            Value::False => self.conflict = Some(clause),
+            Value::Free => { self.propagator.trail.assign(lit, ClauseLink::to(clause))? }
+        }
+        Ok(())
+    }
+
+    /// Takes in a clause that the proof adds.
+    pub(crate) fn add_lemma(&mut self, lits: &[Lit]) -> Result<(), ElaborateFault> {
+        let clause = self.store(lits)?;
+        self.steps.push(Step::Add(clause))?;
+        let len = self.propagator.trail.len();
+        self.conflict = self.propagator.attach(clause)?;
+        if self.propagator.trail.len() > len {
+            self.steps.push_growth(len)?;
+        }
+        Ok(())
+    }
+
+    /// Takes in a deletion.
+    pub(crate) fn delete_clause(&mut self, lits: &[Lit]) -> Result<(), ElaborateFault> {
+        self.normalize(lits)?;
+        match self
+            .table
+            .take(&mut self.propagator, &self.lits, &self.set)?
+        {
+            Lookup::Found(clause) => self.remove(clause)?,
+            Lookup::Reason => {
+                self.steps.push(Step::Nothing)?;
+                self.kept_reasons = self.kept_reasons.saturating_add(1);
+            }
+            Lookup::Missing => {
+                self.steps.push(Step::Nothing)?;
+                self.missing_deletions = self.missing_deletions.saturating_add(1);
+            }
+        }
+        Ok(())
+    }
+
+    /// A clause that forces nothing goes.
+    fn remove(&mut self, clause: ClauseIndex) -> Result<(), ElaborateFault> {
+        self.steps.push(Step::Delete(clause))?;
+        self.propagator.clauses.get_mut(clause)?.is_active = false;
+        if self.propagator.clauses.get(clause)?.is_watched {
+            self.propagator.unwatch(clause)?;
+        }
+        Ok(())
+    }
+
+    /// Stores a clause, each literal once.
+    fn store(&mut self, lits: &[Lit]) -> Result<ClauseIndex, ElaborateFault> {
+        let is_tautology = self.normalize(lits)?;
+        let clauses = &mut self.propagator.clauses;
+        let clause = clauses.push(&self.lits, is_tautology)?;
+        self.table.enter_new(clauses, clause)?;
+        Ok(clause)
+    }
+
+    /// Reads a clause, each literal once. The answer is whether it is a tautology.
+    fn normalize(&mut self, lits: &[Lit]) -> Result<bool, ElaborateFault> {
+        self.set.clear()?;
+        self.lits.clear();
+        let mut is_tautology = false;
+        for lit in lits {
+            let lit = self.variables.local(*lit)?;
+            if self.set.contains(lit) {
+                continue;
+            }
+            self.set.insert(lit)?;
+            self.lits.push(lit)?;
+            is_tautology = is_tautology || self.set.contains(!lit);
+        }
+        self.propagator.make_room(self.variables.len())?;
+        Ok(is_tautology)
+    }
+}

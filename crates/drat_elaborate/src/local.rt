@@ -1,0 +1,55 @@
+//! Literals over the variables as they are numbered here.
+ghost use Rattle.std.specs.Prelude.{◌<◌, ◌^◌};
+
+use std::ops::Not;
+
+/// A literal: twice the number of its variable here, and 1 more where it is negative.
+#[derive(Clone, Copy, PartialEq, Eq)]
+pub(crate) struct LocalLit(u32);
+
+impl LocalLit {
+    /// The literal of a variable, of which there are fewer than 2 ^ 31.
+    #[inline(always)]
+    pub(crate) fn new(variable: u32, is_negative: bool) -> LocalLit {
+        LocalLit(variable.wrapping_mul(2) | is_negative as u32)
+    }
+
+    /// The literal of a code that was given by `code`.
+    pub(crate) fn from_code(code: u32) -> LocalLit {
+        LocalLit(code)
+    }
+
+    #[inline(always)]
+    pub(crate) fn code(self) -> u32 {
+        self.0
+    }
+
+    /// The place of the literal in lists of all literals.
+    #[inline(always)]
+    pub(crate) fn place(self) -> usize
+        ensures { result < 2 ^ 32 }
+    {
+        self.0 as usize
+    }
+
+    /// The number of the variable.
+    #[inline(always)]
+    pub(crate) fn variable(self) -> usize
+        ensures { result < 2 ^ 31 }
+    {
+        (self.0 / 2) as usize
+    }
+
+    pub(crate) fn is_negative(self) -> bool {
+        self.0 % 2 == 1
+    }
+}
+
+impl Not for LocalLit {
+    type Output = LocalLit;
+
+    #[inline(always)]
+    fn not(self) -> LocalLit {
+        LocalLit(self.0 ^ 1)
+    }
+}
