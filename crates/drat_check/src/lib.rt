@@ -1,4 +1,4 @@
-//! Whether a DRAT proof shows a formula to be unsatisfiable, said in one line.
+//! Whether a DRAT or FRAT proof shows a formula to be unsatisfiable, said in one line.
 //!
 //! The proof is turned into lines of an LRAT proof by a part that nobody has to trust, and each
 //! line goes to the checker of LRAT proofs. The verdict is that checker's.
@@ -8,12 +8,14 @@ mod fault;
 mod outputs;
 mod progress;
 mod proof;
+mod reader;
 mod run;
 #[cfg(test)]
 mod tests;
 mod with_outputs;
 
 pub use fault::{OutputFault, ProofFault, RunFault};
+pub use reader::ProofFormat;
 pub use run::{run_check, run_proof};
 pub use verdicts::{Verdict, exit_status};
 pub use with_outputs::{run_check_with_outputs, run_proof_with_outputs};

@@ -4,8 +4,8 @@ ghost use Rattle.drat_check.specs.Runs.{IsShown, IsUnsatisfiable};
 
 use crate::fault::ProofFault;
 use crate::progress::{CountedBytes, STEPS_A_REPORT, tell_checked, tell_read};
+use crate::reader::{ProofFormat, ProofReader};
 use drat_elaborate::Elaborator;
-use drat_text::{DratReader, DratStep};
 use log::Log;
 use lrat_checker::{LineFault, LratChecker};
 use sat_formula::CnfFormula;
@@ -21,10 +21,11 @@ pub(crate) fn verdict_of<L: Log, P: Read + Drop>(
     alloc: Global,
     formula: &CnfFormula,
     proof: P,
+    format: ProofFormat,
 ) -> Result<Verdict, ProofFault>
     ensures { IfOk result (λ verdict. IsShown formula.now verdict) }
 {
-    let mut elaborator = read_proof(rt, alloc, formula, proof)?;
+    let mut elaborator = read_proof(rt, alloc, formula, proof, format)?;
     if !elaborator.is_refuted() {
         return Ok(Verdict::NotVerified);
     }
@@ -39,19 +40,15 @@ pub(crate) fn read_proof<L: Log, P: Read + Drop>(
     alloc: Global,
     formula: &CnfFormula,
     proof: P,
+    format: ProofFormat,
 ) -> Result<Elaborator, ProofFault> {
     let mut elaborator = begun(alloc, formula)?;
     let bytes = Cell::new(0);
-    let mut reader = DratReader::new(alloc, CountedBytes::new(proof, &bytes));
+    let mut reader = ProofReader::new(alloc, CountedBytes::new(proof, &bytes), format)?;
     // The steps are fewer: the reader counts its bytes in 64 bits.
     for step in 1..u64::MAX {
-        if elaborator.is_refuted() {
+        if elaborator.is_refuted() || !reader.hand_step(&mut elaborator)? {
             break;
-        }
-        match reader.next_step()? {
-            Some(DratStep::Add(lits)) => elaborator.add_lemma(lits)?,
-            Some(DratStep::Delete(lits)) => elaborator.delete_clause(lits)?,
-            None => break,
         }
         tell_read(rt, step, &bytes);
     }

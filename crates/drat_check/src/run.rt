@@ -9,6 +9,7 @@ ghost use Rattle.verdicts.specs.declared.verdict.Verdict.TheVariants.{Verified};
 
 use crate::fault::RunFault;
 use crate::proof::verdict_of;
+use crate::reader::ProofFormat;
 use log::Log;
 use sat_formula::{CnfFormula, read_formula};
 use std::alloc::Global;
@@ -24,6 +25,7 @@ pub fn run_check<L: Log, F: Read + Drop, P: Read + Drop, W: Write>(
     alloc: Global,
     cnf: F,
     proof: P,
+    format: ProofFormat,
     out: &mut W,
 ) -> Result<Verdict, RunFault>
     ensures run { IsCheckRun (F.remaining cnf) result }
@@ -36,7 +38,7 @@ pub fn run_check<L: Log, F: Read + Drop, P: Read + Drop, W: Write>(
         → result ≡ Ok Verified → IsRefuted text }
 {
     match read_formula(alloc, cnf) {
-        Ok(formula) => run_proof(rt, alloc, &formula, proof, out),
+        Ok(formula) => run_proof(rt, alloc, &formula, proof, format, out),
         Err(fault) => Err(RunFault::Formula(fault)),
     }
 }
@@ -52,6 +54,7 @@ pub fn run_proof<L: Log, P: Read + Drop, W: Write>(
     alloc: Global,
     formula: &CnfFormula,
     proof: P,
+    format: ProofFormat,
     out: &mut W,
 ) -> Result<Verdict, RunFault>
     ensures run { IsProofRun formula.now result }
@@ -62,7 +65,7 @@ pub fn run_proof<L: Log, P: Read + Drop, W: Write>(
         (W.contents out.old) (W.contents out.new) }
     ensures refutes { result ≡ Ok Verified → (a : ℕ → Bool) → all_true a formula.now ≡ false }
 {
-    let verdict = match verdict_of(rt, alloc, formula, proof) {
+    let verdict = match verdict_of(rt, alloc, formula, proof, format) {
         Ok(verdict) => verdict,
         Err(fault) => return Err(RunFault::Proof(fault)),
     };

@@ -1,5 +1,6 @@
 //! Runs with their verdicts, lines and statuses, texts of faults, and reads and writes that fail.
 use crate::fault::RunFault;
+use crate::reader::ProofFormat;
 use crate::run::run_check;
 use log::sink::Discard;
 use std::alloc::Global;
@@ -56,16 +57,27 @@ impl Read for Broken<'_> {
     }
 }
 
-/// The line that was written, or else the text of the fault.
+/// The line that was written, or else the text of the fault, where the proof tells its format.
 fn check<F: Read + Drop, P: Read + Drop>(
     rt: &impl Abort,
     alloc: Global,
     cnf: F,
     proof: P,
+    outcome: Outcome,
+) -> Result<(), Fail> {
+    check_as(rt, alloc, cnf, proof, ProofFormat::Told, outcome)
+}
+
+fn check_as<F: Read + Drop, P: Read + Drop>(
+    rt: &impl Abort,
+    alloc: Global,
+    cnf: F,
+    proof: P,
+    format: ProofFormat,
     (text, status): Outcome,
 ) -> Result<(), Fail> {
     let mut out = Vec::new(alloc);
-    let answer = run_check(&Discard, alloc, cnf, proof, &mut out);
+    let answer = run_check(&Discard, alloc, cnf, proof, format, &mut out);
     assert_eq!(rt; exit_status(&answer), status, "{text}");
     match answer {
         Ok(_) => assert_eq!(rt; out.as_slice(), text.as_bytes()),
@@ -150,12 +162,82 @@ fn formulas(rt: HostRuntime) -> Result<(), Fail> {
     )
 }
 
+/// The four clauses have the ids 1 to 4.
+#[test]
+fn proofs_with_ids(rt: HostRuntime) -> Result<(), Fail> {
+    let rows: [(&[u8], Outcome); 11] = [
+        (b"o 1 1 2 0 o 2 -2 1 0 a 5 1 0", VERIFIED),
+        (
+            b"o 3 1 2 0\no 9 1 -2 0\na 5 1 0 l 3 9 0\na 6 0 l 5 0\n",
+            VERIFIED,
+        ),
+        (b"o 3 1 2 0\na 5 1 0 l 3 7 -2 0\na 6 0\nf 6 0\n", VERIFIED),
+        (b"c x .\no 1 1 2 0\nd 2 0\na 5 1 0\n", VERIFIED),
+        (b"o 1 2 1 0\nr 1 7 0\nd 1 0\na 5 1 0\n", VERIFIED),
+        (
+            b"o 1 1 2 0\nr 1 7 0\nd 7 0\na 5 1 0\n",
+            (
+                "proof: step 4: clause neither follows nor is redundant by its first literal",
+                1,
+            ),
+        ),
+        (b"o 1 1 2 0\n", NOT_VERIFIED),
+        (
+            b"o 1 1 2 0\no 2 1 2 0\n",
+            ("proof: step 2: clause is not in the formula", 1),
+        ),
+        (b"o 1 1 2 0\na 5 x 0", ("proof: step 2: malformed", 1)),
+        (b"o\x01\x02\x04\0a\x05\x02\0l\x02\x04\0", VERIFIED),
+        (
+            b"o\x01\x02\x04\0d\x01\0a\x05\x02\0",
+            (
+                "proof: step 3: clause neither follows nor is redundant by its first literal",
+                1,
+            ),
+        ),
+    ];
+    for (proof, outcome) in rows {
+        check(&rt, rt.alloc(), FOUR, proof, outcome)?;
+    }
+    Ok(())
+}
+
+/// A proof whose first step adds a clause is DRAT, and one of numbers alone is no FRAT.
+#[test]
+fn formats_that_are_given(rt: HostRuntime) -> Result<(), Fail> {
+    let rows: [(&[u8], ProofFormat, Outcome); 4] = [
+        (b"a 5 1 0\n", ProofFormat::Frat, VERIFIED),
+        (
+            b"a 5 1 0\n",
+            ProofFormat::Told,
+            ("proof: step 1: unfinished", 1),
+        ),
+        (b"1 0\n", ProofFormat::Frat, ("proof: step 1: malformed", 1)),
+        (
+            b"o 1 1 2 0\n",
+            ProofFormat::Drat,
+            ("proof: step 1: malformed", 1),
+        ),
+    ];
+    for (proof, format, outcome) in rows {
+        check_as(&rt, rt.alloc(), FOUR, proof, format, outcome)?;
+    }
+    Ok(())
+}
+
 #[test]
 fn reads_and_writes_that_fail(rt: HostRuntime) -> Result<(), Fail> {
     let fault = ("proof: error reading proof: broken", 1);
     check(&rt, rt.alloc(), FOUR, Broken { bytes: b"1 0\n" }, VERIFIED)?;
     check(&rt, rt.alloc(), FOUR, Broken { bytes: b"1 2 0\n1" }, fault)?;
-    let answer = run_check(&Discard, rt.alloc(), FOUR, b"1 0\n".as_slice(), &mut Full);
+    let answer = run_check(
+        &Discard,
+        rt.alloc(),
+        FOUR,
+        b"1 0\n".as_slice(),
+        ProofFormat::Told,
+        &mut Full,
+    );
     assert_eq!(&rt; matches!(answer, Err(RunFault::Write(_))), true);
     assert_eq!(&rt; exit_status(&answer), 1);
     Ok(())

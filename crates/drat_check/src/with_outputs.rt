@@ -11,6 +11,7 @@ ghost use Rattle.verdicts.specs.declared.verdict.Verdict.TheVariants.{Verified};
 use crate::fault::{OutputFault, RunFault};
 use crate::outputs::{write_core, write_lines};
 use crate::proof::{elaborate, read_proof};
+use crate::reader::ProofFormat;
 use log::Log;
 use sat_formula::{CnfFormula, read_formula};
 use std::alloc::Global;
@@ -26,6 +27,7 @@ pub fn run_check_with_outputs<R: Log, F: Read + Drop, P: Read + Drop, W: Write, 
     alloc: Global,
     cnf: F,
     proof: P,
+    format: ProofFormat,
     out: &mut W,
     lrat: &mut Option<L>,
     core: &mut Option<C>,
@@ -43,7 +45,7 @@ pub fn run_check_with_outputs<R: Log, F: Read + Drop, P: Read + Drop, W: Write, 
         → result ≡ Ok Verified → IsRefuted text }
 {
     match read_formula(alloc, cnf) {
-        Ok(formula) => run_proof_with_outputs(rt, alloc, &formula, proof, out, lrat, core),
+        Ok(formula) => run_proof_with_outputs(rt, alloc, &formula, proof, format, out, lrat, core),
         Err(fault) => Err(OutputFault::Run(RunFault::Formula(fault))),
     }
 }
@@ -61,6 +63,7 @@ pub fn run_proof_with_outputs<R: Log, P: Read + Drop, W: Write, L: Write, C: Wri
     alloc: Global,
     formula: &CnfFormula,
     proof: P,
+    format: ProofFormat,
     out: &mut W,
     lrat: &mut Option<L>,
     core: &mut Option<C>,
@@ -75,7 +78,7 @@ pub fn run_proof_with_outputs<R: Log, P: Read + Drop, W: Write, L: Write, C: Wri
         lrat.old lrat.new core.old core.new result }
     ensures refutes { result ≡ Ok Verified → (a : ℕ → Bool) → all_true a formula.now ≡ false }
 {
-    let verdict = match verdict_with(rt, alloc, formula, proof, lrat, core) {
+    let verdict = match verdict_with(rt, alloc, formula, proof, format, lrat, core) {
         Ok(verdict) => verdict,
         Err(fault) => return Err(fault),
     };
@@ -91,6 +94,7 @@ fn verdict_with<R: Log, P: Read + Drop, L: Write, C: Write>(
     alloc: Global,
     formula: &CnfFormula,
     proof: P,
+    format: ProofFormat,
     lrat: &mut Option<L>,
     core: &mut Option<C>,
 ) -> Result<Verdict, OutputFault>
@@ -99,7 +103,7 @@ fn verdict_with<R: Log, P: Read + Drop, L: Write, C: Write>(
     ensures outputs { WritesOutputs formula.now L.contents C.contents
         lrat.old lrat.new core.old core.new result }
 {
-    let mut elaborator = match read_proof(rt, alloc, formula, proof) {
+    let mut elaborator = match read_proof(rt, alloc, formula, proof, format) {
         Ok(elaborator) => elaborator,
         Err(fault) => return Err(OutputFault::from(fault)),
     };

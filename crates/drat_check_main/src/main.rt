@@ -1,7 +1,7 @@
-//! The command `drat_check CNF DRAT [--lrat FILE] [--core FILE]`: checks a DRAT proof, text or
-//! binary, against a formula, and says in one line what it shows.
+//! The command `drat_check CNF PROOF [--drat | --frat] [--lrat FILE] [--core FILE]`: checks a DRAT
+//! or FRAT proof, text or binary, against a formula, and says in one line what it shows.
 //!
-//! With `--lrat` the lines that the checker of LRAT proofs accepted are written to a file, and with
+//! Which of the two the proof is, is told by its first bytes, or by `--drat` or `--frat`. With `--lrat` the lines that the checker of LRAT proofs accepted are written to a file, and with
 //! `--core` the clauses of the formula that they use.
 //! `--example` checks a small fixed example, `--help` says how the program is called, and
 //! `--version` of which version it is. The name `-` of a file that is read stands for standard
@@ -13,7 +13,9 @@ use command::{
     CountingReader, Input, NOT_RUN, create_output, create_two_outputs, help, open_input, refuse,
     say_drat_proof, say_formula, usage, version, warn_of_header,
 };
-use drat_check::{OutputFault, RunFault, Verdict, exit_status, run_check, run_check_with_outputs};
+use drat_check::{
+    OutputFault, ProofFormat, RunFault, Verdict, exit_status, run_check, run_check_with_outputs,
+};
 use progress::logged;
 use std::fmt::Display;
 use std::fs::File;
@@ -28,11 +30,15 @@ const EXAMPLE_FORMULA: &[u8] = b"p cnf 2 4\n1 2 0\n1 -2 0\n-1 2 0\n-1 -2 0\n";
 const EXAMPLE_PROOF: &[u8] = b"1 0\nd 1 2 0\n0\n";
 
 /// How the program is called.
-const CALL: &str = "drat_check CNF DRAT [--lrat FILE] [--core FILE]";
+const CALL: &str = "drat_check CNF PROOF [--drat | --frat] [--lrat FILE] [--core FILE]";
 
-/// The names of the files that are written, where they are wanted.
+/// So many options there can be in one call.
+const MOST_OPTIONS: usize = 3;
+
+/// What is wanted of a check: how its proof is read, and the names of the files that are written.
 #[derive(Drop)]
-struct OutputNames {
+struct Options {
+    format: ProofFormat,
     lrat: Option<String>,
     core: Option<String>,
 }
@@ -64,44 +70,64 @@ fn status_of_call(rt: &HostRuntime) -> u8 {
             _ => usage(rt, CALL),
         };
     };
-    let mut names = OutputNames {
+    let mut options = Options {
+        format: ProofFormat::Told,
         lrat: None,
         core: None,
     };
-    let are_options = add_option(&mut names, words.next(), words.next())
-        && add_option(&mut names, words.next(), words.next())
-        && words.next().is_none();
+    let are_options = add_options(&mut options, &mut words);
     if !are_options {
         usage(rt, CALL)
-    } else if names.lrat.is_none() && names.core.is_none() {
-        check_files(rt, first.as_str(), proof.as_str())
+    } else if options.lrat.is_none() && options.core.is_none() {
+        check_files(rt, first.as_str(), proof.as_str(), options.format)
     } else {
-        check_with_outputs(rt, first.as_str(), proof.as_str(), &names)
+        check_with_outputs(rt, first.as_str(), proof.as_str(), &options)
     }
 }
 
-/// Takes an option and its name, where there are such, and says whether that could be: each option
-/// has a name, and comes at most once.
-fn add_option(names: &mut OutputNames, option: Option<String>, name: Option<String>) -> bool {
-    match (option, name) {
-        (None, None) => true,
-        (Some(option), Some(name)) => match option.as_str() {
-            "--lrat" if names.lrat.is_none() => {
-                names.lrat = Some(name);
-                true
-            }
-            "--core" if names.core.is_none() => {
-                names.core = Some(name);
-                true
-            }
-            _ => false,
-        },
+/// Takes the words that are left as options, and says whether they are such.
+fn add_options<I: Iterator<Item = String>>(options: &mut Options, words: &mut I) -> bool {
+    for _ in 0..=MOST_OPTIONS {
+        let Some(word) = words.next() else {
+            return true;
+        };
+        if !add_option(options, word.as_str(), words) {
+            return false;
+        }
+    }
+    false
+}
+
+/// Takes an option, with the name after it where it has one, and says whether that could be. Each
+/// option comes at most once, and of the two for the proof's format one.
+fn add_option<I: Iterator<Item = String>>(
+    options: &mut Options,
+    word: &str,
+    words: &mut I,
+) -> bool {
+    match word {
+        "--drat" if options.format == ProofFormat::Told => {
+            options.format = ProofFormat::Drat;
+            true
+        }
+        "--frat" if options.format == ProofFormat::Told => {
+            options.format = ProofFormat::Frat;
+            true
+        }
+        "--lrat" if options.lrat.is_none() => {
+            options.lrat = words.next();
+            options.lrat.is_some()
+        }
+        "--core" if options.core.is_none() => {
+            options.core = words.next();
+            options.core.is_some()
+        }
         _ => false,
     }
 }
 
 /// Both files are opened before anything is read.
-fn check_files(rt: &HostRuntime, cnf_name: &str, proof_name: &str) -> u8 {
+fn check_files(rt: &HostRuntime, cnf_name: &str, proof_name: &str, format: ProofFormat) -> u8 {
     let Some(cnf) = open_input(rt, cnf_name) else {
         return NOT_RUN;
     };
@@ -110,7 +136,14 @@ fn check_files(rt: &HostRuntime, cnf_name: &str, proof_name: &str) -> u8 {
     };
     let mut cnf = CountingReader::new(cnf.file);
     let log = logged(rt);
-    let outcome = run_check(&log, rt.alloc(), &mut cnf, proof.file, &mut io::writer(rt));
+    let outcome = run_check(
+        &log,
+        rt.alloc(),
+        &mut cnf,
+        proof.file,
+        format,
+        &mut io::writer(rt),
+    );
     let status = report(rt, &outcome);
     match outcome {
         Err(RunFault::Formula(_)) => {
@@ -125,19 +158,14 @@ fn check_files(rt: &HostRuntime, cnf_name: &str, proof_name: &str) -> u8 {
 }
 
 /// The files that are written are made once both others are open, and before anything is read.
-fn check_with_outputs(
-    rt: &HostRuntime,
-    cnf_name: &str,
-    proof_name: &str,
-    names: &OutputNames,
-) -> u8 {
+fn check_with_outputs(rt: &HostRuntime, cnf_name: &str, proof_name: &str, options: &Options) -> u8 {
     let Some(cnf) = open_input(rt, cnf_name) else {
         return NOT_RUN;
     };
     let Some(proof) = open_input(rt, proof_name) else {
         return NOT_RUN;
     };
-    let Some(mut outputs) = create_outputs(rt, names, &cnf, &proof) else {
+    let Some(mut outputs) = create_outputs(rt, options, &cnf, &proof) else {
         return NOT_RUN;
     };
     let mut cnf = CountingReader::new(cnf.file);
@@ -147,6 +175,7 @@ fn check_with_outputs(
         rt.alloc(),
         &mut cnf,
         proof.file,
+        options.format,
         &mut io::writer(rt),
         &mut outputs.lrat,
         &mut outputs.core,
@@ -158,8 +187,8 @@ fn check_with_outputs(
             return status;
         }
         Err(OutputFault::Run(RunFault::Proof(_))) => say_drat_proof(rt, proof_name),
-        Err(OutputFault::Lrat(_)) => say_output(rt, &names.lrat),
-        Err(OutputFault::Core(_)) => say_output(rt, &names.core),
+        Err(OutputFault::Lrat(_)) => say_output(rt, &options.lrat),
+        Err(OutputFault::Core(_)) => say_output(rt, &options.core),
         Err(OutputFault::Run(RunFault::Write(_))) | Ok(_) => {}
     }
     warn_of_header(rt, cnf_name, &cnf);
@@ -169,11 +198,11 @@ fn check_with_outputs(
 /// Makes the files that are wanted. None of them is one of the inputs, nor is one file made twice.
 fn create_outputs(
     rt: &HostRuntime,
-    names: &OutputNames,
+    options: &Options,
     cnf: &Input<'_>,
     proof: &Input<'_>,
 ) -> Option<Outputs> {
-    match (&names.lrat, &names.core) {
+    match (&options.lrat, &options.core) {
         (Some(lrat), Some(core)) => {
             let (lrat, core) = create_two_outputs(rt, lrat.as_str(), core.as_str(), cnf, proof)?;
             Some(Outputs {
@@ -213,6 +242,7 @@ fn check_example(rt: &HostRuntime) -> u8 {
         rt.alloc(),
         EXAMPLE_FORMULA,
         EXAMPLE_PROOF,
+        ProofFormat::Told,
         &mut io::writer(rt),
     );
     report(rt, &outcome)

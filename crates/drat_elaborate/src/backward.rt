@@ -2,6 +2,7 @@
 use crate::check::Check;
 use crate::clauses::{ClauseIndex, ClauseLink, Clauses};
 use crate::fault::ElaborateFault;
+use crate::hinted::GivenHints;
 use crate::occurrences::Occurrences;
 use crate::propagator::Propagator;
 use crate::records::Records;
@@ -14,6 +15,8 @@ use std::alloc::Global;
 pub(crate) struct Backward {
     alloc: Global,
     check: Check,
+    /// The hints that the proof gives.
+    pub(crate) given: GivenHints,
     /// Where literals stand, once a clause is checked that does not follow.
     occurrences: Option<Occurrences>,
     pub(crate) records: Records,
@@ -26,6 +29,7 @@ impl Backward {
         Backward {
             alloc,
             check: Check::new(alloc),
+            given: GivenHints::new(alloc),
             occurrences: None,
             records: Records::new(alloc),
             checked: 0,
@@ -52,6 +56,7 @@ impl Backward {
     /// Gives back the memory that is of use only while clauses are checked.
     pub(crate) fn end(&mut self) {
         self.check = Check::new(self.alloc);
+        self.given = GivenHints::new(self.alloc);
         self.occurrences = None;
     }
 
@@ -62,7 +67,11 @@ impl Backward {
         steps: &mut Steps,
     ) -> Result<(), ElaborateFault> {
         match steps.pop() {
-            Some(Step::Add(clause)) => self.undo_addition(propagator, steps, clause),
+            Some(Step::Add(clause)) => {
+                self.undo_addition(propagator, steps, clause)?;
+                self.given.drop_last_of(clause);
+                Ok(())
+            }
             Some(Step::Delete(clause)) => undo_deletion(propagator, clause),
             Some(Step::Nothing) | None => Ok(()),
         }
@@ -102,7 +111,7 @@ impl Backward {
     ) -> Result<bool, ElaborateFault> {
         self.check.start()?;
         let end = propagator.trail.len();
-        let is_accepted = match self.check.refute(propagator, clause)? {
+        let is_accepted = match self.refute(propagator, clause)? {
             Some(conflict) => {
                 self.check.explain(propagator, conflict)?;
                 true
@@ -111,6 +120,26 @@ impl Backward {
         };
         propagator.trail.cut(end);
         Ok(is_accepted)
+    }
+
+    /// Assumes the negated literals of a clause. The answer is the clause of a conflict, by the hints
+    /// that are given, or else by propagation.
+    fn refute(
+        &mut self,
+        propagator: &mut Propagator,
+        clause: ClauseIndex,
+    ) -> Result<Option<ClauseIndex>, ElaborateFault> {
+        let end = propagator.trail.len();
+        let hints = self.given.last_of(clause);
+        if hints.is_empty() {
+            return self.check.refute(propagator, clause);
+        }
+        let conflict = self.check.refute_along(propagator, clause, hints)?;
+        if conflict.is_some() {
+            return Ok(conflict);
+        }
+        propagator.trail.cut(end);
+        self.check.refute(propagator, clause)
     }
 
     fn check_redundant(

@@ -71,6 +71,21 @@ impl Check {
         propagator: &mut Propagator,
         clause: ClauseIndex,
     ) -> Result<Option<ClauseIndex>, ElaborateFault> {
+        let end = propagator.trail.len();
+        let satisfied = self.assume(propagator, clause)?;
+        if satisfied.is_some() {
+            return Ok(satisfied);
+        }
+        propagator.propagate(end)
+    }
+
+    /// Assumes the negated literals of a clause. The answer is the reason of a literal of the clause
+    /// that is true already.
+    pub(crate) fn assume(
+        &mut self,
+        propagator: &mut Propagator,
+        clause: ClauseIndex,
+    ) -> Result<Option<ClauseIndex>, ElaborateFault> {
         let mut satisfied = None;
         for lit in propagator.clauses.lits(clause)? {
             if propagator.trail.value(*lit) == Value::True {
@@ -81,13 +96,12 @@ impl Check {
         if satisfied.is_some() {
             return Ok(satisfied);
         }
-        let end = propagator.trail.len();
         for lit in propagator.clauses.lits(clause)? {
             if propagator.trail.value(*lit) == Value::Free {
                 propagator.trail.assign(!*lit, ClauseLink::none())?;
             }
         }
-        propagator.propagate(end)
+        Ok(None)
     }
 
     /// The leading hints that come to the conflict in a clause.

@@ -30,8 +30,8 @@ enum Phase {
 #[derive(Drop)]
 pub struct Elaborator {
     phase: Phase,
-    forward: Forward,
-    backward: Backward,
+    pub(crate) forward: Forward,
+    pub(crate) backward: Backward,
     lines: Lines,
 }
 

@@ -15,6 +15,10 @@ pub enum ElaborateFault {
     /// by its first literal.
     #[error("step {step}: clause neither follows nor is redundant by its first literal")]
     NotRedundant { step: u64 },
+    /// The step says that a clause is of the formula, and each that has its literals was named
+    /// already.
+    #[error("step {step}: clause is not in the formula")]
+    NotInFormula { step: u64 },
     /// The steps end without a conflict by propagation.
     #[error("no conflict after {steps} steps")]
     NoConflict { steps: u64 },

@@ -4,7 +4,8 @@ use crate::clauses::{ClauseIndex, ClauseLink};
 use crate::fault::ElaborateFault;
 use crate::lit_set::LitSet;
 use crate::local::LocalLit;
-use crate::lookup::{ClauseTable, Lookup};
+use crate::lookup::{ClauseTable, Lookup, Reasons};
+use crate::names::Names;
 use crate::propagator::Propagator;
 use crate::steps::{Step, Steps};
 use crate::trail::Value;
@@ -15,17 +16,20 @@ use std::alloc::Global;
 /// What was taken in.
 #[derive(Drop)]
 pub(crate) struct Forward {
-    alloc: Global,
+    pub(crate) alloc: Global,
     pub(crate) variables: Variables,
     pub(crate) propagator: Propagator,
     pub(crate) steps: Steps,
     /// So many clauses are of the formula.
     pub(crate) formula_len: usize,
     pub(crate) conflict: Option<ClauseIndex>,
-    table: ClauseTable,
+    /// The clauses that a proof names by their literals.
+    pub(crate) table: ClauseTable,
+    /// The clauses that it names by ids.
+    pub(crate) names: Names,
     /// The literals of the clause that is read, each once.
-    lits: Vec<LocalLit>,
-    set: LitSet,
+    pub(crate) lits: Vec<LocalLit>,
+    pub(crate) set: LitSet,
     /// How many deletions met no clause.
     pub(crate) missing_deletions: u64,
     /// How many deletions met only clauses that force a literal.
@@ -42,6 +46,7 @@ impl Forward {
             formula_len: 0,
             conflict: None,
             table: ClauseTable::new(alloc),
+            names: Names::new(alloc),
             lits: Vec::new(alloc),
             set: LitSet::new(alloc),
             missing_deletions: 0,
@@ -75,6 +80,7 @@ impl Forward {
     pub(crate) fn end(&mut self) {
         self.variables.end();
         self.table = ClauseTable::new(self.alloc);
+        self.names = Names::new(self.alloc);
         self.lits = Vec::new(self.alloc);
         self.set = LitSet::new(self.alloc);
     }
@@ -109,6 +115,11 @@ impl Forward {
     /// Takes in a clause that the proof adds.
     pub(crate) fn add_lemma(&mut self, lits: &[Lit]) -> Result<(), ElaborateFault> {
         let clause = self.store(lits)?;
+        self.add_stored(clause)
+    }
+
+    /// A clause that is stored is added.
+    pub(crate) fn add_stored(&mut self, clause: ClauseIndex) -> Result<(), ElaborateFault> {
         self.steps.push(Step::Add(clause))?;
         let len = self.propagator.trail.len();
         self.conflict = self.propagator.attach(clause)?;
@@ -123,7 +134,7 @@ impl Forward {
         self.normalize(lits)?;
         match self
             .table
-            .take(&mut self.propagator, &self.lits, &self.set)?
+            .take(&mut self.propagator, &self.lits, &self.set, Reasons::Keep)?
         {
             Lookup::Found(clause) => self.remove(clause)?,
             Lookup::Reason => {
@@ -139,7 +150,7 @@ impl Forward {
     }
 
     /// A clause that forces nothing goes.
-    fn remove(&mut self, clause: ClauseIndex) -> Result<(), ElaborateFault> {
+    pub(crate) fn remove(&mut self, clause: ClauseIndex) -> Result<(), ElaborateFault> {
         self.steps.push(Step::Delete(clause))?;
         self.propagator.clauses.get_mut(clause)?.is_active = false;
         if self.propagator.clauses.get(clause)?.is_watched {
@@ -158,7 +169,7 @@ impl Forward {
     }
 
     /// Reads a clause, each literal once. The answer is whether it is a tautology.
-    fn normalize(&mut self, lits: &[Lit]) -> Result<bool, ElaborateFault> {
+    pub(crate) fn normalize(&mut self, lits: &[Lit]) -> Result<bool, ElaborateFault> {
         self.set.clear()?;
         self.lits.clear();
         let mut is_tautology = false;

@@ -9,11 +9,18 @@ use std::alloc::{AllocError, Global};
 /// What a search for a clause came to.
 #[derive(Clone, Copy)]
 pub(crate) enum Lookup {
-    /// This clause is there, and forces nothing. It is no longer found.
+    /// This clause is there, and forces nothing where such are kept. It is no longer found.
     Found(ClauseIndex),
     /// Each such clause forces a literal.
     Reason,
     Missing,
+}
+
+/// Whether clauses that force a literal are taken too.
+#[derive(Clone, Copy, PartialEq, Eq)]
+pub(crate) enum Reasons {
+    Take,
+    Keep,
 }
 
 /// The clauses that are there, in buckets by a hash of their literals.
@@ -79,13 +86,14 @@ impl ClauseTable {
         Ok(())
     }
 
-    /// Takes out a clause with these literals that forces nothing, if there is one. Each literal
-    /// stands once, and `set` has the same.
+    /// Takes out a clause with these literals, if there is one. Each literal stands once, and `set`
+    /// has the same.
     pub(crate) fn take(
         &mut self,
         propagator: &mut Propagator,
         lits: &[LocalLit],
         set: &LitSet,
+        reasons: Reasons,
     ) -> Result<Lookup, ElaborateFault> {
         if self.buckets.is_empty() {
             return Ok(Lookup::Missing);
@@ -100,7 +108,7 @@ impl ClauseTable {
             };
             at = propagator.clauses.get(clause)?.next;
             if is_same(propagator.clauses.lits(clause)?, lits, set) {
-                if !propagator.is_reason(clause)? {
+                if reasons == Reasons::Take || !propagator.is_reason(clause)? {
                     match before {
                         None => *bucket = at,
                         Some(before) => propagator.clauses.get_mut(before)?.next = at,

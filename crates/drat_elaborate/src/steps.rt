@@ -8,7 +8,7 @@ use std::alloc::{AllocError, Global};
 pub(crate) enum Step {
     Add(ClauseIndex),
     Delete(ClauseIndex),
-    /// A deletion that is passed over.
+    /// A step that changes nothing.
     Nothing,
 }
 
@@ -79,6 +79,11 @@ impl Steps {
         };
         self.growths.push(growth)?;
         Ok(())
+    }
+
+    /// The last step.
+    pub(crate) fn last(&self) -> Option<Step> {
+        Some(self.steps.last()?.step())
     }
 
     /// Takes the last step off.

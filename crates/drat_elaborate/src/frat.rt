@@ -1,0 +1,123 @@
+//! Steps of FRAT proofs: clauses have ids, and may have hints.
+use crate::clauses::ClauseLink;
+use crate::elaborator::Elaborator;
+use crate::fault::ElaborateFault;
+use crate::forward::Forward;
+use crate::lookup::{Lookup, Reasons};
+use crate::steps::Step;
+use frat_text::{FratAction, FratHint, FratStep, Renaming};
+use sat_formula::Lit;
+
+impl Elaborator {
+    /// Takes in a step of a FRAT proof. After a conflict it is passed over.
+    ///
+    /// A step that says that a clause is there at the end is passed over, and so is a renaming of an
+    /// id that no clause has. A deletion is counted and passed over where no clause has the id, or
+    /// where the clause forces a literal; its literals say nothing. Hints belong to the clause that
+    /// the step before added, and are passed over elsewhere; in the check they are tried first.
+    ///
+    /// `NotInFormula` where a clause is said to be of the formula, and each clause of it with these
+    /// literals has an id already.
+    pub fn take_frat_step(&mut self, step: FratStep<'_>) -> Result<(), ElaborateFault> {
+        self.begin_proof()?;
+        if self.is_refuted() {
+            return Ok(());
+        }
+        match step {
+            FratStep::Clause { action, id, lits } => self.forward.take_clause(action, id, lits),
+            FratStep::Hints(hints) => self.keep_hints(hints),
+            FratStep::Renames(renamings) => self.forward.rename(renamings),
+        }
+    }
+
+    /// Keeps the hints before the first negative one, as far as clauses have their ids.
+    fn keep_hints(&mut self, hints: &[FratHint]) -> Result<(), ElaborateFault> {
+        if let Some(Step::Add(clause)) = self.forward.steps.last() {
+            self.backward.given.begin(clause)?;
+            for hint in hints {
+                if hint.is_negative {
+                    break;
+                }
+                if let Some(found) = self.forward.names.get(hint.id) {
+                    self.backward.given.push(found)?;
+                }
+            }
+        }
+        self.forward.pass_over()
+    }
+}
+
+impl Forward {
+    fn take_clause(
+        &mut self,
+        action: FratAction,
+        id: u64,
+        lits: &[Lit],
+    ) -> Result<(), ElaborateFault> {
+        match action {
+            FratAction::Original => self.name_original(id, lits),
+            FratAction::Add => self.add_named(id, lits),
+            FratAction::Delete => self.delete_named(id),
+            FratAction::Final => self.pass_over(),
+        }
+    }
+
+    /// A step that changes nothing.
+    fn pass_over(&mut self) -> Result<(), ElaborateFault> {
+        self.steps.push(Step::Nothing)?;
+        Ok(())
+    }
+
+    /// Gives an id to a clause of the formula that has none.
+    fn name_original(&mut self, id: u64, lits: &[Lit]) -> Result<(), ElaborateFault> {
+        self.pass_over()?;
+        self.normalize(lits)?;
+        match self
+            .table
+            .take(&mut self.propagator, &self.lits, &self.set, Reasons::Take)?
+        {
+            Lookup::Found(clause) => self.names.put(id, clause),
+            Lookup::Reason | Lookup::Missing => Err(ElaborateFault::NotInFormula {
+                step: self.steps.len() as u64,
+            }),
+        }
+    }
+
+    /// Takes in a clause that the proof adds under an id.
+    fn add_named(&mut self, id: u64, lits: &[Lit]) -> Result<(), ElaborateFault> {
+        let is_tautology = self.normalize(lits)?;
+        let clause = self.propagator.clauses.push(&self.lits, is_tautology)?;
+        self.names.put(id, clause)?;
+        self.add_stored(clause)
+    }
+
+    /// Takes in the deletion of the clause of an id.
+    fn delete_named(&mut self, id: u64) -> Result<(), ElaborateFault> {
+        let Some(clause) = self.names.take(id) else {
+            self.missing_deletions = self.missing_deletions.saturating_add(1);
+            return self.pass_over();
+        };
+        if self.propagator.is_reason(clause)? {
+            self.kept_reasons = self.kept_reasons.saturating_add(1);
+            return self.pass_over();
+        }
+        self.remove(clause)
+    }
+
+    /// Clauses get other ids, all at once.
+    fn rename(&mut self, renamings: &[Renaming]) -> Result<(), ElaborateFault> {
+        let mut moved = Vec::new(self.alloc);
+        for renaming in renamings {
+            moved.push(match self.names.take(renaming.from) {
+                Some(clause) => ClauseLink::to(clause),
+                None => ClauseLink::none(),
+            })?;
+        }
+        for (renaming, link) in renamings.iter().zip(&moved) {
+            if let Some(clause) = link.get() {
+                self.names.put(renaming.to, clause)?;
+            }
+        }
+        self.pass_over()
+    }
+}

@@ -1,0 +1,119 @@
+//! The hints that a proof gives, and the check of a clause by them.
+use crate::check::Check;
+use crate::clauses::{ClauseIndex, ClauseLink, narrow};
+use crate::fault::ElaborateFault;
+use crate::local::LocalLit;
+use crate::propagator::Propagator;
+use crate::trail::Value;
+use std::alloc::Global;
+
+/// Where the hints of a clause begin.
+#[derive(Clone, Copy)]
+struct Span {
+    clause: ClauseIndex,
+    start: u32,
+}
+
+/// The hints of the clauses that have some, in the order of the clauses.
+#[derive(Drop)]
+pub(crate) struct GivenHints {
+    spans: Vec<Span>,
+    hints: Vec<ClauseIndex>,
+}
+
+impl GivenHints {
+    pub(crate) fn new(alloc: Global) -> GivenHints {
+        GivenHints {
+            spans: Vec::new(alloc),
+            hints: Vec::new(alloc),
+        }
+    }
+
+    /// Begins the hints of a clause, which comes after those that have some.
+    pub(crate) fn begin(&mut self, clause: ClauseIndex) -> Result<(), ElaborateFault> {
+        let start = narrow(self.hints.len())?;
+        self.spans.push(Span { clause, start })?;
+        Ok(())
+    }
+
+    /// A hint of the clause that was begun last.
+    pub(crate) fn push(&mut self, hint: ClauseIndex) -> Result<(), ElaborateFault> {
+        self.hints.push(hint)?;
+        Ok(())
+    }
+
+    /// The hints of a clause, where it is the last of those that have some.
+    pub(crate) fn last_of(&self, clause: ClauseIndex) -> &[ClauseIndex] {
+        match self.spans.last() {
+            Some(span) if span.clause == clause => {
+                self.hints.get(span.start as usize..).unwrap_or(&[])
+            }
+            _ => &[],
+        }
+    }
+
+    /// Drops the hints of a clause, where it is the last of those that have some.
+    pub(crate) fn drop_last_of(&mut self, clause: ClauseIndex) {
+        if let Some(span) = self.spans.last().copied() {
+            if span.clause == clause {
+                self.hints.truncate(span.start as usize);
+                self.spans.pop();
+            }
+        }
+    }
+}
+
+/// What a clause comes to under the true literals.
+#[derive(Clone, Copy)]
+enum Standing {
+    False,
+    /// All literals but this one are false.
+    Unit(LocalLit),
+    /// It can't be used.
+    Other,
+}
+
+impl Check {
+    /// Assumes the negated literals of a clause, and goes once through these hints, in order. The
+    /// answer is the clause of a conflict, or the reason of a literal of the clause that is true
+    /// already. Without one the trail is not propagated.
+    pub(crate) fn refute_along(
+        &mut self,
+        propagator: &mut Propagator,
+        clause: ClauseIndex,
+        hints: &[ClauseIndex],
+    ) -> Result<Option<ClauseIndex>, ElaborateFault> {
+        let satisfied = self.assume(propagator, clause)?;
+        if satisfied.is_some() {
+            return Ok(satisfied);
+        }
+        for hint in hints {
+            match standing(propagator, *hint)? {
+                Standing::False => return Ok(Some(*hint)),
+                Standing::Unit(lit) => propagator.trail.assign(lit, ClauseLink::to(*hint))?,
+                Standing::Other => {}
+            }
+        }
+        Ok(None)
+    }
+}
+
+/// What a clause comes to. One that is not there can't be used, nor a tautology.
+fn standing(propagator: &Propagator, clause: ClauseIndex) -> Result<Standing, ElaborateFault> {
+    let found = propagator.clauses.get(clause)?;
+    if !found.is_active || found.is_tautology {
+        return Ok(Standing::Other);
+    }
+    let mut free = None;
+    for lit in propagator.clauses.lits(clause)? {
+        match propagator.trail.value(*lit) {
+            Value::False => {}
+            Value::Free if free.is_none() => free = Some(*lit),
+            Value::Free | Value::True => return Ok(Standing::Other),
+        }
+    }
+    match free {
+        Some(lit) => Ok(Standing::Unit(lit)),
+        None => Ok(Standing::False),
+    }
+}
