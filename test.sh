@@ -22,6 +22,6 @@ run() {
 }
 export -f run
 export told
-printf '%s\n' end_to_end refused_growths failing_files drat_fuzz drat_solvers drat_outputs bindings lrat_fuzz named_files log_lines \
+printf '%s\n' end_to_end refused_growths failing_files drat_fuzz drat_solvers drat_outputs frat bindings lrat_fuzz named_files log_lines \
   examples cubes solver_runs install memory model_check |
   xargs -P "$(nproc)" -I SCRIPT bash -c 'run SCRIPT'

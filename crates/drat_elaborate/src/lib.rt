@@ -11,6 +11,8 @@ mod elaborator;
 mod fault;
 mod forward;
 mod frat;
+#[cfg(test)]
+mod frat_tests;
 mod hinted;
 mod lines;
 mod lit_set;

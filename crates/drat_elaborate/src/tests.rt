@@ -13,11 +13,14 @@ use std::test::Fail;
 type Row = (&'static str, &'static str, &'static str, &'static str);
 
 /// Reads clauses.
-fn clauses(alloc: Global, text: &str) -> Result<CnfFormula, Fail> {
+pub(crate) fn clauses(alloc: Global, text: &str) -> Result<CnfFormula, Fail> {
     Ok(read_formula(alloc, text.as_bytes())?)
 }
 
-fn add_formula(elaborator: &mut Elaborator, formula: &CnfFormula) -> Result<(), ElaborateFault> {
+pub(crate) fn add_formula(
+    elaborator: &mut Elaborator,
+    formula: &CnfFormula,
+) -> Result<(), ElaborateFault> {
     for clause in formula {
         elaborator.add_clause(clause)?;
     }
@@ -113,7 +116,7 @@ fn tell_use(text: &mut String, elaborator: &Elaborator) -> Result<(), Fail> {
 }
 
 /// Tells what is elaborated.
-fn tell_proof(text: &mut String, elaborator: &mut Elaborator) -> Result<(), Fail> {
+pub(crate) fn tell_proof(text: &mut String, elaborator: &mut Elaborator) -> Result<(), Fail> {
     match elaborate(elaborator) {
         Ok(()) => {
             tell_lines(text, elaborator)?;

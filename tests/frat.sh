@@ -1,0 +1,74 @@
+#!/usr/bin/env bash
+# FRAT proofs by `drat_check`: some hundred random ones, beside the same steps as DRAT; proofs of formulas made of the lines that
+# `drat_check` writes, with right hints, wrong ones and none; and those of cryptominisat, where it is there (Debian: cryptominisat).
+#
+#   tests/frat.sh [COUNT [SEED]]
+#
+# The program must be built: `rt ci` does it, or `rt run` in its folder.
+set -euo pipefail
+
+top=$(cd "$(dirname "$0")/.." && pwd)
+work=$(mktemp -d)
+trap 'rm -rf "$work"' EXIT
+check=$top/crates/drat_check_main/out/drat_check_main
+if [[ ! -x $check ]]; then
+  echo "not built: $check"
+  exit 1
+fi
+wrong=0
+
+formula() {
+  python3 -B "$top/tests/drat/formulas.py" "$@"
+}
+
+# says STATUS LINE NAME CNF PROOF [OPTION]: what the program answers
+says() {
+  local said status=0
+  said=$("$check" "${@:4}" 2> "$work/err") || status=$?
+  if [[ $status != "$1" || $said != "$2" ]]; then
+    printf '%s: status %d, %s %s\n' "$3" "$status" "$said" "$(cat "$work/err")"
+    wrong=1
+  fi
+}
+
+# of_lines NAME CNF DRAT: the lines of the proof, as FRAT
+of_lines() {
+  local hints way
+  says 0 's VERIFIED UNSAT' "$1" "$2" "$3" --lrat "$work/lrat"
+  for hints in right wrong none; do
+    for way in text binary; do
+      python3 -B "$top/tests/drat/frat.py" of_lrat "$2" "$work/lrat" "$hints" "$way" > "$work/frat"
+      says 0 's VERIFIED UNSAT' "$1, $hints hints, $way" "$2" "$work/frat"
+      says 0 's VERIFIED UNSAT' "$1, $hints hints, $way, told" "$2" "$work/frat" --frat
+      head -c "$(($(stat -c %s "$work/frat") / 2))" "$work/frat" > "$work/half"
+      "$check" "$2" "$work/half" > "$work/said" 2> "$work/err" || true
+      if grep -q 'internal' "$work/err" || grep -q '^s VERIFIED' "$work/said"; then
+        printf '%s, %s hints, %s, a half: %s %s\n' "$1" "$hints" "$way" "$(cat "$work/said")" "$(cat "$work/err")"
+        wrong=1
+      fi
+    done
+  done
+}
+
+formula pigeons 6 > "$work/pigeons.cnf"
+formula random 150 4.8 1 > "$work/random.cnf"
+for family in extended swaps; do
+  formula "$family" 6 > "$work/drat"
+  of_lines "$family" "$work/pigeons.cnf" "$work/drat"
+done
+if command -v cadical > "$work/where"; then
+  cadical -q "$work/random.cnf" "$work/drat" > "$work/said" || true
+  of_lines 'cadical random' "$work/random.cnf" "$work/drat"
+else
+  echo 'cadical is not installed: not tried'
+fi
+if command -v cryptominisat5 > "$work/where"; then
+  for name in pigeons random; do
+    cryptominisat5 --verb 0 "$work/$name.cnf" "$work/frat" > "$work/said" || true
+    says 0 's VERIFIED UNSAT' "cryptominisat $name" "$work/$name.cnf" "$work/frat"
+  done
+else
+  echo 'cryptominisat5 is not installed: not tried'
+fi
+python3 -B "$top/tests/drat/frat.py" fuzz "$check" "${1:-400}" "${2:-1}" || wrong=1
+exit "$wrong"
