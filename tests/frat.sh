@@ -39,7 +39,7 @@ of_lines() {
     for way in text binary; do
       python3 -B "$top/tests/drat/frat.py" of_lrat "$2" "$work/lrat" "$hints" "$way" > "$work/frat"
       says 0 's VERIFIED UNSAT' "$1, $hints hints, $way" "$2" "$work/frat"
-      says 0 's VERIFIED UNSAT' "$1, $hints hints, $way, told" "$2" "$work/frat" --frat
+      says 0 's VERIFIED UNSAT' "$1, $hints hints, $way, by the option" "$2" "$work/frat" --frat
       head -c "$(($(stat -c %s "$work/frat") / 2))" "$work/frat" > "$work/half"
       "$check" "$2" "$work/half" > "$work/said" 2> "$work/err" || true
       if grep -q 'internal' "$work/err" || grep -q '^s VERIFIED' "$work/said"; then

@@ -39,7 +39,7 @@ const ROWS: [Row; 7] = [
     (
         TWO_WAYS,
         "o 1 1 2 0 o 2 1 -2 0 d 1 0 d 1 1 2 0 d 8 0 a 20 1 0 l 1 2 0 a 21 4 0",
-        "d 1 2; 9 1 0 3 4; d 4 3; 10 4 0 9 5 6; d 6 5; 11 0 9 10 7 8; \
+        "d 1 2; 9 1 0 4 3; d 3 4; 10 4 0 9 5 6; d 6 5; 11 0 9 10 7 8; \
          used 3 4 5 6 7 8; 2 missing, 0 kept",
     ),
     // The first clause forces its literal.
