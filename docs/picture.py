@@ -33,8 +33,14 @@ WRITERS = {
     "varisat_check": ("sat_hints", "LRAT", "for hint_check"),
 }
 
-# Words of calls, as a reader knows them.
-FILES = {"CNF": "formula", "DRAT": "DRAT proof", "LRAT": "LRAT text", "PROOF": "proof bytes", "ANSWER": "answer"}
+# Words of calls, as a reader knows them; in the call of one program a word may be something else.
+FILES = {
+    "CNF": "formula",
+    "LRAT": "LRAT text",
+    "PROOF": "proof bytes",
+    "ANSWER": "answer",
+    "drat_check PROOF": "DRAT or FRAT",
+}
 
 WIDTH = 1120
 LETTER = 7.9
@@ -167,7 +173,9 @@ def way_of(program, crate, listed):
 
 def draw_way(drawing, y, program, words, way, line, read):
     """The files of a program, the way of its proof, and its end. Gives where the formula joins."""
-    files = [FILES.get(word, word.lower()) for word in words if re.fullmatch("[A-Z]+", word)]
+    files = [
+        FILES.get(f"{program} {word}", FILES.get(word, word.lower())) for word in words if re.fullmatch("[A-Z]+", word)
+    ]
     taker = next((crate for crate in way if crate in DECIDING), way[-1])
     x = drawing.box(28, y, files[1], "file")
     for crate in way:

@@ -137,7 +137,7 @@ wants 1 '' $'error writing: No space left on device (os error 28)\nin /dev/full'
 [[ $("$lrat_check" f l) == 's VERIFIED UNSAT' ]] || fault 'the lines before a core that can not be written'
 
 # calls that are none
-usage='usage: drat_check CNF PROOF [--drat | --frat] [--lrat FILE] [--core FILE]'
+usage='usage: drat_check CNF PROOF [--drat] [--frat] [--lrat FILE] [--core FILE]'
 for arguments in 'f' 'f p --lrat' 'f p --lrat l --core' 'f p --lrat l --lrat c' 'f p --other l' 'f p --lrat l --core c d' 'f p --frat --drat'; do
   # shellcheck disable=SC2086
   wants 2 '' "$usage" $arguments

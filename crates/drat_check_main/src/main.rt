@@ -1,7 +1,8 @@
-//! The command `drat_check CNF PROOF [--drat | --frat] [--lrat FILE] [--core FILE]`: checks a DRAT
+//! The command `drat_check CNF PROOF [--drat] [--frat] [--lrat FILE] [--core FILE]`: checks a DRAT
 //! or FRAT proof, text or binary, against a formula, and says in one line what it shows.
 //!
-//! Which of the two the proof is, is told by its first bytes, or by `--drat` or `--frat`. With `--lrat` the lines that the checker of LRAT proofs accepted are written to a file, and with
+//! Which of the two the proof is, is told by its first bytes, or by `--drat` or `--frat`. With
+//! `--lrat` the lines that the checker of LRAT proofs accepted are written to a file, and with
 //! `--core` the clauses of the formula that they use.
 //! `--example` checks a small fixed example, `--help` says how the program is called, and
 //! `--version` of which version it is. The name `-` of a file that is read stands for standard
@@ -30,7 +31,7 @@ const EXAMPLE_FORMULA: &[u8] = b"p cnf 2 4\n1 2 0\n1 -2 0\n-1 2 0\n-1 -2 0\n";
 const EXAMPLE_PROOF: &[u8] = b"1 0\nd 1 2 0\n0\n";
 
 /// How the program is called.
-const CALL: &str = "drat_check CNF PROOF [--drat | --frat] [--lrat FILE] [--core FILE]";
+const CALL: &str = "drat_check CNF PROOF [--drat] [--frat] [--lrat FILE] [--core FILE]";
 
 /// So many options there can be in one call.
 const MOST_OPTIONS: usize = 3;

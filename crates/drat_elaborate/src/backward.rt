@@ -122,8 +122,8 @@ impl Backward {
         Ok(is_accepted)
     }
 
-    /// Assumes the negated literals of a clause. The answer is the clause of a conflict, by the hints
-    /// that are given, or else by propagation.
+    /// Assumes the negated literals of a clause. The answer is the clause of a conflict, by the
+    /// hints that are given, or else by propagation.
     fn refute(
         &mut self,
         propagator: &mut Propagator,

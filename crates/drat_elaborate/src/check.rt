@@ -79,8 +79,8 @@ impl Check {
         propagator.propagate(end)
     }
 
-    /// Assumes the negated literals of a clause. The answer is the reason of a literal of the clause
-    /// that is true already.
+    /// Assumes the negated literals of a clause. The answer is the reason of a literal of the
+    /// clause that is true already.
     pub(crate) fn assume(
         &mut self,
         propagator: &mut Propagator,

@@ -11,10 +11,11 @@ use sat_formula::Lit;
 impl Elaborator {
     /// Takes in a step of a FRAT proof. After a conflict it is passed over.
     ///
-    /// A step that says that a clause is there at the end is passed over, and so is a renaming of an
-    /// id that no clause has. A deletion is counted and passed over where no clause has the id, or
-    /// where the clause forces a literal; its literals say nothing. Hints belong to the clause that
-    /// the step before added, and are passed over elsewhere; in the check they are tried first.
+    /// A step that says that a clause is there at the end is passed over, and so is a renaming of
+    /// an id that no clause has. A deletion is counted and passed over where no clause has the id,
+    /// or where the clause forces a literal; its literals say nothing. Hints belong to the clause
+    /// that the step before added, and are passed over elsewhere; in the check they are tried
+    /// first.
     ///
     /// `NotInFormula` where a clause is said to be of the formula, and each clause of it with these
     /// literals has an id already.

@@ -10,8 +10,8 @@ use std::test::Fail;
 /// formula that are used; the deletions that met none, or only reasons.
 type Row = (&'static str, &'static str, &'static str);
 
-/// 1 follows from the first two clauses, and from the next two; with it 4 follows from the fifth and
-/// sixth, and is against the last two.
+/// 1 follows from the first two clauses, and from the next two; with it 4 follows from the fifth
+/// and sixth, and is against the last two.
 const TWO_WAYS: &str = "1 2 0 1 -2 0 1 3 0 1 -3 0 -1 4 5 0 -1 4 -5 0 -1 -4 5 0 -1 -4 -5 0";
 
 const ROWS: [Row; 7] = [
