@@ -4,3 +4,4 @@ pub mod GroupLemmas
 pub mod LookLemmas
 pub mod TellLemmas
 pub mod ReaderLemmas
+pub mod RowsFacts

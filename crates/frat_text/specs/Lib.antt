@@ -7,3 +7,4 @@ pub mod Drafts
 pub mod Taking
 pub mod Reading
 pub mod NextStep
+pub mod Rows
