@@ -1,5 +1,6 @@
 //! Small FRAT proofs, as rows: what is told of each.
 use crate::elaborator::Elaborator;
+use crate::fault::ElaborateFault;
 use crate::tests::{add_formula, clauses, tell_proof};
 use frat_text::FratReader;
 use std::alloc::Global;
@@ -60,19 +61,25 @@ const ROWS: [Row; 7] = [
     ),
 ];
 
-/// Takes in the steps of a proof, up to a conflict.
-fn take_steps(elaborator: &mut Elaborator, alloc: Global, proof: &str) -> Result<(), Fail> {
+/// Takes in the steps of a proof, up to a conflict. The answer is the fault of a step.
+fn take_steps(
+    elaborator: &mut Elaborator,
+    alloc: Global,
+    proof: &str,
+) -> Result<Option<ElaborateFault>, Fail> {
     let mut reader = FratReader::new(alloc, proof.as_bytes());
     for _ in 0..20u32 {
         if elaborator.is_refuted() {
             break;
         }
-        match reader.next_step()? {
-            Some(step) => elaborator.take_frat_step(step)?,
-            None => break,
+        let Some(step) = reader.next_step()? else {
+            break;
+        };
+        if let Err(fault) = elaborator.take_frat_step(step) {
+            return Ok(Some(fault));
         }
     }
-    Ok(())
+    Ok(None)
 }
 
 /// Tells all of a row, or the fault of a step.
@@ -80,13 +87,11 @@ fn tell(text: &mut String, alloc: Global, formula: &str, proof: &str) -> Result<
     let formula = clauses(alloc, formula)?;
     let mut elaborator = Elaborator::new(alloc);
     add_formula(&mut elaborator, &formula)?;
-    match take_steps(&mut elaborator, alloc, proof) {
-        Ok(()) => tell_proof(text, &mut elaborator),
-        Err(fault) => {
-            write!(text, "{fault}")?;
-            Ok(())
-        }
+    if let Some(fault) = take_steps(&mut elaborator, alloc, proof)? {
+        write!(text, "{fault}")?;
+        return Ok(());
     }
+    tell_proof(text, &mut elaborator)
 }
 
 fn check(rt: &impl Abort, alloc: Global, row: &Row) -> Result<(), Fail> {
