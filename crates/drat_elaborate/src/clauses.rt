@@ -60,11 +60,16 @@ impl ClauseLink {
     }
 }
 
+/// Where the literals of a clause stand.
+#[derive(Clone, Copy)]
+struct Span {
+    start: u32,
+    end: u32,
+}
+
 /// What is known of a clause besides its literals.
 #[derive(Clone, Copy)]
 pub(crate) struct Clause {
-    start: u32,
-    end: u32,
     /// The code of the pivot; that of no literal in the empty clause.
     pivot: u32,
     /// The next clause of the same bucket.
@@ -92,9 +97,10 @@ impl Clause {
     }
 }
 
-/// All clauses.
+/// All clauses. Propagation looks at their spans and literals alone, which lie close together so.
 #[derive(Drop)]
 pub(crate) struct Clauses {
+    spans: Vec<Span>,
     table: Vec<Clause>,
     lits: Vec<LocalLit>,
 }
@@ -102,6 +108,7 @@ pub(crate) struct Clauses {
 impl Clauses {
     pub(crate) fn new(alloc: Global) -> Clauses {
         Clauses {
+            spans: Vec::new(alloc),
             table: Vec::new(alloc),
             lits: Vec::new(alloc),
         }
@@ -121,9 +128,8 @@ impl Clauses {
         let start = narrow(self.lits.len())?;
         self.lits.extend_from_slice(lits)?;
         let end = narrow(self.lits.len())?;
+        self.spans.push(Span { start, end })?;
         self.table.push(Clause {
-            start,
-            end,
             pivot: match lits.first() {
                 Some(lit) => lit.code(),
                 None => Clause::NO_PIVOT,
@@ -148,10 +154,17 @@ impl Clauses {
             .ok_or(ElaborateFault::Internal)
     }
 
+    #[inline(always)]
+    fn span(&self, clause: ClauseIndex) -> Result<(usize, usize), ElaborateFault> {
+        match self.spans.get(clause.get()) {
+            Some(span) => Ok((span.start as usize, span.end as usize)),
+            None => Err(ElaborateFault::Internal),
+        }
+    }
+
     /// The literals of a clause, in the order in which they are watched.
     pub(crate) fn lits(&self, clause: ClauseIndex) -> Result<&[LocalLit], ElaborateFault> {
-        let found = self.get(clause)?;
-        let (start, end) = (found.start as usize, found.end as usize);
+        let (start, end) = self.span(clause)?;
         if start <= end && end <= self.lits.len() {
             Ok(&self.lits[start..end])
         } else {
@@ -163,8 +176,7 @@ impl Clauses {
         &mut self,
         clause: ClauseIndex,
     ) -> Result<&mut [LocalLit], ElaborateFault> {
-        let found = self.get(clause)?;
-        let (start, end) = (found.start as usize, found.end as usize);
+        let (start, end) = self.span(clause)?;
         if start <= end && end <= self.lits.len() {
             Ok(&mut self.lits[start..end])
         } else {
