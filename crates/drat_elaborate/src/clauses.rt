@@ -62,7 +62,7 @@ impl ClauseLink {
 
 /// Where the literals of a clause stand.
 #[derive(Clone, Copy)]
-struct Span {
+pub(crate) struct Span {
     start: u32,
     end: u32,
 }
@@ -100,9 +100,9 @@ impl Clause {
 /// All clauses. Propagation looks at their spans and literals alone, which lie close together so.
 #[derive(Drop)]
 pub(crate) struct Clauses {
-    spans: Vec<Span>,
+    pub(crate) spans: Vec<Span>,
     table: Vec<Clause>,
-    lits: Vec<LocalLit>,
+    pub(crate) lits: Vec<LocalLit>,
 }
 
 impl Clauses {
@@ -154,17 +154,9 @@ impl Clauses {
             .ok_or(ElaborateFault::Internal)
     }
 
-    #[inline(always)]
-    fn span(&self, clause: ClauseIndex) -> Result<(usize, usize), ElaborateFault> {
-        match self.spans.get(clause.get()) {
-            Some(span) => Ok((span.start as usize, span.end as usize)),
-            None => Err(ElaborateFault::Internal),
-        }
-    }
-
     /// The literals of a clause, in the order in which they are watched.
     pub(crate) fn lits(&self, clause: ClauseIndex) -> Result<&[LocalLit], ElaborateFault> {
-        let (start, end) = self.span(clause)?;
+        let (start, end) = span_of(&self.spans, clause)?;
         if start <= end && end <= self.lits.len() {
             Ok(&self.lits[start..end])
         } else {
@@ -176,18 +168,36 @@ impl Clauses {
         &mut self,
         clause: ClauseIndex,
     ) -> Result<&mut [LocalLit], ElaborateFault> {
-        let (start, end) = self.span(clause)?;
-        if start <= end && end <= self.lits.len() {
-            Ok(&mut self.lits[start..end])
-        } else {
-            Err(ElaborateFault::Internal)
-        }
+        lits_at(&self.spans, &mut self.lits, clause)
     }
 
     /// Whether the clause is there and used, so that a redundant clause is checked against it.
     pub(crate) fn is_candidate(&self, clause: ClauseIndex) -> Result<bool, ElaborateFault> {
         let found = self.get(clause)?;
         Ok(found.is_active && found.is_core && !found.is_tautology)
+    }
+}
+
+/// The literals of a clause among those of all.
+#[inline(always)]
+pub(crate) fn lits_at<'a>(
+    spans: &[Span],
+    lits: &'a mut [LocalLit],
+    clause: ClauseIndex,
+) -> Result<&'a mut [LocalLit], ElaborateFault> {
+    let (start, end) = span_of(spans, clause)?;
+    if start <= end && end <= lits.len() {
+        Ok(&mut lits[start..end])
+    } else {
+        Err(ElaborateFault::Internal)
+    }
+}
+
+#[inline(always)]
+fn span_of(spans: &[Span], clause: ClauseIndex) -> Result<(usize, usize), ElaborateFault> {
+    match spans.get(clause.get()) {
+        Some(span) => Ok((span.start as usize, span.end as usize)),
+        None => Err(ElaborateFault::Internal),
     }
 }
 

@@ -64,7 +64,12 @@ impl Trail {
 
     #[inline(always)]
     pub(crate) fn value(&self, lit: LocalLit) -> Value {
-        self.values.get(lit.place()).copied().unwrap_or(Value::Free)
+        value_in(&self.values, lit)
+    }
+
+    /// What is known of the literals, by their places.
+    pub(crate) fn values(&self) -> &[Value] {
+        self.values.as_slice()
     }
 
     /// The clause that forced the variable of a literal.
@@ -119,6 +124,12 @@ impl Trail {
             Value::False => place as u64,
         }
     }
+}
+
+/// What is known of a literal.
+#[inline(always)]
+pub(crate) fn value_in(values: &[Value], lit: LocalLit) -> Value {
+    values.get(lit.place()).copied().unwrap_or(Value::Free)
 }
 
 #[inline(always)]
