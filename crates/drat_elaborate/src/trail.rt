@@ -111,17 +111,20 @@ impl Trail {
         self.lits.truncate(len);
     }
 
+    fn place_or_0(&self, lit: LocalLit) -> u32 {
+        match self.causes.get(lit.variable()) {
+            Some(cause) => cause.place,
+            None => 0,
+        }
+    }
+
     /// How good a literal is to be watched: one that has been true longest is best, then a free
     /// one, then one that became false late.
     pub(crate) fn rank(&self, lit: LocalLit) -> u64 {
-        let place = match self.causes.get(lit.variable()) {
-            Some(cause) => cause.place,
-            None => 0,
-        };
         match self.value(lit) {
-            Value::True => u64::MAX - place as u64,
             Value::Free => 0x100_0000_0000,
-            Value::False => place as u64,
+            Value::True => u64::MAX - self.place_or_0(lit) as u64,
+            Value::False => self.place_or_0(lit) as u64,
         }
     }
 }
