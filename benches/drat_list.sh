@@ -93,10 +93,10 @@ prove() {
   esac
 }
 
-# taken COMMAND..: seconds and megabytes, and the output in $work/said
+# taken COMMAND..: seconds and megabytes in two words
 taken() {
   /usr/bin/time -o "$work/time" -f '%U %S %M' "$@" > "$work/said" 2> "$work/errors" || true
-  awk 'NF == 3 { printf "%.2f %.1f", $1 + $2, $3 / 1024 }' "$work/time"
+  awk 'NF == 3 { printf "%7.2f %7.1f", $1 + $2, $3 / 1024 }' "$work/time"
 }
 
 # counted COMMAND..: millions of instructions of the whole program
@@ -116,7 +116,7 @@ measured() {
   if (($1)); then
     count=$(counted "${@:2}")
   fi
-  printf '%7s %7s %7s' $(taken "${@:2}") "$count"
+  printf '%s %7s' "$(taken "${@:2}")" "$count"
 }
 
 # row NAME CNF DRAT: a line; the status says whether all was as it should be

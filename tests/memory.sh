@@ -1,5 +1,5 @@
 #!/usr/bin/env bash
-# Runs the checkers of LRAT text on proofs and formulas with the variable of the greatest number, and looks at the memory that
+# Runs the checkers of LRAT text and of DRAT proofs on proofs and formulas with the variable of the greatest number, and looks at the memory that
 # they take: variables that are named cost nothing by their number.
 #
 # The programs must be built: `rt ci` does it, or `rt run` in their folders.
@@ -11,7 +11,7 @@ work=$(mktemp -d)
 trap 'rm -rf "$work"' EXIT
 cd "$work"
 wrong=0
-for program in lrat_check hint_check; do
+for program in drat_check lrat_check hint_check; do
   if [[ ! -x $top/crates/${program}_main/out/${program}_main ]]; then
     echo "not built: $program"
     exit 1
@@ -59,4 +59,11 @@ takes_little 3 's NOT VERIFIED' '' lrat_check '268435456 0\n' '1 d 1 0\n3 -26843
 takes_little 1 '' 'proof: line 1: hints end without a conflict\nin p' lrat_check '268435456 1 0\n' '3 -268435456 0 0\n'
 takes_little 1 '' 'proof: line 2: hints end without a conflict\nin p' lrat_check '268435456 1 0\n268435456 2 0\n' \
   '1 d 1 0\n3 -268435456 0 0\n'
+# DRAT: the formula has it; a clause that is added, needed or not; a deletion
+four='1 2 0\n1 -2 0\n-1 2 0\n-1 -2 0\n'
+takes_little 0 's VERIFIED UNSAT' '' drat_check "$pairs" '268435456 0\n'
+takes_little 0 's VERIFIED UNSAT' '' drat_check "$pairs" '-268435456 0\n'
+takes_little 0 's VERIFIED UNSAT' '' drat_check "$four" '268435456 2 0\n-268435456 1 0\n1 2 0\n1 0\n'
+takes_little 0 's VERIFIED UNSAT' '' drat_check "$four" 'd 268435456 -3 0\n1 0\n'
+takes_little 3 's NOT VERIFIED' '' drat_check '1 2 0\n' '268435456 0\n-268435456 3 0\n'
 exit $wrong

@@ -60,11 +60,16 @@ impl ClauseLink {
     }
 }
 
+/// Where the literals of a clause stand.
+#[derive(Clone, Copy)]
+pub(crate) struct Span {
+    start: u32,
+    end: u32,
+}
+
 /// What is known of a clause besides its literals.
 #[derive(Clone, Copy)]
 pub(crate) struct Clause {
-    start: u32,
-    end: u32,
     /// The code of the pivot; that of no literal in the empty clause.
     pivot: u32,
     /// The next clause of the same bucket.
@@ -92,16 +97,18 @@ impl Clause {
     }
 }
 
-/// All clauses.
+/// All clauses. Propagation looks at their spans and literals alone, which lie close together so.
 #[derive(Drop)]
 pub(crate) struct Clauses {
+    pub(crate) spans: Vec<Span>,
     table: Vec<Clause>,
-    lits: Vec<LocalLit>,
+    pub(crate) lits: Vec<LocalLit>,
 }
 
 impl Clauses {
     pub(crate) fn new(alloc: Global) -> Clauses {
         Clauses {
+            spans: Vec::new(alloc),
             table: Vec::new(alloc),
             lits: Vec::new(alloc),
         }
@@ -121,9 +128,8 @@ impl Clauses {
         let start = narrow(self.lits.len())?;
         self.lits.extend_from_slice(lits)?;
         let end = narrow(self.lits.len())?;
+        self.spans.push(Span { start, end })?;
         self.table.push(Clause {
-            start,
-            end,
             pivot: match lits.first() {
                 Some(lit) => lit.code(),
                 None => Clause::NO_PIVOT,
@@ -150,8 +156,7 @@ impl Clauses {
 
     /// The literals of a clause, in the order in which they are watched.
     pub(crate) fn lits(&self, clause: ClauseIndex) -> Result<&[LocalLit], ElaborateFault> {
-        let found = self.get(clause)?;
-        let (start, end) = (found.start as usize, found.end as usize);
+        let (start, end) = span_of(&self.spans, clause)?;
         if start <= end && end <= self.lits.len() {
             Ok(&self.lits[start..end])
         } else {
@@ -163,19 +168,36 @@ impl Clauses {
         &mut self,
         clause: ClauseIndex,
     ) -> Result<&mut [LocalLit], ElaborateFault> {
-        let found = self.get(clause)?;
-        let (start, end) = (found.start as usize, found.end as usize);
-        if start <= end && end <= self.lits.len() {
-            Ok(&mut self.lits[start..end])
-        } else {
-            Err(ElaborateFault::Internal)
-        }
+        lits_at(&self.spans, &mut self.lits, clause)
     }
 
     /// Whether the clause is there and used, so that a redundant clause is checked against it.
     pub(crate) fn is_candidate(&self, clause: ClauseIndex) -> Result<bool, ElaborateFault> {
         let found = self.get(clause)?;
         Ok(found.is_active && found.is_core && !found.is_tautology)
+    }
+}
+
+/// The literals of a clause among those of all.
+#[inline(always)]
+pub(crate) fn lits_at<'a>(
+    spans: &[Span],
+    lits: &'a mut [LocalLit],
+    clause: ClauseIndex,
+) -> Result<&'a mut [LocalLit], ElaborateFault> {
+    let (start, end) = span_of(spans, clause)?;
+    if start <= end && end <= lits.len() {
+        Ok(&mut lits[start..end])
+    } else {
+        Err(ElaborateFault::Internal)
+    }
+}
+
+#[inline(always)]
+fn span_of(spans: &[Span], clause: ClauseIndex) -> Result<(usize, usize), ElaborateFault> {
+    match spans.get(clause.get()) {
+        Some(span) => Ok((span.start as usize, span.end as usize)),
+        None => Err(ElaborateFault::Internal),
     }
 }
 

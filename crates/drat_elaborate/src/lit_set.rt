@@ -29,10 +29,13 @@ impl LitSet {
     }
 
     pub(crate) fn insert(&mut self, lit: LocalLit) -> Result<(), ElaborateFault> {
-        if self.stamps.len() <= lit.place() {
-            self.stamps.resize(lit.place() + 1, 0)?;
+        let place = lit.place();
+        if self.stamps.len() <= place {
+            self.stamps.resize(place.saturating_add(1), 0)?;
         }
-        self.stamps[lit.place()] = self.now;
+        if let Some(stamp) = self.stamps.get_mut(place) {
+            *stamp = self.now;
+        }
         Ok(())
     }
 }

@@ -1,6 +1,4 @@
 //! Literals over the variables as they are numbered here.
-ghost use Rattle.std.specs.Prelude.{◌<◌, ◌^◌};
-
 use std::ops::Not;
 
 /// A literal: twice the number of its variable here, and 1 more where it is negative.
@@ -26,17 +24,13 @@ impl LocalLit {
 
     /// The place of the literal in lists of all literals.
     #[inline(always)]
-    pub(crate) fn place(self) -> usize
-        ensures { result < 2 ^ 32 }
-    {
+    pub(crate) fn place(self) -> usize {
         self.0 as usize
     }
 
     /// The number of the variable.
     #[inline(always)]
-    pub(crate) fn variable(self) -> usize
-        ensures { result < 2 ^ 31 }
-    {
+    pub(crate) fn variable(self) -> usize {
         (self.0 / 2) as usize
     }
 

@@ -136,16 +136,19 @@ fn is_same(clause: &[LocalLit], lits: &[LocalLit], set: &LitSet) -> bool {
     clause.len() == lits.len() && clause.iter().all(|lit| set.contains(*lit))
 }
 
-/// A hash in which the order of the literals doesn't matter.
+/// A hash in which the order of the literals doesn't matter: the upper half of the sum of their
+/// own, which is no sum of what few literals have in common.
 fn hash(lits: &[LocalLit]) -> u32 {
-    let mut sum = 0u32;
-    let mut mixed = 0u32;
-    let mut product = 1u32;
+    let mut sum = 0u64;
     for lit in lits {
-        let key = lit.code().wrapping_add(1).wrapping_mul(0x9E37_79B1);
-        sum = sum.wrapping_add(key);
-        mixed ^= key ^ (key >> 15);
-        product = product.wrapping_mul(key | 1);
+        sum = sum.wrapping_add(mixed(lit.code() as u64));
     }
-    sum.wrapping_mul(1023).wrapping_add(product) ^ mixed.wrapping_mul(31)
+    (sum >> 32) as u32
+}
+
+/// The code of a literal, each bit of which changes many of the answer.
+#[inline(always)]
+fn mixed(code: u64) -> u64 {
+    let spread = code.wrapping_add(1).wrapping_mul(0x9E37_79B9_7F4A_7C15);
+    (spread ^ (spread >> 29)).wrapping_mul(0xBF58_476D_1CE4_E5B9)
 }

@@ -40,7 +40,11 @@ impl Occurrences {
     /// The clauses that a literal stands in.
     pub(crate) fn of(&self, lit: LocalLit) -> &[ClauseIndex] {
         let start = self.starts.get(lit.place()).copied().unwrap_or(0);
-        let end = self.starts.get(lit.place() + 1).copied().unwrap_or(0);
+        let end = self
+            .starts
+            .get(lit.place().wrapping_add(1))
+            .copied()
+            .unwrap_or(0);
         if start <= end && end <= self.clauses.len() {
             &self.clauses[start..end]
         } else {

@@ -2,7 +2,7 @@
 use crate::clauses::{ClauseIndex, ClauseLink, Clauses};
 use crate::fault::ElaborateFault;
 use crate::local::LocalLit;
-use crate::sweep::{Sweep, Sweeper, Until};
+use crate::sweep::{Sweep, sweep};
 use crate::trail::{Trail, Value};
 use crate::watches::{Watch, Watches};
 use std::alloc::{AllocError, Global};
@@ -197,18 +197,40 @@ impl Propagator {
     /// Goes through all the used clauses that watch a literal.
     fn advance_core(&mut self, falsified: LocalLit) -> Result<Progress, ElaborateFault> {
         let mut watches = self.core.take(falsified)?;
-        let mut sweeper = Sweeper {
-            clauses: &mut self.clauses,
-            trail: &mut self.trail,
-            lists: &mut self.core,
-            falsified,
-        };
-        let sweep = sweeper.run(&mut watches, 0, Until::Conflict);
+        let conflict = self.sweep_core(&mut watches, falsified);
         self.core.put(falsified, watches);
-        match sweep? {
-            Sweep::Conflict(clause) => Ok(Progress::Conflict(clause)),
-            Sweep::Unit(_) | Sweep::End => Ok(Progress::Going),
+        match conflict? {
+            Some(clause) => Ok(Progress::Conflict(clause)),
+            None => Ok(Progress::Going),
         }
+    }
+
+    fn sweep_core(
+        &mut self,
+        watches: &mut Vec<Watch>,
+        falsified: LocalLit,
+    ) -> Result<Option<ClauseIndex>, ElaborateFault> {
+        let mut from = 0;
+        // Each sweep but the last stops after another clause of the list.
+        for _ in 0..watches.len().saturating_add(1) {
+            let swept = sweep(
+                &mut self.clauses,
+                self.trail.values(),
+                &mut self.core,
+                watches,
+                from,
+                falsified,
+            );
+            match swept? {
+                Sweep::Unit { clause, lit, next } => {
+                    self.trail.assign(lit, ClauseLink::to(clause))?;
+                    from = next;
+                }
+                Sweep::Conflict(clause) => return Ok(Some(clause)),
+                Sweep::End => return Ok(None),
+            }
+        }
+        Err(ElaborateFault::Internal)
     }
 
     /// Goes through the other clauses that watch a literal, up to the first that is unit.
@@ -218,17 +240,19 @@ impl Propagator {
         heads: &mut Heads,
     ) -> Result<Progress, ElaborateFault> {
         let mut watches = self.rest.take(falsified)?;
-        let mut sweeper = Sweeper {
-            clauses: &mut self.clauses,
-            trail: &mut self.trail,
-            lists: &mut self.rest,
+        let swept = sweep(
+            &mut self.clauses,
+            self.trail.values(),
+            &mut self.rest,
+            &mut watches,
+            heads.next,
             falsified,
-        };
-        let sweep = sweeper.run(&mut watches, heads.next, Until::Unit);
+        );
         self.rest.put(falsified, watches);
-        match sweep? {
+        match swept? {
             Sweep::Conflict(clause) => Ok(Progress::Conflict(clause)),
-            Sweep::Unit(next) => {
+            Sweep::Unit { clause, lit, next } => {
+                self.trail.assign(lit, ClauseLink::to(clause))?;
                 heads.next = next;
                 Ok(Progress::Going)
             }

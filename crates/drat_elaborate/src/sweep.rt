@@ -1,23 +1,20 @@
 //! One list of watches, gone through when its literal became false.
-use crate::clauses::{ClauseIndex, ClauseLink, Clauses};
+use crate::clauses::{ClauseIndex, Clauses, lits_at};
 use crate::fault::ElaborateFault;
 use crate::local::LocalLit;
-use crate::trail::{Trail, Value};
+use crate::trail::{Value, value_in};
 use crate::watches::{Watch, Watches};
-
-/// Where a list is left.
-#[derive(Clone, Copy, PartialEq, Eq)]
-pub(crate) enum Until {
-    Unit,
-    Conflict,
-}
 
 /// Where a list was left.
 #[derive(Clone, Copy)]
 pub(crate) enum Sweep {
     End,
-    /// After a unit, at this place of the list.
-    Unit(usize),
+    /// After a clause that forces a literal, at this place of the list.
+    Unit {
+        clause: ClauseIndex,
+        lit: LocalLit,
+        next: usize,
+    },
     Conflict(ClauseIndex),
 }
 
@@ -32,67 +29,46 @@ enum Found {
     Conflict,
 }
 
-/// What a list is gone through with.
-#[derive(Drop)]
-pub(crate) struct Sweeper<'a> {
-    pub(crate) clauses: &'a mut Clauses,
-    pub(crate) trail: &'a mut Trail,
-    /// The lists that the clauses move to.
-    pub(crate) lists: &'a mut Watches,
-    pub(crate) falsified: LocalLit,
-}
-
-impl Sweeper<'_> {
-    /// Goes through a list from a place on. Clauses with a literal that is not false move to that
-    /// one's list, and literals of unit clauses become true.
-    pub(crate) fn run(
-        &mut self,
-        watches: &mut Vec<Watch>,
-        from: usize,
-        until: Until,
-    ) -> Result<Sweep, ElaborateFault> {
-        let mut at = from;
-        // Each step goes on by one place, or takes one out.
-        for _ in from..watches.len() {
-            if at >= watches.len() {
-                break;
-            }
-            let Watch { clause, blocker } = watches[at];
-            if self.trail.value(blocker) == Value::True {
-                at += 1;
-                continue;
-            }
-            let lits = self.clauses.lits_mut(clause)?;
-            match look(lits, self.falsified, self.trail)? {
-                Found::True(lit) => {
-                    watches[at] = Watch {
-                        clause,
-                        blocker: lit,
-                    };
-                    at += 1;
-                }
-                Found::Moved(to, other) => {
-                    self.lists.push(
-                        to,
-                        Watch {
-                            clause,
-                            blocker: other,
-                        },
-                    )?;
-                    watches.swap_remove(at);
-                }
-                Found::Unit(lit) => {
-                    self.trail.assign(lit, ClauseLink::to(clause))?;
-                    at += 1;
-                    if until == Until::Unit {
-                        return Ok(Sweep::Unit(at));
-                    }
-                }
-                Found::Conflict => return Ok(Sweep::Conflict(clause)),
-            }
+/// Goes through a list from a place on, up to the first clause that forces a literal. Clauses with
+/// a literal that is not false move to that one's list.
+pub(crate) fn sweep(
+    clauses: &mut Clauses,
+    values: &[Value],
+    lists: &mut Watches,
+    watches: &mut Vec<Watch>,
+    from: usize,
+    falsified: LocalLit,
+) -> Result<Sweep, ElaborateFault> {
+    let spans = clauses.spans.as_slice();
+    let lits = clauses.lits.as_mut_slice();
+    let mut at = from;
+    // Each step goes on by one place, or takes one out.
+    for _ in from..watches.len() {
+        if at >= watches.len() {
+            break;
         }
-        Ok(Sweep::End)
+        let Watch { clause, blocker } = watches[at];
+        if value_in(values, blocker) == Value::True {
+            at += 1;
+            continue;
+        }
+        match look(lits_at(spans, lits, clause)?, falsified, values)? {
+            Found::True(blocker) => {
+                watches[at] = Watch { clause, blocker };
+                at += 1;
+            }
+            Found::Moved(to, blocker) => {
+                lists.push(to, Watch { clause, blocker })?;
+                watches.swap_remove(at);
+            }
+            Found::Unit(lit) => {
+                let next = at + 1;
+                return Ok(Sweep::Unit { clause, lit, next });
+            }
+            Found::Conflict => return Ok(Sweep::Conflict(clause)),
+        }
     }
+    Ok(Sweep::End)
 }
 
 /// Looks for a literal of a clause that is not false, to be watched in place of one that became
@@ -101,7 +77,7 @@ impl Sweeper<'_> {
 fn look(
     lits: &mut [LocalLit],
     falsified: LocalLit,
-    trail: &Trail,
+    values: &[Value],
 ) -> Result<Found, ElaborateFault> {
     if lits.len() < 2 {
         return Err(ElaborateFault::Internal);
@@ -110,13 +86,13 @@ fn look(
         lits.swap(0, 1);
     }
     let other = lits[0];
-    let value = trail.value(other);
+    let value = value_in(values, other);
     if value == Value::True {
         return Ok(Found::True(other));
     }
     for place in 2..lits.len() {
         let lit = lits[place];
-        if trail.value(lit) != Value::False {
+        if value_in(values, lit) != Value::False {
             lits.swap(1, place);
             return Ok(Found::Moved(lit, other));
         }

@@ -64,7 +64,12 @@ impl Trail {
 
     #[inline(always)]
     pub(crate) fn value(&self, lit: LocalLit) -> Value {
-        self.values.get(lit.place()).copied().unwrap_or(Value::Free)
+        value_in(&self.values, lit)
+    }
+
+    /// What is known of the literals, by their places.
+    pub(crate) fn values(&self) -> &[Value] {
+        self.values.as_slice()
     }
 
     /// The clause that forced the variable of a literal.
@@ -106,19 +111,28 @@ impl Trail {
         self.lits.truncate(len);
     }
 
+    fn place_or_0(&self, lit: LocalLit) -> u32 {
+        match self.causes.get(lit.variable()) {
+            Some(cause) => cause.place,
+            None => 0,
+        }
+    }
+
     /// How good a literal is to be watched: one that has been true longest is best, then a free
     /// one, then one that became false late.
     pub(crate) fn rank(&self, lit: LocalLit) -> u64 {
-        let place = match self.causes.get(lit.variable()) {
-            Some(cause) => cause.place,
-            None => 0,
-        };
         match self.value(lit) {
-            Value::True => u64::MAX - place as u64,
             Value::Free => 0x100_0000_0000,
-            Value::False => place as u64,
+            Value::True => u64::MAX - self.place_or_0(lit) as u64,
+            Value::False => self.place_or_0(lit) as u64,
         }
     }
+}
+
+/// What is known of a literal.
+#[inline(always)]
+pub(crate) fn value_in(values: &[Value], lit: LocalLit) -> Value {
+    values.get(lit.place()).copied().unwrap_or(Value::Free)
 }
 
 #[inline(always)]

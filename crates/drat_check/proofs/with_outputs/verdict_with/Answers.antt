@@ -7,5 +7,5 @@ returns-in-Err-clause-outputs g c =
 
 pub returns-in-Err-elaborate-clause-outputs : goal.returns-in-Err-elaborate-clause-outputs
 returns-in-Err-elaborate-clause-outputs g c =
-    refused c.args.formula.now g.L.Write.contents g.C.Write.contents c.args.lrat.now c.args.core.now c.from-in-Err-elaborate.result
-    c.from-in-Err-elaborate-2.result c.from-in-Err-elaborate-2.ensures
+    refused c.args.formula.now g.L.Write.contents g.C.Write.contents c.args.lrat.now c.args.core.now c.in-Err-elaborate.fault
+    c.from-in-Err-elaborate.result c.from-in-Err-elaborate.ensures

@@ -1,0 +1,164 @@
+"""Formulas and DRAT proofs that cost as much as they can.
+
+drat_hostile.py                   the names of the cases
+drat_hostile.py CASE CNF DRAT     writes the two files of a case
+"""
+
+import itertools
+import sys
+
+LAST = 1 << 28
+FOUR = [[1, 2], [1, -2], [-1, 2], [-1, -2]]
+
+
+def text(clauses, mark=""):
+    return "".join(f"{mark}{' '.join(map(str, [*clause, 0]))}\n" for clause in clauses)
+
+
+def deletions(clauses):
+    return text(clauses, "d ")
+
+
+def candidates():
+    """1,000 clauses that are redundant by a new variable, each against 1,000 clauses, all of them needed."""
+    count = 1_000
+    x, ys, zs = 1, range(2, 2 + count), range(2 + count, 2 + 2 * count)
+    ws = range(2 + 2 * count, 2 + 3 * count)
+    formula = [clause for y, w in zip(ys, ws) for clause in ([y, w], [y, -w])]
+    formula += [[-y for y in ys], [-z for z in zs]]
+    proof = [[-x, y] for y in ys] + [[x, z] for z in zs] + [[x]]
+    return text(formula), text(proof)
+
+
+def occurrences():
+    """10,000 clauses that are redundant by a new variable, which stands against them in 10,000 that nothing needs."""
+    count = 10_000
+    x, q, r, t, zs = 1, 2, 3, 4, range(5, 5 + count)
+    formula = [[q, r], [q, -r], [-q, t], [-q, -t], [-z for z in zs]]
+    idle = [[-x, q, z] for z in zs]
+    return text(formula), text([*idle, [-x, q], *([x, z] for z in zs), [x]])
+
+
+def last_variable():
+    return text(FOUR), text([[LAST, 1], [-LAST, 1], [1]])
+
+
+def far_variables():
+    """100,000 variables, each far from the others."""
+    names = [LAST - 2_000 * place for place in range(100_000)]
+    return text(FOUR), text([[name, 1, 2] for name in names] + [[1]])
+
+
+def deletions_of_nothing():
+    return text(FOUR), deletions([[3, 4]]) * 1_000_000 + text([[1]])
+
+
+def deletions_of_reasons():
+    """1,000 literals that follow from the formula's units, and 1,000 times each of their clauses deleted."""
+    chain = [[1]] + [[-it, it + 1] for it in range(1, 1_000)]
+    four = [[it + 1_000 if it > 0 else it - 1_000 for it in clause] for clause in FOUR]
+    return text(chain + four), deletions(chain) * 1_000 + text([[1_001]])
+
+
+def long_clause():
+    return text([*FOUR, range(1, 10_000_001)]), text([[1]])
+
+
+def long_lemma():
+    return text(FOUR), text([range(1, 10_000_001), [1]])
+
+
+def long_deletion():
+    return text(FOUR), deletions([range(1, 10_000_001)]) + text([[1]])
+
+
+def repeated_literal():
+    return text(FOUR), text([[1] * 10_000_000])
+
+
+def equal_clauses():
+    """One clause 100,000 times, deleted as often."""
+    same = [[3, 4, 5]] * 100_000
+    return text(FOUR), text(same) + deletions(same) + text([[1]])
+
+
+def one_literal():
+    """30,000 clauses that watch one literal, the oldest deleted first."""
+    some = [[3, 4 + place] for place in range(30_000)]
+    return text(FOUR), text(some) + deletions(some) + text([[1]])
+
+
+def sums_of_one_hash():
+    """20,000 clauses over the variables that a sum, a product and an exclusive or of multiples of 2^15 can't tell apart."""
+    multiplier, bits = 0x9E3779B1, 15
+    literals = [place << bits for place in range(1, 65)]
+    values = [(it * multiplier % 2**32 >> bits) % 2**bits for it in literals]
+    basis, null = [], []
+    for place, value in enumerate(values):
+        chosen = 1 << place
+        for lead, other, mask in basis:
+            if value >> lead & 1:
+                value ^= other
+                chosen ^= mask
+        if value:
+            basis.append((value.bit_length() - 1, value, chosen))
+            basis.sort(reverse=True)
+        else:
+            null.append(chosen)
+    sums = {}
+    for some in itertools.chain(*(itertools.combinations(null, size) for size in (1, 2, 3))):
+        mask = 0
+        for it in some:
+            mask ^= it
+        sums.setdefault(mask)
+    clauses = []
+    for mask in itertools.islice(sums, 20_000):
+        codes = [literal - 1 for place, literal in enumerate(literals) if mask >> place & 1]
+        clauses.append([-(code // 2 + 1) if code % 2 else code // 2 + 1 for code in codes])
+    named = text([range(1, (1 << 20) + 2)])
+    return text(FOUR), named + text(clauses) + deletions(clauses) + text([[1]])
+
+
+def long_trail():
+    """10,000 clauses that are checked while 1,000,000 variables have values."""
+    units = [[it] for it in range(1, 1_000_001)]
+    x = 1_000_001
+    ys = range(x + 1, x + 10_001)
+    formula = units + [clause for y in ys for clause in ([x, y, y + 10_000], [x, y, -y - 10_000])]
+    formula += [[-y for y in ys] + [x], [-x, ys[-1] + 20_000], [-x, -ys[-1] - 20_000]]
+    return text(formula), text([[x, y] for y in ys] + [[x]])
+
+
+CASES = {
+    it.__name__: it
+    for it in (
+        candidates,
+        occurrences,
+        last_variable,
+        far_variables,
+        deletions_of_nothing,
+        deletions_of_reasons,
+        long_clause,
+        long_lemma,
+        long_deletion,
+        repeated_literal,
+        equal_clauses,
+        one_literal,
+        sums_of_one_hash,
+        long_trail,
+    )
+}
+
+
+def main(words):
+    if not words:
+        print("\n".join(CASES))
+        return
+    name, cnf, drat = words
+    for path, content in zip((cnf, drat), CASES[name]()):
+        with open(path, "w") as file:
+            file.write(content)
+
+
+if __name__ == "__main__":
+    main(sys.argv[1:])
