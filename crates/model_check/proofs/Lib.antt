@@ -1,2 +1,5 @@
+pub mod LineRowsFacts
 pub mod ModelLemmas
+pub mod SeekingLemmas
+pub mod SeekingRuns
 pub mod VerdictLemmas
