@@ -35,8 +35,8 @@ class Tries:
 
     def judged(self, name, clauses, literals):
         """A list after a status line, in `v` lines of some literals each."""
-        rows = [literals[i : i + 7] for i in range(0, len(literals), 7)]
-        text = "".join(f"v {' '.join(map(str, row))}\n" for row in rows)
+        parts = [literals[i : i + 7] for i in range(0, len(literals), 7)]
+        text = "".join(f"v {' '.join(map(str, part))}\n" for part in parts)
         lines, rows = range(1, len(clauses) + 1), [2 + place // 7 for place in range(len(literals))]
         self.wants(name, dimacs(clauses), f"s SATISFIABLE\n{text}v 0\n", *definition(clauses, literals, lines, rows))
 
@@ -55,7 +55,8 @@ def dimacs(clauses):
 
 def spread(clauses, source):
     """A text of the clauses, and the line on which each ends."""
-    text, lines = source.choice(("", "c 1 0\n", "p cnf 9 9\n", " p  cnf 0 00\r\n\nc\n")), []
+    count = len(clauses)
+    text, lines = source.choice(("", "c 1 0\n", f"p cnf 9 {count}\n", f" p  cnf 09 0{count}\r\n\nc\n")), []
     for clause in clauses:
         for number in [*clause, 0]:
             text += source.choice((f"{number}", f"{number:03}")) if number >= 0 else f"{number}"

@@ -134,8 +134,8 @@ fn kind_of_file(rt: &HostRuntime, name: &str) -> Option<Kind> {
     kind_of(&head[..count])
 }
 
-/// Opens a file once more that was read. None: it is standard input, or no regular file, whose bytes
-/// come only once; or it can't be opened.
+/// Opens a file once more that was read. None: it is standard input, or no regular file, so that its
+/// bytes come only once; or it can't be opened.
 pub fn open_again(rt: &HostRuntime, name: &str) -> Option<File>
     ensures { name.now ≡ codes "-" → IsNone result }
 {

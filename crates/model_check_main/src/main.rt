@@ -81,7 +81,7 @@ fn check_example(rt: &HostRuntime) -> u8 {
     report(rt, &outcome)
 }
 
-/// Says which clause has no literal of the answer, and on which line it ends where that can be read.
+/// Says which clause has no literal of the answer, and on which line it ends, if that can be read.
 fn say_unmet(rt: &HostRuntime, cnf_name: &str, clause: u64) {
     let _ = match line_in_file(rt, cnf_name, clause) {
         Some(line) => {
