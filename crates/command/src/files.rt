@@ -134,7 +134,7 @@ fn kind_of_file(rt: &HostRuntime, name: &str) -> Option<Kind> {
     kind_of(&head[..count])
 }
 
-/// Opens a file once more that was read. None: it is standard input, or no regular file, so that its
+/// Opens a file once more that was read. None: it is standard input or no regular file, and its
 /// bytes come only once; or it can't be opened.
 pub fn open_again(rt: &HostRuntime, name: &str) -> Option<File>
     ensures { name.now ≡ codes "-" → IsNone result }
