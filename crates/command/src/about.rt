@@ -42,13 +42,13 @@ const COMMON_OPTIONS: [Entry<'static>; 2] = [
     },
 ];
 
-const FAILED: Entry<'static> = Entry {
+const FAILED_STATUS: Entry<'static> = Entry {
     name: "1",
     text: "a file is malformed or refused, or a read, a write or an allocation failed: \
         nothing is claimed, and standard error says why",
 };
 
-const NOT_RUN: Entry<'static> = Entry {
+const NOT_RUN_STATUS: Entry<'static> = Entry {
     name: "2",
     text: "wrong arguments, or a file that can't be opened",
 };
@@ -89,7 +89,7 @@ impl About<'_> {
             name: "3",
             text: self.open,
         };
-        write_entries(f, &[verified, FAILED, NOT_RUN, open])
+        write_entries(f, &[verified, FAILED_STATUS, NOT_RUN_STATUS, open])
     }
 }
 
