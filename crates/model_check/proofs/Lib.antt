@@ -1,3 +1,4 @@
+pub mod ClauseLineLemmas
 pub mod LineRowsFacts
 pub mod ModelLemmas
 pub mod SeekingLemmas
