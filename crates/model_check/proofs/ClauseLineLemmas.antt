@@ -21,7 +21,7 @@ other a b never = elim (eqb_tells a b) [
 ]
 
 -- what a byte did, and the bytes after it
-abbrev goes_on : After → List ℕ → Outcome
+abbrev pub goes_on : After → List ℕ → Outcome
 goes_on a bs = elim a [
   | Goes t ↦ outcome_at t bs
   | Gives clause t ↦ with_clause clause (outcome_at t bs)
@@ -29,7 +29,7 @@ goes_on a bs = elim a [
 ]
 
 -- the line that is found then
-abbrev reads_on : ℕ → ℕ → After → List ℕ → Option ℕ
+abbrev pub reads_on : ℕ → ℕ → After → List ℕ → Option ℕ
 reads_on left line a bs = elim a [
   | Goes t ↦ line_from left t bs
   | Gives clause t ↦ cond (eqb left 1) (Some line) (line_from (left - 1) t bs)

@@ -6,7 +6,7 @@ use Rattle.std.proofs.lemmas.Bool.Decides.{eqb_tells}
 use Rattle.sat_formula.specs.Bytes.{is_blank, is_digit, is_lf}
 use Rattle.sat_formula.specs.Lines.{outcome_of}
 use Rattle.sat_formula.specs.Outcome as dimacs
-use Rattle.sat_formula.specs.Outcome.{Ending, Ended, Faulty, Outcome, with_clause}
+use Rattle.sat_formula.specs.Outcome.{Ending, Ended, Faulty, Outcome}
 use Rattle.sat_formula.specs.Text as text
 use Rattle.sat_formula.specs.Text.{State, At, outcome_at}
 use Rattle.sat_formula.specs.Vars.{lit_code}
@@ -24,6 +24,7 @@ use Rattle.model_check.specs.declared.seeking.Place.{Place}
 use Rattle.model_check.specs.declared.seeking.Place.TheVariants as places
 use Rattle.model_check.specs.declared.seeking.Spot.{Spot}
 use Rattle.model_check.specs.ClauseLines.{IsLine, line_at, line_at_end, line_from, line_of}
+use Rattle.model_check.proofs.ClauseLineLemmas.{goes_on, reads_on}
 use Rattle.model_check.proofs.ModelLemmas.{and_parts}
 use Rattle.model_check.specs.Seeking.{after, after_at, at_end, moved, next_line, number_ends, sought, start_at}
 
@@ -207,14 +208,6 @@ step_image left (At line seen begun (text.InNumber n)) b fine = by_tests (is_lf 
 
 -- ---- the whole text
 
--- what a byte did, and the bytes after it
-abbrev goes_on : text.After → List ℕ → Outcome
-goes_on a bs = elim a [
-  | text.Goes t ↦ outcome_at t bs
-  | text.Gives clause t ↦ with_clause clause (outcome_at t bs)
-  | text.Stops e ↦ ([], e)
-]
-
 fine_byte : (a : text.After) (bs : List ℕ) → (goes_on a bs).1 ≡ Ended → IsFine a
 fine_byte (text.Goes t) bs h = tt
 fine_byte (text.Gives clause t) bs h = tt
@@ -250,16 +243,8 @@ end_image left line (text.Gives clause t) = by_test (eqb left 1)
 end_image left line (text.Stops e) = refl
 
 -- what the search does after a byte
-abbrev seeks_on : After → List ℕ → Option ℕ
+abbrev pub seeks_on : After → List ℕ → Option ℕ
 seeks_on a bs = elim a [ Goes t ↦ sought t bs | Found line ↦ Some line | Ends ↦ None ]
-
--- what the reading does
-abbrev reads_on : ℕ → ℕ → text.After → List ℕ → Option ℕ
-reads_on left line a bs = elim a [
-  | text.Goes t ↦ line_from left t bs
-  | text.Gives clause t ↦ cond (eqb left 1) (Some line) (line_from (left - 1) t bs)
-  | text.Stops e ↦ None
-]
 
 byte_image : (left line : ℕ) (a : text.After) (bs : List ℕ) → (goes_on a bs).1 ≡ Ended →
     ((left : ℕ) (t : State) → (outcome_at t bs).1 ≡ Ended → sought (spot_at left t) bs ≡ line_from left t bs) →

@@ -8,11 +8,7 @@ use Rattle.model_check.specs.declared.seeking.After.{After}
 use Rattle.model_check.specs.declared.seeking.After.TheVariants.{Goes, Found, Ends}
 use Rattle.model_check.specs.ClauseLines.{IsLine}
 use Rattle.model_check.specs.Seeking.{after, at_end, sought, start_at}
-use Rattle.model_check.proofs.SeekingLemmas.{line_is}
-
--- what the search does after a byte
-abbrev seeks_on : After → List ℕ → Option ℕ
-seeks_on a bs = elim a [ Goes t ↦ sought t bs | Found line ↦ Some line | Ends ↦ None ]
+use Rattle.model_check.proofs.SeekingLemmas.{line_is, seeks_on}
 
 byte_first : (s : Spot) (b : ℕ) (bs : List ℕ) → sought s (b ∷ bs) ≡ seeks_on (after s b) bs
 unfolding sought
