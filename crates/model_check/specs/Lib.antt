@@ -1,3 +1,6 @@
+pub mod ClauseLines
+pub mod LineRows
 pub mod Models
 pub mod Runs
+pub mod Seeking
 pub mod Verdicts
