@@ -1,7 +1,7 @@
 //! The steps of the proof, and where they made the trail longer.
 use crate::clauses::{ClauseIndex, narrow};
 use crate::fault::ElaborateFault;
-use std::alloc::{AllocError, Global};
+use std::alloc::Global;
 
 /// A step of the proof.
 #[derive(Clone, Copy)]
@@ -67,8 +67,9 @@ impl Steps {
         self.steps.len()
     }
 
-    pub(crate) fn push(&mut self, step: Step) -> Result<(), AllocError> {
-        self.steps.push(PackedStep::of(step))
+    pub(crate) fn push(&mut self, step: Step) -> Result<(), ElaborateFault> {
+        self.steps.push(PackedStep::of(step))?;
+        Ok(())
     }
 
     /// The last step made the trail longer, which had this length.
@@ -93,11 +94,14 @@ impl Steps {
 
     /// The length of the trail before the step that was taken off last, where it made it longer.
     pub(crate) fn pop_growth(&mut self) -> Option<usize> {
-        let growth = *self.growths.last()?;
-        if growth.step as usize != self.steps.len().saturating_add(1) {
+        let (step, len) = match self.growths.last() {
+            Some(growth) => (growth.step as usize, growth.len as usize),
+            None => return None,
+        };
+        if step != self.steps.len().saturating_add(1) {
             return None;
         }
         self.growths.pop();
-        Some(growth.len as usize)
+        Some(len)
     }
 }
