@@ -2,7 +2,7 @@
 use crate::clauses::{ClauseIndex, ClauseLink, Clauses};
 use crate::fault::ElaborateFault;
 use crate::local::LocalLit;
-use crate::sweep::{Sweep, sweep};
+use crate::sweep::{Sweep, sweep_list};
 use crate::trail::{Trail, Value};
 use crate::watches::{Watch, Watches};
 use std::alloc::{AllocError, Global};
@@ -213,7 +213,7 @@ impl Propagator {
         let mut from = 0;
         // Each sweep but the last stops after another clause of the list.
         for _ in 0..watches.len().saturating_add(1) {
-            let swept = sweep(
+            let swept = sweep_list(
                 &mut self.clauses,
                 self.trail.values(),
                 &mut self.core,
@@ -240,7 +240,7 @@ impl Propagator {
         heads: &mut Heads,
     ) -> Result<Progress, ElaborateFault> {
         let mut watches = self.rest.take(falsified)?;
-        let swept = sweep(
+        let swept = sweep_list(
             &mut self.clauses,
             self.trail.values(),
             &mut self.rest,

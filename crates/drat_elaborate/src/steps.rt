@@ -1,7 +1,7 @@
 //! The steps of the proof, and where they made the trail longer.
 use crate::clauses::{ClauseIndex, narrow};
 use crate::fault::ElaborateFault;
-use std::alloc::{AllocError, Global};
+use std::alloc::Global;
 
 /// A step of the proof.
 #[derive(Clone, Copy)]
@@ -67,8 +67,9 @@ impl Steps {
         self.steps.len()
     }
 
-    pub(crate) fn push(&mut self, step: Step) -> Result<(), AllocError> {
-        self.steps.push(PackedStep::of(step))
+    pub(crate) fn push(&mut self, step: Step) -> Result<(), ElaborateFault> {
+        self.steps.push(PackedStep::of(step))?;
+        Ok(())
     }
 
     /// The last step made the trail longer, which had this length.

@@ -31,7 +31,7 @@ enum Found {
 
 /// Goes through a list from a place on, up to the first clause that forces a literal. Clauses with
 /// a literal that is not false move to that one's list.
-pub(crate) fn sweep(
+pub(crate) fn sweep_list(
     clauses: &mut Clauses,
     values: &[Value],
     lists: &mut Watches,
