@@ -172,8 +172,8 @@ def adders(bits, block):
         carried, yes = rippled(gates, *part, one)
         chosen += [choose(gates, carry, x, y) for x, y in zip(carried, without)]
         carry = choose(gates, carry, yes, no)
-    pairs = zip([*plain, last], [*chosen, carry])
-    return [*gates.clauses, [gates.odd(x, y) for x, y in pairs]]
+    differences = [gates.odd(x, y) for x, y in zip([*plain, last], [*chosen, carry])]
+    return [*gates.clauses, differences]
 
 
 def registers(bits, steps, seed):
@@ -188,7 +188,8 @@ def registers(bits, steps, seed):
         for tap in (taps[2], taps[1], taps[0]):
             total = gates.odd(total, y[tap])
         y = [total, *y[:-1]]
-    return [*gates.clauses, [gates.odd(a, b) for a, b in zip(x, y)]]
+    differences = [gates.odd(a, b) for a, b in zip(x, y)]
+    return [*gates.clauses, differences]
 
 
 def define(clauses, count, seed):

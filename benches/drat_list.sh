@@ -7,7 +7,7 @@
 # at most, instructions in millions where the proof has at most COUNTED bytes (5,000,000 where that is not set), and the same of
 # OTHER.cc, compiled by `g++ -O2` and called with a formula, a proof, and `--chains`; without it, of `drat_check` alone.
 # Text and binary must be verified, give the same LRAT lines, and `lrat_check` must accept these: else the line says what
-# was wrong, and the script ends with status 1. A proof of more than 30 MB, or that a solver needs more than LIMIT seconds for
+# was wrong, and the script ends with status 1. A proof of more than 40 MB, or that a solver needs more than LIMIT seconds for
 # (300), is left out.
 #
 # Formulas and proofs are kept in FOLDER, where that is set. The programs are those that `rt run` left in out/. It needs
@@ -40,11 +40,10 @@ grid8    | grid 8 8             | cadical
 ord30    | ordering 30          | cadical
 peb40    | pebbles 40           | cadical
 csel64   | adders 64 8          | cadical
-lfsr     | registers 24 60 1    | cadical
+lfsr30   | registers 24 30 1    | cadical
 mult7bc  | multiplier 7         | cadical --block --cover --condition
 mult7i   | multiplier 7         | cadical --plain
 php7v    | pigeons 7            | cryptominisat5 --bva 1 --bvaeveryn 1
-php8v    | pigeons 8            | cryptominisat5 --bva 1 --bvaeveryn 1
 col120v  | colours 120 9.2 4 2  | cryptominisat5 --bva 1 --bvaeveryn 1
 mult6v   | multiplier 6         | cryptominisat5 --bva 1 --bvaeveryn 1
 cook10   | pigeons 10           | extended 10
@@ -169,7 +168,7 @@ while IFS='|' read -r name formula how; do
     printf '%-8s no proof in time\n' "$name"
     continue
   fi
-  if (($(stat -c %s "$drat") > 30000000)); then
+  if (($(stat -c %s "$drat") > 40000000)); then
     printf '%-8s %9d left out\n' "$name" "$(stat -c %s "$drat")"
     continue
   fi

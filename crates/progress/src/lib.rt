@@ -2,10 +2,10 @@
 //! says how many lines it has given.
 #![tactic(auto)]
 
+mod console;
 mod lines;
-mod logged;
 #[cfg(test)]
 mod tests;
 
+pub use console::logged;
 pub use lines::LoggedLines;
-pub use logged::logged;
