@@ -24,7 +24,7 @@ pub(crate) enum ProofReader<R> {
     Frat(FratReader<R>),
 }
 
-impl<R: Read> ProofReader<R> {
+impl<R: Read + Drop> ProofReader<R> {
     /// A reader at the start of a proof. Of one that has to tell its format the first bytes are
     /// read.
     pub(crate) fn new(

@@ -88,7 +88,7 @@ impl Check {
             return Ok(satisfied);
         }
         for hint in hints {
-            match standing(propagator, *hint)? {
+            match standing_of(propagator, *hint)? {
                 Standing::False => return Ok(Some(*hint)),
                 Standing::Unit(lit) => propagator.trail.assign(lit, ClauseLink::to(*hint))?,
                 Standing::Other => {}
@@ -99,7 +99,7 @@ impl Check {
 }
 
 /// What a clause comes to. One that is not there can't be used, nor a tautology.
-fn standing(propagator: &Propagator, clause: ClauseIndex) -> Result<Standing, ElaborateFault> {
+fn standing_of(propagator: &Propagator, clause: ClauseIndex) -> Result<Standing, ElaborateFault> {
     let found = propagator.clauses.get(clause)?;
     if !found.is_active || found.is_tautology {
         return Ok(Standing::Other);

@@ -35,13 +35,13 @@ pub outside_letter : (x : ℕ) → (x ≡ 99 → ⊥) → is_space x ≡ false �
 outside_letter x n s = rw (ne_eqb x 99 n, s) refl
 
 -- the letter of a step
-pub letter_on : {R X : Type 0} {a b c : Known} {f : Tells} (format : Format) (x : ℕ) (source : Source R) (d : Draft) (r : Result X Stop) → Leads a b f (outcome_at format Outside) →
+pub letter_on : {R X : Type 0} {a b : Known} (c : Known) {f : Tells} (format : Format) (x : ℕ) (source : Source R) (d : Draft) (r : Result X Stop) → Leads a b f (outcome_at format Outside) →
     Consumes b c (x ∷ []) → after format Outside x ≡ begun x → BeginsStep d (begun x) r → ReadsLetter format d a c f source r
-letter_on format x source d (Ok y) l h e t = byte_on format Outside x {d = Goes (Within (slot_of d))} l h (e ∙ t)
-letter_on format x source d (Err stops.End) l h e t = absurd t
-letter_on format x source d (Err stops.Read) l h e t = absurd t
-letter_on format x source d (Err (stops.Wrong kind)) l h e t = by_byte (byte_on format Outside x {d = Stops kind} l h (e ∙ t))
-letter_on format x source d (Err stops.OutOfMemory) l h e t = absurd t
+letter_on c format x source d (Ok y) l h e t = byte_on format Outside x {d = Goes (Within (slot_of d))} l h (e ∙ t)
+letter_on c format x source d (Err stops.End) l h e t = absurd t
+letter_on c format x source d (Err stops.Read) l h e t = absurd t
+letter_on c format x source d (Err (stops.Wrong kind)) l h e t = by_byte (byte_on format Outside x {d = Stops kind} l h (e ∙ t))
+letter_on c format x source d (Err stops.OutOfMemory) l h e t = absurd t
 
 -- ---- the bytes of a number
 
@@ -99,19 +99,19 @@ pub unfinished : {a b : Known} {f : Tells} (d : Draft) (n : After) (last : Bool)
 unfinished {a} {b} {f} d n last e s t = by_end (ends_as (subst (λ (k : Bool). Says n k a b f) e s) (ap last_said t))
 
 -- a step ends
-pub ended : {a b : Known} {f : Tells} (d : Draft) (n : After) (last : Bool) (found : Found) → Says n last a b f → TakesNumber d n (Ok (Some found)) →
+pub ended : (a b : Known) (f : Tells) (d : Draft) (n : After) (last : Bool) (found : Found) → Says n last a b f → TakesNumber d n (Ok (Some found)) →
     GivesStep Text a b f (found_step d found) last
-ended d n false found s t = on_as Text {e = Gives (found_step d found)} s t
-ended d n true found s t = ends_as s (ap last_said t)
+ended a b f d n false found s t = on_as Text {e = Gives (found_step d found)} s t
+ended a b f d n true found s t = ends_as s (ap last_said t)
 
 -- a fault
-pub faulty : {R : Type 0} {a b : Known} {f : Tells} (d : Draft) (n : After) (last : Bool) (source : Source R) (stop : Stop) → Says n last a b f → TakesNumber d n (Err stop) →
+pub faulty : {R : Type 0} (a b : Known) (f : Tells) (d : Draft) (n : After) (last : Bool) (source : Source R) (stop : Stop) → Says n last a b f → TakesNumber d n (Err stop) →
     Stopped Text a b f source stop
-faulty d n last source stops.End s t = absurd t
-faulty d n last source stops.Read s t = absurd t
-faulty d n false source (stops.Wrong kind) s t = by_byte (on_as Text {e = Stops kind} s t)
-faulty d n true source (stops.Wrong kind) s t = by_end (ends_as s (ap last_said t))
-faulty d n last source stops.OutOfMemory s t = tt
+faulty a b f d n last source stops.End s t = absurd t
+faulty a b f d n last source stops.Read s t = absurd t
+faulty a b f d n false source (stops.Wrong kind) s t = by_byte (on_as Text {e = Stops kind} s t)
+faulty a b f d n true source (stops.Wrong kind) s t = by_end (ends_as s (ap last_said t))
+faulty a b f d n last source stops.OutOfMemory s t = tt
 
 -- ---- a binary number that is taken
 

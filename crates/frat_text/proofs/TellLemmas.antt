@@ -18,8 +18,10 @@ all_remains None = tt
 all_remains (Some bytes) = refl
 
 told_after : Sight → List ℕ → Bool
-told_after (Later next) rest = told_by next rest
-told_after (Told answer) rest = answer
+told_after sight rest = elim sight [
+  | Later next ↦ told_by next rest
+  | Told answer ↦ answer
+]
 
 told_next : (in_comment : Bool) (x : ℕ) (rest : List ℕ) → told_by in_comment (x ∷ rest) ≡ told_after (seen_at in_comment x) rest
 unfolding told_by told_after

@@ -76,7 +76,6 @@ impl Draft {
             return Err(Stop::Wrong(DratKind::Malformed));
         };
         self.due = due;
-        self.lits.clear();
         self.hints.clear();
         self.renamings.clear();
         Ok(())
@@ -177,6 +176,7 @@ impl Draft {
             return Err(Stop::Wrong(DratKind::NumberTooLarge));
         }
         self.due = Due::Lit(action, value);
+        self.lits.clear();
         Ok(None)
     }
 

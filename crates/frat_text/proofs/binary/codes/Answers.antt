@@ -13,26 +13,26 @@ codes-init g c = record { room = search rules; read = leads_nil _ _ }
 
 pub returns-in_err-code-clause-read : goal.returns-in_err-code-clause-read
 returns-in_err-code-clause-read g c =
-    exits (ReadsStep Binary _ _ _ _ (source_of c.number.new.bytes)) _ _ c.from_residual.ensures.1
+    exits (ReadsStep Binary c.codes.draft _ _ _ (source_of c.number.new.bytes)) _ _ c.from_residual.ensures.1
     (stopped_on _ Binary (source_of c.number.new.bytes) _ c.codes.invariant.read (c.in_err-code.ensures.read (slot_of c.codes.draft)))
 
-pub returns-in_err-take_code-clause-read : goal.returns-in_err-take_code-clause-read
-returns-in_err-take_code-clause-read g c =
-    exits (ReadsStep Binary _ _ _ _ (source_of c.number.new.bytes)) _ _ c.from_residual-in_err-take_code.ensures.1
+pub returns-in_err-found-clause-read : goal.returns-in_err-found-clause-read
+returns-in_err-found-clause-read g c =
+    exits (ReadsStep Binary c.take_code.new.self _ _ _ (source_of c.number.new.bytes)) _ _ c.from_residual-in_err-found.ensures.1
     (stopped_on _ Binary (source_of c.number.new.bytes) _ c.codes.invariant.read
     (code_faulty c.take_code.new.self (coded (slot_of c.codes.draft) c.in_ok-code.code) (source_of c.number.new.bytes) _
-    (c.in_ok-code.ensures.read (slot_of c.codes.draft)) c.in_err-take_code.ensures))
+    (c.in_ok-code.ensures.read (slot_of c.codes.draft)) c.in_err-found.ensures))
 
 pub returns-in-Some-clause-read : goal.returns-in-Some-clause-read
 returns-in-Some-clause-read g c =
     given_on _ Binary (found_step c.take_code.new.self c.in-Some.found) false c.codes.invariant.read
     (code_ended c.take_code.new.self (coded (slot_of c.codes.draft) c.in_ok-code.code) c.in-Some.found
-    (c.in_ok-code.ensures.read (slot_of c.codes.draft)) (rw c.in-Some.is at c.in_ok-take_code.ensures))
+    (c.in_ok-code.ensures.read (slot_of c.codes.draft)) (rw c.in-Some.is at c.in_ok-found.ensures))
 
 pub codes-preserved : goal.codes-preserved
 codes-preserved g c = record {
   room = search rules;
   read = leads_on c.codes.invariant.read
       (code_going c.take_code.new.self (coded (slot_of c.codes.draft) c.in_ok-code.code)
-      (c.in_ok-code.ensures.read (slot_of c.codes.draft)) (rw c.in_default.is at c.in_ok-take_code.ensures));
+      (c.in_ok-code.ensures.read (slot_of c.codes.draft)) (rw c.in_default.is at c.in_ok-found.ensures));
 }

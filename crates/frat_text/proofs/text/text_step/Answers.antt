@@ -8,7 +8,7 @@ use Rattle.frat_text.proofs.text.text_step.Goals as goal
 
 pub returns-in_err-letter-clause-read : goal.returns-in_err-letter-clause-read
 returns-in_err-letter-clause-read g c =
-    exits (ReadsStep Text _ _ _ _ (source_of c.letter.new.bytes)) _ _ c.from_residual.ensures.1 c.in_err-letter.ensures.read
+    exits (ReadsStep Text c.letter.new.draft _ _ _ (source_of c.letter.new.bytes)) _ _ c.from_residual.ensures.1 c.in_err-letter.ensures.read
 
 pub returns-clause-read : goal.returns-clause-read
 returns-clause-read g c =
