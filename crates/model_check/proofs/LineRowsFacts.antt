@@ -1,10 +1,10 @@
 -- The lines of some clauses, by computing them.
 use Rattle.std.proofs.Common.{refl}
-use Rattle.model_check.specs.ClauseLines.{line_from}
+use Rattle.model_check.specs.ClauseLines.{after, sought}
 use Rattle.model_check.specs.LineRows.{LineRows}
 
 pub line_rows : LineRows
-unfolding line_from
+unfolding after sought
 line_rows = record {
   first = refl;
   second = refl;

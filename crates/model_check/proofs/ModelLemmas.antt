@@ -17,7 +17,7 @@ and_both : (x y : Bool) → x ≡ true → y ≡ true → (x && y) ≡ true
 and_both true y h k = k
 and_both false y h k = h
 
-pub and_parts : (x y : Bool) → (x && y) ≡ true → (x ≡ true) × (y ≡ true)
+and_parts : (x y : Bool) → (x && y) ≡ true → (x ≡ true) × (y ≡ true)
 and_parts true y h = (refl, h)
 and_parts false y h = absurd (false≢true h)
 

@@ -1,14 +1,15 @@
 -- The search over a reader's bytes.
 use Rattle.std.proofs.Common.{◌≡◌, ℕ, List, [], ◌∷◌, ◌++◌, Option, Some, None, refl, sym, ap, ◌∙◌, append_assoc, subst}
-use Rattle.std.specs.Prelude.{IfSome}
 use Rattle.std.specs.Io.KnownBytes.{Consumes, Keeps, IsAtEnd}
 use Rattle.std.proofs.KnownBytes.{Consumes-trans, Consumes-nil}
 use Rattle.model_check.specs.declared.seeking.Spot.{Spot}
 use Rattle.model_check.specs.declared.seeking.After.{After}
 use Rattle.model_check.specs.declared.seeking.After.TheVariants.{Goes, Found, Ends}
-use Rattle.model_check.specs.ClauseLines.{IsLine}
-use Rattle.model_check.specs.Seeking.{after, at_end, sought, start_at}
-use Rattle.model_check.proofs.SeekingLemmas.{line_is, seeks_on}
+use Rattle.model_check.specs.ClauseLines.{IsLine, after, at_end, sought, start_at}
+
+-- what the search does after a byte
+abbrev seeks_on : After → List ℕ → Option ℕ
+seeks_on a bs = elim a [ Goes t ↦ sought t bs | Found line ↦ Some line | Ends ↦ None ]
 
 byte_first : (s : Spot) (b : ℕ) (bs : List ℕ) → sought s (b ∷ bs) ≡ seeks_on (after s b) bs
 unfolding sought
@@ -35,13 +36,9 @@ byte_on a b c number s x next p h e = record {
   same = λ m. ap (sought (start_at number)) (append_assoc p.bytes (x ∷ []) m) ∙ p.same (x ∷ m) ∙ byte_first s x m ∙ ap (λ (d : After). seeks_on d m) e;
 }
 
--- what the search comes to, where the text is known
-abbrev pub IsSought : Option (List ℕ) → ℕ → Option ℕ → Type 0
-IsSought known number answer = IfSome known (λ text. sought (start_at number) text ≡ answer)
-
 -- a byte ends the search
 byte_off : (a b c : Option (List ℕ)) (number : ℕ) (s : Spot) (x : ℕ) (d : After) (answer : Option ℕ) → Leads a b number s → Consumes b c (x ∷ []) → after s x ≡ d →
-    ((more : List ℕ) → seeks_on d more ≡ answer) → IsSought a number answer
+    ((more : List ℕ) → seeks_on d more ≡ answer) → IsLine a number answer
 byte_off None b c number s x d answer p h e says = tt
 byte_off (Some t) None c number s x d answer p h e says = absurd p.consumed
 byte_off (Some t) (Some y) None number s x d answer p h e says = absurd h
@@ -49,23 +46,18 @@ byte_off (Some t) (Some y) (Some z) number s x d answer p h e says =
     ap (sought (start_at number)) (p.consumed ∙ ap (λ (l : List ℕ). p.bytes ++ l) h) ∙ p.same (x ∷ z) ∙ byte_first s x z ∙ ap (λ (k : After). seeks_on k z) e ∙ says z
 
 -- the text ends
-text_ends : (a b c : Option (List ℕ)) (number : ℕ) (s : Spot) → Leads a b number s → Keeps b c → IsAtEnd c → IsSought a number (at_end (after s 10))
+text_ends : (a b c : Option (List ℕ)) (number : ℕ) (s : Spot) → Leads a b number s → Keeps b c → IsAtEnd c → IsLine a number (at_end (after s 10))
 text_ends None b c number s p k e = tt
 text_ends (Some t) None c number s p k e = absurd p.consumed
 text_ends (Some t) (Some y) None number s p k e = absurd k
 text_ends (Some t) (Some y) (Some z) number s p k e =
     ap (sought (start_at number)) (p.consumed ∙ ap (λ (l : List ℕ). p.bytes ++ l) (sym k ∙ e)) ∙ p.same [] ∙ no_byte s
 
--- of a formula that is its line
-told : (a : Option (List ℕ)) (number : ℕ) (answer : Option ℕ) → IsSought a number answer → IsLine a number answer
-told None number answer h = tt
-told (Some t) number answer h = λ clauses whole. sym (line_is t clauses number whole) ∙ h
-
 pub found : (a b c : Option (List ℕ)) (number : ℕ) (s : Spot) (x line : ℕ) → Leads a b number s → Consumes b c (x ∷ []) → after s x ≡ Found line → IsLine a number (Some line)
-found a b c number s x line p h e = told a number (Some line) (byte_off a b c number s x (Found line) (Some line) p h e (λ more. refl))
+found a b c number s x line p h e = byte_off a b c number s x (Found line) (Some line) p h e (λ more. refl)
 
 pub ended : (a b c : Option (List ℕ)) (number : ℕ) (s : Spot) (x : ℕ) → Leads a b number s → Consumes b c (x ∷ []) → after s x ≡ Ends → IsLine a number None
-ended a b c number s x p h e = told a number None (byte_off a b c number s x Ends None p h e (λ more. refl))
+ended a b c number s x p h e = byte_off a b c number s x Ends None p h e (λ more. refl)
 
 pub all_read : (a b c : Option (List ℕ)) (number : ℕ) (s : Spot) (answer : Option ℕ) → Leads a b number s → Keeps b c → IsAtEnd c → answer ≡ at_end (after s 10) → IsLine a number answer
-all_read a b c number s answer p k e is = told a number answer (subst (IsSought a number) (sym is) (text_ends a b c number s p k e))
+all_read a b c number s answer p k e is = subst (IsLine a number) (sym is) (text_ends a b c number s p k e)

@@ -2,5 +2,4 @@ pub mod ClauseLines
 pub mod LineRows
 pub mod Models
 pub mod Runs
-pub mod Seeking
 pub mod Verdicts

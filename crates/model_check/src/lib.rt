@@ -13,7 +13,7 @@ mod tests;
 mod verdict;
 
 pub use fault::RunFault;
-pub use laws::{clauses_have_lines, line_rows, met_clauses_are_satisfied};
+pub use laws::{line_rows, met_clauses_are_satisfied};
 pub use line::line_of_clause;
 pub use run::run_check;
 pub use status::exit_status;

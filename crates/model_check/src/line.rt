@@ -10,7 +10,8 @@ use std::io::Read;
 /// Finds the line on which the clause of this number ends, in a text that is a formula; clauses and
 /// lines count from 1. None: it has fewer clauses.
 ///
-/// No more is read than that takes. Of a text that is no formula nothing is said.
+/// No more is read than that takes, and nothing is judged: of a text that is no formula a line says
+/// nothing.
 pub fn line_of_clause<R: Read + Drop>(
     alloc: Global,
     cnf: R,

@@ -1,7 +1,7 @@
 //! The search for the line on which a clause ends, a byte after the other.
 ghost use Rattle.std.specs.Prelude.{◌≡◌};
 ghost use Rattle.sat_formula.specs.Bytes.{is_blank};
-ghost use Rattle.model_check.specs.Seeking.{after, at_end, between, in_number, line_start, moved, next_line, number_ends, start_at};
+ghost use Rattle.model_check.specs.ClauseLines.{after, at_end, between, in_number, line_start, moved, next_line, number_ends, start_at};
 
 /// A place in a line of a formula.
 #[derive(Clone, Copy)]
@@ -57,7 +57,7 @@ impl Spot {
 
     /// What the next byte does.
     #[inline(always)]
-    #[tactic(auto, unfolding(crate::specs::Seeking::after))]
+    #[tactic(auto, unfolding(crate::specs::ClauseLines::after))]
     pub(crate) fn after(self, byte: u8) -> After
         ensures { result ≡ after self byte }
     {

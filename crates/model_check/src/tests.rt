@@ -1,4 +1,4 @@
-//! Runs with their verdicts, lines and statuses, texts of faults, reads and writes that fail, and the
+//! Runs with their verdicts, lines and statuses, texts of faults, reads and writes that fail, and
 //! lines of clauses.
 use crate::fault::RunFault;
 use crate::line::line_of_clause;
