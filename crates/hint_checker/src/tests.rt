@@ -1,25 +1,25 @@
 //! What lines of text say, which no caller sees. All other tests are in `sat_hints_tests`.
-use crate::line::{HintLine, read_line};
+use crate::line::{HintLine, Row, read_line};
 use std::test::Fail;
 
-/// What a line says, in words.
-fn shown(rt: &HostRuntime, line: &[u8]) -> Result<String, Fail> {
+/// What a line says, in words. The row still holds the lists of the line before.
+fn shown(rt: &HostRuntime, row: &mut Row, line: &[u8]) -> Result<String, Fail> {
     let mut said = String::new(rt.alloc());
-    match read_line(rt.alloc(), line) {
+    match read_line(line, row) {
         Ok(None) => write!(said, "nothing")?,
-        Ok(Some(HintLine::Addition { id, clause, hints })) => {
+        Ok(Some(HintLine::Addition { id })) => {
             write!(said, "{id}:")?;
-            for lit in clause.iter() {
+            for lit in row.clause.iter() {
                 write!(said, " {}", lit.to_dimacs())?;
             }
             write!(said, " by")?;
-            for hint in hints.iter() {
+            for hint in row.ids.iter() {
                 write!(said, " {hint}")?;
             }
         }
-        Ok(Some(HintLine::Deletion { number, ids })) => {
+        Ok(Some(HintLine::Deletion { number })) => {
             write!(said, "{number} deletes")?;
-            for id in ids.iter() {
+            for id in row.ids.iter() {
                 write!(said, " {id}")?;
             }
         }
@@ -69,8 +69,9 @@ const LINES: [(&[u8], &str); 27] = [
 
 #[test]
 fn lines(rt: HostRuntime) -> Result<(), Fail> {
+    let mut row = Row::new(rt.alloc());
     for (line, said) in LINES {
-        assert_eq!(rt; shown(&rt, line)?.as_str(), said);
+        assert_eq!(rt; shown(&rt, &mut row, line)?.as_str(), said);
     }
     Ok(())
 }
