@@ -165,8 +165,8 @@ refused_inside h k old now new n m bytes f p consumed r =
     let rest = left_after new in
     let all = (p.taken ++ (bytes ++ 10 ∷ [])) ++ rest in
     let cut : lines_of all ≡ p.before ++ (lines_of bytes ++ lines_of rest) =
-        ap lines_of (append_assoc p.taken (bytes ++ 10 ∷ []) rest ∙ ap (λ l. p.taken ++ l) (append_assoc bytes (10 ∷ []) rest)) ∙ p.cut (bytes ++ 10 ∷ rest)
-        ∙ ap (λ (ls : List (List ℕ)). p.before ++ ls) (lines_join bytes rest) in (
+    ap lines_of (append_assoc p.taken (bytes ++ 10 ∷ []) rest ∙ ap (λ l. p.taken ++ l) (append_assoc bytes (10 ∷ []) rest)) ∙ p.cut (bytes ++ 10 ∷ rest)
+    ∙ ap (λ (ls : List (List ℕ)). p.before ++ ls) (lines_join bytes rest) in (
       all,
       gives_all old new (p.taken ++ (bytes ++ 10 ∷ [])) (Consumes-trans old now new p.taken (bytes ++ 10 ∷ []) p.consumed consumed),
       refused_so h k n m bytes all (refused_among h k old now n m bytes all (lines_of rest) p cut) f r,

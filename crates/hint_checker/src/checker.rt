@@ -75,7 +75,7 @@ impl HintChecker {
             return Err(HintFault::Malformed { line: 0 });
         }
         if let Err(stuck) = check_lines(&mut self.held, &mut self.values, &mut self.row, text) {
-            self.faulted = true;
+            self.fail();
             return Err(stuck.fault.in_line(stuck.number));
         }
         Ok(self.held.added_empty())
@@ -102,16 +102,20 @@ impl HintChecker {
             return Err(HintTextFault::Refused(HintFault::Malformed { line: 0 }));
         }
         let mut stream = Stream::new(self.alloc, input);
-        if let Err(fault) = check_stream(
-            &mut self.held,
-            &mut self.values,
-            &mut self.row,
-            &mut stream,
-        ) {
-            self.faulted = true;
-            return Err(fault);
+        match check_stream(&mut self.held, &mut self.values, &mut self.row, &mut stream) {
+            Ok(()) => Ok(self.held.added_empty()),
+            Err(fault) => {
+                self.fail();
+                Err(fault)
+            }
         }
-        Ok(self.held.added_empty())
+    }
+
+    /// No text is checked from here on.
+    fn fail(&mut self)
+        ensures { self.new ≡ record self.old { faulted = true } }
+    {
+        self.faulted = true;
     }
 }
 

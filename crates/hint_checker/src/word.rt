@@ -45,8 +45,8 @@ impl<'a> Words<'a> {
     pub(crate) fn next_value(&mut self) -> Option<Option<u64>>
         ensures { TakesWord number_of_word self.old self.new result }
     {
-        if let Some((value, rest)) = short_value(self.rest) {
-            self.rest = rest;
+        if let Some((value, later)) = short_value(self.rest) {
+            self.rest = later;
             return Some(Some(value));
         }
         let word = self.next()?;
@@ -58,8 +58,8 @@ impl<'a> Words<'a> {
     pub(crate) fn next_in_clause(&mut self) -> Option<ClauseWord>
         ensures { TakesWord clause_word self.old self.new result }
     {
-        if let Some((said, rest)) = short_clause_word(self.rest) {
-            self.rest = rest;
+        if let Some((said, others)) = short_clause_word(self.rest) {
+            self.rest = others;
             return Some(said);
         }
         let word = self.next()?;
