@@ -116,3 +116,7 @@ short_plain bytes rest v w = (take w.len bytes, word_in_front bytes rest v w, sy
 
 pub short_negative : (bytes rest : List ℕ) (v : ℕ) → IsDigitsWord bytes v rest → (word : List ℕ) × (words_of (45 ∷ bytes) ≡ word ∷ words_of rest) × (signed_word true (Some v) ≡ clause_word word)
 short_negative bytes rest v w = (45 ∷ take w.len bytes, negative_in_front bytes rest v w, ap (signed_word true) (sym (word_value bytes rest v w)))
+
+-- what such a word says as a number
+pub short_number : (bytes rest : List ℕ) (v : ℕ) → IsDigitsWord bytes v rest → (word : List ℕ) × (words_of bytes ≡ word ∷ words_of rest) × (Some v ≡ number_of_word word)
+short_number bytes rest v w = (take w.len bytes, word_in_front bytes rest v w, sym (word_value bytes rest v w))

@@ -1,5 +1,5 @@
 //! The lines of a reader's text, as many at a time as were read ahead.
-ghost use Rattle.std.specs.Prelude.{◌≡◌, ◌<◌, ◌+◌, ◌-◌, ◌^◌, length, Ok, true, false, IsTrue};
+ghost use Rattle.std.specs.Prelude.{◌≡◌, ◌≤◌, ◌+◌, ◌-◌, ◌^◌, length, Ok, OnOk, true, IsTrue};
 ghost use Rattle.sat_formula.specs.Source.{is_limited};
 
 use crate::fault::Stop;
@@ -57,10 +57,10 @@ impl<R: Read> Stream<R> {
     pub(crate) fn take_lines(&mut self) -> Result<bool, Stop>
         ensures lines { TakesLines (unread_text R.remaining self.old)
             (unread_text R.remaining self.new) self.new.lines.items self.new.source result }
+        ensures room { OnOk result
+            (room_in self.new + length self.new.lines.items ≤ room_in self.old) }
         ensures whole { result ≡ Ok true
-            → room_in self.new + length self.new.lines.items + 1 ≡ room_in self.old }
-        ensures last { result ≡ Ok false
-            → room_in self.new + length self.new.lines.items ≡ room_in self.old }
+            → room_in self.new + length self.new.lines.items + 1 ≤ room_in self.old }
     {
         self.lines.clear();
         if let Some(len) = memrchr(b'\n', self.source.ahead()) {
@@ -76,10 +76,10 @@ impl<R: Read> Stream<R> {
         requires { length self.old.lines.items ≡ 0 }
         ensures lines { TakesLines (unread_text R.remaining self.old)
             (unread_text R.remaining self.new) self.new.lines.items self.new.source result }
+        ensures room { OnOk result
+            (room_in self.new + length self.new.lines.items ≤ room_in self.old) }
         ensures whole { result ≡ Ok true
-            → room_in self.new + length self.new.lines.items + 1 ≡ room_in self.old }
-        ensures last { result ≡ Ok false
-            → room_in self.new + length self.new.lines.items ≡ room_in self.old }
+            → room_in self.new + length self.new.lines.items + 1 ≤ room_in self.old }
     {
         'bytes: loop {
             match self.source.next_byte() {
