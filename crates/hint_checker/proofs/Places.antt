@@ -21,8 +21,8 @@ position_or_len_from test bytes place r found e = e ∙ ap (λ o. unwrap_or o (l
 -- ---- by `memchr`
 
 never : (b : Bool) → (b ≡ true → ⊥) → b ≡ false
-never true no = absurd (no refl)
-never false no = refl
+never true h = absurd (h refl)
+never false h = refl
 
 -- what `memchr(b'\n', ..).unwrap_or(len)` gives
 pub line_len_from : (text : List ℕ) (place : Option ℕ) (r : ℕ) → IsFirstByte (is_byte 10) text place → r ≡ unwrap_or place (length text) → r ≡ position_or_len is_lf text

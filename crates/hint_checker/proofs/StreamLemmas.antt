@@ -1,6 +1,6 @@
 -- The lines of a reader's text, taken some at a time.
 --     Passed h old new n k      from old to new n whole lines were taken, are accepted after h and lead to k
-use Rattle.std.proofs.Common.{◌≡◌, ℕ, suc, ◌+◌, ◌≤◌, Bool, true, false, List, [], ◌∷◌, ◌++◌, length, Option, Some, None, refl, sym, ap, ◌∙◌, inl, inr, subst, arith, append_assoc, append-nil, length-append}
+use Rattle.std.proofs.Common.{◌≡◌, ℕ, suc, ◌+◌, ◌≤◌, Bool, true, false, List, [], ◌∷◌, ◌++◌, length, Option, Some, None, Ok, refl, sym, ap, ◌∙◌, inl, inr, subst, arith, append_assoc, append-nil, length-append}
 use Rattle.std.specs.Io.KnownBytes.{Consumes, IsAtEnd}
 use Rattle.std.specs.List.{onto_first}
 use Rattle.std.proofs.KnownBytes.{Consumes-nil, Consumes-trans, Consumes-whole}
@@ -10,10 +10,11 @@ use Rattle.std.proofs.lemmas.Option.{none-some}
 use Rattle.sat_rules.specs.HintLines.{Follows, HintLine, Listed}
 use Rattle.sat_rules.proofs.HintLineFacts.{some-same}
 use Rattle.sat_formula.specs.Bytes.{is_lf}
+use Rattle.sat_formula.specs.declared.source.Source.{Source}
 use Rattle.sat_formula.specs.Lines.{lines_of}
 use Rattle.sat_formula.proofs.Lines.{slice_split-front}
 use Rattle.hint_checker.specs.Checked.{Accepts, IsRefusal, Refuses, in_line, joined, refusal, said_all}
-use Rattle.hint_checker.specs.Streams.{GivesText, IsCutOff, IsOpen}
+use Rattle.hint_checker.specs.Streams.{GivesText, IsCutOff, IsOpen, TakesLines}
 use Rattle.hint_checker.specs.Text as text
 use Rattle.hint_checker.specs.Text.{Said, in_front, said_by}
 use Rattle.hint_checker.specs.declared.fault.LineFault.{LineFault}
@@ -149,7 +150,7 @@ refused_so h k n m bytes all on causes.NoConflict r = on causes.NoConflict r
 refused_so h k n m bytes all on causes.OutOfMemory r = tt
 
 -- what is left after some bytes, where it is known
-left_after : Known → List ℕ
+abbrev left_after : Known → List ℕ
 left_after None = []
 left_after (Some bytes) = bytes
 
@@ -182,3 +183,14 @@ refused_last h k old now new n m bytes f p consumed end r =
       Consumes-whole old new all (λ bs. all ≡ bs) (Consumes-trans old now new p.taken bytes p.consumed consumed) end refl,
       refused_so h k n m bytes all (refused_among h k old now n m bytes all [] p cut) f r,
     )
+
+-- in what was taken
+pub refused_taken : {R : Type 0} (h k : Listed) (old now new : Known) (n m : ℕ) (bytes : List ℕ) (source : Source R) (f : LineFault) (whole : Bool) → Passed h old now n k →
+    TakesLines now new bytes source (Ok whole) → IsRefusal k bytes (in_line f m) → (all : List ℕ) × GivesText old all × IsRefusal h all (in_line f (n + m))
+refused_taken h k old now new n m bytes source f true p t r = refused_inside h k old now new n m bytes f p t r
+refused_taken h k old now new n m bytes source f false p t r = refused_last h k old now new n m bytes f p t.0 t.1 r
+
+-- a reader gives some text
+pub some_text : (known : Known) → (text : List ℕ) × GivesText known text
+some_text None = ([], tt)
+some_text (Some bytes) = (bytes, refl)

@@ -3,6 +3,7 @@ pub mod Clauses
 pub mod Held
 pub mod Lines
 pub mod Marks
+pub mod Near
 pub mod OneAnswer
 pub mod ReadLine
 pub mod Room

@@ -42,13 +42,13 @@ abbrev pub GivesText : Option (List ℕ) → List ℕ → Type 0
 GivesText known text = IfSome known (λ bytes. text ≡ bytes)
 
 -- all lines of the reader's text are accepted after h; the answer says whether the empty clause was added
-pub record ReadsAccepted (known : Option (List ℕ)) (h : Listed) (holds : Option Listed)
+pub record ReadsAccepted (known : Option (List ℕ)) (h : Listed) (after : Option Listed)
     (yes : Bool) : Type 0 where
   pub text : List ℕ
   pub gives : GivesText known text
   pub held : Listed
   pub accepts : Accepts h text held
-  pub holds : holds ≡ Some held
+  pub holds : after ≡ Some held
   pub answer : yes ≡ held.added_empty
 
 -- some lines of the reader's text were accepted after h, and it was read no further than into the one after them

@@ -1,7 +1,7 @@
 //! The clauses under their ids.
 ghost use Rattle.std.specs.Prelude.{◌≡◌, ◌==◌, ◌+◌, ◌*◌, ◌≤◌, ◌^◌, ℕ, None, Some, if◌then◌else◌, length, IfOk, OnOk};
 ghost use Rattle.std.specs.Option.{option_copied};
-ghost use Rattle.hint_checker.specs.Clauses.{far_clause, gets_place, spare_places};
+ghost use Rattle.hint_checker.specs.Near.{far_clause, gets_place, spare_places};
 
 use crate::near::NearClauses;
 use sat_formula::lit::Lit;

@@ -18,7 +18,7 @@ pub(crate) struct NearClauses {
 }
 
 impl NearClauses {
-    ghost use Rattle.hint_checker.specs.Clauses.{near_clause};
+    ghost use Rattle.hint_checker.specs.Near.{near_clause};
 
     /// No clause, with places for some.
     pub(crate) fn new(alloc: Global, room: usize) -> Result<NearClauses, AllocError>
