@@ -3,8 +3,14 @@ use Rattle.sat_formula.specs.Lines.{lines_of}
 use Rattle.hint_checker.specs.Held.{held_by}
 use Rattle.hint_checker.specs.Streams.{unread_text}
 use Rattle.hint_checker.proofs.CheckLemmas.{few_lines}
-use Rattle.hint_checker.proofs.StreamLemmas.{Passed, passed_all, passed_cut, passed_on, refused_taken, some_text}
+use Rattle.hint_checker.proofs.StreamLemmas.{Passed, passed_all, passed_cut, passed_on, passed_start, refused_taken, some_text}
 use Rattle.hint_checker.proofs.checker.check_stream.Goals as goal
+
+pub texts-init : goal.texts-init
+texts-init g c = record {
+  passed = passed_start (held_by c.args.held.now) (unread_text g.R.Read.remaining c.args.stream.now);
+  few = let room = c.requires in omega (arith, room);
+}
 
 pub returns-in-Err-Read-clause-refused : goal.returns-in-Err-Read-clause-refused
 returns-in-Err-Read-clause-refused g c =
