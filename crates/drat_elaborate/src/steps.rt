@@ -94,11 +94,14 @@ impl Steps {
 
     /// The length of the trail before the step that was taken off last, where it made it longer.
     pub(crate) fn pop_growth(&mut self) -> Option<usize> {
-        let growth = *self.growths.last()?;
-        if growth.step as usize != self.steps.len().saturating_add(1) {
+        let (step, len) = match self.growths.last() {
+            Some(growth) => (growth.step as usize, growth.len as usize),
+            None => return None,
+        };
+        if step != self.steps.len().saturating_add(1) {
             return None;
         }
         self.growths.pop();
-        Some(growth.len as usize)
+        Some(len)
     }
 }
