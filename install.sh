@@ -65,10 +65,9 @@ built() {
 # All is made before anything is installed.
 for name in "${programs[@]}"; do
   program=$(built "${name}_main")
-  source=$top/crates/${name}_main/src/main.rt
   strip -o "$work/$name" "$program"
-  "$top/tools/pages" man "$name" "$program" "$source" > "$work/$name.1"
-  "$top/tools/pages" bash "$name" "$program" "$source" > "$work/$name.bash"
+  "$top/tools/pages" man "$name" "$program" > "$work/$name.1"
+  "$top/tools/pages" bash "$name" "$program" > "$work/$name.bash"
 done
 if [[ $mode == built ]]; then
   "$top/bindings/build.sh" --built "$work"

@@ -134,7 +134,6 @@ expect added 3 's UNSATISFIABLE WITH 1 ADDED CLAUSES' '' unit.cnf empty_clause.p
 expect not_shown 3 's NOT SHOWN' '' unit.cnf end.proof
 refused no_proof nothing.proof 'step 1: Unexpected end of proof file' unit.cnf nothing.proof
 expect no_arguments 0 's UNSATISFIABLE' ''
-expect help 0 'usage: varisat_check CNF PROOF [LRAT]' '' --help
 expect version 0 'varisat_check 0.3.0 (varisat-checker 0.2.2)' '' --version
 expect one_argument 2 '' 'usage: varisat_check CNF PROOF [LRAT]' unit.cnf
 expect four_arguments 2 '' 'usage: varisat_check CNF PROOF [LRAT]' unit.cnf end.proof hints.lrat hints.lrat
@@ -210,7 +209,30 @@ refused malformed_formula malformed.cnf 'line 2: bad number' malformed.cnf par10
 refused malformed_hints malformed.lrat 'line 1: malformed line' unit.cnf malformed.lrat
 expect no_arguments 2 '' 'usage: hint_check CNF LRAT'
 expect example 0 's VERIFIED UNSAT' '' --example
-expect help 0 'usage: hint_check CNF LRAT' '' --help
+expect help 0 'usage: hint_check CNF LRAT
+
+Checks lines of hints over a formula, and says in one line what they show.
+
+operands:
+  CNF           the formula, DIMACS text; - stands for standard input
+  LRAT          the lines, LRAT text; - stands for standard input
+
+options:
+  --example     checks a small fixed example, in place of files
+  --help        says how the program is called
+  --version     says of which version it is
+
+exit status:
+  0             s VERIFIED UNSAT: no assignment satisfies the formula
+  1             a file is malformed or refused, or a read, a write or an allocation failed: nothing is claimed, and standard error says why
+  2             wrong arguments, or a file that can'"'"'t be opened
+  3             s NOT VERIFIED: the lines end before they show that
+
+examples:
+  checks lines of hints:
+      hint_check formula.cnf proof.lrat
+  checks a proof in bytes, and once more by its hints:
+      varisat_check formula.cnf proof.bytes proof.lrat && hint_check formula.cnf proof.lrat' '' --help
 expect version 0 'hint_check 0.3.0 (varisat-checker 0.2.2)' '' --version
 expect one_argument 2 '' 'usage: hint_check CNF LRAT' unit.cnf
 expect three_arguments 2 '' 'usage: hint_check CNF LRAT' unit.cnf par10.lrat par10.lrat
@@ -315,7 +337,6 @@ refused folder_as_proof / 'proof: error reading proof: Is a directory (os error 
 refused unreadable_proof /proc/self/mem 'proof: error reading proof: Input/output error (os error 5)' four.cnf /proc/self/mem
 expect no_arguments 2 '' 'usage: lrat_check CNF LRAT'
 expect example 0 's VERIFIED UNSAT' '' --example
-expect help 0 'usage: lrat_check CNF LRAT' '' --help
 expect version 0 'lrat_check 0.3.0 (varisat-checker 0.2.2)' '' --version
 expect one_argument 2 '' 'usage: lrat_check CNF LRAT' four.cnf
 expect three_arguments 2 '' 'usage: lrat_check CNF LRAT' four.cnf par10.lrat par10.lrat

@@ -9,10 +9,11 @@ check=$top/crates/varisat_check_main/out/varisat_check_main
 hint_check=$top/crates/hint_check_main/out/hint_check_main
 lrat_check=$top/crates/lrat_check_main/out/lrat_check_main
 drat_check=$top/crates/drat_check_main/out/drat_check_main
+model_check=$top/crates/model_check_main/out/model_check_main
 data=$top/tests/data
 work=$(mktemp -d)
 trap 'rm -rf "$work"' EXIT
-for program in "$check" "$hint_check" "$lrat_check" "$drat_check"; do
+for program in "$check" "$hint_check" "$lrat_check" "$drat_check" "$model_check"; do
   if [[ ! -x $program ]]; then
     echo "not built: $program"
     exit 1
@@ -98,6 +99,37 @@ fail_reads_of_text() {
   done
 }
 
+# The same of an answer, and of the formula that is read after it.
+fail_reads_of_answer() {
+  local cnf=$1 answer=$2 first last read
+  first=$(stat -c %s "$answer")
+  last=$((first + 2 + $(stat -c %s "$cnf")))
+  for ((read = 1; read <= first + 1; read += first / 40 + 1)); do
+    failing "SHORT_READS=1 FAIL_READ=$read" "$model_check" "$cnf" "$answer"
+    refused "$answer, read $read" "$answer" 'answer: error reading answer: Input/output error (os error 5)'
+  done
+  for ((read = first + 2; read <= last; read += (last - first) / 40 + 1)); do
+    failing "SHORT_READS=1 FAIL_READ=$read" "$model_check" "$cnf" "$answer"
+    refused "$cnf, read $read" "$cnf" 'formula: error reading formula: Input/output error (os error 5)'
+  done
+  for most in 1 2 7 4095; do
+    failing "SHORT_READS=$most" "$model_check" "$cnf" "$answer"
+    wants "$answer, $most bytes a read" 0 's VERIFIED SAT' ''
+  done
+}
+
+# Where a clause is not met, the formula is read once more for its line. A read that fails there takes nothing from the verdict.
+fail_second_reads() {
+  local cnf=$1 answer=$2 before
+  before=$(($(stat -c %s "$answer") + $(stat -c %s "$cnf") + 2))
+  failing "SHORT_READS=1" "$model_check" "$cnf" "$answer"
+  wants 'a clause that is not met' 3 's NOT VERIFIED' 'formula: line 3: clause 2 has no literal of the answer'
+  for read in 1 12; do
+    failing "SHORT_READS=1 FAIL_READ=$((before + read))" "$model_check" "$cnf" "$answer"
+    wants "read $read of the second reading" 3 's NOT VERIFIED' 'formula: clause 2 has no literal of the answer'
+  done
+}
+
 # Where a line or the lines of hints can't be written whole, the status is 1 and the fault is told.
 fail_writes() {
   local full='error writing: No space left on device (os error 28)' write
@@ -127,6 +159,8 @@ fail_writes() {
   wants 'the line of LRAT' 1 '' "$full"
   failing 'FAIL_WRITE=1' "$drat_check" "$cnf" "$drat"
   wants 'the line of DRAT' 1 '' "$full"
+  failing 'FAIL_WRITE=1' "$model_check" "$work/chain.cnf" "$work/answer"
+  wants 'the line of an answer' 1 '' "$full"
 }
 
 # The program's own output is full, closed, or a pipe that no one reads.
@@ -188,6 +222,20 @@ for most in 1 2 7 4095; do
     wants "$proof, $most bytes a read" 0 's VERIFIED UNSAT' ''
   done
 done
+# each variable makes the next one true
+{
+  echo 'p cnf 60 59'
+  for ((variable = 1; variable < 60; variable++)); do
+    echo "-$variable $((variable + 1)) 0"
+  done
+} > "$work/chain.cnf"
+{
+  echo 's SATISFIABLE'
+  echo "v $(seq -s ' ' 60) 0"
+} > "$work/answer"
+echo '1 2 -3 0' > "$work/unmet"
+fail_reads_of_answer "$work/chain.cnf" "$work/answer"
+fail_second_reads "$work/chain.cnf" "$work/unmet"
 counted 'reads'
 
 proof=$data/par10.whole.proof
@@ -223,6 +271,9 @@ for program in "$hint_check" "$lrat_check" "$drat_check"; do
   failing '' "$program" "$work/clauses" "$work/nothing"
   wants "many clauses, by $program" 3 's NOT VERIFIED' ''
 done
+echo '2 -3 7 0' > "$work/seven"
+failing '' "$model_check" "$work/clauses" "$work/seven"
+wants 'many clauses, by model_check' 0 's VERIFIED SAT' ''
 printf '1 0\n-1 0\n' > "$work/units"
 {
   printf '3 0 1 2'

@@ -32,10 +32,34 @@ if ((${#programs[@]} < 5)); then
   wrong=1
 fi
 
+# described NAME: what a program says of itself is whole: each operand and each option of its call has its line, in their order,
+# and no other has; it has an example to run exactly if it says so
+described() {
+  local help call options status=0
+  help=$("$prefix/bin/$1" --help)
+  call=$(sed 's/^usage: [a-z_]* *//;q' <<< "$help")
+  options=$(list options "$help" | grep -xvE -- '--(example|help|version)' || true)
+  same "options of $1" "$(grep -oE -- '--[a-z]+' <<< "$call" || true)" "$options"
+  same "operands of $1" "$(sed 's/\[--[^]]*\]//g' <<< "$call" | grep -oE '[A-Z]+')" "$(list operands "$help")"
+  same "statuses of $1" $'0\n1\n2\n3' "$(list 'exit status' "$help")"
+  "$prefix/bin/$1" --example > "$work/said" 2>&1 || status=$?
+  if (($(list options "$help" | grep -cx -- --example) == 1)); then
+    same "the example of $1" 0 "$status"
+  else
+    same "$1 without an example" 2 "$status"
+  fi
+}
+
+# list HEADING HELP: the names of a list
+list() {
+  sed -n "/^$1:\$/,/^\$/s/^  \([^ ]*\).*/\1/p" <<< "$2"
+}
+
 # each program runs, and its page and its completions are of it
 for name in "${programs[@]}"; do
   said=$("$prefix/bin/$name" --version)
   same "$name --version" "$name" "${said%% *}"
+  described "$name"
   page=$prefix/share/man/man1/$name.1
   same "the page of $name" ".TH ${name^^} 1" "$(head -n 1 "$page" | cut -d ' ' -f 1-3)"
   if has man; then
@@ -46,10 +70,10 @@ for name in "${programs[@]}"; do
       wrong=1
     fi
   fi
-  same "completions of $name" "$name" "$(
-    . "$prefix/share/bash-completion/completions/$name"
-    complete -p "$name" | sed -n "s/^complete -o default -W '.*--help.*--version.*' //p"
-  )"
+  same "sections of $name" "$(printf '%s\n' NAME SYNOPSIS DESCRIPTION OPERANDS OPTIONS 'EXIT STATUS' EXAMPLES)" \
+    "$(sed -n 's/^\.SH //p' "$page" | grep -xv ENVIRONMENT)"
+  same "completions of $name" "complete -o default -W '$(list options "$("$prefix/bin/$name" --help)" | tr '\n' ' ' | sed 's/ $//')' $name" \
+    "$(. "$prefix/share/bash-completion/completions/$name" && complete -p "$name")"
 done
 
 # as they are used: the programs from the path, and the script with them

@@ -14,7 +14,8 @@ hint_check=$(built hint_check)
 lrat_check=$(built lrat_check)
 convert=$(built lrat_to_proof)
 drat_check=$(built drat_check)
-for program in "$check" "$hint_check" "$lrat_check" "$convert" "$drat_check"; do
+model_check=$(built model_check)
+for program in "$check" "$hint_check" "$lrat_check" "$convert" "$drat_check" "$model_check"; do
   if [[ ! -x $program ]]; then
     echo "not built: $program"
     exit 1
@@ -144,11 +145,46 @@ wants 1 '' $'proof: line 1: malformed line\nin x\n'"$warning" "$lrat_check" f.to
 echo x >> f.told
 wants 1 '' $'formula: line 77: bad number\nin f.told' "$lrat_check" f.told l
 
+# the same of a formula with an answer; a clause that is not met has a line where the formula is a file, and else a number alone
+printf 's SATISFIABLE\nv 1 2 0\n' > a
+echo '1 -2 0' > b
+mkfifo pipe
+through_pipe() {
+  local status=0
+  cat f.told > pipe &
+  "$@" || status=$?
+  wait
+  return "$status"
+}
+for said in '1 2' '2 1' '2 3' '9 0'; do
+  printf 'c\np cnf %s\n1 -2 0 2\n-1 0\n' "$said" > f.told
+  unmet='clause 2 has no literal of the answer'
+  lies "$said" '2 2' f.told
+  wants 0 's VERIFIED SAT' "$warning" "$model_check" f.told a
+  wants 3 's NOT VERIFIED' "formula: line 4: $unmet"$'\n'"$warning" "$model_check" f.told b
+  wants 1 '' $'answer: line 1: malformed\nin x' "$model_check" f.told x
+  lies "$said" '2 2' pipe
+  wants 3 's NOT VERIFIED' "formula: $unmet"$'\n'"$warning" through_pipe "$model_check" pipe b
+  lies "$said" '2 2' 'standard input'
+  for way in from piped; do
+    wants 0 's VERIFIED SAT' "$warning" "$way" f.told "$model_check" - a
+    wants 3 's NOT VERIFIED' "formula: $unmet"$'\n'"$warning" "$way" f.told "$model_check" - b
+  done
+done
+printf 'p cnf 2 1\n1 2 0\n' > f.told
+for way in from piped; do
+  wants 0 's VERIFIED SAT' '' "$way" a "$model_check" f.told -
+done
+cp f.told f.right
+echo x >> f.told
+wants 1 '' $'formula: line 3: bad number\nin f.told' "$model_check" f.told a
+
 # a full disk: nothing is claimed, and no run ends well
 no_space='error writing: No space left on device (os error 28)'
 wants 1 '' "$no_space" full "$check" f p
 wants 1 '' "$no_space" full "$lrat_check" f l
 wants 1 '' "$no_space" full "$hint_check" f l
+wants 1 '' "$no_space" full "$model_check" f.right a
 wants 1 '' "$no_space" "$check" f p /dev/full
 wants 1 '' "$no_space" "$convert" f l /dev/full
 exit "$wrong"

@@ -12,10 +12,11 @@ hint_check=$top/crates/hint_check_main/out/hint_check_main
 lrat_check=$top/crates/lrat_check_main/out/lrat_check_main
 lrat_to_proof=$top/crates/lrat_to_proof_main/out/lrat_to_proof_main
 drat_check=$top/crates/drat_check_main/out/drat_check_main
+model_check=$top/crates/model_check_main/out/model_check_main
 data=$top/tests/data
 work=$(mktemp -d)
 trap 'rm -rf "$work"' EXIT
-for program in "$rows" "$check" "$hint_check" "$lrat_check" "$lrat_to_proof" "$drat_check"; do
+for program in "$rows" "$check" "$hint_check" "$lrat_check" "$lrat_to_proof" "$drat_check" "$model_check"; do
   if [[ ! -x $program ]]; then
     echo "not built: $program"
     exit 1
@@ -79,7 +80,7 @@ run() {
       misjudged "$name $mode=$number"
     elif ((status == 2)); then
       unread=$((unread + 1))
-    elif ((status != 1)) || ! grep -qE '^((Error in proof processor|formula|proof): )?out of memory$' "$work/err"; then
+    elif ((status != 1)) || ! grep -qE '^((Error in proof processor|formula|proof|answer): )?out of memory$' "$work/err"; then
       misjudged "$name $mode=$number"
     fi
   done
@@ -89,12 +90,48 @@ run() {
   echo "$name $mode: $((number - 1)) runs, of which $unread met the reading of the arguments and $silent the log's setting"
 }
 
+# An answer that does not meet a clause: a refused growth leaves no line; but the line on which the clause ends is looked for after
+# the verdict, and where there is no memory for that, the clause has its number alone.
+run_unmet() {
+  local mode=$1 number unread=0 unfound=0 unmet='clause 2 has no literal of the answer'
+  for ((number = 1; ; number++)); do
+    refuse "$mode" "$number" "$model_check" "$work/chain.cnf" "$work/unmet"
+    if ((refused == 0)); then
+      break
+    elif [[ $status == 3 && $(cat "$work/out") == 's NOT VERIFIED' && $(cat "$work/err") == "formula: $unmet" ]]; then
+      unfound=$((unfound + 1))
+    elif [[ -s $work/out ]]; then
+      misjudged "an answer that is not met $mode=$number"
+    elif ((status == 2)); then
+      unread=$((unread + 1))
+    elif ((status != 1)) || ! grep -qE '^(formula|answer): out of memory$' "$work/err"; then
+      misjudged "an answer that is not met $mode=$number"
+    fi
+  done
+  if [[ $status != 3 || $(cat "$work/err") != "formula: line 3: $unmet" ]] || ((unfound == 0)); then
+    misjudged "an answer that is not met without a refused growth"
+  fi
+  echo "an answer that is not met $mode: $((number - 1)) runs, of which $unread met the reading of the arguments and $unfound the line"
+}
+
 "$rows" > "$work/all" || { cat "$work/all"; exit 1; }
 "$check" "$data"/par10.{cnf,whole.proof} "$work/whole_hints" > "$work/out"
 # the added clauses of the LRAT proof alone
 sed '/ d /d;s/^[0-9]* //;s/^0 .*/0/;s/ 0 .*/ 0/' "$data/par10.lrat" > "$work/drat"
 printf '1 268435456 0\n1 -268435456 0\n-1 268435456 0\n-1 -268435456 0\n' > "$work/far.cnf"
 printf '5 268435456 0 1 3 0\n6 0 5 2 4 0\n' > "$work/far.lrat"
+# each variable makes the next one true
+{
+  echo 'p cnf 60 59'
+  for ((variable = 1; variable < 60; variable++)); do
+    echo "-$variable $((variable + 1)) 0"
+  done
+} > "$work/chain.cnf"
+{
+  echo 's SATISFIABLE'
+  echo "v $(seq -s ' ' 60) 0"
+} > "$work/answer"
+echo '1 2 -3 0' > "$work/unmet"
 mapfile -t names < <(sed 's/: as written$//' "$work/all")
 for mode in FAIL_AT FAIL_FROM; do
   for row in "${names[@]}"; do
@@ -114,6 +151,8 @@ for mode in FAIL_AT FAIL_FROM; do
   run 'far literals' "$mode" 's VERIFIED UNSAT' "$hint_check" "$work"/far.{cnf,lrat}
   run 'far literals by lrat_check' "$mode" 's VERIFIED UNSAT' "$lrat_check" "$work"/far.{cnf,lrat}
   run 'par10.lrat by lrat_to_proof' "$mode" '' "$lrat_to_proof" "$data"/par10.{cnf,lrat} "$work/bytes"
+  run 'an answer' "$mode" 's VERIFIED SAT' "$model_check" "$work"/{chain.cnf,answer}
+  run_unmet "$mode"
 done
 # Nothing is grown for the number of literals that a proof announces: there are fewer growths than where one literal follows.
 if ((growths[announced_count] >= growths[short_list])); then

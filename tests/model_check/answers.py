@@ -4,7 +4,7 @@ answers.py PROGRAM solved CNF ANSWER      a solver's answer to a formula, and da
 answers.py PROGRAM random COUNT SEED      random formulas and lists of literals
 
 The definition: each clause has a literal of the list, and the list has no two opposite ones. Where a clause has none, the first
-such clause is named.
+such clause is named, with the line on which its 0 stands.
 """
 
 import random
@@ -35,9 +35,15 @@ class Tries:
 
     def judged(self, name, clauses, literals):
         """A list after a status line, in `v` lines of some literals each."""
-        rows = [literals[i : i + 7] for i in range(0, len(literals), 7)]
-        text = "".join(f"v {' '.join(map(str, row))}\n" for row in rows)
-        self.wants(name, dimacs(clauses), f"s SATISFIABLE\n{text}v 0\n", *definition(clauses, literals))
+        parts = [literals[i : i + 7] for i in range(0, len(literals), 7)]
+        text = "".join(f"v {' '.join(map(str, part))}\n" for part in parts)
+        lines, rows = range(1, len(clauses) + 1), [2 + place // 7 for place in range(len(literals))]
+        self.wants(name, dimacs(clauses), f"s SATISFIABLE\n{text}v 0\n", *definition(clauses, literals, lines, rows))
+
+    def spread(self, name, clauses, literals, source):
+        """The clauses with any blanks, line ends and comments between their numbers."""
+        text, lines = spread(clauses, source)
+        self.wants(name, text, " ".join(map(str, [*literals, 0])), *definition(clauses, literals, lines, [1] * len(literals)))
 
     def refused(self, name, cnf, answer, line, why):
         self.wants(name, cnf, answer, 1, "", f"answer: line {line}: {why}")
@@ -47,15 +53,29 @@ def dimacs(clauses):
     return "".join(f"{' '.join(map(str, [*clause, 0]))}\n" for clause in clauses)
 
 
-def definition(clauses, literals):
+def spread(clauses, source):
+    """A text of the clauses, and the line on which each ends."""
+    count = len(clauses)
+    text, lines = source.choice(("", "c 1 0\n", f"p cnf 9 {count}\n", f" p  cnf 09 0{count}\r\n\nc\n")), []
+    for clause in clauses:
+        for number in [*clause, 0]:
+            text += source.choice((f"{number}", f"{number:03}")) if number >= 0 else f"{number}"
+            if number == 0:
+                lines.append(text.count("\n") + 1)
+            text += source.choice((" ", "\n", "\t \r", "\n\n", "\nc 0 2 0\n", " \n \tc 0\n"))
+    return text.rstrip() if source.random() < 0.5 else text, lines
+
+
+def definition(clauses, literals, lines, rows):
+    """What is said, where the clauses end on these lines, and the literals stand on those."""
     seen = set()
-    for place, literal in enumerate(literals):
+    for literal, row in zip(literals, rows):
         if -literal in seen:
-            return 1, "", f"answer: line {2 + place // 7}: both signs of a variable"
+            return 1, "", f"answer: line {row}: both signs of a variable"
         seen.add(literal)
     for number, clause in enumerate(clauses, 1):
         if not any(it in seen for it in clause):
-            return 3, NOT_VERIFIED, f"formula: clause {number} has no literal of the answer"
+            return 3, NOT_VERIFIED, f"formula: line {lines[number - 1]}: clause {number} has no literal of the answer"
     return 0, VERIFIED, ""
 
 
@@ -117,6 +137,7 @@ def drawn(tries, count, seed):
         if literals and source.random() < 0.2:
             literals.append(source.choice((1, -1)) * source.choice(literals))
         tries.judged("random", clauses, literals)
+        tries.spread("random, spread", clauses, literals, source)
 
 
 def main(program, mode, *words):

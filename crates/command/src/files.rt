@@ -1,5 +1,5 @@
 //! Files by their names.
-ghost use Rattle.std.specs.Prelude.{◌≡◌, ◌⊎◌, ◌↔◌, IfSome, IsNone, IsTrue};
+ghost use Rattle.std.specs.Prelude.{◌≡◌, ◌⊎◌, ◌↔◌, IfSome, IsNone, IsTrue, codes};
 
 use crate::header::CountingReader;
 use crate::kind::{Kind, kind_of};
@@ -129,12 +129,20 @@ fn say_place(rt: &HostRuntime, name: &str, kind: Option<Kind>) {
 
 /// What the first bytes of a regular file say that it is. It is opened again for it.
 fn kind_of_file(rt: &HostRuntime, name: &str) -> Option<Kind> {
+    let mut head = [0; HEAD];
+    let count = open_again(rt, name)?.read(&mut head).ok()?;
+    kind_of(&head[..count])
+}
+
+/// Opens a file once more that was read. None: it is standard input or no regular file, and its
+/// bytes come only once; or it can't be opened.
+pub fn open_again(rt: &HostRuntime, name: &str) -> Option<File>
+    ensures { name.now ≡ codes "-" → IsNone result }
+{
     if name == "-" || !fs::metadata(rt, name).ok()?.is_file() {
         return None;
     }
-    let mut head = [0; HEAD];
-    let count = File::open(rt, name).ok()?.read(&mut head).ok()?;
-    kind_of(&head[..count])
+    File::open(rt, name).ok()
 }
 
 /// Says that a file can't be opened, and on a second line why.

@@ -1,6 +1,7 @@
 //! Calls that can't be run.
 ghost use Rattle.std.specs.Prelude.{◌≡◌};
 
+use crate::about::About;
 use std::fmt::Display;
 
 /// The exit status of a call that can't be run.
@@ -26,11 +27,11 @@ pub fn usage(rt: &HostRuntime, call: &str) -> u8
     NOT_RUN
 }
 
-/// Says on standard output how a program is called: that was asked for, so the status is 0.
-pub fn help(rt: &HostRuntime, call: &str) -> u8
+/// Says on standard output what a program is: that was asked for, so the status is 0.
+pub fn help(rt: &HostRuntime, about: &About<'_>) -> u8
     ensures { result ≡ 0 }
 {
-    let _ = println!(rt; "usage: {call}");
+    let _ = print!(rt; "{about}");
     0
 }
 

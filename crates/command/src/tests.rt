@@ -1,4 +1,6 @@
-//! Files by their first bytes, which are those that other programs write, and headers by the rules.
+//! Files by their first bytes, which are those that other programs write, headers by the rules, and
+//! what a program says of itself.
+use crate::about::{About, Entry};
 use crate::header::{CountingReader, Counts, LyingHeader};
 use crate::kind::{Kind, kind_of};
 use std::io::Read;
@@ -123,5 +125,57 @@ fn text_of_a_lying_header(rt: HostRuntime) -> Result<(), Fail> {
     let lie = lying_header(b"p cnf 1 3\n1 2 0\n", 64)?;
     let text = format!(in rt.alloc(); "{}", lie.expect(&rt, "a lie"))?;
     assert_eq!(rt; text.as_str(), "p cnf 1 3, but what was read is p cnf 2 1");
+    Ok(())
+}
+
+const ONE: Entry<'static> = Entry {
+    name: "ONE",
+    text: "the first",
+};
+
+const WHOLE: About<'static> = About {
+    call: "mine ONE [--two N]",
+    does: "Does it.",
+    operands: &[ONE],
+    options: &[Entry {
+        name: "--two N",
+        text: "twice",
+    }],
+    verified: "well",
+    open: "not yet",
+    environment: &[Entry {
+        name: "A_LONGER_NAME",
+        text: "longer",
+    }],
+    examples: &[Entry {
+        name: "mine a --two 3",
+        text: "does it thrice",
+    }],
+};
+
+#[test]
+fn text_about_a_program(rt: HostRuntime) -> Result<(), Fail> {
+    let text = format!(in rt.alloc(); "{}", WHOLE)?;
+    assert_eq!(rt;
+        text.as_str(),
+        "usage: mine ONE [--two N]\n\nDoes it.\n\n\
+         operands:\n\
+        \x20 ONE           the first\n\n\
+         options:\n\
+        \x20 --two N       twice\n\
+        \x20 --help        says how the program is called\n\
+        \x20 --version     says of which version it is\n\n\
+         exit status:\n\
+        \x20 0             well\n\
+        \x20 1             a file is malformed or refused, or a read, a write or an allocation \
+         failed: nothing is claimed, and standard error says why\n\
+        \x20 2             wrong arguments, or a file that can't be opened\n\
+        \x20 3             not yet\n\n\
+         environment:\n\
+        \x20 A_LONGER_NAME  longer\n\n\
+         examples:\n\
+        \x20 does it thrice:\n\
+        \x20     mine a --two 3\n"
+    );
     Ok(())
 }

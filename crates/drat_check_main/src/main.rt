@@ -9,6 +9,9 @@
 //! is.
 #![tactic(auto)]
 
+mod about;
+
+use crate::about::ABOUT;
 use command::{
     CountingReader, Input, NOT_RUN, create_output, create_two_outputs, help, open_input, refuse,
     say_drat_proof, say_formula, usage, version, warn_of_header,
@@ -59,7 +62,7 @@ fn status_of_call(rt: &HostRuntime) -> u8 {
     let Some(proof) = words.next() else {
         return match first.as_str() {
             "--example" => check_example(rt),
-            "--help" => help(rt, CALL),
+            "--help" => help(rt, &ABOUT),
             "--version" => version(rt, "drat_check"),
             _ => usage(rt, CALL),
         };

@@ -5,6 +5,9 @@
 //! `--version` of which version it is. The name `-` stands for standard input.
 #![tactic(auto)]
 
+mod about;
+
+use crate::about::ABOUT;
 use command::{
     CountingReader, NOT_RUN, help, open_input, refuse, say_formula, say_proof, usage, version,
     warn_of_header,
@@ -30,7 +33,7 @@ fn status_of_call(rt: &HostRuntime) -> u8 {
     };
     match (first.as_str(), words.next(), words.next()) {
         ("--example", None, _) => check_example(rt),
-        ("--help", None, _) => help(rt, CALL),
+        ("--help", None, _) => help(rt, &ABOUT),
         ("--version", None, _) => version(rt, "hint_check"),
         (cnf, Some(lrat), None) => check_files(rt, cnf, lrat.as_str()),
         _ => usage(rt, CALL),

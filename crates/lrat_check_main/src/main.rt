@@ -6,6 +6,9 @@
 //! What `RUST_LOG` asks for, as `RUST_LOG=info`, is logged to standard error; else nothing is.
 #![tactic(auto)]
 
+mod about;
+
+use crate::about::ABOUT;
 use command::{
     CountingReader, NOT_RUN, help, open_input, refuse, say_formula, say_proof, usage, version,
     warn_of_header,
@@ -38,7 +41,7 @@ fn status_of_call(rt: &HostRuntime) -> u8 {
     };
     match (first.as_str(), words.next(), words.next()) {
         ("--example", None, _) => check_example(rt),
-        ("--help", None, _) => help(rt, CALL),
+        ("--help", None, _) => help(rt, &ABOUT),
         ("--version", None, _) => version(rt, "lrat_check"),
         (cnf, Some(proof), None) => check_files(rt, cnf, proof.as_str()),
         _ => usage(rt, CALL),

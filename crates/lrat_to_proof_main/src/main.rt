@@ -5,6 +5,9 @@
 //! stands for standard input, and as the third one for standard output.
 #![tactic(auto)]
 
+mod about;
+
+use crate::about::ABOUT;
 use command::{
     CountingReader, Input, NOT_RUN, create_output, help, open_input, refuse, say_formula,
     say_proof, usage, version, warn_of_header,
@@ -32,7 +35,7 @@ fn status_of_call(rt: &HostRuntime) -> u8 {
     };
     let (Some(lrat), Some(proof)) = (words.next(), words.next()) else {
         return match cnf.as_str() {
-            "--help" => help(rt, CALL),
+            "--help" => help(rt, &ABOUT),
             "--version" => version(rt, "lrat_to_proof"),
             _ => usage(rt, CALL),
         };

@@ -1,2 +1,4 @@
+pub mod LineRowsFacts
 pub mod ModelLemmas
+pub mod SeekingRuns
 pub mod VerdictLemmas

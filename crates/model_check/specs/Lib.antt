@@ -1,3 +1,5 @@
+pub mod ClauseLines
+pub mod LineRows
 pub mod Models
 pub mod Runs
 pub mod Verdicts

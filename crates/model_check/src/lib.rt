@@ -4,14 +4,17 @@
 mod clauses;
 mod fault;
 mod laws;
+mod line;
 mod run;
+mod seeking;
 mod status;
 #[cfg(test)]
 mod tests;
 mod verdict;
 
 pub use fault::RunFault;
-pub use laws::met_clauses_are_satisfied;
+pub use laws::{line_rows, met_clauses_are_satisfied};
+pub use line::line_of_clause;
 pub use run::run_check;
 pub use status::exit_status;
 pub use verdict::{Verdict, write_line};

@@ -1,8 +1,11 @@
-//! Runs with their verdicts, lines and statuses, texts of faults, and reads and writes that fail.
+//! Runs with their verdicts, lines and statuses, texts of faults, reads and writes that fail, and
+//! lines of clauses.
 use crate::fault::RunFault;
+use crate::line::line_of_clause;
 use crate::run::run_check;
 use crate::status::exit_status;
 use crate::verdict::Verdict;
+use sat_formula::source::NoByte;
 use std::alloc::Global;
 use std::io;
 use std::io::{ErrorKind, Read, Write};
@@ -181,5 +184,22 @@ fn reads_and_writes_that_fail(rt: HostRuntime) -> Result<(), Fail> {
     let outcome = run_check(rt.alloc(), THREE, answer, &mut Full);
     assert_eq!(&rt; matches!(outcome, Err(RunFault::Write(_))), true);
     assert_eq!(&rt; exit_status(&outcome), 1);
+    Ok(())
+}
+
+#[test]
+fn lines_of_clauses(rt: HostRuntime) -> Result<(), Fail> {
+    let rows: [(&[u8], u64, Option<u64>); 5] = [
+        (THREE, 1, Some(2)),
+        (THREE, 3, Some(4)),
+        (THREE, 4, None),
+        (b"c 0\n1\n 2 0 -1", 1, Some(3)),
+        (b"1 0 10\n00", 2, Some(2)),
+    ];
+    for (cnf, number, line) in rows {
+        assert_eq!(rt; line_of_clause(rt.alloc(), cnf, number)?, line);
+    }
+    let broken = Broken { bytes: THREE };
+    assert_eq!(rt; line_of_clause(rt.alloc(), broken, 4), Err(NoByte::Read));
     Ok(())
 }

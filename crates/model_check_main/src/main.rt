@@ -5,8 +5,14 @@
 //! `--version` of which version it is. The name `-` stands for standard input.
 #![tactic(auto)]
 
-use command::{NOT_RUN, help, open_input, refuse, say_formula, usage, version};
-use model_check::{RunFault, Verdict, exit_status, run_check};
+mod about;
+
+use crate::about::ABOUT;
+use command::{
+    CountingReader, NOT_RUN, help, open_again, open_input, refuse, say_formula, usage, version,
+    warn_of_header,
+};
+use model_check::{RunFault, Verdict, exit_status, line_of_clause, run_check};
 use std::process::ExitCode;
 use std::{env, io};
 
@@ -33,7 +39,7 @@ fn status_of_call(rt: &HostRuntime) -> u8 {
     };
     match (first.as_str(), words.next(), words.next()) {
         ("--example", None, _) => check_example(rt),
-        ("--help", None, _) => help(rt, CALL),
+        ("--help", None, _) => help(rt, &ABOUT),
         ("--version", None, _) => version(rt, "model_check"),
         (cnf, Some(answer), None) => check_files(rt, cnf, answer.as_str()),
         _ => usage(rt, CALL),
@@ -48,13 +54,19 @@ fn check_files(rt: &HostRuntime, cnf_name: &str, answer_name: &str) -> u8 {
     let Some(answer) = open_input(rt, answer_name) else {
         return NOT_RUN;
     };
-    let outcome = run_check(rt.alloc(), cnf.file, answer.file, &mut io::writer(rt));
+    let mut cnf = CountingReader::new(cnf.file);
+    let outcome = run_check(rt.alloc(), &mut cnf, answer.file, &mut io::writer(rt));
     let status = report(rt, &outcome);
     match outcome {
-        // A list of literals may begin as DRAT text, as a formula may.
+        // A list of literals may begin as DRAT text, as a formula may. Nothing of the formula is
+        // read then.
         Err(RunFault::Answer(_)) => say_formula(rt, answer_name),
         Err(RunFault::Formula(_)) => say_formula(rt, cnf_name),
-        Err(RunFault::Write(_)) | Ok(_) => {}
+        Ok(Verdict::NotVerified { clause }) => {
+            say_unmet(rt, cnf_name, clause);
+            warn_of_header(rt, cnf_name, &cnf);
+        }
+        Err(RunFault::Write(_)) | Ok(Verdict::Verified) => warn_of_header(rt, cnf_name, &cnf),
     }
     status
 }
@@ -69,14 +81,26 @@ fn check_example(rt: &HostRuntime) -> u8 {
     report(rt, &outcome)
 }
 
-/// Says which clause is not met, or why there is no verdict, and gives the exit status.
-fn report(rt: &HostRuntime, outcome: &Result<Verdict, RunFault>) -> u8 {
-    let _ = match outcome {
-        Ok(Verdict::Verified) => Ok(()),
-        Ok(Verdict::NotVerified { clause }) => {
-            eprintln!(rt; "formula: clause {clause} has no literal of the answer")
+/// Says which clause has no literal of the answer, and on which line it ends, if that can be read.
+fn say_unmet(rt: &HostRuntime, cnf_name: &str, clause: u64) {
+    let _ = match line_in_file(rt, cnf_name, clause) {
+        Some(line) => {
+            eprintln!(rt; "formula: line {line}: clause {clause} has no literal of the answer")
         }
-        Err(fault) => eprintln!(rt; "{fault}"),
+        None => eprintln!(rt; "formula: clause {clause} has no literal of the answer"),
     };
+}
+
+/// The line on which a clause ends. For it the file is read a second time.
+fn line_in_file(rt: &HostRuntime, cnf_name: &str, clause: u64) -> Option<u64> {
+    let cnf = open_again(rt, cnf_name)?;
+    line_of_clause(rt.alloc(), cnf, clause).ok()?
+}
+
+/// Says why there is no verdict, and gives the exit status.
+fn report(rt: &HostRuntime, outcome: &Result<Verdict, RunFault>) -> u8 {
+    if let Err(fault) = outcome {
+        let _ = eprintln!(rt; "{fault}");
+    }
     exit_status(outcome)
 }

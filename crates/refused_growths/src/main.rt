@@ -11,6 +11,7 @@
 #![tactic(auto)]
 
 mod answer;
+mod answers;
 mod boxes;
 mod call;
 mod few;

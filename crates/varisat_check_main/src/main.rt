@@ -8,6 +8,9 @@
 //! What `RUST_LOG` asks for, as `RUST_LOG=info`, is logged to standard error; else nothing is.
 #![tactic(auto)]
 
+mod about;
+
+use crate::about::ABOUT;
 use command::{
     CountingReader, Input, NOT_RUN, create_output, help, open_input, refuse, say_formula,
     say_proof, usage, version, warn_of_header,
@@ -41,7 +44,7 @@ fn status_of_call(rt: &HostRuntime) -> u8 {
         return check_example(rt);
     };
     match (first.as_str(), words.next(), words.next(), words.next()) {
-        ("--help", None, _, _) => help(rt, CALL),
+        ("--help", None, _, _) => help(rt, &ABOUT),
         ("--version", None, _, _) => version(rt, "varisat_check"),
         (cnf, Some(proof), None, _) => check_files(rt, cnf, proof.as_str()),
         (cnf, Some(proof), Some(lrat), None) => {

@@ -1,0 +1,110 @@
+//! What a program says of itself.
+use std::fmt;
+use std::fmt::{Display, Formatter};
+
+/// A name, as of an operand, an option or an exit status, and what is said of it.
+#[derive(Clone, Copy)]
+pub struct Entry<'a> {
+    pub name: &'a str,
+    pub text: &'a str,
+}
+
+/// What `--help` says of a program. Its man page and its completions are made from that.
+#[derive(Clone, Copy)]
+pub struct About<'a> {
+    /// Its name, and what may stand behind it.
+    pub call: &'a str,
+    /// What it does, as a sentence.
+    pub does: &'a str,
+    /// The files that it reads and writes, in their order.
+    pub operands: &'a [Entry<'a>],
+    /// The options that it has beside `--help` and `--version`.
+    pub options: &'a [Entry<'a>],
+    /// What the exit status 0 says.
+    pub verified: &'a str,
+    /// What the exit status 3 says.
+    pub open: &'a str,
+    /// The variables of the environment that it looks at.
+    pub environment: &'a [Entry<'a>],
+    /// Calls, each with what it does.
+    pub examples: &'a [Entry<'a>],
+}
+
+/// The options of all programs.
+const COMMON_OPTIONS: [Entry<'static>; 2] = [
+    Entry {
+        name: "--help",
+        text: "says how the program is called",
+    },
+    Entry {
+        name: "--version",
+        text: "says of which version it is",
+    },
+];
+
+const FAILED_STATUS: Entry<'static> = Entry {
+    name: "1",
+    text: "a file is malformed or refused, or a read, a write or an allocation failed: \
+        nothing is claimed, and standard error says why",
+};
+
+const NOT_RUN_STATUS: Entry<'static> = Entry {
+    name: "2",
+    text: "wrong arguments, or a file that can't be opened",
+};
+
+impl Display for Entry<'_> {
+    fn fmt<F: fmt::Write>(&self, f: &mut Formatter<F>) -> fmt::Result {
+        let (name, text) = (self.name, self.text);
+        write!(f, "  {name:<12}  {text}\n")
+    }
+}
+
+impl Display for About<'_> {
+    fn fmt<F: fmt::Write>(&self, f: &mut Formatter<F>) -> fmt::Result {
+        let (call, does) = (self.call, self.does);
+        write!(f, "usage: {call}\n\n{does}\n\noperands:\n")?;
+        write_entries(f, self.operands)?;
+        write!(f, "\noptions:\n")?;
+        write_entries(f, self.options)?;
+        write_entries(f, &COMMON_OPTIONS)?;
+        write!(f, "\nexit status:\n")?;
+        self.write_statuses(f)?;
+        if !self.environment.is_empty() {
+            write!(f, "\nenvironment:\n")?;
+            write_entries(f, self.environment)?;
+        }
+        write!(f, "\nexamples:\n")?;
+        write_examples(f, self.examples)
+    }
+}
+
+impl About<'_> {
+    fn write_statuses<F: fmt::Write>(&self, f: &mut Formatter<F>) -> fmt::Result {
+        let verified = Entry {
+            name: "0",
+            text: self.verified,
+        };
+        let open = Entry {
+            name: "3",
+            text: self.open,
+        };
+        write_entries(f, &[verified, FAILED_STATUS, NOT_RUN_STATUS, open])
+    }
+}
+
+fn write_entries<F: fmt::Write>(f: &mut Formatter<F>, entries: &[Entry<'_>]) -> fmt::Result {
+    for entry in entries {
+        write!(f, "{entry}")?;
+    }
+    Ok(())
+}
+
+/// Each call on a line, below what it does.
+fn write_examples<F: fmt::Write>(f: &mut Formatter<F>, examples: &[Entry<'_>]) -> fmt::Result {
+    for example in examples {
+        let (call, does) = (example.name, example.text);
+        write!(f, "  {does}:\n      {call}\n")?;
+    }
+    Ok(())
+}

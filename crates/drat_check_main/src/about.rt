@@ -1,0 +1,50 @@
+//! What the program says of itself.
+use crate::CALL;
+use command::{About, Entry};
+
+/// What `--help` says.
+pub const ABOUT: About<'static> = About {
+    call: CALL,
+    does: "Checks a DRAT proof, text or binary, against a formula, and says in one line what it shows.",
+    operands: &[
+        Entry {
+            name: "CNF",
+            text: "the formula, DIMACS text; - stands for standard input",
+        },
+        Entry {
+            name: "DRAT",
+            text: "the proof, DRAT text or binary DRAT; - stands for standard input",
+        },
+    ],
+    options: &[
+        Entry {
+            name: "--lrat FILE",
+            text: "writes the lines that the checker of LRAT proofs accepted",
+        },
+        Entry {
+            name: "--core FILE",
+            text: "writes the clauses of the formula that these lines use",
+        },
+        Entry {
+            name: "--example",
+            text: "checks a small fixed example, in place of files",
+        },
+    ],
+    verified: "s VERIFIED UNSAT: no assignment satisfies the formula",
+    open: "s NOT VERIFIED: the proof ends before it shows that",
+    environment: &[],
+    examples: &[
+        Entry {
+            name: "drat_check formula.cnf proof.drat",
+            text: "checks a proof",
+        },
+        Entry {
+            name: "solver formula.cnf | drat_check formula.cnf -",
+            text: "checks a proof as the solver writes it",
+        },
+        Entry {
+            name: "drat_check formula.cnf proof.drat --lrat proof.lrat",
+            text: "writes the proof as LRAT text too, for another checker",
+        },
+    ],
+};

@@ -1,0 +1,36 @@
+//! What the program says of itself.
+use crate::CALL;
+use command::{About, Entry};
+
+/// What `--help` says.
+pub const ABOUT: About<'static> = About {
+    call: CALL,
+    does: "Checks lines of hints over a formula, and says in one line what they show.",
+    operands: &[
+        Entry {
+            name: "CNF",
+            text: "the formula, DIMACS text; - stands for standard input",
+        },
+        Entry {
+            name: "LRAT",
+            text: "the lines, LRAT text; - stands for standard input",
+        },
+    ],
+    options: &[Entry {
+        name: "--example",
+        text: "checks a small fixed example, in place of files",
+    }],
+    verified: "s VERIFIED UNSAT: no assignment satisfies the formula",
+    open: "s NOT VERIFIED: the lines end before they show that",
+    environment: &[],
+    examples: &[
+        Entry {
+            name: "hint_check formula.cnf proof.lrat",
+            text: "checks lines of hints",
+        },
+        Entry {
+            name: "varisat_check formula.cnf proof.bytes proof.lrat && hint_check formula.cnf proof.lrat",
+            text: "checks a proof in bytes, and once more by its hints",
+        },
+    ],
+};

@@ -1,0 +1,36 @@
+//! What the program says of itself.
+use crate::CALL;
+use command::{About, Entry};
+
+/// What `--help` says.
+pub const ABOUT: About<'static> = About {
+    call: CALL,
+    does: "Checks an LRAT proof against a formula, and says in one line what it shows.",
+    operands: &[
+        Entry {
+            name: "CNF",
+            text: "the formula, DIMACS text; - stands for standard input",
+        },
+        Entry {
+            name: "LRAT",
+            text: "the proof, LRAT text; - stands for standard input",
+        },
+    ],
+    options: &[Entry {
+        name: "--example",
+        text: "checks a small fixed example, in place of files",
+    }],
+    verified: "s VERIFIED UNSAT: no assignment satisfies the formula",
+    open: "s NOT VERIFIED: the proof ends before it shows that",
+    environment: &[],
+    examples: &[
+        Entry {
+            name: "lrat_check formula.cnf proof.lrat",
+            text: "checks a proof",
+        },
+        Entry {
+            name: "solver formula.cnf | lrat_check formula.cnf -",
+            text: "checks a proof as the solver writes it",
+        },
+    ],
+};

@@ -1,0 +1,65 @@
+//! Answers that a formula is satisfiable, and the line of a clause that one does not meet.
+use crate::outcome::{Memory, Played, Stop, Wrong};
+use answer_text::AnswerFault;
+use arrayvec::ArrayVec;
+use model_check::{RunFault, Verdict, line_of_clause, run_check};
+use sat_formula::DimacsFault;
+use sat_formula::source::NoByte;
+use std::alloc::Global;
+
+/// 1 or 2, not 1 or 3, not 2 or not 3.
+const FORMULA: &[u8] = b"p cnf 3 3\n1 2 0\n-1 3 0\n-2 -3 0\n";
+
+/// An answer, with its verdict and the line that is written.
+#[derive(Clone, Copy)]
+struct Answer {
+    text: &'static [u8],
+    verdict: Verdict,
+    line: &'static [u8],
+}
+
+const ANSWERS: [Answer; 2] = [
+    Answer {
+        text: b"s SATISFIABLE\nv 1 -2 3 0\n",
+        verdict: Verdict::Verified,
+        line: b"s VERIFIED SAT\n",
+    },
+    Answer {
+        text: b"1 2 3 0",
+        verdict: Verdict::NotVerified { clause: 3 },
+        line: b"s NOT VERIFIED\n",
+    },
+];
+
+/// Checks both answers, and finds the line of the clause that one of them does not meet.
+pub fn check_answers(alloc: Global) -> Played {
+    let mut memory = find_line(alloc)?;
+    for answer in ANSWERS {
+        memory = memory.and(check(alloc, answer)?);
+    }
+    Ok(memory)
+}
+
+/// Nothing is written where memory is wanted.
+fn check(alloc: Global, answer: Answer) -> Played {
+    let mut out = ArrayVec::<u8, 16>::new();
+    match run_check(alloc, FORMULA, answer.text, &mut out) {
+        Ok(verdict) if verdict == answer.verdict && out.as_slice() == answer.line => {
+            Ok(Memory::Ample)
+        }
+        Err(
+            RunFault::Answer(AnswerFault::OutOfMemory)
+            | RunFault::Formula(DimacsFault::OutOfMemory),
+        ) if out.is_empty() => Ok(Memory::Wanting),
+        _ => Err(Stop::Wrong(Wrong::Answer)),
+    }
+}
+
+/// The third clause ends on the fourth line.
+fn find_line(alloc: Global) -> Played {
+    match line_of_clause(alloc, FORMULA, 3) {
+        Ok(Some(4)) => Ok(Memory::Ample),
+        Err(NoByte::OutOfMemory) => Ok(Memory::Wanting),
+        _ => Err(Stop::Wrong(Wrong::Answer)),
+    }
+}
