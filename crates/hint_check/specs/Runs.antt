@@ -1,12 +1,13 @@
 -- Runs over a formula and a text of hints.
---     GivesText known text      a reader with these bytes gave this text
 --     AcceptsHints, ChecksHints      all lines were accepted; the answer of checking a text of hints over a formula
+--     IsUnread cause fault      what is answered where a read failed
 --     CheckRun cnf lrat r      the run over both texts
 --     IsRefusedRun r      the formula or the hints were not accepted
 --     IsUnwritten r, BeginsLine      the verdict's line was not written whole, and what was written then
-use Rattle.std.specs.Prelude.{◌≡◌, ◌≢◌, ℕ, Bool, false, List, Option, IfSome, Result, Ok, Err}
+use Rattle.std.specs.Prelude.{◌≡◌, ◌≢◌, ℕ, Bool, false, List, Option, Result, Ok, Err}
 use Rattle.std.specs.IoError.{error_kind}
 use Rattle.std.specs.Option.{option_map}
+use Rattle.std.specs.declared.io.Error.{Error}
 use Rattle.std.specs.declared.io.ErrorKind.TheVariants.{OutOfMemory}
 use Rattle.sat_rules.specs.Clauses.{all_true}
 use Rattle.sat_rules.specs.HintLines.{Listed, listing}
@@ -14,16 +15,14 @@ use Rattle.sat_formula.specs.Lines.{outcome_of}
 use Rattle.sat_formula.specs.Outcome.{Ended}
 use Rattle.sat_formula.specs.Whole.{FailsAfter, IsOutcome}
 use Rattle.hint_checker.specs.Checked.{Accepts, IsRefusal}
+use Rattle.hint_checker.specs.Streams.{GivesText}
+use Rattle.hint_checker.specs.declared.fault.HintFault.TheVariants as hints
 use Rattle.whole_writes.specs.Beginnings.{AppendsBeginning}
 use Rattle.verdicts.specs.Verdicts.{shown_line, verdict_of}
 use Rattle.hint_check.specs.declared.fault.RunFault.{RunFault}
 use Rattle.hint_check.specs.declared.fault.RunFault.TheVariants.{Formula, Hints, Read, Write}
 use Rattle.verdicts.specs.declared.verdict.Verdict.{Verdict}
 use Rattle.verdicts.specs.declared.verdict.Verdict.TheVariants.{Verified}
-
--- a reader with these bytes gave this text
-abbrev pub GivesText : Option (List ℕ) → List ℕ → Type 0
-GivesText known text = IfSome known (λ bytes. text ≡ bytes)
 
 -- all lines of a text are accepted after a formula's clauses; the verdict says whether one adds the empty clause, and then no assignment satisfies the formula
 pub record AcceptsHints (lrat : Option (List ℕ)) (formula : List (List ℕ))
@@ -43,6 +42,13 @@ ChecksHints lrat formula (Err (Hints fault)) = (text : List ℕ) × GivesText lr
 ChecksHints lrat formula (Err (Read cause)) = error_kind cause ≢ OutOfMemory
 ChecksHints lrat formula (Err (Formula fault)) = ⊥
 ChecksHints lrat formula (Err (Write cause)) = ⊥
+
+-- a failed read wanted memory, or its error is answered
+abbrev pub IsUnread : Error → RunFault → Type 0
+IsUnread cause (Hints fault) = (error_kind cause ≡ OutOfMemory) × (fault ≡ hints.OutOfMemory)
+IsUnread cause (Read error) = (error_kind cause ≢ OutOfMemory) × (error ≡ cause)
+IsUnread cause (Formula fault) = ⊥
+IsUnread cause (Write error) = ⊥
 
 -- the formula's text was read whole, and the text of hints was checked over its clauses with this answer
 pub record ReadAndChecked (cnf lrat : Option (List ℕ)) (r : Result Verdict RunFault) : Type

@@ -4,12 +4,12 @@ ghost use Rattle.std.specs.IoError.{error_kind};
 ghost use Rattle.std.specs.Io.KnownBytes.{Appends};
 ghost use Rattle.sat_formula.specs.Refuted.{IsRefuted};
 ghost use Rattle.whole_writes.specs.Beginnings.{AppendsBeginning};
-ghost use Rattle.hint_check.specs.Runs.{BeginsLine, ChecksHints, CheckRun, IsRefusedRun, IsUnwritten};
+ghost use Rattle.hint_check.specs.Runs.{BeginsLine, ChecksHints, CheckRun, IsRefusedRun, IsUnread, IsUnwritten};
 ghost use Rattle.verdicts.specs.Verdicts.{shown_line};
 ghost use Rattle.verdicts.specs.declared.verdict.Verdict.TheVariants.{Verified};
 
 use crate::fault::RunFault;
-use hint_checker::{HintChecker, HintFault};
+use hint_checker::{HintChecker, HintFault, HintTextFault};
 use sat_formula::{CnfFormula, read_formula};
 use std::alloc::Global;
 use std::io;
@@ -51,7 +51,7 @@ pub fn run_check<F: Read + Drop, H: Read + Drop, W: Write>(
     }
 }
 
-/// Reads a text of hints and checks it over a formula.
+/// Checks a text of hints over a formula, as it is read.
 fn check_hints<H: Read + Drop>(
     alloc: Global,
     formula: &CnfFormula,
@@ -59,22 +59,25 @@ fn check_hints<H: Read + Drop>(
 ) -> Result<Verdict, RunFault>
     ensures { ChecksHints (H.remaining hints) formula.now result }
 {
-    let mut input = hints;
-    let mut text = Vec::new(alloc);
-    if let Err(fault) = input.read_to_end(&mut text) {
-        if is_want_of_memory(&fault) {
-            return Err(RunFault::Hints(HintFault::OutOfMemory));
-        }
-        return Err(RunFault::Read(fault));
-    }
     let mut checker = match HintChecker::new(alloc, formula) {
         Ok(checker) => checker,
         Err(fault) => return Err(RunFault::Hints(fault)),
     };
-    match checker.check(&text) {
+    match checker.check_reader(hints) {
         Ok(refuted) => Ok(Verdict::of(refuted)),
-        Err(fault) => Err(RunFault::Hints(fault)),
+        Err(HintTextFault::Refused(fault)) => Err(RunFault::Hints(fault)),
+        Err(HintTextFault::Read(fault)) => Err(unread(fault)),
     }
+}
+
+/// What a run answers where a read failed.
+fn unread(fault: io::Error) -> RunFault
+    ensures { IsUnread fault result }
+{
+    if is_want_of_memory(&fault) {
+        return RunFault::Hints(HintFault::OutOfMemory);
+    }
+    RunFault::Read(fault)
 }
 
 /// Whether there was no memory for what a read gave, or for the read.

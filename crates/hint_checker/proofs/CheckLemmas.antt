@@ -41,6 +41,13 @@ said_more (m ∷ ls) l xs ys e f = go (said_more ls l) (said_by m) (said_all ls)
     go rest (text.Line x) o a h = one rest x o a (ap (in_front x) (sym a) ∙ h)
     go rest text.Malformed o a h = absurd (none-some xs h)
 
+-- a text has one more line than bytes at most
+pub few_lines : (bytes : List ℕ) → length (lines_of bytes) ≤ length bytes + 1
+few_lines bytes =
+    let total = length-slice_split is_lf bytes in
+    let few = count_by-le-length is_lf bytes in
+    omega (arith, total, few)
+
 -- ---- the loop over lines
 
 pub record SoFar (h : Listed) (all rest : List (List ℕ)) (n : ℕ) (k : Listed) : Type 0 where
@@ -100,6 +107,23 @@ so_far_refused h bytes line rest n k f fault e = go fault e
     go causes.NoConflict r = refuses causes.NoConflict r
     go causes.OutOfMemory r = tt
 
+-- ---- how many lines there are
+
+-- the line in hand is one of the text's, and a text has one more line than bytes at most
+pub so_far_short : (h : Listed) (bytes line : List ℕ) (rest : List (List ℕ)) (n : ℕ) (k : Listed) → SoFar h (lines_of bytes) (line ∷ rest) n k → n ≤ length bytes
+so_far_short h bytes line rest n k f =
+    let all = ap (λ ls. length ls) f.cut in
+    let parts = length-append f.before (line ∷ rest) in
+    let few = few_lines bytes in
+    omega (arith, all, parts, few, f.count)
+
+-- after the last line all were counted
+pub so_far_counted : (h : Listed) (all : List (List ℕ)) (n : ℕ) (k : Listed) → SoFar h all [] n k → n ≡ length all
+so_far_counted h all n k f =
+    let whole = ap (λ ls. length ls) f.cut in
+    let parts = length-append f.before [] in
+    omega (arith, whole, parts, f.count)
+
 -- ---- what is said of a formula
 
 -- whether the empty clause was added, from the lines
@@ -128,14 +152,3 @@ accepts_after formula before h bytes k o b f a e y =
 pub yes_refutes : (formula : List (List ℕ)) (before : List HintLine) (h : Listed) (bytes : List ℕ) (k : Listed) → Follows (listing formula) before h → Accepts h bytes k → k.added_empty ≡ true →
     (a : ℕ → Bool) → all_true a formula ≡ true → ⊥
 yes_refutes formula before h bytes k f a y = hints_refute formula (before ++ a.lines) k (follows_join (listing formula) h k before a.lines f a.follow) y
-
--- ---- how many lines there are
-
--- the line in hand is one of the text's, and a text has one more line than bytes at most
-pub so_far_short : (h : Listed) (bytes line : List ℕ) (rest : List (List ℕ)) (n : ℕ) (k : Listed) → SoFar h (lines_of bytes) (line ∷ rest) n k → n ≤ length bytes
-so_far_short h bytes line rest n k f =
-    let total = length-slice_split is_lf bytes in
-    let all = ap (λ ls. length ls) f.cut in
-    let parts = length-append f.before (line ∷ rest) in
-    let few = count_by-le-length is_lf bytes in
-    omega (arith, total, all, parts, few, f.count)

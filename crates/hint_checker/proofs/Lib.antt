@@ -1,9 +1,13 @@
 pub mod CheckLemmas
+pub mod CutLemmas
 pub mod LineLemmas
 pub mod MarkLemmas
 pub mod NumberLemmas
 pub mod OneAnswer
 pub mod Parts
 pub mod Places
+pub mod ShortLemmas
+pub mod SpanLemmas
+pub mod StreamLemmas
 pub mod ValueLemmas
 pub mod Words

@@ -1,5 +1,4 @@
 -- What a checker of hints holds, and what it answers to a text.
---     named_by m, listed_by m g b      what the checker holds, from its parts
 --     said_all ls      the lines of hints that lines of text say
 --     Accepts h text k      all lines of the text are accepted after h, and lead to k
 --     refusal h said      why what a line says is refused
@@ -8,13 +7,9 @@
 --     IsCause f o, in_line f n      a cause of the code, and the fault that it is in line n
 --     adds_empty x      whether a line adds the empty clause
 --     AcceptsAfter cs xs text o b      the same after a formula's clauses and earlier lines
-use Rattle.std.specs.Prelude.{◌≡◌, ℕ, suc, nat_eq, Bool, false, List, [], ◌∷◌, ◌++◌, length, Option, Some, None, Vec}
-use Rattle.std.specs.Global.{Global}
+use Rattle.std.specs.Prelude.{◌≡◌, ℕ, suc, Bool, false, List, [], ◌∷◌, ◌++◌, length, Option, Some, None}
 use Rattle.std.specs.List.{list_any}
 use Rattle.std.specs.Option.{option_map}
-use Rattle.std.specs.HashMap.{HashMap, get}
-use Rattle.std.specs.declared.hash.BuildHasherDefault.{BuildHasherDefault}
-use Rattle.std.specs.declared.hash.FoldHasher.{FoldHasher}
 use Rattle.sat_rules.specs.HintLines.{Follows, HintCause, HintLine, Listed, adds_clause, after_line, deletes_clauses, id_not_greater, is_empty, line_cause, listing, no_conflict, not_unit, unknown_id}
 use Rattle.sat_formula.specs.Lines.{lines_of}
 use Rattle.hint_checker.specs.Text as text
@@ -23,17 +18,6 @@ use Rattle.hint_checker.specs.declared.fault.HintFault.{HintFault}
 use Rattle.hint_checker.specs.declared.fault.HintFault.TheVariants as faults
 use Rattle.hint_checker.specs.declared.fault.LineFault.{LineFault}
 use Rattle.hint_checker.specs.declared.fault.LineFault.TheVariants as causes
-
--- the clause under an id
-abbrev pub named_by : HashMap ℕ (Vec ℕ Global) (BuildHasherDefault FoldHasher) → ℕ → Option (List ℕ)
-named_by m i = option_map (λ c. c.items) (get nat_eq m i)
-
--- the clauses under their ids, the greatest id so far, and whether the empty clause was added
-abbrev pub listed_by : HashMap ℕ (Vec ℕ Global) (BuildHasherDefault FoldHasher) → ℕ → Bool → Listed
-listed_by m greatest empty = record {
-  machine = record { named = named_by m; above = suc greatest };
-  added_empty = empty;
-}
 
 -- what one line says, before the others
 abbrev pub joined : Said → Option (List HintLine) → Option (List HintLine)

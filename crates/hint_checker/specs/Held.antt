@@ -1,9 +1,9 @@
 -- What the parts of a checker of hints say.
 --     trues v      the literals that are true
 --     held_by x, holds c      what is held, and what a checker holds until its first fault
-use Rattle.std.specs.Prelude.{ℕ, Bool, if◌then◌else◌, Option, Some, None}
+use Rattle.std.specs.Prelude.{ℕ, suc, Bool, if◌then◌else◌, Option, Some, None}
 use Rattle.sat_rules.specs.HintLines.{Listed}
-use Rattle.hint_checker.specs.Checked.{listed_by}
+use Rattle.hint_checker.specs.Clauses.{clause_of}
 use Rattle.hint_checker.specs.Marks.{has_mark}
 use Rattle.hint_checker.specs.declared.checker.HintChecker.{HintChecker}
 use Rattle.hint_checker.specs.declared.listing.Listing.{Listing}
@@ -15,7 +15,10 @@ trues values = has_mark values.marks
 
 -- the clauses, the greatest id, and whether the empty clause was added
 abbrev pub held_by : Listing → Listed
-held_by x = listed_by x.clauses x.greatest x.added_empty
+held_by x = record {
+  machine = record { named = clause_of x.clauses; above = suc x.greatest };
+  added_empty = x.added_empty;
+}
 
 -- what a checker holds until its first fault
 abbrev pub holds : HintChecker → Option Listed

@@ -1,9 +1,14 @@
 pub mod Checked
+pub mod Clauses
 pub mod Held
 pub mod Lines
 pub mod Marks
+pub mod Near
 pub mod OneAnswer
 pub mod ReadLine
 pub mod Room
+pub mod Spans
+pub mod Streams
 pub mod Text
 pub mod Unit
+pub mod Words

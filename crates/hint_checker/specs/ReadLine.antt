@@ -1,7 +1,7 @@
 -- How the answers of the code say what a text says.
---     hint_line x      a line of the code as one of the rules
+--     hint_line row x      a line of the code, with its lists, as one of the rules
 --     Reads f r o      what was read, or what it is refused for
---     ReadsLine r said      the same of a line
+--     ReadsLine row r said      the same of a line
 use Rattle.std.specs.Prelude.{◌≡◌, Option, Some, None, Result, Ok, Err}
 use Rattle.sat_rules.specs.HintLines as rules
 use Rattle.hint_checker.specs.Text as text
@@ -10,11 +10,12 @@ use Rattle.hint_checker.specs.declared.fault.LineFault.{LineFault}
 use Rattle.hint_checker.specs.declared.fault.LineFault.TheVariants.{IdNotGreater, Malformed, NoConflict, NotUnit, OutOfMemory, UnknownId}
 use Rattle.hint_checker.specs.declared.line.HintLine.{HintLine}
 use Rattle.hint_checker.specs.declared.line.HintLine.TheVariants as lines
+use Rattle.hint_checker.specs.declared.line.Row.{Row}
 
--- a line of the code as one of the rules
-abbrev pub hint_line : HintLine → rules.HintLine
-hint_line (lines.Addition id clause hints) = rules.adds_clause id clause.items hints.items
-hint_line (lines.Deletion number ids) = rules.deletes_clauses number ids.items
+-- a line of the code, with its lists, as one of the rules
+abbrev pub hint_line : Row → HintLine → rules.HintLine
+hint_line row (lines.Addition id) = rules.adds_clause id row.clause.items row.ids.items
+hint_line row (lines.Deletion number) = rules.deletes_clauses number row.ids.items
 
 -- a part of a line is refused as malformed, or there was no memory for it
 abbrev pub IsUnread : {A : Type 0} → LineFault → Option A → Type 0
@@ -40,7 +41,7 @@ IsLineUnread NotUnit s = ⊥
 IsLineUnread NoConflict s = ⊥
 
 -- what a line says
-abbrev pub ReadsLine : Result (Option HintLine) LineFault → Said → Type 0
-ReadsLine (Ok None) s = s ≡ text.Nothing
-ReadsLine (Ok (Some x)) s = s ≡ text.Line (hint_line x)
-ReadsLine (Err e) s = IsLineUnread e s
+abbrev pub ReadsLine : Row → Result (Option HintLine) LineFault → Said → Type 0
+ReadsLine row (Ok None) s = s ≡ text.Nothing
+ReadsLine row (Ok (Some x)) s = s ≡ text.Line (hint_line row x)
+ReadsLine row (Err e) s = IsLineUnread e s

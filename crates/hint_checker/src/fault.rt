@@ -2,6 +2,7 @@
 ghost use Rattle.std.specs.Prelude.{◌≡◌};
 
 use std::alloc::{AllocError, AllocFailed};
+use std::io;
 use thiserror::Error;
 
 /// Why a checker of hints refuses a text. Lines count from 1 in each text.
@@ -25,6 +26,47 @@ pub enum HintFault {
     /// There was no memory for what the lines say.
     #[error("out of memory")]
     OutOfMemory,
+}
+
+/// Why a checker of hints refuses the text of a reader.
+#[derive(Debug, Drop, Error)]
+pub enum HintTextFault {
+    /// A read failed, or the text is longer than any that is read.
+    #[error("error reading hints: {0}")]
+    Read(io::Error),
+    /// A line was refused, or memory was wanting.
+    #[error("{0}")]
+    Refused(HintFault),
+}
+
+/// Why no more lines of a reader's text come.
+#[derive(Clone, Copy)]
+pub(crate) enum Stop {
+    /// A read failed, or the text is too long.
+    Read,
+    OutOfMemory,
+}
+
+impl From<AllocError> for Stop {
+    ghost use Rattle.std.specs.Prelude.{◌≡◌};
+    ghost use Rattle.hint_checker.specs.declared.fault.Stop.TheVariants.{OutOfMemory};
+
+    ghost from_gives = { λ _ stop. stop ≡ OutOfMemory };
+
+    fn from(_e: AllocError) -> Stop {
+        Stop::OutOfMemory
+    }
+}
+
+impl<T: Drop> From<AllocFailed<T>> for Stop {
+    ghost use Rattle.std.specs.Prelude.{◌≡◌};
+    ghost use Rattle.hint_checker.specs.declared.fault.Stop.TheVariants.{OutOfMemory};
+
+    ghost from_gives = { λ _ stop. stop ≡ OutOfMemory };
+
+    fn from(_e: AllocFailed<T>) -> Stop {
+        Stop::OutOfMemory
+    }
 }
 
 /// Why a line is refused, before it is known which line it is.

@@ -2,17 +2,22 @@
 #![tactic(auto)]
 
 mod checker;
+mod clauses;
 mod fault;
 pub mod laws;
 mod line;
 mod lines;
 mod listing;
 mod marks;
+mod near;
 mod room;
+mod short;
+mod span;
+mod stream;
 #[cfg(test)]
 mod tests;
 mod values;
 mod word;
 
 pub use checker::HintChecker;
-pub use fault::HintFault;
+pub use fault::{HintFault, HintTextFault};

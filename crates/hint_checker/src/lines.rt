@@ -5,6 +5,7 @@ ghost use Rattle.sat_formula.specs.Bytes.{is_lf};
 ghost use Rattle.sat_formula.specs.Lines.{lines_of};
 ghost use Rattle.hint_checker.specs.Lines.{lines_after, lines_left};
 
+use memchr::memchr;
 use std::marker::Model;
 
 /// The lines of a text that are still to come, without their LF. After a last LF comes an empty
@@ -52,9 +53,7 @@ impl<'a> Iterator for Lines<'a> {
 fn line_len(text: &[u8]) -> usize
     ensures { result ≡ position_or_len is_lf text.now }
 {
-    text.iter()
-        .position(|byte| *byte == b'\n')
-        .unwrap_or(text.len())
+    memchr(b'\n', text).unwrap_or(text.len())
 }
 
 /// What stands after the LF that a line ends with, where there is one.

@@ -6,17 +6,17 @@ ghost use Rattle.hint_checker.specs.Checked.{IsCause, cause_of};
 ghost use Rattle.hint_checker.specs.Held.{held_by, trues};
 ghost use Rattle.std.specs.Option.{option_map};
 
+use crate::clauses::Clauses;
 use crate::fault::LineFault;
 use crate::values::Values;
 use sat_formula::CnfFormula;
 use sat_formula::lit::Lit;
 use std::alloc::{AllocError, Global};
-use std::collections::HashMap;
 
 /// The clauses under their ids, and what was added.
 #[derive(Drop)]
 pub(crate) struct Listing {
-    clauses: HashMap<u64, Vec<Lit>>,
+    clauses: Clauses,
     /// The greatest id so far, or 0.
     greatest: u64,
     added_empty: bool,
@@ -30,30 +30,29 @@ impl Listing {
         ensures { IfOk result (λ made. held_by made ≡ listing formula.now) }
     {
         let mut held = Listing {
-            clauses: HashMap::with_capacity(alloc, formula.len())?,
+            clauses: Clauses::new(alloc, formula.len())?,
             greatest: 0,
             added_empty: false,
             stored: 0,
         };
         for clause in formula {
             let id = held.greatest + 1;
-            held.put(id, Vec::from_slice(alloc, clause)?)?;
+            held.put(id, clause)?;
         }
         Ok(held)
     }
 
     /// Puts a clause under an id.
-    fn put(&mut self, id: u64, clause: Vec<Lit>) -> Result<(), AllocError>
+    fn put(&mut self, id: u64, clause: &[Lit]) -> Result<(), AllocError>
         ensures { OnOk result (held_by self.new
             ≡ record (held_by self.old) {
-              machine = put_id id clause.items
+              machine = put_id id clause.now
                   (held_by self.old).machine;
             }) }
     {
-        let lits = clause.len() as u64;
-        self.clauses.insert(id, clause)?;
+        self.clauses.put(id, clause)?;
         self.greatest = id;
-        self.stored = self.stored.saturating_add(lits);
+        self.stored = self.stored.saturating_add(clause.len() as u64);
         Ok(())
     }
 
@@ -69,26 +68,25 @@ impl Listing {
         &mut self,
         values: &mut Values,
         id: u64,
-        clause: Vec<Lit>,
+        clause: &[Lit],
         hints: &[u64],
     ) -> Result<(), LineFault>
         ensures ok { OnOk result (line_cause (held_by self.old)
-            (adds_clause id clause.items hints.now) ≡ None) }
+            (adds_clause id clause.now hints.now) ≡ None) }
         ensures added { OnOk result (held_by self.new
-            ≡ after_line (held_by self.old) (adds_clause id clause.items hints.now)) }
+            ≡ after_line (held_by self.old) (adds_clause id clause.now hints.now)) }
         ensures err { IfErr result (λ fault. IsCause fault
             (option_map cause_of (line_cause (held_by self.old)
-            (adds_clause id clause.items hints.now)))) }
+            (adds_clause id clause.now hints.now)))) }
     {
         if id <= self.greatest {
             return Err(LineFault::IdNotGreater);
         }
         values.allow(self.stored);
-        values.negate(&clause)?;
+        values.negate(clause)?;
         self.try_hints(values, hints)?;
-        let is_empty = clause.is_empty();
         self.put(id, clause)?;
-        self.added_empty |= is_empty;
+        self.added_empty |= clause.is_empty();
         Ok(())
     }
 
@@ -104,7 +102,7 @@ impl Listing {
         for id in others {
             self.follow(values, *id)?;
         }
-        let clause = self.clauses.get(last).ok_or(LineFault::UnknownId)?;
+        let clause = self.clauses.get(*last).ok_or(LineFault::UnknownId)?;
         if !values.is_falsified(clause) {
             return Err(LineFault::NoConflict);
         }
@@ -120,26 +118,34 @@ impl Listing {
             → IsCause fault (option_map cause_of
             (next_cause (trues values.old) ((held_by self.now).machine.named id) rest))) }
     {
-        let clause = self.clauses.get(&id).ok_or(LineFault::UnknownId)?;
+        let clause = self.clauses.get(id).ok_or(LineFault::UnknownId)?;
         let unit = values.unit(clause).ok_or(LineFault::NotUnit)?;
         values.set(unit)?;
         Ok(())
     }
 
     /// Removes the clauses of these ids, where they are there.
-    pub(crate) fn remove(&mut self, ids: &[u64])
-        ensures { held_by self.new ≡ record (held_by self.old)
-            { machine = drop_ids ids.now (held_by self.old).machine } }
+    pub(crate) fn remove(&mut self, ids: &[u64]) -> Result<(), AllocError>
+        ensures { OnOk result (held_by self.new ≡ record (held_by self.old)
+            { machine = drop_ids ids.now (held_by self.old).machine }) }
     {
         for id in ids {
             self.remove_one(*id);
         }
+        self.collect_garbage()
     }
 
     fn remove_one(&mut self, id: u64)
         ensures { held_by self.new ≡ record (held_by self.old)
             { machine = drop_id id (held_by self.old).machine } }
     {
-        self.clauses.remove(&id);
+        self.clauses.remove(id);
+    }
+
+    /// Takes room back; what is held stays.
+    fn collect_garbage(&mut self) -> Result<(), AllocError>
+        ensures { held_by self.new ≡ held_by self.old }
+    {
+        self.clauses.collect_garbage()
     }
 }

@@ -48,9 +48,26 @@ impl Marks {
     pub(crate) fn has(&self, lit: Lit) -> bool
         ensures { result ≡ has_mark self.now lit }
     {
+        self.has_in(&self.near, lit)
+    }
+
+    /// The places, for `has_in`.
+    #[inline(always)]
+    pub(crate) fn near(&self) -> &[bool]
+        ensures { result.now ≡ self.now.near.items }
+    {
+        self.near.as_slice()
+    }
+
+    /// Whether a literal is marked, where the places are at hand.
+    #[inline(always)]
+    pub(crate) fn has_in(&self, near: &[bool], lit: Lit) -> bool
+        requires { near.now ≡ self.now.near.items }
+        ensures { result ≡ has_mark self.now lit }
+    {
         let code = lit.code();
-        if code < self.near.len() {
-            self.near[code]
+        if code < near.len() {
+            near[code]
         } else {
             self.has_far(code)
         }

@@ -1,25 +1,32 @@
-//! What lines of text say, which no caller sees. All other tests are in `sat_hints_tests`.
-use crate::line::{HintLine, read_line};
+//! What lines of text say, which no caller sees, and texts of readers. All other tests are in
+//! `sat_hints_tests`.
+use crate::checker::HintChecker;
+use crate::fault::{HintFault, HintTextFault};
+use crate::line::{HintLine, Row, read_line};
+use sat_formula::CnfFormula;
+use sat_formula::lit::Lit;
+use std::io;
+use std::io::{ErrorKind, Read};
 use std::test::Fail;
 
-/// What a line says, in words.
-fn shown(rt: &HostRuntime, line: &[u8]) -> Result<String, Fail> {
+/// What a line says, in words. The row still holds the lists of the line before.
+fn shown(rt: &HostRuntime, row: &mut Row, line: &[u8]) -> Result<String, Fail> {
     let mut said = String::new(rt.alloc());
-    match read_line(rt.alloc(), line) {
+    match read_line(line, row) {
         Ok(None) => write!(said, "nothing")?,
-        Ok(Some(HintLine::Addition { id, clause, hints })) => {
+        Ok(Some(HintLine::Addition { id })) => {
             write!(said, "{id}:")?;
-            for lit in clause.iter() {
+            for lit in row.clause.iter() {
                 write!(said, " {}", lit.to_dimacs())?;
             }
             write!(said, " by")?;
-            for hint in hints.iter() {
+            for hint in row.ids.iter() {
                 write!(said, " {hint}")?;
             }
         }
-        Ok(Some(HintLine::Deletion { number, ids })) => {
+        Ok(Some(HintLine::Deletion { number })) => {
             write!(said, "{number} deletes")?;
-            for id in ids.iter() {
+            for id in row.ids.iter() {
                 write!(said, " {id}")?;
             }
         }
@@ -69,8 +76,82 @@ const LINES: [(&[u8], &str); 27] = [
 
 #[test]
 fn lines(rt: HostRuntime) -> Result<(), Fail> {
+    let mut row = Row::new(rt.alloc());
     for (line, said) in LINES {
-        assert_eq!(rt; shown(&rt, line)?.as_str(), said);
+        assert_eq!(rt; shown(&rt, &mut row, line)?.as_str(), said);
+    }
+    Ok(())
+}
+
+/// A checker of the clauses [1] and [-1].
+fn checker_of_units(rt: &HostRuntime) -> Result<HintChecker, Fail> {
+    let mut formula = CnfFormula::new(rt.alloc());
+    for number in [1, -1] {
+        formula.add_clause(&[Lit::from_dimacs(number).ok_or("in range")?])?;
+    }
+    Ok(HintChecker::new(rt.alloc(), &formula)?)
+}
+
+/// Texts of more bytes than are read at once: of lines of eight bytes, the last of which ends with
+/// those bytes, and of nine, where one goes on.
+#[test]
+fn long_texts(rt: HostRuntime) -> Result<(), Fail> {
+    for line in ["5 d 9 0\n", "5 d 99 0\n"] {
+        let mut text = String::new(rt.alloc());
+        for _ in 0..9000u32 {
+            write!(text, "{line}")?;
+        }
+        write!(text, "3 0 1 2 0")?;
+        let answer = checker_of_units(&rt)?.check_reader(text.as_str().as_bytes());
+        assert!(rt; matches!(&answer, Ok(true)));
+        write!(text, " 1\n")?;
+        let answer = checker_of_units(&rt)?.check_reader(text.as_str().as_bytes());
+        let fault = HintFault::Malformed { line: 9001 };
+        assert!(rt; matches!(&answer, Err(HintTextFault::Refused(found)) if *found == fault));
+    }
+    Ok(())
+}
+
+/// Gives its text, and fails after it.
+#[derive(Drop)]
+struct Broken<'a> {
+    text: &'a [u8],
+}
+
+impl Read for Broken<'_> {
+    fn read(&mut self, buf: &mut [u8]) -> io::Result<usize> {
+        if self.text.is_empty() {
+            return Err(io::Error::from(ErrorKind::ConnectionReset));
+        }
+        let count = buf.len().min(self.text.len());
+        for i in 0..count {
+            buf[i] = self.text[i];
+        }
+        self.text = &self.text[count..];
+        Ok(count)
+    }
+}
+
+/// A line that is refused is told though a read after it fails; one that was not read to its end is
+/// not judged. After either no text is checked.
+#[test]
+fn reads_that_fail(rt: HostRuntime) -> Result<(), Fail> {
+    let texts: [(&[u8], bool); 4] = [
+        (b"", false),
+        (b"3 0 1 2 0", false),
+        (b"3 1 0 1 0\nx", false),
+        (b"x\n", true),
+    ];
+    for (text, judged) in texts {
+        let mut checker = checker_of_units(&rt)?;
+        let answer = checker.check_reader(Broken { text });
+        if judged {
+            let fault = HintFault::Malformed { line: 1 };
+            assert!(rt; matches!(&answer, Err(HintTextFault::Refused(found)) if *found == fault));
+        } else {
+            assert!(rt; matches!(&answer, Err(HintTextFault::Read(_))));
+        }
+        assert_eq!(rt; checker.check(b""), Err(HintFault::Malformed { line: 0 }));
     }
     Ok(())
 }

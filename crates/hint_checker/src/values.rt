@@ -50,6 +50,7 @@ impl Values {
     }
 
     /// The literal is true from here on.
+    #[inline(always)]
     pub(crate) fn set(&mut self, lit: Lit) -> Result<(), AllocError>
         ensures { OnOk result (trues self.new ≡ add_lit lit (trues self.old)) }
     {
@@ -69,6 +70,7 @@ impl Values {
         Ok(())
     }
 
+    #[inline(always)]
     fn is_true(&self, lit: Lit) -> bool
         ensures { result ≡ trues self.now lit }
     {
@@ -86,9 +88,10 @@ impl Values {
     pub(crate) fn unit(&self, clause: &[Lit]) -> Option<Lit>
         ensures { result ≡ unit_among (trues self.now) clause.now clause.now }
     {
+        let near = self.marks.near();
         let mut unit = None;
         for lit in clause {
-            if self.is_true(!*lit) {
+            if self.marks.has_in(near, !*lit) {
                 continue;
             }
             if self.is_true(*lit) || is_other(unit, *lit) {
@@ -101,6 +104,7 @@ impl Values {
 }
 
 /// Whether another literal was found before.
+#[inline(always)]
 fn is_other(found: Option<Lit>, lit: Lit) -> bool
     ensures { result ≡ is_other found lit }
 {

@@ -5,6 +5,7 @@ ghost use Rattle.sat_formula.specs.Bytes.{is_blank};
 ghost use Rattle.sat_formula.specs.Lines.{words_of};
 ghost use Rattle.hint_checker.specs.Text.{clause_word, number_of_word, signed_word};
 
+use crate::short::{short_clause_word, short_value};
 use sat_formula::lit::{Lit, Var};
 use std::marker::Model;
 
@@ -24,6 +25,8 @@ impl<'a> Model for Words<'a> {
 }
 
 impl<'a> Words<'a> {
+    ghost use Rattle.hint_checker.specs.Words.{TakesWord};
+
     pub(crate) fn of(line: &'a [u8]) -> Words<'a>
         ensures { result ≡ words_of line.now }
     {
@@ -35,6 +38,32 @@ impl<'a> Words<'a> {
         ensures { result ≡ self.now }
     {
         Words { rest: self.rest }
+    }
+
+    /// Takes the next word, and gives the value of its digits, where it has one.
+    #[inline(always)]
+    pub(crate) fn next_value(&mut self) -> Option<Option<u64>>
+        ensures { TakesWord number_of_word self.old self.new result }
+    {
+        if let Some((value, later)) = short_value(self.rest) {
+            self.rest = later;
+            return Some(Some(value));
+        }
+        let word = self.next()?;
+        Some(value(word))
+    }
+
+    /// Takes the next word, and gives what it says in a clause.
+    #[inline(always)]
+    pub(crate) fn next_in_clause(&mut self) -> Option<ClauseWord>
+        ensures { TakesWord clause_word self.old self.new result }
+    {
+        if let Some((said, others)) = short_clause_word(self.rest) {
+            self.rest = others;
+            return Some(said);
+        }
+        let word = self.next()?;
+        Some(clause_word(word))
     }
 }
 
@@ -73,7 +102,8 @@ fn word_len(line: &[u8]) -> usize
         .unwrap_or(line.len())
 }
 
-fn is_blank(byte: u8) -> bool
+#[inline(always)]
+pub(crate) fn is_blank(byte: u8) -> bool
     ensures { result ≡ is_blank byte }
 {
     byte == b' ' || byte == b'\t' || byte == b'\r'
@@ -116,7 +146,8 @@ pub(crate) fn clause_word(word: &[u8]) -> ClauseWord
 }
 
 /// What a number says in a clause, after a `-` or not.
-fn signed_word(negative: bool, value: Option<u64>) -> ClauseWord
+#[inline(always)]
+pub(crate) fn signed_word(negative: bool, value: Option<u64>) -> ClauseWord
     ensures { result ≡ signed_word negative value }
 {
     match value {

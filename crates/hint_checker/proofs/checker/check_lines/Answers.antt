@@ -17,3 +17,9 @@ loop-line-preserved c =
     (so_far_next (held_by c.args.held.now) (lines_of c.args.text.now) c.next.new.self c.in-Some.line.now c.loop-line.number (held_by c.loop-line.held)
     (subst (λ rest. SoFar (held_by c.args.held.now) (lines_of c.args.text.now) rest c.loop-line.number (held_by c.loop-line.held))
     c.in-Some.ensures.steps c.loop-line.invariant) c.in_default.ensures.ok)
+
+pub returns-in-Err-clause-within : goal.returns-in-Err-clause-within
+returns-in-Err-clause-within c =
+    let here = subst (λ rest. SoFar (held_by c.args.held.now) (lines_of c.args.text.now) rest c.loop-line.number (held_by c.loop-line.held)) c.in-Some.ensures.steps c.loop-line.invariant in
+    let few = so_far_short (held_by c.args.held.now) c.args.text.now c.in-Some.line.now c.next.new.self c.loop-line.number (held_by c.loop-line.held) here in
+    omega (arith, few)

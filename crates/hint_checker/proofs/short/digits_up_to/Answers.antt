@@ -1,0 +1,30 @@
+use Rattle.std.proofs.Common.{◌≡◌, ◌*◌, ◌<◌, ◌^◌, true, sym, ◌∙◌, arith}
+use Rattle.std.specs.Prelude.{slice_index}
+use Rattle.hint_checker.proofs.ShortLemmas.{digit_fits_after, digits_more, small_more}
+use Rattle.hint_checker.proofs.short.digits_up_to.Goals as goal
+
+pub overflow_mul-value : goal.overflow_mul-value
+overflow_mul-value c =
+    let inv = c.digits.invariant in
+    let fits = digit_fits_after c.digits.len c.digits.value (slice_index c.args.bytes.now c.digits.len)
+    (omega (arith, c.digits-test.true, c.requires.few)) inv.small (sym c.is_digit.ensures ∙ c.if-is_digit.true) in
+    omega (arith, fits)
+
+pub overflow_add-value : goal.overflow_add-value
+overflow_add-value c =
+    let inv = c.digits.invariant in
+    let fits = digit_fits_after c.digits.len c.digits.value (slice_index c.args.bytes.now c.digits.len)
+    (omega (arith, c.digits-test.true, c.requires.few)) inv.small (sym c.is_digit.ensures ∙ c.if-is_digit.true) in
+    omega (arith, fits)
+
+pub digits-preserved : goal.digits-preserved
+digits-preserved c =
+    let inv = c.digits.invariant in
+    let bytes = c.args.bytes.now in
+    let n = c.digits.len in
+    let v = c.digits.value in
+    let is_digit = sym c.is_digit.ensures ∙ c.if-is_digit.true in
+    record {
+      digits = digits_more bytes n v inv.digits (omega (arith, c.digits-test.true, c.requires.within)) (omega (arith, c.digits-test.true, c.requires.few)) inv.small is_digit;
+      small = small_more n v (slice_index bytes n) inv.small is_digit;
+    }

@@ -1,0 +1,103 @@
+//! The clauses under their ids.
+ghost use Rattle.std.specs.Prelude.{◌≡◌, ◌==◌, ◌+◌, ◌*◌, ◌≤◌, ◌^◌, ℕ, None, Some, if◌then◌else◌, length, IfOk, OnOk};
+ghost use Rattle.std.specs.Option.{option_copied};
+ghost use Rattle.hint_checker.specs.Near.{far_clause, gets_place, spare_places};
+
+use crate::near::NearClauses;
+use sat_formula::lit::Lit;
+use std::alloc::{AllocError, Global};
+use std::collections::HashMap;
+
+/// So many places there are for ids beside four for each clause that was stored.
+const SPARE_PLACES: u64 = 1 << 12;
+
+/// Ids from here on are far.
+const NEAR_IDS: u64 = 1 << 40;
+
+/// The clauses under their ids. Near ids have places in turn; ids that are far above the number of
+/// clauses that were stored stand in a map.
+#[derive(Drop)]
+pub(crate) struct Clauses {
+    alloc: Global,
+    near: NearClauses,
+    far: HashMap<u64, Vec<Lit>>,
+    /// How many clauses were stored so far.
+    stored: u64,
+    ghost few: { length near.spans.items ≤ 4 * (stored + spare_places) + 4 },
+    ghost small: { length near.spans.items ≤ 2 ^ 40 },
+}
+
+impl Clauses {
+    ghost use Rattle.hint_checker.specs.Clauses.{clause_of};
+
+    /// No clause, with places for some.
+    pub(crate) fn new(alloc: Global, room: usize) -> Result<Clauses, AllocError>
+        ensures { IfOk result (λ made. (k : ℕ) → clause_of made k ≡ None) }
+    {
+        Ok(Clauses {
+            alloc,
+            near: NearClauses::new(alloc, room)?,
+            far: HashMap::new(alloc),
+            stored: 0,
+        })
+    }
+
+    /// The literals of the clause of an id, where it is there.
+    #[inline(always)]
+    pub(crate) fn get(&self, id: u64) -> Option<&[Lit]>
+        ensures { option_copied result ≡ clause_of self.now id }
+    {
+        match self.near.get(id) {
+            Some(clause) => Some(clause),
+            None => self.get_far(id),
+        }
+    }
+
+    #[cold]
+    #[inline(never)]
+    fn get_far(&self, id: u64) -> Option<&[Lit]>
+        ensures { option_copied result ≡ far_clause self.now.far id }
+    {
+        let clause = self.far.get(&id)?;
+        Some(clause.as_slice())
+    }
+
+    /// Puts a clause under an id, in place of the one that is there. After an error the clauses are
+    /// of no use.
+    pub(crate) fn put(&mut self, id: u64, clause: &[Lit]) -> Result<(), AllocError>
+        ensures { OnOk result ((k : ℕ) → clause_of self.new k
+            ≡ (if k == id then Some clause.now else clause_of self.old k)) }
+    {
+        if self.is_near(id) {
+            self.near.put(id, clause)?;
+        } else {
+            self.far.insert(id, Vec::from_slice(self.alloc, clause)?)?;
+        }
+        self.stored = self.stored.saturating_add(1);
+        Ok(())
+    }
+
+    /// Whether a clause under this id gets a place: there are at most four for each clause that was
+    /// stored.
+    fn is_near(&self, id: u64) -> bool
+        ensures { result ≡ gets_place self.now.stored id }
+    {
+        id < NEAR_IDS && id / 4 <= self.stored.saturating_add(SPARE_PLACES)
+    }
+
+    /// Removes the clause of an id, where it is there.
+    pub(crate) fn remove(&mut self, id: u64)
+        ensures { (k : ℕ) → clause_of self.new k
+            ≡ (if k == id then None else clause_of self.old k) }
+    {
+        self.near.remove(id);
+        self.far.remove(&id);
+    }
+
+    /// Takes the room back that clauses had which were removed, once it is more than half.
+    pub(crate) fn collect_garbage(&mut self) -> Result<(), AllocError>
+        ensures { (k : ℕ) → clause_of self.new k ≡ clause_of self.old k }
+    {
+        self.near.collect_garbage(self.alloc)
+    }
+}
