@@ -22,7 +22,10 @@ pub const ABOUT: About<'static> = About {
     }],
     verified: "s VERIFIED UNSAT: no assignment satisfies the formula",
     open: "s NOT VERIFIED: the proof ends before it shows that",
-    environment: &[],
+    environment: &[Entry {
+        name: "RUST_LOG",
+        text: "what is logged to standard error, as info; without it nothing is",
+    }],
     examples: &[
         Entry {
             name: "lrat_check formula.cnf proof.lrat",
