@@ -36,13 +36,19 @@ const EXAMPLE_PROOF: &[u8] = b"1 0\nd 1 2 0\n0\n";
 /// How the program is called.
 const CALL: &str = "drat_check CNF PROOF [--drat] [--frat] [--lrat FILE] [--core FILE]";
 
-/// So many options there can be in one call.
-const MOST_OPTIONS: usize = 3;
+/// What the next word of a call is.
+#[derive(Clone, Copy, PartialEq, Eq)]
+enum Awaited {
+    Any,
+    LratName,
+    CoreName,
+}
 
 /// What is wanted of a check: how its proof is read, and the names of the files that are written.
 #[derive(Drop)]
 struct Options {
     format: ProofFormat,
+    awaited: Awaited,
     lrat: Option<String>,
     core: Option<String>,
 }
@@ -76,10 +82,18 @@ fn status_of_call(rt: &HostRuntime) -> u8 {
     };
     let mut options = Options {
         format: ProofFormat::Told,
+        awaited: Awaited::Any,
         lrat: None,
         core: None,
     };
-    let are_options = add_options(&mut options, &mut words);
+    // With all options there are five words.
+    let are_options = add_word(&mut options, words.next())
+        && add_word(&mut options, words.next())
+        && add_word(&mut options, words.next())
+        && add_word(&mut options, words.next())
+        && add_word(&mut options, words.next())
+        && words.next().is_none()
+        && options.awaited == Awaited::Any;
     if !are_options {
         usage(rt, CALL)
     } else if options.lrat.is_none() && options.core.is_none() {
@@ -89,26 +103,29 @@ fn status_of_call(rt: &HostRuntime) -> u8 {
     }
 }
 
-/// Takes the words that are left as options, and says whether they are such.
-fn add_options<I: Iterator<Item = String>>(options: &mut Options, words: &mut I) -> bool {
-    for _ in 0..=MOST_OPTIONS {
-        let Some(word) = words.next() else {
-            return true;
-        };
-        if !add_option(options, word.as_str(), words) {
-            return false;
+/// Takes one word more, where there is one, and says whether that could be: an option, or the name
+/// that the option before it has. Each option comes at most once, and of the two for the proof's
+/// format one.
+fn add_word(options: &mut Options, word: Option<String>) -> bool {
+    let Some(word) = word else {
+        return true;
+    };
+    match options.awaited {
+        Awaited::Any => add_option(options, word.as_str()),
+        Awaited::LratName => {
+            options.lrat = Some(word);
+            options.awaited = Awaited::Any;
+            true
+        }
+        Awaited::CoreName => {
+            options.core = Some(word);
+            options.awaited = Awaited::Any;
+            true
         }
     }
-    false
 }
 
-/// Takes an option, with the name after it where it has one, and says whether that could be. Each
-/// option comes at most once, and of the two for the proof's format one.
-fn add_option<I: Iterator<Item = String>>(
-    options: &mut Options,
-    word: &str,
-    words: &mut I,
-) -> bool {
+fn add_option(options: &mut Options, word: &str) -> bool {
     match word {
         "--drat" if options.format == ProofFormat::Told => {
             options.format = ProofFormat::Drat;
@@ -119,12 +136,12 @@ fn add_option<I: Iterator<Item = String>>(
             true
         }
         "--lrat" if options.lrat.is_none() => {
-            options.lrat = words.next();
-            options.lrat.is_some()
+            options.awaited = Awaited::LratName;
+            true
         }
         "--core" if options.core.is_none() => {
-            options.core = words.next();
-            options.core.is_some()
+            options.awaited = Awaited::CoreName;
+            true
         }
         _ => false,
     }
