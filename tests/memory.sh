@@ -21,8 +21,8 @@ done
 # takes_little STATUS OUTPUT ERRORS PROGRAM FORMULA PROOF: the run must do this, and take at most so much memory
 takes_little() {
   local status=0 kilobytes
-  printf "$5" > f
-  printf "$6" > p
+  printf -- "$5" > f
+  printf -- "$6" > p
   python3 -c '
 import resource, subprocess, sys
 status = subprocess.call([sys.argv[1], "f", "p"], stdout=open("out", "wb"), stderr=open("err", "wb"))
@@ -30,7 +30,7 @@ print(resource.getrusage(resource.RUSAGE_CHILDREN).ru_maxrss)
 sys.exit(status)
 ' "$top/crates/$4_main/out/$4_main" > took || status=$?
   kilobytes=$(cat took)
-  if [[ $status == "$1" && $(cat out) == "$2" && $(cat err) == "$(printf "$3")" ]] && ((kilobytes <= most)); then
+  if [[ $status == "$1" && $(cat out) == "$2" && $(cat err) == "$(printf -- "$3")" ]] && ((kilobytes <= most)); then
     echo "ok    $kilobytes kilobytes: $4 on '$5' and '$6'"
   else
     echo "WRONG $kilobytes kilobytes: $4 on '$5' and '$6': status $status, output '$(cat out)', errors '$(cat err)'"
