@@ -58,9 +58,11 @@ play_row() {
   echo "$row $mode: $((number - 1)) runs, of which $own met the program that plays the row"
 }
 
-# Whether a run whose one refused growth was that of the log's setting went on without a log, and did all else: once at most.
+# Whether a run of a program that logs, whose one refused growth was that of the log's setting, went on without a log, and did
+# all else: once at most.
 went_on_silently() {
-  [[ $1 == "$check" && $status == 0 && $(cat "$work/out") == 's UNSATISFIABLE' ]] || return 1
+  [[ $1 == "$check" || $1 == "$lrat_check" || $1 == "$drat_check" ]] || return 1
+  [[ $status == 0 && $(cat "$work/out") == "$line" ]] || return 1
   [[ $# == 3 ]] || cmp -s "$work/hints" "$work/whole_hints"
 }
 
