@@ -4,6 +4,7 @@ pub mod BucketLemmas
 pub mod BufferLemmas
 pub mod CheckLemmas
 pub mod ColumnLemmas
+pub mod CrowdLemmas
 pub mod DeleteLemmas
 pub mod DeletedLemmas
 pub mod EditLemmas
