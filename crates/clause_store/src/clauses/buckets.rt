@@ -40,6 +40,49 @@ pub fn has_lits(clause: &Clause, buffer: &[Lit], lits: &[Lit]) -> bool
     clause.lits.slice(buffer) == lits
 }
 
+/// How many copies of the kind are counted.
+pub fn copies_of(clause: &Clause, redundant: bool) -> u32
+    ensures { result ≡ copies_of redundant clause.now }
+{
+    if redundant {
+        clause.redundant
+    } else {
+        clause.irredundant
+    }
+}
+
+/// How many copies of the kind there are of the clause that is alone in its bucket, if it has these
+/// literals.
+fn copies_of_one(clause: &Clause, buffer: &[Lit], lits: &[Lit], redundant: bool) -> u32
+    requires { IsWithin clause.now.lits buffer.now }
+    ensures { result ≡ count_in redundant lits.now (stored_of buffer.now clause.now ∷ []) }
+{
+    if has_lits(clause, buffer, lits) {
+        copies_of(clause, redundant)
+    } else {
+        0
+    }
+}
+
+/// How many copies of the kind there are of the clause with these literals.
+pub(crate) fn copies_in(
+    buckets: &Buckets,
+    buffer: &[Lit],
+    hash: ClauseHash,
+    lits: &[Lit],
+    redundant: bool,
+) -> u32
+    requires within { All (λ c. IsWithin c.lits buffer.now) (clauses_at buckets.now hash) }
+    requires apart { are_apart (stored_in buffer.now buckets.now hash) ≡ true }
+    ensures { result ≡ count_in redundant lits.now (stored_in buffer.now buckets.now hash) }
+{
+    match buckets.get(&hash) {
+        Some(Bucket::One(clause)) => copies_of_one(clause, buffer, lits, redundant),
+        Some(Bucket::Many(crowd)) => crowd.copies(buffer, lits, redundant),
+        None => 0,
+    }
+}
+
 /// Puts a clause with these literals at the end of a bucket.
 fn push_in(
     alloc: Global,

@@ -11,7 +11,7 @@ ghost use Rattle.clause_store.specs.Store.{is_whole};
 ghost use Rattle.clause_store.specs.View.{stored_of};
 
 use crate::clauses::Clause;
-use crate::clauses::buckets::{CountExhausted, has_lits, raise};
+use crate::clauses::buckets::{CountExhausted, copies_of, has_lits, raise};
 use crate::clauses::lower::{Left, Missing, left_of, lower};
 use sat_formula::lit::Lit;
 use std::alloc::{AllocError, Global};
@@ -162,6 +162,20 @@ impl Crowd {
             Some((at, clause))
         } else {
             None
+        }
+    }
+
+    /// How many copies of the kind there are of the clause with these literals.
+    pub fn copies(&self, buffer: &[Lit], lits: &[Lit], redundant: bool) -> u32
+        requires within { All (λ c. IsWithin c.lits buffer.now) (standing self.now.places.items) }
+        requires apart { are_apart (map (stored_of buffer.now) (standing self.now.places.items))
+            ≡ true }
+        ensures { result ≡ count_in redundant lits.now
+            (map (stored_of buffer.now) (standing self.now.places.items)) }
+    {
+        match search(&self.places, buffer, lits) {
+            Some((_, clause)) => copies_of(&clause, redundant),
+            None => 0,
         }
     }
 
