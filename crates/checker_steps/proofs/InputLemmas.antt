@@ -1,8 +1,8 @@
 -- Storing an input clause, and what it emits.
-use Rattle.std.proofs.Common.{◌≡◌, ℕ, ◌+◌, ◌-◌, ◌<◌, ◌≤◌, Bool, true, false, cond, not, ◌||◌, leb, List, [], ◌∷◌, length, append-nil, Some, None, Err, refl, sym, ap, ◌∙◌, subst, arith, lt-ltb, leb-le}
+use Rattle.std.proofs.Common.{◌≡◌, ℕ, ◌+◌, ◌-◌, ◌<◌, ◌≤◌, Bool, true, false, cond, not, ◌||◌, leb, List, [], ◌∷◌, length, append-nil, Some, None, Err, refl, sym, ap, ◌∙◌, subst, arith, lt-ltb}
 use Rattle.std.specs.List.{list_all}
 use Rattle.std.proofs.Math.Bool.{and-false}
-use Rattle.std.proofs.lemmas.Bool.{and_parts, leb-lt, not-true}
+use Rattle.std.proofs.lemmas.Bool.{and_parts, leb-false, leb-true, not-true}
 use Rattle.sat_rules.specs.Clauses.{is_canonical, is_tautology}
 use Rattle.checker_rules.specs.AddClause.{store_input}
 use Rattle.checker_rules.specs.Canonical.{same_list, var_bound}
@@ -43,7 +43,7 @@ module _ (c : List ℕ) (s : State) (room : s.next < id_limit) where
   refused-full cause e = by (leb count_limit (count_of false c s.clauses)) refl
     where
       by : (b : Bool) → leb count_limit (count_of false c s.clauses) ≡ b → count_limit ≤ count_of false c s.clauses
-      by true q = leb-le count_limit (count_of false c s.clauses) q
+      by true q = leb-true count_limit (count_of false c s.clauses) q
       by false q = let some = ap (λ (o : Outcome). o.refused) e in let none = ap (λ (o : Outcome). o.refused) (by_count false q) in cc
 
   pub refused-no_ids : store_counters c false s ≡ refuse ids_exhausted s → ⊥
@@ -58,7 +58,7 @@ module _ (c : List ℕ) (s : State) (room : s.next < id_limit) where
     where
       by : (b : Bool) → leb count_limit (count_of false c s.clauses) ≡ b → count_of false c s.clauses < count_limit
       by true q = let none = ap (λ (o : Outcome). o.refused) e in let some = ap (λ (o : Outcome). o.refused) (by_count true q) in cc
-      by false q = leb-lt count_limit (count_of false c s.clauses) q
+      by false q = leb-false count_limit (count_of false c s.clauses) q
 
 -- what was stored has known variables, and is no tautology
 pub stored-fine : (n : ℕ) (c : List ℕ) (es : List Stored) → list_all (is_fine n) es ≡ true → is_stored c es ≡ true → (is_tautology c ≡ false) × (var_bound c ≤ n)
@@ -71,7 +71,7 @@ stored-fine n c (e ∷ es) fine h = by (same_list e.lits c) refl h
         let r = and_parts (not (is_tautology e.lits)) _ q.1 in
         let t = and_parts (not (is_short e.lits)) _ r.1 in
         let u = and_parts (not (is_gone e)) (leb (var_bound e.lits) n) t.1 in
-        rw (← same_list-eq e.lits c same) (not-true (is_tautology e.lits) r.0, leb-le (var_bound e.lits) n u.1)
+        rw (← same_list-eq e.lits c same) (not-true (is_tautology e.lits) r.0, leb-true (var_bound e.lits) n u.1)
 
     by : (b : Bool) → same_list e.lits c ≡ b → (b || is_stored c es) ≡ true → (is_tautology c ≡ false) × (var_bound c ≤ n)
     by true same k = first same

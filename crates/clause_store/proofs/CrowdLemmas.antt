@@ -1,7 +1,7 @@
 -- Clauses at their places.
 use Rattle.std.proofs.Common.{◌≡◌, ℕ, zero, suc, ◌+◌, ◌<◌, Bool, true, false, List, [], ◌∷◌, ◌++◌, length, get_or, take, drop, set, map, Option, Some, None, All, is_some, refl, sym, ap, ◌∙◌, subst, arith}
 use Rattle.std.specs.List.{filter, list_any}
-use Rattle.std.proofs.lemmas.List.{take_more}
+use Rattle.std.proofs.lemmas.List.{drop_more, take_more}
 use Rattle.std.proofs.lemmas.List.Elements.{filter_map-append}
 use Rattle.clause_store.specs.declared.clauses.Clause.{Clause}
 use Rattle.clause_store.specs.Crowds.{IsPlaced, some_stands, standing}
@@ -19,6 +19,9 @@ standing-append ps qs = filter_map-append (λ p. p) ps qs
 -- one place more
 pub standing-more : (ps : List (Option Clause)) (i : ℕ) (p : Option Clause) → i < length ps → p ≡ get_or ps i p → standing (take (i + 1) ps) ≡ standing (take i ps) ++ standing (p ∷ [])
 standing-more ps i p less is = ap standing (take_more ps i p less ∙ ap (λ q. take i ps ++ q ∷ []) (sym is)) ∙ standing-append (take i ps) (p ∷ [])
+
+pub standing-drop : (ps : List (Option Clause)) (i : ℕ) (p : Option Clause) → i < length ps → p ≡ get_or ps i p → standing (drop i ps) ≡ standing (p ∷ []) ++ standing (drop (i + 1) ps)
+standing-drop ps i p less is = ap standing (drop_more ps i p less ∙ ap (λ q. q ∷ drop (i + 1) ps) (sym is)) ∙ standing-append (p ∷ []) (drop (i + 1) ps)
 
 -- the clause d stands in the place i
 module _ (d : Clause) where

@@ -3,7 +3,7 @@ use Rattle.std.specs.Prelude.{◌≡◌, ℕ, ◌<◌, Bool, true, List, length,
 use Rattle.std.specs.List.{list_any}
 use Rattle.checker_rules.specs.Canonical.{same_list}
 use Rattle.clause_store.specs.declared.clauses.Clause.{Clause}
-use Rattle.clause_store.specs.Lits.{IsWithin, lits_of}
+use Rattle.clause_store.specs.Lits.{lits_of}
 
 -- the clauses of the places that are not free, in order
 abbrev pub standing : List (Option Clause) → List Clause
