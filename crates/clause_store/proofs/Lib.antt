@@ -18,7 +18,9 @@ pub mod HeldLemmas
 pub mod IdleLemmas
 pub mod LongLemmas
 pub mod MoveLemmas
+pub mod PlacedLemmas
 pub mod ReadyLemmas
+pub mod RenameLemmas
 pub mod RefusalLemmas
 pub mod SameListLemmas
 pub mod StatusLemmas
