@@ -210,10 +210,11 @@ fn meets_crowd(marks: &[bool], places: &[Option<Clause>], buffer: &[Lit]) -> boo
         (standing places.now) }
 {
     for place in places {
-        if let Some(clause) = place {
-            if !meets_clause(marks, clause, buffer) {
-                return false;
-            }
+        let Some(clause) = place else {
+            continue;
+        };
+        if !meets_clause(marks, clause, buffer) {
+            return false;
         }
     }
     true

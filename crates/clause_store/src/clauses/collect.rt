@@ -122,11 +122,12 @@ fn move_places(
 {
     let mut moved = Crowd::new(alloc);
     for place in places {
-        if let Some(clause) = place {
-            let old = clause.lits.slice(buffer);
-            let lits = ClauseLits::new(old, new)?;
-            moved.push(Clause { lits, ..*clause }, old)?;
-        }
+        let Some(clause) = place else {
+            continue;
+        };
+        let old = clause.lits.slice(buffer);
+        let lits = ClauseLits::new(old, new)?;
+        moved.push(Clause { lits, ..*clause }, old)?;
     }
     Ok(moved)
 }

@@ -53,10 +53,11 @@ fn search(places: &[Option<Clause>], buffer: &[Lit], lits: &[Lit]) -> Option<(us
         (map (stored_of buffer.now) (standing places.now)) ≡ false) }
 {
     for at in 0..places.len() {
-        if let Some(clause) = places[at] {
-            if has_lits(&clause, buffer, lits) {
-                return Some((at, clause));
-            }
+        let Some(clause) = places[at] else {
+            continue;
+        };
+        if has_lits(&clause, buffer, lits) {
+            return Some((at, clause));
         }
     }
     None
@@ -90,9 +91,10 @@ fn note_all(
     requires { All (λ c. IsWithin c.lits buffer.now) (standing places.now) }
 {
     for at in 0..places.len() {
-        if let Some(clause) = places[at] {
-            note(alloc, noted, clause.lits.slice(buffer), at)?;
-        }
+        let Some(clause) = places[at] else {
+            continue;
+        };
+        note(alloc, noted, clause.lits.slice(buffer), at)?;
     }
     Ok(())
 }

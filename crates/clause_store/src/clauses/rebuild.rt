@@ -21,9 +21,10 @@ fn append_standing(all: &mut Vec<Clause>, places: &[Option<Clause>]) -> Result<(
     ensures { OnOk result (all.new.items ≡ all.old.items ++ standing places.now) }
 {
     for place in places {
-        if let Some(clause) = place {
-            all.push(*clause)?;
-        }
+        let Some(clause) = place else {
+            continue;
+        };
+        all.push(*clause)?;
     }
     Ok(())
 }

@@ -148,10 +148,11 @@ fn propagate_places(
         units.new (freed trail.new.items) }
 {
     for place in places {
-        if let Some(clause) = place {
-            if propagate_clause(units, trail, clause, buffer)? {
-                return Ok(true);
-            }
+        let Some(clause) = place else {
+            continue;
+        };
+        if propagate_clause(units, trail, clause, buffer)? {
+            return Ok(true);
         }
     }
     Ok(false)

@@ -86,10 +86,11 @@ fn visit_places(
     ensures idle { run.new.idle ≡ run.old.idle }
 {
     for place in places {
-        if let Some(clause) = place {
-            if visit_clause(units, run, clause, buffer)? {
-                return Ok(true);
-            }
+        let Some(clause) = place else {
+            continue;
+        };
+        if visit_clause(units, run, clause, buffer)? {
+            return Ok(true);
         }
     }
     Ok(false)
