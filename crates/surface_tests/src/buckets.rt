@@ -13,7 +13,7 @@ use varisat_checker::clauses::rebuild::append_bucket;
 use varisat_checker::context::Context;
 
 /// The ids of the clauses in the bucket of a hash.
-fn ids_in(alloc: Global, ctx: &Context, hash: ClauseHash) -> Result<Vec<u64>, Fail> {
+pub fn ids_in(alloc: Global, ctx: &Context, hash: ClauseHash) -> Result<Vec<u64>, Fail> {
     let mut ids = Vec::new(alloc);
     if let Some(bucket) = ctx.clauses.buckets.get(&hash) {
         let mut clauses = Vec::new(alloc);
