@@ -1,7 +1,7 @@
 -- Clauses at their places.
 use Rattle.std.proofs.Common.{◌≡◌, ℕ, zero, suc, ◌+◌, ◌<◌, Bool, true, false, List, [], ◌∷◌, ◌++◌, length, get_or, take, drop, set, map, Option, Some, None, All, is_some, refl, sym, ap, ◌∙◌, subst, arith}
 use Rattle.std.specs.List.{filter, list_any}
-use Rattle.std.proofs.lemmas.List.{drop_more, take_more}
+use Rattle.std.proofs.lemmas.List.{drop_more, get_or_default, take_more}
 use Rattle.std.proofs.lemmas.List.Elements.{filter_map-append}
 use Rattle.clause_store.specs.declared.clauses.Clause.{Clause}
 use Rattle.clause_store.specs.Crowds.{IsPlaced, some_stands, standing}
@@ -22,6 +22,10 @@ standing-more ps i p less is = ap standing (take_more ps i p less ∙ ap (λ q. 
 
 pub standing-drop : (ps : List (Option Clause)) (i : ℕ) (p : Option Clause) → i < length ps → p ≡ get_or ps i p → standing (drop i ps) ≡ standing (p ∷ []) ++ standing (drop (i + 1) ps)
 standing-drop ps i p less is = ap standing (drop_more ps i p less ∙ ap (λ q. q ∷ drop (i + 1) ps) (sym is)) ∙ standing-append (p ∷ []) (drop (i + 1) ps)
+
+-- the clause that was read from a place stands there
+pub place-is : (ps : List (Option Clause)) (i : ℕ) (r : Option Clause) (d : Clause) → i < length ps → r ≡ get_or ps i r → r ≡ Some d → get_or ps i None ≡ Some d
+place-is ps i r d less here is = get_or_default ps i None r less ∙ sym here ∙ is
 
 -- the clause d stands in the place i
 module _ (d : Clause) where
