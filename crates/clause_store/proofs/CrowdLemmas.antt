@@ -23,9 +23,12 @@ standing-more ps i p less is = ap standing (take_more ps i p less ∙ ap (λ q. 
 pub standing-drop : (ps : List (Option Clause)) (i : ℕ) (p : Option Clause) → i < length ps → p ≡ get_or ps i p → standing (drop i ps) ≡ standing (p ∷ []) ++ standing (drop (i + 1) ps)
 standing-drop ps i p less is = ap standing (drop_more ps i p less ∙ ap (λ q. q ∷ drop (i + 1) ps) (sym is)) ∙ standing-append (p ∷ []) (drop (i + 1) ps)
 
--- the clause that was read from a place stands there
-pub place-is : (ps : List (Option Clause)) (i : ℕ) (r : Option Clause) (d : Clause) → i < length ps → r ≡ get_or ps i r → r ≡ Some d → get_or ps i None ≡ Some d
-place-is ps i r d less here is = get_or_default ps i None r less ∙ sym here ∙ is
+-- what was read from a place is there
+pub place-is : (ps : List (Option Clause)) (i : ℕ) (q p : Option Clause) → i < length ps → get_or ps i q ≡ p → get_or ps i None ≡ p
+place-is ps i q p less is = get_or_default ps i None q less ∙ is
+
+pub place-here : (ps : List (Option Clause)) (i : ℕ) (q p : Option Clause) → i < length ps → get_or ps i q ≡ p → p ≡ get_or ps i p
+place-here ps i q p less is = sym (get_or_default ps i p q less ∙ is)
 
 -- the clause d stands in the place i
 module _ (d : Clause) where

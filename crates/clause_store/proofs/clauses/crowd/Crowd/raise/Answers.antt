@@ -42,6 +42,6 @@ pub returns-in-Some-raise-clause-room : goal.returns-in-Some-raise-clause-room
 returns-in-Some-raise-clause-room c =
     subst (λ n. n < count_limit) (sym (placed-count c.args.buffer.now c.args.lits.now c.args.self.now.places.items c.in-Some.at c.in-Some.clause c.in-Some.ensures.placed c.requires.apart c.args.redundant)) c.in-Some-raise.ensures.0
 
-pub returns-in-None-raise-clause-exhausted : goal.returns-in-None-raise-clause-exhausted
-returns-in-None-raise-clause-exhausted c =
-    subst (λ n. count_limit ≤ n) (sym (placed-count c.args.buffer.now c.args.lits.now c.args.self.now.places.items c.in-Some.at c.in-Some.clause c.in-Some.ensures.placed c.requires.apart c.args.redundant)) (omega (arith, c.in-None-raise.ensures))
+pub returns-in-None-clause-exhausted : goal.returns-in-None-clause-exhausted
+returns-in-None-clause-exhausted c =
+    subst (λ n. count_limit ≤ n) (sym (placed-count c.args.buffer.now c.args.lits.now c.args.self.now.places.items c.in-Some.at c.in-Some.clause c.in-Some.ensures.placed c.requires.apart c.args.redundant)) (omega (arith, c.in-None.ensures))
