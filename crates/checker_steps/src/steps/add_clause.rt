@@ -128,8 +128,8 @@ fn emit_added<P: ProofProcessor, T: ProofTranscriptProcessor>(
     }
 }
 
-/// Why a canonical input clause can't be added, as far as that is told before the stored clauses are
-/// looked at.
+/// Why a canonical input clause can't be added, as far as that is told before the stored clauses
+/// are looked at.
 fn early_cause(clauses: &Clauses, variables: &Variables, clause: &[Lit]) -> Option<CheckCause>
     ensures { (st : CheckerState) (h : ClauseHasher) → IsEarlyCause result
         (state_of st h clauses.now variables.now) clause.now }

@@ -153,7 +153,8 @@ impl Crowd {
         }
     }
 
-    /// The place where the clause with these literals was noted, and the clause, if it stands there.
+    /// The place where the clause with these literals was noted, and that clause, where it does
+    /// stand there.
     fn noted_place(&self, buffer: &[Lit], lits: &[Lit]) -> Option<(usize, Clause)>
         requires { All (λ c. IsWithin c.lits buffer.now) (standing self.now.places.items) }
         ensures { IfSome result (λ p. IsPlaced buffer.now lits.now self.now.places.items p.0 p.1) }

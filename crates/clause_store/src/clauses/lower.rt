@@ -98,8 +98,8 @@ fn lower_one(
     }
 }
 
-/// Takes one copy of the clause with these literals away. It answers what is left of the clause, and
-/// whether no clause is left in the bucket, which is of no use then.
+/// Takes one copy of the clause with these literals away. It answers what is left of the clause,
+/// and whether no clause is left in the bucket, which is of no use then.
 fn lower_in(
     bucket: &mut Bucket,
     buffer: &[Lit],
