@@ -18,6 +18,7 @@ pub mod HeldLemmas
 pub mod IdleLemmas
 pub mod LongLemmas
 pub mod MoveLemmas
+pub mod PlaceWalks
 pub mod PlacedLemmas
 pub mod ReadyLemmas
 pub mod RenameLemmas
