@@ -1,7 +1,7 @@
 -- Clauses whose hashes stay where variables are named anew.
-use Rattle.std.proofs.Common.{◌≡◌, ℕ, ◌+◌, ◌*◌, ◌≤◌, ◌<◌, Bool, true, false, cond, ◌||◌, eqb, List, [], ◌∷◌, get_or, Option, refl, sym, ap, ◌∙◌, subst, arith}
+use Rattle.std.proofs.Common.{◌≡◌, ℕ, ◌+◌, ◌*◌, ◌≤◌, ◌<◌, Bool, true, false, cond, ◌||◌, eqb, ltb, List, [], ◌∷◌, get_or, Option, ⊎_elim, refl, sym, ap, ◌∙◌, subst, arith}
 use Rattle.std.specs.List.{filter, list_any}
-use Rattle.std.proofs.lemmas.Bool.{eqb-true}
+use Rattle.std.proofs.lemmas.Bool.{cases_eq, eqb-true, ltb-false, or_parts}
 use Rattle.std.proofs.lemmas.Bool.Decides.{nat_tests}
 use Rattle.sat_rules.specs.Clauses.{has, var_of}
 use Rattle.checker_rules.specs.Buckets.{of_hash}
@@ -25,6 +25,23 @@ agree_on_held-apart counts f g p none agree l some = agree l some ∙ by (eqb (v
     by : (b : Bool) → eqb (var_of l) p.0 ≡ b → g (var_of l) ≡ cond b p.1 (g (var_of l))
     by true e = let zero = none l (eqb-true (var_of l) p.0 e) in absurd (omega (arith, some, zero))
     by false e = refl
+
+-- no counted clause holds a literal of the variable
+pub none-held : (counts : List ℕ) (v : ℕ) → (ltb 0 (get_or counts (2 * v) 0) || ltb 0 (get_or counts (2 * v + 1) 0)) ≡ false → (l : ℕ) → var_of l ≡ v → get_or counts l 0 ≡ 0
+none-held counts v h l e =
+    let p = or_parts (ltb 0 (get_or counts (2 * v) 0)) (ltb 0 (get_or counts (2 * v + 1) 0)) h in
+    ⊎_elim
+    (λ same. let n = ltb-false 0 (get_or counts (2 * v) 0) p.0 in ap (λ k. get_or counts k 0) same ∙ omega (arith, n))
+    (λ other. let n = ltb-false 0 (get_or counts (2 * v + 1) 0) p.1 in
+    let odd : l ≡ 2 * v + 1 = omega (arith, e, other) in ap (λ k. get_or counts k 0) odd ∙ omega (arith, n))
+    (cases_eq l (2 * v))
+
+-- names that change nothing, and one change after another
+pub agree_on_held-same : (counts : List ℕ) (f g : ℕ → Option ℕ) → g ≡ f → AgreeOnHeld counts f g
+agree_on_held-same counts f g same l some = sym (ap (λ names. names (var_of l)) same)
+
+pub agree_on_held-then : (counts : List ℕ) (f g h : ℕ → Option ℕ) → AgreeOnHeld counts f g → AgreeOnHeld counts g h → AgreeOnHeld counts f h
+agree_on_held-then counts f g h p q l some = p l some ∙ q l some
 
 module _ (f g : ℕ → Option ℕ) where
   xor_hash-agree : (c : List ℕ) → ((m : ℕ) → has m c ≡ true → f (var_of m) ≡ g (var_of m)) → xor_hash f c ≡ xor_hash g c

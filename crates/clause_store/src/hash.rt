@@ -1,9 +1,8 @@
 //! The hash of a clause under the solver's names for its variables.
-ghost use Rattle.std.specs.Prelude.{◌≡◌, ◌<◌, ◌≤◌, ◌/◌, [], ℕ, List, None, IfOk, OnOk, false, map, slice_index};
+ghost use Rattle.std.specs.Prelude.{◌≡◌, ◌<◌, ◌≤◌, ◌/◌, [], ℕ, List, None, IfOk, OnOk, false, map, nat_lt, slice_index, ◌+◌, ◌*◌, ◌||◌};
 ghost use Rattle.checker_rules.specs.Check.{apply_if_named, apply_name, apply_names, apply_pending};
 ghost use Rattle.checker_rules.specs.State.{Known, named_hash, xor_hash};
 ghost use Rattle.sat_formula.specs.Vars.{index_of, indexes_of};
-ghost use Rattle.sat_rules.specs.Clauses.{var_of};
 ghost use Rattle.clause_store.specs.StateOf.{state_of};
 ghost use Rattle.clause_store.specs.Store.{IsStore};
 ghost use Rattle.clause_store.specs.Names.{AgreeOnHeld, indexes, names_of};
@@ -166,16 +165,32 @@ fn apply_names(
 {
     let mut changed = false;
     for (var, name) in pending {
-        if apply_name(names, var.index(), *name)? {
-            changed |= is_held(counts, *var);
-        }
+        changed |= rename(names, *var, *name, counts)?;
     }
     Ok(changed)
 }
 
+/// Names a variable, or takes its name away, and answers whether that changed the name of a
+/// variable that a counted clause holds.
+fn rename(
+    names: &mut HashMap<usize, Var>,
+    var: Var,
+    name: Option<Var>,
+    counts: &LitCounts,
+) -> Result<bool, AllocError>
+    ensures applied { OnOk result (names_of names.new
+        ≡ apply_name (names_of names.old) (index_of var, indexes_of name)) }
+    ensures changed { IfOk result (λ changed. changed ≡ false
+        → AgreeOnHeld counts.now (names_of names.old) (names_of names.new)) }
+{
+    let renamed = apply_name(names, var.index(), name)?;
+    Ok(renamed && is_held(counts, var))
+}
+
 /// Whether a counted clause holds a literal of the variable.
 fn is_held(counts: &LitCounts, var: Var) -> bool
-    ensures { result ≡ false → (l : ℕ) → var_of l ≡ index_of var → slice_index counts.now l ≡ 0 }
+    ensures { result ≡ (nat_lt 0 (slice_index counts.now (2 * index_of var))
+        || nat_lt 0 (slice_index counts.now (2 * index_of var + 1))) }
 {
     counts.get(var.lit(true)).clause_count > 0 || counts.get(var.lit(false)).clause_count > 0
 }

@@ -29,8 +29,11 @@ returns-in-Some-raise-clause-found c =
 pub returns-in-Some-raise-clause-raised : goal.returns-in-Some-raise-clause-raised
 returns-in-Some-raise-clause-raised c =
     let b = c.args.buffer.now in let r = c.args.redundant in
-    cc (c.find.ensures.same, c.in-Some-raise.ensures.1,
-      placed-raised b c.args.lits.now c.args.self.now.places.items c.in-Some.at c.in-Some.clause c.in-Some.ensures.placed c.requires.apart r)
+    cc (
+      c.find.ensures.same,
+      c.in-Some-raise.ensures.1,
+      placed-raised b c.args.lits.now c.args.self.now.places.items c.in-Some.at c.in-Some.clause c.in-Some.ensures.placed c.requires.apart r,
+    )
 
 pub returns-in-Some-raise-clause-within : goal.returns-in-Some-raise-clause-within
 returns-in-Some-raise-clause-within c =
