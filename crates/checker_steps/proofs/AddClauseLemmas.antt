@@ -10,12 +10,13 @@ use Rattle.checker_rules.specs.Steps.{step}
 use Rattle.checker_rules.specs.Store.{count_limit, count_of, id_limit}
 use Rattle.checker_rules.proofs.StepKinds.{step-add_clause}
 use Rattle.checker_steps.specs.InputCause.{IsFaultOf, early_cause, input_cause, taken}
-use Rattle.checker_parts.specs.Faults.{AnswersOutcome}
+use Rattle.checker_parts.specs.Faults.{AnswersOutcome, UnlessStopped}
 use Rattle.checker_parts.specs.Causes.{cause_of}
 use Rattle.checker_parts.specs.declared.error.CheckCause.{CheckCause}
 use Rattle.checker_parts.specs.declared.error.CheckCause.TheVariants as causes
 use Rattle.checker_parts.specs.declared.error.StepFault.TheVariants.{Refused}
 use Rattle.clause_store.specs.Refusal.{store_fault}
+use Rattle.clause_store.specs.Store.{UnlessOutOfMemory}
 use Rattle.clause_store.specs.declared.clauses.store.StoreFault.{StoreFault}
 use Rattle.clause_store.specs.declared.clauses.store.StoreFault.TheVariants as storing
 use Rattle.clause_store.proofs.RefusalLemmas.{answers-refuse}
@@ -87,3 +88,9 @@ answers-unstored_input storing.OutOfMemory s t ls live none h = tt
 answers-unstored_input storing.IdsExhausted s t ls live none h = absurd h
 answers-unstored_input storing.CountExhausted s t ls live none h =
     rw h.1 (answers-input causes.CountExhausted s ls live (early-full s (canonical ls) none h.0))
+
+-- what holds of the store unless memory was refused holds unless the step gave up
+pub unless-unstored : {A : Type 0} (P : Type 0) (fault : StoreFault) → UnlessOutOfMemory {A = A} (Err fault) P → UnlessStopped {A = Unit {0}} (Err (store_fault fault)) P
+unless-unstored P storing.OutOfMemory h = tt
+unless-unstored P storing.IdsExhausted h = h
+unless-unstored P storing.CountExhausted h = h
