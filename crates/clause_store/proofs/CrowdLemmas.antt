@@ -1,10 +1,10 @@
 -- Clauses at their places.
-use Rattle.std.proofs.Common.{◌≡◌, ℕ, zero, suc, ◌+◌, ◌<◌, Bool, true, false, List, [], ◌∷◌, ◌++◌, length, get_or, take, drop, set, map, Option, Some, None, All, is_some, refl, sym, ap, ◌∙◌, subst, arith}
+use Rattle.std.proofs.Common.{◌≡◌, ℕ, zero, suc, ◌+◌, ◌<◌, Bool, true, false, List, [], ◌∷◌, ◌++◌, length, get_or, take, drop, set, map, Option, Some, None, All, is_some, ltb, lt-ltb, refl, sym, ap, ◌∙◌, subst, arith}
 use Rattle.std.specs.List.{filter, list_any}
 use Rattle.std.proofs.lemmas.List.{drop_more, get_or_default, take_more}
 use Rattle.std.proofs.lemmas.List.Elements.{filter_map-append}
 use Rattle.clause_store.specs.declared.clauses.Clause.{Clause}
-use Rattle.clause_store.specs.Crowds.{IsPlaced, some_stands, standing}
+use Rattle.clause_store.specs.Crowds.{standing}
 
 -- how many clauses stand before a place
 abbrev pub rank : List (Option Clause) → ℕ → ℕ
@@ -70,15 +70,10 @@ standing-close (None ∷ ps) = standing-close ps
 standing-close (Some c ∷ ps) = cc (standing-close ps)
 
 -- whether there are clauses
-pub standing-none : (ps : List (Option Clause)) → some_stands ps ≡ false → standing ps ≡ []
-standing-none [] h = refl
-standing-none (None ∷ ps) h = standing-none ps h
-standing-none (Some c ∷ ps) h = cc
-
-pub standing-some : (ps : List (Option Clause)) → some_stands ps ≡ true → 0 < length (standing ps)
-standing-some [] h = cc
-standing-some (None ∷ ps) h = standing-some ps h
-standing-some (Some c ∷ ps) h = omega arith
+pub standing-some : (ps : List (Option Clause)) → list_any is_some ps ≡ ltb 0 (length (standing ps))
+standing-some [] = refl
+standing-some (None ∷ ps) = standing-some ps
+standing-some (Some c ∷ ps) = sym (lt-ltb 0 (length (c ∷ standing ps)) (omega arith))
 
 -- what is true of all clauses is true of the one in a place
 pub All-stands : (P : Clause → Type 0) (ps : List (Option Clause)) (i : ℕ) (d : Clause) → All P (standing ps) → i < length ps → get_or ps i None ≡ Some d → P d

@@ -1,6 +1,5 @@
 -- Places of clauses, where some are free.
-use Rattle.std.specs.Prelude.{◌≡◌, ℕ, ◌<◌, Bool, true, List, length, filter_map, Option, None, Some, is_some, slice_index_or}
-use Rattle.std.specs.List.{list_any}
+use Rattle.std.specs.Prelude.{◌≡◌, ℕ, ◌<◌, true, List, length, filter_map, Option, None, Some, slice_index_or}
 use Rattle.checker_rules.specs.Canonical.{same_list}
 use Rattle.clause_store.specs.declared.clauses.Clause.{Clause}
 use Rattle.clause_store.specs.Lits.{lits_of}
@@ -8,10 +7,6 @@ use Rattle.clause_store.specs.Lits.{lits_of}
 -- the clauses of the places that are not free, in order
 abbrev pub standing : List (Option Clause) → List Clause
 standing ps = filter_map (λ p. p) ps
-
--- whether a clause stands in one of the places
-abbrev pub some_stands : List (Option Clause) → Bool
-some_stands ps = list_any is_some ps
 
 -- the clause d stands in the place i, and has these literals
 pub record IsPlaced (buffer lits : List ℕ) (ps : List (Option Clause)) (i : ℕ) (d : Clause) : Type 0

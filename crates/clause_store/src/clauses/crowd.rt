@@ -1,9 +1,9 @@
 //! Several clauses of one hash.
-ghost use Rattle.std.specs.Prelude.{◌≡◌, ◌<◌, ◌≤◌, ◌++◌, ◌∷◌, [], All, IfErr, IfNone, IfOk, IfSome, None, OnErr, OnOk, false, length, map, slice_set, true};
-ghost use Rattle.std.specs.List.{list_all};
+ghost use Rattle.std.specs.Prelude.{◌≡◌, ◌<◌, ◌≤◌, ◌++◌, ◌∷◌, [], All, IfErr, IfNone, IfOk, IfSome, None, OnErr, OnOk, false, is_some, length, map, nat_lt, slice_set, true};
+ghost use Rattle.std.specs.List.{list_all, list_any};
 ghost use Rattle.checker_rules.specs.Store.{count_limit, count_of as count_in, is_stored, raise as raise_in_list};
 ghost use Rattle.checker_rules.specs.WellFormed.{are_apart};
-ghost use Rattle.clause_store.specs.Crowds.{IsPlaced, some_stands, standing};
+ghost use Rattle.clause_store.specs.Crowds.{IsPlaced, standing};
 ghost use Rattle.clause_store.specs.Found.{found_in};
 ghost use Rattle.clause_store.specs.Lits.{IsWithin};
 ghost use Rattle.clause_store.specs.Lowered.{IsLoweredIn, IsMissing};
@@ -39,7 +39,14 @@ pub struct Crowd {
 
 /// Whether a clause stands in one of the places.
 pub fn some_stands(places: &[Option<Clause>]) -> bool
-    ensures { result ≡ some_stands places.now }
+    ensures { result ≡ nat_lt 0 (length (standing places.now)) }
+{
+    is_some_taken(places)
+}
+
+/// Whether one of the places is not free.
+fn is_some_taken(places: &[Option<Clause>]) -> bool
+    ensures { result ≡ list_any is_some places.now }
 {
     places.iter().any(|place| place.is_some())
 }
