@@ -12,5 +12,5 @@ for crate in checker_rules sat_formula proof_bytes checker_parts clause_store ch
 done
 cp "$top/benches/checker/main.rt.txt" "$work/crates/checker_bench/src/main.rt"
 grep -E '^(checker_rules|sat_formula|proof_bytes|checker_parts|clause_store|checker_steps|varisat_checker):' "$top/crates.txt" > "$work/crates.txt"
-echo 'checker_bench: checker_rules sat_formula proof_bytes checker_parts clause_store checker_steps varisat_checker smallvec anyhow log' >> "$work/crates.txt"
+echo 'checker_bench: checker_rules sat_formula proof_bytes checker_parts clause_store checker_steps varisat_checker anyhow log' >> "$work/crates.txt"
 (cd "$work/crates/checker_bench" && "$rt" try 2> "$work/log") || { tail -20 "$work/log"; exit 1; }

@@ -7,6 +7,7 @@ A line for each case: bytes of the proof, seconds of a processor, megabytes at m
 ROOM bytes. `benches/hostile.sh` builds the program and calls it.
 """
 import os
+import random
 import resource
 import subprocess
 import sys
@@ -145,7 +146,7 @@ def repeated_literal():
     return "", b"\x05" + lits([1] * 10_000_000) + END
 
 
-def one_bucket(count, in_order):
+def of_one_hash(count):
     # ternary clauses that the unit 1 makes true, all with the one-bit hash 0
     clauses, var = [], 2
     while len(clauses) < count:
@@ -153,16 +154,32 @@ def one_bucket(count, in_order):
         if hash_of(clause, 1) == 0:
             clauses.append(clause)
         var += 1
-    deleted = clauses if in_order else clauses[::-1]
+    return clauses
+
+
+def one_bucket(clauses, deleted):
     return dimacs([[1]] + clauses), width(1) + b"".join(map(delete_satisfied, deleted)) + END
 
 
 def one_bucket_forwards():
-    return one_bucket(100_000, True)
+    clauses = of_one_hash(100_000)
+    return one_bucket(clauses, clauses)
 
 
 def one_bucket_backwards():
-    return one_bucket(100_000, False)
+    clauses = of_one_hash(100_000)
+    return one_bucket(clauses, clauses[::-1])
+
+
+def one_bucket_at_random():
+    clauses = of_one_hash(100_000)
+    return one_bucket(clauses, random.Random(1).sample(clauses, len(clauses)))
+
+
+def one_bucket_grows():
+    # the unit 1 makes each derived clause true
+    steps = b"".join(derive(clause, []) for clause in of_one_hash(100_000))
+    return dimacs([[1]]), width(1) + steps + END
 
 
 def many_hashes():
@@ -188,6 +205,8 @@ CASES = {
         repeated_literal,
         one_bucket_forwards,
         one_bucket_backwards,
+        one_bucket_at_random,
+        one_bucket_grows,
         many_hashes,
     )
 }

@@ -35,8 +35,12 @@ rising_apart (l ∷ m ∷ ms) h =
     let v = ltb-true (var_of l) (var_of m) p.0 in
     ap (λ b. b || shares_var (m ∷ ms)) (ne_eqb (var_of l) (var_of m) (λ e. omega arith)) ∙ rising_apart (m ∷ ms) p.1
 
+-- a canonical list is its own
+pub canonical_itself : (c : List ℕ) → is_canonical c ≡ true → c ≡ canonical c
+canonical_itself c h = canonical_from c c h (λ x. refl)
+
 pub rising_is : (c : List ℕ) → has_rising_vars c ≡ true → c ≡ canonical c
-rising_is c h = canonical_from c c (rising_canonical c h) (λ x. refl)
+rising_is c h = canonical_itself c (rising_canonical c h)
 
 pub rising_sound : (c : List ℕ) → has_rising_vars c ≡ true → false ≡ is_tautology (canonical c)
 rising_sound c h = sym (rising_apart c h) ∙ shares_var-canonical c (rising_canonical c h) ∙ ap is_tautology (rising_is c h)

@@ -29,7 +29,7 @@ pub fn copy_canonical(target: &mut Vec<Lit>, src: &[Lit]) -> Result<bool, AllocE
 }
 
 /// Whether the variables rise from literal to literal. Such a list is canonical, and no tautology.
-fn has_rising_vars(lits: &[Lit]) -> bool
+pub fn has_rising_vars(lits: &[Lit]) -> bool
     ensures { result ≡ has_rising_vars lits.now }
 {
     let Some((first, others)) = lits.split_first() else {

@@ -9,11 +9,16 @@ use Rattle.checker_rules.specs.Step.{add_clause}
 use Rattle.checker_rules.specs.Steps.{step}
 use Rattle.checker_rules.specs.Store.{count_limit, count_of, id_limit}
 use Rattle.checker_rules.proofs.StepKinds.{step-add_clause}
-use Rattle.checker_steps.specs.InputCause.{input_cause, taken}
-use Rattle.checker_parts.specs.Faults.{AnswersOutcome}
+use Rattle.checker_steps.specs.InputCause.{IsFaultOf, early_cause, input_cause, taken}
+use Rattle.checker_parts.specs.Faults.{AnswersOutcome, UnlessStopped}
 use Rattle.checker_parts.specs.Causes.{cause_of}
 use Rattle.checker_parts.specs.declared.error.CheckCause.{CheckCause}
+use Rattle.checker_parts.specs.declared.error.CheckCause.TheVariants as causes
 use Rattle.checker_parts.specs.declared.error.StepFault.TheVariants.{Refused}
+use Rattle.clause_store.specs.Refusal.{store_fault}
+use Rattle.clause_store.specs.Store.{UnlessOutOfMemory}
+use Rattle.clause_store.specs.declared.clauses.store.StoreFault.{StoreFault}
+use Rattle.clause_store.specs.declared.clauses.store.StoreFault.TheVariants as storing
 use Rattle.clause_store.proofs.RefusalLemmas.{answers-refuse}
 
 -- refused with the cause, where there is one
@@ -47,29 +52,45 @@ pub id-left : (n : ℕ) → n < 2 ^ 64 → (n ≡ 2 ^ 64 - 1 → ⊥) → n < id
 unfolding id_limit
 id-left n h e = omega (arith, h, e)
 
-copy-left : (n : ℕ) → n < 2 ^ 32 → (n ≡ 2 ^ 32 - 1 → ⊥) → n < count_limit
-unfolding count_limit
-copy-left n h e = omega (arith, h, e)
-
 no-id : (n : ℕ) → n ≡ 2 ^ 64 - 1 → ltb n id_limit ≡ false
 unfolding id_limit
 no-id n e = le-ltb n (2 ^ 64 - 1) (omega arith)
 
-no-copy : (n : ℕ) → n ≡ 2 ^ 32 - 1 → leb count_limit n ≡ true
-unfolding count_limit
-no-copy n e = le-leb (2 ^ 32 - 1) n (omega arith)
-
 module _ (s : State) (c : List ℕ) where
-  pub cause-sampling : true ≡ some_not_sampling s c → Some not_sampling ≡ input_cause s c
+  pub cause-sampling : true ≡ some_not_sampling s c → Some not_sampling ≡ early_cause s c
   cause-sampling e = rw (← e)
 
   module _ (e : false ≡ some_not_sampling s c) where
-    pub cause-ids : s.next ≡ 2 ^ 64 - 1 → Some ids_exhausted ≡ input_cause s c
+    pub cause-ids : s.next ≡ 2 ^ 64 - 1 → Some ids_exhausted ≡ early_cause s c
     cause-ids n = rw (← e, no-id s.next n)
 
-    module _ (room : s.next < id_limit) where
-      pub cause-copies : count_of false c s.clauses ≡ 2 ^ 32 - 1 → Some count_exhausted ≡ input_cause s c
-      cause-copies m = rw (← e, lt-ltb s.next id_limit room, no-copy (count_of false c s.clauses) m)
+    pub cause-none : s.next < id_limit → early_cause s c ≡ None
+    cause-none room = rw (← e, lt-ltb s.next id_limit room)
 
-      pub cause-none : count_of false c s.clauses < 2 ^ 32 → (count_of false c s.clauses ≡ 2 ^ 32 - 1 → ⊥) → input_cause s c ≡ None
-      cause-none fits m = rw (← e, lt-ltb s.next id_limit room, lt-leb count_limit (count_of false c s.clauses) (copy-left (count_of false c s.clauses) fits m))
+-- an early cause is the first, and where there is none the copies decide
+pub early-first : (s : State) (c : List ℕ) (cause : Cause) → early_cause s c ≡ Some cause → input_cause s c ≡ Some cause
+early-first s c cause e = grind (arith, e)
+
+module _ (s : State) (c : List ℕ) (none : early_cause s c ≡ None) where
+  pub early-ids : s.next < id_limit
+  early-ids = grind (arith, none)
+
+  pub early-full : count_limit ≤ count_of false c s.clauses → input_cause s c ≡ Some count_exhausted
+  early-full many = grind (arith, none, le-leb count_limit (count_of false c s.clauses) many)
+
+  pub early-room : count_of false c s.clauses < count_limit → input_cause s c ≡ None
+  early-room few = grind (arith, none, lt-leb count_limit (count_of false c s.clauses) few)
+
+-- the refusal where the clause was not stored
+pub answers-unstored_input : (fault : StoreFault) (s t : State) (ls : List ℕ) → s.unsat ≡ false → early_cause s (canonical ls) ≡ None →
+    IsFaultOf fault (canonical ls) s t → AnswersOutcome {A = Unit {0}} (Err (store_fault fault)) (step s (add_clause ls)) t
+answers-unstored_input storing.OutOfMemory s t ls live none h = tt
+answers-unstored_input storing.IdsExhausted s t ls live none h = absurd h
+answers-unstored_input storing.CountExhausted s t ls live none h =
+    rw h.1 (answers-input causes.CountExhausted s ls live (early-full s (canonical ls) none h.0))
+
+-- what holds of the store unless memory was refused holds unless the step gave up
+pub unless-unstored : {A : Type 0} (P : Type 0) (fault : StoreFault) → UnlessOutOfMemory {A = A} (Err fault) P → UnlessStopped {A = Unit {0}} (Err (store_fault fault)) P
+unless-unstored P storing.OutOfMemory h = tt
+unless-unstored P storing.IdsExhausted h = h
+unless-unstored P storing.CountExhausted h = h

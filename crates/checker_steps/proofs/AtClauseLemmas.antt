@@ -1,14 +1,14 @@
 -- The step of a derived clause, part by part.
-use Rattle.std.proofs.Common.{◌≡◌, ℕ, Bool, true, false, cond, not, List, Some, None, ◌∙◌, arith}
+use Rattle.std.proofs.Common.{◌≡◌, ℕ, Bool, true, false, cond, List, Some, None, ◌∙◌, arith}
 use Rattle.sat_rules.specs.Clauses.{is_tautology}
-use Rattle.checker_rules.specs.AtClause.{set_previous, store_derived}
+use Rattle.checker_rules.specs.AtClause.{set_previous}
 use Rattle.checker_rules.specs.Canonical.{canonical}
 use Rattle.checker_rules.specs.Check.{ready}
 use Rattle.checker_rules.specs.Outcome.{Cause, Outcome, accept, and_then, refuse, tautology}
 use Rattle.checker_rules.specs.State.{State}
 use Rattle.checker_rules.specs.Step.{at_clause}
 use Rattle.checker_rules.specs.Steps.{step}
-use Rattle.checker_rules.specs.Store.{counters, id_of, stands}
+use Rattle.checker_rules.specs.Store.{id_of}
 use Rattle.checker_rules.specs.Traced.{traced}
 use Rattle.checker_rules.proofs.StepKinds.{step-at_clause}
 use Rattle.checker_steps.specs.Derived.{derived, derived_steps}
@@ -16,10 +16,6 @@ use Rattle.checker_steps.specs.Derived.{derived, derived_steps}
 -- an irredundant clause becomes the previous one, with its id
 abbrev pub kept_as_previous : Bool → List ℕ → ℕ → State → State
 kept_as_previous redundant c id s = cond redundant s (set_previous c id s)
-
--- what comes after the check and the counters
-abbrev stored_after : Bool → List ℕ → State → Outcome
-stored_after redundant c s = counters redundant c (not (stands c s)) s (λ r. accept (store_derived c redundant r))
 
 module _ (s : State) (redundant : Bool) (ls hs : List ℕ) where
   -- a tautology is refused

@@ -1,35 +1,118 @@
 -- Storing an input clause, and what it emits.
-use Rattle.std.proofs.Common.{◌≡◌, ℕ, ◌+◌, Bool, true, false, not, List, Some, None, refl, ap, ◌∙◌, arith, lt-ltb}
+use Rattle.std.proofs.Common.{◌≡◌, ℕ, ◌+◌, ◌-◌, ◌<◌, ◌≤◌, Bool, true, false, cond, not, ◌||◌, leb, List, [], ◌∷◌, length, append-nil, Some, None, Err, refl, sym, ap, ◌∙◌, subst, arith, lt-ltb}
+use Rattle.std.specs.List.{list_all}
 use Rattle.std.proofs.Math.Bool.{and-false}
-use Rattle.std.proofs.lemmas.Bool.{lt-leb}
-use Rattle.sat_rules.specs.Clauses.{is_tautology}
+use Rattle.std.proofs.lemmas.Bool.{and_parts, leb-false, leb-true, not-true}
+use Rattle.sat_rules.specs.Clauses.{is_canonical, is_tautology}
 use Rattle.checker_rules.specs.AddClause.{store_input}
+use Rattle.checker_rules.specs.Canonical.{same_list, var_bound}
+use Rattle.checker_rules.specs.DeleteClause.{is_short}
 use Rattle.checker_rules.specs.Emits.{emits_input, is_only_redundant}
-use Rattle.checker_rules.specs.Outcome.{Cause, Outcome, refuse}
-use Rattle.checker_rules.specs.State.{State}
-use Rattle.checker_rules.specs.Store.{count_limit, count_of, id_limit, stands, take_id}
+use Rattle.checker_rules.specs.KnownVars.{know_clause}
+use Rattle.checker_rules.specs.Outcome.{Cause, Outcome, accept, count_exhausted, ids_exhausted, refuse}
+use Rattle.checker_rules.specs.State.{State, Stored}
+use Rattle.checker_rules.specs.Store.{count_limit, count_of, id_limit, is_gone, is_stored, stands, take_id}
+use Rattle.checker_rules.specs.WellFormed.{WellFormed, is_fine}
 use Rattle.checker_rules.proofs.Entries.{rise_next}
+use Rattle.checker_rules.proofs.Sets.{same_list-eq}
 use Rattle.clause_store.specs.declared.clauses.Clauses.{Clauses}
 use Rattle.clause_store.specs.declared.clauses.StoreClauseResult.{StoreClauseResult}
 use Rattle.clause_store.specs.declared.clauses.StoreClauseResult.TheVariants as results
 use Rattle.clause_store.specs.declared.hash.ClauseHasher.{ClauseHasher}
 use Rattle.clause_store.specs.View.{stored_list}
-use Rattle.clause_store.specs.Store.{IsStore, Stores, store_counters}
+use Rattle.clause_store.specs.Store.{AnswersStore, IsStore, Stores, store_counters}
+use Rattle.clause_store.specs.declared.clauses.store.StoreFault.{StoreFault}
+use Rattle.clause_store.specs.declared.clauses.store.StoreFault.TheVariants as storing
+use Rattle.clause_store.proofs.BucketLemmas.{count_limit-some}
+use Rattle.clause_store.proofs.FoundLemmas.{count_of-absent}
 use Rattle.checker_steps.specs.Added.{emitted_of}
-use Rattle.checker_steps.specs.InputCause.{HasCapacity}
+use Rattle.checker_steps.specs.InputCause.{IsFaultOf}
 use Rattle.checker_steps.specs.declared.steps.add_clause.Added.TheVariants.{Tautology, New, Duplicate}
 
 -- taking an id leaves the store in order
 pub is_store-next : (h : ClauseHasher) (cs : Clauses) → IsStore h cs → IsStore h (record cs { next_clause_id = cs.next_clause_id + 1 })
 is_store-next h cs k = assumption (k, rise_next 0 (stored_list cs) cs.next_clause_id k.filed.rise)
 
--- counters with room refuse nothing
-pub no-refusal : (c : List ℕ) (s : State) (cause : Cause) → HasCapacity s c → store_counters c false s ≡ refuse cause s → ⊥
-no-refusal c s cause room e =
-    let some : (store_counters c false s).refused ≡ Some cause = ap (λ (o : Outcome). o.refused) e in
-    let none : (store_counters c false s).refused ≡ None =
-    rw (lt-ltb s.next id_limit room.ids, and-false (not (stands c s)), lt-leb count_limit (count_of false c s.clauses) room.copies) refl in
-    cc
+-- the counters of an input clause, where an id is left
+module _ (c : List ℕ) (s : State) (room : s.next < id_limit) where
+  by_count : (b : Bool) → leb count_limit (count_of false c s.clauses) ≡ b → store_counters c false s ≡ cond b (refuse count_exhausted s) (accept s)
+  by_count b e = rw (lt-ltb s.next id_limit room, and-false (not (stands c s)), e) refl
+
+  -- those that refuse do so for the copies
+  pub refused-full : (cause : Cause) → store_counters c false s ≡ refuse cause s → count_limit ≤ count_of false c s.clauses
+  refused-full cause e = by (leb count_limit (count_of false c s.clauses)) refl
+    where
+      by : (b : Bool) → leb count_limit (count_of false c s.clauses) ≡ b → count_limit ≤ count_of false c s.clauses
+      by true q = leb-true count_limit (count_of false c s.clauses) q
+      by false q = let some = ap (λ (o : Outcome). o.refused) e in let none = ap (λ (o : Outcome). o.refused) (by_count false q) in cc
+
+  pub refused-no_ids : store_counters c false s ≡ refuse ids_exhausted s → ⊥
+  refused-no_ids e = by (leb count_limit (count_of false c s.clauses)) refl
+    where
+      by : (b : Bool) → leb count_limit (count_of false c s.clauses) ≡ b → ⊥
+      by true q = let some = ap (λ (o : Outcome). o.refused) e in let other = ap (λ (o : Outcome). o.refused) (by_count true q) in cc
+      by false q = let some = ap (λ (o : Outcome). o.refused) e in let none = ap (λ (o : Outcome). o.refused) (by_count false q) in cc
+
+  pub accepted-few : store_counters c false s ≡ accept s → count_of false c s.clauses < count_limit
+  accepted-few e = by (leb count_limit (count_of false c s.clauses)) refl
+    where
+      by : (b : Bool) → leb count_limit (count_of false c s.clauses) ≡ b → count_of false c s.clauses < count_limit
+      by true q = let none = ap (λ (o : Outcome). o.refused) e in let some = ap (λ (o : Outcome). o.refused) (by_count true q) in cc
+      by false q = leb-false count_limit (count_of false c s.clauses) q
+
+-- what was stored has known variables, and is no tautology
+pub stored-fine : (n : ℕ) (c : List ℕ) (es : List Stored) → list_all (is_fine n) es ≡ true → is_stored c es ≡ true → (is_tautology c ≡ false) × (var_bound c ≤ n)
+stored-fine n c [] fine h = cc
+stored-fine n c (e ∷ es) fine h = by (same_list e.lits c) refl h
+  where
+    first : same_list e.lits c ≡ true → (is_tautology c ≡ false) × (var_bound c ≤ n)
+    first same =
+        let q = and_parts (is_canonical e.lits) _ (and_parts (is_fine n e) (list_all (is_fine n) es) fine).0 in
+        let r = and_parts (not (is_tautology e.lits)) _ q.1 in
+        let t = and_parts (not (is_short e.lits)) _ r.1 in
+        let u = and_parts (not (is_gone e)) (leb (var_bound e.lits) n) t.1 in
+        rw (← same_list-eq e.lits c same) (not-true (is_tautology e.lits) r.0, leb-true (var_bound e.lits) n u.1)
+
+    by : (b : Bool) → same_list e.lits c ≡ b → (b || is_stored c es) ≡ true → (is_tautology c ≡ false) × (var_bound c ≤ n)
+    by true same k = first same
+    by false other k = stored-fine n c es (and_parts (is_fine n e) (list_all (is_fine n) es) fine).1 k
+
+some-stored : (c : List ℕ) (es : List Stored) → 0 < count_of false c es → is_stored c es ≡ true
+some-stored c es some = by (is_stored c es) refl
+  where
+    by : (b : Bool) → is_stored c es ≡ b → b ≡ true
+    by true h = refl
+    by false h = let none = count_of-absent c false es h in absurd (omega (arith, some, none))
+
+-- so its variables need not become known
+pub know-stored : (c : List ℕ) (s : State) → WellFormed s → is_stored c s.clauses ≡ true → know_clause c s ≡ s
+know-stored c s form h =
+    let bound = (stored-fine (length s.known) c s.clauses form.fine h).1 in
+    let known : var_bound c - length s.known ≡ 0 = omega (arith, bound) in
+    let units : var_bound c - length s.units ≡ 0 = omega (arith, bound, form.same_known) in
+    rw (known, units, append-nil s.known, append-nil s.units) refl
+
+-- a tautology has no copies
+pub tautology-few : (c : List ℕ) (s : State) → WellFormed s → is_tautology c ≡ true → count_of false c s.clauses < count_limit
+tautology-few c s form h = by (is_stored c s.clauses) refl
+  where
+    by : (b : Bool) → is_stored c s.clauses ≡ b → count_of false c s.clauses < count_limit
+    by true k = let fine = (stored-fine (length s.known) c s.clauses form.fine k).0 in cc
+    by false k = subst (λ n. n < count_limit) (sym (count_of-absent c false s.clauses k)) count_limit-some
+
+-- a fault after the variables became known is one before
+pub fault-known : (fault : StoreFault) (c : List ℕ) (s t : State) → WellFormed s → IsFaultOf fault c (know_clause c s) t → IsFaultOf fault c s t
+fault-known storing.OutOfMemory c s t form h = tt
+fault-known storing.IdsExhausted c s t form h = h
+fault-known storing.CountExhausted c s t form h =
+    let some : 0 < count_of false c s.clauses = omega (arith, h.0, count_limit-some) in
+    (h.0, h.1 ∙ know-stored c s form (some-stored c s.clauses some))
+
+-- what storing refused, in the words of the step
+pub fault-stored : (fault : StoreFault) (c : List ℕ) (s t : State) → s.next < id_limit → AnswersStore (Err fault) c false s t → IsFaultOf fault c s t
+fault-stored storing.OutOfMemory c s t room h = tt
+fault-stored storing.IdsExhausted c s t room h = refused-no_ids c s room h.0
+fault-stored storing.CountExhausted c s t room h = (refused-full c s room count_exhausted h.0, h.1)
 
 -- what the answer of storing tells of the clause before
 abbrev pub Tells : StoreClauseResult → (stood only_redundant : Bool) → Type 0

@@ -7,10 +7,11 @@ use Rattle.std.proofs.lemmas.List.{get_or-append-add}
 use Rattle.std.proofs.lemmas.List.Folds.{list_all-append, list_all-map}
 use Rattle.std.proofs.lemmas.List.Sorted.{list_any-IsPermutation}
 use Rattle.checker_rules.specs.State.{Stored}
-use Rattle.smallvec.specs.SmallVec.{SmallVec}
 use Rattle.clause_store.specs.declared.clauses.Clause.{Clause}
+use Rattle.clause_store.specs.declared.clauses.buckets.Bucket.{Bucket}
 use Rattle.clause_store.specs.declared.clauses.Clauses.{Clauses}
 use Rattle.clause_store.specs.declared.hash.ClauseHasher.{ClauseHasher}
+use Rattle.clause_store.specs.Buckets.{clauses_of}
 use Rattle.clause_store.specs.Lits.{IsWithin}
 use Rattle.clause_store.specs.Store.{IsIndexed}
 use Rattle.clause_store.specs.View.{stored_of}
@@ -18,15 +19,15 @@ use Rattle.clause_store.proofs.GatheredLemmas.{in_other_order}
 use Rattle.checker_steps.specs.ModelCause.{has_marked}
 
 -- the clauses of buckets, one after the other
-abbrev pub clauses_in : List (SmallVec Clause) → List Clause
-clauses_in bs = flat_map (λ b. b.items) bs
+abbrev pub clauses_in : List Bucket → List Clause
+clauses_in bs = flat_map clauses_of bs
 
 -- they lie in the buffer
-abbrev pub AllWithin : List ℕ → List (SmallVec Clause) → Type 0
+abbrev pub AllWithin : List ℕ → List Bucket → Type 0
 AllWithin buffer bs = All (λ c. IsWithin c.lits buffer) (clauses_in bs)
 
 -- whether some literal of each is in the set
-abbrev pub all_met : (ℕ → Bool) → List ℕ → List (SmallVec Clause) → Bool
+abbrev pub all_met : (ℕ → Bool) → List ℕ → List Bucket → Bool
 all_met listed buffer bs = list_all (λ c. has_marked listed (stored_of buffer c)) (clauses_in bs)
 
 all-left : (P : Clause → Type 0) (xs ys : List Clause) → All P (xs ++ ys) → All P xs
@@ -36,16 +37,16 @@ all-right : (P : Clause → Type 0) (xs ys : List Clause) → All P (xs ++ ys) �
 all-right P xs ys h k d less = subst P (get_or-append-add xs ys k d) (h (length xs + k) d (omega (arith, less, length-append xs ys)))
 
 -- the first bucket
-module _ (listed : ℕ → Bool) (buffer : List ℕ) (bs : List (SmallVec Clause)) (b : SmallVec Clause) (rest : List (SmallVec Clause)) (first : bs ≡ b ∷ rest) where
-  pub within-first : AllWithin buffer bs → All (λ c. IsWithin c.lits buffer) b.items
-  within-first h = all-left (λ c. IsWithin c.lits buffer) b.items (clauses_in rest) (subst (AllWithin buffer) first h)
+module _ (listed : ℕ → Bool) (buffer : List ℕ) (bs : List Bucket) (b : Bucket) (rest : List Bucket) (first : bs ≡ b ∷ rest) where
+  pub within-first : AllWithin buffer bs → All (λ c. IsWithin c.lits buffer) (clauses_of b)
+  within-first h = all-left (λ c. IsWithin c.lits buffer) (clauses_of b) (clauses_in rest) (subst (AllWithin buffer) first h)
 
   pub within-rest : AllWithin buffer bs → AllWithin buffer rest
-  within-rest h = all-right (λ c. IsWithin c.lits buffer) b.items (clauses_in rest) (subst (AllWithin buffer) first h)
+  within-rest h = all-right (λ c. IsWithin c.lits buffer) (clauses_of b) (clauses_in rest) (subst (AllWithin buffer) first h)
 
-  pub met-by : (all : Bool) → list_all (λ c. has_marked listed (stored_of buffer c)) b.items ≡ all → all_met listed buffer bs ≡ (all && all_met listed buffer rest)
+  pub met-by : (all : Bool) → list_all (λ c. has_marked listed (stored_of buffer c)) (clauses_of b) ≡ all → all_met listed buffer bs ≡ (all && all_met listed buffer rest)
   met-by all h =
-      ap (all_met listed buffer) first ∙ list_all-append (λ c. has_marked listed (stored_of buffer c)) b.items (clauses_in rest) ∙ ap (λ a. a && all_met listed buffer rest) h
+      ap (all_met listed buffer) first ∙ list_all-append (λ c. has_marked listed (stored_of buffer c)) (clauses_of b) (clauses_in rest) ∙ ap (λ a. a && all_met listed buffer rest) h
 
 -- all buckets
 all-any : (p : Stored → Bool) (es : List Stored) → list_all p es ≡ not (list_any (λ e. not (p e)) es)

@@ -1,7 +1,8 @@
 //! Checked steps made and handed on, one function a kind.
 //!
 //! Each makes its step alone: a function above that held one would have to name the types behind
-//! its references.
+//! its references. One of these is of no other use here, and is named by a value that nothing
+//! reads, `_propagations`: a derived clause refers to it, and all kinds are one type.
 ghost use Rattle.std.specs.Prelude.{◌≢◌, Err, false};
 ghost use Rattle.sat_formula.specs.Vars.{index_of};
 ghost use Rattle.checker_rules.specs.CheckedSteps.{checked_add_clause, checked_assumptions, checked_at_clause, checked_delete_at_clause, checked_delete_clause, checked_delete_rat_clause, checked_duplicated_clause, checked_failed_assumptions, checked_make_irredundant, checked_model, checked_tautological_clause, checked_user_var};

@@ -1,15 +1,10 @@
 -- A clause of a bucket as a stored one.
-use Rattle.std.proofs.Common.{◌≡◌, ℕ, suc, ◌+◌, ◌-◌, ◌^◌, ◌<◌, ◌≤◌, Bool, true, false, cond, ◌||◌, ltb, List, [], ◌∷◌, ◌++◌}
-use Rattle.std.proofs.Common.{length, get_or, take, drop, set, map, Some, None, position, refl, sym, ap, ◌∙◌, subst, arith}
-use Rattle.std.specs.List.{list_all, list_any, position_or_len}
-use Rattle.std.proofs.lemmas.List.Quantifiers.{position-Some}
+use Rattle.std.proofs.Common.{◌≡◌, ℕ, suc, ◌-◌, ◌<◌, Bool, true, false, cond, List, ◌++◌, length, get_or, take, drop, set, map, Some, refl, sym, ◌∙◌, arith}
+use Rattle.std.specs.List.{list_all}
 use Rattle.std.proofs.lemmas.List.{drop-map, map-append, map-set, take-map}
-use Rattle.std.proofs.lemmas.List.Folds.{list_any_none}
-use Rattle.std.proofs.lemmas.List.Sums.{fails_before_first}
 use Rattle.std.proofs.Math.ListN.{get_or-map, length-map}
 use Rattle.checker_rules.specs.Canonical.{same_list}
 use Rattle.checker_rules.specs.Buckets.{remaining}
-use Rattle.checker_rules.specs.State.{Stored}
 use Rattle.checker_rules.specs.Store.{count_limit, count_of, id_among, is_gone, is_stored, lower, raise}
 use Rattle.checker_rules.specs.WellFormed.{are_apart}
 use Rattle.clause_store.specs.declared.clauses.Clause.{Clause}
@@ -18,49 +13,29 @@ use Rattle.clause_store.specs.Found.{found_in}
 use Rattle.clause_store.specs.Lowered.{IsLeft, left_of, lowered}
 use Rattle.clause_store.specs.Store.{is_whole}
 use Rattle.clause_store.specs.View.{stored_of}
-use Rattle.clause_store.proofs.FoundLemmas.{is_stored-at, id_among-at, count_of-at, lower-at, raise-at, remaining-gone, remaining-set}
-
-pub count_limit-is : count_limit ≡ 2 ^ 32 - 1
-unfolding count_limit
-count_limit-is = refl
+use Rattle.clause_store.proofs.FoundLemmas.{before-at, is_stored-at, id_among-at, count_of-at, lower-at, raise-at, remaining-gone, remaining-set}
 
 pub count_limit-some : 0 < count_limit
 unfolding count_limit
 count_limit-some = omega arith
 
-pub list_any-no_position : {X : Type 0} (p : X → Bool) (xs : List X) → position p xs ≡ None → list_any p xs ≡ false
-list_any-no_position p xs h =
-    let all : length xs ≤ position_or_len p xs =
-    elim (ltb (position_or_len p xs) (length xs)) as (λ b. ltb (position_or_len p xs) (length xs) ≡ b →
-    cond b (Some (position_or_len p xs)) None ≡ None → length xs ≤ position_or_len p xs) [
-      | true ↦ λ t e. cc
-      | false ↦ λ t e. grind (arith, t)
-    ] refl h in
-    list_any_none p xs (λ k d l. fails_before_first p xs k d (omega arith))
-
-list_any-map : {X Y : Type 0} (p : Y → Bool) (f : X → Y) (xs : List X) → list_any p (map f xs) ≡ list_any (λ x. p (f x)) xs
-list_any-map p f [] = refl
-list_any-map p f (x ∷ xs) = cc (list_any-map p f xs)
-
 module _ (buffer c : List ℕ) (cs : List Clause) where
-  pub not_stored : position (is_of buffer c) cs ≡ None → is_stored c (map (stored_of buffer) cs) ≡ false
-  not_stored h = list_any-map (λ e. same_list e.lits c) _ cs ∙ list_any-no_position _ cs h
-
-  module _ (i : ℕ) (d : Clause) (h : position (is_of buffer c) cs ≡ Some i) (here : d ≡ get_or cs i d) where
+  -- the clause d with these literals stands at i
+  module _ (i : ℕ) (d : Clause) (w : i < length cs) (here : d ≡ get_or cs i d) (is : is_of buffer c d ≡ true) (a : are_apart (map (stored_of buffer) cs) ≡ true) where
     at : (k : ℕ) → get_or (map (stored_of buffer) cs) k (stored_of buffer d) ≡ stored_of buffer (get_or cs k d)
     at k = get_or-map _ cs k d
 
     within : i < length (map (stored_of buffer) cs)
-    within = omega (arith, length-map cs (stored_of buffer), (position-Some (is_of buffer c) cs i d h).0)
+    within = omega (arith, length-map cs (stored_of buffer), w)
 
     stands : stored_of buffer d ≡ get_or (map (stored_of buffer) cs) i (stored_of buffer d)
     stands = cc (at i)
 
     pub same : same_list (stored_of buffer d).lits c ≡ true
-    same = cc ((position-Some (is_of buffer c) cs i d h).1)
+    same = is
 
     before : (k : ℕ) → k < i → same_list (get_or (map (stored_of buffer) cs) k (stored_of buffer d)).lits c ≡ false
-    before k l = cc (at k, (position-Some (is_of buffer c) cs i d h).2 k l)
+    before = before-at c (stored_of buffer d) same (map (stored_of buffer) cs) i within stands a
 
     pub found_in-place : found_in c (map (stored_of buffer) cs) ≡ Some (d.id, d.irredundant)
     found_in-place =
@@ -85,26 +60,26 @@ module _ (buffer c : List ℕ) (cs : List Clause) where
     lowered_same true = cc (same)
     lowered_same false = cc (same)
 
-    lowered_at : (r : Bool) → are_apart (map (stored_of buffer) cs) ≡ true →
+    lowered_at : (r : Bool) →
         remaining (map (lower r c) (map (stored_of buffer) cs)) ≡
         remaining (set (map (stored_of buffer) cs) i (stored_of buffer (lowered r d)))
-    lowered_at r a =
+    lowered_at r =
         let e = stored_of buffer d in let es = map (stored_of buffer) cs in
         cc (lower-at c e same r es i within stands before a, lowered_same r)
 
     pub lowered-place : (r : Bool) (left : Clause) → left ≡ lowered r d → is_gone (stored_of buffer left) ≡ false →
-        are_apart (map (stored_of buffer) cs) ≡ true → list_all is_whole (map (stored_of buffer) cs) ≡ true →
+        list_all is_whole (map (stored_of buffer) cs) ≡ true →
         map (stored_of buffer) (set cs i left) ≡ remaining (map (lower r c) (map (stored_of buffer) cs))
-    lowered-place r left e g a w =
+    lowered-place r left e g full =
         let es = map (stored_of buffer) cs in let x = stored_of buffer left in
-        cc (map-set (stored_of buffer) cs i left, lowered_at r a, remaining-set x es i g w)
+        cc (map-set (stored_of buffer) cs i left, lowered_at r, remaining-set x es i g full)
 
     pub removed-place : (r : Bool) (left : Clause) → left ≡ lowered r d → is_gone (stored_of buffer left) ≡ true →
-        are_apart (map (stored_of buffer) cs) ≡ true → list_all is_whole (map (stored_of buffer) cs) ≡ true →
+        list_all is_whole (map (stored_of buffer) cs) ≡ true →
         map (stored_of buffer) (take i cs ++ drop (suc i) cs) ≡ remaining (map (lower r c) (map (stored_of buffer) cs))
-    removed-place r left e g a w =
+    removed-place r left e g full =
         let es = map (stored_of buffer) cs in let x = stored_of buffer left in
-        cc (map-append (stored_of buffer) (take i cs) (drop (suc i) cs), take-map (stored_of buffer) i cs, drop-map (stored_of buffer) (suc i) cs, lowered_at r a, remaining-gone x es i within g w)
+        cc (map-append (stored_of buffer) (take i cs) (drop (suc i) cs), take-map (stored_of buffer) i cs, drop-map (stored_of buffer) (suc i) cs, lowered_at r, remaining-gone x es i within g full)
 
     pub left-place : (r : Bool) → 0 < copies_of r d → IsLeft r c (map (stored_of buffer) cs) (left_of (lowered r d))
     left-place r had = record {
@@ -126,7 +101,7 @@ module _ (buffer c : List ℕ) (cs : List Clause) where
         redundant_is true = refl
         redundant_is false = omega arith
 
-    pub raised-place : (r : Bool) → are_apart (map (stored_of buffer) cs) ≡ true → map (stored_of buffer) (set cs i (raised r d)) ≡ map (raise r c) (map (stored_of buffer) cs)
-    raised-place r a =
+    pub raised-place : (r : Bool) → map (stored_of buffer) (set cs i (raised r d)) ≡ map (raise r c) (map (stored_of buffer) cs)
+    raised-place r =
         let e = stored_of buffer d in let es = map (stored_of buffer) cs in
         cc (map-set (stored_of buffer) cs i (raised r d), raised_same r, raise-at c e same r es i within stands before a)

@@ -34,6 +34,21 @@ module _ (c : List ℕ) where
     is_stored-at (x ∷ es) (suc i) w h = let k = is_stored-at es i (omega arith) h in
         elim (same_list x.lits c) as (λ b. (b || is_stored c es) ≡ true) [ true ↦ refl | false ↦ k ]
 
+    -- of clauses that are apart none stands before it
+    pub before-at : (es : List Stored) (i : ℕ) → i < length es → e ≡ get_or es i e → are_apart es ≡ true → (k : ℕ) → k < i → same_list (get_or es k e).lits c ≡ false
+    before-at [] i w h a k l = absurd (omega arith)
+    before-at (x ∷ es) zero w h a k l = absurd (omega arith)
+    before-at (x ∷ es) (suc i) w h a zero l = by (same_list x.lits c) refl
+      where
+        once : is_stored x.lits es ≡ false
+        once = not-true _ (and_parts (not (is_stored x.lits es)) (are_apart es) a).0
+
+        by : (b : Bool) → same_list x.lits c ≡ b → b ≡ false
+        by true q = let later = is_stored-at es i (omega (arith, w)) h in cc (same_list-eq x.lits c q, once, later)
+        by false q = refl
+    before-at (x ∷ es) (suc i) w h a (suc k) l =
+        before-at es i (omega (arith, w)) h (and_parts (not (is_stored x.lits es)) (are_apart es) a).1 k (omega (arith, l))
+
     pub id_among-at : (es : List Stored) (i : ℕ) → i < length es → e ≡ get_or es i e → ((k : ℕ) → k < i → same_list (get_or es k e).lits c ≡ false) → id_among c es ≡ e.id
     id_among-at [] i w h before = absurd (omega arith)
     id_among-at (x ∷ es) zero w h before = cc

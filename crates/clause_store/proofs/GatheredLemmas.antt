@@ -15,11 +15,11 @@ use Rattle.std.proofs.lemmas.Map.Views.{exact_unsigned_eq, hash_map_contains_key
 use Rattle.std.proofs.lemmas.Option.{slice_get-get_or}
 use Rattle.checker_rules.specs.Buckets.{of_hash}
 use Rattle.checker_rules.specs.State.{Stored}
-use Rattle.smallvec.specs.SmallVec.{SmallVec}
+use Rattle.clause_store.specs.declared.clauses.buckets.Bucket.{Bucket}
 use Rattle.clause_store.specs.declared.clauses.Clause.{Clause}
 use Rattle.clause_store.specs.declared.clauses.Clauses.{Clauses}
 use Rattle.clause_store.specs.declared.hash.ClauseHasher.{ClauseHasher}
-use Rattle.clause_store.specs.Buckets.{Buckets, bucket_items}
+use Rattle.clause_store.specs.Buckets.{Buckets, bucket_items, clauses_of}
 use Rattle.clause_store.specs.Lits.{IsWithin}
 use Rattle.clause_store.specs.StateOf.{hash_of}
 use Rattle.clause_store.specs.Store.{IsIndexed}
@@ -37,11 +37,11 @@ all_in p (e ∷ es) f = and_from _ _ (f e (inl refl)) (all_in p es (λ x i. f x 
 
 -- the buckets by their keys
 module _ (buffer : List ℕ) (m : Buckets) where
-  flat_map-entries : (es : List (ℕ × SmallVec Clause)) → All (λ e. get nat_eq m e.0 ≡ Some e.1) es →
-      map (stored_of buffer) (flat_map (λ b. b.items) (values_of es)) ≡ flat_map (stored_in buffer m) (keys_of es)
+  flat_map-entries : (es : List (ℕ × Bucket)) → All (λ e. get nat_eq m e.0 ≡ Some e.1) es →
+      map (stored_of buffer) (flat_map clauses_of (values_of es)) ≡ flat_map (stored_in buffer m) (keys_of es)
   flat_map-entries [] found = refl
   flat_map-entries (e ∷ es) found =
-      cc (map-append (stored_of buffer) e.1.items (flat_map (λ b. b.items) (values_of es)), found 0 e (omega arith), flat_map-entries es (λ k d l. found (suc k) d (omega (arith, l))))
+      cc (map-append (stored_of buffer) (clauses_of e.1) (flat_map clauses_of (values_of es)), found 0 e (omega arith), flat_map-entries es (λ k d l. found (suc k) d (omega (arith, l))))
 
   pub found_all : IsUnique nat_eq m → All (λ e. get nat_eq m e.0 ≡ Some e.1) m.entries
   found_all unique i d l = hash_map_get_place nat_eq_equiv m i _ _ unique (slice_get-get_or m.entries i d l)
@@ -61,7 +61,7 @@ module _ (h : ClauseHasher) (cs : Clauses) (es : List Stored) (f : IsIndexed h c
       let here : In x (stored_in cs.literal_buffer.items cs.buckets k) = rw (f.bucketed k) (in_filter (λ e. eqb (hash_of h e.lits) k) x es (grind arith) i) in
       list_any-from_Contains nat_eq_equiv k (keys cs.buckets) ((hash_map_contains_key_iff nat_eq_equiv exact_unsigned_eq cs.buckets k).0 (some_here cs.literal_buffer.items cs.buckets k x here)))
 
-  pub in_other_order : IsPermutation es (map (stored_of cs.literal_buffer.items) (flat_map (λ b. b.items) (values cs.buckets)))
+  pub in_other_order : IsPermutation es (map (stored_of cs.literal_buffer.items) (flat_map clauses_of (values cs.buckets)))
   in_other_order =
       subst (IsPermutation es) (cc (
         flat_map-entries cs.literal_buffer.items cs.buckets cs.buckets.entries
@@ -72,7 +72,7 @@ module _ (h : ClauseHasher) (cs : Clauses) (es : List Stored) (f : IsIndexed h c
       (covers _ _ es unique covered)
 
   -- sorted by their ids
-  pub gathered : (all : List Clause) → IsPermutation (flat_map (λ b. b.items) (values cs.buckets)) all → IsNonDecreasingBy (λ c. c.id) all → map (stored_of cs.literal_buffer.items) all ≡ es
+  pub gathered : (all : List Clause) → IsPermutation (flat_map clauses_of (values cs.buckets)) all → IsNonDecreasingBy (λ c. c.id) all → map (stored_of cs.literal_buffer.items) all ≡ es
   gathered all p up =
       same_from_permutation es _ (above_from 0 _ es f.rise)
       (IsPermutation-trans es _ _ in_other_order (IsPermutation-map (stored_of cs.literal_buffer.items) _ all p))
@@ -83,7 +83,7 @@ module _ (h : ClauseHasher) (cs : Clauses) (es : List Stored) (f : IsIndexed h c
       ids-same (x ∷ xs) = cc (ids-same xs)
 
   -- they lie in the buffer
-  all_within : (xs : List (ℕ × SmallVec Clause)) → All (λ e. get nat_eq cs.buckets e.0 ≡ Some e.1) xs → All (λ c. IsWithin c.lits cs.literal_buffer.items) (flat_map (λ b. b.items) (values_of xs))
+  all_within : (xs : List (ℕ × Bucket)) → All (λ e. get nat_eq cs.buckets e.0 ≡ Some e.1) xs → All (λ c. IsWithin c.lits cs.literal_buffer.items) (flat_map clauses_of (values_of xs))
   all_within [] found = All-nil (λ c. IsWithin c.lits cs.literal_buffer.items)
   all_within (e ∷ xs) found =
       let P : Clause → Type 0 = λ c. IsWithin c.lits cs.literal_buffer.items in
@@ -91,8 +91,8 @@ module _ (h : ClauseHasher) (cs : Clauses) (es : List Stored) (f : IsIndexed h c
       (subst (λ o. All P (bucket_items o)) (found 0 e (omega arith)) (f.within e.0))
       (all_within xs (λ k d l. found (suc k) d (omega arith)))
 
-  pub walked_within : All (λ c. IsWithin c.lits cs.literal_buffer.items) (flat_map (λ b. b.items) (values cs.buckets))
+  pub walked_within : All (λ c. IsWithin c.lits cs.literal_buffer.items) (flat_map clauses_of (values cs.buckets))
   walked_within = all_within _ (found_all cs.literal_buffer.items cs.buckets unique)
 
-  pub gathered_within : (all : List Clause) → IsPermutation (flat_map (λ b. b.items) (values cs.buckets)) all → All (λ c. IsWithin c.lits cs.literal_buffer.items) all
+  pub gathered_within : (all : List Clause) → IsPermutation (flat_map clauses_of (values cs.buckets)) all → All (λ c. IsWithin c.lits cs.literal_buffer.items) all
   gathered_within all p = All-permutation (λ c. IsWithin c.lits cs.literal_buffer.items) _ all p walked_within

@@ -4,22 +4,22 @@ use Rattle.std.proofs.Common.{None, Some, Result, Ok, Err, OnOk, OnErr, refl, sy
 use Rattle.std.specs.HashMap.{get}
 use Rattle.std.proofs.lemmas.Bool.{eqb-true}
 use Rattle.std.proofs.lemmas.List.{drop_more}
-use Rattle.smallvec.specs.SmallVec.{SmallVec}
 use Rattle.checker_rules.specs.Passes.{CheckAnswer, walk_buckets}
 use Rattle.clause_store.specs.declared.clauses.Clause.{Clause}
+use Rattle.clause_store.specs.declared.clauses.buckets.Bucket.{Bucket}
 use Rattle.clause_store.specs.declared.clauses.units.UnitClause.{UnitClause}
 use Rattle.clause_store.specs.declared.rup.Answer.{Answer}
 use Rattle.clause_store.specs.declared.rup.idle.IdleBuckets.{IdleBuckets}
 use Rattle.clause_store.specs.declared.rup.propagation.Propagation.{Propagation}
-use Rattle.clause_store.specs.Buckets.{Buckets, bucket_items, clauses_at}
+use Rattle.clause_store.specs.Buckets.{Buckets, clauses_at, clauses_of}
 use Rattle.clause_store.specs.Idle.{AreIdle, IsIdleRun, IsIdleSince, Lengthens, LengthensRun, idle_at}
 use Rattle.clause_store.specs.Rup.{Walks, WalksFirst, answer_or, check_answer, lits_at, lits_in, named_buckets, true_lits}
 use Rattle.clause_store.specs.Trace.{Lists, ids_after, named_clauses}
 use Rattle.clause_store.specs.View.{stored_in, stored_of}
 
 -- the clauses of the bucket that was found
-pub clauses_at-found : (m : Buckets) (h : ℕ) (b : SmallVec Clause) (cs : List Clause) → Some b ≡ get nat_eq m h → cs ≡ b.items → clauses_at m h ≡ cs
-clauses_at-found m h b cs found is = cc
+pub clauses_at-found : (m : Buckets) (h : ℕ) (b : Bucket) → Some b ≡ get nat_eq m h → clauses_at m h ≡ clauses_of b
+clauses_at-found m h b found = cc
 
 -- one walk after another
 pub lengthens_then : {A : Type 0} (x y z : A) (n m k : ℕ) → Lengthens x n y m → Lengthens y m z k → Lengthens x n z k

@@ -4,6 +4,7 @@ pub mod BucketLemmas
 pub mod BufferLemmas
 pub mod CheckLemmas
 pub mod ColumnLemmas
+pub mod CrowdLemmas
 pub mod DeleteLemmas
 pub mod DeletedLemmas
 pub mod EditLemmas
@@ -17,7 +18,10 @@ pub mod HeldLemmas
 pub mod IdleLemmas
 pub mod LongLemmas
 pub mod MoveLemmas
+pub mod PlaceWalks
+pub mod PlacedLemmas
 pub mod ReadyLemmas
+pub mod RenameLemmas
 pub mod RefusalLemmas
 pub mod SameListLemmas
 pub mod StatusLemmas

@@ -5,7 +5,7 @@ use Rattle.std.specs.List.{flat_map, list_all, sum_by}
 use Rattle.std.specs.List.Sorted.{IsPermutation}
 use Rattle.std.specs.Map.{lookup, values_of}
 use Rattle.std.proofs.lemmas.Bool.{and_parts, cases_eq, ne_eqb, not-true}
-use Rattle.std.proofs.lemmas.List.{length-take, map-append, map_more, take-take}
+use Rattle.std.proofs.lemmas.List.{length-take, map-append, take-take}
 use Rattle.std.proofs.lemmas.List.Elements.{All-push}
 use Rattle.std.proofs.lemmas.List.Sorted.{sum_by-IsPermutation}
 use Rattle.std.proofs.lemmas.List.Sums.{sum_by-cons}
@@ -17,8 +17,8 @@ use Rattle.checker_rules.specs.Store.{is_gone}
 use Rattle.checker_rules.proofs.Orders.{live_literals_add}
 use Rattle.clause_store.specs.declared.clauses.Clause.{Clause}
 use Rattle.clause_store.specs.declared.clauses.lits.ClauseLits.{ClauseLits}
-use Rattle.smallvec.specs.SmallVec.{SmallVec}
-use Rattle.clause_store.specs.Buckets.{AreWithin, Buckets, bucket_items, clauses_at}
+use Rattle.clause_store.specs.declared.clauses.buckets.Bucket.{Bucket}
+use Rattle.clause_store.specs.Buckets.{AreWithin, Buckets, clauses_at, clauses_of}
 use Rattle.clause_store.specs.Lits.{IsWithin, lits_of}
 use Rattle.clause_store.specs.Store.{is_whole}
 use Rattle.clause_store.specs.View.{stored_in, stored_of}
@@ -39,22 +39,22 @@ long_all buffer (c ∷ cs) h zero d l =
 long_all buffer (c ∷ cs) h (suc k) d l = long_all buffer cs (and_parts _ _ h).1 k d (omega arith)
 
 -- one clause more is moved
-module _ (buffer old new : List ℕ) (all moved : List Clause) (i : ℕ) (c : Clause) (ls : ClauseLits) (here : c ≡ get_or all i c)
-    (before : i < length all) (kept : take (length old) new ≡ old) (lits : lits_of ls new ≡ lits_of c.lits buffer) where
-  pub moved-same : All (λ c. IsWithin c.lits old) moved → map (stored_of old) moved ≡ map (stored_of buffer) (take i all) →
-      map (stored_of new) (moved ++ record c { lits = ls } ∷ []) ≡ map (stored_of buffer) (take (i + 1) all)
+module _ (buffer old new : List ℕ) (done more moved : List Clause) (c : Clause) (ls : ClauseLits) (next : more ≡ done ++ c ∷ [])
+    (kept : take (length old) new ≡ old) (lits : lits_of ls new ≡ lits_of c.lits buffer) where
+  pub moved-same : All (λ c. IsWithin c.lits old) moved → map (stored_of old) moved ≡ map (stored_of buffer) done →
+      map (stored_of new) (moved ++ record c { lits = ls } ∷ []) ≡ map (stored_of buffer) more
   moved-same within same =
-      cc (map-append (stored_of new) moved (record c { lits = ls } ∷ []), stored_of-kept old new kept moved within, map_more (stored_of buffer) all i c before)
+      cc (map-append (stored_of new) moved (record c { lits = ls } ∷ []), stored_of-kept old new kept moved within, next, map-append (stored_of buffer) done (c ∷ []))
 
   pub moved-within : All (λ c. IsWithin c.lits old) moved → length old ≤ length new → IsWithin ls new → All (λ c. IsWithin c.lits new) (moved ++ record c { lits = ls } ∷ [])
   moved-within within longer inside = All-push (λ c. IsWithin c.lits new) moved _ (λ k d l. let w = within k d l in omega arith) inside
 
   pub moved-used : (base : ℕ) → length new ≡ length old + live_of (lits_of c.lits buffer) →
-      length old ≡ base + live_literals (map (stored_of buffer) (take i all)) →
-      length new ≡ base + live_literals (map (stored_of buffer) (take (i + 1) all))
+      length old ≡ base + live_literals (map (stored_of buffer) done) →
+      length new ≡ base + live_literals (map (stored_of buffer) more)
   moved-used base grown used =
-      let more : live_literals (map (stored_of buffer) (take i all)) + live_of (lits_of c.lits buffer) ≡ live_literals (map (stored_of buffer) (take (i + 1) all)) =
-      cc (live_literals_add.pushed (map (stored_of buffer) (take i all)) (stored_of buffer c), map_more (stored_of buffer) all i c before) in
+      let added : live_literals (map (stored_of buffer) done) + live_of (lits_of c.lits buffer) ≡ live_literals (map (stored_of buffer) more) =
+      cc (live_literals_add.pushed (map (stored_of buffer) done) (stored_of buffer c), next, map-append (stored_of buffer) done (c ∷ [])) in
       omega arith
 
 -- what stood first stays so
@@ -76,14 +76,14 @@ pub live_literals-order : (es fs : List Stored) → IsPermutation es fs → live
 live_literals-order es fs p = cc (live_literals-sum fs, sum_by-IsPermutation (λ e. live_of e.lits) es fs p, live_literals-sum es)
 
 -- the clauses of a list of buckets
-abbrev pub clauses_in : List (ℕ × SmallVec Clause) → List Clause
-clauses_in es = flat_map (λ b. b.items) (values_of es)
+abbrev pub clauses_in : List (ℕ × Bucket) → List Clause
+clauses_in es = flat_map clauses_of (values_of es)
 
 -- one bucket more is moved, and the others still are to be
-module _ (buffer old new : List ℕ) (m moved moved' : Buckets) (hash : ℕ) (b : SmallVec Clause) (rest : List (ℕ × SmallVec Clause))
+module _ (buffer old new : List ℕ) (m moved moved' : Buckets) (hash : ℕ) (b : Bucket) (rest : List (ℕ × Bucket))
     (within : AreWithin old moved) (kept : take (length old) new ≡ old)
     (others : (k : ℕ) → (k ≡ hash → ⊥) → clauses_at moved' k ≡ clauses_at moved k) where
-  pub bucket-same : get nat_eq m hash ≡ Some b → stored_in new moved' hash ≡ map (stored_of buffer) b.items →
+  pub bucket-same : get nat_eq m hash ≡ Some b → stored_in new moved' hash ≡ map (stored_of buffer) clauses_of b →
       ((k : ℕ) → lookup (nat_eq k) ((hash, b) ∷ rest) ≡ None → stored_in old moved k ≡ stored_in buffer m k) →
       (k : ℕ) → lookup (nat_eq k) rest ≡ None → stored_in new moved' k ≡ stored_in buffer m k
   bucket-same found here same k none =
@@ -95,13 +95,13 @@ module _ (buffer old new : List ℕ) (m moved moved' : Buckets) (hash : ℕ) (b 
   pub bucket-within : length old ≤ length new → All (λ c. IsWithin c.lits new) (clauses_at moved' hash) → AreWithin new moved'
   bucket-within longer here = within_others new moved moved' hash (λ k i c l. let w = within k i c l in omega arith) here others
 
-  pub bucket-used : (before : ℕ) → length new ≡ length old + live_literals (map (stored_of buffer) b.items) →
+  pub bucket-used : (before : ℕ) → length new ≡ length old + live_literals (map (stored_of buffer) clauses_of b) →
       length old + live_literals (map (stored_of buffer) (clauses_in ((hash, b) ∷ rest))) ≡ before →
       length new + live_literals (map (stored_of buffer) (clauses_in rest)) ≡ before
   bucket-used before grown used =
       let parts : live_literals (map (stored_of buffer) (clauses_in ((hash, b) ∷ rest))) ≡
-      live_literals (map (stored_of buffer) b.items) + live_literals (map (stored_of buffer) (clauses_in rest)) =
-      cc (map-append (stored_of buffer) b.items (clauses_in rest), live_literals-append (map (stored_of buffer) b.items) (map (stored_of buffer) (clauses_in rest))) in
+      live_literals (map (stored_of buffer) clauses_of b) + live_literals (map (stored_of buffer) (clauses_in rest)) =
+      cc (map-append (stored_of buffer) clauses_of b (clauses_in rest), live_literals-append (map (stored_of buffer) clauses_of b) (map (stored_of buffer) (clauses_in rest))) in
       omega arith
 
 -- new buckets hold the clauses by their hashes, where they were made of the same clauses

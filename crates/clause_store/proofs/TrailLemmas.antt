@@ -42,11 +42,6 @@ pub freed-push : (ms : List ℕ) (m : ℕ) → freed (ms ++ m ∷ []) ≡ freed 
 freed-push [] m = refl
 freed-push (k ∷ ms) m = cc (freed-push ms m)
 
--- the variable of the newest literal is known
-pub trail-last : (us : List (Option UnitClause)) (rest : List (ℕ × Option UnitClause)) (t : ℕ × Option UnitClause) → IsTrailFor us (rest ++ t ∷ []) → var_of t.0 < length us
-trail-last us [] t known = known 0 t (omega arith)
-trail-last us (x ∷ rest) t known = trail-last us rest t (λ k d h. known (suc k) d (omega arith))
-
 -- a variable of the trail is known
 pub freed-known : (us : List (Option UnitClause)) (ms : List ℕ) (i m : ℕ) → IsTrailFor us (freed ms) → i < length ms → m ≡ get_or ms i m → var_of m < length us
 freed-known us [] i m known less is = absurd (omega arith)

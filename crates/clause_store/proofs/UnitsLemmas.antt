@@ -1,6 +1,7 @@
 -- The literals that the values make true.
 use Rattle.std.proofs.Common.{◌≡◌, ℕ, zero, suc, ◌<◌, Bool, true, false, not, ◌||◌, eqb, List, [], ◌∷◌, length, set, Option, None, Some, ⊎_elim, refl, sym, ap, ◌∙◌, arith}
-use Rattle.std.specs.Option.{option_map}
+use Rattle.std.proofs.Math.Bool.{beq}
+use Rattle.std.specs.Option.{option_eq, option_map}
 use Rattle.std.proofs.lemmas.Bool.{cases_eq, eq-eqb, ne_eqb}
 use Rattle.std.proofs.lemmas.Bool.Decides.{nat_tests}
 use Rattle.std.proofs.lemmas.Grind.{get_or-set_at}
@@ -27,6 +28,16 @@ truth (Some b) = b
 abbrev pub falsity : Option Bool → Bool
 falsity None = false
 falsity (Some b) = not b
+
+pub eq-falsity : (o : Option Bool) → option_eq beq o (Some false) ≡ falsity o
+eq-falsity None = refl
+eq-falsity (Some true) = refl
+eq-falsity (Some false) = refl
+
+pub falsity-is : (o : Option Bool) → falsity o ≡ true → o ≡ Some false
+falsity-is None h = cc
+falsity-is (Some true) h = cc
+falsity-is (Some false) h = refl
 
 makes_true-truth : (o : Option UnitClause) (m : ℕ) → makes_true (option_map stored_unit o) m ≡ truth (value_by o m)
 makes_true-truth None m = refl

@@ -1,22 +1,29 @@
 -- The stored clauses by their hashes.
-use Rattle.std.specs.Prelude.{ℕ, ◌+◌, nat_eq, ◌==◌, Bool, if◌then◌else◌, List, [], Option, None, Some, All}
+use Rattle.std.specs.Prelude.{ℕ, ◌+◌, nat_eq, ◌==◌, Bool, if◌then◌else◌, List, [], ◌∷◌, Option, None, Some, All}
 use Rattle.std.specs.HashMap.{HashMap, get}
 use Rattle.std.specs.declared.hash.FoldHasher.{FoldHasher}
 use Rattle.std.specs.declared.hash.BuildHasherDefault.{BuildHasherDefault}
-use Rattle.smallvec.specs.SmallVec.{SmallVec}
 use Rattle.clause_store.specs.declared.clauses.Clause.{Clause}
+use Rattle.clause_store.specs.declared.clauses.buckets.Bucket.{Bucket}
+use Rattle.clause_store.specs.declared.clauses.buckets.Bucket.TheVariants.{One, Many}
 use Rattle.clause_store.specs.declared.clauses.lits.ClauseLits.{ClauseLits}
 use Rattle.checker_rules.specs.Canonical.{same_list}
+use Rattle.clause_store.specs.Crowds.{standing}
 use Rattle.clause_store.specs.Lits.{IsWithin, lits_of}
 
 -- a map from hashes to buckets
 abbrev pub Buckets : Type 0
-Buckets = HashMap ℕ (SmallVec Clause) (BuildHasherDefault FoldHasher)
+Buckets = HashMap ℕ Bucket (BuildHasherDefault FoldHasher)
 
--- the clauses of a bucket that may be missing
-abbrev pub bucket_items : Option (SmallVec Clause) → List Clause
+-- the clauses of a bucket, in order
+abbrev pub clauses_of : Bucket → List Clause
+clauses_of (One c) = c ∷ []
+clauses_of (Many b) = standing b.value.places.items
+
+-- the same, where the bucket may be missing
+abbrev pub bucket_items : Option Bucket → List Clause
 bucket_items None = []
-bucket_items (Some b) = b.items
+bucket_items (Some b) = clauses_of b
 
 -- the clauses with a hash, in order
 abbrev pub clauses_at : Buckets → ℕ → List Clause

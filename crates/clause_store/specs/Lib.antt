@@ -2,6 +2,7 @@ pub mod Buckets
 pub mod CheckLaw
 pub mod Counts
 pub mod CountsByCode
+pub mod Crowds
 pub mod Delete
 pub mod Edits
 pub mod Found

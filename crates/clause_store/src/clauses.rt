@@ -6,6 +6,7 @@ ghost use Rattle.checker_rules.specs.Store.{id_limit};
 pub mod buckets;
 pub mod collect;
 pub mod counts;
+pub mod crowd;
 pub mod delete;
 pub mod lits;
 pub mod lower;
@@ -31,18 +32,6 @@ pub struct Clause {
     pub irredundant: u32,
     pub redundant: u32,
     pub lits: ClauseLits,
-}
-
-// What fills an unused place of a bucket.
-impl Default for Clause {
-    fn default() -> Clause {
-        Clause {
-            id: 0,
-            irredundant: 0,
-            redundant: 0,
-            lits: ClauseLits::Long { start: 0, len: 0 },
-        }
-    }
 }
 
 /// What storing a clause did.

@@ -1,13 +1,14 @@
 //! The hash of a clause under the solver's names for its variables.
-ghost use Rattle.std.specs.Prelude.{◌≡◌, ◌<◌, ◌≤◌, ◌/◌, [], ℕ, List, None, IfOk, OnOk, false, map};
+ghost use Rattle.std.specs.Prelude.{◌≡◌, ◌<◌, ◌≤◌, ◌/◌, [], ℕ, List, None, IfOk, OnOk, false, map, nat_lt, slice_index, ◌+◌, ◌*◌, ◌||◌};
 ghost use Rattle.checker_rules.specs.Check.{apply_if_named, apply_name, apply_names, apply_pending};
 ghost use Rattle.checker_rules.specs.State.{Known, named_hash, xor_hash};
-ghost use Rattle.sat_formula.specs.Vars.{indexes_of};
+ghost use Rattle.sat_formula.specs.Vars.{index_of, indexes_of};
 ghost use Rattle.clause_store.specs.StateOf.{state_of};
 ghost use Rattle.clause_store.specs.Store.{IsStore};
-ghost use Rattle.clause_store.specs.Names.{indexes, names_of};
+ghost use Rattle.clause_store.specs.Names.{AgreeOnHeld, indexes, names_of};
 
 use crate::clauses::Clauses;
+use crate::clauses::counts::LitCounts;
 use crate::clauses::rebuild::rebuild_buckets;
 use crate::pending::PendingNames;
 use crate::state::CheckerState;
@@ -103,7 +104,8 @@ fn unnamed_lit_hash(lit: Lit) -> ClauseHash
 }
 
 /// Sets the width, applies the pending names and removals, and puts every clause into the bucket of
-/// its hash. Where no hash changes no clause is moved. After an error the parts are of no use.
+/// its hash. Where no hash changes no clause is moved, nor where the names that change are those of
+/// variables in no clause. After an error the parts are of no use.
 pub fn rehash(
     alloc: Global,
     hasher: &mut ClauseHasher,
@@ -118,7 +120,8 @@ pub fn rehash(
         ≡ apply_pending (record (state_of st hasher.old clauses.old known) { width = bits })) }
     ensures store { OnOk result (IsStore hasher.new clauses.new) }
 {
-    let renamed = apply_names(&mut hasher.solver_names, &hasher.pending.entries)?;
+    let names = &mut hasher.solver_names;
+    let renamed = apply_names(names, &hasher.pending.entries, &clauses.lit_counts)?;
     hasher.pending.clear();
     if !renamed && hasher.hash_bits == bits {
         return Ok(());
@@ -148,21 +151,48 @@ pub fn apply_pending_names(
     }
 }
 
-/// Applies names and removals in order, and answers whether one of them changed a name.
+/// Applies names and removals in order, and answers whether one of them changed the name of a
+/// variable that a counted clause holds.
 fn apply_names(
     names: &mut HashMap<usize, Var>,
     pending: &[(Var, Option<Var>)],
+    counts: &LitCounts,
 ) -> Result<bool, AllocError>
     ensures applied { OnOk result (names_of names.new
         ≡ apply_names (names_of names.old) (map indexes pending.now)) }
     ensures changed { IfOk result (λ changed. changed ≡ false
-        → names_of names.new ≡ names_of names.old) }
+        → AgreeOnHeld counts.now (names_of names.old) (names_of names.new)) }
 {
     let mut changed = false;
     for (var, name) in pending {
-        changed |= apply_name(names, var.index(), *name)?;
+        changed |= rename(names, *var, *name, counts)?;
     }
     Ok(changed)
+}
+
+/// Names a variable, or takes its name away, and answers whether that changed the name of a
+/// variable that a counted clause holds.
+fn rename(
+    names: &mut HashMap<usize, Var>,
+    var: Var,
+    name: Option<Var>,
+    counts: &LitCounts,
+) -> Result<bool, AllocError>
+    ensures applied { OnOk result (names_of names.new
+        ≡ apply_name (names_of names.old) (index_of var, indexes_of name)) }
+    ensures changed { IfOk result (λ changed. changed ≡ false
+        → AgreeOnHeld counts.now (names_of names.old) (names_of names.new)) }
+{
+    let renamed = apply_name(names, var.index(), name)?;
+    Ok(renamed && is_held(counts, var))
+}
+
+/// Whether a counted clause holds a literal of the variable.
+fn is_held(counts: &LitCounts, var: Var) -> bool
+    ensures { result ≡ (nat_lt 0 (slice_index counts.now (2 * index_of var))
+        || nat_lt 0 (slice_index counts.now (2 * index_of var + 1))) }
+{
+    counts.get(var.lit(true)).clause_count > 0 || counts.get(var.lit(false)).clause_count > 0
 }
 
 /// Names a variable, or takes its name away, and answers whether that changed its name.

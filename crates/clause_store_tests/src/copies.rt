@@ -32,7 +32,7 @@ fn full(alloc: Global, lits: [Lit; 2]) -> Result<Buckets, Fail>
         lits: ClauseLits::Two(lits),
     };
     let mut buckets = HashMap::new(alloc);
-    push_clause(alloc, &mut buckets, 5, clause)?;
+    push_clause(alloc, &mut buckets, 5, clause, &lits)?;
     Ok(buckets)
 }
 

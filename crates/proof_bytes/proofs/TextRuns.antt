@@ -1,28 +1,26 @@
 -- What a loop over `next_step` keeps, and how it ends.
 --     SoFar      what was taken and accepted so far; `nothing_yet` begins it, `one_more` is a turn of the loop
---     run_refused, run_faulted, run_exhausted, run_closed      how it ends; `run_before` where a call in it gave up
---     run_of_known      over a reader that tells its bytes
+--     run_ends      how it ends
+--     of_text, all_taken, some_taken      what was taken is the reader's text, or its beginning
 use Rattle.std.proofs.Common.{◌≡◌, ◌⊎◌, ℕ, Bool, true, false, ltb, List, [], ◌∷◌, ◌++◌, Option, Some, None, Ok, Err, refl, sym, ap, subst, ◌∙◌, inl, inr, append-nil, append_assoc, arith}
 use Rattle.std.proofs.lemmas.Bool.{false≢true}
 use Rattle.std.specs.Io.KnownBytes.{Consumes, IsAtEnd}
 use Rattle.std.proofs.KnownBytes.{Consumes-trans, Consumes-nil}
 use Rattle.checker_rules.specs.Calls.{attempt, closing_conflict, count_step, step_limit}
 use Rattle.checker_rules.specs.Outcome.{Cause, Outcome, steps_exhausted}
-use Rattle.checker_rules.specs.Run.{Runs, Stop, after_attempt, after_read, as_answer, move}
+use Rattle.checker_rules.specs.Run.{Runs, after_attempt, after_read, as_answer, move}
 use Rattle.checker_rules.specs.State.{State}
 use Rattle.checker_rules.specs.Step.{Step, solver_var_name, user_var_name, delete_var, change_sampling_mode, add_clause, at_clause}
 use Rattle.checker_rules.specs.Step.{delete_clause, unit_clauses, change_hash_bits, model, assumptions, failed_assumptions, end_proof}
 use Rattle.checker_rules.proofs.Openings.{attempt-counted}
 use Rattle.checker_rules.proofs.StepKinds.{step-end_proof}
-use Rattle.proof_bytes.specs.declared.fault.ProofFault.{ProofFault}
-use Rattle.proof_bytes.specs.declared.fault.ProofFault.TheVariants as proof_faults
 use Rattle.proof_bytes.specs.declared.format.Format.{Format}
 use Rattle.proof_bytes.specs.declared.format.Format.TheVariants as formats
 use Rattle.proof_bytes.specs.NextStep.{is_end}
-use Rattle.proof_bytes.specs.Reading.{Fault, Short, Wrong}
+use Rattle.proof_bytes.specs.Reading.{Fault}
 use Rattle.proof_bytes.specs.Steps.{next_at}
-use Rattle.proof_bytes.specs.Taking.{IsBytes, Leads, Faults, stop_of}
-use Rattle.proof_bytes.specs.TextRuns.{Answer, BeginsTextOf, IsTextOf, RunsBefore, RunsOver, RunsTo, RunsToFault}
+use Rattle.proof_bytes.specs.Taking.{IsBytes, Leads}
+use Rattle.proof_bytes.specs.TextRuns.{Answer, BeginsTextOf, IsTextOf, RunsTo}
 use Rattle.proof_bytes.specs.Texts.{Place, next_of, start_of, step_or_fault}
 use Rattle.proof_bytes.proofs.Leading.{Known, bytes_on}
 
@@ -32,9 +30,6 @@ use Rattle.proof_bytes.proofs.Leading.{Known, bytes_on}
 pub record MayRead (t : State) : Type 0 where
   pub going : t.ended ≡ false
   pub counted : ltb t.steps step_limit ≡ true
-
-abbrev ends : Answer → State → (Step × Place) ⊎ Stop Fault
-ends answer r = inr (answer, r)
 
 move_reads : (t : State) (place : Place) → MayRead t → move next_of t place ≡ after_read t (next_of place)
 move_reads t place h = rw (h.going, h.counted) refl
@@ -135,12 +130,6 @@ of_text P None new taken bytes consumed h = (taken, bytes, subst P (append-nil t
 of_text P (Some known) None taken bytes consumed h = absurd consumed
 of_text P (Some known) (Some rest) taken bytes consumed h = (taken ++ rest, consumed, h rest)
 
-over : (known new : Known) (taken : List ℕ) (s : State) (steps : List Step) (answer : Answer) (r : State) → IsBytes taken →
-    Consumes known new taken → ((more : List ℕ) → Runs next_of s (start_of (taken ++ more)) steps answer r) →
-    RunsOver known s steps answer r
-over known new taken s steps answer r bytes consumed runs =
-    let k = of_text (λ (text : List ℕ). Runs next_of s (start_of text) steps answer r) known new taken bytes consumed runs in record { text = k.0; is_text = k.1; runs = k.2 }
-
 pub all_taken : (known new : Known) (taken : List ℕ) → IsBytes taken → Consumes known new taken → IsAtEnd new → IsTextOf known taken
 all_taken None new taken bytes consumed end = bytes
 all_taken (Some known) None taken bytes consumed end = absurd consumed
@@ -150,71 +139,3 @@ pub some_taken : (known new : Known) (taken : List ℕ) → IsBytes taken → Co
 some_taken None new taken bytes consumed = bytes
 some_taken (Some known) None taken bytes consumed = absurd consumed
 some_taken (Some known) (Some rest) taken bytes consumed = (rest, consumed)
-
-module _ {old now : Known} {s t : State} {steps : List Step} {format : Format} (p : SoFar old now s steps t format) where
-  ended_by : (answer : Answer) (r : State) → ((place : Place) → move next_of t place ≡ inr (answer, r)) → RunsOver old s steps answer r
-  ended_by answer r e = over old now p.taken s steps answer r p.bytes p.consumed (λ more. run_ends s (start_of (p.taken ++ more)) steps t (format, more) answer r (p.goes more) (e (format, more)))
-
-  -- no step number was left
-  pub run_exhausted : t.ended ≡ false → ltb t.steps step_limit ≡ false → RunsOver old s steps (Some (inl steps_exhausted)) t
-  run_exhausted going none = ended_by (Some (inl steps_exhausted)) t (λ place. move_exhausted t place going none)
-
-  -- `End` was accepted, now or before
-  pub run_closed : (refused : Option Cause) (r : State) → t.ended ≡ true → (closing_conflict t).refused ≡ refused → r ≡ (closing_conflict t).after → RunsOver old s steps (as_answer refused) r
-  run_closed refused r ended answers leaves =
-      ended_by (as_answer refused) r (λ place. move_closed t place ended ∙ ap
-      (λ (a : Option Cause). ends (as_answer a) (closing_conflict t).after) answers ∙ ap (λ (v : State). ends (as_answer refused) v)
-      (sym leaves))
-
-  run_more : (new : Known) (answer : Answer) (r : State) (taken : List ℕ) → IsBytes taken → Consumes now new taken →
-      ((more : List ℕ) → move next_of t (format, taken ++ more) ≡ inr (answer, r)) → RunsOver old s steps answer r
-  run_more new answer r taken bytes consumed e =
-      over old new (p.taken ++ taken) s steps answer r (bytes_on p.taken taken p.bytes bytes) (Consumes-trans old now new p.taken taken p.consumed consumed)
-      (λ more. subst (λ (text : List ℕ). Runs next_of s (start_of text) steps answer r) (sym (append_assoc p.taken taken more))
-      (run_ends s (start_of (p.taken ++ (taken ++ more))) steps t (format, taken ++ more) answer r (p.goes (taken ++ more)) (e more)))
-
-  -- the step that was read is refused
-  pub run_refused : {new : Known} {next : Format} {step : Step} (cause : Cause) (r : State) →
-      Leads now new (next_at format) (λ more. Ok ((next, step), more)) → MayRead t → (attempt t step).refused ≡ Some cause →
-      r ≡ (attempt t step).after → RunsOver old s steps (Some (inl cause)) r
-  run_refused {new} {next} {step} cause r q h refused leaves =
-      run_more new (Some (inl cause)) r q.taken q.bytes q.consumed
-      (λ more. move_step t (format, q.taken ++ more) (next, more) step (Some cause) h (q.same more) refused ∙ ap
-      (λ (v : State). ends (Some (inl cause)) v) (sym leaves))
-
-  faulted : (fault : Fault) (r : State) (place : Place) → MayRead t → r ≡ count_step t → next_at place.0 place.1 ≡ Err fault → move next_of t place ≡ ends (Some (inr fault)) r
-  faulted fault r place h leaves e = move_fault t place fault h e ∙ ap (λ (v : State). ends (Some (inr fault)) v) (sym leaves)
-
-  -- what was read ends within a step, or before one
-  short : (r : State) (taken : List ℕ) → MayRead t → r ≡ count_step t → next_at format taken ≡ Err Short → Runs next_of s (start_of (p.taken ++ taken)) steps (Some (inr Short)) r
-  short r taken h leaves e = run_ends s (start_of (p.taken ++ taken)) steps t (format, taken) (Some (inr Short)) r (p.goes taken) (faulted Short r (format, taken) h leaves e)
-
-  -- nothing is said of what comes next
-  pub run_before : RunsBefore old s steps t
-  run_before = record {
-    text = p.taken;
-    begins = some_taken old now p.taken p.bytes p.consumed;
-    there = (format, []);
-    runs = subst (λ (text : List ℕ). RunsTo s (start_of text) steps t (format, [])) (append-nil p.taken) (p.goes []);
-  }
-
-  -- no step was read
-  pub run_faulted : {new : Known} (fault : ProofFault) (r : State) → Faults now new (stop_of fault) (next_at format) → MayRead t → r ≡ count_step t → RunsToFault old s steps fault t r
-  run_faulted {new} proof_faults.End r q h leaves = record {
-    text = p.taken ++ q.taken;
-    is_text = all_taken old new (p.taken ++ q.taken) (bytes_on p.taken q.taken p.bytes q.bytes) (Consumes-trans old now new p.taken q.taken p.consumed q.consumed) q.is_fault.1;
-    runs = short r q.taken h leaves q.is_fault.0;
-  }
-  run_faulted {new} (proof_faults.Read e) r q h leaves = record {
-    text = p.taken ++ q.taken;
-    begins = some_taken old new (p.taken ++ q.taken) (bytes_on p.taken q.taken p.bytes q.bytes) (Consumes-trans old now new p.taken q.taken p.consumed q.consumed);
-    runs = short r q.taken h leaves q.is_fault;
-  }
-  run_faulted {new} (proof_faults.Malformed kind) r q h leaves =
-      run_more new (Some (inr (Wrong kind))) r q.taken q.bytes q.consumed
-      (λ more. faulted (Wrong kind) r (format, q.taken ++ more) h leaves (q.is_fault more))
-  run_faulted {new} proof_faults.OutOfMemory r q h leaves = run_before
-
--- over a reader that tells its bytes
-pub run_of_known : {text : List ℕ} {s : State} {steps : List Step} {answer : Answer} {r : State} → RunsOver (Some text) s steps answer r → Runs next_of s (start_of text) steps answer r
-run_of_known {text} {s} {steps} {answer} {r} p = rw p.is_text p.runs

@@ -9,13 +9,16 @@ use proof_bytes::{ClauseHash, ProofStep};
 use std::alloc::Global;
 use std::process::Abort;
 use std::test::Fail;
+use varisat_checker::clauses::rebuild::append_bucket;
 use varisat_checker::context::Context;
 
 /// The ids of the clauses in the bucket of a hash.
-fn ids_in(alloc: Global, ctx: &Context, hash: ClauseHash) -> Result<Vec<u64>, Fail> {
+pub fn ids_in(alloc: Global, ctx: &Context, hash: ClauseHash) -> Result<Vec<u64>, Fail> {
     let mut ids = Vec::new(alloc);
     if let Some(bucket) = ctx.clauses.buckets.get(&hash) {
-        for clause in bucket.as_slice() {
+        let mut clauses = Vec::new(alloc);
+        append_bucket(&mut clauses, bucket)?;
+        for clause in &clauses {
             ids.push(clause.id)?;
         }
     }

@@ -9,6 +9,8 @@ mod boxed_writer;
 #[cfg(test)]
 mod buckets;
 #[cfg(test)]
+mod crowds;
+#[cfg(test)]
 mod parts;
 #[cfg(test)]
 mod steps;

@@ -1,5 +1,5 @@
 //! Input clauses.
-ghost use Rattle.std.specs.Prelude.{◌≡◌, ◌≤◌, List, None, Ok, OnOk, length, true, ◌+◌, ◌<◌, IfOk};
+ghost use Rattle.std.specs.Prelude.{◌≡◌, ◌≤◌, List, None, Ok, OnOk, length, true, false, ◌+◌, ◌<◌, IfErr, IfOk};
 ghost use Rattle.std.specs.Option.{option_map};
 ghost use Rattle.sat_rules.specs.Clauses.{is_canonical, is_tautology};
 ghost use Rattle.checker_rules.specs.AddClause.{store_input};
@@ -9,16 +9,18 @@ ghost use Rattle.checker_rules.specs.KnownVars.{know_clause};
 ghost use Rattle.checker_rules.specs.State.{Known};
 ghost use Rattle.checker_rules.specs.Step as rules;
 ghost use Rattle.checker_rules.specs.Steps.{step};
-ghost use Rattle.checker_rules.specs.Store.{id_limit};
+ghost use Rattle.checker_rules.specs.Store.{count_limit, count_of, id_limit};
 ghost use Rattle.checker_parts.specs.Faults.{AnswersOutcome, UnlessStopped};
 ghost use Rattle.clause_store.specs.PartsInvariant.{PartsInvariant};
 ghost use Rattle.clause_store.specs.StateOf.{state_of};
-ghost use Rattle.clause_store.specs.Store.{IsStore};
+ghost use Rattle.clause_store.specs.Store.{IsStore, UnlessOutOfMemory};
+ghost use Rattle.clause_store.specs.View.{stored_list};
+ghost use Rattle.clause_store.specs.declared.hash.ClauseHasher.{ClauseHasher};
 ghost use Rattle.clause_store.specs.declared.state.CheckerState.{CheckerState};
 ghost use Rattle.checker_steps.specs.Added.{emitted_of};
 ghost use Rattle.checker_steps.specs.Context.{ContextInvariant, context_state};
 ghost use Rattle.checker_steps.specs.Delivered.{DeliveredAll, DeliveredList, listeners_of};
-ghost use Rattle.checker_steps.specs.InputCause.{IsInputCause, HasCapacity, taken};
+ghost use Rattle.checker_steps.specs.InputCause.{IsEarlyCause, IsFaultOf, early_cause, taken};
 ghost use Rattle.checker_steps.specs.declared.steps.add_clause.Added.TheVariants.{Duplicate};
 
 use crate::context::ContextOf;
@@ -26,18 +28,19 @@ use crate::emit::{
     emit_add_clause, emit_duplicated_clause, emit_make_irredundant, emit_tautological_clause,
 };
 use crate::processing::ProcessingOf;
+use crate::steps::derived::store_fault;
 use crate::variables::some_not_sampling;
 use checker_parts::error::{CheckCause, StepFault};
 use checker_parts::processor::{ProofProcessor, ProofTranscriptProcessor};
 use checker_parts::sorted_lits::copy_canonical;
 use checker_parts::variables::Variables;
-use clause_store::clauses::store::{StoreFault, copies, store_clause};
+use clause_store::clauses::store::{StoreFault, store_clause};
 use clause_store::clauses::{Clauses, StoreClauseResult};
 use clause_store::hash::ClauseHasher;
 use clause_store::state::CheckerState;
 use clause_store::variables::{ensure_vars, var_bound};
 use sat_formula::Lit;
-use std::alloc::{AllocError, Global};
+use std::alloc::Global;
 
 /// Adds an input clause.
 pub fn add_clause<P: ProofProcessor, T: ProofTranscriptProcessor>(
@@ -63,7 +66,7 @@ pub fn add_clause<P: ProofProcessor, T: ProofTranscriptProcessor>(
         return Err(StepFault::OutOfMemory);
     };
     let clause = ctx.tmp_data.tmp.as_slice();
-    if let Some(cause) = cause(&ctx.clause_hasher, &ctx.clauses, &ctx.variables, clause) {
+    if let Some(cause) = early_cause(&ctx.clauses, &ctx.variables, clause) {
         return Err(StepFault::Refused(cause));
     }
     let taken = take_clause(
@@ -77,7 +80,7 @@ pub fn add_clause<P: ProofProcessor, T: ProofTranscriptProcessor>(
     );
     match taken {
         Ok(added) => emit_added(&mut ctx.processing, &ctx.variables, clause, added),
-        Err(_) => Err(StepFault::OutOfMemory),
+        Err(fault) => Err(store_fault(fault)),
     }
 }
 
@@ -125,25 +128,17 @@ fn emit_added<P: ProofProcessor, T: ProofTranscriptProcessor>(
     }
 }
 
-/// Why a canonical input clause can't be added.
-fn cause(
-    hasher: &ClauseHasher,
-    clauses: &Clauses,
-    variables: &Variables,
-    clause: &[Lit],
-) -> Option<CheckCause>
-    requires { IsStore hasher.now clauses.now }
-    ensures { (st : CheckerState) → IsInputCause result
-        (state_of st hasher.now clauses.now variables.now) clause.now }
+/// Why a canonical input clause can't be added, as far as that is told before the stored clauses
+/// are looked at.
+fn early_cause(clauses: &Clauses, variables: &Variables, clause: &[Lit]) -> Option<CheckCause>
+    ensures { (st : CheckerState) (h : ClauseHasher) → IsEarlyCause result
+        (state_of st h clauses.now variables.now) clause.now }
 {
     if some_not_sampling(variables, clause) {
         return Some(CheckCause::NotSampling);
     }
     if clauses.next_clause_id == u64::MAX {
         return Some(CheckCause::IdsExhausted);
-    }
-    if copies(hasher, clauses, clause, false) == u32::MAX {
-        return Some(CheckCause::CountExhausted);
     }
     None
 }
@@ -157,15 +152,19 @@ fn take_clause(
     variables: &mut Variables,
     clause: &[Lit],
     tautology: bool,
-) -> Result<Added, AllocError>
+) -> Result<Added, StoreFault>
     requires kept { PartsInvariant state.old hasher.now clauses.old variables.old }
-    requires room { HasCapacity (state_of state.old hasher.now clauses.old variables.old)
-        clause.now }
+    requires room { clauses.old.next_clause_id < id_limit }
     requires canonical { is_canonical clause.now ≡ true }
     requires tautology { tautology ≡ is_tautology clause.now }
     ensures state { OnOk result (state_of state.new hasher.now clauses.new variables.new
         ≡ taken (state_of state.old hasher.now clauses.old variables.old) clause.now) }
-    ensures store { OnOk result (IsStore hasher.now clauses.new) }
+    ensures store { UnlessOutOfMemory result (IsStore hasher.now clauses.new) }
+    ensures fault { IfErr result (λ fault. IsFaultOf fault clause.now
+        (state_of state.old hasher.now clauses.old variables.old)
+        (state_of state.new hasher.now clauses.new variables.new)) }
+    ensures room { OnOk result (count_of false clause.now (stored_list clauses.old)
+        < count_limit) }
     ensures emitted { IfOk result (λ added. emitted_of added clause.now variables.new
         ≡ emits_input clause.now (know_clause clause.now
         (state_of state.old hasher.now clauses.old variables.old))) }
@@ -185,17 +184,21 @@ fn store_input_clause(
     clauses: &mut Clauses,
     clause: &[Lit],
     tautology: bool,
-) -> Result<Added, AllocError>
+) -> Result<Added, StoreFault>
     requires store { IsStore hasher.now clauses.old }
-    requires room { (known : List Known)
-        → HasCapacity (state_of state.old hasher.now clauses.old known) clause.now }
+    requires room { clauses.old.next_clause_id < id_limit }
     requires known { var_bound clause.now ≤ length clauses.old.unit_clauses }
     requires canonical { is_canonical clause.now ≡ true }
     requires tautology { tautology ≡ is_tautology clause.now }
     ensures state { OnOk result ((known : List Known)
         → state_of state.new hasher.now clauses.new known
         ≡ store_input clause.now (state_of state.old hasher.now clauses.old known)) }
-    ensures store { OnOk result (IsStore hasher.now clauses.new) }
+    ensures store { UnlessOutOfMemory result (IsStore hasher.now clauses.new) }
+    ensures fault { IfErr result (λ fault. (known : List Known) → IsFaultOf fault clause.now
+        (state_of state.old hasher.now clauses.old known)
+        (state_of state.new hasher.now clauses.new known)) }
+    ensures room { OnOk result (tautology ≡ false
+        → count_of false clause.now (stored_list clauses.old) < count_limit) }
     ensures inputs { OnOk result (state.new.input_clauses ≡ state.old.input_clauses) }
     ensures emitted { IfOk result (λ added. (known : List Known)
         → emitted_of added clause.now known
@@ -206,17 +209,11 @@ fn store_input_clause(
         clauses.next_clause_id += 1;
         return Ok(Added::Tautology { id });
     }
-    match store_clause(alloc, state, hasher, clauses, clause, false) {
-        Ok((stored_id, result)) => {
-            match result {
-                StoreClauseResult::New => Ok(Added::New { id: stored_id }),
-                StoreClauseResult::Duplicate => Ok(repeated(clauses, stored_id, false)),
-                StoreClauseResult::NewlyIrredundant => Ok(repeated(clauses, stored_id, true)),
-            }
-        }
-        Err(StoreFault::OutOfMemory) => Err(AllocError),
-        Err(StoreFault::IdsExhausted) => unreachable!("an id is left"),
-        Err(StoreFault::CountExhausted) => unreachable!("a copy can be counted"),
+    let (stored_id, did) = store_clause(alloc, state, hasher, clauses, clause, false)?;
+    match did {
+        StoreClauseResult::New => Ok(Added::New { id: stored_id }),
+        StoreClauseResult::Duplicate => Ok(repeated(clauses, stored_id, false)),
+        StoreClauseResult::NewlyIrredundant => Ok(repeated(clauses, stored_id, true)),
     }
 }
 

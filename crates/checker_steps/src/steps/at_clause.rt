@@ -1,6 +1,8 @@
 //! Derived clauses.
-ghost use Rattle.std.specs.Prelude.{◌≡◌, List, Err, OnErr, OnOk};
+ghost use Rattle.std.specs.Prelude.{◌≡◌, ℕ, List, Err, OnErr, OnOk, false, true};
+ghost use Rattle.sat_rules.specs.Clauses.{is_canonical, is_tautology};
 ghost use Rattle.checker_rules.specs.AtClause.{set_previous as rules_previous};
+ghost use Rattle.checker_rules.specs.Canonical.{canonical};
 ghost use Rattle.checker_rules.specs.Emits.{Emits};
 ghost use Rattle.checker_rules.specs.State.{Known};
 ghost use Rattle.checker_rules.specs.Step as rules;
@@ -17,7 +19,7 @@ use crate::context::ContextOf;
 use crate::steps::derived::derive;
 use checker_parts::error::{CheckCause, StepFault};
 use checker_parts::processor::{ProofProcessor, ProofTranscriptProcessor};
-use checker_parts::sorted_lits::copy_canonical;
+use checker_parts::sorted_lits::{copy_canonical, has_rising_vars};
 use clause_store::state::CheckerState;
 use proof_bytes::ClauseHash;
 use sat_formula::Lit;
@@ -44,6 +46,33 @@ pub fn at_clause<P: ProofProcessor, T: ProofTranscriptProcessor>(
         P.took P.faulted T.took T.faulted (listeners_of ctx.old.processing)
         (listeners_of ctx.new.processing) }
 {
+    // Most clauses are in order, and then none is copied.
+    if has_rising_vars(lits) {
+        at_canonical(alloc, ctx, redundant, lits, hashes)
+    } else {
+        at_unordered(alloc, ctx, redundant, lits, hashes)
+    }
+}
+
+/// The same of any clause, by its canonical list.
+#[inline(never)]
+fn at_unordered<P: ProofProcessor, T: ProofTranscriptProcessor>(
+    alloc: Global,
+    ctx: &mut ContextOf<P, T>,
+    redundant: bool,
+    lits: &[Lit],
+    hashes: &[ClauseHash],
+) -> Result<(), StepFault>
+    requires { ContextInvariant ctx.old }
+    ensures step { AnswersOutcome result
+        (step (context_state ctx.old) (rules.at_clause redundant lits.now hashes.now))
+        (context_state ctx.new) }
+    ensures kept { UnlessStopped result (ContextInvariant ctx.new) }
+    ensures delivered { DeliveredList result
+        (Emits (context_state ctx.old) (rules.at_clause redundant lits.now hashes.now))
+        P.took P.faulted T.took T.faulted (listeners_of ctx.old.processing)
+        (listeners_of ctx.new.processing) }
+{
     let Ok(tautology) = copy_canonical(&mut ctx.tmp_data.tmp, lits) else {
         return Err(StepFault::OutOfMemory);
     };
@@ -51,13 +80,38 @@ pub fn at_clause<P: ProofProcessor, T: ProofTranscriptProcessor>(
         return Err(StepFault::Refused(CheckCause::Tautology));
     }
     let clause = replace(&mut ctx.tmp_data.tmp, Vec::new(alloc));
-    let derived = derive(alloc, ctx, redundant, &clause, hashes);
+    let taken = at_canonical(alloc, ctx, redundant, &clause, hashes);
     ctx.tmp_data.tmp = clause;
-    let id = derived?;
+    taken
+}
+
+/// The same of a clause that has its canonical list, without opposite literals. It stands for each
+/// list of these literals.
+#[inline(always)]
+fn at_canonical<P: ProofProcessor, T: ProofTranscriptProcessor>(
+    alloc: Global,
+    ctx: &mut ContextOf<P, T>,
+    redundant: bool,
+    clause: &[Lit],
+    hashes: &[ClauseHash],
+) -> Result<(), StepFault>
+    requires kept { ContextInvariant ctx.old }
+    requires canonical { is_canonical clause.now ≡ true }
+    requires no_tautology { is_tautology clause.now ≡ false }
+    ensures step { (lits : List ℕ) → clause.now ≡ canonical lits → AnswersOutcome result
+        (step (context_state ctx.old) (rules.at_clause redundant lits hashes.now))
+        (context_state ctx.new) }
+    ensures kept { UnlessStopped result (ContextInvariant ctx.new) }
+    ensures delivered { (lits : List ℕ) → clause.now ≡ canonical lits → DeliveredList result
+        (Emits (context_state ctx.old) (rules.at_clause redundant lits hashes.now))
+        P.took P.faulted T.took T.faulted (listeners_of ctx.old.processing)
+        (listeners_of ctx.new.processing) }
+{
+    let id = derive(alloc, ctx, redundant, clause, hashes)?;
     if redundant {
         return Ok(());
     }
-    set_previous(&mut ctx.checker_state, &ctx.tmp_data.tmp, id)
+    set_previous(&mut ctx.checker_state, clause, id)
 }
 
 /// Keeps the previous clause, with its id.

@@ -1,6 +1,7 @@
 //! Deletions of clauses.
-ghost use Rattle.std.specs.Prelude.{◌≡◌, IsTrue, List, if◌then◌else◌, true};
-ghost use Rattle.sat_rules.specs.Clauses.{is_canonical};
+ghost use Rattle.std.specs.Prelude.{◌≡◌, IsTrue, ℕ, List, if◌then◌else◌, false, true};
+ghost use Rattle.sat_rules.specs.Clauses.{is_canonical, is_tautology};
+ghost use Rattle.checker_rules.specs.Canonical.{canonical};
 ghost use Rattle.checker_rules.specs.Emits.{Emits};
 ghost use Rattle.checker_rules.specs.State.{Known};
 ghost use Rattle.checker_rules.specs.Step as rules;
@@ -23,7 +24,7 @@ use crate::emit::{emit_delete_at_clause, emit_delete_clause};
 use crate::processing::ProcessingOf;
 use checker_parts::error::{CheckCause, StepFault};
 use checker_parts::processor::{ProofProcessor, ProofTranscriptProcessor};
-use checker_parts::sorted_lits::{copy_canonical, is_subset};
+use checker_parts::sorted_lits::{copy_canonical, has_rising_vars, is_subset};
 use checker_parts::variables::Variables;
 use clause_store::clauses::delete::{self, DeleteFault};
 use clause_store::clauses::{Clauses, DeleteClauseResult};
@@ -31,11 +32,38 @@ use clause_store::state::CheckerState;
 use proof_bytes::DeleteClauseProof;
 use sat_formula::Lit;
 use std::alloc::Global;
+use std::mem::replace;
 
 /// Deletes one copy of a clause. A justification that passes makes the previous clause forgotten,
 /// also where the step is then refused.
 #[inline(always)]
 pub fn delete_clause<P: ProofProcessor, T: ProofTranscriptProcessor>(
+    alloc: Global,
+    ctx: &mut ContextOf<P, T>,
+    proof: DeleteClauseProof,
+    lits: &[Lit],
+) -> Result<(), StepFault>
+    requires { ContextInvariant ctx.old }
+    ensures step { AnswersOutcome result
+        (step (context_state ctx.old) (rules.delete_clause (why proof) lits.now))
+        (context_state ctx.new) }
+    ensures kept { UnlessStopped result (ContextInvariant ctx.new) }
+    ensures delivered { DeliveredList result
+        (Emits (context_state ctx.old) (rules.delete_clause (why proof) lits.now))
+        P.took P.faulted T.took T.faulted (listeners_of ctx.old.processing)
+        (listeners_of ctx.new.processing) }
+{
+    // Most clauses are in order, and then none is copied.
+    if has_rising_vars(lits) {
+        delete_canonical(alloc, ctx, proof, lits)
+    } else {
+        delete_unordered(alloc, ctx, proof, lits)
+    }
+}
+
+/// The same of any clause, by its canonical list.
+#[inline(never)]
+fn delete_unordered<P: ProofProcessor, T: ProofTranscriptProcessor>(
     alloc: Global,
     ctx: &mut ContextOf<P, T>,
     proof: DeleteClauseProof,
@@ -57,7 +85,33 @@ pub fn delete_clause<P: ProofProcessor, T: ProofTranscriptProcessor>(
     if tautology {
         return Err(StepFault::Refused(CheckCause::Tautology));
     }
-    let clause = ctx.tmp_data.tmp.as_slice();
+    let clause = replace(&mut ctx.tmp_data.tmp, Vec::new(alloc));
+    let deleted = delete_canonical(alloc, ctx, proof, &clause);
+    ctx.tmp_data.tmp = clause;
+    deleted
+}
+
+/// The same of a clause that has its canonical list, without opposite literals. It stands for each
+/// list of these literals.
+#[inline(always)]
+fn delete_canonical<P: ProofProcessor, T: ProofTranscriptProcessor>(
+    alloc: Global,
+    ctx: &mut ContextOf<P, T>,
+    proof: DeleteClauseProof,
+    clause: &[Lit],
+) -> Result<(), StepFault>
+    requires kept { ContextInvariant ctx.old }
+    requires canonical { is_canonical clause.now ≡ true }
+    requires no_tautology { is_tautology clause.now ≡ false }
+    ensures step { (lits : List ℕ) → clause.now ≡ canonical lits → AnswersOutcome result
+        (step (context_state ctx.old) (rules.delete_clause (why proof) lits))
+        (context_state ctx.new) }
+    ensures kept { UnlessStopped result (ContextInvariant ctx.new) }
+    ensures delivered { (lits : List ℕ) → clause.now ≡ canonical lits → DeliveredList result
+        (Emits (context_state ctx.old) (rules.delete_clause (why proof) lits))
+        P.took P.faulted T.took T.faulted (listeners_of ctx.old.processing)
+        (listeners_of ctx.new.processing) }
+{
     let implying = match justify(&ctx.checker_state, &ctx.clauses, clause, proof) {
         Ok(id) => id,
         Err(cause) => return Err(StepFault::Refused(cause)),

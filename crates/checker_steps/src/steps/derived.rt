@@ -89,7 +89,7 @@ pub(crate) fn derive<P: ProofProcessor, T: ProofTranscriptProcessor>(
 }
 
 /// Why the step is not taken where its clause is not stored.
-fn store_fault(fault: StoreFault) -> StepFault
+pub fn store_fault(fault: StoreFault) -> StepFault
     ensures { result ≡ store_fault fault }
 {
     match fault {

@@ -7,6 +7,8 @@ ghost use Rattle.checker_rules.specs.Model.{model_cause};
 ghost use Rattle.checker_rules.specs.Step as rules;
 ghost use Rattle.checker_rules.specs.Steps.{step};
 ghost use Rattle.checker_parts.specs.Faults.{AnswersOutcome, UnlessStopped};
+ghost use Rattle.clause_store.specs.Buckets.{clauses_of};
+ghost use Rattle.clause_store.specs.Crowds.{standing};
 ghost use Rattle.clause_store.specs.Lits.{IsWithin};
 ghost use Rattle.clause_store.specs.StateOf.{state_of};
 ghost use Rattle.clause_store.specs.Store.{IsIndexed};
@@ -24,6 +26,7 @@ use crate::marks::Marks;
 use checker_parts::error::{CheckCause, StepFault};
 use checker_parts::processor::{ProofProcessor, ProofTranscriptProcessor};
 use checker_parts::variables::Variables;
+use clause_store::clauses::buckets::Bucket;
 use clause_store::clauses::{Clause, Clauses};
 use clause_store::state::CheckerState;
 use sat_formula::Lit;
@@ -192,15 +195,41 @@ fn meets(marks: &[bool], lits: &[Lit]) -> bool
     lits.iter().any(|lit| is_marked(marks, *lit))
 }
 
-/// Whether some literal of each clause of a bucket is marked.
-fn meets_bucket(marks: &[bool], bucket: &[Clause], buffer: &[Lit]) -> bool
-    requires { All (λ c. IsWithin c.lits buffer.now) bucket.now }
-    ensures { result ≡ list_all (λ c. has_marked (is_marked marks.now) (stored_of buffer.now c))
-        bucket.now }
+/// Whether some literal of the clause is marked.
+fn meets_clause(marks: &[bool], clause: &Clause, buffer: &[Lit]) -> bool
+    requires { IsWithin clause.now.lits buffer.now }
+    ensures { result ≡ has_marked (is_marked marks.now) (stored_of buffer.now clause.now) }
 {
-    bucket
-        .iter()
-        .all(|clause| meets(marks, clause.lits.slice(buffer)))
+    meets(marks, clause.lits.slice(buffer))
+}
+
+/// Whether some literal of each clause of a crowd is marked.
+fn meets_crowd(marks: &[bool], places: &[Option<Clause>], buffer: &[Lit]) -> bool
+    requires { All (λ c. IsWithin c.lits buffer.now) (standing places.now) }
+    ensures { result ≡ list_all (λ c. has_marked (is_marked marks.now) (stored_of buffer.now c))
+        (standing places.now) }
+{
+    for place in places {
+        let Some(clause) = place else {
+            continue;
+        };
+        if !meets_clause(marks, clause, buffer) {
+            return false;
+        }
+    }
+    true
+}
+
+/// Whether some literal of each clause of a bucket is marked.
+fn meets_bucket(marks: &[bool], bucket: &Bucket, buffer: &[Lit]) -> bool
+    requires { All (λ c. IsWithin c.lits buffer.now) (clauses_of bucket.now) }
+    ensures { result ≡ list_all (λ c. has_marked (is_marked marks.now) (stored_of buffer.now c))
+        (clauses_of bucket.now) }
+{
+    match bucket {
+        Bucket::One(clause) => meets_clause(marks, clause, buffer),
+        Bucket::Many(crowd) => meets_crowd(marks, &crowd.places, buffer),
+    }
 }
 
 /// Whether some literal of each stored clause of two or more is marked.
@@ -209,7 +238,7 @@ fn meets_clauses(marks: &[bool], clauses: &Clauses) -> bool
     ensures { result ≡ list_all (has_marked (is_marked marks.now)) (stored_list clauses.now) }
 {
     for bucket in clauses.buckets.values() {
-        if !meets_bucket(marks, bucket.as_slice(), &clauses.literal_buffer) {
+        if !meets_bucket(marks, bucket, &clauses.literal_buffer) {
             return false;
         }
     }

@@ -1,49 +1,47 @@
 //! The stored clauses by their hashes.
-ghost use Rattle.std.specs.Prelude.{◌≡◌, ◌<◌, ◌≤◌, ◌++◌, ◌∷◌, [], ℕ, Some, true, All, IfOk, OnOk, OnErr, map, position};
+ghost use Rattle.std.specs.Prelude.{◌≡◌, ◌<◌, ◌≤◌, ◌++◌, ◌∷◌, [], ℕ, Some, true, All, IfOk, OnOk, OnErr, map};
 ghost use Rattle.std.specs.Option.{SomeIff};
 ghost use Rattle.checker_rules.specs.Store.{count_limit, count_of as count_in, raise as raise_in_list};
 ghost use Rattle.checker_rules.specs.WellFormed.{are_apart};
 ghost use Rattle.clause_store.specs.Lits.{IsWithin};
 ghost use Rattle.clause_store.specs.Edits.{IsRaised};
-ghost use Rattle.clause_store.specs.Buckets.{clauses_at, copies_of, is_of, raised};
+ghost use Rattle.clause_store.specs.Buckets.{clauses_at, clauses_of, copies_of, is_of, raised};
 ghost use Rattle.clause_store.specs.Found.{found_in};
 ghost use Rattle.clause_store.specs.View.{stored_in, stored_of};
 
 use crate::clauses::Clause;
+use crate::clauses::crowd::Crowd;
 use proof_bytes::hash::ClauseHash;
 use sat_formula::lit::Lit;
-use smallvec::SmallVec;
 use std::alloc::{AllocError, Global};
 use std::collections::HashMap;
 use std::collections::hash_map::Entry;
 
-/// The clauses of two or more literals, by the hash, each bucket by rising ids.
-pub type Buckets = HashMap<ClauseHash, SmallVec<Clause, 1>>;
+/// The clauses of one hash, by rising ids.
+#[derive(Drop)]
+pub enum Bucket {
+    /// Almost every bucket holds one clause.
+    One(Clause),
+    Many(Box<Crowd>),
+}
+
+/// The clauses of two or more literals, by the hash.
+pub type Buckets = HashMap<ClauseHash, Bucket>;
 
 /// No further copy can be counted.
 #[derive(Clone, Copy, Debug)]
 pub struct CountExhausted;
 
 /// Whether the clause has these literals.
-fn has_lits(clause: &Clause, buffer: &[Lit], lits: &[Lit]) -> bool
+pub fn has_lits(clause: &Clause, buffer: &[Lit], lits: &[Lit]) -> bool
     requires { IsWithin clause.now.lits buffer.now }
     ensures { result ≡ is_of buffer.now lits.now clause.now }
 {
     clause.lits.slice(buffer) == lits
 }
 
-/// The place of the clause with these literals.
-pub fn find_clause(bucket: &[Clause], buffer: &[Lit], lits: &[Lit]) -> Option<usize>
-    requires { All (λ c. IsWithin c.lits buffer.now) bucket.now }
-    ensures { result ≡ position (is_of buffer.now lits.now) bucket.now }
-{
-    bucket
-        .iter()
-        .position(|clause| has_lits(clause, buffer, lits))
-}
-
 /// How many copies of the kind are counted.
-fn copies_of(clause: &Clause, redundant: bool) -> u32
+pub fn copies_of(clause: &Clause, redundant: bool) -> u32
     ensures { result ≡ copies_of redundant clause.now }
 {
     if redundant {
@@ -53,40 +51,64 @@ fn copies_of(clause: &Clause, redundant: bool) -> u32
     }
 }
 
-/// How many copies of the kind a bucket has of the clause with these literals.
-fn copies_among(bucket: &[Clause], buffer: &[Lit], lits: &[Lit], redundant: bool) -> u32
-    requires { All (λ c. IsWithin c.lits buffer.now) bucket.now }
-    ensures { result ≡ count_in redundant lits.now (map (stored_of buffer.now) bucket.now) }
+/// How many copies of the kind there are of the clause that is alone in its bucket, if it has these
+/// literals.
+fn copies_of_one(clause: &Clause, buffer: &[Lit], lits: &[Lit], redundant: bool) -> u32
+    requires { IsWithin clause.now.lits buffer.now }
+    ensures { result ≡ count_in redundant lits.now (stored_of buffer.now clause.now ∷ []) }
 {
-    match find_clause(bucket, buffer, lits) {
-        Some(at) => copies_of(&bucket[at], redundant),
-        None => 0,
+    if has_lits(clause, buffer, lits) {
+        copies_of(clause, redundant)
+    } else {
+        0
     }
 }
 
 /// How many copies of the kind there are of the clause with these literals.
-pub fn copies_in(
+pub(crate) fn copies_in(
     buckets: &Buckets,
     buffer: &[Lit],
     hash: ClauseHash,
     lits: &[Lit],
     redundant: bool,
 ) -> u32
-    requires { All (λ c. IsWithin c.lits buffer.now) (clauses_at buckets.now hash) }
+    requires within { All (λ c. IsWithin c.lits buffer.now) (clauses_at buckets.now hash) }
+    requires apart { are_apart (stored_in buffer.now buckets.now hash) ≡ true }
     ensures { result ≡ count_in redundant lits.now (stored_in buffer.now buckets.now hash) }
 {
     match buckets.get(&hash) {
-        Some(bucket) => copies_among(bucket.as_slice(), buffer, lits, redundant),
+        Some(Bucket::One(clause)) => copies_of_one(clause, buffer, lits, redundant),
+        Some(Bucket::Many(crowd)) => crowd.copies(buffer, lits, redundant),
         None => 0,
     }
 }
 
-/// Puts a clause at the end of its bucket.
+/// Puts a clause with these literals at the end of a bucket.
+fn push_in(
+    alloc: Global,
+    bucket: &mut Bucket,
+    clause: Clause,
+    lits: &[Lit],
+) -> Result<(), AllocError>
+    ensures { OnOk result (clauses_of bucket.new ≡ clauses_of bucket.old ++ clause ∷ []) }
+{
+    match bucket {
+        Bucket::One(first) => {
+            let crowd = Crowd::of_two(alloc, *first, clause)?;
+            *bucket = Bucket::Many(Box::new(alloc, crowd)?);
+            Ok(())
+        }
+        Bucket::Many(crowd) => crowd.push(clause, lits),
+    }
+}
+
+/// Puts a clause with these literals at the end of its bucket.
 pub fn push_clause(
     alloc: Global,
     buckets: &mut Buckets,
     hash: ClauseHash,
     clause: Clause,
+    lits: &[Lit],
 ) -> Result<(), AllocError>
     ensures pushed { OnOk result (clauses_at buckets.new hash ≡ clauses_at buckets.old hash ++
         clause ∷ []) }
@@ -94,12 +116,9 @@ pub fn push_clause(
         → clauses_at buckets.new k ≡ clauses_at buckets.old k) }
 {
     match buckets.entry(hash)? {
-        Entry::Occupied(entry) => {
-            entry.into_mut().push(clause)?;
-            Ok(())
-        }
+        Entry::Occupied(entry) => push_in(alloc, entry.into_mut(), clause, lits),
         Entry::Vacant(entry) => {
-            entry.insert(SmallVec::from_buf(alloc, [clause]));
+            entry.insert(Bucket::One(clause));
             Ok(())
         }
     }
@@ -107,7 +126,7 @@ pub fn push_clause(
 
 /// The clause with one copy more.
 #[tactic(auto, unfolding(checker_rules::specs::Store::count_limit))]
-fn raise(clause: &Clause, redundant: bool) -> Option<Clause>
+pub fn raise(clause: &Clause, redundant: bool) -> Option<Clause>
     ensures { SomeIff result (copies_of redundant clause.now < count_limit)
         (raised redundant clause.now) }
 {
@@ -124,39 +143,62 @@ fn raise(clause: &Clause, redundant: bool) -> Option<Clause>
     }
 }
 
-/// Counts one copy more of the clause with these literals in its bucket.
-fn raise_in(
-    bucket: &mut [Clause],
+/// Counts one copy more of the clause that is alone in its bucket, if it has these literals.
+fn raise_one(
+    clause: &mut Clause,
     buffer: &[Lit],
     lits: &[Lit],
     redundant: bool,
 ) -> Result<Option<(u64, u32)>, CountExhausted>
-    requires within { All (λ c. IsWithin c.lits buffer.now) bucket.old }
-    requires apart { are_apart (map (stored_of buffer.now) bucket.old) ≡ true }
+    requires { IsWithin clause.old.lits buffer.now }
     ensures found { IfOk result (λ found. found
-        ≡ found_in lits.now (map (stored_of buffer.now) bucket.old)) }
-    ensures raised { OnOk result (map (stored_of buffer.now) bucket.new
-        ≡ map (raise_in_list redundant lits.now) (map (stored_of buffer.now) bucket.old)) }
-    ensures within { All (λ c. IsWithin c.lits buffer.now) bucket.new }
+        ≡ found_in lits.now (stored_of buffer.now clause.old ∷ [])) }
+    ensures raised { OnOk result (stored_of buffer.now clause.new
+        ≡ raise_in_list redundant lits.now (stored_of buffer.now clause.old)) }
+    ensures within { IsWithin clause.new.lits buffer.now }
     ensures room { OnOk result (count_in redundant lits.now
-        (map (stored_of buffer.now) bucket.old) < count_limit) }
+        (stored_of buffer.now clause.old ∷ []) < count_limit) }
     ensures exhausted { OnErr result
-        (count_limit ≤ count_in redundant lits.now (map (stored_of buffer.now) bucket.old)) }
-    ensures unchanged { OnErr result (bucket.new ≡ bucket.old) }
+        (count_limit ≤ count_in redundant lits.now (stored_of buffer.now clause.old ∷ [])) }
+    ensures unchanged { OnErr result (clause.new ≡ clause.old) }
 {
-    match find_clause(bucket, buffer, lits) {
-        Some(at) => {
-            let clause = &bucket[at];
+    if !has_lits(clause, buffer, lits) {
+        return Ok(None);
+    }
+    match raise(clause, redundant) {
+        Some(more) => {
             let found = (clause.id, clause.irredundant);
-            match raise(clause, redundant) {
-                Some(more) => {
-                    bucket[at] = more;
-                    Ok(Some(found))
-                }
-                None => Err(CountExhausted),
-            }
+            *clause = more;
+            Ok(Some(found))
         }
-        None => Ok(None),
+        None => Err(CountExhausted),
+    }
+}
+
+/// Counts one copy more of the clause with these literals in its bucket.
+fn raise_in(
+    bucket: &mut Bucket,
+    buffer: &[Lit],
+    lits: &[Lit],
+    redundant: bool,
+) -> Result<Option<(u64, u32)>, CountExhausted>
+    requires within { All (λ c. IsWithin c.lits buffer.now) (clauses_of bucket.old) }
+    requires apart { are_apart (map (stored_of buffer.now) (clauses_of bucket.old)) ≡ true }
+    ensures found { IfOk result (λ found. found
+        ≡ found_in lits.now (map (stored_of buffer.now) (clauses_of bucket.old))) }
+    ensures raised { OnOk result (map (stored_of buffer.now) (clauses_of bucket.new)
+        ≡ map (raise_in_list redundant lits.now)
+        (map (stored_of buffer.now) (clauses_of bucket.old))) }
+    ensures within { All (λ c. IsWithin c.lits buffer.now) (clauses_of bucket.new) }
+    ensures room { OnOk result (count_in redundant lits.now
+        (map (stored_of buffer.now) (clauses_of bucket.old)) < count_limit) }
+    ensures exhausted { OnErr result (count_limit ≤ count_in redundant lits.now
+        (map (stored_of buffer.now) (clauses_of bucket.old))) }
+    ensures unchanged { OnErr result (clauses_of bucket.new ≡ clauses_of bucket.old) }
+{
+    match bucket {
+        Bucket::One(clause) => raise_one(clause, buffer, lits, redundant),
+        Bucket::Many(crowd) => crowd.raise(buffer, lits, redundant),
     }
 }
 
@@ -183,7 +225,7 @@ pub fn raise_clause(
         → clauses_at buckets.new k ≡ clauses_at buckets.old k) }
 {
     match buckets.get_mut(&hash) {
-        Some(bucket) => raise_in(bucket.as_mut_slice(), buffer, lits, redundant),
+        Some(bucket) => raise_in(bucket, buffer, lits, redundant),
         None => Ok(None),
     }
 }

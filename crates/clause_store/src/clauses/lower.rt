@@ -1,19 +1,18 @@
 //! Taking copies of clauses away.
-ghost use Rattle.std.specs.Prelude.{◌≡◌, ◌<◌, ℕ, All, IfErr, IfOk, OnErr, length, map, remove, slice_set, true};
+ghost use Rattle.std.specs.Prelude.{◌≡◌, ◌<◌, ◌∷◌, [], ℕ, All, IfErr, IfOk, OnErr, if◌then◌else◌, map, true};
 ghost use Rattle.std.specs.List.{list_all};
 ghost use Rattle.std.specs.Option.{SomeIff};
 ghost use Rattle.checker_rules.specs.WellFormed.{are_apart};
-ghost use Rattle.clause_store.specs.Buckets.{clauses_at, copies_of};
+ghost use Rattle.clause_store.specs.Buckets.{clauses_at, clauses_of, copies_of};
 ghost use Rattle.clause_store.specs.Lits.{IsWithin};
-ghost use Rattle.clause_store.specs.Lowered.{IsLowered, IsLoweredIn, IsMissing, left_of, lowered};
+ghost use Rattle.clause_store.specs.Lowered.{IsLowered, IsLoweredIn, IsMissing, is_gone, left_of, lowered};
 ghost use Rattle.clause_store.specs.Store.{is_whole};
 ghost use Rattle.clause_store.specs.View.{stored_in, stored_of};
 
 use crate::clauses::Clause;
-use crate::clauses::buckets::{Buckets, find_clause};
+use crate::clauses::buckets::{Bucket, Buckets, has_lits};
 use proof_bytes::hash::ClauseHash;
 use sat_formula::lit::Lit;
-use smallvec::SmallVec;
 use std::collections::hash_map::Entry;
 
 /// Why no copy was taken away.
@@ -45,7 +44,7 @@ impl Left {
 }
 
 /// The clause with one copy less.
-fn lower(clause: &Clause, redundant: bool) -> Option<Clause>
+pub fn lower(clause: &Clause, redundant: bool) -> Option<Clause>
     ensures { SomeIff result (0 < copies_of redundant clause.now) (lowered redundant clause.now) }
 {
     if redundant {
@@ -62,7 +61,7 @@ fn lower(clause: &Clause, redundant: bool) -> Option<Clause>
 }
 
 /// The id and the counts of a clause.
-fn left_of(clause: &Clause) -> Left
+pub fn left_of(clause: &Clause) -> Left
     ensures { result ≡ left_of clause.now }
 {
     Left {
@@ -72,57 +71,60 @@ fn left_of(clause: &Clause) -> Left
     }
 }
 
-/// Puts a clause in the place of another.
-fn replace(bucket: &mut [Clause], at: usize, clause: Clause)
-    requires { at < length bucket.old }
-    ensures { bucket.new ≡ slice_set bucket.old at clause }
-{
-    bucket[at] = clause;
-}
-
-/// Takes a clause out of its bucket.
-fn remove_clause(bucket: &mut SmallVec<Clause, 1>, at: usize)
-    requires { at < length bucket.old.items }
-    ensures { bucket.new.items ≡ remove bucket.old.items at }
-{
-    // Most clauses are alone in their bucket, and then none has to move up.
-    if at == bucket.len() - 1 {
-        bucket.pop();
-    } else {
-        bucket.remove(at);
-    }
-}
-
-/// Takes one copy of the clause with these literals away. The clause goes with its last copy.
-/// It answers what is left of the clause.
-fn lower_in(
-    bucket: &mut SmallVec<Clause, 1>,
+/// Takes one copy of the clause that is alone in its bucket away, if it has these literals.
+fn lower_one(
+    clause: &mut Clause,
     buffer: &[Lit],
     lits: &[Lit],
     redundant: bool,
 ) -> Result<Left, Missing>
-    requires within { All (λ c. IsWithin c.lits buffer.now) bucket.old.items }
-    requires apart { are_apart (map (stored_of buffer.now) bucket.old.items) ≡ true }
-    requires whole { list_all is_whole (map (stored_of buffer.now) bucket.old.items) ≡ true }
-    ensures lowered { IfOk result (IsLoweredIn buffer.now redundant lits.now bucket.old.items
-        bucket.new.items) }
+    requires within { IsWithin clause.old.lits buffer.now }
+    requires whole { list_all is_whole (stored_of buffer.now clause.old ∷ []) ≡ true }
+    ensures lowered { IfOk result (λ left. IsLoweredIn buffer.now redundant lits.now
+        (clause.old ∷ []) (if is_gone left then [] else clause.new ∷ []) left) }
     ensures missing { IfErr result (IsMissing redundant lits.now
-        (map (stored_of buffer.now) bucket.old.items)) }
-    ensures unchanged { OnErr result (bucket.new.items ≡ bucket.old.items) }
+        (stored_of buffer.now clause.old ∷ [])) }
+    ensures unchanged { OnErr result (clause.new ≡ clause.old) }
 {
-    let Some(at) = find_clause(bucket.as_slice(), buffer, lits) else {
+    if !has_lits(clause, buffer, lits) {
         return Err(Missing::Clause);
-    };
-    let Some(clause) = lower(&bucket.as_slice()[at], redundant) else {
-        return Err(Missing::Copy);
-    };
-    let left = left_of(&clause);
-    if left.is_gone() {
-        remove_clause(bucket, at);
-        Ok(left)
-    } else {
-        replace(bucket.as_mut_slice(), at, clause);
-        Ok(left)
+    }
+    match lower(clause, redundant) {
+        Some(less) => {
+            *clause = less;
+            Ok(left_of(&less))
+        }
+        None => Err(Missing::Copy),
+    }
+}
+
+/// Takes one copy of the clause with these literals away. It answers what is left of the clause,
+/// and whether no clause is left in the bucket, which is of no use then.
+fn lower_in(
+    bucket: &mut Bucket,
+    buffer: &[Lit],
+    lits: &[Lit],
+    redundant: bool,
+) -> Result<(Left, bool), Missing>
+    requires within { All (λ c. IsWithin c.lits buffer.now) (clauses_of bucket.old) }
+    requires apart { are_apart (map (stored_of buffer.now) (clauses_of bucket.old)) ≡ true }
+    requires whole { list_all is_whole (map (stored_of buffer.now) (clauses_of bucket.old))
+        ≡ true }
+    ensures lowered { IfOk result (λ p. IsLoweredIn buffer.now redundant lits.now
+        (clauses_of bucket.old) (if p.1 then [] else clauses_of bucket.new) p.0) }
+    ensures missing { IfErr result (IsMissing redundant lits.now
+        (map (stored_of buffer.now) (clauses_of bucket.old))) }
+    ensures unchanged { OnErr result (clauses_of bucket.new ≡ clauses_of bucket.old) }
+{
+    match bucket {
+        Bucket::One(clause) => {
+            let left = lower_one(clause, buffer, lits, redundant)?;
+            Ok((left, left.is_gone()))
+        }
+        Bucket::Many(crowd) => {
+            let left = crowd.lower(buffer, lits, redundant)?;
+            Ok((left, crowd.places.is_empty()))
+        }
     }
 }
 
@@ -147,12 +149,11 @@ pub fn lower_clause(
 {
     match buckets.entry(hash) {
         Ok(Entry::Occupied(mut entry)) => {
-            let bucket = entry.get_mut();
-            let left = lower_in(bucket, buffer, lits, redundant);
-            if bucket.is_empty() {
+            let (left, is_empty) = lower_in(entry.get_mut(), buffer, lits, redundant)?;
+            if is_empty {
                 entry.remove();
             }
-            left
+            Ok(left)
         }
         Ok(Entry::Vacant(entry)) => {
             entry.into_key();

@@ -1,19 +1,46 @@
 //! The buckets of all clauses, built anew.
-ghost use Rattle.std.specs.Prelude.{◌≡◌, [], ◌<◌, ◌≤◌, ℕ, All, List, IfOk, OnOk, map};
+ghost use Rattle.std.specs.Prelude.{◌≡◌, [], ◌<◌, ◌≤◌, ◌++◌, ℕ, All, List, IfOk, OnOk, map};
 ghost use Rattle.checker_rules.specs.Buckets.{of_hash};
 ghost use Rattle.checker_rules.specs.State.{Stored};
-ghost use Rattle.clause_store.specs.Buckets.{AreWithin, clauses_at};
+ghost use Rattle.clause_store.specs.Buckets.{AreWithin, clauses_at, clauses_of};
+ghost use Rattle.clause_store.specs.Crowds.{standing};
 ghost use Rattle.clause_store.specs.Lits.{IsWithin};
 ghost use Rattle.clause_store.specs.StateOf.{hash_of};
 ghost use Rattle.clause_store.specs.Store.{IsIndexed};
 ghost use Rattle.clause_store.specs.View.{stored_in, stored_list, stored_of};
 
-use crate::clauses::buckets::{Buckets, push_clause};
+use crate::clauses::buckets::{Bucket, Buckets, push_clause};
 use crate::clauses::{Clause, Clauses};
 use crate::hash::ClauseHasher;
 use sat_formula::lit::Lit;
 use std::alloc::{AllocError, Global};
 use std::collections::HashMap;
+
+/// Puts the clauses of the places that are not free after those of a list.
+fn append_standing(all: &mut Vec<Clause>, places: &[Option<Clause>]) -> Result<(), AllocError>
+    ensures { OnOk result (all.new.items ≡ all.old.items ++ standing places.now) }
+{
+    for place in places {
+        let Some(clause) = place else {
+            continue;
+        };
+        all.push(*clause)?;
+    }
+    Ok(())
+}
+
+/// Puts the clauses of a bucket after those of a list.
+pub fn append_bucket(all: &mut Vec<Clause>, bucket: &Bucket) -> Result<(), AllocError>
+    ensures { OnOk result (all.new.items ≡ all.old.items ++ clauses_of bucket.now) }
+{
+    match bucket {
+        Bucket::One(clause) => {
+            all.push(*clause)?;
+            Ok(())
+        }
+        Bucket::Many(crowd) => append_standing(all, &crowd.places),
+    }
+}
 
 /// All clauses of two or more literals, by rising ids.
 pub fn gather(alloc: Global, clauses: &Clauses) -> Result<Vec<Clause>, AllocError>
@@ -24,7 +51,7 @@ pub fn gather(alloc: Global, clauses: &Clauses) -> Result<Vec<Clause>, AllocErro
 {
     let mut all = Vec::with_capacity(alloc, clauses.buckets.len())?;
     for bucket in clauses.buckets.values() {
-        all.extend_from_slice(bucket.as_slice())?;
+        append_bucket(&mut all, bucket)?;
     }
     all.sort_unstable_by_key(|clause| clause.id);
     Ok(all)
@@ -55,8 +82,9 @@ pub fn rebuild(
 {
     let mut buckets = room_for(alloc, all.len())?;
     for clause in all {
-        let hash = hasher.clause_hash(clause.lits.slice(buffer));
-        push_clause(alloc, &mut buckets, hash, *clause)?;
+        let lits = clause.lits.slice(buffer);
+        let hash = hasher.clause_hash(lits);
+        push_clause(alloc, &mut buckets, hash, *clause, lits)?;
     }
     Ok(buckets)
 }

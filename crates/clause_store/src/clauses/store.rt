@@ -239,7 +239,7 @@ fn push_new(
     };
     let kept = ClauseLits::new(lits, &mut clauses.literal_buffer)?;
     let clause = first_copy(id, redundant, kept);
-    push_clause(alloc, &mut clauses.buckets, hash, clause)?;
+    push_clause(alloc, &mut clauses.buckets, hash, clause, lits)?;
     clauses.lit_counts.raise(lits)?;
     Ok((id, StoreClauseResult::New))
 }

@@ -219,6 +219,15 @@ impl Units {
         self.values[lit.index()].of_lit(lit)
     }
 
+    /// Whether the value of its known variable makes the literal false.
+    #[inline(always)]
+    pub fn is_known_false(&self, lit: Lit) -> bool
+        requires { var_of lit < length self.now }
+        ensures { result ≡ true_lits self.now (negate lit) }
+    {
+        self.known_lit_value(lit) == Some(false)
+    }
+
     fn is_true(&self, lit: Lit) -> bool
         ensures { result ≡ true_lits self.now lit }
     {

@@ -24,6 +24,10 @@ pub fn clause_status(units: &Units, lits: &[Lit]) -> ClauseStatus
 {
     let mut status = ClauseStatus::Falsified;
     for lit in lits {
+        // Most literals that a check looks at are false, and are passed over by one comparison.
+        if units.is_known_false(*lit) {
+            continue;
+        }
         match units.known_lit_value(*lit) {
             Some(true) => return ClauseStatus::Idle,
             Some(false) => {}

@@ -1,9 +1,10 @@
 //! The check that is not traced: it writes values alone, and only those of free variables.
-ghost use Rattle.std.specs.Prelude.{◌≡◌, ◌+◌, ◌<◌, ◌∷◌, [], All, IfOk, None, false, length, OnOk};
+ghost use Rattle.std.specs.Prelude.{◌≡◌, ◌+◌, ◌<◌, ◌∷◌, [], All, IfOk, None, Some, false, if◌then◌else◌, length, OnOk};
 ghost use Rattle.sat_rules.specs.Clauses.{is_tautology, var_of};
 ghost use Rattle.checker_rules.specs.Passes as rules;
 ghost use Rattle.checker_rules.specs.State.{some_true_unit, start_set};
 ghost use Rattle.clause_store.specs.Buckets.{AreWithin, clauses_at};
+ghost use Rattle.clause_store.specs.Crowds.{standing};
 ghost use Rattle.clause_store.specs.Idle.{AreIdle, IsIdle, Lengthens, idle_at};
 ghost use Rattle.clause_store.specs.Lits.{IsWithin, lits_of};
 ghost use Rattle.clause_store.specs.Rup.{AreAllKnown, Walks, WalksFirst, check_answer, clause_answer, lits_at, lits_in, named_buckets, true_lits};
@@ -12,7 +13,8 @@ ghost use Rattle.clause_store.specs.Trail.{IsTrailFor, IsUndoable, freed, undone
 ghost use Rattle.clause_store.specs.Units.{AreKnown, IsGiven, unit_at};
 
 use crate::clauses::Clause;
-use crate::clauses::buckets::Buckets;
+use crate::clauses::buckets::{Bucket, Buckets};
+use crate::clauses::crowd::some_stands;
 use crate::clauses::units::Units;
 use crate::rup::Answer;
 use crate::rup::idle::{IdleBuckets, LONG_BUCKET};
@@ -127,24 +129,28 @@ fn propagate_clause(
     }
 }
 
-/// Visits the clauses in turn, and answers whether one is falsified.
-#[inline(always)]
-fn propagate_bucket(
+/// Visits the clauses of the places in turn, and answers whether one is falsified.
+fn propagate_places(
     units: &mut Units,
     trail: &mut FreeTrail,
-    bucket: &[Clause],
+    places: &[Option<Clause>],
     buffer: &[Lit],
 ) -> Result<bool, AllocError>
-    requires within { All (λ c. IsWithin c.lits buffer.now) bucket.now }
-    requires known { All (λ c. AreKnown units.old (lits_of c.lits buffer.now)) bucket.now }
+    requires within { All (λ c. IsWithin c.lits buffer.now) (standing places.now) }
+    requires known { All (λ c. AreKnown units.old (lits_of c.lits buffer.now))
+        (standing places.now) }
     requires trail { IsTrailFor units.old (freed trail.old.items) }
-    ensures ok { IfOk result (Walks units.old (lits_in buffer.now bucket.now) units.new) }
+    ensures ok { IfOk result (Walks units.old (lits_in buffer.now (standing places.now))
+        units.new) }
     ensures lengthens { OnOk result (Lengthens units.old (length trail.old.items)
         units.new (length trail.new.items)) }
     ensures undoable { IsUndoable units.old (freed trail.old.items)
         units.new (freed trail.new.items) }
 {
-    for clause in bucket {
+    for place in places {
+        let Some(clause) = place else {
+            continue;
+        };
         if propagate_clause(units, trail, clause, buffer)? {
             return Ok(true);
         }
@@ -152,19 +158,32 @@ fn propagate_bucket(
     Ok(false)
 }
 
-/// Visits a long bucket, unless it is known to be idle. Answers what ends the walk there.
-///
-/// It is looked up again, so that short buckets, which are almost all, carry nothing for this.
-fn propagate_long(
+/// What ends a walk in a bucket where a clause is falsified, or none is.
+#[inline]
+pub fn end_of(falsified: bool) -> Option<Answer>
+    ensures { result ≡ (if falsified then Some Answer.Passed else None) }
+{
+    if falsified {
+        Some(Answer::Passed)
+    } else {
+        None
+    }
+}
+
+/// Visits the crowd of a hash, unless it is long and known to be idle. Answers what ends the walk
+/// there.
+// The clauses of the contract alone read `buckets`.
+fn propagate_crowd(
     units: &mut Units,
     run: &mut FreePropagation,
+    places: &[Option<Clause>],
     buckets: &Buckets,
     buffer: &[Lit],
     hash: ClauseHash,
 ) -> Result<Option<Answer>, AllocError>
+    requires is { clauses_at buckets.now hash ≡ standing places.now }
     requires within { AreWithin buffer.now buckets.now }
     requires known { AreAllKnown units.old buffer.now buckets.now }
-    requires some { 0 < length (clauses_at buckets.now hash) }
     requires trail { IsTrailFor units.old (freed run.old.trail.items) }
     requires idle { AreIdle (idle_at run.old.idle) (length run.old.trail.items)
         (λ h. IsIdle units.old (lits_at buffer.now buckets.now h)) }
@@ -176,24 +195,25 @@ fn propagate_long(
     ensures undoable { IsUndoable units.old (freed run.old.trail.items)
         units.new (freed run.new.trail.items) }
 {
-    let Some(bucket) = buckets.get(&hash) else {
+    if !some_stands(places) {
         return Ok(Some(Answer::NoClauseForHash));
-    };
+    }
+    let is_long = places.len() > LONG_BUCKET;
     let given = run.trail.len();
-    if run.idle.has(hash, given) {
+    if is_long && run.idle.has(hash, given) {
         return Ok(None);
     }
-    if propagate_bucket(units, &mut run.trail, bucket.as_slice(), buffer)? {
+    if propagate_places(units, &mut run.trail, places, buffer)? {
         return Ok(Some(Answer::Passed));
     }
-    if run.trail.len() == given {
+    if is_long && run.trail.len() == given {
         // Where memory is refused it is walked again.
         let _refused = run.idle.add(hash, given);
     }
     Ok(None)
 }
 
-/// Visits the bucket of a hash, unless it is known to be idle. Answers what ends the walk there.
+/// Visits the bucket of a hash. Answers what ends the walk there.
 #[inline]
 fn propagate_named(
     units: &mut Units,
@@ -215,20 +235,15 @@ fn propagate_named(
     ensures undoable { IsUndoable units.old (freed run.old.trail.items)
         units.new (freed run.new.trail.items) }
 {
-    let Some(bucket) = buckets.get(&hash) else {
-        return Ok(Some(Answer::NoClauseForHash));
-    };
-    let clauses = bucket.as_slice();
-    if clauses.is_empty() {
-        return Ok(Some(Answer::NoClauseForHash));
-    }
-    if clauses.len() > LONG_BUCKET {
-        return propagate_long(units, run, buckets, buffer, hash);
-    }
-    if propagate_bucket(units, &mut run.trail, clauses, buffer)? {
-        Ok(Some(Answer::Passed))
-    } else {
-        Ok(None)
+    match buckets.get(&hash) {
+        Some(Bucket::One(clause)) => {
+            let falsified = propagate_clause(units, &mut run.trail, clause, buffer)?;
+            Ok(end_of(falsified))
+        }
+        Some(Bucket::Many(crowd)) => {
+            propagate_crowd(units, run, &crowd.places, buckets, buffer, hash)
+        }
+        None => Ok(Some(Answer::NoClauseForHash)),
     }
 }
 

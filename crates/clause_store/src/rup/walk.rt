@@ -1,7 +1,8 @@
 //! The walk over the named clauses that lists what it uses.
 ghost use Rattle.std.specs.Prelude.{◌≡◌, ◌∷◌, [], All, IfOk, None, Some, false, length, map};
 ghost use Rattle.checker_rules.specs.Passes as rules;
-ghost use Rattle.clause_store.specs.Buckets.{AreWithin};
+ghost use Rattle.clause_store.specs.Buckets.{AreWithin, clauses_at};
+ghost use Rattle.clause_store.specs.Crowds.{standing};
 ghost use Rattle.clause_store.specs.Idle.{AreIdle, IsIdleRun, LengthensRun, idle_at};
 ghost use Rattle.clause_store.specs.Lits.{IsWithin, lits_of};
 ghost use Rattle.clause_store.specs.Rup.{AreAllKnown, Walks, WalksFirst, check_answer, lits_at, lits_in, named_buckets, true_lits};
@@ -11,7 +12,8 @@ ghost use Rattle.clause_store.specs.Units.{AreKnown};
 ghost use Rattle.clause_store.specs.View.{stored_in, stored_of};
 
 use crate::clauses::Clause;
-use crate::clauses::buckets::Buckets;
+use crate::clauses::buckets::{Bucket, Buckets};
+use crate::clauses::crowd::some_stands;
 use crate::clauses::units::{UnitClause, UnitId, Units};
 use crate::rup::Answer;
 use crate::rup::idle::LONG_BUCKET;
@@ -19,6 +21,7 @@ use crate::rup::propagation::Propagation;
 use crate::rup::status::{ClauseStatus, clause_status};
 use crate::rup::trace::list_units;
 use crate::rup::trail::overwrite;
+use crate::rup::untraced::end_of;
 use proof_bytes::hash::ClauseHash;
 use sat_formula::lit::Lit;
 use std::alloc::AllocError;
@@ -62,25 +65,30 @@ pub fn visit_clause(
     }
 }
 
-/// Visits the clauses in turn, and answers whether one is falsified.
-pub fn visit_bucket(
+/// Visits the clauses of the places in turn, and answers whether one is falsified.
+fn visit_places(
     units: &mut Units,
     run: &mut Propagation,
-    bucket: &[Clause],
+    places: &[Option<Clause>],
     buffer: &[Lit],
 ) -> Result<bool, AllocError>
-    requires within { All (λ c. IsWithin c.lits buffer.now) bucket.now }
-    requires known { All (λ c. AreKnown units.old (lits_of c.lits buffer.now)) bucket.now }
+    requires within { All (λ c. IsWithin c.lits buffer.now) (standing places.now) }
+    requires known { All (λ c. AreKnown units.old (lits_of c.lits buffer.now))
+        (standing places.now) }
     requires trail { IsTrailFor units.old run.old.trail.items }
-    ensures ok { IfOk result (Walks units.old (lits_in buffer.now bucket.now) units.new) }
+    ensures ok { IfOk result (Walks units.old (lits_in buffer.now (standing places.now))
+        units.new) }
     ensures listed { IfOk result (Lists run.old.trace.items units.old
-        (map (stored_of buffer.now) bucket.now) run.new.trace.items units.new) }
+        (map (stored_of buffer.now) (standing places.now)) run.new.trace.items units.new) }
     ensures lengthens { IfOk result (λ falsified. falsified ≡ false
         → LengthensRun units.old run.old units.new run.new) }
     ensures undoable { IsUndoable units.old run.old.trail.items units.new run.new.trail.items }
     ensures idle { run.new.idle ≡ run.old.idle }
 {
-    for clause in bucket {
+    for place in places {
+        let Some(clause) = place else {
+            continue;
+        };
         if visit_clause(units, run, clause, buffer)? {
             return Ok(true);
         }
@@ -88,7 +96,51 @@ pub fn visit_bucket(
     Ok(false)
 }
 
-/// Visits the bucket of a hash, unless it is known to be idle. Answers what ends the walk there.
+/// Visits the crowd of a hash, unless it is long and known to be idle. Answers what ends the walk
+/// there.
+// The clauses of the contract alone read `buckets`.
+fn visit_crowd(
+    units: &mut Units,
+    run: &mut Propagation,
+    places: &[Option<Clause>],
+    buckets: &Buckets,
+    buffer: &[Lit],
+    hash: ClauseHash,
+) -> Result<Option<Answer>, AllocError>
+    requires is { clauses_at buckets.now hash ≡ standing places.now }
+    requires within { AreWithin buffer.now buckets.now }
+    requires known { AreAllKnown units.old buffer.now buckets.now }
+    requires trail { IsTrailFor units.old run.old.trail.items }
+    requires idle { AreIdle (idle_at run.old.idle) (length run.old.trail.items)
+        (λ h. IsIdleRun run.old.trace.items units.old (stored_in buffer.now buckets.now h)) }
+    ensures ok { let bucket = lits_at buffer.now buckets.now hash in
+        IfOk result (WalksFirst units.old bucket units.new) }
+    ensures listed { IfOk result (ListsFirst run.old.trace.items units.old
+        (stored_in buffer.now buckets.now hash) run.new.trace.items units.new) }
+    ensures idle { IfOk result (λ end. end ≡ None
+        → AreIdle (idle_at run.new.idle) (length run.new.trail.items)
+        (λ h. IsIdleRun run.new.trace.items units.new (stored_in buffer.now buckets.now h))) }
+    ensures undoable { IsUndoable units.old run.old.trail.items units.new run.new.trail.items }
+{
+    if !some_stands(places) {
+        return Ok(Some(Answer::NoClauseForHash));
+    }
+    let is_long = places.len() > LONG_BUCKET;
+    let given = run.trail.len();
+    if is_long && run.idle.has(hash, given) {
+        return Ok(None);
+    }
+    if visit_places(units, run, places, buffer)? {
+        return Ok(Some(Answer::Passed));
+    }
+    if is_long && run.trail.len() == given {
+        // Where memory is refused it is walked again.
+        let _refused = run.idle.add(hash, given);
+    }
+    Ok(None)
+}
+
+/// Visits the bucket of a hash. Answers what ends the walk there.
 fn visit_named(
     units: &mut Units,
     run: &mut Propagation,
@@ -110,26 +162,13 @@ fn visit_named(
         (λ h. IsIdleRun run.new.trace.items units.new (stored_in buffer.now buckets.now h))) }
     ensures undoable { IsUndoable units.old run.old.trail.items units.new run.new.trail.items }
 {
-    let Some(bucket) = buckets.get(&hash) else {
-        return Ok(Some(Answer::NoClauseForHash));
-    };
-    let clauses = bucket.as_slice();
-    if clauses.is_empty() {
-        return Ok(Some(Answer::NoClauseForHash));
+    match buckets.get(&hash) {
+        Some(Bucket::One(clause)) => Ok(end_of(visit_clause(units, run, clause, buffer)?)),
+        Some(Bucket::Many(crowd)) => {
+            visit_crowd(units, run, &crowd.places, buckets, buffer, hash)
+        }
+        None => Ok(Some(Answer::NoClauseForHash)),
     }
-    let is_long = clauses.len() > LONG_BUCKET;
-    let given = run.trail.len();
-    if is_long && run.idle.has(hash, given) {
-        return Ok(None);
-    }
-    if visit_bucket(units, run, clauses, buffer)? {
-        return Ok(Some(Answer::Passed));
-    }
-    if is_long && run.trail.len() == given {
-        // Where memory is refused it is walked again.
-        let _refused = run.idle.add(hash, given);
-    }
-    Ok(None)
 }
 
 /// Visits the buckets of the hashes in turn, up to a falsified clause or a missing bucket.

@@ -1,18 +1,25 @@
-use Rattle.std.proofs.Common.{◌≡◌, ℕ, List, [], None, Some, ap, ◌∙◌, subst, refl}
+use Rattle.std.proofs.Common.{◌≡◌, ◌<◌, ℕ, false, List, [], None, Some, Err, ap, ◌∙◌, subst, refl}
 use Rattle.sat_rules.specs.Clauses.{is_canonical}
 use Rattle.checker_rules.specs.Emits.{Emits, emits_input}
+use Rattle.checker_rules.specs.Canonical.{canonical}
 use Rattle.checker_rules.specs.KnownVars.{know_clause}
 use Rattle.checker_rules.specs.Step.{add_clause}
+use Rattle.checker_rules.specs.Steps.{step}
+use Rattle.checker_rules.specs.Store.{count_limit, count_of}
 use Rattle.checker_rules.proofs.Entries.{canonical-is}
 use Rattle.checker_parts.specs.Causes.{cause_of}
+use Rattle.clause_store.specs.Refusal.{store_fault}
+use Rattle.clause_store.specs.StateOf.{state_of}
 use Rattle.clause_store.proofs.RefusalLemmas.{kept-answer}
 use Rattle.checker_steps.specs.Context.{context_state}
-use Rattle.checker_steps.specs.InputCause.{input_cause, taken}
+use Rattle.checker_steps.specs.InputCause.{IsFaultOf, early_cause, taken}
 use Rattle.checker_rules.proofs.RanLemmas.{both_ran_nil}
-use Rattle.checker_steps.proofs.AddClauseLemmas.{add-accepts, add-unsat, answers-input}
+use Rattle.checker_steps.proofs.AddClauseLemmas.{add-accepts, add-unsat, answers-input, answers-unstored_input, early-first, early-ids, early-room, unless-unstored}
+use Rattle.checker_steps.proofs.DerivedLemmas.{quiet-unstored}
 use Rattle.checker_steps.proofs.EmissionLemmas.{answers-all, delivered-all, unless-stopped}
 use Rattle.checker_steps.proofs.EmitLemmas.{answers-accept, emits-refused}
 use Rattle.checker_steps.proofs.EmittedInputs.{emits-added, emits-unsat}
+use Rattle.checker_steps.proofs.QuietLemmas.{delivered-refused}
 use Rattle.checker_steps.proofs.steps.add_clause.add_clause.Goals as goal
 
 pub returns-then-ctx-clause-step : goal.returns-then-ctx-clause-step
@@ -27,7 +34,8 @@ pub returns-in-Some-clause-step : goal.returns-in-Some-clause-step
 returns-in-Some-clause-step g c =
     let ctx = c.args.ctx.now in let s = context_state ctx in
     answers-input c.in-Some.cause s c.args.lits.now c.if-ctx.false
-    (subst (λ (x : List ℕ). input_cause s x ≡ Some (cause_of c.in-Some.cause)) (c.as_slice-clause.ensures.value ∙ c.in-Ok.ensures.items) (c.in-Some.ensures ctx.checker_state))
+    (early-first s (canonical c.args.lits.now) (cause_of c.in-Some.cause)
+    (subst (λ (x : List ℕ). early_cause s x ≡ Some (cause_of c.in-Some.cause)) (c.as_slice-clause.ensures.value ∙ c.in-Ok.ensures.items) (c.in-Some.ensures ctx.checker_state ctx.clause_hasher)))
 
 pub returns-in-Some-clause-delivered : goal.returns-in-Some-clause-delivered
 returns-in-Some-clause-delivered g c =
@@ -36,12 +44,33 @@ returns-in-Some-clause-delivered g c =
 pub take_clause-taken-requires-clause-canonical : goal.take_clause-taken-requires-clause-canonical
 take_clause-taken-requires-clause-canonical g c = ap is_canonical (c.as_slice-clause.ensures.value ∙ c.in-Ok.ensures.items) ∙ canonical-is c.args.lits.now
 
+pub take_clause-taken-requires-clause-room : goal.take_clause-taken-requires-clause-room
+take_clause-taken-requires-clause-room g c =
+    let ctx = c.args.ctx.now in early-ids (context_state ctx) c.as_slice-clause.result.now (c.in_default-cause.ensures ctx.checker_state ctx.clause_hasher)
+
+-- the clause was not stored
+pub returns-in-Err-taken : goal.returns-in-Err-taken
+returns-in-Err-taken g c =
+    let ctx = c.args.ctx.now in let ls = c.args.lits.now in let s = context_state ctx in let fault = c.in-Err-taken.fault in
+    let list = c.as_slice-clause.ensures.value ∙ c.in-Ok.ensures.items in
+    let early = subst (λ (x : List ℕ). early_cause s x ≡ None) list (c.in_default-cause.ensures ctx.checker_state ctx.clause_hasher) in
+    let after = state_of c.take_clause-taken.new.state ctx.clause_hasher c.take_clause-taken.new.clauses c.take_clause-taken.new.variables in
+    let answer = answers-unstored_input fault s after ls c.if-ctx.false early (subst (λ (x : List ℕ). IsFaultOf fault x s after) list c.in-Err-taken.ensures.fault) in
+    rw c.store_fault.ensures (record {
+      step = answer;
+      kept = kept-answer {A = Unit {0}} (Err (store_fault fault)) _ _ _ _ _ _ _ _ (add_clause ls) c.requires answer (unless-unstored _ fault c.in-Err-taken.ensures.store);
+      delivered = delivered-refused _ _ _ _ (Unit {0}) (store_fault fault) (Emits s (add_clause ls)) (step s (add_clause ls)) after _ (quiet-unstored fault)
+          (λ cause refused. emits-refused s (add_clause ls) [] cause refused refl) answer;
+      after_unsat = λ unsat. absurd cc;
+    })
+
 pub returns-in-Ok-taken : goal.returns-in-Ok-taken
 returns-in-Ok-taken g c =
     let ctx = c.args.ctx.now in
     let ls = c.args.lits.now in let s = context_state ctx in let h = c.in-Ok-taken.ensures in let r = c.emit_added.result in
     let list = c.as_slice-clause.ensures.value ∙ c.in-Ok.ensures.items in
-    let none = subst (λ (x : List ℕ). input_cause s x ≡ None) list (c.in_default-cause.ensures ctx.checker_state) in
+    let early = subst (λ (x : List ℕ). early_cause s x ≡ None) list (c.in_default-cause.ensures ctx.checker_state ctx.clause_hasher) in
+    let none = early-room s (canonical ls) early (subst (λ (x : List ℕ). count_of false x s.clauses < count_limit) list h.room) in
     let answer = answers-all _ _ _ _ _ _ _ r _ _ c.emit_added.ensures
     (answers-accept (add-accepts s ls c.if-ctx.false none) (h.state ∙ ap (taken s) list)) in
     record {

@@ -16,18 +16,18 @@ loop-bucket-init c =
 
 pub meets_bucket-requires : goal.meets_bucket-requires
 meets_bucket-requires c =
-    rw (c.deref.ensures.value, c.as_slice.ensures)
+    rw c.deref.ensures.value
     (within-first (is_marked c.args.marks.now) _ _ c.in-Some.bucket.now _ c.in-Some.ensures.steps c.loop-bucket.invariant.within)
 
 pub returns-then-not-meets_bucket : goal.returns-then-not-meets_bucket
 returns-then-not-meets_bucket c =
-    let here = rw (c.deref.ensures.value, c.as_slice.ensures) at (sym c.meets_bucket.ensures ∙ c.if-not-meets_bucket.true) in
+    let here = rw c.deref.ensures.value at (sym c.meets_bucket.ensures ∙ c.if-not-meets_bucket.true) in
     sym (sym (met-stored c.requires.0 c.args.clauses.now (stored_list c.args.clauses.now) c.requires.1 c.values-bucket-items.ensures.unique (is_marked c.args.marks.now))
     ∙ sym c.loop-bucket.invariant.same ∙ met-by _ _ _ c.in-Some.bucket.now _ c.in-Some.ensures.steps false here)
 
 pub loop-bucket-preserved : goal.loop-bucket-preserved
 loop-bucket-preserved c =
-    let steps = c.in-Some.ensures.steps in let here = rw (c.deref.ensures.value, c.as_slice.ensures) at (sym c.meets_bucket.ensures ∙ c.if-not-meets_bucket.false) in
+    let steps = c.in-Some.ensures.steps in let here = rw c.deref.ensures.value at (sym c.meets_bucket.ensures ∙ c.if-not-meets_bucket.false) in
     record {
       within = within-rest (is_marked c.args.marks.now) _ _ c.in-Some.bucket.now _ steps c.loop-bucket.invariant.within;
       same = sym (met-by _ _ _ c.in-Some.bucket.now _ steps true here) ∙ c.loop-bucket.invariant.same;

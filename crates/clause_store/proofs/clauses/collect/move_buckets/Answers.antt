@@ -4,11 +4,11 @@ use Rattle.std.specs.List.{list_all}
 use Rattle.std.specs.Map.{lookup}
 use Rattle.std.proofs.lemmas.List.Elements.{All-nil}
 use Rattle.checker_rules.specs.LiveLiterals.{live_literals}
-use Rattle.smallvec.specs.SmallVec.{SmallVec}
+use Rattle.clause_store.specs.declared.clauses.buckets.Bucket.{Bucket}
 use Rattle.clause_store.specs.declared.clauses.Clause.{Clause}
 use Rattle.clause_store.specs.declared.clauses.Clauses.{Clauses}
 use Rattle.clause_store.specs.declared.hash.ClauseHasher.{ClauseHasher}
-use Rattle.clause_store.specs.Buckets.{bucket_items, clauses_at}
+use Rattle.clause_store.specs.Buckets.{bucket_items, clauses_at, clauses_of}
 use Rattle.clause_store.specs.Lits.{IsWithin, lits_of}
 use Rattle.clause_store.specs.Store.{IsIndexed, is_whole}
 use Rattle.clause_store.specs.View.{stored_in, stored_list, stored_of}
@@ -18,18 +18,18 @@ use Rattle.clause_store.proofs.MoveLemmas.{bucket-same, bucket-used, bucket-with
 use Rattle.clause_store.proofs.clauses.collect.move_buckets.Goals as goal
 
 -- what the store says of each clause is true of those of a bucket that is found
-within_found : (h : ClauseHasher) (cs : Clauses) → IsIndexed h cs (stored_list cs) → (hash : ℕ) (b : SmallVec Clause) →
-    get nat_eq cs.buckets hash ≡ Some b → All (λ (d : Clause). IsWithin d.lits cs.literal_buffer.items) b.items
+within_found : (h : ClauseHasher) (cs : Clauses) → IsIndexed h cs (stored_list cs) → (hash : ℕ) (b : Bucket) →
+    get nat_eq cs.buckets hash ≡ Some b → All (λ (d : Clause). IsWithin d.lits cs.literal_buffer.items) clauses_of b
 within_found h cs f hash b found = subst (λ o. All (λ d. IsWithin d.lits cs.literal_buffer.items) (bucket_items o)) found (f.within hash)
 
-long_found : (h : ClauseHasher) (cs : Clauses) → IsIndexed h cs (stored_list cs) → (hash : ℕ) (b : SmallVec Clause) →
-    get nat_eq cs.buckets hash ≡ Some b → All (λ (d : Clause). 1 < length (lits_of d.lits cs.literal_buffer.items)) b.items
+long_found : (h : ClauseHasher) (cs : Clauses) → IsIndexed h cs (stored_list cs) → (hash : ℕ) (b : Bucket) →
+    get nat_eq cs.buckets hash ≡ Some b → All (λ (d : Clause). 1 < length (lits_of d.lits cs.literal_buffer.items)) clauses_of b
 long_found h cs f hash b found =
     long_all _ _
     (cc (whole-bucket h cs (stored_list cs) f hash))
 
 -- the bucket at which the walk stands
-head_found : (cs : Clauses) (es rest : List (ℕ × SmallVec Clause)) (hash : ℕ) (b : SmallVec Clause) →
+head_found : (cs : Clauses) (es rest : List (ℕ × Bucket)) (hash : ℕ) (b : Bucket) →
     All (λ e. get nat_eq cs.buckets e.0 ≡ Some e.1) es → es ≡ (hash, b) ∷ rest → get nat_eq cs.buckets hash ≡ Some b
 head_found cs es rest hash b found step = subst (All (λ e. get nat_eq cs.buckets e.0 ≡ Some e.1)) step found 0 (hash, b) (omega arith)
 
@@ -72,9 +72,9 @@ loop-hash-preserved c =
     let step : l.hash-iterator ≡ (hash, x) ∷ left = c.in-Some.ensures.steps in
     let found = head_found cs l.hash-iterator left hash x v.found step in
     let e = c.in_ok-bucket.ensures in let p = c.in_ok-put_bucket.ensures in let moved = c.put_bucket.new.buckets in
-    let read : map (stored_of c.as_slice-buffer.result.now) c.as_slice.result.now ≡ map (stored_of b) x.items =
+    let read : map (stored_of c.as_slice-buffer.result.now) c.as_slice.result.now ≡ map (stored_of b) (clauses_of x) =
     cc in
-    let grown : length new ≡ length old + live_literals (map (stored_of b) x.items) = cc in
+    let grown : length new ≡ length old + live_literals (map (stored_of b) (clauses_of x)) = cc in
     let longer : length old ≤ length new = omega arith in
     record {
       same = bucket-same b old new m l.moved moved hash x left v.within e.kept p.others found

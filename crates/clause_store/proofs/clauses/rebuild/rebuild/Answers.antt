@@ -50,4 +50,4 @@ loop-clause-preserved c =
     let h = hash_of c.args.hasher.now in let b = c.args.buffer.now in
     bucket-step (λ d. h (lits_of d.lits b)) _ _ _
     _ _ _
-    c.loop-clause-test.true c.clause-item.is (c.clause_hash-hash.ensures ∙ ap h c.slice.ensures) c.loop-clause.invariant c.in_ok-push_clause.ensures.pushed c.in_ok-push_clause.ensures.others
+    c.loop-clause-test.true c.clause-item.is (c.clause_hash-hash.ensures ∙ ap h c.slice-lits.ensures) c.loop-clause.invariant c.in_ok-push_clause.ensures.pushed c.in_ok-push_clause.ensures.others

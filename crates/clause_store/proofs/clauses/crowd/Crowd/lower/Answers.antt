@@ -1,0 +1,35 @@
+use Rattle.std.proofs.Common.{◌≡◌, ◌∙◌, ◌<◌, true, false, set, map, sym, ap, subst, arith}
+use Rattle.clause_store.specs.Buckets.{copies_of}
+use Rattle.clause_store.specs.Crowds.{standing}
+use Rattle.clause_store.specs.Lits.{IsWithin}
+use Rattle.clause_store.specs.Lowered.{is_gone, left_of}
+use Rattle.clause_store.specs.View.{stored_of}
+use Rattle.clause_store.proofs.CrowdLemmas.{All-stands}
+use Rattle.clause_store.proofs.PlacedLemmas.{lowered-goes, lowered-stays, lowered-within, placed-count, placed-stored}
+use Rattle.clause_store.proofs.clauses.crowd.Crowd.lower.Goals as goal
+
+pub returns-in_default-clause-missing : goal.returns-in_default-clause-missing
+returns-in_default-clause-missing c = c.in_default.ensures.missing
+
+pub returns-in_default-lower-clause-missing : goal.returns-in_default-lower-clause-missing
+returns-in_default-lower-clause-missing c =
+    let b = c.args.buffer.now in let ls = c.args.lits.now in let ps = c.args.self.now.places.items in let i = c.in-Some.at in let d = c.in-Some.clause in let p = c.in-Some.ensures.placed in
+    let none : copies_of c.args.redundant d ≡ 0 = omega (arith, c.in_default-lower.ensures) in
+    (placed-stored b ls ps i d p c.requires.apart, placed-count b ls ps i d p c.requires.apart c.args.redundant ∙ none)
+
+pub returns-then-is_gone-clause-lowered : goal.returns-then-is_gone-clause-lowered
+returns-then-is_gone-clause-lowered c =
+    let b = c.args.buffer.now in let ls = c.args.lits.now in let ps = c.args.self.now.places.items in let i = c.in-Some.at in let d = c.in-Some.clause in let p = c.in-Some.ensures.placed in
+    let less = c.in-Some-lower.less in
+    let gone : is_gone (left_of less) ≡ true = cc (c.left_of-left.ensures, c.is_gone.ensures, c.if-is_gone.true) in
+    rw (c.leave.ensures, c.find.ensures.same, c.left_of-left.ensures)
+    (lowered-goes b ls ps i d p c.requires.apart c.args.redundant less c.in-Some-lower.ensures.1 c.in-Some-lower.ensures.0 c.requires.within c.requires.whole gone)
+
+pub returns-else-is_gone-clause-lowered : goal.returns-else-is_gone-clause-lowered
+returns-else-is_gone-clause-lowered c =
+    let b = c.args.buffer.now in let ls = c.args.lits.now in let ps = c.args.self.now.places.items in let i = c.in-Some.at in let d = c.in-Some.clause in let p = c.in-Some.ensures.placed in
+    let less = c.in-Some-lower.less in
+    let kept : is_gone (left_of less) ≡ false = cc (c.left_of-left.ensures, c.is_gone.ensures, c.if-is_gone.false) in
+    let inside : IsWithin less.lits b = rw c.in-Some-lower.ensures.1 (lowered-within b c.args.redundant d (All-stands (λ e. IsWithin e.lits b) ps i d c.requires.within p.within p.here)) in
+    rw (c.find.ensures.same, c.left_of-left.ensures)
+    (lowered-stays b ls ps i d p c.requires.apart c.args.redundant less c.in-Some-lower.ensures.1 c.in-Some-lower.ensures.0 c.requires.within c.requires.whole kept inside)

@@ -1,0 +1,50 @@
+use Rattle.std.proofs.Common.{◌≡◌, ◌<◌, ◌≤◌, Some, set, map, sym, ap, ◌∙◌, subst, arith}
+use Rattle.checker_rules.specs.Store.{count_limit}
+use Rattle.clause_store.specs.Buckets.{copies_of, raised}
+use Rattle.clause_store.specs.Crowds.{standing}
+use Rattle.clause_store.specs.Lits.{IsWithin}
+use Rattle.clause_store.specs.View.{stored_of}
+use Rattle.clause_store.proofs.BucketLemmas.{count_limit-some}
+use Rattle.clause_store.proofs.CrowdLemmas.{All-stands}
+use Rattle.clause_store.proofs.FoundLemmas.{count_of-absent, found_in-absent, raise-absent}
+use Rattle.clause_store.proofs.PlacedLemmas.{placed-count, placed-found, placed-raised, placed-within, raised-within}
+use Rattle.clause_store.proofs.clauses.crowd.Crowd.raise.Goals as goal
+
+pub returns-in_default-clause-found : goal.returns-in_default-clause-found
+returns-in_default-clause-found c = sym (found_in-absent c.args.lits.now _ c.in_default.ensures.missing)
+
+pub returns-in_default-clause-raised : goal.returns-in_default-clause-raised
+returns-in_default-clause-raised c =
+    ap (λ v. map (stored_of c.args.buffer.now) (standing v.items)) c.find.ensures.same
+    ∙ sym (raise-absent c.args.lits.now c.args.redundant _ c.in_default.ensures.missing)
+
+pub returns-in_default-clause-room : goal.returns-in_default-clause-room
+returns-in_default-clause-room c =
+    subst (λ n. n < count_limit) (sym (count_of-absent c.args.lits.now c.args.redundant _ c.in_default.ensures.missing)) count_limit-some
+
+pub returns-in-Some-raise-clause-found : goal.returns-in-Some-raise-clause-found
+returns-in-Some-raise-clause-found c =
+    sym (placed-found c.args.buffer.now c.args.lits.now c.args.self.now.places.items c.in-Some.at c.in-Some.clause c.in-Some.ensures.placed c.requires.apart)
+
+pub returns-in-Some-raise-clause-raised : goal.returns-in-Some-raise-clause-raised
+returns-in-Some-raise-clause-raised c =
+    let b = c.args.buffer.now in let r = c.args.redundant in
+    cc (
+      c.find.ensures.same,
+      c.in-Some-raise.ensures.1,
+      placed-raised b c.args.lits.now c.args.self.now.places.items c.in-Some.at c.in-Some.clause c.in-Some.ensures.placed c.requires.apart r,
+    )
+
+pub returns-in-Some-raise-clause-within : goal.returns-in-Some-raise-clause-within
+returns-in-Some-raise-clause-within c =
+    let b = c.args.buffer.now in let ps = c.args.self.now.places.items in let i = c.in-Some.at in let d = c.in-Some.clause in let p = c.in-Some.ensures.placed in
+    let inside : IsWithin c.in-Some-raise.more.lits b = rw c.in-Some-raise.ensures.1 (raised-within b c.args.redundant d (All-stands (λ e. IsWithin e.lits b) ps i d c.requires.within p.within p.here)) in
+    rw c.find.ensures.same (placed-within b c.args.lits.now ps i d p c.requires.apart c.in-Some-raise.more c.requires.within inside)
+
+pub returns-in-Some-raise-clause-room : goal.returns-in-Some-raise-clause-room
+returns-in-Some-raise-clause-room c =
+    subst (λ n. n < count_limit) (sym (placed-count c.args.buffer.now c.args.lits.now c.args.self.now.places.items c.in-Some.at c.in-Some.clause c.in-Some.ensures.placed c.requires.apart c.args.redundant)) c.in-Some-raise.ensures.0
+
+pub returns-in-None-clause-exhausted : goal.returns-in-None-clause-exhausted
+returns-in-None-clause-exhausted c =
+    subst (λ n. count_limit ≤ n) (sym (placed-count c.args.buffer.now c.args.lits.now c.args.self.now.places.items c.in-Some.at c.in-Some.clause c.in-Some.ensures.placed c.requires.apart c.args.redundant)) (omega (arith, c.in-None.ensures))

@@ -1,0 +1,279 @@
+//! Several clauses of one hash.
+ghost use Rattle.std.specs.Prelude.{◌≡◌, ◌<◌, ◌≤◌, ◌++◌, ◌∷◌, [], All, IfErr, IfNone, IfOk, IfSome, None, OnErr, OnOk, false, is_some, length, map, nat_lt, slice_set, true};
+ghost use Rattle.std.specs.List.{list_all, list_any};
+ghost use Rattle.checker_rules.specs.Store.{count_limit, count_of as count_in, is_stored, raise as raise_in_list};
+ghost use Rattle.checker_rules.specs.WellFormed.{are_apart};
+ghost use Rattle.clause_store.specs.Crowds.{IsPlaced, standing};
+ghost use Rattle.clause_store.specs.Found.{found_in};
+ghost use Rattle.clause_store.specs.Lits.{IsWithin};
+ghost use Rattle.clause_store.specs.Lowered.{IsLoweredIn, IsMissing};
+ghost use Rattle.clause_store.specs.Store.{is_whole};
+ghost use Rattle.clause_store.specs.View.{stored_of};
+
+use crate::clauses::Clause;
+use crate::clauses::buckets::{CountExhausted, copies_of, has_lits, raise};
+use crate::clauses::lower::{Left, Missing, left_of, lower};
+use sat_formula::lit::Lit;
+use std::alloc::{AllocError, Global};
+use std::collections::BTreeMap;
+
+/// In a crowd of more places it is noted where each clause stands.
+const FEW_PLACES: usize = 16;
+
+/// Several clauses of one hash, by rising ids.
+///
+/// A clause that goes leaves its place free, so that none after it has to move. The others close up
+/// once more than half of the places are free.
+#[derive(Drop)]
+pub struct Crowd {
+    alloc: Global,
+    pub places: Vec<Option<Clause>>,
+    /// How many places are free.
+    free: usize,
+    /// Where a clause is looked for first, by its literals.
+    ///
+    /// Nothing rests on it: what is found there is compared, and what is not is looked for in all
+    /// places.
+    noted: BTreeMap<Vec<Lit>, usize>,
+}
+
+/// Whether a clause stands in one of the places.
+pub fn some_stands(places: &[Option<Clause>]) -> bool
+    ensures { result ≡ nat_lt 0 (length (standing places.now)) }
+{
+    is_some_taken(places)
+}
+
+/// Whether one of the places is not free.
+fn is_some_taken(places: &[Option<Clause>]) -> bool
+    ensures { result ≡ list_any is_some places.now }
+{
+    places.iter().any(|place| place.is_some())
+}
+
+/// The place of the clause with these literals, and the clause. It looks in one place after the
+/// other.
+fn search(places: &[Option<Clause>], buffer: &[Lit], lits: &[Lit]) -> Option<(usize, Clause)>
+    requires { All (λ c. IsWithin c.lits buffer.now) (standing places.now) }
+    ensures placed { IfSome result (λ p. IsPlaced buffer.now lits.now places.now p.0 p.1) }
+    ensures missing { IfNone result (is_stored lits.now
+        (map (stored_of buffer.now) (standing places.now)) ≡ false) }
+{
+    for at in 0..places.len() {
+        let Some(clause) = places[at] else {
+            continue;
+        };
+        if has_lits(&clause, buffer, lits) {
+            return Some((at, clause));
+        }
+    }
+    None
+}
+
+/// A copy of the literals.
+fn copy_of(alloc: Global, lits: &[Lit]) -> Result<Vec<Lit>, AllocError> {
+    let mut copy = Vec::with_capacity(alloc, lits.len())?;
+    copy.extend_from_slice(lits)?;
+    Ok(copy)
+}
+
+/// Notes where the clause with these literals stands.
+fn note(
+    alloc: Global,
+    noted: &mut BTreeMap<Vec<Lit>, usize>,
+    lits: &[Lit],
+    at: usize,
+) -> Result<(), AllocError> {
+    noted.insert(copy_of(alloc, lits)?, at)?;
+    Ok(())
+}
+
+/// Notes where each clause stands.
+fn note_all(
+    alloc: Global,
+    noted: &mut BTreeMap<Vec<Lit>, usize>,
+    places: &[Option<Clause>],
+    buffer: &[Lit],
+) -> Result<(), AllocError>
+    requires { All (λ c. IsWithin c.lits buffer.now) (standing places.now) }
+{
+    for at in 0..places.len() {
+        let Some(clause) = places[at] else {
+            continue;
+        };
+        note(alloc, noted, clause.lits.slice(buffer), at)?;
+    }
+    Ok(())
+}
+
+impl Crowd {
+    /// No clause.
+    pub fn new(alloc: Global) -> Crowd
+        ensures { result.places.items ≡ [] }
+    {
+        Crowd {
+            alloc,
+            places: Vec::new(alloc),
+            free: 0,
+            noted: BTreeMap::new(alloc),
+        }
+    }
+
+    /// Two clauses, in this order.
+    pub fn of_two(alloc: Global, first: Clause, second: Clause) -> Result<Crowd, AllocError>
+        ensures { IfOk result (λ crowd. standing crowd.places.items ≡ first ∷ second ∷ []) }
+    {
+        let mut crowd = Crowd::new(alloc);
+        crowd.places.push(Some(first))?;
+        crowd.places.push(Some(second))?;
+        Ok(crowd)
+    }
+
+    /// Puts a clause with these literals after all others.
+    pub fn push(&mut self, clause: Clause, lits: &[Lit]) -> Result<(), AllocError>
+        ensures { OnOk result (standing self.new.places.items
+            ≡ standing self.old.places.items ++ clause ∷ []) }
+    {
+        if !self.noted.is_empty() {
+            note(self.alloc, &mut self.noted, lits, self.places.len())?;
+        }
+        self.places.push(Some(clause))?;
+        Ok(())
+    }
+
+    /// The place of the clause with these literals, and the clause.
+    fn find(&mut self, buffer: &[Lit], lits: &[Lit]) -> Option<(usize, Clause)>
+        requires { All (λ c. IsWithin c.lits buffer.now) (standing self.old.places.items) }
+        ensures placed { IfSome result (λ p. IsPlaced buffer.now lits.now self.old.places.items
+            p.0 p.1) }
+        ensures missing { IfNone result (is_stored lits.now
+            (map (stored_of buffer.now) (standing self.old.places.items)) ≡ false) }
+        ensures same { self.new.places ≡ self.old.places }
+    {
+        if self.places.len() > FEW_PLACES && self.noted.is_empty() {
+            // Where memory is refused, some are looked for in all places.
+            let _refused = note_all(self.alloc, &mut self.noted, &self.places, buffer);
+        }
+        match self.noted_place(buffer, lits) {
+            Some(found) => Some(found),
+            None => search(&self.places, buffer, lits),
+        }
+    }
+
+    /// The place where the clause with these literals was noted, and that clause, where it does
+    /// stand there.
+    fn noted_place(&self, buffer: &[Lit], lits: &[Lit]) -> Option<(usize, Clause)>
+        requires { All (λ c. IsWithin c.lits buffer.now) (standing self.now.places.items) }
+        ensures { IfSome result (λ p. IsPlaced buffer.now lits.now self.now.places.items p.0 p.1) }
+    {
+        let at = *self.noted.get(lits)?;
+        let clause = (*self.places.get(at)?)?;
+        if has_lits(&clause, buffer, lits) {
+            Some((at, clause))
+        } else {
+            None
+        }
+    }
+
+    /// How many copies of the kind there are of the clause with these literals.
+    pub fn copies(&self, buffer: &[Lit], lits: &[Lit], redundant: bool) -> u32
+        requires within { All (λ c. IsWithin c.lits buffer.now) (standing self.now.places.items) }
+        requires apart { are_apart (map (stored_of buffer.now) (standing self.now.places.items))
+            ≡ true }
+        ensures { result ≡ count_in redundant lits.now
+            (map (stored_of buffer.now) (standing self.now.places.items)) }
+    {
+        match search(&self.places, buffer, lits) {
+            Some((_, clause)) => copies_of(&clause, redundant),
+            None => 0,
+        }
+    }
+
+    /// Counts one copy more of the clause with these literals.
+    pub fn raise(
+        &mut self,
+        buffer: &[Lit],
+        lits: &[Lit],
+        redundant: bool,
+    ) -> Result<Option<(u64, u32)>, CountExhausted>
+        requires within { All (λ c. IsWithin c.lits buffer.now) (standing self.old.places.items) }
+        requires apart { are_apart (map (stored_of buffer.now) (standing self.old.places.items))
+            ≡ true }
+        ensures found { IfOk result (λ found. found
+            ≡ found_in lits.now (map (stored_of buffer.now) (standing self.old.places.items))) }
+        ensures raised { OnOk result (map (stored_of buffer.now) (standing self.new.places.items)
+            ≡ map (raise_in_list redundant lits.now)
+            (map (stored_of buffer.now) (standing self.old.places.items))) }
+        ensures within { All (λ c. IsWithin c.lits buffer.now) (standing self.new.places.items) }
+        ensures room { OnOk result (count_in redundant lits.now
+            (map (stored_of buffer.now) (standing self.old.places.items)) < count_limit) }
+        ensures exhausted { OnErr result (count_limit ≤ count_in redundant lits.now
+            (map (stored_of buffer.now) (standing self.old.places.items))) }
+        ensures unchanged { OnErr result (standing self.new.places.items
+            ≡ standing self.old.places.items) }
+    {
+        let Some((at, clause)) = self.find(buffer, lits) else {
+            return Ok(None);
+        };
+        match raise(&clause, redundant) {
+            Some(more) => {
+                self.places[at] = Some(more);
+                Ok(Some((clause.id, clause.irredundant)))
+            }
+            None => Err(CountExhausted),
+        }
+    }
+
+    /// Takes one copy of the clause with these literals away. The clause goes with its last copy.
+    pub fn lower(&mut self, buffer: &[Lit], lits: &[Lit], redundant: bool) -> Result<Left, Missing>
+        requires within { All (λ c. IsWithin c.lits buffer.now) (standing self.old.places.items) }
+        requires apart { are_apart (map (stored_of buffer.now) (standing self.old.places.items))
+            ≡ true }
+        requires whole { list_all is_whole
+            (map (stored_of buffer.now) (standing self.old.places.items)) ≡ true }
+        ensures lowered { IfOk result (IsLoweredIn buffer.now redundant lits.now
+            (standing self.old.places.items) (standing self.new.places.items)) }
+        ensures missing { IfErr result (IsMissing redundant lits.now
+            (map (stored_of buffer.now) (standing self.old.places.items))) }
+        ensures unchanged { OnErr result (standing self.new.places.items
+            ≡ standing self.old.places.items) }
+    {
+        let Some((at, clause)) = self.find(buffer, lits) else {
+            return Err(Missing::Clause);
+        };
+        let Some(less) = lower(&clause, redundant) else {
+            return Err(Missing::Copy);
+        };
+        let left = left_of(&less);
+        if left.is_gone() {
+            self.leave(at, lits);
+            Ok(left)
+        } else {
+            self.places[at] = Some(less);
+            Ok(left)
+        }
+    }
+
+    /// The clause with these literals leaves its place.
+    fn leave(&mut self, at: usize, lits: &[Lit])
+        requires { at < length self.old.places.items }
+        ensures { standing self.new.places.items
+            ≡ standing (slice_set self.old.places.items at None) }
+    {
+        self.noted.remove(lits);
+        self.places[at] = None;
+        self.free = self.free.saturating_add(1);
+        if self.free > self.places.len() / 2 {
+            self.close_up();
+        }
+    }
+
+    /// No place is free any more. What was noted is wrong then.
+    fn close_up(&mut self)
+        ensures { standing self.new.places.items ≡ standing self.old.places.items }
+    {
+        self.places.retain(|place| place.is_some());
+        self.free = 0;
+        self.noted.clear();
+    }
+}
