@@ -1,19 +1,17 @@
 -- The headline of a call, and the unsatisfiable side, follow from its answer by the definitions.
-use Rattle.std.proofs.Common.{◌≡◌, ◌⊎◌, ℕ, Bool, List, [], ◌∷◌, ◌++◌, Option, Some, None, Result, Ok, Err, sym, ap, ◌∙◌, subst, inl, inr}
+use Rattle.std.proofs.Common.{◌≡◌, ℕ, Bool, List, [], ◌∷◌, ◌++◌, Option, Some, None, Result, Ok, Err, sym, ap, ◌∙◌, subst}
 use Rattle.checker_rules.specs.Calls.{attempt, closing_conflict}
 use Rattle.checker_rules.specs.Covers.{Covers, CoversAfter}
 use Rattle.checker_rules.specs.Headline.{EntailsRedundant, SetAfter, changed, holds}
-use Rattle.checker_rules.specs.Outcome.{Cause, Outcome, and_then_by, refuse}
-use Rattle.checker_rules.specs.Run.{Runs}
+use Rattle.checker_rules.specs.Outcome.{Cause, Outcome}
 use Rattle.checker_rules.specs.State.{State, sat}
 use Rattle.checker_rules.specs.Step.{Step}
 use Rattle.checker_rules.specs.Steps.{step}
 use Rattle.checker_rules.proofs.Covering.{steps_cover}
 use Rattle.checker_rules.proofs.Keeping.{step_keeps}
-use Rattle.checker_rules.proofs.Runs.{append_none, append_step, changed_same, holds_last}
-use Rattle.checker_rules.proofs.WholeRuns.{close_keeps, covers_attempt, covers_close, covers_same, keeps_attempt, runs_are_fold, runs_cover}
-use Rattle.proof_bytes.specs.Reading.{Fault, Short, Wrong}
-use Rattle.checker_parts.specs.Answers.{AnswersStep, AnswersText, CoversFold, EndsRun, IsCovered, IsFold, SetsFold, UnlessFailed, UnlessTextFailed, all_steps, first_accepted, unless_refused}
+use Rattle.checker_rules.proofs.Runs.{changed_same, holds_last}
+use Rattle.checker_rules.proofs.WholeRuns.{close_keeps, covers_attempt, covers_close, covers_same, keeps_attempt}
+use Rattle.checker_parts.specs.Answers.{AnswersStep, AnswersText, CoversFold, IsCovered, IsFold, SetsFold, UnlessFailed, UnlessTextFailed}
 use Rattle.checker_parts.specs.Causes.{cause_of}
 use Rattle.checker_parts.specs.declared.error.CheckerError.{CheckerError}
 use Rattle.checker_parts.specs.declared.error.DimacsError.{DimacsError}
@@ -112,16 +110,3 @@ sets_text o u k (Ok x) h = k ok_answer h
 sets_text o u k (Err (Read cause)) h = k ok_answer h
 sets_text o u k (Err (Malformed line kind)) h = k ok_answer h
 sets_text o u k (Err (Checker e)) h = k (err_answer e) h
-
--- a run
-pub ends : {X : Type 0} (P : List Step → State → Type 0) (next : X → (Step × X) ⊎ Fault) (s : State) (x : X) →
-    ((ts : List Step) (answer : Option (Cause ⊎ Fault)) (u : State) → Runs next s x ts answer u → P ts u)
-    → (r : Result (Unit {0}) CheckerError) (ts : List Step) (u : State) → EndsRun r next s x ts u → UnlessFailed r (P ts u)
-ends P next s x k (Ok done) ts u h = k ts None u h
-ends P next s x k (Err (CheckFailed number cause debug_step)) ts u h = k ts (Some (inl (cause_of cause))) u h.1
-ends P next s x k (Err (ProofIncomplete number)) ts u h = k ts (Some (inr Short)) u h.1
-ends P next s x k (Err (IoError number cause)) ts u h = k ts (Some (inr Short)) u h.1
-ends P next s x k (Err (ParseError number cause)) ts u h = k ts (Some (inr (Wrong cause))) u h.1
-ends P next s x k (Err (ProofProcessorError cause)) ts u h = tt
-ends P next s x k (Err OutOfMemory) ts u h = tt
-ends P next s x k (Err Failed) ts u h = tt

@@ -2,6 +2,7 @@ pub mod Answers
 pub mod Boxes
 pub mod Causes
 pub mod CheckedSteps
+pub mod Endings
 pub mod Faults
 pub mod Memory
 pub mod Models

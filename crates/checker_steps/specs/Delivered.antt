@@ -3,13 +3,13 @@
 --     DeliveredStep r e .. old new      one step: every box took it, or one answered a fault at it
 --     DeliveredAll r es .. old new      several steps: every box took all of them, or one answered a fault
 --     DeliveredList r E .. old new      a whole step of a proof, with a list of E
---     Delivered r E .. old new      a whole call: the listeners ran over a list of E, or over a beginning of one up to a fault
+--     DeliveredEnd e E .. old new, Delivered r E .. old new      a whole call, by its end and by its answer: the listeners ran over a list of E, or over a beginning of one up to a fault
 use Rattle.std.specs.Prelude.{◌≡◌, List, [], ◌∷◌, ◌++◌, Result, Ok, Err}
 use Rattle.checker_rules.specs.CheckedSteps.{NamedStep}
 use Rattle.checker_rules.specs.Ran.{BothRan, OneStopped, Stopped}
 use Rattle.checker_rules.specs.Transcript.{TranscriptStep}
+use Rattle.checker_parts.specs.Endings.{Ending, given_up, had_failed, listener_faulted, memory_refused, ending}
 use Rattle.checker_parts.specs.declared.error.CheckerError.{CheckerError}
-use Rattle.checker_parts.specs.declared.error.CheckerError.TheVariants.{ProofIncomplete, IoError, ParseError, CheckFailed, ProofProcessorError, OutOfMemory, Failed}
 use Rattle.checker_parts.specs.declared.error.StepFault.{StepFault}
 use Rattle.checker_parts.specs.declared.error.StepFault.TheVariants as faults
 use Rattle.checker_steps.specs.declared.processing.ProcessingOf.{ProcessingOf}
@@ -87,22 +87,22 @@ DeliveredList (Err faults.Processor) E took faulted took_image faulted_image old
     DeliveredBeginning E took faulted took_image faulted_image old new
 DeliveredList (Err faults.OutOfMemory) E took faulted took_image faulted_image old new = Unit {0}
 
--- a call that emits a list of E, accepted or refused; nothing is said where memory was refused, and a checker that had failed delivers nothing on
+-- a list of E is delivered on whole, up to a fault that a box answered, or not known how far where memory was refused; a checker that had failed delivers nothing on
+abbrev pub DeliveredEnd : {P T : Type 0} → Ending → (List NamedStep → Type 0) →
+    (took faulted : P → NamedStep → P → Type 0) →
+    (took_image faulted_image : T → TranscriptStep → T → Type 0) → Listeners P T → Listeners P T →
+    Type 0
+DeliveredEnd (given_up listener_faulted) E took faulted took_image faulted_image old new =
+    DeliveredBeginning E took faulted took_image faulted_image old new
+DeliveredEnd (given_up memory_refused) E took faulted took_image faulted_image old new = Unit {0}
+DeliveredEnd had_failed E took faulted took_image faulted_image old new = old ≡ new
+DeliveredEnd _ E took faulted took_image faulted_image old new =
+    DeliveredWhole E took took_image old new
+
+-- a call that emits a list of E, accepted or refused; nothing is said where memory was refused
 abbrev pub Delivered : {A P T : Type 0} → Result A CheckerError → (List NamedStep → Type 0) →
     (took faulted : P → NamedStep → P → Type 0) →
     (took_image faulted_image : T → TranscriptStep → T → Type 0) → Listeners P T → Listeners P T →
     Type 0
-Delivered (Ok done) E took faulted took_image faulted_image old new =
-    DeliveredWhole E took took_image old new
-Delivered (Err (CheckFailed number cause debug_step)) E took faulted took_image faulted_image old
-    new = DeliveredWhole E took took_image old new
-Delivered (Err (ProofIncomplete number)) E took faulted took_image faulted_image old new =
-    DeliveredWhole E took took_image old new
-Delivered (Err (IoError number cause)) E took faulted took_image faulted_image old new =
-    DeliveredWhole E took took_image old new
-Delivered (Err (ParseError number cause)) E took faulted took_image faulted_image old new =
-    DeliveredWhole E took took_image old new
-Delivered (Err (ProofProcessorError cause)) E took faulted took_image faulted_image old new =
-    DeliveredBeginning E took faulted took_image faulted_image old new
-Delivered (Err OutOfMemory) E took faulted took_image faulted_image old new = Unit {0}
-Delivered (Err Failed) E took faulted took_image faulted_image old new = old ≡ new
+Delivered r E took faulted took_image faulted_image old new =
+    DeliveredEnd (ending r) E took faulted took_image faulted_image old new

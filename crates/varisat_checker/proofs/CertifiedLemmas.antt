@@ -21,6 +21,7 @@ use Rattle.checker_rules.specs.RunEmissions.{EmitsRun, last_calls}
 use Rattle.checker_rules.specs.Step.{Step}
 use Rattle.checker_rules.proofs.RunJoins.{runs_run_machine}
 use Rattle.proof_bytes.specs.Texts.{Place, next_of, start_of}
+use Rattle.checker_parts.specs.Endings.{ending}
 use Rattle.checker_parts.specs.declared.error.CheckerError.TheVariants.{ProofProcessorError, OutOfMemory, Failed}
 use Rattle.varisat_checker.specs.ProofRun.{EmitsProof, EndsProof}
 use Rattle.proof_bytes.specs.TextRuns as runs
@@ -59,7 +60,7 @@ module _ (s t : State) (text : List ℕ) (steps : List Step) (form : WellFormed 
   whole answer runs m es tied emits = let k = runs_run_machine _ _ _ _ _ _ _ _ _ _ tied form runs emits in (k.0, k.1)
 
   -- what a run over a text emits, by its answer
-  pub certifies-proof : (r : Answer) → EndsProof r text s steps t → Certifies r (EmitsProof r s text steps) s t
+  pub certifies-proof : (r : Answer) → EndsProof (ending r) text s steps t → Certifies r (EmitsProof (ending r) s text steps) s t
   certifies-proof (Ok done) runs = whole None runs
   certifies-proof (Err (ProofProcessorError cause)) runs = begun
   certifies-proof (Err OutOfMemory) runs = begun

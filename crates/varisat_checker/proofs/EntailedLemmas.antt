@@ -13,6 +13,7 @@ use Rattle.checker_rules.specs.Transcript.{TranscriptStep}
 use Rattle.checker_rules.proofs.Keeping.{step_keeps}
 use Rattle.checker_rules.proofs.WholeRuns.{close_keeps, keeps_attempt}
 use Rattle.checker_parts.specs.Answers.{AnswersParts, AnswersStep, IsCovered, IsFold, UnlessFailed}
+use Rattle.checker_parts.specs.Endings.{ending}
 use Rattle.checker_parts.specs.declared.error.CheckerError.TheVariants.{ProofProcessorError, OutOfMemory, Failed}
 use Rattle.checker_parts.proofs.Headlines.{unless_failed}
 use Rattle.checker_steps.specs.Delivered.{Listeners}
@@ -33,8 +34,8 @@ module _ (s : State) (good : EntailsRedundant s) (call : Call) (r : Answer) (u :
   pub entails-on : {b : Bool} → b ≡ has_failed r → b ≡ false → AnswersParts r (answer_of s call) u → EntailsRedundant u
   entails-on e on h = kept-on r e on (entails-call (went-on r (answer_of s call) u e on h))
 
-ends-moved : (r : Answer) (text : List ℕ) (s : State) (steps : List Step) (t u : State) → (has_failed r ≡ false → u ≡ t) → EndsProof r text s steps t →
-    EndsProof r text s steps u
+ends-moved : (r : Answer) (text : List ℕ) (s : State) (steps : List Step) (t u : State) → (has_failed r ≡ false → u ≡ t) → EndsProof (ending r) text s steps t →
+    EndsProof (ending r) text s steps u
 ends-moved (Err (ProofProcessorError cause)) text s steps t u same h = tt
 ends-moved (Err OutOfMemory) text s steps t u same h = tt
 ends-moved (Err Failed) text s steps t u same h = h

@@ -7,6 +7,7 @@ use Rattle.std.proofs.Common.{◌≡◌, Bool, true, false, None, Result, Ok, Er
 use Rattle.checker_rules.specs.Outcome.{Outcome}
 use Rattle.checker_rules.specs.State.{State}
 use Rattle.checker_parts.specs.Answers.{AnswersParts, AnswersStep, UnlessFailed, UnlessGivenUp}
+use Rattle.checker_parts.specs.Endings.{ending}
 use Rattle.checker_parts.specs.declared.error.CheckerError.{CheckerError}
 use Rattle.checker_parts.specs.declared.error.CheckerError.TheVariants.{ProofProcessorError, OutOfMemory, Failed}
 use Rattle.checker_parts.proofs.Headlines.{unless_failed}
@@ -49,7 +50,7 @@ unless-always (Err Failed) p = tt
 unless-always _ p = p
 
 -- what follows where it did not give up
-pub unless-bind : {P : Type 0} (r : Answer) (Q : Type 0) → (P → UnlessFailed r Q) → UnlessGivenUp r P → UnlessFailed r Q
+pub unless-bind : {P : Type 0} (r : Answer) (Q : Type 0) → (P → UnlessFailed r Q) → UnlessGivenUp (ending r) P → UnlessFailed r Q
 unless-bind (Err (ProofProcessorError cause)) Q f p = tt
 unless-bind (Err OutOfMemory) Q f p = tt
 unless-bind _ Q f p = f p

@@ -23,15 +23,16 @@ use Rattle.sat_formula.specs.DimacsReader.{IsNext, has_ended}
 use Rattle.sat_formula.specs.Whole.{HasGiven, outcome_left}
 use Rattle.sat_formula.proofs.Whole.{BeginsWith-given, FailsAfter-given, HasGiven-more, HasGiven-nil, IsOutcome-ended}
 use Rattle.checker_parts.specs.Answers.{AnswersStep, AnswersText, UnlessTextFailed}
+use Rattle.checker_parts.specs.Endings.{text_ending}
 use Rattle.checker_parts.specs.declared.error.CheckerError.{CheckerError}
 use Rattle.checker_parts.specs.declared.error.CheckerError.TheVariants.{OutOfMemory}
 use Rattle.checker_parts.specs.declared.error.DimacsError.{DimacsError}
 use Rattle.checker_parts.specs.declared.error.DimacsError.TheVariants.{Read, Malformed, Checker}
 use Rattle.checker_parts.proofs.Headlines.{sets_text}
-use Rattle.checker_steps.specs.Delivered.{Listeners, Delivered, DeliveredWhole}
+use Rattle.checker_steps.specs.Delivered.{Listeners, Delivered, DeliveredEnd, DeliveredWhole}
 use Rattle.checker_steps.proofs.DeliveryLemmas.{ran-none}
 use Rattle.varisat_checker.specs.TextFault.{IsTextFault}
-use Rattle.varisat_checker.specs.TextRun.{EndsText, DeliveredText, TextRun, outcome_of}
+use Rattle.varisat_checker.specs.TextRun.{EndsText, TextRun, outcome_of}
 use Rattle.varisat_checker.proofs.CertifiedLemmas.{certifies-adds}
 use Rattle.varisat_checker.proofs.DeliveredAdds.{AddedSoFar, EmitsAdded, added-all, added-more, added-stops, adds-more, adds-stop, covers-added, sets-added}
 use Rattle.varisat_checker.proofs.FailingLemmas.{err_answer, ok_answer}
@@ -89,7 +90,7 @@ module _ {R P T : Type 0} {remaining : R → Option (List ℕ)} {took faulted : 
       (new : DimacsReader R) (clause : List ℕ) where
     ended : {w : State} {later : Listeners P T} (clauses : List (List ℕ)) (r : Result (Unit {0}) DimacsError) →
         EndsText (outcome_left remaining first) clauses r → AnswersText r (add_clauses s clauses) w →
-        DeliveredText r (EmitsAdded s clauses) took faulted took_image faulted_image old later →
+        DeliveredEnd (text_ending r) (EmitsAdded s clauses) took faulted took_image faulted_image old later →
         TextRun known s r w took faulted took_image faulted_image old later
     ended {w} clauses r text a delivered = record {
       clauses = clauses;

@@ -31,6 +31,7 @@ use Rattle.proof_bytes.proofs.TextRuns.{MayRead, SoFar, all_taken, found_fault, 
 use Rattle.proof_bytes.proofs.TextRuns.{nothing_yet, of_text, one_more, run_ends, some_taken}
 use Rattle.checker_parts.specs.Answers.{AnswersParts}
 use Rattle.checker_parts.specs.Causes.{cause_of}
+use Rattle.checker_parts.specs.Endings.{ending}
 use Rattle.checker_parts.specs.Faults.{IsErrorOf}
 use Rattle.checker_parts.specs.declared.error.CheckCause.TheVariants.{StepsExhausted}
 use Rattle.checker_parts.specs.declared.error.CheckerError.{CheckerError}
@@ -151,8 +152,8 @@ module _ {known now : Known} {s t : State} {steps : List Step} {format : Format}
 module _ {P T : Type 0} {took faulted : P → NamedStep → P → Type 0} {took_image faulted_image : T → TranscriptStep → T → Type 0} {known now : Known}
     {s t : State} {format : Format} {old mid : Listeners P T} (p : RunDelivered took took_image known now s t format old mid) where
   module _ (form : WellFormed s) (u : State) (new : Listeners P T) where
-    parts-run : (r : Answer) (text : List ℕ) → AnswerSets s p.steps r u → IsReadText r known text → EndsProof r text s p.steps u →
-        Delivered r (EmitsProof r s text p.steps) took faulted took_image faulted_image old new →
+    parts-run : (r : Answer) (text : List ℕ) → AnswerSets s p.steps r u → IsReadText (ending r) known text → EndsProof (ending r) text s p.steps u →
+        Delivered r (EmitsProof (ending r) s text p.steps) took faulted took_image faulted_image old new →
         PartsRun known s r u took faulted took_image faulted_image old new
     parts-run r text sets is_text ends delivered = record {
       text = text;
@@ -172,7 +173,7 @@ module _ {P T : Type 0} {took faulted : P → NamedStep → P → Type 0} {took_
 
     -- this call is the last, if any
     ends-in : (call : Option Call) (r : Answer) (text : List ℕ) (there : Place) → RunsTo s (start_of text) p.steps t there →
-        last_calls next_of t there ≡ calls_of call → AnswerSets s p.steps r u → IsReadText r known text → EndsProof r text s p.steps u →
+        last_calls next_of t there ≡ calls_of call → AnswerSets s p.steps r u → IsReadText (ending r) known text → EndsProof (ending r) text s p.steps u →
         Delivered r (EmitsLast t call) took faulted took_image faulted_image mid new →
         PartsRun known s r u took faulted took_image faulted_image old new
     ends-in call r text there goes last sets is_text ends h = parts-run r text sets is_text ends (told r ends h)
@@ -181,8 +182,8 @@ module _ {P T : Type 0} {took faulted : P → NamedStep → P → Type 0} {took_
         more es e = subst (λ (l : List Step). EmitsRun next_of s (start_of text) l (p.delivered.0 ++ es)) (append-nil p.steps)
             ((emissions_join Place Fault).ends _ _ _ _ _ _ [] _ _ goes p.delivered.1 (rw last (last-emits t call es e)))
 
-        told : (r : Answer) → EndsProof r text s p.steps u → Delivered r (EmitsLast t call) took faulted took_image faulted_image mid new →
-            Delivered r (EmitsProof r s text p.steps) took faulted took_image faulted_image old new
+        told : (r : Answer) → EndsProof (ending r) text s p.steps u → Delivered r (EmitsLast t call) took faulted took_image faulted_image mid new →
+            Delivered r (EmitsProof (ending r) s text p.steps) took faulted took_image faulted_image old new
         told (Err (ProofProcessorError fault)) ends h =
             beginning-second _ _ _ _ (EmitsLast t call) (EmitsRun next_of s (start_of text) p.steps) _ _ _ _ p.delivered.2 more h
         told (Err OutOfMemory) ends h = tt
@@ -203,8 +204,8 @@ module _ {P T : Type 0} {took faulted : P → NamedStep → P → Type 0} {took_
 
     -- a step that could not be read
     stopped : (f : Fault) (e : CheckerError) (text : List ℕ) (there : Place) → MayRead t → u ≡ count_step t → RunsTo s (start_of text) p.steps t there →
-        next_at there.0 there.1 ≡ Err f → IsReadText (err_answer e) known text →
-        (Runs next_of s (start_of text) p.steps (Some (inr f)) u → EndsProof (err_answer e) text s p.steps u) →
+        next_at there.0 there.1 ≡ Err f → IsReadText (ending (err_answer e)) known text →
+        (Runs next_of s (start_of text) p.steps (Some (inr f)) u → EndsProof (ending (err_answer e)) text s p.steps u) →
         Delivered (err_answer e) (EmitsLast t None) took faulted took_image faulted_image mid new →
         PartsRun known s (err_answer e) u took faulted took_image faulted_image old new
     stopped f e text there may counted goes found is_text ends d =
