@@ -15,7 +15,6 @@ use Rattle.checker_rules.specs.RunEmissions.{EmitsRun}
 use Rattle.checker_rules.specs.State.{State}
 use Rattle.checker_rules.specs.Step.{Step, add_clause}
 use Rattle.checker_rules.specs.Steps.{new_state}
-use Rattle.checker_rules.specs.Transcript.{TranscriptStep}
 use Rattle.checker_rules.proofs.AddedClauses.{formulas_are_fold, members}
 use Rattle.checker_rules.proofs.CallRuns.{new_is_tied}
 use Rattle.checker_rules.proofs.Emissions.{run-append}
@@ -25,7 +24,7 @@ use Rattle.checker_parts.specs.Answers.{AnswersStep, IsCovered}
 use Rattle.checker_parts.specs.declared.error.CheckerError.{CheckerError}
 use Rattle.checker_parts.specs.declared.error.CheckerError.TheVariants.{OutOfMemory}
 use Rattle.proof_bytes.specs.Texts.{next_of, start_of}
-use Rattle.checker_steps.specs.Delivered.{Listeners, DeliveredWhole}
+use Rattle.checker_steps.specs.Delivered.{Listeners, Listens, ListensImage, DeliveredWhole}
 use Rattle.varisat_checker.specs.Certified.{Certifies}
 use Rattle.varisat_checker.specs.ProofRun.{ProofAnswer, ProofRun}
 use Rattle.varisat_check.specs.LratRuns.{LratRun, RefusesFormula, RefusesProof}
@@ -53,15 +52,15 @@ pub record Left {P : Type 0} (took : P → NamedStep → P → Type 0) (known : 
   pub run : LratRun took known formula old verdict new
 
 -- a new checker, a processor registered with it, a formula, a proof: the run, and the one processor that is left
-pub fresh_run : {P C : Type 0} (took faulted : P → NamedStep → P → Type 0) (took_image faulted_image : C → TranscriptStep → C → Type 0)
+pub fresh_run : {P C : Type 0} (listens : Listens P) (listens_image : ListensImage C)
     (formula : List (List ℕ)) (known : Option (List ℕ)) (old : P) (none first mid last : Listeners P C) (r s t u : State) (n : ℕ) (verdict : Verdict) →
     r ≡ new_state → none.processors ≡ [] → s ≡ r → first ≡ record none { processors = none.processors ++ old ∷ [] } →
     (s.failed ≡ false → AnswersStep {A = Unit {0}} (Ok tt) (add_clauses s formula) t) →
-    (s.failed ≡ false → DeliveredWhole (EmitsCalls s (map adds (added s formula))) took took_image first mid) →
+    (t.failed ≡ false → ProofRun {A = Unit {0}} known t (Ok tt) u listens listens_image mid last) →
+    (s.failed ≡ false → DeliveredWhole (EmitsCalls s (map adds (added s formula))) listens listens_image first mid) →
     (s.failed ≡ false → Certifies {A = Unit {0}} (Ok tt) (EmitsCalls s (map adds (added s formula))) s t) →
-    (t.failed ≡ false → ProofRun {A = Unit {0}} known t (Ok tt) u took faulted took_image faulted_image mid last) →
-    n ≡ shown_inputs t → verdict ≡ verdict_of n u → Left took known formula old verdict last.processors
-fresh_run {P} {C} took faulted took_image faulted_image formula known old none first mid last r s t u n verdict new empty same registered answers delivers certifies runs inputs told =
+    n ≡ shown_inputs t → verdict ≡ verdict_of n u → Left listens.took known formula old verdict last.processors
+fresh_run {P} {C} listens listens_image formula known old none first mid last r s t u n verdict new empty same registered answers runs delivers certifies inputs told =
     let fresh : s ≡ new_state = same ∙ new in
     let running : s.failed ≡ false = ap (λ (x : State). x.failed) fresh in
     let answer = subst (λ x. AnswersStep {A = Unit {0}} (Ok tt) (add_clauses x formula) t) fresh (answers running) in
@@ -70,8 +69,8 @@ fresh_run {P} {C} took faulted took_image faulted_image formula known old none f
     let whole = formulas_are_fold.accepted new_state formula answer.0 in
     let run = runs (ap (λ (x : State). x.failed) answer.1 ∙ failed-add_clauses new_state formula) in
     let alone : first.processors ≡ old ∷ [] = ap (λ x. x.processors) registered ∙ ap (λ bs. bs ++ old ∷ []) empty in
-    let ran = all_ran_append took given.0 run.delivered.0 first.processors mid.processors last.processors given.2.processors run.delivered.2.processors in
-    let one = one_ran took old (given.0 ++ run.delivered.0) last.processors (subst (λ bs. AllRan took bs (given.0 ++ run.delivered.0) last.processors) alone ran) in
+    let ran = all_ran_append listens.took given.0 run.delivered.0 first.processors mid.processors last.processors given.2.processors run.delivered.2.processors in
+    let one = one_ran listens.took old (given.0 ++ run.delivered.0) last.processors (subst (λ bs. AllRan listens.took bs (given.0 ++ run.delivered.0) last.processors) alone ran) in
     let tied = subst (λ x. Mirrors empty_machine x) (sym fresh) new_is_tied.0 in
     let first_run = certifies running empty_machine given.0 tied given.1 in
     let second_run = run.certified (machine_after empty_machine (hint_steps given.0)) run.delivered.0 first_run.1 run.delivered.1 in
@@ -120,10 +119,10 @@ added_whole formula r s t a = subst (λ x. AnswersStep {A = Unit {0}} (Ok tt) (a
 still_running : (formula : List (List ℕ)) (r s t : State) → Adding formula r s t → t.failed ≡ false
 still_running formula r s t a = ap (λ (x : State). x.failed) (added_whole formula r s t a).1 ∙ failed-add_clauses new_state formula
 
-module _ {P C : Type 0} {took faulted : P → NamedStep → P → Type 0} {took_image faulted_image : C → TranscriptStep → C → Type 0} {mid last : Listeners P C} where
+module _ {P C : Type 0} {listens : Listens P} {listens_image : ListensImage C} {mid last : Listeners P C} where
   -- the input clauses before and after an accepted proof
   pub counted : (formula : List (List ℕ)) (known : Option (List ℕ)) (r s t u : State) (n : ℕ) → Adding formula r s t →
-      (t.failed ≡ false → ProofRun {A = Unit {0}} known t (Ok tt) u took faulted took_image faulted_image mid last) → n ≡ shown_inputs t →
+      (t.failed ≡ false → ProofRun {A = Unit {0}} known t (Ok tt) u listens listens_image mid last) → n ≡ shown_inputs t →
       shown_unsat u ≡ true → n ≤ shown_inputs u
   counted formula known r s t u n a runs inputs h =
       let lives = still_running formula r s t a in
@@ -133,7 +132,7 @@ module _ {P C : Type 0} {took faulted : P → NamedStep → P → Type 0} {took_
   -- a verdict of unsatisfiability
   pub formula_refuted : (formula : List (List ℕ)) (known : Option (List ℕ)) (r s t u : State) (n : ℕ) (verdict : Verdict) → Adding formula r s t →
       (s.failed ≡ false → (before : List Step) → IsCovered before s → IsCovered (before ++ map add_clause (added s formula)) t) →
-      (t.failed ≡ false → ProofRun {A = Unit {0}} known t (Ok tt) u took faulted took_image faulted_image mid last) → n ≡ shown_inputs t →
+      (t.failed ≡ false → ProofRun {A = Unit {0}} known t (Ok tt) u listens listens_image mid last) → n ≡ shown_inputs t →
       verdict ≡ verdict_of n u → verdict ≡ Unsatisfiable → (a : ℕ → Bool) → all_true a formula ≡ false
   formula_refuted formula known r s t u n verdict adding covers runs inputs told is a =
       let lives = still_running formula r s t adding in
@@ -151,10 +150,10 @@ pub processor_refused : (formula : List (List ℕ)) (e : CheckerError) (r : Stat
 processor_refused formula e r new given = subst (RefusesFormula formula) (sym (given (ap (λ (x : State). x.failed) new))) (fail new_state, refl)
 
 -- a refused proof
-pub proof_refused : {P C : Type 0} {took faulted : P → NamedStep → P → Type 0} {took_image faulted_image : C → TranscriptStep → C → Type 0}
+pub proof_refused : {P C : Type 0} {listens : Listens P} {listens_image : ListensImage C}
     {mid last : Listeners P C} (known : Option (List ℕ)) (formula : List (List ℕ)) (e : CheckerError) (r s t u : State) →
     Adding formula r s t
-    → (t.failed ≡ false → ProofRun {A = Unit {0}} known t (Err e) u took faulted took_image faulted_image mid last) → RefusesProof known formula e
+    → (t.failed ≡ false → ProofRun {A = Unit {0}} known t (Err e) u listens listens_image mid last) → RefusesProof known formula e
 proof_refused known formula e r s t u a runs =
     let answer = added_whole formula r s t a in
     let run = runs (still_running formula r s t a) in

@@ -9,19 +9,17 @@ use Rattle.std.specs.Prelude.{◌==◌, ◌-◌, if◌then◌else◌, IfOk}
 use Rattle.std.proofs.lemmas.Bool.{and_parts, eqb-true}
 use Rattle.sat_rules.specs.Clauses.{all_true}
 use Rattle.checker_rules.specs.Calls.{shown_inputs, shown_unsat}
-use Rattle.checker_rules.specs.CheckedSteps.{NamedStep}
 use Rattle.checker_rules.specs.Headline.{holds}
 use Rattle.checker_rules.specs.State.{State}
 use Rattle.checker_rules.specs.Step.{Step, add_clause}
 use Rattle.checker_rules.specs.Steps.{new_state}
-use Rattle.checker_rules.specs.Transcript.{TranscriptStep}
 use Rattle.checker_rules.proofs.AddedClauses.{formulas_are_fold, members}
 use Rattle.checker_rules.proofs.Refuting.{counted_run, runs_refute}
 use Rattle.proof_bytes.specs.Reading.{Fault}
 use Rattle.proof_bytes.specs.Texts.{Place, next_of, start_of}
 use Rattle.checker_parts.specs.Answers.{IsCovered}
 use Rattle.checker_parts.specs.declared.error.DimacsError.{DimacsError}
-use Rattle.checker_steps.specs.Delivered.{Listeners}
+use Rattle.checker_steps.specs.Delivered.{Listeners, Listens, ListensImage}
 use Rattle.varisat_checker.specs.ProofRun.{ProofAnswer, ProofRun}
 use Rattle.varisat_checker.specs.TextRun.{EndsText, TextAnswer, TextRun, outcome_of}
 use Rattle.checker_steps.specs.Failing.{IsFailed}
@@ -104,40 +102,40 @@ verdict_told v n s t h e k = let same : v ≡ Unsatisfiable = cc in sym (ap (λ 
 abbrev pub AddsText : Known → State → Type 0
 AddsText known t = (clauses : List (List ℕ)) × Adds known clauses t
 
-pub text_added : {P T : Type 0} {took faulted : P → NamedStep → P → Type 0} {took_image faulted_image : T → TranscriptStep → T → Type 0}
+pub text_added : {P T : Type 0} {listens : Listens P} {listens_image : ListensImage T}
     {old new : Listeners P T} (cnf : Known) (s t : State) → s ≡ new_state
-    → (s.failed ≡ false → TextRun {A = Unit {0}} cnf s (Ok tt) t took faulted took_image faulted_image old new) → AddsText cnf t
+    → (s.failed ≡ false → TextRun {A = Unit {0}} cnf s (Ok tt) t listens listens_image old new) → AddsText cnf t
 text_added cnf s t e h = let run = h (ap (λ (r : State). r.failed) e) in (run.clauses, subst (λ r. TextAnswer {A = Unit {0}} cnf r run.clauses (Ok tt) t) e run.answered)
 
 -- and did not take all of it
-pub text_refused : {P T : Type 0} {took faulted : P → NamedStep → P → Type 0} {took_image faulted_image : T → TranscriptStep → T → Type 0}
+pub text_refused : {P T : Type 0} {listens : Listens P} {listens_image : ListensImage T}
     {old new : Listeners P T} (cnf : Known) (e : DimacsError) (s t : State) → s ≡ new_state
-    → (s.failed ≡ false → TextRun {A = Unit {0}} cnf s (Err e) t took faulted took_image faulted_image old new) → RefusedText cnf e
+    → (s.failed ≡ false → TextRun {A = Unit {0}} cnf s (Err e) t listens listens_image old new) → RefusedText cnf e
 text_refused cnf e s t same h = let run = h (ap (λ (r : State). r.failed) same) in (run.clauses, t, subst (λ r. TextAnswer {A = Unit {0}} cnf r run.clauses (Err e) t) same run.answered)
 
 -- the proof's run behind a whole formula
-pub whole_run : {P T : Type 0} (took faulted : P → NamedStep → P → Type 0) (took_image faulted_image : T → TranscriptStep → T → Type 0)
+pub whole_run : {P T : Type 0} (listens : Listens P) (listens_image : ListensImage T)
     (old new : Listeners P T) (cnf proof : Known) (s t : State) (r : Result Verdict RunFault) → AddsText cnf s
-    → OnProof (λ answer. ProofRun proof s answer t took faulted took_image faulted_image old new) r → IfOk r (λ v. v ≡ verdict_of (shown_inputs s) t)
+    → OnProof (λ answer. ProofRun proof s answer t listens listens_image old new) r → IfOk r (λ v. v ≡ verdict_of (shown_inputs s) t)
     → (r ≡ Ok Unsatisfiable → (before : List Step) → IsCovered before s → (a : ℕ → Bool) → holds before a ≡ false) → CheckRun cnf proof r
-whole_run took faulted took_image faulted_image old new cnf proof s t (Ok v) text run told refuted =
+whole_run listens listens_image old new cnf proof s t (Ok v) text run told refuted =
     record { clauses = text.0; formula = s; adds = text.1; text = run.text; steps = run.steps; left = t; runs = run.answered; verdict = told; refutes = λ h. refuted_clauses s text.1 (refuted h) }
-whole_run took faulted took_image faulted_image old new cnf proof s t (Err (Write cause)) text run told refuted =
+whole_run listens listens_image old new cnf proof s t (Err (Write cause)) text run told refuted =
     record { clauses = text.0; formula = s; adds = text.1; text = run.text; steps = run.steps; left = t; runs = run.answered; verdict = told; refutes = λ h. refuted_clauses s text.1 (refuted h) }
-whole_run took faulted took_image faulted_image old new cnf proof s t (Err (Proof e)) text run told refuted =
+whole_run listens listens_image old new cnf proof s t (Err (Proof e)) text run told refuted =
     record { clauses = text.0; formula = s; adds = text.1; text = run.text; steps = run.steps; left = t; runs = run.answered; verdict = told; refutes = λ h. refuted_clauses s text.1 (refuted h) }
-whole_run took faulted took_image faulted_image old new cnf proof s t (Err (Formula e)) text run told refuted = absurd run
+whole_run listens listens_image old new cnf proof s t (Err (Formula e)) text run told refuted = absurd run
 
 -- its line was not written whole
-pub unwritten_run : {P T : Type 0} (took faulted : P → NamedStep → P → Type 0) (took_image faulted_image : T → TranscriptStep → T → Type 0)
+pub unwritten_run : {P T : Type 0} (listens : Listens P) (listens_image : ListensImage T)
     (old new : Listeners P T) (cnf proof : Known) (s t : State) (r : Result Verdict RunFault) (before after : Known) → AddsText cnf s
-    → OnProof (λ answer. ProofRun proof s answer t took faulted took_image faulted_image old new) r
+    → OnProof (λ answer. ProofRun proof s answer t listens listens_image old new) r
     → (IsUnwritten r → AppendsBeginning before after (shown_line (verdict_of (shown_inputs s) t))) → IsUnwritten r → BeginsLine cnf proof before after
-unwritten_run took faulted took_image faulted_image old new cnf proof s t (Ok v) before after text run begins is = absurd is
-unwritten_run took faulted took_image faulted_image old new cnf proof s t (Err (Write cause)) before after text run begins is =
+unwritten_run listens listens_image old new cnf proof s t (Ok v) before after text run begins is = absurd is
+unwritten_run listens listens_image old new cnf proof s t (Err (Write cause)) before after text run begins is =
     record { clauses = text.0; formula = s; adds = text.1; text = run.text; steps = run.steps; left = t; runs = run.answered; begins = begins is }
-unwritten_run took faulted took_image faulted_image old new cnf proof s t (Err (Proof e)) before after text run begins is = absurd is
-unwritten_run took faulted took_image faulted_image old new cnf proof s t (Err (Formula e)) before after text run begins is = absurd is
+unwritten_run listens listens_image old new cnf proof s t (Err (Proof e)) before after text run begins is = absurd is
+unwritten_run listens listens_image old new cnf proof s t (Err (Formula e)) before after text run begins is = absurd is
 
 -- of a text whose bytes are known
 pub refuted_text : (cnf : Known) (bytes : List ℕ) (s : State) → cnf ≡ Some bytes → AddsText cnf s →

@@ -3,20 +3,19 @@
 --     proof-run      a run over parts as one of the checker, which goes on after it or fails
 use Rattle.std.proofs.Common.{◌≡◌, ℕ, Bool, false, List, ◌++◌, Option, Err, refl}
 use Rattle.checker_rules.specs.Calls.{Call, adds, answer_of, checks, closes}
-use Rattle.checker_rules.specs.CheckedSteps.{NamedStep, hint_steps}
+use Rattle.checker_rules.specs.CheckedSteps.{hint_steps}
 use Rattle.checker_rules.specs.Headline.{EntailsRedundant}
 use Rattle.checker_rules.specs.HintRun.{machine_after}
 use Rattle.checker_rules.specs.Machine.{Mirrors}
 use Rattle.checker_rules.specs.State.{State}
 use Rattle.checker_rules.specs.Step.{Step, add_clause}
-use Rattle.checker_rules.specs.Transcript.{TranscriptStep}
 use Rattle.checker_rules.proofs.Keeping.{step_keeps}
 use Rattle.checker_rules.proofs.WholeRuns.{close_keeps, keeps_attempt}
 use Rattle.checker_parts.specs.Answers.{AnswersParts, AnswersStep, IsCovered, IsFold, UnlessFailed}
 use Rattle.checker_parts.specs.Endings.{ending}
 use Rattle.checker_parts.specs.declared.error.CheckerError.TheVariants.{ProofProcessorError, OutOfMemory, Failed}
 use Rattle.checker_parts.proofs.Headlines.{unless_failed}
-use Rattle.checker_steps.specs.Delivered.{Listeners}
+use Rattle.checker_steps.specs.Delivered.{Listeners, Listens, ListensImage}
 use Rattle.checker_steps.specs.Failing.{has_failed}
 use Rattle.varisat_checker.specs.ProofRun.{EndsProof, PartsRun, ProofRun}
 use Rattle.varisat_checker.proofs.FailingLemmas.{Answer, kept-on, unless-moved, went-on}
@@ -42,9 +41,9 @@ ends-moved (Err Failed) text s steps t u same h = h
 ends-moved _ text s steps t u same h = rw (same refl) h
 
 -- the entailment is the checker's own, and of the state after a failure nothing is said
-pub proof-run : {P T : Type 0} {took faulted : P → NamedStep → P → Type 0} {took_image faulted_image : T → TranscriptStep → T → Type 0}
+pub proof-run : {P T : Type 0} {listens : Listens P} {listens_image : ListensImage T}
     {known : Option (List ℕ)} {s : State} {r : Answer} {t u : State} {old new : Listeners P T} → EntailsRedundant s → (has_failed r ≡ false → u ≡ t) →
-    PartsRun known s r t took faulted took_image faulted_image old new → ProofRun known s r u took faulted took_image faulted_image old new
+    PartsRun known s r t listens listens_image old new → ProofRun known s r u listens listens_image old new
 proof-run {s = s} {r = r} {t = t} {u = u} good same run =
     let moved = λ (Q : State → Type 0). unless-moved Q r t u same in
     record {

@@ -14,7 +14,6 @@ use Rattle.checker_rules.specs.Run.{Runs, as_answer, move}
 use Rattle.checker_rules.specs.RunEmissions.{EmitsRun, last_calls, read_calls}
 use Rattle.checker_rules.specs.State.{State}
 use Rattle.checker_rules.specs.Step.{Step}
-use Rattle.checker_rules.specs.Transcript.{TranscriptStep}
 use Rattle.checker_rules.specs.WellFormed.{WellFormed}
 use Rattle.checker_rules.proofs.RunJoins.{emissions_join, runs_join}
 use Rattle.proof_bytes.specs.declared.fault.ProofFault.{ProofFault}
@@ -37,7 +36,7 @@ use Rattle.checker_parts.specs.declared.error.CheckCause.TheVariants.{StepsExhau
 use Rattle.checker_parts.specs.declared.error.CheckerError.{CheckerError}
 use Rattle.checker_parts.specs.declared.error.CheckerError.TheVariants.{ProofIncomplete, IoError, ParseError, CheckFailed, ProofProcessorError, OutOfMemory, Failed}
 use Rattle.checker_parts.specs.declared.error.StepFault.TheVariants.{Refused}
-use Rattle.checker_steps.specs.Delivered.{Listeners, Delivered, DeliveredWhole}
+use Rattle.checker_steps.specs.Delivered.{Listeners, Listens, ListensImage, Delivered, DeliveredWhole}
 use Rattle.checker_steps.proofs.CallAnswers.{error-answers, error-delivered}
 use Rattle.checker_steps.proofs.DeliveryLemmas.{beginning-second, ran-append, ran-none}
 use Rattle.varisat_checker.specs.ProofRun.{EmitsProof, EndsProof, IsReadText, PartsRun}
@@ -81,35 +80,35 @@ record LeadsTo (known : Known) (s : State) (steps : List Step) (t : State) (A : 
   goes : RunsTo s (start_of text) steps t there
   here : A there
 
-silent : {P T : Type 0} (took : P → NamedStep → P → Type 0) (took_image : T → TranscriptStep → T → Type 0) (t : State) (old : Listeners P T) →
-    DeliveredWhole (EmitsLast t None) took took_image old old
-silent took took_image t old = ([], refl, ran-none took took took_image took_image old)
+silent : {P T : Type 0} (listens : Listens P) (listens_image : ListensImage T) (t : State) (old : Listeners P T) →
+    DeliveredWhole (EmitsLast t None) listens listens_image old old
+silent listens listens_image t old = ([], refl, ran-none listens listens_image old)
 
 -- ---- the loop
 
 -- the steps that were accepted, the fold over them, and what was delivered on of them
-pub record RunDelivered {P T : Type 0} (took : P → NamedStep → P → Type 0) (took_image : T → TranscriptStep → T → Type 0) (known bytes : Known)
+pub record RunDelivered {P T : Type 0} (listens : Listens P) (listens_image : ListensImage T) (known bytes : Known)
     (s t : State) (format : Format) (old new : Listeners P T) : Type 0 where
   pub steps : List Step
   pub reads : SoFar known bytes s steps t format
   pub sets : SoFarSets s steps t
-  pub delivered : DeliveredWhole (EmitsCalls s (map checks steps)) took took_image old new
+  pub delivered : DeliveredWhole (EmitsCalls s (map checks steps)) listens listens_image old new
 
-module _ {P T : Type 0} {took : P → NamedStep → P → Type 0} {took_image : T → TranscriptStep → T → Type 0} {known : Known} {s : State}
+module _ {P T : Type 0} {listens : Listens P} {listens_image : ListensImage T} {known : Known} {s : State}
     {format : Format} {old : Listeners P T} where
-  pub delivered-begins : {bytes : Known} → bytes ≡ known → format ≡ formats.Start → RunDelivered took took_image known bytes s s format old old
+  pub delivered-begins : {bytes : Known} → bytes ≡ known → format ≡ formats.Start → RunDelivered listens listens_image known bytes s s format old old
   delivered-begins {bytes} e starts = record {
     steps = [];
     reads = nothing_yet known bytes s format e starts;
     sets = sets-begin s;
-    delivered = ([], refl, ran-none took took took_image took_image old);
+    delivered = ([], refl, ran-none listens listens_image old);
   }
 
   -- a turn of the loop
   pub delivered-goes : {now new : Known} {t u : State} {next : Format} {step : Step} {mid later : Listeners P T} →
-      RunDelivered took took_image known now s t format old mid → Leads now new (next_at format) (λ more. Ok ((next, step), more)) → MayRead t →
-      AnswersParts ok_answer (attempt t step) u → DeliveredWhole (EmitsCall t (checks step)) took took_image mid later →
-      RunDelivered took took_image known new s u next old later
+      RunDelivered listens listens_image known now s t format old mid → Leads now new (next_at format) (λ more. Ok ((next, step), more)) → MayRead t →
+      AnswersParts ok_answer (attempt t step) u → DeliveredWhole (EmitsCall t (checks step)) listens listens_image mid later →
+      RunDelivered listens listens_image known new s u next old later
   delivered-goes {t = t} {u = u} {step = step} {mid = mid} {later = later} p leads may h k =
       let reached = (runs_join Place Fault).state next_of _ _ _ _ _ (p.reads.goes []) in
       record {
@@ -120,7 +119,7 @@ module _ {P T : Type 0} {took : P → NamedStep → P → Type 0} {took_image : 
           p.delivered.0 ++ k.0,
           rw map-append ((emissions_join Place Fault).calls _ _ _ _ _ p.delivered.1
               (subst (λ (w : State). EmitsCalls w (checks step ∷ []) k.0) reached (last-emits t (Some (checks step)) k.0 k.1))),
-          ran-append took took took_image took_image _ _ _ _ _ p.delivered.2 k.2,
+          ran-append listens listens_image _ _ _ _ _ p.delivered.2 k.2,
         );
       }
 
@@ -149,12 +148,12 @@ module _ {known now : Known} {s t : State} {steps : List Step} {format : Format}
   closing : t.ended ≡ true → LeadsTo known s steps t (EndsBy t (closing_conflict t) (Some closes))
   closing ended = anywhere (EndsBy t (closing_conflict t) (Some closes)) (λ there. (rw ended refl, λ cause is. move-closed t there (Some cause) ended is))
 
-module _ {P T : Type 0} {took faulted : P → NamedStep → P → Type 0} {took_image faulted_image : T → TranscriptStep → T → Type 0} {known now : Known}
-    {s t : State} {format : Format} {old mid : Listeners P T} (p : RunDelivered took took_image known now s t format old mid) where
+module _ {P T : Type 0} {listens : Listens P} {listens_image : ListensImage T} {known now : Known}
+    {s t : State} {format : Format} {old mid : Listeners P T} (p : RunDelivered listens listens_image known now s t format old mid) where
   module _ (form : WellFormed s) (u : State) (new : Listeners P T) where
     parts-run : (r : Answer) (text : List ℕ) → AnswerSets s p.steps r u → IsReadText (ending r) known text → EndsProof (ending r) text s p.steps u →
-        Delivered r (EmitsProof (ending r) s text p.steps) took faulted took_image faulted_image old new →
-        PartsRun known s r u took faulted took_image faulted_image old new
+        Delivered r (EmitsProof (ending r) s text p.steps) listens listens_image old new →
+        PartsRun known s r u listens listens_image old new
     parts-run r text sets is_text ends delivered = record {
       text = text;
       steps = p.steps;
@@ -174,26 +173,26 @@ module _ {P T : Type 0} {took faulted : P → NamedStep → P → Type 0} {took_
     -- this call is the last, if any
     ends-in : (call : Option Call) (r : Answer) (text : List ℕ) (there : Place) → RunsTo s (start_of text) p.steps t there →
         last_calls next_of t there ≡ calls_of call → AnswerSets s p.steps r u → IsReadText (ending r) known text → EndsProof (ending r) text s p.steps u →
-        Delivered r (EmitsLast t call) took faulted took_image faulted_image mid new →
-        PartsRun known s r u took faulted took_image faulted_image old new
+        Delivered r (EmitsLast t call) listens listens_image mid new →
+        PartsRun known s r u listens listens_image old new
     ends-in call r text there goes last sets is_text ends h = parts-run r text sets is_text ends (told r ends h)
       where
         more : (es : List NamedStep) → EmitsLast t call es → EmitsRun next_of s (start_of text) p.steps (p.delivered.0 ++ es)
         more es e = subst (λ (l : List Step). EmitsRun next_of s (start_of text) l (p.delivered.0 ++ es)) (append-nil p.steps)
             ((emissions_join Place Fault).ends _ _ _ _ _ _ [] _ _ goes p.delivered.1 (rw last (last-emits t call es e)))
 
-        told : (r : Answer) → EndsProof (ending r) text s p.steps u → Delivered r (EmitsLast t call) took faulted took_image faulted_image mid new →
-            Delivered r (EmitsProof (ending r) s text p.steps) took faulted took_image faulted_image old new
+        told : (r : Answer) → EndsProof (ending r) text s p.steps u → Delivered r (EmitsLast t call) listens listens_image mid new →
+            Delivered r (EmitsProof (ending r) s text p.steps) listens listens_image old new
         told (Err (ProofProcessorError fault)) ends h =
-            beginning-second _ _ _ _ (EmitsLast t call) (EmitsRun next_of s (start_of text) p.steps) _ _ _ _ p.delivered.2 more h
+            beginning-second listens listens_image (EmitsLast t call) (EmitsRun next_of s (start_of text) p.steps) _ _ _ _ p.delivered.2 more h
         told (Err OutOfMemory) ends h = tt
         told (Err Failed) ends h = absurd ends
-        told _ ends h = (p.delivered.0 ++ h.0, more h.0 h.1, ran-append took faulted took_image faulted_image _ _ _ _ _ p.delivered.2 h.2)
+        told _ ends h = (p.delivered.0 ++ h.0, more h.0 h.1, ran-append listens listens_image _ _ _ _ _ p.delivered.2 h.2)
 
     -- a call that answers an error
     refuses : (o : Outcome) (call : Option Call) → LeadsTo known s p.steps t (EndsBy t o call) → (e : CheckerError) → AnswerSets s p.steps (Err e) u →
-        AnswersParts (err_answer e) o u → Delivered (err_answer e) (EmitsLast t call) took faulted took_image faulted_image mid new →
-        PartsRun known s (err_answer e) u took faulted took_image faulted_image old new
+        AnswersParts (err_answer e) o u → Delivered (err_answer e) (EmitsLast t call) listens listens_image mid new →
+        PartsRun known s (err_answer e) u listens listens_image old new
     refuses o call k (CheckFailed number msg debug_step) sets h d =
         ends-in call (Err (CheckFailed number msg debug_step)) _ _ k.goes k.here.0 sets k.is_text
         (h.2, run_ends _ _ _ _ _ _ _ k.goes (rw h.1 (k.here.1 (cause_of msg) h.0))) d
@@ -206,25 +205,25 @@ module _ {P T : Type 0} {took faulted : P → NamedStep → P → Type 0} {took_
     stopped : (f : Fault) (e : CheckerError) (text : List ℕ) (there : Place) → MayRead t → u ≡ count_step t → RunsTo s (start_of text) p.steps t there →
         next_at there.0 there.1 ≡ Err f → IsReadText (ending (err_answer e)) known text →
         (Runs next_of s (start_of text) p.steps (Some (inr f)) u → EndsProof (ending (err_answer e)) text s p.steps u) →
-        Delivered (err_answer e) (EmitsLast t None) took faulted took_image faulted_image mid new →
-        PartsRun known s (err_answer e) u took faulted took_image faulted_image old new
+        Delivered (err_answer e) (EmitsLast t None) listens listens_image mid new →
+        PartsRun known s (err_answer e) u listens listens_image old new
     stopped f e text there may counted goes found is_text ends d =
         ends-in None (Err e) text there goes (last-read _ _ _ may (found_fault _ _ found)) (sets-counted p.sets _ u counted) is_text
         (ends (run_ends _ _ _ _ _ _ _ goes (rw counted (move_fault _ _ _ may found)))) d
 
   -- no step number was left
   pub delivered-exhausted : WellFormed s → {e : CheckerError} → IsErrorOf t.steps (Refused StepsExhausted) e → t.ended ≡ false →
-      ltb t.steps step_limit ≡ false → PartsRun known s (err_answer e) t took faulted took_image faulted_image old mid
+      ltb t.steps step_limit ≡ false → PartsRun known s (err_answer e) t listens listens_image old mid
   delivered-exhausted form {e} h going none =
       let o = refuse steps_exhausted t in
       refuses form t mid o None
       (anywhere p.reads (EndsBy t o None) (λ there. (rw (going, none) refl, λ cause is. let moved = move_exhausted t there going none in cc))) e
       (sets-stand p.sets (Err e)) (error-answers _ _ e o t h refl (refl, refl))
-      (error-delivered _ _ _ _ (EmitsLast t None) _ _ e mid mid h (silent took took_image t mid))
+      (error-delivered listens listens_image (EmitsLast t None) _ _ e mid mid h (silent listens listens_image t mid))
 
   -- `End` was accepted, now or before
   pub delivered-closes : WellFormed s → (r : Answer) (u : State) (new : Listeners P T) → t.ended ≡ true → AnswersParts r (closing_conflict t) u →
-      Delivered r (EmitsCall t closes) took faulted took_image faulted_image mid new → PartsRun known s r u took faulted took_image faulted_image old new
+      Delivered r (EmitsCall t closes) listens listens_image mid new → PartsRun known s r u listens listens_image old new
   delivered-closes form (Ok done) u new ended h k =
       let found = closing p.reads ended in
       ends-in form u new (Some closes) (Ok done) _ found.there found.goes found.here.0 (sets-close p.sets (Ok done) u h) found.is_text
@@ -236,8 +235,8 @@ module _ {P T : Type 0} {took faulted : P → NamedStep → P → Type 0} {took_
   pub delivered-refused : WellFormed s → {later : Known} {next : Format} {step : Step} →
       Leads now later (next_at format) (λ more. Ok ((next, step), more)) → MayRead t → {u : State} {new : Listeners P T} {e : CheckerError} →
       AnswersParts (err_answer e) (attempt t step) u →
-      Delivered (err_answer e) (EmitsCall t (checks step)) took faulted took_image faulted_image mid new →
-      PartsRun known s (err_answer e) u took faulted took_image faulted_image old new
+      Delivered (err_answer e) (EmitsCall t (checks step)) listens listens_image mid new →
+      PartsRun known s (err_answer e) u listens listens_image old new
   delivered-refused form {later} {next} {step} leads may {u} {new} {e} h k =
       refuses form u new (attempt t step) (Some (checks step))
       (over p.reads later leads.taken leads.bytes leads.consumed (EndsBy t (attempt t step) (Some (checks step))) (λ more.
@@ -250,14 +249,14 @@ module _ {P T : Type 0} {took faulted : P → NamedStep → P → Type 0} {took_
   -- no step was read
   pub delivered-faulted : WellFormed s → {later : Known} (fault : ProofFault) (e : CheckerError) (u : State) →
       Faults now later (stop_of fault) (next_at format) → MayRead t → u ≡ count_step t → IsReadFault u.steps fault e →
-      PartsRun known s (err_answer e) u took faulted took_image faulted_image old mid
+      PartsRun known s (err_answer e) u listens listens_image old mid
   delivered-faulted form faults.End e u q may counted is = rw is (stopped form u mid Short (ProofIncomplete u.steps) _ (format, q.taken) may counted
-      (p.reads.goes q.taken) q.is_fault.0 (all p.reads _ _ q.bytes q.consumed q.is_fault.1) (λ run. (refl, run)) (silent took took_image t mid))
+      (p.reads.goes q.taken) q.is_fault.0 (all p.reads _ _ q.bytes q.consumed q.is_fault.1) (λ run. (refl, run)) (silent listens listens_image t mid))
   delivered-faulted form (faults.Read cause) e u q may counted is = rw is (stopped form u mid Short (IoError u.steps cause) _ (format, q.taken) may counted
-      (p.reads.goes q.taken) q.is_fault (begins p.reads _ _ q.bytes q.consumed) (λ run. (refl, run)) (silent took took_image t mid))
+      (p.reads.goes q.taken) q.is_fault (begins p.reads _ _ q.bytes q.consumed) (λ run. (refl, run)) (silent listens listens_image t mid))
   delivered-faulted form (faults.Malformed kind) e u q may counted is =
       let k = over p.reads _ _ q.bytes q.consumed (λ there. next_at there.0 there.1 ≡ Err (Wrong kind)) q.is_fault in
       rw is (stopped form u mid (Wrong kind) (ParseError u.steps kind) _ k.there may counted k.goes k.here k.is_text (λ run. (refl, run))
-      (silent took took_image t mid))
+      (silent listens listens_image t mid))
   delivered-faulted form faults.OutOfMemory e u q may counted is = rw is (parts-run form u mid (Err OutOfMemory) p.reads.taken
       (sets-counted p.sets (Err OutOfMemory) u counted) (some_taken _ _ _ p.reads.bytes p.reads.consumed) tt tt)

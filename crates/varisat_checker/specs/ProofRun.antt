@@ -13,7 +13,6 @@ use Rattle.checker_rules.specs.Run.{Runs}
 use Rattle.checker_rules.specs.RunEmissions.{EmitsRun}
 use Rattle.checker_rules.specs.State.{State}
 use Rattle.checker_rules.specs.Step.{Step}
-use Rattle.checker_rules.specs.Transcript.{TranscriptStep}
 use Rattle.proof_bytes.specs.TextRuns.{BeginsTextOf, IsTextOf}
 use Rattle.proof_bytes.specs.Texts.{next_of, start_of}
 use Rattle.checker_parts.specs.Answers.{IsCovered, IsFold, UnlessFailed}
@@ -21,7 +20,7 @@ use Rattle.checker_parts.specs.Endings.{Ending, accepted, refused, unread, given
 use Rattle.checker_parts.specs.Models.{RunProves, RunRefutes}
 use Rattle.checker_parts.specs.declared.error.CheckerError.{CheckerError}
 use Rattle.varisat_checker.specs.Certified.{Certifies}
-use Rattle.checker_steps.specs.Delivered.{Listeners, Delivered}
+use Rattle.checker_steps.specs.Delivered.{Listeners, Listens, ListensImage, Delivered}
 
 -- the text of the reader; where a read failed or memory was refused, what was read of it
 abbrev pub IsReadText : Ending → Option (List ℕ) → List ℕ → Type 0
@@ -59,15 +58,13 @@ pub record ProofAnswer {A : Type 0} (known : Option (List ℕ)) (s : State) (tex
 
 -- the run over the text of a reader with these bytes; what the listeners took of what it emits; and that this is a run of the hint machine
 pub record ProofRun {A P T : Type 0} (known : Option (List ℕ)) (s : State)
-    (r : Result A CheckerError) (t : State) (took faulted : P → NamedStep → P → Type 0)
-    (took_image faulted_image : T → TranscriptStep → T → Type 0) (old new : Listeners P T) : Type 0
-  where
-    pub text : List ℕ
-    pub steps : List Step
-    pub answered : ProofAnswer known s text steps r t
-    pub delivered : Delivered r (EmitsProof (ending r) s text steps) took faulted took_image faulted_image old
-        new
-    pub certified : Certifies r (EmitsProof (ending r) s text steps) s t
+    (r : Result A CheckerError) (t : State) (listens : Listens P) (listens_image : ListensImage T)
+    (old new : Listeners P T) : Type 0 where
+  pub text : List ℕ
+  pub steps : List Step
+  pub answered : ProofAnswer known s text steps r t
+  pub delivered : Delivered r (EmitsProof (ending r) s text steps) listens listens_image old new
+  pub certified : Certifies r (EmitsProof (ending r) s text steps) s t
 
 -- what a run over a text answers of parts whose redundant clauses need not be entailed: what rests on that has it as its premise, and it is so again after the run
 pub record PartsAnswer {A : Type 0} (known : Option (List ℕ)) (s : State) (text : List ℕ)
@@ -86,12 +83,10 @@ pub record PartsAnswer {A : Type 0} (known : Option (List ℕ)) (s : State) (tex
 
 -- the run over the text of a reader with these bytes, from such parts; what the listeners took of what it emits; and that this is a run of the hint machine
 pub record PartsRun {A P T : Type 0} (known : Option (List ℕ)) (s : State)
-    (r : Result A CheckerError) (t : State) (took faulted : P → NamedStep → P → Type 0)
-    (took_image faulted_image : T → TranscriptStep → T → Type 0) (old new : Listeners P T) : Type 0
-  where
-    pub text : List ℕ
-    pub steps : List Step
-    pub answered : PartsAnswer known s text steps r t
-    pub delivered : Delivered r (EmitsProof (ending r) s text steps) took faulted took_image faulted_image old
-        new
-    pub certified : Certifies r (EmitsProof (ending r) s text steps) s t
+    (r : Result A CheckerError) (t : State) (listens : Listens P) (listens_image : ListensImage T)
+    (old new : Listeners P T) : Type 0 where
+  pub text : List ℕ
+  pub steps : List Step
+  pub answered : PartsAnswer known s text steps r t
+  pub delivered : Delivered r (EmitsProof (ending r) s text steps) listens listens_image old new
+  pub certified : Certifies r (EmitsProof (ending r) s text steps) s t

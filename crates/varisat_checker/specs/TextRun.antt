@@ -13,7 +13,6 @@ use Rattle.checker_rules.specs.HintRun.{IsRun, machine_after}
 use Rattle.checker_rules.specs.Machine.{Mirrors}
 use Rattle.checker_rules.specs.State.{State}
 use Rattle.checker_rules.specs.Step.{Step, add_clause}
-use Rattle.checker_rules.specs.Transcript.{TranscriptStep}
 use Rattle.sat_formula.specs.Outcome as dimacs
 use Rattle.sat_formula.specs.Lines as lines
 use Rattle.sat_formula.specs.Whole.{BeginsWith, IsOutcome}
@@ -21,7 +20,7 @@ use Rattle.checker_parts.specs.Answers.{AnswersText, IsCovered, IsFold, UnlessTe
 use Rattle.checker_parts.specs.Endings.{text_ending}
 use Rattle.checker_parts.specs.declared.error.DimacsError.{DimacsError}
 use Rattle.checker_parts.specs.declared.error.DimacsError.TheVariants.{Read, Malformed, Checker}
-use Rattle.checker_steps.specs.Delivered.{Listeners, DeliveredEnd}
+use Rattle.checker_steps.specs.Delivered.{Listeners, Listens, ListensImage, DeliveredEnd}
 
 -- what a text of these bytes holds, where they are known
 abbrev pub outcome_of : Option (List ℕ) → Option dimacs.Outcome
@@ -49,12 +48,12 @@ pub record TextAnswer {A : Type 0} (known : Option (List ℕ)) (s : State) (clau
 
 -- the clauses of the text that were given, with the answer for adding them; what the listeners took of them; and that it is a run of the hint machine
 pub record TextRun {A P T : Type 0} (known : Option (List ℕ)) (s : State) (r : Result A DimacsError)
-    (u : State) (took faulted : P → NamedStep → P → Type 0) (took_image faulted_image : T →
-    TranscriptStep → T → Type 0) (old new : Listeners P T) : Type 0 where
+    (u : State) (listens : Listens P) (listens_image : ListensImage T) (old new : Listeners P T) :
+    Type 0 where
   pub clauses : List (List ℕ)
   pub answered : TextAnswer known s clauses r u
-  pub delivered : DeliveredEnd (text_ending r) (EmitsCalls s (map adds (added s clauses))) took
-      faulted took_image faulted_image old new
+  pub delivered : DeliveredEnd (text_ending r) (EmitsCalls s (map adds (added s clauses))) listens
+      listens_image old new
   pub certified : (m : Machine) (es : List NamedStep) → Mirrors m s →
       EmitsCalls s (map adds (added s clauses)) es →
       IsRun m (hint_steps es) × UnlessTextFailed r (Mirrors (machine_after m (hint_steps es)) u)

@@ -13,7 +13,7 @@ ghost use Rattle.clause_store.specs.Refusal.{delete_fault};
 ghost use Rattle.clause_store.specs.StateOf.{state_of};
 ghost use Rattle.clause_store.specs.Trace.{AreStored};
 ghost use Rattle.clause_store.specs.declared.hash.ClauseHasher.{ClauseHasher};
-ghost use Rattle.checker_steps.specs.Context.{ContextInvariant, context_state};
+ghost use Rattle.checker_steps.specs.Context.{ContextInvariant, context_state, listeners_in};
 ghost use Rattle.checker_steps.specs.DeletionSteps.{deletion_steps};
 ghost use Rattle.checker_steps.specs.Delivered.{DeliveredAll, DeliveredList, listeners_of};
 ghost use Rattle.checker_steps.specs.Justified.{AnswersJustified, previous_of, subsuming_id};
@@ -48,8 +48,7 @@ pub fn delete_clause<P: ProofProcessor, T: ProofTranscriptProcessor>(
     ensures kept { UnlessStopped result (ContextInvariant ctx.new) }
     ensures delivered { DeliveredList result
         (Emits (context_state ctx.old) (rules.delete_clause (why proof) lits.now))
-        P.took P.faulted T.took T.faulted (listeners_of ctx.old.processing)
-        (listeners_of ctx.new.processing) }
+        P.ProofProcessor T.ProofTranscriptProcessor (listeners_in ctx.old) (listeners_in ctx.new) }
 {
     let Ok(tautology) = copy_canonical(&mut ctx.tmp_data.tmp, lits) else {
         return Err(StepFault::OutOfMemory);
@@ -160,7 +159,7 @@ fn emit_deletion<P: ProofProcessor, T: ProofTranscriptProcessor>(
     implying: Option<u64>,
 ) -> Result<(), StepFault>
     ensures { DeliveredAll result (deletion_steps variables.now implying did id clause.now)
-        P.took P.faulted T.took T.faulted (listeners_of processing.old)
+        P.ProofProcessor T.ProofTranscriptProcessor (listeners_of processing.old)
         (listeners_of processing.new) }
 {
     match (implying, did) {

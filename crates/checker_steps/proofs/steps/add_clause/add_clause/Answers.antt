@@ -42,12 +42,12 @@ returns-in-Ok-taken g c =
     let ls = c.args.lits.now in let s = context_state ctx in let h = c.in-Ok-taken.ensures in let r = c.emit_added.result in
     let list = c.as_slice-clause.ensures.value ∙ c.in-Ok.ensures.items in
     let none = subst (λ (x : List ℕ). input_cause s x ≡ None) list (c.in_default-cause.ensures ctx.checker_state) in
-    let answer = answers-all _ _ _ _ _ _ _ r _ _ c.emit_added.ensures
+    let answer = answers-all g.P.ProofProcessor g.T.ProofTranscriptProcessor _ _ _ r _ _ c.emit_added.ensures
     (answers-accept (add-accepts s ls c.if-ctx.false none) (h.state ∙ ap (taken s) list)) in
     record {
       step = answer;
       kept = kept-answer r _ _ _ _ _ _ _ _ (add_clause ls) c.requires answer (unless-stopped r h.store);
-      delivered = delivered-all _ _ _ _ (Emits s (add_clause ls)) _ _ _ r
+      delivered = delivered-all g.P.ProofProcessor g.T.ProofTranscriptProcessor (Emits s (add_clause ls)) _ _ _ r
           (emits-added s ls _ c.if-ctx.false none (h.emitted ∙ ap (λ (x : List ℕ). emits_input x (know_clause x s)) list)) c.emit_added.ensures;
       after_unsat = λ unsat. absurd cc;
     }

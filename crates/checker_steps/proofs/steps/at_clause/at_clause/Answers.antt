@@ -44,7 +44,7 @@ returns-in_err-id g c =
     rw (q.1, q.2) (record {
       step = answer;
       kept = kept-answer {A = Unit {0}} (Err e) _ _ _ _ _ _ _ _ t c.requires answer h.store;
-      delivered = delivered-traced _ _ _ _ {A = Unit {0}} (Err e) s t _ _ _
+      delivered = delivered-traced g.P.ProofProcessor g.T.ProofTranscriptProcessor {A = Unit {0}} (Err e) s t _ _ _
           c.requires.form (at-steps s a.redundant a.lits.now a.hashes.now c.deref.result.now list apart) h.delivered;
     })
 
@@ -77,6 +77,6 @@ returns g c =
     record {
       step = answer;
       kept = kept-answer last.result _ _ _ _ _ _ _ _ t c.requires answer (unless-stopped last.result h.store);
-      delivered = delivered-unless-memory _ _ _ _ last.result (Emits s t) _ _ last.ensures.memory
+      delivered = delivered-unless-memory g.P.ProofProcessor g.T.ProofTranscriptProcessor last.result (Emits s t) _ _ last.ensures.memory
           (_, traced-emits s t _ _ c.requires.form (at-steps s a.redundant a.lits.now a.hashes.now clause list apart) h.delivered.1, h.delivered.2);
     }
