@@ -3,7 +3,7 @@
 --     AnswersText r o s      the same of the clauses of a DIMACS text
 --     UnlessFailed r P, UnlessTextFailed r P      P, unless the call failed the checker
 --     AnswersParts r o s      as AnswersStep, and nothing where the call gave up
---     EndsOutcome e o s, UnlessFailure e P, UnlessGivenUp e P      what these say of each end e of a call
+--     EndsOutcome end o s, UnlessFailure end P, UnlessGivenUp end P      what these say of each end of a call
 --     IsFold ts s, IsCovered ts s      the satisfying set of s is the fold over ts; the members make all that is stored true
 --     SetsFold r ts t s, CoversFold r ts t s      the two after a call for one step t, where the steps ts came before
 use Rattle.std.specs.Prelude.{◌≡◌, ℕ, Bool, true, List, [], ◌∷◌, ◌++◌, Some, None, Result, Ok, Err}

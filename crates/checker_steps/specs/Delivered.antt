@@ -4,7 +4,7 @@
 --     DeliveredStep r e .. old new      one step: every box took it, or one answered a fault at it
 --     DeliveredAll r es .. old new      several steps: every box took all of them, or one answered a fault
 --     DeliveredList r E .. old new      a whole step of a proof, with a list of E
---     DeliveredEnd e E .. old new, Delivered r E .. old new      a whole call, by its end and by its answer: the listeners ran over a list of E, or over a beginning of one up to a fault
+--     DeliveredEnd end E .. old new, Delivered r E .. old new      a whole call, by its end and by its answer: the listeners ran over a list of E, or over a beginning of one up to a fault
 use Rattle.std.specs.Prelude.{◌≡◌, List, [], ◌∷◌, ◌++◌, Result, Ok, Err}
 use Rattle.checker_rules.specs.CheckedSteps.{NamedStep}
 use Rattle.checker_rules.specs.Ran.{BothRan, OneStopped, Stopped}

@@ -1,5 +1,5 @@
 -- Calls that fail the checker.
---     is_failure e, has_failed r      whether a call ends so; whether the checker has failed when it answers r
+--     is_failure end, has_failed r      whether a call ends so; whether the checker has failed when it answers r
 --     IsFailed r      the answer of a checker that had failed before the call
 --     RecordsFailure r s      where the call gave up the state says so
 use Rattle.std.specs.Prelude.{◌≡◌, Bool, true, false, Result, Ok, Err}

@@ -1,9 +1,9 @@
 -- The run over the text of a proof.
---     IsReadText e known text      the text that was run over
---     EndsProof e text s steps t      the run from s over the text accepts these steps, and ends so in t
---     EmitsProof e s text steps es      what it emits
---     ProofAnswer known s text steps r t      the run over this text accepts these steps, and what follows for the satisfying set
---     ProofRun known s r t .. old new      some run does so, and of the same steps, what was delivered on
+--     IsReadText end known text      the text that was run over
+--     EndsProof end text s steps s'      the run from s over the text accepts these steps, and ends so in s'
+--     EmitsProof end s text steps es      what it emits
+--     ProofAnswer known s text steps r s'      the run over this text accepts these steps, and what follows for the satisfying set
+--     ProofRun known s r s' .. old new      some run does so, and of the same steps, what was delivered on
 --     PartsAnswer, PartsRun      the same over parts of which the form alone is known
 use Rattle.std.specs.Prelude.{◌≡◌, ℕ, List, ◌++◌, Option, Some, None, Result}
 use Rattle.std.proofs.Common.{inl, inr}
@@ -31,13 +31,13 @@ IsReadText _ known text = IsTextOf known text
 
 -- the run accepts these steps and ends so: by `End`, a refusal, the end of the text, its first fault, or a read's fault in place of the end
 abbrev pub EndsProof : Ending → List ℕ → State → List Step → State → Type 0
-EndsProof accepted text s steps t = Runs next_of s (start_of text) steps None t
-EndsProof (refused cause number) text s steps t =
-    (number ≡ t.steps) × Runs next_of s (start_of text) steps (Some (inl cause)) t
-EndsProof (unread why number) text s steps t =
-    (number ≡ t.steps) × Runs next_of s (start_of text) steps (Some (inr (reading_fault why))) t
-EndsProof (given_up loss) text s steps t = Unit {0}
-EndsProof had_failed text s steps t = ⊥
+EndsProof accepted text s steps s' = Runs next_of s (start_of text) steps None s'
+EndsProof (refused cause number) text s steps s' =
+    (number ≡ s'.steps) × Runs next_of s (start_of text) steps (Some (inl cause)) s'
+EndsProof (unread why number) text s steps s' =
+    (number ≡ s'.steps) × Runs next_of s (start_of text) steps (Some (inr (reading_fault why))) s'
+EndsProof (given_up loss) text s steps s' = Unit {0}
+EndsProof had_failed text s steps s' = ⊥
 
 -- what the accepted steps emit, and then the step that was refused or met a fault, or the closing conflict
 abbrev pub EmitsProof : Ending → State → List ℕ → List Step → List NamedStep → Type 0
@@ -47,35 +47,35 @@ EmitsProof _ s text steps es = EmitsRun next_of s (start_of text) steps es
 -- the answer and the state left are those of the run over this text, of a reader with these bytes, which accepts these steps; for every list of steps that
 -- led to the set before, the set left is the fold over that list and the accepted steps, and each accepted model and core proves what it says of its members
 pub record ProofAnswer {A : Type 0} (known : Option (List ℕ)) (s : State) (text : List ℕ)
-    (steps : List Step) (r : Result A CheckerError) (t : State) : Type 0 where
+    (steps : List Step) (r : Result A CheckerError) (s' : State) : Type 0 where
   pub is_text : IsReadText (ending r) known text
-  pub ends : EndsProof (ending r) text s steps t
-  pub folds : (before : List Step) → IsFold before s → UnlessFailed r (IsFold (before ++ steps) t)
+  pub ends : EndsProof (ending r) text s steps s'
+  pub folds : (before : List Step) → IsFold before s → UnlessFailed r (IsFold (before ++ steps) s')
   pub covers : (before : List Step) → IsCovered before s →
-      UnlessFailed r (IsCovered (before ++ steps) t)
+      UnlessFailed r (IsCovered (before ++ steps) s')
   pub proves : (before : List Step) → IsFold before s → RunProves before s steps
   pub refutes : (before : List Step) → IsCovered before s → RunRefutes before steps
 
 -- the run over the text of a reader with these bytes; what the listeners took of what it emits; and that this is a run of the hint machine
 pub record ProofRun {A P T : Type 0} (known : Option (List ℕ)) (s : State)
-    (r : Result A CheckerError) (t : State) (listens : Listens P) (listens_image : ListensImage T)
+    (r : Result A CheckerError) (s' : State) (listens : Listens P) (listens_image : ListensImage T)
     (old new : Listeners P T) : Type 0 where
   pub text : List ℕ
   pub steps : List Step
-  pub answered : ProofAnswer known s text steps r t
+  pub answered : ProofAnswer known s text steps r s'
   pub delivered : Delivered r (EmitsProof (ending r) s text steps) listens listens_image old new
-  pub certified : Certifies r (EmitsProof (ending r) s text steps) s t
+  pub certified : Certifies r (EmitsProof (ending r) s text steps) s s'
 
 -- what a run over a text answers of parts whose redundant clauses need not be entailed: what rests on that has it as its premise, and it is so again after the run
 pub record PartsAnswer {A : Type 0} (known : Option (List ℕ)) (s : State) (text : List ℕ)
-    (steps : List Step) (r : Result A CheckerError) (t : State) : Type 0 where
+    (steps : List Step) (r : Result A CheckerError) (s' : State) : Type 0 where
   pub is_text : IsReadText (ending r) known text
-  pub ends : EndsProof (ending r) text s steps t
+  pub ends : EndsProof (ending r) text s steps s'
   pub covers : (before : List Step) → IsCovered before s →
-      UnlessFailed r (IsCovered (before ++ steps) t)
-  pub entails : EntailsRedundant s → UnlessFailed r (EntailsRedundant t)
+      UnlessFailed r (IsCovered (before ++ steps) s')
+  pub entails : EntailsRedundant s → UnlessFailed r (EntailsRedundant s')
   pub folds : EntailsRedundant s → (before : List Step) → IsFold before s →
-      UnlessFailed r (IsFold (before ++ steps) t)
+      UnlessFailed r (IsFold (before ++ steps) s')
   pub proves : EntailsRedundant s → (before : List Step) → IsFold before s →
       RunProves before s steps
   pub refutes : EntailsRedundant s → (before : List Step) → IsCovered before s →
@@ -83,10 +83,10 @@ pub record PartsAnswer {A : Type 0} (known : Option (List ℕ)) (s : State) (tex
 
 -- the run over the text of a reader with these bytes, from such parts; what the listeners took of what it emits; and that this is a run of the hint machine
 pub record PartsRun {A P T : Type 0} (known : Option (List ℕ)) (s : State)
-    (r : Result A CheckerError) (t : State) (listens : Listens P) (listens_image : ListensImage T)
+    (r : Result A CheckerError) (s' : State) (listens : Listens P) (listens_image : ListensImage T)
     (old new : Listeners P T) : Type 0 where
   pub text : List ℕ
   pub steps : List Step
-  pub answered : PartsAnswer known s text steps r t
+  pub answered : PartsAnswer known s text steps r s'
   pub delivered : Delivered r (EmitsProof (ending r) s text steps) listens listens_image old new
-  pub certified : Certifies r (EmitsProof (ending r) s text steps) s t
+  pub certified : Certifies r (EmitsProof (ending r) s text steps) s s'

@@ -1,7 +1,7 @@
 -- The clauses of a DIMACS text, added one after the other.
 --     EndsText known clauses r      these clauses of the text were given when the call answered r
---     TextAnswer known s clauses r u      the answer for adding these clauses of the text to s, and what follows for the satisfying set
---     TextRun known s r u .. old new      some clauses were added so, and of the same clauses, what was delivered on
+--     TextAnswer known s clauses r s'      the answer for adding these clauses of the text to s, and what follows for the satisfying set
+--     TextRun known s r s' .. old new      some clauses were added so, and of the same clauses, what was delivered on
 use Rattle.std.specs.Prelude.{ℕ, List, ◌++◌, map, Option, Result, Ok, Err}
 use Rattle.std.specs.Option.{option_map}
 use Rattle.sat_rules.specs.Named.{Machine}
@@ -38,22 +38,22 @@ EndsText known clauses (Err (Checker e)) = BeginsWith known clauses
 -- the answer and the state left are those of adding these clauses, which a text with these bytes gave; for every list of steps that led to the set before,
 -- the set left is the fold over that list and the accepted clauses
 pub record TextAnswer {A : Type 0} (known : Option (List ℕ)) (s : State) (clauses : List (List ℕ))
-    (r : Result A DimacsError) (u : State) : Type 0 where
+    (r : Result A DimacsError) (s' : State) : Type 0 where
   pub text : EndsText (outcome_of known) clauses r
-  pub answer : AnswersText r (add_clauses s clauses) u
+  pub answer : AnswersText r (add_clauses s clauses) s'
   pub folds : (before : List Step) → IsFold before s →
-      UnlessTextFailed r (IsFold (before ++ map add_clause (added s clauses)) u)
+      UnlessTextFailed r (IsFold (before ++ map add_clause (added s clauses)) s')
   pub covers : (before : List Step) → IsCovered before s →
-      UnlessTextFailed r (IsCovered (before ++ map add_clause (added s clauses)) u)
+      UnlessTextFailed r (IsCovered (before ++ map add_clause (added s clauses)) s')
 
 -- the clauses of the text that were given, with the answer for adding them; what the listeners took of them; and that it is a run of the hint machine
 pub record TextRun {A P T : Type 0} (known : Option (List ℕ)) (s : State) (r : Result A DimacsError)
-    (u : State) (listens : Listens P) (listens_image : ListensImage T) (old new : Listeners P T) :
+    (s' : State) (listens : Listens P) (listens_image : ListensImage T) (old new : Listeners P T) :
     Type 0 where
   pub clauses : List (List ℕ)
-  pub answered : TextAnswer known s clauses r u
+  pub answered : TextAnswer known s clauses r s'
   pub delivered : DeliveredEnd (text_ending r) (EmitsCalls s (map adds (added s clauses))) listens
       listens_image old new
   pub certified : (m : Machine) (es : List NamedStep) → Mirrors m s →
       EmitsCalls s (map adds (added s clauses)) es →
-      IsRun m (hint_steps es) × UnlessTextFailed r (Mirrors (machine_after m (hint_steps es)) u)
+      IsRun m (hint_steps es) × UnlessTextFailed r (Mirrors (machine_after m (hint_steps es)) s')
