@@ -163,14 +163,10 @@ impl<P: ProofProcessor, T: ProofTranscriptProcessor> CheckerOf<P, T> {
         ensures fault { IsTextFault fault (state self.old) result (state self.new) }
         ensures listeners { listeners self.new ≡ listeners self.old }
     {
-        match fault {
-            DimacsFault::Read(cause) => DimacsError::Read(cause),
-            DimacsFault::Malformed { line, kind } => DimacsError::Malformed { line, kind },
-            DimacsFault::OutOfMemory => {
-                self.ctx.checker_state.failed = true;
-                DimacsError::Checker(CheckerError::OutOfMemory)
-            }
+        if let DimacsFault::OutOfMemory = fault {
+            self.ctx.checker_state.failed = true;
         }
+        DimacsError::from(fault)
     }
 
     /// Checks the steps of a proof up to `End`, and then the closing conflict.

@@ -29,8 +29,7 @@ pub fn check_proof<P: ProofProcessor, T: ProofTranscriptProcessor, L: Log, R: Re
     proof: R,
 ) -> Result<(), CheckerError>
     requires { ContextInvariant ctx.old }
-    ensures run { PartsRun (R.remaining proof) (context_state ctx.old) result
-        (context_state ctx.new)
+    ensures run { PartsRun (R.remaining proof) (context_state ctx.old) result (context_state ctx.new)
         P.ProofProcessor T.ProofTranscriptProcessor (listeners_in ctx.old) (listeners_in ctx.new) }
     ensures kept { UnlessFailed result (ContextInvariant ctx.new) }
     ensures ended { (context_state ctx.old).ended ≡ true → NeedsNoMemory result }
