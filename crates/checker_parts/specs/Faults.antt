@@ -51,10 +51,7 @@ abbrev pub IsErrorOf : ℕ → StepFault → CheckerError → Type 0
 IsErrorOf n f (errors.CheckFailed step cause debug_step) = (step ≡ n) × (f ≡ Refused cause)
 IsErrorOf n f (errors.ProofProcessorError cause) = f ≡ Processor
 IsErrorOf n f errors.OutOfMemory = f ≡ OutOfMemory
-IsErrorOf n f (errors.ProofIncomplete step) = ⊥
-IsErrorOf n f (errors.IoError step cause) = ⊥
-IsErrorOf n f (errors.ParseError step cause) = ⊥
-IsErrorOf n f errors.Failed = ⊥
+IsErrorOf n f _ = ⊥
 
 -- accepted as the step is, or the error of its fault
 abbrev pub IsAnswerOf : {A : Type 0} → ℕ → Result A StepFault → Result A CheckerError → Type 0
