@@ -1,21 +1,16 @@
--- What a step answers before its error is made, and a formula's text.
+-- What a step answers before its error is made.
 --     AnswersOutcome r o s      the answer r and the state s after the step are those of the outcome o; nothing where it gave up
 --     UnlessStopped r P      P, unless memory was refused or a processor answered a fault
 --     has_stopped r      whether one of the two happened
 --     IsFaultOrMemory f P Q      P at a processor's fault, Q at want of memory; a refusal is not answered
 --     IsErrorOf n f e      e is the error of the fault f at the step number n, whatever text it shows
 --     IsAnswerOf n r a      a is the answer of the call whose step answered r
---     of_text f      the error of a fault of a formula's text
 use Rattle.std.specs.Prelude.{◌≡◌, ℕ, Bool, true, false, Some, None, Result, Ok, Err}
-use Rattle.sat_formula.specs.declared.fault.DimacsFault.{DimacsFault}
-use Rattle.sat_formula.specs.declared.fault.DimacsFault.TheVariants as texts
 use Rattle.checker_rules.specs.Outcome.{Outcome}
 use Rattle.checker_rules.specs.State.{State}
 use Rattle.checker_parts.specs.Causes.{cause_of}
 use Rattle.checker_parts.specs.declared.error.CheckerError.{CheckerError}
 use Rattle.checker_parts.specs.declared.error.CheckerError.TheVariants as errors
-use Rattle.checker_parts.specs.declared.error.DimacsError.{DimacsError}
-use Rattle.checker_parts.specs.declared.error.DimacsError.TheVariants.{Read, Malformed, Checker}
 use Rattle.checker_parts.specs.declared.error.StepFault.{StepFault}
 use Rattle.checker_parts.specs.declared.error.StepFault.TheVariants.{Refused, Processor, OutOfMemory}
 
@@ -51,16 +46,13 @@ abbrev pub IsErrorOf : ℕ → StepFault → CheckerError → Type 0
 IsErrorOf n f (errors.CheckFailed step cause debug_step) = (step ≡ n) × (f ≡ Refused cause)
 IsErrorOf n f (errors.ProofProcessorError cause) = f ≡ Processor
 IsErrorOf n f errors.OutOfMemory = f ≡ OutOfMemory
-IsErrorOf n f _ = ⊥
+IsErrorOf n f (errors.ProofIncomplete step) = ⊥
+IsErrorOf n f (errors.IoError step cause) = ⊥
+IsErrorOf n f (errors.ParseError step cause) = ⊥
+IsErrorOf n f errors.Failed = ⊥
 
 -- accepted as the step is, or the error of its fault
 abbrev pub IsAnswerOf : {A : Type 0} → ℕ → Result A StepFault → Result A CheckerError → Type 0
 IsAnswerOf n (Ok x) a = a ≡ Ok x
 IsAnswerOf n (Err f) (Ok x) = ⊥
 IsAnswerOf n (Err f) (Err e) = IsErrorOf n f e
-
--- the same cause or line, and want of memory as that of the checker
-abbrev pub of_text : DimacsFault → DimacsError
-of_text (texts.Read cause) = Read cause
-of_text (texts.Malformed line kind) = Malformed line kind
-of_text texts.OutOfMemory = Checker errors.OutOfMemory

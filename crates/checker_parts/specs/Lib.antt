@@ -9,4 +9,5 @@ pub mod Models
 pub mod Names
 pub mod RisingVars
 pub mod Subsets
+pub mod TextErrors
 pub mod Variables

@@ -148,7 +148,7 @@ pub enum DimacsError {
 }
 
 impl From<DimacsFault> for DimacsError {
-    ghost use Rattle.checker_parts.specs.Faults.{of_text};
+    ghost use Rattle.checker_parts.specs.TextErrors.{of_text};
 
     ghost from_gives = { λ fault error. error ≡ of_text fault };
 

@@ -3,7 +3,7 @@ use Rattle.std.proofs.Common.{ℕ, List, Option, Err, refl}
 use Rattle.sat_formula.specs.declared.fault.DimacsFault.{DimacsFault}
 use Rattle.sat_formula.specs.declared.fault.DimacsFault.TheVariants as faults
 use Rattle.sat_formula.specs.Whole.{FailsAfter}
-use Rattle.checker_parts.specs.Faults.{of_text}
+use Rattle.checker_parts.specs.TextErrors.{of_text}
 use Rattle.varisat_checker.specs.TextRun.{outcome_of}
 use Rattle.varisat_check.specs.ReadFormula.{ReadsFormula}
 use Rattle.varisat_check.specs.declared.fault.RunFault.TheVariants.{Formula}
