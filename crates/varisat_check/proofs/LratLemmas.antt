@@ -37,7 +37,7 @@ use Rattle.varisat_check.proofs.Unfailed.{failed-add_clauses}
 -- the steps of two lists
 hint_steps-append : (xs ys : List NamedStep) → hint_steps (xs ++ ys) ≡ hint_steps xs ++ hint_steps ys
 hint_steps-append [] ys = refl
-hint_steps-append (x ∷ xs) ys = ap (λ t. hint_step x.step ++ t) (hint_steps-append xs ys) ∙ sym (append_assoc (hint_step x.step) (hint_steps xs) (hint_steps ys))
+hint_steps-append (x ∷ xs) ys = ap (λ zs. hint_step x.step ++ zs) (hint_steps-append xs ys) ∙ sym (append_assoc (hint_step x.step) (hint_steps xs) (hint_steps ys))
 
 -- one processor stays one
 one_ran : {P : Type 0} (took : P → NamedStep → P → Type 0) (old : P) (es : List NamedStep) (news : List P) → AllRan took (old ∷ []) es news → (new : P) × (news ≡ new ∷ []) × Ran took old es new
@@ -53,17 +53,17 @@ pub record Left {P : Type 0} (took : P → NamedStep → P → Type 0) (known : 
 
 -- a new checker, a processor registered with it, a formula, a proof: the run, and the one processor that is left
 pub fresh_run : {P C : Type 0} (listens : Listens P) (listens_image : ListensImage C)
-    (formula : List (List ℕ)) (known : Option (List ℕ)) (old : P) (none first mid last : Listeners P C) (r s t u : State) (n : ℕ) (verdict : Verdict) →
+    (formula : List (List ℕ)) (known : Option (List ℕ)) (old : P) (none first mid last : Listeners P C) (r s s' u : State) (n : ℕ) (verdict : Verdict) →
     r ≡ new_state → none.processors ≡ [] → s ≡ r → first ≡ record none { processors = none.processors ++ old ∷ [] } →
-    (s.failed ≡ false → AnswersStep {A = Unit {0}} (Ok tt) (add_clauses s formula) t) →
-    (t.failed ≡ false → ProofRun {A = Unit {0}} known t (Ok tt) u listens listens_image mid last) →
+    (s.failed ≡ false → AnswersStep {A = Unit {0}} (Ok tt) (add_clauses s formula) s') →
+    (s'.failed ≡ false → ProofRun {A = Unit {0}} known s' (Ok tt) u listens listens_image mid last) →
     (s.failed ≡ false → DeliveredWhole (EmitsCalls s (map adds (added s formula))) listens listens_image first mid) →
-    (s.failed ≡ false → Certifies {A = Unit {0}} (Ok tt) (EmitsCalls s (map adds (added s formula))) s t) →
-    n ≡ shown_inputs t → verdict ≡ verdict_of n u → Left listens.took known formula old verdict last.processors
-fresh_run {P} {C} listens listens_image formula known old none first mid last r s t u n verdict new empty same registered answers runs delivers certifies inputs told =
+    (s.failed ≡ false → Certifies {A = Unit {0}} (Ok tt) (EmitsCalls s (map adds (added s formula))) s s') →
+    n ≡ shown_inputs s' → verdict ≡ verdict_of n u → Left listens.took known formula old verdict last.processors
+fresh_run {P} {C} listens listens_image formula known old none first mid last r s s' u n verdict new empty same registered answers runs delivers certifies inputs told =
     let fresh : s ≡ new_state = same ∙ new in
     let running : s.failed ≡ false = ap (λ (x : State). x.failed) fresh in
-    let answer = subst (λ x. AnswersStep {A = Unit {0}} (Ok tt) (add_clauses x formula) t) fresh (answers running) in
+    let answer = subst (λ x. AnswersStep {A = Unit {0}} (Ok tt) (add_clauses x formula) s') fresh (answers running) in
     let given = delivers running in
     let emitted = subst (λ x. EmitsCalls x (map adds (added x formula)) given.0) fresh given.1 in
     let whole = formulas_are_fold.accepted new_state formula answer.0 in
@@ -108,40 +108,40 @@ taken took known formula old here verdict news items left same place =
 
 -- a new checker that was delivered the whole formula, with a processor or without
 abbrev Adding : List (List ℕ) → State → State → State → Type 0
-Adding formula r s t = (r ≡ new_state) × (s ≡ r) × (s.failed ≡ false → AnswersStep {A = Unit {0}} (Ok tt) (add_clauses s formula) t)
+Adding formula r s s' = (r ≡ new_state) × (s ≡ r) × (s.failed ≡ false → AnswersStep {A = Unit {0}} (Ok tt) (add_clauses s formula) s')
 
 running_from : (r s : State) → r ≡ new_state → s ≡ r → s.failed ≡ false
 running_from r s new same = ap (λ (x : State). x.failed) (same ∙ new)
 
-added_whole : (formula : List (List ℕ)) (r s t : State) → Adding formula r s t → AnswersStep {A = Unit {0}} (Ok tt) (add_clauses new_state formula) t
-added_whole formula r s t a = subst (λ x. AnswersStep {A = Unit {0}} (Ok tt) (add_clauses x formula) t) (a.1 ∙ a.0) (a.2 (running_from r s a.0 a.1))
+added_whole : (formula : List (List ℕ)) (r s s' : State) → Adding formula r s s' → AnswersStep {A = Unit {0}} (Ok tt) (add_clauses new_state formula) s'
+added_whole formula r s s' a = subst (λ x. AnswersStep {A = Unit {0}} (Ok tt) (add_clauses x formula) s') (a.1 ∙ a.0) (a.2 (running_from r s a.0 a.1))
 
-still_running : (formula : List (List ℕ)) (r s t : State) → Adding formula r s t → t.failed ≡ false
-still_running formula r s t a = ap (λ (x : State). x.failed) (added_whole formula r s t a).1 ∙ failed-add_clauses new_state formula
+still_running : (formula : List (List ℕ)) (r s s' : State) → Adding formula r s s' → s'.failed ≡ false
+still_running formula r s s' a = ap (λ (x : State). x.failed) (added_whole formula r s s' a).1 ∙ failed-add_clauses new_state formula
 
 module _ {P C : Type 0} {listens : Listens P} {listens_image : ListensImage C} {mid last : Listeners P C} where
   -- the input clauses before and after an accepted proof
-  pub counted : (formula : List (List ℕ)) (known : Option (List ℕ)) (r s t u : State) (n : ℕ) → Adding formula r s t →
-      (t.failed ≡ false → ProofRun {A = Unit {0}} known t (Ok tt) u listens listens_image mid last) → n ≡ shown_inputs t →
+  pub counted : (formula : List (List ℕ)) (known : Option (List ℕ)) (r s s' u : State) (n : ℕ) → Adding formula r s s' →
+      (s'.failed ≡ false → ProofRun {A = Unit {0}} known s' (Ok tt) u listens listens_image mid last) → n ≡ shown_inputs s' →
       shown_unsat u ≡ true → n ≤ shown_inputs u
-  counted formula known r s t u n a runs inputs h =
-      let lives = still_running formula r s t a in
-      let most = more_inputs t u (runs lives).answered lives h in
+  counted formula known r s s' u n a runs inputs h =
+      let lives = still_running formula r s s' a in
+      let most = more_inputs s' u (runs lives).answered lives h in
       omega (arith, inputs, most)
 
   -- a verdict of unsatisfiability
-  pub formula_refuted : (formula : List (List ℕ)) (known : Option (List ℕ)) (r s t u : State) (n : ℕ) (verdict : Verdict) → Adding formula r s t →
-      (s.failed ≡ false → (before : List Step) → IsCovered before s → IsCovered (before ++ map add_clause (added s formula)) t) →
-      (t.failed ≡ false → ProofRun {A = Unit {0}} known t (Ok tt) u listens listens_image mid last) → n ≡ shown_inputs t →
+  pub formula_refuted : (formula : List (List ℕ)) (known : Option (List ℕ)) (r s s' u : State) (n : ℕ) (verdict : Verdict) → Adding formula r s s' →
+      (s.failed ≡ false → (before : List Step) → IsCovered before s → IsCovered (before ++ map add_clause (added s formula)) s') →
+      (s'.failed ≡ false → ProofRun {A = Unit {0}} known s' (Ok tt) u listens listens_image mid last) → n ≡ shown_inputs s' →
       verdict ≡ verdict_of n u → verdict ≡ Unsatisfiable → (a : ℕ → Bool) → all_true a formula ≡ false
-  formula_refuted formula known r s t u n verdict adding covers runs inputs told is a =
-      let lives = still_running formula r s t adding in
-      let whole = formulas_are_fold.accepted new_state formula (added_whole formula r s t adding).0 in
-      let from_new = subst (λ x. (before : List Step) → IsCovered before x → IsCovered (before ++ map add_clause (added x formula)) t)
+  formula_refuted formula known r s s' u n verdict adding covers runs inputs told is a =
+      let lives = still_running formula r s s' adding in
+      let whole = formulas_are_fold.accepted new_state formula (added_whole formula r s s' adding).0 in
+      let from_new = subst (λ x. (before : List Step) → IsCovered before x → IsCovered (before ++ map add_clause (added x formula)) s')
       (adding.1 ∙ adding.0) (covers (running_from r s adding.0 adding.1)) in
-      let covered = subst (λ cs. IsCovered (map add_clause cs) t) whole (from_new [] (λ b m. refl)) in
-      let unsatisfiable : verdict_of (shown_inputs t) u ≡ Unsatisfiable = sym (told ∙ ap (λ m. verdict_of m u) inputs) ∙ is in
-      sym (members formula a) ∙ refuted_before t u (map add_clause formula) (runs lives).answered lives unsatisfiable covered a
+      let covered = subst (λ cs. IsCovered (map add_clause cs) s') whole (from_new [] (λ b m. refl)) in
+      let unsatisfiable : verdict_of (shown_inputs s') u ≡ Unsatisfiable = sym (told ∙ ap (λ m. verdict_of m u) inputs) ∙ is in
+      sym (members formula a) ∙ refuted_before s' u (map add_clause formula) (runs lives).answered lives unsatisfiable covered a
 
 -- ---- refusals
 
@@ -151,10 +151,10 @@ processor_refused formula e r new given = subst (RefusesFormula formula) (sym (g
 
 -- a refused proof
 pub proof_refused : {P C : Type 0} {listens : Listens P} {listens_image : ListensImage C}
-    {mid last : Listeners P C} (known : Option (List ℕ)) (formula : List (List ℕ)) (e : CheckerError) (r s t u : State) →
-    Adding formula r s t
-    → (t.failed ≡ false → ProofRun {A = Unit {0}} known t (Err e) u listens listens_image mid last) → RefusesProof known formula e
-proof_refused known formula e r s t u a runs =
-    let answer = added_whole formula r s t a in
-    let run = runs (still_running formula r s t a) in
+    {mid last : Listeners P C} (known : Option (List ℕ)) (formula : List (List ℕ)) (e : CheckerError) (r s s' u : State) →
+    Adding formula r s s'
+    → (s'.failed ≡ false → ProofRun {A = Unit {0}} known s' (Err e) u listens listens_image mid last) → RefusesProof known formula e
+proof_refused known formula e r s s' u a runs =
+    let answer = added_whole formula r s s' a in
+    let run = runs (still_running formula r s s' a) in
     (answer.0, run.text, run.steps, u, subst (λ x. ProofAnswer {A = Unit {0}} known x run.text run.steps (Err e) u) answer.1 run.answered)
