@@ -23,7 +23,7 @@ returns-then-has_opposites g c =
     let o = core-opposites (context_state ctx) _ c.args.hashes.now _ list allowed opposite in record {
       step = answers-delivers g.P.ProofProcessor g.T.ProofTranscriptProcessor _ _ _ told.result _ _ told.ensures (answers-accept _ _ _ o refl);
       kept = unless-stopped told.result c.requires;
-      delivered = delivered-traced _ _ _ _ told.result _ _ _ _ _ c.requires.form (core-opposites-steps _ _ _ _ list allowed opposite)
+      delivered = delivered-traced g.P.ProofProcessor g.T.ProofTranscriptProcessor told.result _ _ _ _ _ c.requires.form (core-opposites-steps _ _ _ _ list allowed opposite)
           (delivered-one g.P.ProofProcessor g.T.ProofTranscriptProcessor _ _ _ _ told.result refl told.ensures);
     }
 
@@ -36,5 +36,5 @@ returns g c =
     let o = core-checked (context_state ctx) _ c.args.hashes.now _ list allowed apart in let s = rw (← o) at checked.ensures.answer in record {
       step = s;
       kept = kept-answer checked.result _ _ _ _ _ _ _ _ _ c.requires s checked.ensures.store;
-      delivered = delivered-traced _ _ _ _ checked.result _ _ _ _ _ c.requires.form (core-traced _ _ _ _ list allowed apart) checked.ensures.delivered;
+      delivered = delivered-traced g.P.ProofProcessor g.T.ProofTranscriptProcessor checked.result _ _ _ _ _ c.requires.form (core-traced _ _ _ _ list allowed apart) checked.ensures.delivered;
     }
