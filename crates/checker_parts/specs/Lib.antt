@@ -2,10 +2,12 @@ pub mod Answers
 pub mod Boxes
 pub mod Causes
 pub mod CheckedSteps
+pub mod Endings
 pub mod Faults
 pub mod Memory
 pub mod Models
 pub mod Names
 pub mod RisingVars
 pub mod Subsets
+pub mod TextErrors
 pub mod Variables

@@ -3,7 +3,7 @@ ghost use Rattle.std.specs.Prelude.{◌≡◌};
 ghost use Rattle.checker_parts.specs.declared.error.StepFault.TheVariants.{OutOfMemory};
 
 use proof_bytes::MalformedStep;
-use sat_formula::DimacsKind;
+use sat_formula::{DimacsFault, DimacsKind};
 use std::alloc::AllocError;
 use std::io;
 use thiserror::Error;
@@ -145,4 +145,18 @@ pub enum DimacsError {
     /// The checker's own answer, or the reader's want of memory.
     #[error("{0}")]
     Checker(CheckerError),
+}
+
+impl From<DimacsFault> for DimacsError {
+    ghost use Rattle.checker_parts.specs.TextErrors.{of_text};
+
+    ghost from_gives = { λ fault error. error ≡ of_text fault };
+
+    fn from(fault: DimacsFault) -> DimacsError {
+        match fault {
+            DimacsFault::Read(cause) => DimacsError::Read(cause),
+            DimacsFault::Malformed { line, kind } => DimacsError::Malformed { line, kind },
+            DimacsFault::OutOfMemory => DimacsError::Checker(CheckerError::OutOfMemory),
+        }
+    }
 }

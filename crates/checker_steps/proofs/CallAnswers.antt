@@ -5,14 +5,13 @@ use Rattle.std.proofs.Common.{◌≡◌, ℕ, List, Result, Err, arith}
 use Rattle.checker_rules.specs.CheckedSteps.{NamedStep}
 use Rattle.checker_rules.specs.Outcome.{Outcome}
 use Rattle.checker_rules.specs.State.{State}
-use Rattle.checker_rules.specs.Transcript.{TranscriptStep}
 use Rattle.checker_parts.specs.Answers.{AnswersParts, UnlessFailed}
 use Rattle.checker_parts.specs.Faults.{AnswersOutcome, IsAnswerOf, IsErrorOf, UnlessStopped, has_stopped}
 use Rattle.checker_parts.specs.declared.error.CheckerError.{CheckerError}
 use Rattle.checker_parts.specs.declared.error.CheckerError.TheVariants.{OutOfMemory}
 use Rattle.checker_parts.specs.declared.error.StepFault.{StepFault}
 use Rattle.checker_parts.specs.declared.error.StepFault.TheVariants as faults
-use Rattle.checker_steps.specs.Delivered.{Delivered, DeliveredList, Listeners}
+use Rattle.checker_steps.specs.Delivered.{Delivered, DeliveredList, Listeners, Listens, ListensImage}
 use Rattle.checker_steps.specs.Failing.{has_failed}
 
 pub error-answers : (n : ℕ) (f : StepFault) (e : CheckerError) (o : Outcome) (s : State) → IsErrorOf n f e → n ≡ s.steps →
@@ -26,14 +25,14 @@ error-unless P n f e is h = grind (arith, is, h)
 pub error-stopped : (n : ℕ) (f : StepFault) (e : CheckerError) → IsErrorOf n f e → has_failed {A = Unit {0}} (Err e) ≡ has_stopped {A = Unit {0}} (Err f)
 error-stopped n f e is = grind (arith, is)
 
-module _ {P T : Type 0} (took faulted : P → NamedStep → P → Type 0) (took_image faulted_image : T → TranscriptStep → T → Type 0) where
+module _ {P T : Type 0} (listens : Listens P) (listens_image : ListensImage T) where
   pub error-delivered : (E : List NamedStep → Type 0) (n : ℕ) (f : StepFault) (e : CheckerError) (old new : Listeners P T) → IsErrorOf n f e →
-      DeliveredList {A = Unit {0}} (Err f) E took faulted took_image faulted_image old new →
-      Delivered {A = Unit {0}} (Err e) E took faulted took_image faulted_image old new
+      DeliveredList {A = Unit {0}} (Err f) E listens listens_image old new →
+      Delivered {A = Unit {0}} (Err e) E listens listens_image old new
   error-delivered E n f e old new is h = grind (arith, is, h)
 
   pub call-delivered : (E : List NamedStep → Type 0) (n : ℕ) (r : Result (Unit {0}) StepFault) (a : Result (Unit {0}) CheckerError) (old new : Listeners P T) →
-      IsAnswerOf n r a → DeliveredList r E took faulted took_image faulted_image old new → Delivered a E took faulted took_image faulted_image old new
+      IsAnswerOf n r a → DeliveredList r E listens listens_image old new → Delivered a E listens listens_image old new
   call-delivered E n r a old new is h = grind (arith, is, h)
 
 pub call-answers : (n : ℕ) (r : Result (Unit {0}) StepFault) (a : Result (Unit {0}) CheckerError) (o : Outcome) (s : State) → IsAnswerOf n r a →

@@ -9,7 +9,6 @@ use Rattle.checker_rules.specs.Outcome.{Cause, Outcome, accept}
 use Rattle.checker_rules.specs.State.{Known, State}
 use Rattle.checker_rules.specs.Step.{Step}
 use Rattle.checker_rules.specs.Steps.{step}
-use Rattle.checker_rules.specs.Transcript.{TranscriptStep}
 use Rattle.checker_rules.specs.WellFormed.{WellFormed}
 use Rattle.checker_rules.proofs.StepForms.{steps_keep_form}
 use Rattle.clause_store.specs.PartsInvariant.{PartsInvariant}
@@ -18,7 +17,7 @@ use Rattle.clause_store.specs.Store.{IsStore}
 use Rattle.clause_store.specs.declared.clauses.Clauses.{Clauses}
 use Rattle.clause_store.specs.declared.hash.ClauseHasher.{ClauseHasher}
 use Rattle.clause_store.specs.declared.state.CheckerState.{CheckerState}
-use Rattle.checker_steps.specs.Delivered.{DeliveredWhole, Listeners}
+use Rattle.checker_steps.specs.Delivered.{DeliveredWhole, Listeners, Listens, ListensImage}
 use Rattle.checker_steps.proofs.DeliveryLemmas.{whole-none}
 use Rattle.checker_steps.proofs.EmitLemmas.{emits-refused}
 
@@ -29,10 +28,10 @@ pub kept-after : {st st' : CheckerState} {h h' : ClauseHasher} {cs cs' : Clauses
     state_of st' h' cs' known' ≡ (step (state_of st h cs known) t).after → IsStore h' cs' → PartsInvariant st' h' cs' known'
 kept-after t kept after store = record { form = subst WellFormed (sym after) (steps_keep_form _ t kept.form); store = store }
 
-module _ {P T : Type 0} {took : P → NamedStep → P → Type 0} {took_image : T → TranscriptStep → T → Type 0} where
-  pub told-nothing : (E : List NamedStep → Type 0) (old : Listeners P T) → E [] → DeliveredWhole E took took_image old old
-  told-nothing E old h = whole-none took took took_image took_image E old h
+module _ {P T : Type 0} (listens : Listens P) (listens_image : ListensImage T) where
+  pub told-nothing : (E : List NamedStep → Type 0) (old : Listeners P T) → E [] → DeliveredWhole E listens listens_image old old
+  told-nothing E old h = whole-none listens listens_image E old h
 
   pub quiet-refusal : (s : State) (t : Step) (cause : Cause) (old : Listeners P T) → (step s t).refused ≡ Some cause → EmitsRefused s t [] →
-      DeliveredWhole (Emits s t) took took_image old old
+      DeliveredWhole (Emits s t) listens listens_image old old
   quiet-refusal s t cause old refused quiet = told-nothing (Emits s t) old (emits-refused s t [] cause refused quiet)

@@ -4,7 +4,7 @@ use Rattle.std.specs.List.{list_all}
 use Rattle.std.proofs.lemmas.Grind.{common_steps}
 use Rattle.sat_rules.specs.Clauses.{is_tautology}
 use Rattle.checker_rules.specs.Canonical.{canonical}
-use Rattle.checker_rules.specs.CheckedSteps.{NamedStep, checked_delete_at_clause, checked_delete_clause, named_in}
+use Rattle.checker_rules.specs.CheckedSteps.{checked_delete_at_clause, checked_delete_clause, named_in}
 use Rattle.checker_rules.specs.DeleteClause.{delete_justified, forget, justified}
 use Rattle.checker_rules.specs.Emits.{Emits, EmitsRefused, emits_deletion, emits_lowered, previous_id}
 use Rattle.checker_rules.specs.Outcome.{Outcome, delete_irredundant_is_redundant, delete_redundant_is_irredundant, refuse, tautology}
@@ -13,7 +13,6 @@ use Rattle.checker_rules.specs.Step.{Justification, Step, by_redundant, by_satis
 use Rattle.checker_rules.specs.Steps.{step}
 use Rattle.checker_rules.specs.Store.{count_of, is_stored}
 use Rattle.checker_rules.specs.WellFormed.{are_apart}
-use Rattle.checker_rules.specs.Transcript.{TranscriptStep}
 use Rattle.checker_rules.proofs.StepKinds.{step-delete_clause}
 use Rattle.checker_parts.specs.Faults.{AnswersOutcome, UnlessStopped}
 use Rattle.checker_parts.specs.Causes.{cause_of}
@@ -28,7 +27,7 @@ use Rattle.clause_store.specs.Store.{is_whole}
 use Rattle.clause_store.proofs.DeleteLemmas.{is_stored-lowered}
 use Rattle.clause_store.proofs.RefusalLemmas.{answers-refuse}
 use Rattle.checker_steps.specs.DeletionSteps.{deletion_steps}
-use Rattle.checker_steps.specs.Delivered.{Listeners, DeliveredList}
+use Rattle.checker_steps.specs.Delivered.{Listeners, Listens, ListensImage, DeliveredList}
 use Rattle.checker_steps.specs.Justified.{AnswersJustified, implying_id, of_redundant}
 use Rattle.checker_steps.proofs.ClauseLemmas.{quiet-refusal}
 
@@ -117,11 +116,11 @@ module _ (c : List ℕ) (s : State) (apart : are_apart s.clauses ≡ true) (whol
       ap (λ o. deletion_steps s.known o did id c) why ∙ emits-by j id t did (subst (λ b. Deletes c b (forget s) t id did) (sym kind) d) ∙ ap (emits_deletion s j) list
 
 -- a refused deletion delivers nothing on
-module _ {P T : Type 0} (took faulted : P → NamedStep → P → Type 0) (took_image faulted_image : T → TranscriptStep → T → Type 0)
+module _ {P T : Type 0} (listens : Listens P) (listens_image : ListensImage T)
     (s u : State) (t : Step) (r : Bool) (old : Listeners P T) (quiet : EmitsRefused s t []) where
   pub delivered-fault : (f : DeleteFault) → AnswersOutcome {A = Unit {0}} (Err (delete_fault f r)) (step s t) u →
-      DeliveredList {A = Unit {0}} (Err (delete_fault f r)) (Emits s t) took faulted took_image faulted_image old old
+      DeliveredList {A = Unit {0}} (Err (delete_fault f r)) (Emits s t) listens listens_image old old
   delivered-fault OutOfMemory a = tt
-  delivered-fault UnitOrEmpty a = quiet-refusal s t _ old a.0 quiet
-  delivered-fault Unknown a = quiet-refusal s t _ old a.0 quiet
-  delivered-fault NoCopy a = quiet-refusal s t _ old a.0 quiet
+  delivered-fault UnitOrEmpty a = quiet-refusal listens listens_image s t _ old a.0 quiet
+  delivered-fault Unknown a = quiet-refusal listens listens_image s t _ old a.0 quiet
+  delivered-fault NoCopy a = quiet-refusal listens listens_image s t _ old a.0 quiet

@@ -1,7 +1,6 @@
 -- The step `DeleteVar` as a whole.
 use Rattle.std.proofs.Common.{◌≡◌, ℕ, suc, Bool, true, false, cond, List, [], ◌∷◌, ◌++◌, Option, None, Some, is_some, ◌⊎◌, Result, Err, refl, sym, ap, ◌∙◌, ⊎_elim, arith}
 use Rattle.std.specs.List.{list_any}
-use Rattle.checker_rules.specs.CheckedSteps.{NamedStep}
 use Rattle.checker_rules.specs.DeleteVar.{drop_unit, free_var, holds_var}
 use Rattle.checker_rules.specs.Emits.{Emits}
 use Rattle.checker_rules.specs.KnownVars.{know}
@@ -9,7 +8,7 @@ use Rattle.checker_rules.specs.Outcome.{Cause, Outcome, accept, and_then, and_th
 use Rattle.checker_rules.specs.State.{Known, State}
 use Rattle.checker_rules.specs.Step.{delete_var}
 use Rattle.checker_rules.specs.Steps.{step}
-use Rattle.checker_rules.specs.Transcript.{TranscriptStep, known_at}
+use Rattle.checker_rules.specs.Transcript.{known_at}
 use Rattle.checker_rules.proofs.StepKinds.{step-delete_var}
 use Rattle.checker_parts.specs.Faults.{AnswersOutcome}
 use Rattle.checker_parts.specs.Variables.{known_of_data}
@@ -19,7 +18,7 @@ use Rattle.checker_parts.specs.declared.variables.VarData.{VarData}
 use Rattle.sat_formula.specs.Vars.{indexes_of}
 use Rattle.sat_formula.specs.declared.lit.Var.{Var}
 use Rattle.checker_steps.specs.DeletedVar.{close_on, emits_close, emits_dropped}
-use Rattle.checker_steps.specs.Delivered.{Listeners, DeliveredList, DeliveredWhole}
+use Rattle.checker_steps.specs.Delivered.{Listeners, Listens, ListensImage, DeliveredList, DeliveredWhole}
 use Rattle.checker_steps.proofs.EmitLemmas.{emits-accepted, emits-refused}
 use Rattle.checker_steps.proofs.DeliveryLemmas.{beginning-first, delivered-second}
 
@@ -85,30 +84,30 @@ not_empty : {A : Type 0} (xs : List A) (y : A) (ys : List A) → xs ++ y ∷ ys 
 not_empty [] y ys e = cc
 not_empty (x ∷ xs) y ys e = cc
 
-module _ {P T : Type 0} (took faulted : P → NamedStep → P → Type 0) (took_image faulted_image : T → TranscriptStep → T → Type 0)
+module _ {P T : Type 0} (listens : Listens P) (listens_image : ListensImage T)
     (s t : State) (x : ℕ) (is : t ≡ know (suc x) s) (unnamed : is_named x t ≡ false) (free : is_in_clause x t ≡ false) where
   emits : (close_on x t).refused ≡ None → Emits s (delete_var x) (emits_close x t ++ emits_dropped x t)
   emits closed = emits-closed s t x is unnamed free closed
 
   -- a closing that is refused, or delivered on to a fault, ends the step
   pub delivered-unclosed : (e : StepFault) (r : State) (old new : Listeners P T) → AnswersOutcome {A = Unit {0}} (Err e) (close_on x t) r →
-      DeliveredList {A = Unit {0}} (Err e) (λ es. es ≡ emits_close x t) took faulted took_image faulted_image old new
-      → DeliveredList {A = Unit {0}} (Err e) (Emits s (delete_var x)) took faulted took_image faulted_image old new
+      DeliveredList {A = Unit {0}} (Err e) (λ es. es ≡ emits_close x t) listens listens_image old new
+      → DeliveredList {A = Unit {0}} (Err e) (Emits s (delete_var x)) listens listens_image old new
   delivered-unclosed (Refused cause) r old new a h =
       let none = ⊎_elim {C = emits_close x t ≡ []} (λ closed. absurd (cc (a.0, closed))) (λ e. e) (close-by x t) in
       let refused = ap (λ (o : Outcome). o.refused) (delete-unclosed s t x is unnamed free _ a.0) in
       (h.0, rw (h.1, none) (emits-refused s (delete_var x) [] _ refused refl), h.2)
   delivered-unclosed Processor r old new a h =
       let closed = ⊎_elim {C = (close_on x t).refused ≡ None} (λ c. c) (λ e. absurd (not_empty h.0 h.1 h.2 (h.3 ∙ e))) (close-by x t) in
-      beginning-first took faulted took_image faulted_image (λ es. es ≡ emits_close x t) (Emits s (delete_var x)) (emits_dropped x t)
+      beginning-first listens listens_image (λ es. es ≡ emits_close x t) (Emits s (delete_var x)) (emits_dropped x t)
       old new (λ es e. rw e (emits closed)) h
   delivered-unclosed OutOfMemory r old new a h = tt
 
   -- the unit is delivered on after it
   pub delivered-dropped : (res : Result (Unit {0}) StepFault) (r : State) (old mid new : Listeners P T) → (close_on x t).refused ≡ None →
-      r.units ≡ t.units → r.known ≡ t.known → DeliveredWhole (λ es. es ≡ emits_close x t) took took_image old mid
-      → DeliveredList res (λ es. es ≡ emits_dropped x r) took faulted took_image faulted_image mid new →
-      DeliveredList res (Emits s (delete_var x)) took faulted took_image faulted_image old new
+      r.units ≡ t.units → r.known ≡ t.known → DeliveredWhole (λ es. es ≡ emits_close x t) listens listens_image old mid
+      → DeliveredList res (λ es. es ≡ emits_dropped x r) listens listens_image mid new →
+      DeliveredList res (Emits s (delete_var x)) listens listens_image old new
   delivered-dropped res r old mid new closed units known first h =
-      delivered-second took faulted took_image faulted_image (λ es. es ≡ emits_dropped x r) _ first.0 old mid new res first.2
+      delivered-second listens listens_image (λ es. es ≡ emits_dropped x r) _ first.0 old mid new res first.2
       (λ es e. rw (first.1, e ∙ emits_dropped-by x t r units known) (emits closed)) h

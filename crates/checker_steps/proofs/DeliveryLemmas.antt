@@ -7,61 +7,61 @@ use Rattle.checker_rules.proofs.RanLemmas.{both_ran_append, both_ran_line, both_
 use Rattle.checker_parts.specs.Faults.{IsFaultOrMemory}
 use Rattle.checker_parts.specs.declared.error.StepFault.{StepFault}
 use Rattle.checker_parts.specs.declared.error.StepFault.TheVariants.{Refused, Processor, OutOfMemory}
-use Rattle.checker_steps.specs.Delivered.{Listeners, DeliveredList, DeliveredStep, DeliveredBeginning, DeliveredWhole, RanOver}
+use Rattle.checker_steps.specs.Delivered.{Listeners, Listens, ListensImage, DeliveredList, DeliveredStep, DeliveredBeginning, DeliveredWhole, RanOver}
 
 -- the image is delivered to the transcripts, after every processor took the step
-pub delivers-image : {P T : Type 0} (took faulted : P → NamedStep → P → Type 0) (took_image faulted_image : T → TranscriptStep → T → Type 0)
-    (e : NamedStep) (t : TranscriptStep) (old new : Listeners P T) → AllTook took old.processors e new.processors → image e ≡ Some t →
-    (r : Result Unit StepFault) → OnOk r (AllTook took_image old.transcripts t new.transcripts) →
-    IfErr r (λ x. IsFaultOrMemory x (OneFaulted took_image faulted_image old.transcripts t new.transcripts) ⊥) →
-    DeliveredStep r e took faulted took_image faulted_image old new
-delivers-image took faulted took_image faulted_image e t old new a i r ok err =
-    grind (arith, i, ok, err, both_ran_line took took_image e t old.processors new.processors old.transcripts new.transcripts a i)
+pub delivers-image : {P T : Type 0} (listens : Listens P) (listens_image : ListensImage T)
+    (e : NamedStep) (t : TranscriptStep) (old new : Listeners P T) → AllTook listens.took old.processors e new.processors → image e ≡ Some t →
+    (r : Result Unit StepFault) → OnOk r (AllTook listens_image.took old.transcripts t new.transcripts) →
+    IfErr r (λ x. IsFaultOrMemory x (OneFaulted listens_image.took listens_image.faulted old.transcripts t new.transcripts) ⊥) →
+    DeliveredStep r e listens listens_image old new
+delivers-image listens listens_image e t old new a i r ok err =
+    grind (arith, i, ok, err, both_ran_line listens.took listens_image.took e t old.processors new.processors old.transcripts new.transcripts a i)
 
 pub fault-weaker : {P Q : Type 0} (R : Type 0) → (P → Q) → (e : StepFault) → IsFaultOrMemory e P R → IsFaultOrMemory e Q R
 fault-weaker R f e h = grind (arith, f, h)
 
-module _ {P T : Type 0} (took faulted : P → NamedStep → P → Type 0) (took_image faulted_image : T → TranscriptStep → T → Type 0) where
+module _ {P T : Type 0} (listens : Listens P) (listens_image : ListensImage T) where
   -- nothing is delivered on
-  pub ran-none : (old : Listeners P T) → RanOver took took_image [] old old
-  ran-none old = both_ran_nil took took_image old.processors old.transcripts
+  pub ran-none : (old : Listeners P T) → RanOver listens listens_image [] old old
+  ran-none old = both_ran_nil listens.took listens_image.took old.processors old.transcripts
 
-  pub ran-append : (es fs : List NamedStep) (x y z : Listeners P T) → RanOver took took_image es x y → RanOver took took_image fs y z → RanOver took took_image (es ++ fs) x z
-  ran-append es fs x y z a b = both_ran_append took took_image es fs x.processors y.processors z.processors x.transcripts y.transcripts z.transcripts a b
+  pub ran-append : (es fs : List NamedStep) (x y z : Listeners P T) → RanOver listens listens_image es x y → RanOver listens listens_image fs y z → RanOver listens listens_image (es ++ fs) x z
+  ran-append es fs x y z a b = both_ran_append listens.took listens_image.took es fs x.processors y.processors z.processors x.transcripts y.transcripts z.transcripts a b
 
-  pub whole-none : (E : List NamedStep → Type 0) (old : Listeners P T) → E [] → DeliveredWhole E took took_image old old
+  pub whole-none : (E : List NamedStep → Type 0) (old : Listeners P T) → E [] → DeliveredWhole E listens listens_image old old
   whole-none E old h = ([], h, ran-none old)
 
   -- one step that is the whole list
   pub delivered-one : {A : Type 0} (E : List NamedStep → Type 0) (e : NamedStep) (old new : Listeners P T) (r : Result A StepFault) →
-      E (e ∷ []) → DeliveredStep r e took faulted took_image faulted_image old new →
-      DeliveredList r E took faulted took_image faulted_image old new
+      E (e ∷ []) → DeliveredStep r e listens listens_image old new →
+      DeliveredList r E listens listens_image old new
   delivered-one E e old new r h a = grind (arith, h, a, ran-none old)
 
   -- a fault at the first of two parts
   pub beginning-first : (E F : List NamedStep → Type 0) (rest : List NamedStep) (old new : Listeners P T) →
-      ((es : List NamedStep) → E es → F (es ++ rest)) → DeliveredBeginning E took faulted took_image faulted_image old new →
-      DeliveredBeginning F took faulted took_image faulted_image old new
+      ((es : List NamedStep) → E es → F (es ++ rest)) → DeliveredBeginning E listens listens_image old new →
+      DeliveredBeginning F listens listens_image old new
   beginning-first E F rest old new f a = (a.0, a.1, a.2 ++ rest, subst F (append_assoc a.0 (a.1 ∷ a.2) rest) (f (a.0 ++ a.1 ∷ a.2) a.3), a.4)
 
   -- the first part, and a fault at the second
   pub beginning-second : (E F : List NamedStep → Type 0) (first : List NamedStep) (old mid new : Listeners P T) →
-      RanOver took took_image first old mid → ((es : List NamedStep) → E es → F (first ++ es)) →
-      DeliveredBeginning E took faulted took_image faulted_image mid new →
-      DeliveredBeginning F took faulted took_image faulted_image old new
+      RanOver listens listens_image first old mid → ((es : List NamedStep) → E es → F (first ++ es)) →
+      DeliveredBeginning E listens listens_image mid new →
+      DeliveredBeginning F listens listens_image old new
   beginning-second E F first old mid new r f a =
       let b = a.4 in (
         first ++ a.0,
         a.1,
         a.2,
         subst F (sym (append_assoc first a.0 (a.1 ∷ a.2))) (f (a.0 ++ a.1 ∷ a.2) a.3),
-        (b.0, b.1, both_ran_append took took_image first a.0 old.processors mid.processors b.0 old.transcripts mid.transcripts b.1 r b.2, b.3),
+        (b.0, b.1, both_ran_append listens.took listens_image.took first a.0 old.processors mid.processors b.0 old.transcripts mid.transcripts b.1 r b.2, b.3),
       )
 
   -- after a first part, a second one
   pub delivered-second : {A : Type 0} (E F : List NamedStep → Type 0) (first : List NamedStep) (old mid new : Listeners P T)
-      (r : Result A StepFault) → RanOver took took_image first old mid → ((es : List NamedStep) → E es → F (first ++ es)) →
-      DeliveredList r E took faulted took_image faulted_image mid new → DeliveredList r F took faulted took_image faulted_image old new
+      (r : Result A StepFault) → RanOver listens listens_image first old mid → ((es : List NamedStep) → E es → F (first ++ es)) →
+      DeliveredList r E listens listens_image mid new → DeliveredList r F listens listens_image old new
   delivered-second E F first old mid new (Ok done) a f h = (first ++ h.0, f h.0 h.1, ran-append first h.0 old mid new a h.2)
   delivered-second E F first old mid new (Err (Refused cause)) a f h = (first ++ h.0, f h.0 h.1, ran-append first h.0 old mid new a h.2)
   delivered-second E F first old mid new (Err Processor) a f h = beginning-second E F first old mid new a f h
@@ -69,6 +69,6 @@ module _ {P T : Type 0} (took faulted : P → NamedStep → P → Type 0) (took_
 
   -- the lists of another kind
   pub delivered-weaker : {A : Type 0} (E F : List NamedStep → Type 0) (old new : Listeners P T) (r : Result A StepFault) →
-      ((es : List NamedStep) → E es → F es) → DeliveredList r E took faulted took_image faulted_image old new →
-      DeliveredList r F took faulted took_image faulted_image old new
+      ((es : List NamedStep) → E es → F es) → DeliveredList r E listens listens_image old new →
+      DeliveredList r F listens listens_image old new
   delivered-weaker E F old new r f a = delivered-second E F [] old old new r (ran-none old) f a

@@ -10,11 +10,10 @@ use Rattle.checker_rules.specs.Step.{Step, end_proof}
 use Rattle.checker_rules.specs.Store.{id_limit}
 use Rattle.checker_rules.proofs.StepKinds.{step-end_proof}
 use Rattle.checker_rules.specs.Traced.{traced}
-use Rattle.checker_rules.specs.Transcript.{TranscriptStep}
 use Rattle.checker_rules.specs.WellFormed.{WellFormed}
 use Rattle.checker_rules.proofs.TracedSteps.{traced_is_emitted}
 use Rattle.checker_parts.specs.declared.error.StepFault.{StepFault}
-use Rattle.checker_steps.specs.Delivered.{Listeners, DeliveredList}
+use Rattle.checker_steps.specs.Delivered.{Listeners, Listens, ListensImage, DeliveredList}
 use Rattle.checker_steps.proofs.DeliveryLemmas.{delivered-weaker}
 use Rattle.checker_steps.proofs.EmitLemmas.{emits-accepted}
 
@@ -43,8 +42,8 @@ emits-unclosed s none = grind (arith, le-ltb s.next id_limit (omega (arith, none
 pub traced-emits : (s : State) (t : Step) (xs es : List NamedStep) → WellFormed s → xs ≡ traced s t → es ≡ xs → Emits s t es
 traced-emits s t xs es w here e = subst (Emits s t) (sym (e ∙ here)) (traced_is_emitted s t w)
 
-module _ {P T : Type 0} (took faulted : P → NamedStep → P → Type 0) (took_image faulted_image : T → TranscriptStep → T → Type 0) where
+module _ {P T : Type 0} (listens : Listens P) (listens_image : ListensImage T) where
   pub delivered-traced : {A : Type 0} (r : Result A StepFault) (s : State) (t : Step) (xs : List NamedStep) (old new : Listeners P T) →
-      WellFormed s → xs ≡ traced s t → DeliveredList r (λ es. es ≡ xs) took faulted took_image faulted_image old new
-      → DeliveredList r (Emits s t) took faulted took_image faulted_image old new
-  delivered-traced r s t xs old new w here h = delivered-weaker took faulted took_image faulted_image (λ es. es ≡ xs) (Emits s t) old new r (λ es e. traced-emits s t xs es w here e) h
+      WellFormed s → xs ≡ traced s t → DeliveredList r (λ es. es ≡ xs) listens listens_image old new
+      → DeliveredList r (Emits s t) listens listens_image old new
+  delivered-traced r s t xs old new w here h = delivered-weaker listens listens_image (λ es. es ≡ xs) (Emits s t) old new r (λ es e. traced-emits s t xs es w here e) h

@@ -8,7 +8,6 @@ use Rattle.checker_rules.specs.State.{State}
 use Rattle.checker_rules.specs.Step.{unit_clauses}
 use Rattle.checker_rules.specs.Steps.{step}
 use Rattle.checker_rules.specs.Traced.{traced, traced_units}
-use Rattle.checker_rules.specs.Transcript.{TranscriptStep}
 use Rattle.checker_rules.specs.UnitClauses.{step_unit, step_unit_clauses}
 use Rattle.checker_rules.specs.WellFormed.{WellFormed}
 use Rattle.checker_rules.proofs.StepForms.{steps_keep_form}
@@ -17,7 +16,7 @@ use Rattle.checker_parts.specs.Faults.{AnswersOutcome}
 use Rattle.checker_parts.specs.declared.error.StepFault.{StepFault}
 use Rattle.checker_parts.specs.declared.error.StepFault.TheVariants.{Refused, Processor, OutOfMemory}
 use Rattle.checker_steps.specs.Derived.{derived_steps}
-use Rattle.checker_steps.specs.Delivered.{Listeners, DeliveredList, DeliveredWhole, RanOver}
+use Rattle.checker_steps.specs.Delivered.{Listeners, Listens, ListensImage, DeliveredList, DeliveredWhole, RanOver}
 use Rattle.checker_steps.proofs.DeliveryLemmas.{beginning-first, delivered-second}
 use Rattle.checker_rules.proofs.RanLemmas.{both_ran_append, both_ran_nil}
 use Rattle.checker_steps.proofs.EmitLemmas.{answers-accept}
@@ -46,29 +45,29 @@ pub units-traced : (s : State) (us : List (ℕ × ℕ)) → traced_units s us �
 units-traced s us = grind arith
 
 -- from s over us, r is reached, and these pairs are to come
-pub record UnitsSoFar {P T : Type 0} (took : P → NamedStep → P → Type 0) (took_image : T → TranscriptStep → T → Type 0) (s : State)
+pub record UnitsSoFar {P T : Type 0} (listens : Listens P) (listens_image : ListensImage T) (s : State)
     (us : List (ℕ × ℕ)) (old : Listeners P T) (r : State) (rest : List (ℕ × ℕ)) (new : Listeners P T) : Type 0 where
   pub same_outcome : step_unit_clauses s us ≡ step_unit_clauses r rest
   pub told : List NamedStep
   pub same_steps : traced_units s us ≡ told ++ traced_units r rest
-  pub ran : RanOver took took_image told old new
+  pub ran : RanOver listens listens_image told old new
 
-module _ {P T : Type 0} {took : P → NamedStep → P → Type 0} {took_image : T → TranscriptStep → T → Type 0} where
+module _ {P T : Type 0} {listens : Listens P} {listens_image : ListensImage T} where
   -- nothing yet
-  pub so-far-none : {s : State} {us : List (ℕ × ℕ)} {old : Listeners P T} → UnitsSoFar took took_image s us old s us old
+  pub so-far-none : {s : State} {us : List (ℕ × ℕ)} {old : Listeners P T} → UnitsSoFar listens listens_image s us old s us old
   so-far-none = record { same_outcome = refl; told = []; same_steps = refl; ran = both_ran_nil _ _ _ _ }
 
   -- all pairs
-  module _ {s r : State} {us : List (ℕ × ℕ)} {old new : Listeners P T} (far : UnitsSoFar took took_image s us old r [] new) where
+  module _ {s r : State} {us : List (ℕ × ℕ)} {old new : Listeners P T} (far : UnitsSoFar listens listens_image s us old r [] new) where
     pub so-far-answer : ((step s (unit_clauses us)).refused ≡ None) × (r ≡ (step s (unit_clauses us)).after)
     so-far-answer = answers-accept (step-unit_clauses s us ∙ far.same_outcome) refl
 
-    pub so-far-delivered : WellFormed s → DeliveredWhole (Emits s (unit_clauses us)) took took_image old new
+    pub so-far-delivered : WellFormed s → DeliveredWhole (Emits s (unit_clauses us)) listens listens_image old new
     so-far-delivered form =
         (far.told, traced-emits s (unit_clauses us) (traced_units s us) far.told form (units-traced s us) (sym (far.same_steps ∙ append-nil far.told)), far.ran)
 
   -- up to a pair, and those after it
-  module _ {s r : State} {us rest : List (ℕ × ℕ)} {p : ℕ × ℕ} {old mid : Listeners P T} (far : UnitsSoFar took took_image s us old r (p ∷ rest) mid) where
+  module _ {s r : State} {us rest : List (ℕ × ℕ)} {p : ℕ × ℕ} {old mid : Listeners P T} (far : UnitsSoFar listens listens_image s us old r (p ∷ rest) mid) where
     abbrev later : List NamedStep
     later = later_steps (step_unit r p).refused (traced_units (step_unit r p).after rest)
 
@@ -77,7 +76,7 @@ module _ {P T : Type 0} {took : P → NamedStep → P → Type 0} {took_image : 
 
     -- one pair more
     pub so-far-more : (t : State) (new : Listeners P T) → ((step_unit r p).refused ≡ None) × (t ≡ (step_unit r p).after) →
-        DeliveredWhole (λ es. es ≡ unit_steps r p) took took_image mid new → UnitsSoFar took took_image s us old t rest new
+        DeliveredWhole (λ es. es ≡ unit_steps r p) listens listens_image mid new → UnitsSoFar listens listens_image s us old t rest new
     so-far-more t new h more =
         let left : later ≡ traced_units t rest = rw (h.0, ← h.1) refl in
         record {
@@ -92,19 +91,18 @@ module _ {P T : Type 0} {took : P → NamedStep → P → Type 0} {took_image : 
         AnswersOutcome {A = Unit {0}} (Err e) (step s (unit_clauses us)) t
     so-far-refused e t h = grind (arith, step-unit_clauses s us, far.same_outcome, h)
 
-    module _ (faulted : P → NamedStep → P → Type 0) (faulted_image : T → TranscriptStep → T → Type 0) where
-      with-later : (e : StepFault) (t : State) (new : Listeners P T) → AnswersOutcome {A = Unit {0}} (Err e) (step_unit r p) t →
-          DeliveredList {A = Unit {0}} (Err e) (λ es. es ≡ unit_steps r p) took faulted took_image faulted_image mid new →
-          DeliveredList {A = Unit {0}} (Err e) (λ es. es ≡ unit_steps r p ++ later) took faulted took_image faulted_image mid new
-      with-later (Refused cause) t new h more = (more.0, more.1 ∙ sym (append-nil (unit_steps r p)) ∙ grind (arith, h.0), more.2)
-      with-later Processor t new h more =
-          beginning-first took faulted took_image faulted_image (λ es. es ≡ unit_steps r p) (λ es. es ≡ unit_steps r p ++ later) later mid new (λ es e. ap (λ xs. xs ++ later) e) more
-      with-later OutOfMemory t new h more = tt
+    with-later : (e : StepFault) (t : State) (new : Listeners P T) → AnswersOutcome {A = Unit {0}} (Err e) (step_unit r p) t →
+        DeliveredList {A = Unit {0}} (Err e) (λ es. es ≡ unit_steps r p) listens listens_image mid new →
+        DeliveredList {A = Unit {0}} (Err e) (λ es. es ≡ unit_steps r p ++ later) listens listens_image mid new
+    with-later (Refused cause) t new h more = (more.0, more.1 ∙ sym (append-nil (unit_steps r p)) ∙ grind (arith, h.0), more.2)
+    with-later Processor t new h more =
+        beginning-first listens listens_image (λ es. es ≡ unit_steps r p) (λ es. es ≡ unit_steps r p ++ later) later mid new (λ es e. ap (λ xs. xs ++ later) e) more
+    with-later OutOfMemory t new h more = tt
 
-      pub so-far-stopped : (e : StepFault) (t : State) (new : Listeners P T) → WellFormed s → AnswersOutcome {A = Unit {0}} (Err e) (step_unit r p) t →
-          DeliveredList {A = Unit {0}} (Err e) (λ es. es ≡ unit_steps r p) took faulted took_image faulted_image mid new
-          → DeliveredList {A = Unit {0}} (Err e) (Emits s (unit_clauses us)) took faulted took_image faulted_image old new
-      so-far-stopped e t new form h more =
-          delivered-second took faulted took_image faulted_image {A = Unit {0}} (λ es. es ≡ unit_steps r p ++ later) (Emits s (unit_clauses us)) far.told old mid new (Err e) far.ran
-          (λ es x. traced-emits s (unit_clauses us) (traced_units s us) (far.told ++ es) form (units-traced s us) (ap (λ xs. far.told ++ xs) x ∙ sym all-steps))
-          (with-later e t new h more)
+    pub so-far-stopped : (e : StepFault) (t : State) (new : Listeners P T) → WellFormed s → AnswersOutcome {A = Unit {0}} (Err e) (step_unit r p) t →
+        DeliveredList {A = Unit {0}} (Err e) (λ es. es ≡ unit_steps r p) listens listens_image mid new
+        → DeliveredList {A = Unit {0}} (Err e) (Emits s (unit_clauses us)) listens listens_image old new
+    so-far-stopped e t new form h more =
+        delivered-second listens listens_image {A = Unit {0}} (λ es. es ≡ unit_steps r p ++ later) (Emits s (unit_clauses us)) far.told old mid new (Err e) far.ran
+        (λ es x. traced-emits s (unit_clauses us) (traced_units s us) (far.told ++ es) form (units-traced s us) (ap (λ xs. far.told ++ xs) x ∙ sym all-steps))
+        (with-later e t new h more)

@@ -3,20 +3,20 @@ use Rattle.std.proofs.Common.{◌≡◌, ◌==◌, ℕ, Bool, true, not, List, [
 use Rattle.std.proofs.lemmas.Bool.{ne_eqb}
 use Rattle.checker_rules.specs.CheckedSteps.{NamedStep, checked_at_clause}
 use Rattle.checker_rules.specs.State.{Known}
-use Rattle.checker_rules.specs.Transcript.{TranscriptStep, image, image_of}
+use Rattle.checker_rules.specs.Transcript.{image, image_of}
 use Rattle.checker_parts.specs.declared.error.StepFault.{StepFault}
 use Rattle.checker_steps.specs.Derived.{IsTraceFor}
-use Rattle.checker_steps.specs.Delivered.{Listeners, DeliveredStep}
+use Rattle.checker_steps.specs.Delivered.{Listeners, Listens, ListensImage, DeliveredStep}
 
 -- a derived clause with other propagations
 pub image-at_clause : (names : List Known) (id : ℕ) (redundant : Bool) (c ids told : List ℕ) →
     image_of names (checked_at_clause id redundant c told) ≡ image_of names (checked_at_clause id redundant c ids)
 image-at_clause names id redundant c ids told = grind arith
 
-module _ {P T : Type 0} (took faulted : P → NamedStep → P → Type 0) (took_image faulted_image : T → TranscriptStep → T → Type 0) where
+module _ {P T : Type 0} (listens : Listens P) (listens_image : ListensImage T) where
   -- delivered to these boxes
   abbrev delivers : {A : Type 0} → Result A StepFault → NamedStep → List P → List T → Listeners P T → Type 0
-  delivers r e ps ts new = DeliveredStep r e took faulted took_image faulted_image (record { processors = ps; transcripts = ts }) new
+  delivers r e ps ts new = DeliveredStep r e listens listens_image (record { processors = ps; transcripts = ts }) new
 
   -- with no processor, a step with the same image
   delivers-unseen : {A : Type 0} (r : Result A StepFault) (d e : NamedStep) (ts : List T) (new : Listeners P T) → image d ≡ image e →
@@ -26,7 +26,7 @@ module _ {P T : Type 0} (took faulted : P → NamedStep → P → Type 0) (took_
   -- a step that shows a list of ids, which only processors see
   pub delivers-seen : {A : Type 0} (r : Result A StepFault) (e : List ℕ → NamedStep) (ids told : List ℕ) (old new : Listeners P T) →
       IsTraceFor old.processors told ids → image (e told) ≡ image (e ids)
-      → DeliveredStep r (e told) took faulted took_image faulted_image old new → DeliveredStep r (e ids) took faulted took_image faulted_image old new
+      → DeliveredStep r (e told) listens listens_image old new → DeliveredStep r (e ids) listens listens_image old new
   delivers-seen r e ids told old new seen same h = by old.processors seen h
     where
       by : (ps : List P) → IsTraceFor ps told ids → delivers r (e told) ps old.transcripts new → delivers r (e ids) ps old.transcripts new

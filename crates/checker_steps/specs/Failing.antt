@@ -1,24 +1,24 @@
 -- Calls that fail the checker.
---     has_failed r      whether the checker has failed when it answers r
+--     is_failure end, has_failed r      whether a call ends so; whether the checker has failed when it answers r
 --     IsFailed r      the answer of a checker that had failed before the call
 --     RecordsFailure r s      where the call gave up the state says so
 use Rattle.std.specs.Prelude.{◌≡◌, Bool, true, false, Result, Ok, Err}
 use Rattle.checker_rules.specs.State.{State}
+use Rattle.checker_parts.specs.Endings.{Ending, given_up, had_failed, ending}
 use Rattle.checker_parts.specs.declared.error.CheckerError.{CheckerError}
-use Rattle.checker_parts.specs.declared.error.CheckerError.TheVariants.{ProofIncomplete, IoError, ParseError, CheckFailed, ProofProcessorError, OutOfMemory, Failed}
+use Rattle.checker_parts.specs.declared.error.CheckerError.TheVariants.{Failed}
 use Rattle.checker_parts.specs.declared.error.DimacsError.{DimacsError}
 use Rattle.checker_parts.specs.declared.error.DimacsError.TheVariants.{Checker}
 
+-- the call gave up, or the checker had failed before
+abbrev pub is_failure : Ending → Bool
+is_failure (given_up loss) = true
+is_failure had_failed = true
+is_failure _ = false
+
 -- memory was refused, a processor answered a fault, or the checker had failed before
 abbrev pub has_failed : {A : Type 0} → Result A CheckerError → Bool
-has_failed (Ok x) = false
-has_failed (Err (ProofIncomplete number)) = false
-has_failed (Err (IoError number cause)) = false
-has_failed (Err (ParseError number cause)) = false
-has_failed (Err (CheckFailed number msg debug_step)) = false
-has_failed (Err (ProofProcessorError cause)) = true
-has_failed (Err OutOfMemory) = true
-has_failed (Err Failed) = true
+has_failed r = is_failure (ending r)
 
 -- a checker that has failed answers so
 abbrev pub IsFailed : {A : Type 0} → Result A CheckerError → Type 0

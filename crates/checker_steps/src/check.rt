@@ -10,7 +10,7 @@ ghost use Rattle.checker_parts.specs.Faults.{AnswersOutcome, IsErrorOf, UnlessSt
 ghost use Rattle.checker_parts.specs.Memory.{NeedsNoMemory};
 ghost use Rattle.checker_parts.specs.declared.error.StepFault.TheVariants.{OutOfMemory, Refused};
 ghost use Rattle.proof_bytes.specs.NextStep.{view};
-ghost use Rattle.checker_steps.specs.Context.{ContextInvariant, context_state};
+ghost use Rattle.checker_steps.specs.Context.{ContextInvariant, context_state, listeners_in};
 ghost use Rattle.checker_steps.specs.Failing.{has_failed};
 ghost use Rattle.checker_steps.specs.Delivered.{Delivered, DeliveredList, listeners_of};
 ghost use Rattle.checker_steps.specs.Idle.{wants_no_memory};
@@ -48,8 +48,7 @@ pub fn add_clause<P: ProofProcessor, T: ProofTranscriptProcessor>(
     ensures kept { UnlessFailed result (ContextInvariant ctx.new) }
     ensures delivered { Delivered result
         (Emits (context_state ctx.old) (steps.add_clause lits.now))
-        P.took P.faulted T.took T.faulted (listeners_of ctx.old.processing)
-        (listeners_of ctx.new.processing) }
+        P.ProofProcessor T.ProofTranscriptProcessor (listeners_in ctx.old) (listeners_in ctx.new) }
     ensures after_unsat { (context_state ctx.old).unsat ≡ true
         → (result ≡ Ok tt) × (ctx.new ≡ ctx.old) }
 {
@@ -68,8 +67,7 @@ pub fn check_step<P: ProofProcessor, T: ProofTranscriptProcessor>(
         (context_state ctx.new) }
     ensures kept { UnlessFailed result (ContextInvariant ctx.new) }
     ensures delivered { Delivered result (Emits (context_state ctx.old) (view step.now))
-        P.took P.faulted T.took T.faulted (listeners_of ctx.old.processing)
-        (listeners_of ctx.new.processing) }
+        P.ProofProcessor T.ProofTranscriptProcessor (listeners_in ctx.old) (listeners_in ctx.new) }
     ensures idle { wants_no_memory (context_state ctx.old).unsat (view step.now) ≡ true
         → has_failed result ≡ false }
 {
@@ -89,8 +87,7 @@ fn take_step<P: ProofProcessor, T: ProofTranscriptProcessor>(
         (context_state ctx.new) }
     ensures kept { UnlessStopped result (ContextInvariant ctx.new) }
     ensures delivered { DeliveredList result (Emits (context_state ctx.old) (view step.now))
-        P.took P.faulted T.took T.faulted (listeners_of ctx.old.processing)
-        (listeners_of ctx.new.processing) }
+        P.ProofProcessor T.ProofTranscriptProcessor (listeners_in ctx.old) (listeners_in ctx.new) }
     ensures idle { wants_no_memory (context_state ctx.old).unsat (view step.now) ≡ true
         → has_stopped result ≡ false }
 {
@@ -137,8 +134,7 @@ pub fn take_counted<P: ProofProcessor, T: ProofTranscriptProcessor>(
     ensures kept { UnlessStopped result (ContextInvariant ctx.new) }
     ensures delivered { DeliveredList result
         (EmitsCall (context_state ctx.old) (checks (view step.now)))
-        P.took P.faulted T.took T.faulted (listeners_of ctx.old.processing)
-        (listeners_of ctx.new.processing) }
+        P.ProofProcessor T.ProofTranscriptProcessor (listeners_in ctx.old) (listeners_in ctx.new) }
     ensures idle { wants_no_memory (context_state ctx.old).unsat (view step.now) ≡ true
         → has_stopped result ≡ false }
     ensures exhausted { step_limit ≤ (context_state ctx.old).steps → has_stopped result ≡ false }
@@ -180,8 +176,7 @@ pub fn attempt_step<P: ProofProcessor, T: ProofTranscriptProcessor>(
     ensures kept { UnlessFailed result (ContextInvariant ctx.new) }
     ensures delivered { Delivered result
         (EmitsCall (context_state ctx.old) (checks (view step.now)))
-        P.took P.faulted T.took T.faulted (listeners_of ctx.old.processing)
-        (listeners_of ctx.new.processing) }
+        P.ProofProcessor T.ProofTranscriptProcessor (listeners_in ctx.old) (listeners_in ctx.new) }
     ensures idle { wants_no_memory (context_state ctx.old).unsat (view step.now) ≡ true
         → has_failed result ≡ false }
     ensures exhausted { step_limit ≤ (context_state ctx.old).steps → has_failed result ≡ false }
@@ -206,8 +201,7 @@ pub fn process_unit_conflicts<P: ProofProcessor, T: ProofTranscriptProcessor>(
         (context_state ctx.new) }
     ensures kept { UnlessFailed result (ContextInvariant ctx.new) }
     ensures delivered { Delivered result (EmitsCall (context_state ctx.old) closes)
-        P.took P.faulted T.took T.faulted (listeners_of ctx.old.processing)
-        (listeners_of ctx.new.processing) }
+        P.ProofProcessor T.ProofTranscriptProcessor (listeners_in ctx.old) (listeners_in ctx.new) }
     ensures memory { NeedsNoMemory result }
 {
     let closed = close_unit_conflict(ctx);
@@ -223,8 +217,7 @@ fn close_unit_conflict<P: ProofProcessor, T: ProofTranscriptProcessor>(
         (context_state ctx.new) }
     ensures kept { UnlessStopped result (ContextInvariant ctx.new) }
     ensures delivered { DeliveredList result (EmitsCall (context_state ctx.old) closes)
-        P.took P.faulted T.took T.faulted (listeners_of ctx.old.processing)
-        (listeners_of ctx.new.processing) }
+        P.ProofProcessor T.ProofTranscriptProcessor (listeners_in ctx.old) (listeners_in ctx.new) }
     ensures memory { result ≢ Err OutOfMemory }
 {
     let Some((stored, refuting)) = ctx.clauses.unit_conflict else {

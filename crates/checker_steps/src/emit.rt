@@ -27,7 +27,7 @@ pub(crate) fn emit_add_clause<P: ProofProcessor, T: ProofTranscriptProcessor>(
     ensures { DeliveredStep result (record {
       step = checked_add_clause id clause.now;
       names = variables.now;
-    }) P.took P.faulted T.took T.faulted (listeners_of processing.old)
+    }) P.ProofProcessor T.ProofTranscriptProcessor (listeners_of processing.old)
         (listeners_of processing.new) }
 {
     let _propagations = ResolutionPropagations {};
@@ -45,7 +45,7 @@ pub(crate) fn emit_duplicated_clause<P: ProofProcessor, T: ProofTranscriptProces
 ) -> Result<(), StepFault>
     ensures { DeliveredStep result (record
         { step = checked_duplicated_clause id same_as_id clause.now; names = variables.now })
-        P.took P.faulted T.took T.faulted (listeners_of processing.old)
+        P.ProofProcessor T.ProofTranscriptProcessor (listeners_of processing.old)
         (listeners_of processing.new) }
 {
     let _propagations = ResolutionPropagations {};
@@ -67,7 +67,7 @@ pub(crate) fn emit_tautological_clause<P: ProofProcessor, T: ProofTranscriptProc
     ensures { DeliveredStep result (record {
       step = checked_tautological_clause id clause.now;
       names = variables.now;
-    }) P.took P.faulted T.took T.faulted (listeners_of processing.old)
+    }) P.ProofProcessor T.ProofTranscriptProcessor (listeners_of processing.old)
         (listeners_of processing.new) }
 {
     let _propagations = ResolutionPropagations {};
@@ -89,7 +89,7 @@ pub(crate) fn emit_at_clause<P: ProofProcessor, T: ProofTranscriptProcessor>(
         (record {
           step = checked_at_clause id redundant clause.now propagations.now;
           names = variables.now;
-        }) P.took P.faulted T.took T.faulted (listeners_of processing.old)
+        }) P.ProofProcessor T.ProofTranscriptProcessor (listeners_of processing.old)
         (listeners_of processing.new) }
     ensures memory { result ≢ Err OutOfMemory }
 {
@@ -113,7 +113,7 @@ pub(crate) fn emit_make_irredundant<P: ProofProcessor, T: ProofTranscriptProcess
     ensures { DeliveredStep result (record {
       step = checked_make_irredundant id clause.now;
       names = variables.now;
-    }) P.took P.faulted T.took T.faulted (listeners_of processing.old)
+    }) P.ProofProcessor T.ProofTranscriptProcessor (listeners_of processing.old)
         (listeners_of processing.new) }
 {
     let _propagations = ResolutionPropagations {};
@@ -132,7 +132,7 @@ pub(crate) fn emit_delete_clause<P: ProofProcessor, T: ProofTranscriptProcessor>
     ensures { DeliveredStep result (record {
       step = checked_delete_clause id clause.now;
       names = variables.now;
-    }) P.took P.faulted T.took T.faulted (listeners_of processing.old)
+    }) P.ProofProcessor T.ProofTranscriptProcessor (listeners_of processing.old)
         (listeners_of processing.new) }
 {
     let _propagations = ResolutionPropagations {};
@@ -153,7 +153,7 @@ pub(crate) fn emit_delete_at_clause<P: ProofProcessor, T: ProofTranscriptProcess
     ensures { DeliveredStep result (record {
       step = checked_delete_at_clause id keep_as_redundant clause.now propagations.now;
       names = variables.now;
-    }) P.took P.faulted T.took T.faulted (listeners_of processing.old)
+    }) P.ProofProcessor T.ProofTranscriptProcessor (listeners_of processing.old)
         (listeners_of processing.new) }
 {
     let _propagations = ResolutionPropagations {};
@@ -176,7 +176,7 @@ pub(crate) fn emit_delete_rat_clause<P: ProofProcessor, T: ProofTranscriptProces
 ) -> Result<(), StepFault>
     ensures { DeliveredStep result (record
         { step = checked_delete_rat_clause id false clause.now pivot; names = variables.now })
-        P.took P.faulted T.took T.faulted (listeners_of processing.old)
+        P.ProofProcessor T.ProofTranscriptProcessor (listeners_of processing.old)
         (listeners_of processing.new) }
 {
     let propagations = ResolutionPropagations {};
@@ -199,7 +199,7 @@ pub(crate) fn emit_user_var<P: ProofProcessor, T: ProofTranscriptProcessor>(
 ) -> Result<(), StepFault>
     ensures { DeliveredStep result (record
         { step = checked_user_var (index_of var) (user_vars_of user_var); names = variables.now })
-        P.took P.faulted T.took T.faulted (listeners_of processing.old)
+        P.ProofProcessor T.ProofTranscriptProcessor (listeners_of processing.old)
         (listeners_of processing.new) }
 {
     let _propagations = ResolutionPropagations {};
@@ -216,7 +216,7 @@ pub(crate) fn emit_model<P: ProofProcessor, T: ProofTranscriptProcessor>(
     ensures { DeliveredStep result (record {
       step = checked_model assignment.now;
       names = variables.now;
-    }) P.took P.faulted T.took T.faulted (listeners_of processing.old)
+    }) P.ProofProcessor T.ProofTranscriptProcessor (listeners_of processing.old)
         (listeners_of processing.new) }
 {
     let _propagations = ResolutionPropagations {};
@@ -233,7 +233,7 @@ pub(crate) fn emit_assumptions<P: ProofProcessor, T: ProofTranscriptProcessor>(
     ensures { DeliveredStep result (record {
       step = checked_assumptions assumptions.now;
       names = variables.now;
-    }) P.took P.faulted T.took T.faulted (listeners_of processing.old)
+    }) P.ProofProcessor T.ProofTranscriptProcessor (listeners_of processing.old)
         (listeners_of processing.new) }
 {
     let _propagations = ResolutionPropagations {};
@@ -251,7 +251,7 @@ pub(crate) fn emit_failed_assumptions<P: ProofProcessor, T: ProofTranscriptProce
     ensures { DeliveredStep result (record {
       step = checked_failed_assumptions failed_core.now propagations.now;
       names = variables.now;
-    }) P.took P.faulted T.took T.faulted (listeners_of processing.old)
+    }) P.ProofProcessor T.ProofTranscriptProcessor (listeners_of processing.old)
         (listeners_of processing.new) }
 {
     let _propagations = ResolutionPropagations {};

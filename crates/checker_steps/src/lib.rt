@@ -2,10 +2,15 @@
 //! are told of it.
 #![tactic(auto)]
 
+mod emit;
+
+// What `varisat_checker` passes on, under the names of the Rust crate's modules.
 pub mod check;
 pub mod context;
-mod emit;
-pub mod marks;
 pub mod processing;
 pub mod steps;
 pub mod variables;
+
+// Public since contracts of crates above name a context, and so the types of its fields.
+#[doc(hidden)]
+pub mod marks;

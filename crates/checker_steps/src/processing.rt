@@ -49,7 +49,8 @@ impl<P: ProofProcessor, T: ProofTranscriptProcessor> ProcessingOf<P, T> {
     #[inline(always)]
     pub fn step(&mut self, step: &CheckedProofStep, names: CheckerData) -> Result<(), StepFault>
         ensures delivers { DeliveredStep result (told step.now names.entry.0.now)
-            P.took P.faulted T.took T.faulted (listeners_of self.old) (listeners_of self.new) }
+            P.ProofProcessor T.ProofTranscriptProcessor
+            (listeners_of self.old) (listeners_of self.new) }
         ensures memory { lists_literals (step_of step.now) ≡ false → result ≢ Err OutOfMemory }
     {
         // Most runs register nothing, and then the step need not even be made.
@@ -64,7 +65,8 @@ impl<P: ProofProcessor, T: ProofTranscriptProcessor> ProcessingOf<P, T> {
     #[inline(never)]
     fn deliver(&mut self, step: &CheckedProofStep, names: CheckerData) -> Result<(), StepFault>
         ensures delivers { DeliveredStep result (told step.now names.entry.0.now)
-            P.took P.faulted T.took T.faulted (listeners_of self.old) (listeners_of self.new) }
+            P.ProofProcessor T.ProofTranscriptProcessor
+            (listeners_of self.old) (listeners_of self.new) }
         ensures memory { lists_literals (step_of step.now) ≡ false → result ≢ Err OutOfMemory }
     {
         tell(&mut self.processors, step, names, &mut self.fault)?;
@@ -124,7 +126,7 @@ pub fn process_step<P: ProofProcessor, T: ProofTranscriptProcessor>(
     step: &CheckedProofStep,
 ) -> Result<(), StepFault>
     ensures delivers { DeliveredStep result (told step.now variables.now)
-        P.took P.faulted T.took T.faulted (listeners_of processing.old)
+        P.ProofProcessor T.ProofTranscriptProcessor (listeners_of processing.old)
         (listeners_of processing.new) }
     ensures memory { lists_literals (step_of step.now) ≡ false → result ≢ Err OutOfMemory }
 {

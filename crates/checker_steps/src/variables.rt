@@ -97,7 +97,7 @@ pub fn add_user_mapping<P: ProofProcessor, T: ProofTranscriptProcessor>(
     ensures delivered { (st : CheckerState) (h : ClauseHasher)
         → DeliveredList result (Emits (state_of st h clauses.old variables.old)
         (rules.user_var_name (index_of global) (Some (index_of user_var))))
-        P.took P.faulted T.took T.faulted (listeners_of processing.old)
+        P.ProofProcessor T.ProofTranscriptProcessor (listeners_of processing.old)
         (listeners_of processing.new) }
 {
     ensure_var(clauses, variables, global)?;
@@ -130,7 +130,7 @@ pub fn remove_user_mapping<P: ProofProcessor, T: ProofTranscriptProcessor>(
     ensures known { UnlessStopped result (length clauses.new.unit_clauses ≡ length variables.new) }
     ensures delivered { (st : CheckerState) (h : ClauseHasher)
         → DeliveredList result (Emits (state_of st h clauses.old variables.old)
-        (rules.user_var_name (index_of global) None)) P.took P.faulted T.took T.faulted
+        (rules.user_var_name (index_of global) None)) P.ProofProcessor T.ProofTranscriptProcessor
         (listeners_of processing.old) (listeners_of processing.new) }
 {
     ensure_var(clauses, variables, global)?;

@@ -16,7 +16,6 @@ use Rattle.checker_rules.specs.RunEmissions.{EmitsRun}
 use Rattle.checker_rules.specs.State.{State}
 use Rattle.checker_rules.specs.Step.{add_clause}
 use Rattle.checker_rules.specs.Steps.{new_state, step}
-use Rattle.checker_rules.specs.Transcript.{TranscriptStep}
 use Rattle.checker_rules.proofs.AddedClauses.{formulas_are_fold}
 use Rattle.checker_rules.proofs.RanLemmas.{all_ran_append}
 use Rattle.checker_parts.specs.Answers.{AnswersStep}
@@ -24,7 +23,7 @@ use Rattle.checker_parts.specs.Boxes.{InBox}
 use Rattle.checker_parts.specs.declared.error.CheckerError.{CheckerError}
 use Rattle.checker_parts.specs.declared.error.CheckerError.TheVariants.{OutOfMemory}
 use Rattle.proof_bytes.specs.Texts.{next_of, start_of}
-use Rattle.checker_steps.specs.Delivered.{Listeners, DeliveredWhole}
+use Rattle.checker_steps.specs.Delivered.{Listeners, Listens, ListensImage, DeliveredWhole}
 use Rattle.varisat_checker.specs.ProofRun.{ProofAnswer, ProofRun}
 use Rattle.varisat_checker.proofs.CountLemmas.{add-failed}
 use Rattle.example_processors.specs.Counts.{Grows, IsCount, IsRefused}
@@ -41,11 +40,11 @@ adding-failed s (c ∷ cs) =
     ]
 
 -- what the calls for a formula and a proof emit is what IsCount counts
-is-count : {B C : Type 0} (took faulted : B → NamedStep → B → Type 0) (took_image faulted_image : C → TranscriptStep → C → Type 0)
-    (formula : List (List ℕ)) (known : Option (List ℕ)) (mid last : Listeners B C) (t u : State) (es : List NamedStep) →
-    AnswersStep {A = Unit {0}} (Ok tt) (add_clauses new_state formula) t → EmitsCalls new_state (map adds (added new_state formula)) es →
-    (run : ProofRun {A = Unit {0}} known t (Ok tt) u took faulted took_image faulted_image mid last) → IsCount known formula (length (es ++ run.delivered.0))
-is-count took faulted took_image faulted_image formula known mid last t u es answer emitted run = record {
+is-count : {B C : Type 0} (listens : Listens B) (listens_image : ListensImage C)
+    (formula : List (List ℕ)) (known : Option (List ℕ)) (mid last : Listeners B C) (s' u : State) (es : List NamedStep) →
+    AnswersStep {A = Unit {0}} (Ok tt) (add_clauses new_state formula) s' → EmitsCalls new_state (map adds (added new_state formula)) es →
+    (run : ProofRun {A = Unit {0}} known s' (Ok tt) u listens listens_image mid last) → IsCount known formula (length (es ++ run.delivered.0))
+is-count listens listens_image formula known mid last s' u es answer emitted run = record {
   accepted = answer.0;
   of_clauses = es;
   clauses_emit = subst (λ cs. EmitsCalls new_state (map adds cs) es) (formulas_are_fold.accepted new_state formula answer.0) emitted;
@@ -96,19 +95,27 @@ pub record Told {V A : Type 0} {F : V → Type 0} (shown : (v : V) → F v → L
   pub is_count : IsCount known formula count
   pub one : OneGrew shown old count news
 
+-- what boxes say of themselves, by the values inside
+abbrev boxed : {V A : Type 0} {F : V → Type 0} → (took faulted : (v : V) → F v → NamedStep → F v → Type 0) → (shown : (v : V) → F v → List ℕ) → Listens (DynBox V A F)
+boxed took faulted shown = record {
+  took = λ b. InBox b (took b.vtable);
+  faulted = λ b. InBox b (faulted b.vtable);
+  shown = λ b. shown b.vtable b.value;
+}
+
 -- a new checker, a box registered with it, a formula, a proof: the one box that is left shows as many bytes more as steps were told
-pub told : {V A C : Type 0} {F : V → Type 0} (took faulted : (v : V) → F v → NamedStep → F v → Type 0) (shown : (v : V) → F v → List ℕ) (took_image faulted_image : C → TranscriptStep → C → Type 0)
-    (formula : List (List ℕ)) (known : Option (List ℕ)) (old : DynBox V A F) (none first mid last : Listeners (DynBox V A F) C) (r s t u : State) →
+pub told : {V A C : Type 0} {F : V → Type 0} (took faulted : (v : V) → F v → NamedStep → F v → Type 0) (shown : (v : V) → F v → List ℕ)
+    (listens_image : ListensImage C)
+    (formula : List (List ℕ)) (known : Option (List ℕ)) (old : DynBox V A F) (none first mid last : Listeners (DynBox V A F) C) (r s s' u : State) →
     Grows (took old.vtable) (shown old.vtable) → r ≡ new_state → none.processors ≡ [] → s ≡ r → first ≡ record none { processors = none.processors ++ old ∷ [] } →
-    (s.failed ≡ false → AnswersStep {A = Unit {0}} (Ok tt) (add_clauses s formula) t) →
-    (s.failed ≡ false → DeliveredWhole (EmitsCalls s (map adds (added s formula))) (λ b. InBox b (took b.vtable)) took_image first
-    mid) →
-    (t.failed ≡ false → ProofRun {A = Unit {0}} known t (Ok tt) u (λ b. InBox b (took b.vtable)) (λ b. InBox b (faulted b.vtable)) took_image faulted_image mid last) →
+    (s.failed ≡ false → AnswersStep {A = Unit {0}} (Ok tt) (add_clauses s formula) s') →
+    (s'.failed ≡ false → ProofRun {A = Unit {0}} known s' (Ok tt) u (boxed took faulted shown) listens_image mid last) →
+    (s.failed ≡ false → DeliveredWhole (EmitsCalls s (map adds (added s formula))) (boxed took faulted shown) listens_image first mid) →
     Told shown old formula known last.processors
-told took faulted shown took_image faulted_image formula known old none first mid last r s t u grows new empty same registered answers delivers runs =
+told took faulted shown listens_image formula known old none first mid last r s s' u grows new empty same registered answers runs delivers =
     let fresh : s ≡ new_state = same ∙ new in
     let running : s.failed ≡ false = ap (λ (x : State). x.failed) fresh in
-    let answer = subst (λ x. AnswersStep {A = Unit {0}} (Ok tt) (add_clauses x formula) t) fresh (answers running) in
+    let answer = subst (λ x. AnswersStep {A = Unit {0}} (Ok tt) (add_clauses x formula) s') fresh (answers running) in
     let inputs = delivers running in
     let emitted = subst (λ x. EmitsCalls x (map adds (added x formula)) inputs.0) fresh inputs.1 in
     let run = runs (ap (λ (x : State). x.failed) answer.1 ∙ adding-failed new_state formula) in
@@ -116,28 +123,28 @@ told took faulted shown took_image faulted_image formula known old none first mi
     let ran = all_ran_append _ _ _ _ _ _ inputs.2.processors run.delivered.2.processors in
     record {
       count = length (inputs.0 ++ run.delivered.0);
-      is_count = is-count _ _ _ _ formula known mid last t u inputs.0 answer emitted run;
+      is_count = is-count _ _ formula known mid last s' u inputs.0 answer emitted run;
       one = one-ran took shown old _ last.processors grows (subst (λ bs. AllRan (λ b. InBox b (took b.vtable)) bs (inputs.0 ++ run.delivered.0) last.processors) alone ran);
     }
 
 -- the box can be read
 pub some-left : {V A : Type 0} {F : V → Type 0} (shown : (v : V) → F v → List ℕ) (old : DynBox V A F) (formula : List (List ℕ))
     (known : Option (List ℕ)) (news items : List (DynBox V A F)) → Told shown old formula known news → items ≡ news → 0 < length items
-some-left shown old formula known news items t same = rw (same ∙ t.one.alone) (omega arith)
+some-left shown old formula known news items left same = rw (same ∙ left.one.alone) (omega arith)
 
 -- what is read of it, before and after
 pub grown : {V A : Type 0} {F : V → Type 0} (shown : (v : V) → F v → List ℕ) (old here : DynBox V A F) (formula : List (List ℕ))
     (known : Option (List ℕ)) (news items : List (DynBox V A F)) (before after : List ℕ) →
     Told shown old formula known news → items ≡ news → here ≡ get_or items 0 here → before ≡ shown old.vtable old.value →
     after ≡ shown here.vtable here.value → (length before ≤ length after) × IsCount known formula (length after - length before)
-grown shown old here formula known news items before after t same place b a =
-    let one = t.one in
+grown shown old here formula known news items before after left same place b a =
+    let one = left.one in
     let found : here ≡ one.new = place ∙ ap (λ bs. get_or bs 0 here) (same ∙ one.alone) in
     let end : length after ≡ length (shown one.new.vtable one.new.value) = ap length (a ∙ ap (λ x. shown x.vtable x.value) found) in
     let start : length before ≡ length (shown old.vtable old.value) = ap length b in
     let grew = one.grew in
-    let much : t.count ≡ length after - length before = omega arith in
-    (omega arith, subst (IsCount known formula) much t.is_count)
+    let much : left.count ≡ length after - length before = omega arith in
+    (omega arith, subst (IsCount known formula) much left.is_count)
 
 -- want of memory is answered at any time
 pub no-memory : (known : Option (List ℕ)) (formula : List (List ℕ)) → IsRefused known formula OutOfMemory
@@ -148,21 +155,21 @@ pub processor-refused : (known : Option (List ℕ)) (formula : List (List ℕ)) 
 processor-refused known formula e r new given = subst (IsRefused known formula) (sym (given (ap (λ (x : State). x.failed) new))) (no-memory known formula)
 
 -- a refused formula
-pub formula-refused : (known : Option (List ℕ)) (formula : List (List ℕ)) (e : CheckerError) (r s t : State) → r ≡ new_state → s ≡ r →
-    (s.failed ≡ false → AnswersStep {A = Unit {0}} (Err e) (add_clauses s formula) t) → IsRefused known formula e
-formula-refused known formula e r s t new same answers =
+pub formula-refused : (known : Option (List ℕ)) (formula : List (List ℕ)) (e : CheckerError) (r s s' : State) → r ≡ new_state → s ≡ r →
+    (s.failed ≡ false → AnswersStep {A = Unit {0}} (Err e) (add_clauses s formula) s') → IsRefused known formula e
+formula-refused known formula e r s s' new same answers =
     let fresh : s ≡ new_state = same ∙ new in
-    inl (t, subst (λ x. AnswersStep {A = Unit {0}} (Err e) (add_clauses x formula) t) fresh (answers (ap (λ (x : State). x.failed) fresh)))
+    inl (s', subst (λ x. AnswersStep {A = Unit {0}} (Err e) (add_clauses x formula) s') fresh (answers (ap (λ (x : State). x.failed) fresh)))
 
 -- a refused proof
-pub proof-refused : {B C : Type 0} {took faulted : B → NamedStep → B → Type 0} {took_image faulted_image : C → TranscriptStep → C → Type 0}
-    {mid last : Listeners B C} (known : Option (List ℕ)) (formula : List (List ℕ)) (e : CheckerError) (r s t u : State) → r ≡ new_state →
+pub proof-refused : {B C : Type 0} {listens : Listens B} {listens_image : ListensImage C}
+    {mid last : Listeners B C} (known : Option (List ℕ)) (formula : List (List ℕ)) (e : CheckerError) (r s s' u : State) → r ≡ new_state →
     s ≡ r
-    → (s.failed ≡ false → AnswersStep {A = Unit {0}} (Ok tt) (add_clauses s formula) t) →
-    (t.failed ≡ false → ProofRun {A = Unit {0}} known t (Err e) u took faulted took_image faulted_image mid last) →
+    → (s.failed ≡ false → AnswersStep {A = Unit {0}} (Ok tt) (add_clauses s formula) s') →
+    (s'.failed ≡ false → ProofRun {A = Unit {0}} known s' (Err e) u listens listens_image mid last) →
     IsRefused known formula e
-proof-refused known formula e r s t u new same answers runs =
+proof-refused known formula e r s s' u new same answers runs =
     let fresh : s ≡ new_state = same ∙ new in
-    let answer = subst (λ x. AnswersStep {A = Unit {0}} (Ok tt) (add_clauses x formula) t) fresh (answers (ap (λ (x : State). x.failed) fresh)) in
+    let answer = subst (λ x. AnswersStep {A = Unit {0}} (Ok tt) (add_clauses x formula) s') fresh (answers (ap (λ (x : State). x.failed) fresh)) in
     let run = runs (ap (λ (x : State). x.failed) answer.1 ∙ adding-failed new_state formula) in
     inr (answer.0, run.text, run.steps, u, subst (λ x. ProofAnswer {A = Unit {0}} known x run.text run.steps (Err e) u) answer.1 run.answered)

@@ -9,19 +9,17 @@ use Rattle.std.specs.Prelude.{◌==◌, ◌-◌, if◌then◌else◌, IfOk}
 use Rattle.std.proofs.lemmas.Bool.{and_parts, eqb-true}
 use Rattle.sat_rules.specs.Clauses.{all_true}
 use Rattle.checker_rules.specs.Calls.{shown_inputs, shown_unsat}
-use Rattle.checker_rules.specs.CheckedSteps.{NamedStep}
 use Rattle.checker_rules.specs.Headline.{holds}
 use Rattle.checker_rules.specs.State.{State}
 use Rattle.checker_rules.specs.Step.{Step, add_clause}
 use Rattle.checker_rules.specs.Steps.{new_state}
-use Rattle.checker_rules.specs.Transcript.{TranscriptStep}
 use Rattle.checker_rules.proofs.AddedClauses.{formulas_are_fold, members}
 use Rattle.checker_rules.proofs.Refuting.{counted_run, runs_refute}
 use Rattle.proof_bytes.specs.Reading.{Fault}
 use Rattle.proof_bytes.specs.Texts.{Place, next_of, start_of}
 use Rattle.checker_parts.specs.Answers.{IsCovered}
 use Rattle.checker_parts.specs.declared.error.DimacsError.{DimacsError}
-use Rattle.checker_steps.specs.Delivered.{Listeners}
+use Rattle.checker_steps.specs.Delivered.{Listeners, Listens, ListensImage}
 use Rattle.varisat_checker.specs.ProofRun.{ProofAnswer, ProofRun}
 use Rattle.varisat_checker.specs.TextRun.{EndsText, TextAnswer, TextRun, outcome_of}
 use Rattle.checker_steps.specs.Failing.{IsFailed}
@@ -40,11 +38,11 @@ Known = Option (List ℕ)
 
 -- the checker accepted the proof
 abbrev Accepts : Known → List ℕ → List Step → State → State → Type 0
-Accepts known text steps s t = ProofAnswer {A = Unit {0}} known s text steps (Ok tt) t
+Accepts known text steps s s' = ProofAnswer {A = Unit {0}} known s text steps (Ok tt) s'
 
 -- it took the formula's text
 abbrev Adds : Known → List (List ℕ) → State → Type 0
-Adds known clauses t = TextAnswer {A = Unit {0}} known new_state clauses (Ok tt) t
+Adds known clauses s' = TextAnswer {A = Unit {0}} known new_state clauses (Ok tt) s'
 
 not_true : (b : Bool) → not b ≡ true → b ≡ false
 not_true true h = absurd (cc)
@@ -53,14 +51,14 @@ not_true false h = refl
 alive : (s : State) → s.failed ≡ false → shown_inputs s ≡ s.inputs
 alive s h = rw h refl
 
-records : (t : State) → shown_unsat t ≡ true → (t.unsat ≡ true) × (t.failed ≡ false)
-records t h = let parts = and_parts t.unsat (not t.failed) h in (parts.0, not_true t.failed parts.1)
+records : (s' : State) → shown_unsat s' ≡ true → (s'.unsat ≡ true) × (s'.failed ≡ false)
+records s' h = let parts = and_parts s'.unsat (not s'.failed) h in (parts.0, not_true s'.failed parts.1)
 
-pub more_inputs : {known : Known} {text : List ℕ} {steps : List Step} (s t : State) → Accepts known text steps s t → s.failed ≡ false → shown_unsat t ≡ true → shown_inputs s ≤ shown_inputs t
-more_inputs {text = text} {steps = steps} s t run lives h =
-    let more = counted_run Place Fault next_of s (start_of text) steps None t run.ends in
+pub more_inputs : {known : Known} {text : List ℕ} {steps : List Step} (s s' : State) → Accepts known text steps s s' → s.failed ≡ false → shown_unsat s' ≡ true → shown_inputs s ≤ shown_inputs s'
+more_inputs {text = text} {steps = steps} s s' run lives h =
+    let more = counted_run Place Fault next_of s (start_of text) steps None s' run.ends in
     let before = alive s lives in
-    let after = alive t (records t h).1 in
+    let after = alive s' (records s' h).1 in
     omega arith
 
 verdict_parts : (b e : Bool) (n : ℕ) → (if b then (if e then Unsatisfiable else UnsatisfiableWithAdded n) else NotShown) ≡ Unsatisfiable → (b ≡ true) × (e ≡ true)
@@ -68,15 +66,15 @@ verdict_parts true true n h = (refl, refl)
 verdict_parts true false n h = absurd (cc)
 verdict_parts false e n h = absurd (cc)
 
-pub refuted_before : {known : Known} {text : List ℕ} {steps : List Step} (s t : State) (before : List Step) → Accepts known text steps s t →
-    s.failed ≡ false → verdict_of (shown_inputs s) t ≡ Unsatisfiable
+pub refuted_before : {known : Known} {text : List ℕ} {steps : List Step} (s s' : State) (before : List Step) → Accepts known text steps s s' →
+    s.failed ≡ false → verdict_of (shown_inputs s) s' ≡ Unsatisfiable
     → IsCovered before s → (a : ℕ → Bool) → holds before a ≡ false
-refuted_before {text = text} {steps = steps} s t before run lives v covered a =
-    let parts = verdict_parts (shown_unsat t) (shown_inputs t == shown_inputs s) (shown_inputs t - shown_inputs s) v in
-    let recorded = records t parts.0 in
-    let same : shown_inputs t ≡ shown_inputs s = eqb-true _ _ parts.1 in
-    runs_refute Place Fault next_of (holds before) s (start_of text) steps None t covered run.ends recorded.0
-    (sym (alive t recorded.1) ∙ same ∙ alive s lives) a
+refuted_before {text = text} {steps = steps} s s' before run lives v covered a =
+    let parts = verdict_parts (shown_unsat s') (shown_inputs s' == shown_inputs s) (shown_inputs s' - shown_inputs s) v in
+    let recorded = records s' parts.0 in
+    let same : shown_inputs s' ≡ shown_inputs s = eqb-true _ _ parts.1 in
+    runs_refute Place Fault next_of (holds before) s (start_of text) steps None s' covered run.ends recorded.0
+    (sym (alive s' recorded.1) ∙ same ∙ alive s lives) a
 
 -- a new checker with the whole formula has not failed
 pub lives_on : {known : Known} {clauses : List (List ℕ)} (s : State) → Adds known clauses s → s.failed ≡ false
@@ -96,48 +94,48 @@ not_failed true x h = absurd (let e = (h refl).0 in cc)
 not_failed false x h = refl
 
 -- the verdict that is answered, by the state before the proof
-pub verdict_told : (v : Verdict) (n : ℕ) (s t : State) → ◌≡◌ {A = Result Verdict RunFault} (Ok v) (Ok Unsatisfiable) → v ≡ verdict_of n t →
-    n ≡ shown_inputs s → verdict_of (shown_inputs s) t ≡ Unsatisfiable
-verdict_told v n s t h e k = let same : v ≡ Unsatisfiable = cc in sym (ap (λ m. verdict_of m t) k) ∙ sym e ∙ same
+pub verdict_told : (v : Verdict) (n : ℕ) (s s' : State) → ◌≡◌ {A = Result Verdict RunFault} (Ok v) (Ok Unsatisfiable) → v ≡ verdict_of n s' →
+    n ≡ shown_inputs s → verdict_of (shown_inputs s) s' ≡ Unsatisfiable
+verdict_told v n s s' h e k = let same : v ≡ Unsatisfiable = cc in sym (ap (λ m. verdict_of m s') k) ∙ sym e ∙ same
 
 -- a new checker that was delivered the formula
 abbrev pub AddsText : Known → State → Type 0
-AddsText known t = (clauses : List (List ℕ)) × Adds known clauses t
+AddsText known s' = (clauses : List (List ℕ)) × Adds known clauses s'
 
-pub text_added : {P T : Type 0} {took faulted : P → NamedStep → P → Type 0} {took_image faulted_image : T → TranscriptStep → T → Type 0}
-    {old new : Listeners P T} (cnf : Known) (s t : State) → s ≡ new_state
-    → (s.failed ≡ false → TextRun {A = Unit {0}} cnf s (Ok tt) t took faulted took_image faulted_image old new) → AddsText cnf t
-text_added cnf s t e h = let run = h (ap (λ (r : State). r.failed) e) in (run.clauses, subst (λ r. TextAnswer {A = Unit {0}} cnf r run.clauses (Ok tt) t) e run.answered)
+pub text_added : {P T : Type 0} {listens : Listens P} {listens_image : ListensImage T}
+    {old new : Listeners P T} (cnf : Known) (s s' : State) → s ≡ new_state
+    → (s.failed ≡ false → TextRun {A = Unit {0}} cnf s (Ok tt) s' listens listens_image old new) → AddsText cnf s'
+text_added cnf s s' e h = let run = h (ap (λ (r : State). r.failed) e) in (run.clauses, subst (λ r. TextAnswer {A = Unit {0}} cnf r run.clauses (Ok tt) s') e run.answered)
 
 -- and did not take all of it
-pub text_refused : {P T : Type 0} {took faulted : P → NamedStep → P → Type 0} {took_image faulted_image : T → TranscriptStep → T → Type 0}
-    {old new : Listeners P T} (cnf : Known) (e : DimacsError) (s t : State) → s ≡ new_state
-    → (s.failed ≡ false → TextRun {A = Unit {0}} cnf s (Err e) t took faulted took_image faulted_image old new) → RefusedText cnf e
-text_refused cnf e s t same h = let run = h (ap (λ (r : State). r.failed) same) in (run.clauses, t, subst (λ r. TextAnswer {A = Unit {0}} cnf r run.clauses (Err e) t) same run.answered)
+pub text_refused : {P T : Type 0} {listens : Listens P} {listens_image : ListensImage T}
+    {old new : Listeners P T} (cnf : Known) (e : DimacsError) (s s' : State) → s ≡ new_state
+    → (s.failed ≡ false → TextRun {A = Unit {0}} cnf s (Err e) s' listens listens_image old new) → RefusedText cnf e
+text_refused cnf e s s' same h = let run = h (ap (λ (r : State). r.failed) same) in (run.clauses, s', subst (λ r. TextAnswer {A = Unit {0}} cnf r run.clauses (Err e) s') same run.answered)
 
 -- the proof's run behind a whole formula
-pub whole_run : {P T : Type 0} (took faulted : P → NamedStep → P → Type 0) (took_image faulted_image : T → TranscriptStep → T → Type 0)
-    (old new : Listeners P T) (cnf proof : Known) (s t : State) (r : Result Verdict RunFault) → AddsText cnf s
-    → OnProof (λ answer. ProofRun proof s answer t took faulted took_image faulted_image old new) r → IfOk r (λ v. v ≡ verdict_of (shown_inputs s) t)
+pub whole_run : {P T : Type 0} (listens : Listens P) (listens_image : ListensImage T)
+    (old new : Listeners P T) (cnf proof : Known) (s s' : State) (r : Result Verdict RunFault) → AddsText cnf s
+    → OnProof (λ answer. ProofRun proof s answer s' listens listens_image old new) r → IfOk r (λ v. v ≡ verdict_of (shown_inputs s) s')
     → (r ≡ Ok Unsatisfiable → (before : List Step) → IsCovered before s → (a : ℕ → Bool) → holds before a ≡ false) → CheckRun cnf proof r
-whole_run took faulted took_image faulted_image old new cnf proof s t (Ok v) text run told refuted =
-    record { clauses = text.0; formula = s; adds = text.1; text = run.text; steps = run.steps; left = t; runs = run.answered; verdict = told; refutes = λ h. refuted_clauses s text.1 (refuted h) }
-whole_run took faulted took_image faulted_image old new cnf proof s t (Err (Write cause)) text run told refuted =
-    record { clauses = text.0; formula = s; adds = text.1; text = run.text; steps = run.steps; left = t; runs = run.answered; verdict = told; refutes = λ h. refuted_clauses s text.1 (refuted h) }
-whole_run took faulted took_image faulted_image old new cnf proof s t (Err (Proof e)) text run told refuted =
-    record { clauses = text.0; formula = s; adds = text.1; text = run.text; steps = run.steps; left = t; runs = run.answered; verdict = told; refutes = λ h. refuted_clauses s text.1 (refuted h) }
-whole_run took faulted took_image faulted_image old new cnf proof s t (Err (Formula e)) text run told refuted = absurd run
+whole_run listens listens_image old new cnf proof s s' (Ok v) text run told refuted =
+    record { clauses = text.0; formula = s; adds = text.1; text = run.text; steps = run.steps; left = s'; runs = run.answered; verdict = told; refutes = λ h. refuted_clauses s text.1 (refuted h) }
+whole_run listens listens_image old new cnf proof s s' (Err (Write cause)) text run told refuted =
+    record { clauses = text.0; formula = s; adds = text.1; text = run.text; steps = run.steps; left = s'; runs = run.answered; verdict = told; refutes = λ h. refuted_clauses s text.1 (refuted h) }
+whole_run listens listens_image old new cnf proof s s' (Err (Proof e)) text run told refuted =
+    record { clauses = text.0; formula = s; adds = text.1; text = run.text; steps = run.steps; left = s'; runs = run.answered; verdict = told; refutes = λ h. refuted_clauses s text.1 (refuted h) }
+whole_run listens listens_image old new cnf proof s s' (Err (Formula e)) text run told refuted = absurd run
 
 -- its line was not written whole
-pub unwritten_run : {P T : Type 0} (took faulted : P → NamedStep → P → Type 0) (took_image faulted_image : T → TranscriptStep → T → Type 0)
-    (old new : Listeners P T) (cnf proof : Known) (s t : State) (r : Result Verdict RunFault) (before after : Known) → AddsText cnf s
-    → OnProof (λ answer. ProofRun proof s answer t took faulted took_image faulted_image old new) r
-    → (IsUnwritten r → AppendsBeginning before after (shown_line (verdict_of (shown_inputs s) t))) → IsUnwritten r → BeginsLine cnf proof before after
-unwritten_run took faulted took_image faulted_image old new cnf proof s t (Ok v) before after text run begins is = absurd is
-unwritten_run took faulted took_image faulted_image old new cnf proof s t (Err (Write cause)) before after text run begins is =
-    record { clauses = text.0; formula = s; adds = text.1; text = run.text; steps = run.steps; left = t; runs = run.answered; begins = begins is }
-unwritten_run took faulted took_image faulted_image old new cnf proof s t (Err (Proof e)) before after text run begins is = absurd is
-unwritten_run took faulted took_image faulted_image old new cnf proof s t (Err (Formula e)) before after text run begins is = absurd is
+pub unwritten_run : {P T : Type 0} (listens : Listens P) (listens_image : ListensImage T)
+    (old new : Listeners P T) (cnf proof : Known) (s s' : State) (r : Result Verdict RunFault) (before after : Known) → AddsText cnf s
+    → OnProof (λ answer. ProofRun proof s answer s' listens listens_image old new) r
+    → (IsUnwritten r → AppendsBeginning before after (shown_line (verdict_of (shown_inputs s) s'))) → IsUnwritten r → BeginsLine cnf proof before after
+unwritten_run listens listens_image old new cnf proof s s' (Ok v) before after text run begins is = absurd is
+unwritten_run listens listens_image old new cnf proof s s' (Err (Write cause)) before after text run begins is =
+    record { clauses = text.0; formula = s; adds = text.1; text = run.text; steps = run.steps; left = s'; runs = run.answered; begins = begins is }
+unwritten_run listens listens_image old new cnf proof s s' (Err (Proof e)) before after text run begins is = absurd is
+unwritten_run listens listens_image old new cnf proof s s' (Err (Formula e)) before after text run begins is = absurd is
 
 -- of a text whose bytes are known
 pub refuted_text : (cnf : Known) (bytes : List ℕ) (s : State) → cnf ≡ Some bytes → AddsText cnf s →

@@ -1,9 +1,6 @@
 -- A formula's text, read whole.
---     fault_of f      the answer for a fault of the text
 --     ReadsFormula known r      the answer of reading a text of these bytes
 use Rattle.std.specs.Prelude.{◌≡◌, ℕ, List, Option, Result, Ok, Err}
-use Rattle.sat_formula.specs.declared.fault.DimacsFault.{DimacsFault}
-use Rattle.sat_formula.specs.declared.fault.DimacsFault.TheVariants as faults
 use Rattle.sat_formula.specs.Outcome.{Ended, Faulty}
 use Rattle.sat_formula.specs.Whole.{BeginsWith, IsOutcome}
 use Rattle.checker_parts.specs.declared.error.CheckerError.TheVariants.{OutOfMemory}
@@ -11,12 +8,6 @@ use Rattle.checker_parts.specs.declared.error.DimacsError.TheVariants.{Read, Mal
 use Rattle.varisat_checker.specs.TextRun.{outcome_of}
 use Rattle.varisat_check.specs.declared.fault.RunFault.{RunFault}
 use Rattle.varisat_check.specs.declared.fault.RunFault.TheVariants.{Formula, Proof, Write}
-
--- a fault of the text as a run's
-abbrev pub fault_of : DimacsFault → RunFault
-fault_of (faults.Read cause) = Formula (Read cause)
-fault_of (faults.Malformed line kind) = Formula (Malformed line kind)
-fault_of faults.OutOfMemory = Formula (Checker OutOfMemory)
 
 -- all clauses of the text, which has no fault; or the fault of the text, behind some clauses;
 -- a read fails and memory is wanted behind some clauses too, and no other fault is answered

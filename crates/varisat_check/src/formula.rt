@@ -1,10 +1,9 @@
 //! Formulas read whole from DIMACS text.
-ghost use Rattle.std.specs.Prelude.{◌≡◌};
-ghost use Rattle.varisat_check.specs.ReadFormula.{ReadsFormula, fault_of};
+ghost use Rattle.varisat_check.specs.ReadFormula.{ReadsFormula};
 
 use crate::fault::RunFault;
-use checker_parts::error::{CheckerError, DimacsError};
-use sat_formula::{CnfFormula, DimacsFault};
+use checker_parts::error::DimacsError;
+use sat_formula::CnfFormula;
 use std::alloc::Global;
 use std::io::Read;
 
@@ -17,17 +16,6 @@ pub fn read_formula<F: Read + Drop>(alloc: Global, cnf: F) -> Result<CnfFormula,
 {
     match sat_formula::read_formula(alloc, cnf) {
         Ok(formula) => Ok(formula),
-        Err(fault) => Err(text_fault(fault)),
+        Err(fault) => Err(RunFault::Formula(DimacsError::from(fault))),
     }
-}
-
-/// The answer for a fault of a formula's text.
-fn text_fault(fault: DimacsFault) -> RunFault
-    ensures { result ≡ fault_of fault }
-{
-    RunFault::Formula(match fault {
-        DimacsFault::Read(cause) => DimacsError::Read(cause),
-        DimacsFault::Malformed { line, kind } => DimacsError::Malformed { line, kind },
-        DimacsFault::OutOfMemory => DimacsError::Checker(CheckerError::OutOfMemory),
-    })
 }

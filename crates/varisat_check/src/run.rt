@@ -41,7 +41,8 @@ pub fn run_proof<L: Log, R: Read + Drop, W: Write, P: ProofProcessor, T: ProofTr
         → IsFailedRun result × (checker.new ≡ checker.old) }
     ensures run { (state checker.old).failed ≡ false → OnProof (λ answer.
         ProofRun (R.remaining proof) (state checker.old) answer (state checker.new)
-        P.took P.faulted T.took T.faulted (listeners checker.old) (listeners checker.new)) result }
+        P.ProofProcessor T.ProofTranscriptProcessor
+        (listeners checker.old) (listeners checker.new)) result }
     ensures records { OnProof (λ answer. RecordsFailure answer (state checker.new)) result }
     ensures verdict { IfOk result (λ verdict. verdict
         ≡ verdict_of (shown_inputs (state checker.old)) (state checker.new)) }

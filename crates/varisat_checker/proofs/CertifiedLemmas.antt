@@ -21,6 +21,7 @@ use Rattle.checker_rules.specs.RunEmissions.{EmitsRun, last_calls}
 use Rattle.checker_rules.specs.Step.{Step}
 use Rattle.checker_rules.proofs.RunJoins.{runs_run_machine}
 use Rattle.proof_bytes.specs.Texts.{Place, next_of, start_of}
+use Rattle.checker_parts.specs.Endings.{ending}
 use Rattle.checker_parts.specs.declared.error.CheckerError.TheVariants.{ProofProcessorError, OutOfMemory, Failed}
 use Rattle.varisat_checker.specs.ProofRun.{EmitsProof, EndsProof}
 use Rattle.proof_bytes.specs.TextRuns as runs
@@ -32,10 +33,10 @@ certifies-calls r s u calls form after m es tied emits =
     let k = calls_run_machine _ _ _ _ tied form emits in (k.0, after (λ w. Mirrors (machine_after m (hint_steps es)) w) k.1)
 
 -- one call over parts, after which it is recorded where it gave up
-pub certifies-call : (r : Answer) (s t u : State) (call : Call) → WellFormed s → AnswersParts r (answer_of s call) t →
-    (has_failed r ≡ false → u ≡ t) → Certifies r (EmitsCall s call) s u
-certifies-call r s t u call form h same m es tied emits =
-    certifies-calls r _ _ (call ∷ []) form (λ P. after-parts P r _ t u h same) m es tied (es, [], emits, refl, sym (append-nil es))
+pub certifies-call : (r : Answer) (s s' u : State) (call : Call) → WellFormed s → AnswersParts r (answer_of s call) s' →
+    (has_failed r ≡ false → u ≡ s') → Certifies r (EmitsCall s call) s u
+certifies-call r s s' u call form h same m es tied emits =
+    certifies-calls r _ _ (call ∷ []) form (λ P. after-parts P r _ s' u h same) m es tied (es, [], emits, refl, sym (append-nil es))
 
 -- clauses added in turn
 pub certifies-adds : (r : Answer) (s u : State) (cs : List (List ℕ)) → WellFormed s → AnswersStep r (add_clauses s cs) u →
@@ -50,16 +51,16 @@ run-calls s here [] es h = (last_calls next_of s here, h)
 run-calls s here (step ∷ steps) es h =
     let later = run-calls (attempt s step).after h.0 steps h.3 h.5 in (checks step ∷ later.0, (h.2, h.3, h.4, later.1, h.6))
 
-module _ (s t : State) (text : List ℕ) (steps : List Step) (form : WellFormed s) where
+module _ (s s' : State) (text : List ℕ) (steps : List Step) (form : WellFormed s) where
   begun : (m : Machine) (es : List NamedStep) → Mirrors m s → EmitsRun next_of s (start_of text) steps es → IsRun m (hint_steps es) × Unit {0}
   begun m es tied emits = let k = run-calls _ _ _ _ emits in ((calls_run_machine _ _ _ _ tied form k.1).0, tt)
 
-  whole : (answer : runs.Answer) → Runs next_of s (start_of text) steps answer t → (m : Machine) (es : List NamedStep) → Mirrors m s →
-      EmitsRun next_of s (start_of text) steps es → IsRun m (hint_steps es) × Mirrors (machine_after m (hint_steps es)) t
+  whole : (answer : runs.Answer) → Runs next_of s (start_of text) steps answer s' → (m : Machine) (es : List NamedStep) → Mirrors m s →
+      EmitsRun next_of s (start_of text) steps es → IsRun m (hint_steps es) × Mirrors (machine_after m (hint_steps es)) s'
   whole answer runs m es tied emits = let k = runs_run_machine _ _ _ _ _ _ _ _ _ _ tied form runs emits in (k.0, k.1)
 
   -- what a run over a text emits, by its answer
-  pub certifies-proof : (r : Answer) → EndsProof r text s steps t → Certifies r (EmitsProof r s text steps) s t
+  pub certifies-proof : (r : Answer) → EndsProof (ending r) text s steps s' → Certifies r (EmitsProof (ending r) s text steps) s s'
   certifies-proof (Ok done) runs = whole None runs
   certifies-proof (Err (ProofProcessorError cause)) runs = begun
   certifies-proof (Err OutOfMemory) runs = begun

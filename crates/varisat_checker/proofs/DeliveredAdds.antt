@@ -17,14 +17,13 @@ use Rattle.checker_rules.specs.Outcome.{Cause, Outcome, accept, and_then}
 use Rattle.checker_rules.specs.State.{State}
 use Rattle.checker_rules.specs.Step.{Step, add_clause}
 use Rattle.checker_rules.specs.Steps.{step}
-use Rattle.checker_rules.specs.Transcript.{TranscriptStep}
 use Rattle.checker_rules.proofs.AddedClauses.{formulas_are_fold, formulas_join}
 use Rattle.checker_rules.proofs.RunJoins.{emissions_join}
 use Rattle.checker_parts.specs.Answers.{AnswersStep, IsCovered, IsFold, UnlessFailed}
 use Rattle.checker_parts.specs.declared.error.CheckerError.{CheckerError}
 use Rattle.checker_parts.specs.declared.error.CheckerError.TheVariants.{CheckFailed, ProofProcessorError, OutOfMemory}
 use Rattle.checker_parts.proofs.Headlines.{unless_failed}
-use Rattle.checker_steps.specs.Delivered.{Listeners, Delivered, DeliveredWhole}
+use Rattle.checker_steps.specs.Delivered.{Listeners, Listens, ListensImage, Delivered, DeliveredWhole}
 use Rattle.checker_steps.proofs.DeliveryLemmas.{beginning-first, beginning-second, ran-append, ran-none}
 use Rattle.varisat_checker.proofs.CountLemmas.{add-failed}
 use Rattle.varisat_checker.proofs.FailingLemmas.{Answer, err_answer, ok_answer}
@@ -125,79 +124,78 @@ emits-on {s} {u} {cs} p ds xs ys h k =
 
 -- ---- what is delivered on
 
-module _ {P T : Type 0} (took faulted : P → NamedStep → P → Type 0) (took_image faulted_image : T → TranscriptStep → T → Type 0) (s : State)
+module _ {P T : Type 0} (listens : Listens P) (listens_image : ListensImage T) (s : State)
     (old : Listeners P T) where
   module _ {u : State} {cs : List (List ℕ)} (p : AddedSoFar s cs u) (mid : Listeners P T)
-      (h : DeliveredWhole (EmitsAdded s cs) took took_image old mid) (c : List ℕ) (new : Listeners P T) where
-    alone : (ds : List (List ℕ)) → ((step u (add_clause c)).refused ≡ None → ds ≡ []) → DeliveredWhole (EmitsCall u (adds c)) took took_image mid new →
-        DeliveredWhole (EmitsAdded s (cs ++ c ∷ ds)) took took_image old new
+      (h : DeliveredWhole (EmitsAdded s cs) listens listens_image old mid) (c : List ℕ) (new : Listeners P T) where
+    alone : (ds : List (List ℕ)) → ((step u (add_clause c)).refused ≡ None → ds ≡ []) → DeliveredWhole (EmitsCall u (adds c)) listens listens_image mid new →
+        DeliveredWhole (EmitsAdded s (cs ++ c ∷ ds)) listens listens_image old new
     alone ds last k = (
       h.0 ++ k.0,
       emits-on p (c ∷ ds) _ _ h.1 (alone-emits _ _ _ _ last k.1),
-      ran-append took faulted took_image faulted_image _ _ _ _ _ h.2 k.2,
+      ran-append listens listens_image _ _ _ _ _ h.2 k.2,
     )
 
     -- a clause that was accepted
-    pub adds-more : DeliveredWhole (EmitsCall u (adds c)) took took_image mid new →
-        DeliveredWhole (EmitsAdded s (cs ++ c ∷ [])) took took_image old new
+    pub adds-more : DeliveredWhole (EmitsCall u (adds c)) listens listens_image mid new →
+        DeliveredWhole (EmitsAdded s (cs ++ c ∷ [])) listens listens_image old new
     adds-more k = alone [] (λ none. refl) k
 
     -- a clause at which the loop stops
     pub adds-stop : (ds : List (List ℕ)) (e : CheckerError) (w : State) → AnswersStep (err_answer e) (step u (add_clause c)) w →
-        Delivered (err_answer e) (EmitsCall u (adds c)) took faulted took_image faulted_image mid new →
-        Delivered (err_answer e) (EmitsAdded s (cs ++ c ∷ ds)) took faulted took_image faulted_image old new
+        Delivered (err_answer e) (EmitsCall u (adds c)) listens listens_image mid new →
+        Delivered (err_answer e) (EmitsAdded s (cs ++ c ∷ ds)) listens listens_image old new
     adds-stop ds (CheckFailed number msg debug_step) w a k = alone ds (λ none. let is = a.0 in absurd cc) k
     adds-stop ds (ProofProcessorError fault) w a k =
         let later = first-emits u c ds in
         let more = EmitsAdded u (c ∷ ds) in
-        beginning-second _ _ _ _ more (EmitsAdded s (cs ++ c ∷ ds)) _ _ _ _ h.2 (λ es. emits-on p (c ∷ ds) _ es h.1)
-        (beginning-first _ _ _ _ (EmitsCall u (adds c)) more _ _ _ later.1 k)
+        beginning-second listens listens_image more (EmitsAdded s (cs ++ c ∷ ds)) _ _ _ _ h.2 (λ es. emits-on p (c ∷ ds) _ es h.1)
+        (beginning-first listens listens_image (EmitsCall u (adds c)) more _ _ _ later.1 k)
     adds-stop ds OutOfMemory w a k = tt
     adds-stop ds _ w a k = absurd a
 
 -- ---- over a formula
 
 -- the clauses added so far, of a list of which these are left, and what was delivered on of them
-pub record AddedDelivered {P T : Type 0} (took : P → NamedStep → P → Type 0) (took_image : T → TranscriptStep → T → Type 0) (s : State)
+pub record AddedDelivered {P T : Type 0} (listens : Listens P) (listens_image : ListensImage T) (s : State)
     (all : List (List ℕ)) (u : State) (rest : List (List ℕ)) (old new : Listeners P T) : Type 0 where
   pub adding : List (List ℕ)
   pub so_far : AddedSoFar s adding u
   pub is : all ≡ adding ++ rest
-  pub delivered : DeliveredWhole (EmitsAdded s adding) took took_image old new
+  pub delivered : DeliveredWhole (EmitsAdded s adding) listens listens_image old new
 
-module _ {P T : Type 0} {took : P → NamedStep → P → Type 0} {took_image : T → TranscriptStep → T → Type 0} {s : State}
+module _ {P T : Type 0} {listens : Listens P} {listens_image : ListensImage T} {s : State}
     {all rest : List (List ℕ)} {old : Listeners P T} where
-  pub formula-none : s.failed ≡ false → rest ≡ all → AddedDelivered took took_image s all s rest old old
+  pub formula-none : s.failed ≡ false → rest ≡ all → AddedDelivered listens listens_image s all s rest old old
   formula-none running e = record {
     adding = [];
     so_far = record { running = running; accepted = refl };
     is = sym e;
-    delivered = ([], refl, ran-none took took took_image took_image old);
+    delivered = ([], refl, ran-none listens listens_image old);
   }
 
-  module _ {u : State} {mid : Listeners P T} (p : AddedDelivered took took_image s all u rest old mid) where
+  module _ {u : State} {mid : Listeners P T} (p : AddedDelivered listens listens_image s all u rest old mid) where
     pub of-all : rest ≡ [] → AnswersStep ok_answer (add_clauses s all) u
     of-all e = rw (p.is, e, append-nil) (added-all p.so_far refl)
 
-    pub formula-all : rest ≡ [] → DeliveredWhole (EmitsAdded s all) took took_image old mid
+    pub formula-all : rest ≡ [] → DeliveredWhole (EmitsAdded s all) listens listens_image old mid
     formula-all e = rw (p.is, e, append-nil) p.delivered
 
     module _ {c : List ℕ} {left : List (List ℕ)} (e : rest ≡ c ∷ left) where
       pub formula-more : {w : State} {new : Listeners P T} → AnswersStep ok_answer (step u (add_clause c)) w →
-          DeliveredWhole (EmitsCall u (adds c)) took took_image mid new → AddedDelivered took took_image s all w left old new
+          DeliveredWhole (EmitsCall u (adds c)) listens listens_image mid new → AddedDelivered listens listens_image s all w left old new
       formula-more {w} {new} a h = record {
         adding = p.adding ++ c ∷ [];
         so_far = added-more p.so_far c w a;
         is = p.is ∙ rw e (sym (append_assoc p.adding (c ∷ []) left));
-        delivered = adds-more _ took _ took_image _ _ p.so_far _ p.delivered _ _ h;
+        delivered = adds-more listens listens_image _ _ p.so_far _ p.delivered _ _ h;
       }
 
       pub of-stops : (f : CheckerError) (w : State) → AnswersStep (err_answer f) (step u (add_clause c)) w → AnswersStep (err_answer f) (add_clauses s all) w
       of-stops f w h = rw (p.is, e) (added-stops p.so_far c left f w h)
 
-      pub formula-stops : (faulted : P → NamedStep → P → Type 0) (faulted_image : T → TranscriptStep → T → Type 0) (f : CheckerError) (w : State)
-          (new : Listeners P T) → AnswersStep (err_answer f) (step u (add_clause c)) w →
-          Delivered (err_answer f) (EmitsCall u (adds c)) took faulted took_image faulted_image mid new →
-          Delivered (err_answer f) (EmitsAdded s all) took faulted took_image faulted_image old new
-      formula-stops faulted faulted_image f w new a h =
-          rw (p.is, e) (adds-stop _ _ _ _ _ _ p.so_far _ p.delivered _ _ left f w a h)
+      pub formula-stops : (f : CheckerError) (w : State) (new : Listeners P T) → AnswersStep (err_answer f) (step u (add_clause c)) w →
+          Delivered (err_answer f) (EmitsCall u (adds c)) listens listens_image mid new →
+          Delivered (err_answer f) (EmitsAdded s all) listens listens_image old new
+      formula-stops f w new a h =
+          rw (p.is, e) (adds-stop listens listens_image _ _ p.so_far _ p.delivered _ _ left f w a h)

@@ -1,6 +1,6 @@
 -- What follows for the satisfying set from the steps that a run accepts.
---     SoFarSets s steps t      the steps accepted so far led from s to t; where s entails its redundant clauses, the fold over the steps and what they prove
---     AnswerSets s steps r t      the same of the answer
+--     SoFarSets s steps s'      the steps accepted so far led from s to s'; where s entails its redundant clauses, the fold over the steps and what they prove
+--     AnswerSets s steps r s'      the same of the answer
 --     sets-begin, sets-go      the loop's start, and a turn of it
 --     sets-stand, sets-counted, sets-refused, sets-close      how it ends
 use Rattle.std.proofs.Common.{◌≡◌, List, [], ◌∷◌, ◌++◌, Ok, Err, refl, sym, ap, ◌∙◌}
@@ -20,17 +20,17 @@ use Rattle.varisat_checker.proofs.EntailedLemmas.{entails-call}
 use Rattle.varisat_checker.proofs.FailingLemmas.{Answer, err_answer, ok_answer, unless-always, unless-bind}
 
 -- what follows from a call that accepted these steps
-pub record AnswerSets (s : State) (steps : List Step) (r : Answer) (t : State) : Type 0 where
-  pub covers : (before : List Step) → IsCovered before s → UnlessFailed r (IsCovered (before ++ steps) t)
-  pub entails : EntailsRedundant s → UnlessFailed r (EntailsRedundant t)
-  pub folds : EntailsRedundant s → (before : List Step) → IsFold before s → UnlessFailed r (IsFold (before ++ steps) t)
+pub record AnswerSets (s : State) (steps : List Step) (r : Answer) (s' : State) : Type 0 where
+  pub covers : (before : List Step) → IsCovered before s → UnlessFailed r (IsCovered (before ++ steps) s')
+  pub entails : EntailsRedundant s → UnlessFailed r (EntailsRedundant s')
+  pub folds : EntailsRedundant s → (before : List Step) → IsFold before s → UnlessFailed r (IsFold (before ++ steps) s')
   pub proves : EntailsRedundant s → (before : List Step) → IsFold before s → RunProves before s steps
   pub refutes : EntailsRedundant s → (before : List Step) → IsCovered before s → RunRefutes before steps
 
 -- the steps that were accepted so far, the fold over them, and what they prove
-pub record SoFarSets (s : State) (steps : List Step) (t : State) : Type 0 where
-  pub led : attempted s steps ≡ t
-  pub sets : AnswerSets s steps (Ok tt) t
+pub record SoFarSets (s : State) (steps : List Step) (s' : State) : Type 0 where
+  pub led : attempted s steps ≡ s'
+  pub sets : AnswerSets s steps (Ok tt) s'
 
 pub sets-begin : (s : State) → SoFarSets s [] s
 sets-begin s = record {
@@ -44,9 +44,9 @@ sets-begin s = record {
   };
 }
 
-module _ {s : State} {steps : List Step} {t : State} (p : SoFarSets s steps t) where
+module _ {s : State} {steps : List Step} {s' : State} (p : SoFarSets s steps s') where
   -- a turn of the loop
-  pub sets-go : (step : Step) (u : State) → AnswersParts ok_answer (attempt t step) u → SoFarSets s (steps ++ step ∷ []) u
+  pub sets-go : (step : Step) (u : State) → AnswersParts ok_answer (attempt s' step) u → SoFarSets s (steps ++ step ∷ []) u
   sets-go step u k = record {
     led = attempted-more s steps step ∙ ap (λ (w : State). (attempt w step).after) p.led ∙ sym k.1;
     sets = record {
@@ -62,8 +62,8 @@ module _ {s : State} {steps : List Step} {t : State} (p : SoFarSets s steps t) w
   }
 
   -- no more steps are accepted, and this follows for the sets from what was done last
-  ends : (r : Answer) (u : State) → ((ts : List Step) → IsCovered ts t → UnlessFailed r (IsCovered ts u)) →
-      (EntailsRedundant t → UnlessFailed r (EntailsRedundant u)) → (EntailsRedundant t → (ts : List Step) → IsFold ts t → UnlessFailed r (IsFold ts u))
+  ends : (r : Answer) (u : State) → ((ts : List Step) → IsCovered ts s' → UnlessFailed r (IsCovered ts u)) →
+      (EntailsRedundant s' → UnlessFailed r (EntailsRedundant u)) → (EntailsRedundant s' → (ts : List Step) → IsFold ts s' → UnlessFailed r (IsFold ts u))
       → AnswerSets s steps r u
   ends r u covers entails folds = record {
     covers = λ before f. covers (before ++ steps) (p.sets.covers before f);
@@ -74,21 +74,21 @@ module _ {s : State} {steps : List Step} {t : State} (p : SoFarSets s steps t) w
   }
 
   -- nothing more was attempted
-  pub sets-stand : (r : Answer) → AnswerSets s steps r t
-  sets-stand r = ends r t (λ ts. unless-always r) (unless-always r) (λ good ts. unless-always r)
+  pub sets-stand : (r : Answer) → AnswerSets s steps r s'
+  sets-stand r = ends r s' (λ ts. unless-always r) (unless-always r) (λ good ts. unless-always r)
 
   -- no step was read; counting one changes no set
-  pub sets-counted : (r : Answer) (u : State) → u ≡ count_step t → AnswerSets s steps r u
-  sets-counted r u counted = rw counted (ends r (count_step t) (λ ts. unless-always r) (unless-always r)
-      (λ good ts f. unless-always r (λ a. sat-count_step t a ∙ f a)))
+  pub sets-counted : (r : Answer) (u : State) → u ≡ count_step s' → AnswerSets s steps r u
+  sets-counted r u counted = rw counted (ends r (count_step s') (λ ts. unless-always r) (unless-always r)
+      (λ good ts f. unless-always r (λ a. sat-count_step s' a ∙ f a)))
 
   -- the step that was read is refused
-  pub sets-refused : (step : Step) (e : CheckerError) (u : State) → AnswersParts (err_answer e) (attempt t step) u → AnswerSets s steps (Err e) u
+  pub sets-refused : (step : Step) (e : CheckerError) (u : State) → AnswersParts (err_answer e) (attempt s' step) u → AnswerSets s steps (Err e) u
   sets-refused step e u h = ends (Err e) u (λ ts f. unless-bind (Err e) _ (covers_fold-attempt _ _ _ (Err e) _ f) h)
       (λ good. unless-bind (Err e) _ (entails-call _ good (checks step) (Err e) _) h)
       (λ good ts f. unless-bind (Err e) _ (sets_fold-attempt _ _ _ (Err e) _ good f) h)
 
   -- `End` was accepted, now or before
-  pub sets-close : (r : Answer) (u : State) → AnswersParts r (closing_conflict t) u → AnswerSets s steps r u
+  pub sets-close : (r : Answer) (u : State) → AnswersParts r (closing_conflict s') u → AnswerSets s steps r u
   sets-close r u h = ends r u (λ ts f. unless-bind r _ (covers_fold-closing _ _ r _ f) h)
       (λ good. unless-bind r _ (entails-call _ good closes r _) h) (λ good ts f. unless-bind r _ (sets_fold-closing _ _ r _ good f) h)

@@ -14,7 +14,6 @@ use Rattle.checker_rules.specs.Machine.{Mirrors}
 use Rattle.checker_rules.specs.State.{State}
 use Rattle.checker_rules.specs.Step.{add_clause}
 use Rattle.checker_rules.specs.Steps.{step}
-use Rattle.checker_rules.specs.Transcript.{TranscriptStep}
 use Rattle.checker_rules.specs.WellFormed.{WellFormed}
 use Rattle.sat_formula.specs.declared.dimacs.DimacsReader.{DimacsReader}
 use Rattle.sat_formula.specs.declared.fault.DimacsFault.{DimacsFault}
@@ -23,26 +22,26 @@ use Rattle.sat_formula.specs.DimacsReader.{IsNext, has_ended}
 use Rattle.sat_formula.specs.Whole.{HasGiven, outcome_left}
 use Rattle.sat_formula.proofs.Whole.{BeginsWith-given, FailsAfter-given, HasGiven-more, HasGiven-nil, IsOutcome-ended}
 use Rattle.checker_parts.specs.Answers.{AnswersStep, AnswersText, UnlessTextFailed}
+use Rattle.checker_parts.specs.Endings.{text_ending}
 use Rattle.checker_parts.specs.declared.error.CheckerError.{CheckerError}
 use Rattle.checker_parts.specs.declared.error.CheckerError.TheVariants.{OutOfMemory}
 use Rattle.checker_parts.specs.declared.error.DimacsError.{DimacsError}
 use Rattle.checker_parts.specs.declared.error.DimacsError.TheVariants.{Read, Malformed, Checker}
 use Rattle.checker_parts.proofs.Headlines.{sets_text}
-use Rattle.checker_steps.specs.Delivered.{Listeners, Delivered, DeliveredWhole}
+use Rattle.checker_steps.specs.Delivered.{Listeners, Listens, ListensImage, Delivered, DeliveredEnd, DeliveredWhole}
 use Rattle.checker_steps.proofs.DeliveryLemmas.{ran-none}
 use Rattle.varisat_checker.specs.TextFault.{IsTextFault}
-use Rattle.varisat_checker.specs.TextRun.{EndsText, DeliveredText, TextRun, outcome_of}
+use Rattle.varisat_checker.specs.TextRun.{EndsText, TextRun, outcome_of}
 use Rattle.varisat_checker.proofs.CertifiedLemmas.{certifies-adds}
 use Rattle.varisat_checker.proofs.DeliveredAdds.{AddedSoFar, EmitsAdded, added-all, added-more, added-stops, adds-more, adds-stop, covers-added, sets-added}
 use Rattle.varisat_checker.proofs.FailingLemmas.{err_answer, ok_answer}
 
 -- the clauses that the reader gave were all accepted, and what was delivered on of them
-pub record ReadDelivered {R P T : Type 0} (remaining : R → Option (List ℕ)) (took : P → NamedStep → P → Type 0) (took_image : T →
-    TranscriptStep → T → Type 0) (s : State) (first reader : DimacsReader R) (u : State) (old new : Listeners P T) : Type 0 where
+pub record ReadDelivered {R P T : Type 0} (remaining : R → Option (List ℕ)) (listens : Listens P) (listens_image : ListensImage T) (s : State) (first reader : DimacsReader R) (u : State) (old new : Listeners P T) : Type 0 where
   pub clauses : List (List ℕ)
   pub given : HasGiven remaining first clauses reader
   pub so_far : AddedSoFar s clauses u
-  pub delivered : DeliveredWhole (EmitsAdded s clauses) took took_image old new
+  pub delivered : DeliveredWhole (EmitsAdded s clauses) listens listens_image old new
 
 -- what the reader answers of its next clause: two clauses of its contract
 abbrev pub Answers : {R : Type 0} → (R → Option (List ℕ)) → DimacsReader R → DimacsReader R → List ℕ → Result Bool DimacsFault → Type 0
@@ -56,41 +55,41 @@ certifies-text : (s u : State) (clauses : List (List ℕ)) (r : Result (Unit {0}
 certifies-text s u clauses (Err (Checker e)) form a = certifies-adds (Err e) s u clauses form a
 certifies-text s u clauses _ form a = certifies-adds (Ok tt) s u clauses form a
 
-module _ {R P T : Type 0} {remaining : R → Option (List ℕ)} {took : P → NamedStep → P → Type 0} {took_image : T → TranscriptStep → T → Type 0}
+module _ {R P T : Type 0} {remaining : R → Option (List ℕ)} {listens : Listens P} {listens_image : ListensImage T}
     {s : State} {first : DimacsReader R} {old : Listeners P T} where
-  pub delivered-nothing : s.failed ≡ false → ReadDelivered remaining took took_image s first first s old old
+  pub delivered-nothing : s.failed ≡ false → ReadDelivered remaining listens listens_image s first first s old old
   delivered-nothing running = record {
     clauses = [];
     given = HasGiven-nil remaining first;
     so_far = record { running = running; accepted = refl };
-    delivered = ([], refl, ran-none took took took_image took_image old);
+    delivered = ([], refl, ran-none listens listens_image old);
   }
 
-  module _ {u : State} {mid : DimacsReader R} {now : Listeners P T} (p : ReadDelivered remaining took took_image s first mid u old now)
+  module _ {u : State} {mid : DimacsReader R} {now : Listeners P T} (p : ReadDelivered remaining listens listens_image s first mid u old now)
       (new : DimacsReader R) (clause : List ℕ) {more : Bool} (is : more ≡ true) (h : Answers remaining mid new clause (Ok more)) where
     given-more : HasGiven remaining first (p.clauses ++ clause ∷ []) new
     given-more = let k = rw is at h in HasGiven-more _ _ _ _ _ _ p.given k.0 k.1
 
     -- a clause that was accepted
     pub delivered-more : (w : State) (later : Listeners P T) → AnswersStep ok_answer (step u (add_clause clause)) w →
-        DeliveredWhole (EmitsCall u (adds clause)) took took_image now later → ReadDelivered remaining took took_image s first new w old later
+        DeliveredWhole (EmitsCall u (adds clause)) listens listens_image now later → ReadDelivered remaining listens listens_image s first new w old later
     delivered-more w later a k = record {
       clauses = p.clauses ++ clause ∷ [];
       given = given-more;
       so_far = added-more p.so_far clause w a;
-      delivered = adds-more _ took _ took_image _ _ p.so_far _ p.delivered _ _ k;
+      delivered = adds-more listens listens_image _ _ p.so_far _ p.delivered _ _ k;
     }
 
-module _ {R P T : Type 0} {remaining : R → Option (List ℕ)} {took faulted : P → NamedStep → P → Type 0}
-    {took_image faulted_image : T → TranscriptStep → T → Type 0} {known : Option (List ℕ)} {s : State} {first : DimacsReader R}
+module _ {R P T : Type 0} {remaining : R → Option (List ℕ)} {listens : Listens P} {listens_image : ListensImage T}
+    {known : Option (List ℕ)} {s : State} {first : DimacsReader R}
     {old : Listeners P T} (same : outcome_left remaining first ≡ outcome_of known)
     (good : EntailsRedundant s) (form : WellFormed s) where
-  module _ {u : State} {mid : DimacsReader R} {now : Listeners P T} (p : ReadDelivered remaining took took_image s first mid u old now)
+  module _ {u : State} {mid : DimacsReader R} {now : Listeners P T} (p : ReadDelivered remaining listens listens_image s first mid u old now)
       (new : DimacsReader R) (clause : List ℕ) where
     ended : {w : State} {later : Listeners P T} (clauses : List (List ℕ)) (r : Result (Unit {0}) DimacsError) →
         EndsText (outcome_left remaining first) clauses r → AnswersText r (add_clauses s clauses) w →
-        DeliveredText r (EmitsAdded s clauses) took faulted took_image faulted_image old later →
-        TextRun known s r w took faulted took_image faulted_image old later
+        DeliveredEnd (text_ending r) (EmitsAdded s clauses) listens listens_image old later →
+        TextRun known s r w listens listens_image old later
     ended {w} clauses r text a delivered = record {
       clauses = clauses;
       answered = record {
@@ -106,22 +105,22 @@ module _ {R P T : Type 0} {remaining : R → Option (List ℕ)} {took faulted : 
     -- a clause that was refused, or that a box faulted at
     pub delivered-stops : {more : Bool} → more ≡ true → Answers remaining mid new clause (Ok more) → {e : CheckerError} {w : State} {later : Listeners P T} →
         AnswersStep (err_answer e) (step u (add_clause clause)) w →
-        Delivered (err_answer e) (EmitsCall u (adds clause)) took faulted took_image faulted_image now later →
-        TextRun {A = Unit {0}} known s (Err (Checker e)) w took faulted took_image faulted_image old later
+        Delivered (err_answer e) (EmitsCall u (adds clause)) listens listens_image now later →
+        TextRun {A = Unit {0}} known s (Err (Checker e)) w listens listens_image old later
     delivered-stops is h {e} {w} {later} a k =
         ended (p.clauses ++ clause ∷ []) (Err (Checker e)) (BeginsWith-given _ _ _ _ (given-more p new clause is h))
         (added-stops p.so_far clause [] e w a)
-        (adds-stop _ _ _ _ _ _ p.so_far _ p.delivered _ _ [] e w a k)
+        (adds-stop listens listens_image _ _ p.so_far _ p.delivered _ _ [] e w a k)
 
     -- the end of the text
     pub delivered-ends : {more : Bool} → more ≡ false → Answers remaining mid new clause (Ok more) →
-        TextRun {A = Unit {0}} known s (Ok tt) u took faulted took_image faulted_image old now
+        TextRun {A = Unit {0}} known s (Ok tt) u listens listens_image old now
     delivered-ends is h =
         ended p.clauses (Ok tt) (IsOutcome-ended _ _ _ new _ _ p.given (rw is at h).1) (added-all p.so_far refl) p.delivered
 
     -- its fault
     pub delivered-fault : (fault : DimacsFault) → Answers remaining mid new clause (Err fault) → {e : DimacsError} {w : State} → IsTextFault fault u e w →
-        TextRun {A = Unit {0}} known s (Err e) w took faulted took_image faulted_image old now
+        TextRun {A = Unit {0}} known s (Err e) w listens listens_image old now
     delivered-fault (faults.Read cause) h is =
         rw is.0 (ended p.clauses (Err (Read cause)) (BeginsWith-given _ _ _ _ p.given) (added-all p.so_far is.1) p.delivered)
     delivered-fault (faults.Malformed line kind) h is =

@@ -9,6 +9,6 @@ use Rattle.checker_parts.specs.declared.error.DimacsError.TheVariants.{Read, Mal
 
 -- the error of the fault, and the state after it: want of memory fails the checker
 abbrev pub IsTextFault : DimacsFault → State → DimacsError → State → Type 0
-IsTextFault (faults.Read cause) s e u = (e ≡ Read cause) × (u ≡ s)
-IsTextFault (faults.Malformed line kind) s e u = (e ≡ Malformed line kind) × (u ≡ s)
-IsTextFault faults.OutOfMemory s e u = (e ≡ Checker OutOfMemory) × (u.failed ≡ true)
+IsTextFault (faults.Read cause) s e s' = (e ≡ Read cause) × (s' ≡ s)
+IsTextFault (faults.Malformed line kind) s e s' = (e ≡ Malformed line kind) × (s' ≡ s)
+IsTextFault faults.OutOfMemory s e s' = (e ≡ Checker OutOfMemory) × (s'.failed ≡ true)

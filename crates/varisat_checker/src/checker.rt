@@ -77,7 +77,7 @@ impl<P: ProofProcessor, T: ProofTranscriptProcessor> CheckerOf<P, T> {
             → CoversFold result before (rules.add_clause clause.now) (state self.new) }
         ensures delivered { (state self.old).failed ≡ false
             → Delivered result (EmitsCall (state self.old) (adds clause.now))
-            P.took P.faulted T.took T.faulted (listeners self.old) (listeners self.new) }
+            P.ProofProcessor T.ProofTranscriptProcessor (listeners self.old) (listeners self.new) }
         ensures certified { (state self.old).failed ≡ false
             → Certifies result (EmitsCall (state self.old) (adds clause.now)) (state self.old)
             (state self.new) }
@@ -110,8 +110,8 @@ impl<P: ProofProcessor, T: ProofTranscriptProcessor> CheckerOf<P, T> {
             (state self.new)) }
         ensures delivered { (state self.old).failed ≡ false
             → Delivered result (EmitsCalls (state self.old)
-            (map adds (added (state self.old) formula.now))) P.took P.faulted T.took T.faulted
-            (listeners self.old) (listeners self.new) }
+            (map adds (added (state self.old) formula.now)))
+            P.ProofProcessor T.ProofTranscriptProcessor (listeners self.old) (listeners self.new) }
         ensures certified { (state self.old).failed ≡ false
             → Certifies result (EmitsCalls (state self.old)
             (map adds (added (state self.old) formula.now))) (state self.old) (state self.new) }
@@ -137,7 +137,7 @@ impl<P: ProofProcessor, T: ProofTranscriptProcessor> CheckerOf<P, T> {
             → IsTextFailed result × (self.new ≡ self.old) }
         ensures text { (state self.old).failed ≡ false
             → TextRun (R.remaining input) (state self.old) result (state self.new)
-            P.took P.faulted T.took T.faulted (listeners self.old) (listeners self.new) }
+            P.ProofProcessor T.ProofTranscriptProcessor (listeners self.old) (listeners self.new) }
     {
         if self.ctx.checker_state.failed {
             return Err(DimacsError::Checker(CheckerError::Failed));
@@ -163,14 +163,10 @@ impl<P: ProofProcessor, T: ProofTranscriptProcessor> CheckerOf<P, T> {
         ensures fault { IsTextFault fault (state self.old) result (state self.new) }
         ensures listeners { listeners self.new ≡ listeners self.old }
     {
-        match fault {
-            DimacsFault::Read(cause) => DimacsError::Read(cause),
-            DimacsFault::Malformed { line, kind } => DimacsError::Malformed { line, kind },
-            DimacsFault::OutOfMemory => {
-                self.ctx.checker_state.failed = true;
-                DimacsError::Checker(CheckerError::OutOfMemory)
-            }
+        if let DimacsFault::OutOfMemory = fault {
+            self.ctx.checker_state.failed = true;
         }
+        DimacsError::from(fault)
     }
 
     /// Checks the steps of a proof up to `End`, and then the closing conflict.
@@ -186,7 +182,7 @@ impl<P: ProofProcessor, T: ProofTranscriptProcessor> CheckerOf<P, T> {
         ensures failed { (state self.old).failed ≡ true → IsFailed result × (self.new ≡ self.old) }
         ensures run { (state self.old).failed ≡ false
             → ProofRun (R.remaining proof) (state self.old) result (state self.new)
-            P.took P.faulted T.took T.faulted (listeners self.old) (listeners self.new) }
+            P.ProofProcessor T.ProofTranscriptProcessor (listeners self.old) (listeners self.new) }
         ensures records { RecordsFailure result (state self.new) }
         ensures ended { (state self.old).ended ≡ true → NeedsNoMemory result }
         ensures exhausted { step_limit ≤ (state self.old).steps → NeedsNoMemory result }
@@ -306,7 +302,7 @@ impl<P: ProofProcessor, T: ProofTranscriptProcessor> SelfChecker for CheckerOf<P
     ghost shown = { λ c. state c };
 
     ghost delivers = { λ answer emitted old new. Delivered answer emitted
-        P.took P.faulted T.took T.faulted (listeners old) (listeners new) };
+        P.ProofProcessor T.ProofTranscriptProcessor (listeners old) (listeners new) };
 
     fn self_check_step(&mut self, step: ProofStep) -> Result<(), CheckerError> {
         if self.ctx.checker_state.failed {

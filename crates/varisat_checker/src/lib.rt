@@ -1,11 +1,10 @@
 //! The checker: it stores clauses, checks proof steps, and records what follows from them.
+//!
+//! Promised are `internal` and the types that follow it here: a checker, its answers, and what its
+//! processors take.
 #![tactic(auto)]
 
-pub mod checker;
-pub mod clauses;
 pub mod internal;
-pub mod proof;
-pub mod state;
 
 pub use checker::{Checker, CheckerOf};
 pub use checker_parts::error::{CheckCause, CheckerError, DimacsError};
@@ -14,6 +13,20 @@ pub use checker_parts::step::{
     CheckedProofStep, CheckedSamplingMode, CheckedUserVar, ProofTranscriptStep,
     ResolutionPropagations,
 };
+
+// The parts of a checker, under the names of the Rust crate's modules: for callers that hold the
+// parts on their own (`CALLING.md`), and for the laws.
+pub mod checker;
+pub mod clauses;
+pub mod proof;
+pub mod state;
+
 pub use checker_parts::{sorted_lits, transcript};
-pub use checker_steps::{check, context, processing, steps, variables};
-pub use clause_store::{hash, laws, rup};
+pub use checker_steps::{check, context, steps};
+pub use clause_store::{laws, rup};
+
+// Public since the contracts of these name what is in them.
+#[doc(hidden)]
+pub use checker_steps::{processing, variables};
+#[doc(hidden)]
+pub use clause_store::hash;

@@ -3,8 +3,7 @@ ghost use Rattle.std.specs.Prelude.{◌≡◌, ◌≤◌, ℕ, true};
 ghost use Rattle.checker_rules.specs.Calls.{step_limit};
 ghost use Rattle.checker_parts.specs.Answers.{UnlessFailed};
 ghost use Rattle.checker_parts.specs.Memory.{NeedsNoMemory};
-ghost use Rattle.checker_steps.specs.Context.{ContextInvariant, context_state};
-ghost use Rattle.checker_steps.specs.Delivered.{listeners_of};
+ghost use Rattle.checker_steps.specs.Context.{ContextInvariant, context_state, listeners_in};
 ghost use Rattle.varisat_checker.specs.ProofRun.{PartsRun};
 ghost use Rattle.varisat_checker.specs.ReadFault.{IsReadFault};
 
@@ -30,10 +29,8 @@ pub fn check_proof<P: ProofProcessor, T: ProofTranscriptProcessor, L: Log, R: Re
     proof: R,
 ) -> Result<(), CheckerError>
     requires { ContextInvariant ctx.old }
-    ensures run { PartsRun (R.remaining proof) (context_state ctx.old) result
-        (context_state ctx.new)
-        P.took P.faulted T.took T.faulted (listeners_of ctx.old.processing)
-        (listeners_of ctx.new.processing) }
+    ensures run { PartsRun (R.remaining proof) (context_state ctx.old) result (context_state ctx.new)
+        P.ProofProcessor T.ProofTranscriptProcessor (listeners_in ctx.old) (listeners_in ctx.new) }
     ensures kept { UnlessFailed result (ContextInvariant ctx.new) }
     ensures ended { (context_state ctx.old).ended ≡ true → NeedsNoMemory result }
     ensures exhausted { step_limit ≤ (context_state ctx.old).steps → NeedsNoMemory result }

@@ -18,7 +18,7 @@ ghost use Rattle.clause_store.specs.View.{stored_list};
 ghost use Rattle.clause_store.specs.declared.hash.ClauseHasher.{ClauseHasher};
 ghost use Rattle.clause_store.specs.declared.state.CheckerState.{CheckerState};
 ghost use Rattle.checker_steps.specs.Added.{emitted_of};
-ghost use Rattle.checker_steps.specs.Context.{ContextInvariant, context_state};
+ghost use Rattle.checker_steps.specs.Context.{ContextInvariant, context_state, listeners_in};
 ghost use Rattle.checker_steps.specs.Delivered.{DeliveredAll, DeliveredList, listeners_of};
 ghost use Rattle.checker_steps.specs.InputCause.{IsEarlyCause, IsFaultOf, early_cause, taken};
 ghost use Rattle.checker_steps.specs.declared.steps.add_clause.Added.TheVariants.{Duplicate};
@@ -54,8 +54,7 @@ pub fn add_clause<P: ProofProcessor, T: ProofTranscriptProcessor>(
     ensures kept { UnlessStopped result (ContextInvariant ctx.new) }
     ensures delivered { DeliveredList result
         (Emits (context_state ctx.old) (rules.add_clause lits.now))
-        P.took P.faulted T.took T.faulted (listeners_of ctx.old.processing)
-        (listeners_of ctx.new.processing) }
+        P.ProofProcessor T.ProofTranscriptProcessor (listeners_in ctx.old) (listeners_in ctx.new) }
     ensures after_unsat { (context_state ctx.old).unsat ≡ true
         → (result ≡ Ok tt) × (ctx.new ≡ ctx.old) }
 {
@@ -109,7 +108,7 @@ fn emit_added<P: ProofProcessor, T: ProofTranscriptProcessor>(
     added: Added,
 ) -> Result<(), StepFault>
     ensures { DeliveredAll result (emitted_of added clause.now variables.now)
-        P.took P.faulted T.took T.faulted (listeners_of processing.old)
+        P.ProofProcessor T.ProofTranscriptProcessor (listeners_of processing.old)
         (listeners_of processing.new) }
 {
     match added {

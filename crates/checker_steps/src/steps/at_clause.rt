@@ -11,8 +11,8 @@ ghost use Rattle.checker_parts.specs.Faults.{AnswersOutcome, UnlessStopped};
 ghost use Rattle.clause_store.specs.StateOf.{state_of};
 ghost use Rattle.clause_store.specs.declared.clauses.Clauses.{Clauses};
 ghost use Rattle.clause_store.specs.declared.hash.ClauseHasher.{ClauseHasher};
-ghost use Rattle.checker_steps.specs.Context.{ContextInvariant, context_state};
-ghost use Rattle.checker_steps.specs.Delivered.{DeliveredList, listeners_of};
+ghost use Rattle.checker_steps.specs.Context.{ContextInvariant, context_state, listeners_in};
+ghost use Rattle.checker_steps.specs.Delivered.{DeliveredList};
 ghost use Rattle.checker_parts.specs.declared.error.StepFault.TheVariants.{OutOfMemory};
 
 use crate::context::ContextOf;
@@ -43,8 +43,7 @@ pub fn at_clause<P: ProofProcessor, T: ProofTranscriptProcessor>(
     ensures kept { UnlessStopped result (ContextInvariant ctx.new) }
     ensures delivered { DeliveredList result
         (Emits (context_state ctx.old) (rules.at_clause redundant lits.now hashes.now))
-        P.took P.faulted T.took T.faulted (listeners_of ctx.old.processing)
-        (listeners_of ctx.new.processing) }
+        P.ProofProcessor T.ProofTranscriptProcessor (listeners_in ctx.old) (listeners_in ctx.new) }
 {
     // Most clauses are in order, and then none is copied.
     if has_rising_vars(lits) {
@@ -70,8 +69,7 @@ fn at_unordered<P: ProofProcessor, T: ProofTranscriptProcessor>(
     ensures kept { UnlessStopped result (ContextInvariant ctx.new) }
     ensures delivered { DeliveredList result
         (Emits (context_state ctx.old) (rules.at_clause redundant lits.now hashes.now))
-        P.took P.faulted T.took T.faulted (listeners_of ctx.old.processing)
-        (listeners_of ctx.new.processing) }
+        P.ProofProcessor T.ProofTranscriptProcessor (listeners_in ctx.old) (listeners_in ctx.new) }
 {
     let Ok(tautology) = copy_canonical(&mut ctx.tmp_data.tmp, lits) else {
         return Err(StepFault::OutOfMemory);
@@ -104,8 +102,7 @@ fn at_canonical<P: ProofProcessor, T: ProofTranscriptProcessor>(
     ensures kept { UnlessStopped result (ContextInvariant ctx.new) }
     ensures delivered { (lits : List ℕ) → clause.now ≡ canonical lits → DeliveredList result
         (Emits (context_state ctx.old) (rules.at_clause redundant lits hashes.now))
-        P.took P.faulted T.took T.faulted (listeners_of ctx.old.processing)
-        (listeners_of ctx.new.processing) }
+        P.ProofProcessor T.ProofTranscriptProcessor (listeners_in ctx.old) (listeners_in ctx.new) }
 {
     let id = derive(alloc, ctx, redundant, clause, hashes)?;
     if redundant {

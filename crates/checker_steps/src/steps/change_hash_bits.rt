@@ -3,8 +3,8 @@ ghost use Rattle.checker_rules.specs.Emits.{Emits};
 ghost use Rattle.checker_rules.specs.Step as rules;
 ghost use Rattle.checker_rules.specs.Steps.{step};
 ghost use Rattle.checker_parts.specs.Faults.{AnswersOutcome, UnlessStopped};
-ghost use Rattle.checker_steps.specs.Context.{ContextInvariant, context_state};
-ghost use Rattle.checker_steps.specs.Delivered.{DeliveredList, listeners_of};
+ghost use Rattle.checker_steps.specs.Context.{ContextInvariant, context_state, listeners_in};
+ghost use Rattle.checker_steps.specs.Delivered.{DeliveredList};
 
 use crate::context::ContextOf;
 use checker_parts::error::{CheckCause, StepFault};
@@ -24,8 +24,7 @@ pub fn change_hash_bits<P: ProofProcessor, T: ProofTranscriptProcessor>(
     ensures kept { UnlessStopped result (ContextInvariant ctx.new) }
     ensures delivered { DeliveredList result
         (Emits (context_state ctx.old) (rules.change_hash_bits bits))
-        P.took P.faulted T.took T.faulted (listeners_of ctx.old.processing)
-        (listeners_of ctx.new.processing) }
+        P.ProofProcessor T.ProofTranscriptProcessor (listeners_in ctx.old) (listeners_in ctx.new) }
 {
     if bits == 0 || bits > u64::BITS {
         return Err(StepFault::Refused(CheckCause::HashBits));

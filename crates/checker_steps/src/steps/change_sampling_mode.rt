@@ -7,8 +7,8 @@ ghost use Rattle.checker_rules.specs.Steps.{step};
 ghost use Rattle.checker_parts.specs.Faults.{AnswersOutcome, UnlessStopped};
 ghost use Rattle.checker_parts.specs.Variables.{mode_of};
 ghost use Rattle.sat_formula.specs.Vars.{index_of};
-ghost use Rattle.checker_steps.specs.Context.{ContextInvariant, context_state};
-ghost use Rattle.checker_steps.specs.Delivered.{DeliveredList, listeners_of};
+ghost use Rattle.checker_steps.specs.Context.{ContextInvariant, context_state, listeners_in};
+ghost use Rattle.checker_steps.specs.Delivered.{DeliveredList};
 ghost use Rattle.checker_steps.specs.Naming.{AnswersMode};
 
 use crate::context::ContextOf;
@@ -32,8 +32,7 @@ pub fn change_sampling_mode<P: ProofProcessor, T: ProofTranscriptProcessor>(
     ensures kept { UnlessStopped result (ContextInvariant ctx.new) }
     ensures delivered { DeliveredList result
         (Emits (context_state ctx.old) (rules.change_sampling_mode (index_of var) sample))
-        P.took P.faulted T.took T.faulted (listeners_of ctx.old.processing)
-        (listeners_of ctx.new.processing) }
+        P.ProofProcessor T.ProofTranscriptProcessor (listeners_in ctx.old) (listeners_in ctx.new) }
 {
     ensure_var(&mut ctx.clauses, &mut ctx.variables, var)?;
     match change_mode(&mut ctx.variables, var, sample) {

@@ -14,7 +14,7 @@ ghost use Rattle.clause_store.specs.Refusal.{delete_fault};
 ghost use Rattle.clause_store.specs.StateOf.{state_of};
 ghost use Rattle.clause_store.specs.Trace.{AreStored};
 ghost use Rattle.clause_store.specs.declared.hash.ClauseHasher.{ClauseHasher};
-ghost use Rattle.checker_steps.specs.Context.{ContextInvariant, context_state};
+ghost use Rattle.checker_steps.specs.Context.{ContextInvariant, context_state, listeners_in};
 ghost use Rattle.checker_steps.specs.DeletionSteps.{deletion_steps};
 ghost use Rattle.checker_steps.specs.Delivered.{DeliveredAll, DeliveredList, listeners_of};
 ghost use Rattle.checker_steps.specs.Justified.{AnswersJustified, previous_of, subsuming_id};
@@ -50,8 +50,7 @@ pub fn delete_clause<P: ProofProcessor, T: ProofTranscriptProcessor>(
     ensures kept { UnlessStopped result (ContextInvariant ctx.new) }
     ensures delivered { DeliveredList result
         (Emits (context_state ctx.old) (rules.delete_clause (why proof) lits.now))
-        P.took P.faulted T.took T.faulted (listeners_of ctx.old.processing)
-        (listeners_of ctx.new.processing) }
+        P.ProofProcessor T.ProofTranscriptProcessor (listeners_in ctx.old) (listeners_in ctx.new) }
 {
     // Most clauses are in order, and then none is copied.
     if has_rising_vars(lits) {
@@ -76,8 +75,7 @@ fn delete_unordered<P: ProofProcessor, T: ProofTranscriptProcessor>(
     ensures kept { UnlessStopped result (ContextInvariant ctx.new) }
     ensures delivered { DeliveredList result
         (Emits (context_state ctx.old) (rules.delete_clause (why proof) lits.now))
-        P.took P.faulted T.took T.faulted (listeners_of ctx.old.processing)
-        (listeners_of ctx.new.processing) }
+        P.ProofProcessor T.ProofTranscriptProcessor (listeners_in ctx.old) (listeners_in ctx.new) }
 {
     let Ok(tautology) = copy_canonical(&mut ctx.tmp_data.tmp, lits) else {
         return Err(StepFault::OutOfMemory);
@@ -109,8 +107,7 @@ fn delete_canonical<P: ProofProcessor, T: ProofTranscriptProcessor>(
     ensures kept { UnlessStopped result (ContextInvariant ctx.new) }
     ensures delivered { (lits : List ℕ) → clause.now ≡ canonical lits → DeliveredList result
         (Emits (context_state ctx.old) (rules.delete_clause (why proof) lits))
-        P.took P.faulted T.took T.faulted (listeners_of ctx.old.processing)
-        (listeners_of ctx.new.processing) }
+        P.ProofProcessor T.ProofTranscriptProcessor (listeners_in ctx.old) (listeners_in ctx.new) }
 {
     let implying = match justify(&ctx.checker_state, &ctx.clauses, clause, proof) {
         Ok(id) => id,
@@ -214,7 +211,7 @@ fn emit_deletion<P: ProofProcessor, T: ProofTranscriptProcessor>(
     implying: Option<u64>,
 ) -> Result<(), StepFault>
     ensures { DeliveredAll result (deletion_steps variables.now implying did id clause.now)
-        P.took P.faulted T.took T.faulted (listeners_of processing.old)
+        P.ProofProcessor T.ProofTranscriptProcessor (listeners_of processing.old)
         (listeners_of processing.new) }
 {
     match (implying, did) {

@@ -15,7 +15,7 @@ ghost use Rattle.clause_store.specs.Store.{IsStore};
 ghost use Rattle.clause_store.specs.declared.clauses.Clauses.{Clauses};
 ghost use Rattle.clause_store.specs.declared.hash.ClauseHasher.{ClauseHasher};
 ghost use Rattle.clause_store.specs.declared.state.CheckerState.{CheckerState};
-ghost use Rattle.checker_steps.specs.Context.{ContextInvariant, context_state};
+ghost use Rattle.checker_steps.specs.Context.{ContextInvariant, context_state, listeners_in};
 ghost use Rattle.checker_steps.specs.DeletedVar.{close_on, conflict_on, emits_close, emits_dropped};
 ghost use Rattle.checker_steps.specs.Delivered.{DeliveredList, listeners_of};
 
@@ -46,8 +46,7 @@ pub fn delete_var<P: ProofProcessor, T: ProofTranscriptProcessor>(
     ensures kept { UnlessStopped result (ContextInvariant ctx.new) }
     ensures delivered { DeliveredList result
         (Emits (context_state ctx.old) (rules.delete_var (index_of var)))
-        P.took P.faulted T.took T.faulted (listeners_of ctx.old.processing)
-        (listeners_of ctx.new.processing) }
+        P.ProofProcessor T.ProofTranscriptProcessor (listeners_in ctx.old) (listeners_in ctx.new) }
 {
     ensure_var(&mut ctx.clauses, &mut ctx.variables, var)?;
     if ctx.variables.get(var).user_var.is_some() {
@@ -90,7 +89,7 @@ fn close_conflict_on<P: ProofProcessor, T: ProofTranscriptProcessor>(
     ensures units { clauses.new.unit_clauses ≡ clauses.old.unit_clauses }
     ensures delivered { (st : CheckerState) (h : ClauseHasher)
         → DeliveredList result (λ es. es ≡ emits_close (index_of var)
-        (state_of st h clauses.old variables.now)) P.took P.faulted T.took T.faulted
+        (state_of st h clauses.old variables.now)) P.ProofProcessor T.ProofTranscriptProcessor
         (listeners_of processing.old) (listeners_of processing.new) }
 {
     let Some((unit, negation)) = conflict_on(clauses, var) else {
@@ -127,7 +126,7 @@ fn emit_unit<P: ProofProcessor, T: ProofTranscriptProcessor>(
     ensures not_refused { UnlessStopped result (IsOk result) }
     ensures delivered { (st : CheckerState) (h : ClauseHasher)
         → DeliveredList result (λ es. es ≡ emits_dropped (index_of var)
-        (state_of st h clauses.now variables.now)) P.took P.faulted T.took T.faulted
+        (state_of st h clauses.now variables.now)) P.ProofProcessor T.ProofTranscriptProcessor
         (listeners_of processing.old) (listeners_of processing.new) }
 {
     let Some(unit) = clauses.unit_clauses.get(var.index()) else {

@@ -6,7 +6,7 @@ ghost use Rattle.checker_rules.specs.Store.{id_of};
 ghost use Rattle.checker_parts.specs.Faults.{AnswersOutcome, UnlessStopped};
 ghost use Rattle.clause_store.specs.Refusal.{store_fault};
 ghost use Rattle.clause_store.specs.Store.{IsStore};
-ghost use Rattle.checker_steps.specs.Context.{ContextInvariant, context_state};
+ghost use Rattle.checker_steps.specs.Context.{ContextInvariant, context_state, listeners_in};
 ghost use Rattle.checker_steps.specs.Derived.{IsTraceFor, derived, derived_steps, stored_steps};
 ghost use Rattle.checker_steps.specs.Delivered.{DeliveredAll, DeliveredList, listeners_of};
 
@@ -47,8 +47,7 @@ pub(crate) fn derive<P: ProofProcessor, T: ProofTranscriptProcessor>(
     ensures store { UnlessStopped result (IsStore ctx.new.clause_hasher ctx.new.clauses) }
     ensures delivered { DeliveredList result
         (λ steps. steps ≡ derived_steps (context_state ctx.old) redundant clause.now hashes.now)
-        P.took P.faulted T.took T.faulted (listeners_of ctx.old.processing)
-        (listeners_of ctx.new.processing) }
+        P.ProofProcessor T.ProofTranscriptProcessor (listeners_in ctx.old) (listeners_in ctx.new) }
 {
     let traced = !ctx.processing.processors.is_empty();
     check_clause_with_hashes(
@@ -112,7 +111,7 @@ fn emit_derived<P: ProofProcessor, T: ProofTranscriptProcessor>(
 ) -> Result<(), StepFault>
     ensures { (ids : List ℕ) → IsTraceFor processing.old.processors.items propagations.now ids
         → DeliveredAll result (stored_steps did variables.now id redundant clause.now ids)
-        P.took P.faulted T.took T.faulted (listeners_of processing.old)
+        P.ProofProcessor T.ProofTranscriptProcessor (listeners_of processing.old)
         (listeners_of processing.new) }
 {
     match did {

@@ -13,9 +13,9 @@ ghost use Rattle.clause_store.specs.StateOf.{state_of};
 ghost use Rattle.clause_store.specs.Store.{IsStore};
 ghost use Rattle.clause_store.specs.declared.clauses.Clauses.{Clauses};
 ghost use Rattle.clause_store.specs.declared.hash.ClauseHasher.{ClauseHasher};
-ghost use Rattle.checker_steps.specs.Context.{ContextInvariant, context_state};
+ghost use Rattle.checker_steps.specs.Context.{ContextInvariant, context_state, listeners_in};
 ghost use Rattle.checker_steps.specs.FailedCore.{core_cause, core_clause, core_steps};
-ghost use Rattle.checker_steps.specs.Delivered.{DeliveredList, listeners_of};
+ghost use Rattle.checker_steps.specs.Delivered.{DeliveredList};
 ghost use Rattle.checker_steps.specs.ModelCause.{IsJudged};
 
 use crate::context::ContextOf;
@@ -48,8 +48,7 @@ pub fn failed_assumptions<P: ProofProcessor, T: ProofTranscriptProcessor>(
     ensures kept { UnlessStopped result (ContextInvariant ctx.new) }
     ensures delivered { DeliveredList result
         (Emits (context_state ctx.old) (rules.failed_assumptions failed_core.now hashes.now))
-        P.took P.faulted T.took T.faulted (listeners_of ctx.old.processing)
-        (listeners_of ctx.new.processing) }
+        P.ProofProcessor T.ProofTranscriptProcessor (listeners_in ctx.old) (listeners_in ctx.new) }
 {
     let Ok(has_opposites) = copy_canonical(&mut ctx.tmp_data.tmp, failed_core) else {
         return Err(StepFault::OutOfMemory);
@@ -115,8 +114,7 @@ fn check_core<P: ProofProcessor, T: ProofTranscriptProcessor>(
     ensures store { UnlessStopped result (IsStore ctx.new.clause_hasher ctx.new.clauses) }
     ensures delivered { DeliveredList result
         (λ steps. steps ≡ core_steps (context_state ctx.old) core.now hashes.now)
-        P.took P.faulted T.took T.faulted (listeners_of ctx.old.processing)
-        (listeners_of ctx.new.processing) }
+        P.ProofProcessor T.ProofTranscriptProcessor (listeners_in ctx.old) (listeners_in ctx.new) }
 {
     let Ok(clause) = negations(alloc, core) else {
         return Err(StepFault::OutOfMemory);

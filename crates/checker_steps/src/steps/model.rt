@@ -15,8 +15,8 @@ ghost use Rattle.clause_store.specs.Store.{IsIndexed};
 ghost use Rattle.clause_store.specs.View.{stored_list, stored_of};
 ghost use Rattle.clause_store.specs.declared.hash.ClauseHasher.{ClauseHasher};
 ghost use Rattle.clause_store.specs.declared.state.CheckerState.{CheckerState};
-ghost use Rattle.checker_steps.specs.Context.{ContextInvariant, context_state};
-ghost use Rattle.checker_steps.specs.Delivered.{DeliveredList, listeners_of};
+ghost use Rattle.checker_steps.specs.Context.{ContextInvariant, context_state, listeners_in};
+ghost use Rattle.checker_steps.specs.Delivered.{DeliveredList};
 ghost use Rattle.checker_steps.specs.Marks.{HasPlaces, MarksOnly, is_marked};
 ghost use Rattle.checker_steps.specs.ModelCause.{IsJudged, has_marked, list_cause, lit_cause};
 
@@ -43,8 +43,7 @@ pub fn model<P: ProofProcessor, T: ProofTranscriptProcessor>(
     ensures kept { UnlessStopped result (ContextInvariant ctx.new) }
     ensures delivered { DeliveredList result
         (Emits (context_state ctx.old) (rules.model assignment.now))
-        P.took P.faulted T.took T.faulted (listeners_of ctx.old.processing)
-        (listeners_of ctx.new.processing) }
+        P.ProofProcessor T.ProofTranscriptProcessor (listeners_in ctx.old) (listeners_in ctx.new) }
 {
     if ctx.checker_state.unsat {
         return Err(StepFault::Refused(CheckCause::ModelAfterUnsat));

@@ -4,8 +4,8 @@ ghost use Rattle.checker_rules.specs.Step as rules;
 ghost use Rattle.checker_rules.specs.Steps.{step};
 ghost use Rattle.checker_parts.specs.Faults.{AnswersOutcome, UnlessStopped};
 ghost use Rattle.sat_formula.specs.Vars.{index_of, indexes_of};
-ghost use Rattle.checker_steps.specs.Context.{ContextInvariant, context_state};
-ghost use Rattle.checker_steps.specs.Delivered.{DeliveredList, listeners_of};
+ghost use Rattle.checker_steps.specs.Context.{ContextInvariant, context_state, listeners_in};
+ghost use Rattle.checker_steps.specs.Delivered.{DeliveredList};
 
 use crate::context::ContextOf;
 use checker_parts::error::StepFault;
@@ -26,8 +26,7 @@ pub fn solver_var_name<P: ProofProcessor, T: ProofTranscriptProcessor>(
     ensures delivered { DeliveredList result
         (Emits (context_state ctx.old)
         (rules.solver_var_name (index_of global) (indexes_of solver)))
-        P.took P.faulted T.took T.faulted (listeners_of ctx.old.processing)
-        (listeners_of ctx.new.processing) }
+        P.ProofProcessor T.ProofTranscriptProcessor (listeners_in ctx.old) (listeners_in ctx.new) }
 {
     match ctx.clause_hasher.pending.push(global, solver) {
         Ok(()) => Ok(()),

@@ -3,8 +3,8 @@ ghost use Rattle.checker_rules.specs.Emits.{Emits};
 ghost use Rattle.checker_rules.specs.Step as rules;
 ghost use Rattle.checker_rules.specs.Steps.{step};
 ghost use Rattle.checker_parts.specs.Faults.{AnswersOutcome, UnlessStopped};
-ghost use Rattle.checker_steps.specs.Context.{ContextInvariant, context_state};
-ghost use Rattle.checker_steps.specs.Delivered.{DeliveredList, listeners_of};
+ghost use Rattle.checker_steps.specs.Context.{ContextInvariant, context_state, listeners_in};
+ghost use Rattle.checker_steps.specs.Delivered.{DeliveredList};
 
 use crate::context::ContextOf;
 use crate::steps::derived::derive;
@@ -28,8 +28,7 @@ pub fn unit_clauses<P: ProofProcessor, T: ProofTranscriptProcessor>(
     ensures kept { UnlessStopped result (ContextInvariant ctx.new) }
     ensures delivered { DeliveredList result
         (Emits (context_state ctx.old) (rules.unit_clauses units.now))
-        P.took P.faulted T.took T.faulted (listeners_of ctx.old.processing)
-        (listeners_of ctx.new.processing) }
+        P.ProofProcessor T.ProofTranscriptProcessor (listeners_in ctx.old) (listeners_in ctx.new) }
 {
     for (lit, hash) in units {
         derive(alloc, ctx, false, &[*lit], &[*hash])?;

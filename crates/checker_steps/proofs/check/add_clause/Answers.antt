@@ -13,7 +13,7 @@ returns g c =
     record {
       step = call-answers _ taken.result c.answer.result _ _ is refl taken.ensures.step;
       kept = call-unless _ _ taken.result c.answer.result is taken.ensures.kept;
-      delivered = rw c.answer.ensures.listeners (call-delivered _ _ _ _ (Emits (context_state c.args.ctx.now) (add_clause c.args.lits.now))
+      delivered = rw c.answer.ensures.listeners (call-delivered g.P.ProofProcessor g.T.ProofTranscriptProcessor (Emits (context_state c.args.ctx.now) (add_clause c.args.lits.now))
           _ taken.result c.answer.result _ _ is taken.ensures.delivered);
       after_unsat = λ unsat.
           let same = taken.ensures.after_unsat unsat in (

@@ -13,7 +13,7 @@ returns-in-Err g c =
     record {
       step = error-answers _ f e _ _ is refl h.step;
       kept = error-unless _ _ f e is h.kept;
-      delivered = rw c.step_error.ensures.listeners (error-delivered _ _ _ _
+      delivered = rw c.step_error.ensures.listeners (error-delivered g.P.ProofProcessor g.T.ProofTranscriptProcessor
           (EmitsCall (context_state c.args.ctx.now) (checks (view c.args.step.now))) _ f e _ _ is h.delivered);
       idle = λ idle. error-stopped _ f e is ∙ h.idle idle;
       exhausted = λ none. error-stopped _ f e is ∙ h.exhausted none;

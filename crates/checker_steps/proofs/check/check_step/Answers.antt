@@ -11,7 +11,7 @@ returns g c =
     record {
       step = call-answers _ taken.result c.answer.result _ _ is refl taken.ensures.step;
       kept = call-unless _ _ taken.result c.answer.result is taken.ensures.kept;
-      delivered = rw c.answer.ensures.listeners (call-delivered _ _ _ _ (Emits (context_state c.args.ctx.now) (view c.args.step.now))
+      delivered = rw c.answer.ensures.listeners (call-delivered g.P.ProofProcessor g.T.ProofTranscriptProcessor (Emits (context_state c.args.ctx.now) (view c.args.step.now))
           _ taken.result c.answer.result _ _ is taken.ensures.delivered);
       idle = λ idle. call-stopped _ taken.result c.answer.result is ∙ taken.ensures.idle idle;
     }

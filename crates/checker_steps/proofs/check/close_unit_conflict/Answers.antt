@@ -38,9 +38,9 @@ returns-in-Some-take_id g c =
       store = subst (IsStore ctx.clause_hasher) (sym h.taken) (is_store-next ctx.clause_hasher ctx.clauses c.requires.store);
     } in
     record {
-      answer = answers-delivers _ _ _ _ _ _ _ emit.result _ _ emit.ensures.delivers answer;
+      answer = answers-delivers g.P.ProofProcessor g.T.ProofTranscriptProcessor _ _ _ emit.result _ _ emit.ensures.delivers answer;
       kept = unless-stopped emit.result kept;
-      delivered = delivered-one _ _ _ _ (EmitsCall s closes) _ _ _ emit.result
+      delivered = delivered-one g.P.ProofProcessor g.T.ProofTranscriptProcessor (EmitsCall s closes) _ _ _ emit.result
           (emits-closed s c.in-Some-take_id.id c.in-Some.stored c.in-Some.refuting c.in-Some.is h.id.0 h.id.1) emit.ensures.delivers;
       memory = emit.ensures.memory;
     }

@@ -11,7 +11,7 @@ returns g c =
     record {
       answer = call-answers _ closed.result c.answer.result _ _ is refl closed.ensures.answer;
       kept = call-unless _ _ closed.result c.answer.result is closed.ensures.kept;
-      delivered = rw c.answer.ensures.listeners (call-delivered _ _ _ _ (EmitsCall (context_state c.args.ctx.now) closes)
+      delivered = rw c.answer.ensures.listeners (call-delivered g.P.ProofProcessor g.T.ProofTranscriptProcessor (EmitsCall (context_state c.args.ctx.now) closes)
           _ closed.result c.answer.result _ _ is closed.ensures.delivered);
       memory = call-memory _ closed.result c.answer.result is closed.ensures.memory;
     }

@@ -28,7 +28,7 @@ returns-clause-step g c =
 pub returns-clause-delivered : goal.returns-clause-delivered
 returns-clause-delivered g c =
     let ctx = c.args.ctx.now in let t = view c.args.step.now in let s = context_state ctx in
-    delivered-weaker _ _ _ _ (Emits (count_step s) t) (EmitsCall s (checks t)) _ _ c.take_step.result
+    delivered-weaker g.P.ProofProcessor g.T.ProofTranscriptProcessor (Emits (count_step s) t) (EmitsCall s (checks t)) _ _ c.take_step.result
     (λ es h. emits-counted s t es (some-number ctx.checker_state.step (omega arith) c.if-ctx.false) h) c.take_step.ensures.delivered
 
 pub returns-clause-exhausted : goal.returns-clause-exhausted

@@ -38,7 +38,7 @@ set_name-requires-clause-known g c = names-enough (suc (index_of c.args.global))
 pub returns-clause-step : goal.returns-clause-step
 returns-clause-step g c = λ st h.
     let a = c.args in let grown = c.ensure_var.new in
-    answers-delivers _ _ _ _ _ _ _ c.emit_user_var.result _ _ c.emit_user_var.ensures
+    answers-delivers g.P.ProofProcessor g.T.ProofTranscriptProcessor _ _ _ c.emit_user_var.result _ _ c.emit_user_var.ensures
     (answers-accept (name-given (state_of st h a.clauses.now a.variables.now) (state_of st h grown.clauses grown.variables) (index_of a.global) (index_of a.user_var)
     (c.in_ok-ensure_var.ensures.known.state st h) c.in_default.ensures) (ap (state_of st h grown.clauses) c.set_name.ensures))
 
@@ -50,6 +50,6 @@ pub returns-clause-delivered : goal.returns-clause-delivered
 returns-clause-delivered g c = λ st h.
     let a = c.args in let grown = c.ensure_var.new in
     let x = index_of a.global in let u = index_of a.user_var in let s = state_of st h a.clauses.now a.variables.now in
-    delivered-one _ _ _ _ (Emits s (user_var_name x (Some u))) _ _ _ c.emit_user_var.result
+    delivered-one g.P.ProofProcessor g.T.ProofTranscriptProcessor (Emits s (user_var_name x (Some u))) _ _ _ c.emit_user_var.result
     (emits-name s (state_of st h grown.clauses grown.variables) x u _ c.set_name.new.self (c.in_ok-ensure_var.ensures.known.state st h) c.in_default.ensures
     (c.shown_mode.ensures ∙ ap (λ (k : Known). is_sample k.mode) c.get.ensures) c.set_name.ensures) c.emit_user_var.ensures

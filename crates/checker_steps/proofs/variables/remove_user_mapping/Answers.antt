@@ -37,7 +37,7 @@ returns-in_err-emit_user_var-clause-delivered g c = λ st h.
     let s = state_of st h a.clauses.now a.variables.now in let r = state_of st h c.ensure_var.new.clauses c.ensure_var.new.variables in
     let named = ap (λ (k : Known). is_none k.name) (sym c.get.ensures) ∙ is_none-named c.get.result.user_var c.if-is_none.ensures in
     let q = err_from_is_err_and c.from_residual-in_err-emit_user_var.result c.from_residual-in_err-emit_user_var.ensures.1 in
-    rw (q.1, q.2) (delivered-one _ _ _ _ {A = Unit {0}} (Emits s (user_var_name x None)) _ _ _ (Err c.in_err-emit_user_var.field-0.0)
+    rw (q.1, q.2) (delivered-one g.P.ProofProcessor g.T.ProofTranscriptProcessor {A = Unit {0}} (Emits s (user_var_name x None)) _ _ _ (Err c.in_err-emit_user_var.field-0.0)
     (emits-removal s r x (c.in_ok-ensure_var.ensures.known.state st h) named) c.in_err-emit_user_var.ensures)
 
 pub returns-clause-step : goal.returns-clause-step

@@ -11,9 +11,10 @@ counted : (g : Over) (c : In_ok-check_proof g) →
     Told (λ v x. (goal.ProofProcessor-dyn g (v, x)).shown x) c.args.processor c.args.formula.now (g.R.Read.remaining c.args.proof)
     (listeners c.check_proof.new.self).processors
 counted g c =
-    told (λ v x. (goal.ProofProcessor-dyn g (v, x)).took x) (λ v x. (goal.ProofProcessor-dyn g (v, x)).faulted x) _ _ _ _ _ _ _ _ _ _ _ _ _
-    _ c.requires c.new-checker.ensures.state c.new-checker.ensures.processors
-    c.in_default.ensures.state c.in_default.ensures.registered c.in_ok-add_formula.ensures.steps c.in_ok-add_formula.ensures.delivered c.in_ok-check_proof.ensures.run
+    told (λ v x. (goal.ProofProcessor-dyn g (v, x)).took x) (λ v x. (goal.ProofProcessor-dyn g (v, x)).faulted x)
+    (λ v x. (goal.ProofProcessor-dyn g (v, x)).shown x) _ _ _ _ _ _ _ _ _ _ _ _
+    c.requires c.new-checker.ensures.state c.new-checker.ensures.processors
+    c.in_default.ensures.state c.in_default.ensures.registered c.in_ok-add_formula.ensures.steps c.in_ok-check_proof.ensures.run c.in_ok-add_formula.ensures.delivered
 
 pub index-requires : goal.index-requires
 index-requires g c =

@@ -3,4 +3,4 @@ use Rattle.varisat_check.proofs.formula.read_formula.Goals as goal
 
 pub returns-in-Err : goal.returns-in-Err
 returns-in-Err g c =
-    rw c.text_fault.ensures (read-fault (g.F.Read.remaining c.args.cnf) c.in-Err.fault c.in-Err.ensures.fault.0 c.in-Err.ensures.fault.1)
+    rw c.from.ensures (read-fault (g.F.Read.remaining c.args.cnf) c.in-Err.fault c.in-Err.ensures.fault.0 c.in-Err.ensures.fault.1)

@@ -22,13 +22,13 @@ verdict_after-verdict-requires g c =
 pub returns-in-Ok-clause-run : goal.returns-in-Ok-clause-run
 returns-in-Ok-clause-run g c =
     taken g.P.ProofProcessor.took _ _ _ _ _ (listeners c.check_proof.new.self).processors c.into_processors-processors.result.0.items
-    (fresh_run g.P.ProofProcessor.took g.P.ProofProcessor.faulted _ _ c.args.formula.now (g.R.Read.remaining c.args.proof) c.args.writer
+    (fresh_run g.P.ProofProcessor _ c.args.formula.now (g.R.Read.remaining c.args.proof) c.args.writer
     (listeners c.new-checker.result) (listeners c.add_processor.new.self) (listeners c.add_formula.new.self)
     (listeners c.check_proof.new.self)
     (state c.new-checker.result) (state c.add_processor.new.self) (state c.add_formula.new.self) (state c.check_proof.new.self) c.input_clauses-inputs.result c.verdict_after-verdict.result
     c.new-checker.ensures.state c.new-checker.ensures.processors c.in_default.ensures.state c.in_default.ensures.registered
-    c.in_default-add_formula.ensures.steps c.in_default-add_formula.ensures.delivered c.in_default-add_formula.ensures.certified
-    c.in_default-check_proof.ensures.run c.input_clauses-inputs.ensures c.verdict_after-verdict.ensures)
+    c.in_default-add_formula.ensures.steps c.in_default-check_proof.ensures.run c.in_default-add_formula.ensures.delivered
+    c.in_default-add_formula.ensures.certified c.input_clauses-inputs.ensures c.verdict_after-verdict.ensures)
     c.into_processors-processors.ensures.processors c.swap_remove-writer.ensures.value
 
 pub returns-in-Ok-clause-refutes : goal.returns-in-Ok-clause-refutes
@@ -45,13 +45,13 @@ returns-clause-unwritten g c = λ _.
       verdict = c.verdict_after-verdict.result;
       after = c.swap_remove-writer.result;
       run = taken g.P.ProofProcessor.took _ _ _ _ _ (listeners c.check_proof.new.self).processors c.into_processors-processors.result.0.items
-          (fresh_run g.P.ProofProcessor.took g.P.ProofProcessor.faulted _ _ c.args.formula.now (g.R.Read.remaining c.args.proof) c.args.writer
+          (fresh_run g.P.ProofProcessor _ c.args.formula.now (g.R.Read.remaining c.args.proof) c.args.writer
           (listeners c.new-checker.result) (listeners c.add_processor.new.self) (listeners c.add_formula.new.self)
           (listeners c.check_proof.new.self)
           (state c.new-checker.result) (state c.add_processor.new.self) (state c.add_formula.new.self) (state c.check_proof.new.self) c.input_clauses-inputs.result c.verdict_after-verdict.result
           c.new-checker.ensures.state c.new-checker.ensures.processors c.in_default.ensures.state c.in_default.ensures.registered
-          c.in_default-add_formula.ensures.steps c.in_default-add_formula.ensures.delivered c.in_default-add_formula.ensures.certified
-          c.in_default-check_proof.ensures.run c.input_clauses-inputs.ensures c.verdict_after-verdict.ensures)
+          c.in_default-add_formula.ensures.steps c.in_default-check_proof.ensures.run c.in_default-add_formula.ensures.delivered
+          c.in_default-add_formula.ensures.certified c.input_clauses-inputs.ensures c.verdict_after-verdict.ensures)
           c.into_processors-processors.ensures.processors c.swap_remove-writer.ensures.value;
       stops = subst
           (λ output. StopsInTurn (g.V.Write.contents c.args.lrat.now) (g.V.Write.contents c.write_both.new.lrat) output (g.W.Write.contents c.args.out.now) (g.W.Write.contents c.write_both.new.out) line)

@@ -8,7 +8,7 @@ returns-in-Err-clause-run g c = text_refused _ c.in-Err.fault (state c.new-check
 pub returns-clause-run : goal.returns-clause-run
 returns-clause-run g c =
     let text = text_added _ (state c.new-checker.result) (state c.add_dimacs_cnf.new.self) c.new-checker.ensures.state c.in_default.ensures.text in
-    whole_run _ _ _ _ _ _ _ _ (state c.add_dimacs_cnf.new.self) (state c.run_proof.new.checker) c.run_proof.result text
+    whole_run _ _ _ _ _ _ (state c.add_dimacs_cnf.new.self) (state c.run_proof.new.checker) c.run_proof.result text
     (c.run_proof.ensures.run (lives_on (state c.add_dimacs_cnf.new.self) text.1)) c.run_proof.ensures.verdict c.run_proof.ensures.refutes
 
 pub returns-clause-refutes : goal.returns-clause-refutes
@@ -19,6 +19,6 @@ returns-clause-refutes g c =
 pub returns-clause-unwritten : goal.returns-clause-unwritten
 returns-clause-unwritten g c =
     let text = text_added _ (state c.new-checker.result) (state c.add_dimacs_cnf.new.self) c.new-checker.ensures.state c.in_default.ensures.text in
-    unwritten_run _ _ _ _ _ _ _ _ (state c.add_dimacs_cnf.new.self) (state c.run_proof.new.checker) c.run_proof.result
+    unwritten_run _ _ _ _ _ _ (state c.add_dimacs_cnf.new.self) (state c.run_proof.new.checker) c.run_proof.result
     (g.W.Write.contents c.args.out.now) (g.W.Write.contents c.run_proof.new.out) text
     (c.run_proof.ensures.run (lives_on (state c.add_dimacs_cnf.new.self) text.1)) c.run_proof.ensures.unwritten

@@ -52,7 +52,7 @@ returns-in-Err-take_counted-clause-run g c =
     rw c.step_error.ensures.listeners
     (delivered-refused c.steps.invariant.so_far c.requires.form (gave.reads (c.steps.invariant.open_reader c.steps-test.true)) may
     (error-answers _ _ _ _ _ c.step_error.ensures.error refl c.in-Err-take_counted.ensures.step)
-    (error-delivered _ _ _ _ _ _ _ _ _ _ c.step_error.ensures.error c.in-Err-take_counted.ensures.delivered))
+    (error-delivered g.P.ProofProcessor g.T.ProofTranscriptProcessor _ _ _ _ _ _ c.step_error.ensures.error c.in-Err-take_counted.ensures.delivered))
 
 pub returns-in-Err-take_counted-clause-kept : goal.returns-in-Err-take_counted-clause-kept
 returns-in-Err-take_counted-clause-kept g c =

@@ -10,7 +10,7 @@ abbrev pub invariant-steps : goal.invariant-steps
 invariant-steps g l = record {
   open_reader : l.ctx.checker_state.ended ≡ false → has_ended l.reader ≡ false;
   kept : ContextInvariant l.ctx;
-  so_far : RunDelivered g.P.ProofProcessor.took g.T.ProofTranscriptProcessor.took (g.R.Read.remaining l.fn.proof)
+  so_far : RunDelivered g.P.ProofProcessor g.T.ProofTranscriptProcessor (g.R.Read.remaining l.fn.proof)
       (bytes_left g.R.Read.remaining l.reader) (context_state l.fn.ctx) (context_state l.ctx) (format_of l.reader)
       (listeners_of l.fn.ctx.processing) (listeners_of l.ctx.processing);
   ended : l.fn.ctx.checker_state.ended ≡ true → l.ctx.checker_state.ended ≡ true;

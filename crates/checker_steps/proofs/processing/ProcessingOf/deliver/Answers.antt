@@ -19,7 +19,7 @@ returns-in-None-clause-delivers g c =
 
 pub returns-in-Some-clause-delivers : goal.returns-in-Some-clause-delivers
 returns-in-Some-clause-delivers g c =
-    delivers-image _ _ _ _ _ _ _ _ (took_of_slice g.P.ProofProcessor.took _ _ _ c.tell.new.processors _ c.deref_mut.ensures.value
+    delivers-image g.P.ProofProcessor g.T.ProofTranscriptProcessor _ _ _ _ (took_of_slice g.P.ProofProcessor.took _ _ _ c.tell.new.processors _ c.deref_mut.ensures.value
     c.tell.auto.processors c.deref_mut.ensures.len c.in_ok-tell.ensures.ok)
     (sym c.in-Ok.ensures.ok ∙ ap transcripts_of c.in-Some.is) c.tell_image.result
     (on_ok_weaker c.tell_image.result (λ h. took_of_slice g.T.ProofTranscriptProcessor.took _ _ _ c.tell_image.new.transcripts _

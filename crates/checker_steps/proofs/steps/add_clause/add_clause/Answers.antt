@@ -59,7 +59,7 @@ returns-in-Err-taken g c =
     rw c.store_fault.ensures (record {
       step = answer;
       kept = kept-answer {A = Unit {0}} (Err (store_fault fault)) _ _ _ _ _ _ _ _ (add_clause ls) c.requires answer (unless-unstored _ fault c.in-Err-taken.ensures.store);
-      delivered = delivered-refused _ _ _ _ (Unit {0}) (store_fault fault) (Emits s (add_clause ls)) (step s (add_clause ls)) after _ (quiet-unstored fault)
+      delivered = delivered-refused g.P.ProofProcessor g.T.ProofTranscriptProcessor (Unit {0}) (store_fault fault) (Emits s (add_clause ls)) (step s (add_clause ls)) after _ (quiet-unstored fault)
           (λ cause refused. emits-refused s (add_clause ls) [] cause refused refl) answer;
       after_unsat = λ unsat. absurd cc;
     })
@@ -71,12 +71,12 @@ returns-in-Ok-taken g c =
     let list = c.as_slice-clause.ensures.value ∙ c.in-Ok.ensures.items in
     let early = subst (λ (x : List ℕ). early_cause s x ≡ None) list (c.in_default-cause.ensures ctx.checker_state ctx.clause_hasher) in
     let none = early-room s (canonical ls) early (subst (λ (x : List ℕ). count_of false x s.clauses < count_limit) list h.room) in
-    let answer = answers-all _ _ _ _ _ _ _ r _ _ c.emit_added.ensures
+    let answer = answers-all g.P.ProofProcessor g.T.ProofTranscriptProcessor _ _ _ r _ _ c.emit_added.ensures
     (answers-accept (add-accepts s ls c.if-ctx.false none) (h.state ∙ ap (taken s) list)) in
     record {
       step = answer;
       kept = kept-answer r _ _ _ _ _ _ _ _ (add_clause ls) c.requires answer (unless-stopped r h.store);
-      delivered = delivered-all _ _ _ _ (Emits s (add_clause ls)) _ _ _ r
+      delivered = delivered-all g.P.ProofProcessor g.T.ProofTranscriptProcessor (Emits s (add_clause ls)) _ _ _ r
           (emits-added s ls _ c.if-ctx.false none (h.emitted ∙ ap (λ (x : List ℕ). emits_input x (know_clause x s)) list)) c.emit_added.ensures;
       after_unsat = λ unsat. absurd cc;
     }

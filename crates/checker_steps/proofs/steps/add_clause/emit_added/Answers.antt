@@ -6,26 +6,26 @@ use Rattle.checker_steps.proofs.steps.add_clause.emit_added.Goals.{then-newly_ir
 
 pub returns-in-Tautology : goal.returns-in-Tautology
 returns-in-Tautology g c =
-    rw c.in-Tautology.is (all-one _ _ _ _ _ _ _ c.emit_tautological_clause.result c.emit_tautological_clause.ensures)
+    rw c.in-Tautology.is (all-one g.P.ProofProcessor g.T.ProofTranscriptProcessor _ _ _ c.emit_tautological_clause.result c.emit_tautological_clause.ensures)
 
 pub returns-in-New : goal.returns-in-New
 returns-in-New g c =
-    rw c.in-New.is (all-one _ _ _ _ _ _ _ c.emit_add_clause.result c.emit_add_clause.ensures)
+    rw c.in-New.is (all-one g.P.ProofProcessor g.T.ProofTranscriptProcessor _ _ _ c.emit_add_clause.result c.emit_add_clause.ensures)
 
 pub returns-in_err-emit_make_irredundant-in-Duplicate : goal.returns-in_err-emit_make_irredundant-in-Duplicate
 returns-in_err-emit_make_irredundant-in-Duplicate g c =
     let q = err_from_is_err_and c.from_residual.result c.from_residual.ensures.1 in
     rw (q.1, q.2, c.in-Duplicate.is, c.if-newly_irredundant.true)
-    (all-fault _ _ _ _ _ _ _ _ c.in_err-emit_make_irredundant-in-Duplicate.field-0.0
+    (all-fault g.P.ProofProcessor g.T.ProofTranscriptProcessor _ _ _ _ c.in_err-emit_make_irredundant-in-Duplicate.field-0.0
     (rw c.in_err-emit_make_irredundant-in-Duplicate.was at c.emit_make_irredundant.ensures))
 
 pub returns-after-newly_irredundant : goal.returns-after-newly_irredundant
 returns-after-newly_irredundant g c =
-    let last = all-one _ _ _ _ _ (listeners_of c.if-newly_irredundant.processing)
+    let last = all-one g.P.ProofProcessor g.T.ProofTranscriptProcessor _ (listeners_of c.if-newly_irredundant.processing)
     (listeners_of c.emit_duplicated_clause.new.processing) c.emit_duplicated_clause.result c.emit_duplicated_clause.ensures in
     elim c.if-newly_irredundant.branch [
       | then-newly_irredundant+in_ok-emit_make_irredundant-in-Duplicate w ↦ rw (c.in-Duplicate.is, w.if-newly_irredundant.true)
-          (all-second _ _ _ _ _ _ (listeners_of c.args.processing.now)
+          (all-second g.P.ProofProcessor g.T.ProofTranscriptProcessor _ _ (listeners_of c.args.processing.now)
           (listeners_of w.emit_make_irredundant.new.processing) (listeners_of c.emit_duplicated_clause.new.processing)
           c.emit_duplicated_clause.result
           (rw w.in_ok-emit_make_irredundant-in-Duplicate.was at w.emit_make_irredundant.ensures) (rw w.processing-is at last))

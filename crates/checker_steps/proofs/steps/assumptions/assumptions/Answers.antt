@@ -27,7 +27,7 @@ returns-then-some_not_sampling g c =
     let ctx = c.args.ctx.now in let list = c.as_slice-list.ensures.value ∙ c.in-Ok.ensures.items in
     let hidden = sym (c.some_not_sampling.ensures ctx.checker_state ctx.clause_hasher ctx.clauses) ∙ c.if-some_not_sampling.true in
     let s = answers-refuse _ _ _ _ (assumptions-by (context_state ctx) _ _ true list hidden) refl in
-    record { step = s; kept = c.requires; delivered = quiet-refusal _ _ _ _ s.0 refl }
+    record { step = s; kept = c.requires; delivered = quiet-refusal g.P.ProofProcessor g.T.ProofTranscriptProcessor _ _ _ _ s.0 refl }
 
 pub returns : goal.returns
 returns g c =
@@ -36,10 +36,10 @@ returns g c =
     let here = known.state ctx.checker_state ctx.clause_hasher ∙ ap (λ n. know n s) (c.var_bound.ensures ∙ ap var_bound list) in
     let shown = sym (c.some_not_sampling.ensures ctx.checker_state ctx.clause_hasher ctx.clauses) ∙ c.if-some_not_sampling.false in
     let a = answers-accept _ _ _ (assumptions-by s _ _ false list shown) (λ i. record (here i) { assumed = items i }) in
-    let answer = answers-delivers _ _ _ _ _ _ _ told.result _ _ told.ensures a in record {
+    let answer = answers-delivers g.P.ProofProcessor g.T.ProofTranscriptProcessor _ _ _ told.result _ _ told.ensures a in record {
       step = answer;
       kept = kept-answer told.result _ _ _ _ _ _ _ _ _ c.requires answer (unless-stopped told.result (is_store-known _ _ _ _ _ _ known c.requires.store));
-      delivered = delivered-one _ _ _ _ _ _ _ _ told.result (emits-accepted s _ _ a.0
+      delivered = delivered-one g.P.ProofProcessor g.T.ProofTranscriptProcessor _ _ _ _ told.result (emits-accepted s _ _ a.0
           (ap (λ xs. record { step = checked_assumptions xs; names = c.ensure_vars.new.variables } ∷ []) (c.as_slice.ensures.value ∙ items)
           ∙ ap (λ (y : State). named_in y (checked_assumptions (canonical c.args.lits.now)) ∷ []) here)) told.ensures;
     }

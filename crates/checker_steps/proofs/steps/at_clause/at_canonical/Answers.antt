@@ -26,7 +26,7 @@ returns-in_err-id g c =
     rw (q.1, q.2) (record {
       step = answer;
       kept = kept-answer {A = Unit {0}} (Err e) _ _ _ _ _ _ _ _ (at_clause a.redundant clause a.hashes.now) c.requires.kept (answer clause itself) h.store;
-      delivered = λ ls list. delivered-traced _ _ _ _ {A = Unit {0}} (Err e) s (at_clause a.redundant ls a.hashes.now) _ _ _
+      delivered = λ ls list. delivered-traced g.P.ProofProcessor g.T.ProofTranscriptProcessor {A = Unit {0}} (Err e) s (at_clause a.redundant ls a.hashes.now) _ _ _
           c.requires.kept.form (at-steps s a.redundant ls a.hashes.now clause list (apart ls list)) h.delivered;
     })
 
@@ -56,6 +56,6 @@ returns g c =
     record {
       step = answer;
       kept = kept-answer last.result _ _ _ _ _ _ _ _ (at_clause a.redundant clause a.hashes.now) c.requires.kept (answer clause (canonical_itself clause c.requires.canonical)) (unless-stopped last.result h.store);
-      delivered = λ ls list. delivered-unless-memory _ _ _ _ last.result (Emits s (at_clause a.redundant ls a.hashes.now)) _ _ last.ensures.memory
+      delivered = λ ls list. delivered-unless-memory g.P.ProofProcessor g.T.ProofTranscriptProcessor last.result (Emits s (at_clause a.redundant ls a.hashes.now)) _ _ last.ensures.memory
           (_, traced-emits s (at_clause a.redundant ls a.hashes.now) _ _ c.requires.kept.form (at-steps s a.redundant ls a.hashes.now clause list (apart ls list)) h.delivered.1, h.delivered.2);
     }

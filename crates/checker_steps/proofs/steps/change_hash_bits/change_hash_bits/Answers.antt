@@ -32,10 +32,10 @@ returns-then-bits-eq0 g c =
       | then-bits-eq0-via-else-bits-eq0+then-bits-gt-BITS w ↦ inr w.if-bits-gt-BITS.true
     ] in
     let s = answers-refuse _ _ _ _ (bits-by (context_state c.args.ctx.now) _ true (out_of_range _ wrong)) refl in
-    record { step = s; kept = c.requires; delivered = quiet-refusal _ _ _ _ s.0 refl }
+    record { step = s; kept = c.requires; delivered = quiet-refusal g.P.ProofProcessor g.T.ProofTranscriptProcessor _ _ _ _ s.0 refl }
 
 pub returns-in-Ok : goal.returns-in-Ok
 returns-in-Ok g c =
     let fits = in_range c.args.bits c.if-bits-eq0.false (λ h. omega (arith, h, c.if-bits-gt-BITS.false)) in
     let s = answers-accept _ _ _ (bits-by (context_state c.args.ctx.now) _ false fits) (c.in-Ok.ensures.state c.args.ctx.now.checker_state c.args.ctx.now.variables) in
-    record { step = s; kept = kept-after _ c.requires s.1 c.in-Ok.ensures.store; delivered = told-nothing _ _ (emits-accepted _ _ [] s.0 refl) }
+    record { step = s; kept = kept-after _ c.requires s.1 c.in-Ok.ensures.store; delivered = told-nothing g.P.ProofProcessor g.T.ProofTranscriptProcessor _ _ (emits-accepted _ _ [] s.0 refl) }

@@ -17,7 +17,7 @@ returns-in-Ok-None g c =
     let s = answers-accept _ _ _ (mode-changed _ _ _ c.args.sample is changed.0) (ap (state_of st h c.ensure_var.new.clauses) changed.1) in record {
       step = s;
       kept = kept-after _ c.requires s.1 (is_store-known _ _ _ _ _ _ known c.requires.store);
-      delivered = told-nothing _ _ (emits-change _ _ _ _ c.args.sample None _ is changed.0 changed.1 changed.2 refl);
+      delivered = told-nothing g.P.ProofProcessor g.T.ProofTranscriptProcessor _ _ (emits-change _ _ _ _ c.args.sample None _ is changed.0 changed.1 changed.2 refl);
     }
 
 pub returns-in-Ok-Some : goal.returns-in-Ok-Some
@@ -25,10 +25,10 @@ returns-in-Ok-Some g c =
     let st = c.args.ctx.now.checker_state in let h = c.args.ctx.now.clause_hasher in let known = c.in_ok-ensure_var.ensures.known in
     let is = known.state st h in let changed = rw c.in-Ok-Some.field-0-is at c.in-Ok-Some.ensures in let told = c.emit_user_var in
     let a = answers-accept _ _ _ (mode-changed _ _ _ c.args.sample is changed.0) (ap (state_of st h c.ensure_var.new.clauses) changed.1) in
-    let s = answers-delivers _ _ _ _ _ _ _ told.result _ _ told.ensures a in record {
+    let s = answers-delivers g.P.ProofProcessor g.T.ProofTranscriptProcessor _ _ _ told.result _ _ told.ensures a in record {
       step = s;
       kept = kept-answer told.result _ _ _ _ _ _ _ _ _ c.requires s (unless-stopped told.result (is_store-known _ _ _ _ _ _ known c.requires.store));
-      delivered = delivered-one _ _ _ _ _ _ _ _ told.result (emits-change _ _ _ _ _ (Some (index_of c.in-Ok-Some.user_var)) _ is changed.0 changed.1 changed.2
+      delivered = delivered-one g.P.ProofProcessor g.T.ProofTranscriptProcessor _ _ _ _ told.result (emits-change _ _ _ _ _ (Some (index_of c.in-Ok-Some.user_var)) _ is changed.0 changed.1 changed.2
           (c.shown_mode.ensures ∙ ap is_sample c.asked_mode.ensures ∙ is_sample-asked c.args.sample)) told.ensures;
     }
 
@@ -36,4 +36,4 @@ pub returns-in-Err : goal.returns-in-Err
 returns-in-Err g c =
     let st = c.args.ctx.now.checker_state in let h = c.args.ctx.now.clause_hasher in let known = c.in_ok-ensure_var.ensures.known in
     let s = answers-refuse _ _ _ _ (mode-refused _ _ _ c.args.sample _ (known.state st h) c.in-Err.ensures.0) (ap (state_of st h c.ensure_var.new.clauses) c.in-Err.ensures.1) in
-    record { step = s; kept = kept-after _ c.requires s.1 (is_store-known _ _ _ _ _ _ known c.requires.store); delivered = quiet-refusal _ _ _ _ s.0 refl }
+    record { step = s; kept = kept-after _ c.requires s.1 (is_store-known _ _ _ _ _ _ known c.requires.store); delivered = quiet-refusal g.P.ProofProcessor g.T.ProofTranscriptProcessor _ _ _ _ s.0 refl }

@@ -19,7 +19,7 @@ returns-in-Err g c =
     let ctx = c.args.ctx.now in let clause = c.args.clause.now in let j = why c.args.proof in
     let asked = λ (ls : List ℕ) (list : clause ≡ canonical ls). delete-asked (context_state ctx) j ls clause (sym (ap is_tautology list) ∙ c.requires.no_tautology) list in
     let s = λ (ls : List ℕ) (list : clause ≡ canonical ls). answers-refuse _ _ _ _ (asked ls list ∙ c.in-Err.ensures ctx.clause_hasher ctx.variables) refl in
-    record { step = s; kept = c.requires.kept; delivered = λ ls list. quiet-refusal _ _ _ _ (s ls list).0 refl }
+    record { step = s; kept = c.requires.kept; delivered = λ ls list. quiet-refusal g.P.ProofProcessor g.T.ProofTranscriptProcessor _ _ _ _ (s ls list).0 refl }
 
 pub returns-in-Ok-deleted : goal.returns-in-Ok-deleted
 returns-in-Ok-deleted g c =
@@ -28,10 +28,10 @@ returns-in-Ok-deleted g c =
     let asked = λ (ls : List ℕ) (list : clause ≡ canonical ls). delete-justified s j ls clause _ _ (sym (ap is_tautology list) ∙ c.requires.no_tautology) list why c.is_none-redundant.ensures in
     let st : CheckerState = record ctx.checker_state { previous_id = None } in let d = deleted.ensures.answer st ctx.variables in
     let a = λ (ls : List ℕ) (list : clause ≡ canonical ls). answers-accept _ _ _ ((asked ls list).0 ∙ d.after) refl in
-    let answer = λ (ls : List ℕ) (list : clause ≡ canonical ls). answers-all _ _ _ _ _ _ _ told.result _ _ told.ensures (a ls list) in record {
+    let answer = λ (ls : List ℕ) (list : clause ≡ canonical ls). answers-all g.P.ProofProcessor g.T.ProofTranscriptProcessor _ _ _ told.result _ _ told.ensures (a ls list) in record {
       step = answer;
       kept = kept-answer told.result _ _ _ _ _ _ _ _ (delete_clause j clause) c.requires.kept (answer clause (canonical_itself clause c.requires.canonical)) (unless-stopped told.result deleted.ensures.store);
-      delivered = λ ls list. delivered-all _ _ _ _ _ _ _ _ told.result
+      delivered = λ ls list. delivered-all g.P.ProofProcessor g.T.ProofTranscriptProcessor _ _ _ _ told.result
           (emits-accepted _ _ _ (a ls list).0 (emits-deleted _ s c.requires.kept.store.filed.apart c.requires.kept.store.filed.whole j ls _ _ _ _ _ list why.1 (asked ls list).1 d)) told.ensures;
     }
 
@@ -46,5 +46,5 @@ returns-in-Err-deleted g c =
       step = λ ls list. rw c.delete_fault.ensures (s ls list);
       kept = rw c.delete_fault.ensures (kept-answer {A = Unit {0}} (Err (delete_fault fault c.is_none-redundant.result)) _ _ _ _ _ _ _ _ (delete_clause j clause) c.requires.kept
           (s clause (canonical_itself clause c.requires.canonical)) (unless-fault _ fault c.is_none-redundant.result c.in-Err-deleted.ensures.store));
-      delivered = λ ls list. rw c.delete_fault.ensures (delivered-fault _ _ _ _ _ _ _ c.is_none-redundant.result _ refl fault (s ls list));
+      delivered = λ ls list. rw c.delete_fault.ensures (delivered-fault g.P.ProofProcessor g.T.ProofTranscriptProcessor _ _ _ c.is_none-redundant.result _ refl fault (s ls list));
     }

@@ -11,7 +11,7 @@ use Rattle.checker_steps.proofs.steps.delete_clause.delete_unordered.Goals as go
 pub returns-then-tautology : goal.returns-then-tautology
 returns-then-tautology g c =
     let o = delete-tautology (context_state c.args.ctx.now) (why c.args.proof) c.args.lits.now (sym c.in-Ok.ensures.tautology ∙ c.if-tautology.true) in
-    let s = answers-refuse _ _ _ _ o refl in record { step = s; kept = c.requires; delivered = quiet-refusal _ _ _ _ s.0 refl }
+    let s = answers-refuse _ _ _ _ o refl in record { step = s; kept = c.requires; delivered = quiet-refusal g.P.ProofProcessor g.T.ProofTranscriptProcessor _ _ _ _ s.0 refl }
 
 pub delete_canonical-deleted-requires-clause-canonical : goal.delete_canonical-deleted-requires-clause-canonical
 delete_canonical-deleted-requires-clause-canonical g c =

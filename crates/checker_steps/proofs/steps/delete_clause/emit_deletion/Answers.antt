@@ -15,23 +15,23 @@ unchanged names implying id c = grind arith
 
 pub returns-in-None-Removed : goal.returns-in-None-Removed
 returns-in-None-Removed g c =
-    rw (c.in-None-Removed.is-0, c.in-None-Removed.is-1) (all-one _ _ _ _ _ _ _ c.emit_delete_clause.result c.emit_delete_clause.ensures)
+    rw (c.in-None-Removed.is-0, c.in-None-Removed.is-1) (all-one g.P.ProofProcessor g.T.ProofTranscriptProcessor _ _ _ c.emit_delete_clause.result c.emit_delete_clause.ensures)
 
 pub returns-in-Some-Removed : goal.returns-in-Some-Removed
 returns-in-Some-Removed g c =
-    rw (c.in-Some-Removed.is-0, c.in-Some-Removed.is-1) (all-one _ _ _ _ _ _ _ c.emit_delete_at_clause.result c.emit_delete_at_clause.ensures)
+    rw (c.in-Some-Removed.is-0, c.in-Some-Removed.is-1) (all-one g.P.ProofProcessor g.T.ProofTranscriptProcessor _ _ _ c.emit_delete_at_clause.result c.emit_delete_at_clause.ensures)
 
 pub returns-in-Some-NewlyRedundant : goal.returns-in-Some-NewlyRedundant
 returns-in-Some-NewlyRedundant g c =
     let told = c.emit_delete_at_clause-in-Some-NewlyRedundant in
-    rw (c.in-Some-NewlyRedundant.is-0, c.in-Some-NewlyRedundant.is-1) (all-one _ _ _ _ _ _ _ told.result told.ensures)
+    rw (c.in-Some-NewlyRedundant.is-0, c.in-Some-NewlyRedundant.is-1) (all-one g.P.ProofProcessor g.T.ProofTranscriptProcessor _ _ _ told.result told.ensures)
 
 pub returns-in_default : goal.returns-in_default
 returns-in_default g c =
     rw (c.in_default.is-0, kept_redundant c.args.variables.now c.args.did c.args.id c.args.clause.now c.in_default.not-Removed-1)
-    (ran-none _ g.P.ProofProcessor.faulted _ g.T.ProofTranscriptProcessor.faulted _)
+    (ran-none g.P.ProofProcessor g.T.ProofTranscriptProcessor _)
 
 pub returns-in_default-2 : goal.returns-in_default-2
 returns-in_default-2 g c =
     rw (c.in_default.is-1, unchanged c.args.variables.now c.args.implying c.args.id c.args.clause.now)
-    (ran-none _ g.P.ProofProcessor.faulted _ g.T.ProofTranscriptProcessor.faulted _)
+    (ran-none g.P.ProofProcessor g.T.ProofTranscriptProcessor _)

@@ -12,7 +12,7 @@ use Rattle.checker_steps.proofs.steps.delete_var.emit_unit.Goals as goal
 pub returns-in_default-clause-delivered : goal.returns-in_default-clause-delivered
 returns-in_default-clause-delivered g c st h =
     let s = state_of st h c.args.clauses.now c.args.variables.now in let x = index_of c.args.var in
-    told-nothing _ _ (sym (ap (emits_unit s x) (unit_is c.args.clauses.now.unit_clauses None c.index.result x c.in_default.ensures c.index.ensures.value)))
+    told-nothing g.P.ProofProcessor g.T.ProofTranscriptProcessor _ _ (sym (ap (emits_unit s x) (unit_is c.args.clauses.now.unit_clauses None c.index.result x c.in_default.ensures c.index.ensures.value)))
 
 pub returns-clause-delivered : goal.returns-clause-delivered
 returns-clause-delivered g c st h =
@@ -20,4 +20,4 @@ returns-clause-delivered g c st h =
     let lit = c.lit-pivot.ensures ∙ unit_lit-is x c.in-Some.unit.value in
     let some = ap (emits_unit s x) (unit_is c.args.clauses.now.unit_clauses (Some c.in-Some.unit) c.index.result x c.in-Some.ensures c.index.ensures.value) in
     let shown = λ (id : ℕ) (l : ℕ). named_in s (checked_delete_rat_clause id false (l ∷ []) l) ∷ [] in
-    delivered-one _ _ _ _ _ _ _ _ c.emit_delete_rat_clause.result ((λ i. shown (c.global_id.ensures i) (lit i)) ∙ sym some) c.emit_delete_rat_clause.ensures
+    delivered-one g.P.ProofProcessor g.T.ProofTranscriptProcessor _ _ _ _ c.emit_delete_rat_clause.result ((λ i. shown (c.global_id.ensures i) (lit i)) ∙ sym some) c.emit_delete_rat_clause.ensures

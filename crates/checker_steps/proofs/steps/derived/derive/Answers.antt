@@ -26,7 +26,7 @@ returns-in_err-check_clause_with_hashes g c =
       answer = answers-part e _ (derived s a.redundant a.clause.now a.hashes.now) t (derived-unchecked s a.redundant a.clause.now a.hashes.now) h.answer;
       id = tt;
       store = h.store;
-      delivered = delivered-refused _ _ _ _ ℕ e _ (check s a.clause.now a.hashes.now accept) t _
+      delivered = delivered-refused g.P.ProofProcessor g.T.ProofTranscriptProcessor ℕ e _ (check s a.clause.now a.hashes.now accept) t _
           h.quiet (steps-unchecked s a.redundant a.clause.now a.hashes.now) h.answer;
     })
 
@@ -40,10 +40,10 @@ returns-in_err-emit_derived-in-Ok g c =
     (λ on. told.ensures.value ∙ c.in_ok-check_clause_with_hashes.ensures.trace on)) in
     let q = err_from_is_err_and c.from_residual-in_err-emit_derived-in-Ok.result c.from_residual-in_err-emit_derived-in-Ok.ensures.1 in
     rw (q.1, q.2) (record {
-      answer = answers-fault _ _ _ _ ℕ ℕ e _ _ _ old new emitted;
+      answer = answers-fault g.P.ProofProcessor g.T.ProofTranscriptProcessor ℕ ℕ e _ _ _ old new emitted;
       id = tt;
       store = unless-stopped {A = ℕ} (Err e) c.in-Ok.ensures.store;
-      delivered = delivered-fault _ _ _ _ ℕ ℕ e _ _ old new (derived-steps s a.redundant a.clause.now a.hashes.now
+      delivered = delivered-fault g.P.ProofProcessor g.T.ProofTranscriptProcessor ℕ ℕ e _ _ old new (derived-steps s a.redundant a.clause.now a.hashes.now
           c.in_ok-check_clause_with_hashes.ensures.answer (c.in-Ok.ensures.answer c.check_clause_with_hashes.new.variables)) emitted;
     })
 
@@ -73,7 +73,7 @@ pub returns-in-Err-clause-delivered : goal.returns-in-Err-clause-delivered
 returns-in-Err-clause-delivered g c =
     let a = c.args in let s = context_state a.ctx.now in
     let fault = c.in-Err.fault in let names = c.check_clause_with_hashes.new.variables in
-    rw c.store_fault.ensures (delivered-refused _ _ _ _ ℕ (store_fault fault) _ (derived s a.redundant a.clause.now a.hashes.now) _ _
+    rw c.store_fault.ensures (delivered-refused g.P.ProofProcessor g.T.ProofTranscriptProcessor ℕ (store_fault fault) _ (derived s a.redundant a.clause.now a.hashes.now) _ _
     (quiet-unstored fault) (steps-refused s a.redundant a.clause.now a.hashes.now)
     (answers-unstored s a.redundant a.clause.now a.hashes.now c.in_ok-check_clause_with_hashes.ensures.answer
     (state_of c.store_clause.new.state c.check_clause_with_hashes.new.hasher c.store_clause.new.clauses names) fault (c.in-Err.ensures.answer names)))

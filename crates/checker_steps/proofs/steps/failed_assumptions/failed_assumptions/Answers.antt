@@ -14,17 +14,17 @@ pub returns-in-Err : goal.returns-in-Err
 returns-in-Err g c =
     let ctx = c.args.ctx.now in
     let o = core-refused (context_state ctx) _ c.args.hashes.now _ (c.as_slice-core.ensures.value ∙ c.in-Ok.ensures.items) _ (c.in-Err.ensures ctx.clause_hasher ctx.clauses) in
-    let s = answers-refuse _ _ _ _ o refl in record { step = s; kept = c.requires; delivered = quiet-refusal _ _ _ _ s.0 refl }
+    let s = answers-refuse _ _ _ _ o refl in record { step = s; kept = c.requires; delivered = quiet-refusal g.P.ProofProcessor g.T.ProofTranscriptProcessor _ _ _ _ s.0 refl }
 
 pub returns-then-has_opposites : goal.returns-then-has_opposites
 returns-then-has_opposites g c =
     let ctx = c.args.ctx.now in let told = c.emit_failed_assumptions in let list = c.as_slice-core.ensures.value ∙ c.in-Ok.ensures.items in
     let allowed = c.in_default-judge.ensures ctx.clause_hasher ctx.clauses in let opposite = ap is_tautology list ∙ sym c.in-Ok.ensures.tautology ∙ c.if-has_opposites.true in
     let o = core-opposites (context_state ctx) _ c.args.hashes.now _ list allowed opposite in record {
-      step = answers-delivers _ _ _ _ _ _ _ told.result _ _ told.ensures (answers-accept _ _ _ o refl);
+      step = answers-delivers g.P.ProofProcessor g.T.ProofTranscriptProcessor _ _ _ told.result _ _ told.ensures (answers-accept _ _ _ o refl);
       kept = unless-stopped told.result c.requires;
-      delivered = delivered-traced _ _ _ _ told.result _ _ _ _ _ c.requires.form (core-opposites-steps _ _ _ _ list allowed opposite)
-          (delivered-one _ _ _ _ _ _ _ _ told.result refl told.ensures);
+      delivered = delivered-traced g.P.ProofProcessor g.T.ProofTranscriptProcessor told.result _ _ _ _ _ c.requires.form (core-opposites-steps _ _ _ _ list allowed opposite)
+          (delivered-one g.P.ProofProcessor g.T.ProofTranscriptProcessor _ _ _ _ told.result refl told.ensures);
     }
 
 pub returns : goal.returns
@@ -36,5 +36,5 @@ returns g c =
     let o = core-checked (context_state ctx) _ c.args.hashes.now _ list allowed apart in let s = rw (← o) at checked.ensures.answer in record {
       step = s;
       kept = kept-answer checked.result _ _ _ _ _ _ _ _ _ c.requires s checked.ensures.store;
-      delivered = delivered-traced _ _ _ _ checked.result _ _ _ _ _ c.requires.form (core-traced _ _ _ _ list allowed apart) checked.ensures.delivered;
+      delivered = delivered-traced g.P.ProofProcessor g.T.ProofTranscriptProcessor checked.result _ _ _ _ _ c.requires.form (core-traced _ _ _ _ list allowed apart) checked.ensures.delivered;
     }

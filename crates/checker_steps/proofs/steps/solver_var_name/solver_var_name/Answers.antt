@@ -15,4 +15,4 @@ returns-in-Ok-clause-step g c =
     answers-accept _ _ _ (step-solver_var_name s (index_of c.args.global) (indexes_of c.args.solver)) (ap (λ ps. record s { pending = ps }) more)
 
 pub returns-in-Ok-clause-delivered : goal.returns-in-Ok-clause-delivered
-returns-in-Ok-clause-delivered g c = told-nothing _ _ (emits-accepted _ _ [] (returns-in-Ok-clause-step g c).0 refl)
+returns-in-Ok-clause-delivered g c = told-nothing g.P.ProofProcessor g.T.ProofTranscriptProcessor _ _ (emits-accepted _ _ [] (returns-in-Ok-clause-step g c).0 refl)

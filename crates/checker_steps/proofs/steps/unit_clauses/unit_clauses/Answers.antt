@@ -20,7 +20,7 @@ returns-in_err-derive g c =
     rw (q.1, q.2) (record {
       step = answer;
       kept = kept-answer {A = Unit {0}} (Err e) _ _ _ _ _ _ _ _ (unit_clauses us) c.requires answer h.store;
-      delivered = so-far-stopped far _ _ e (context_state new) (listeners_of new.processing) c.requires.form h.answer h.delivered;
+      delivered = so-far-stopped far e (context_state new) (listeners_of new.processing) c.requires.form h.answer h.delivered;
     })
 
 pub loop-lit-preserved : goal.loop-lit-preserved

@@ -57,7 +57,7 @@ returns-in_err-add_clause-clause-delivered g c = λ running.
     let q = err_from_is_err_and c.from_residual.result c.from_residual.ensures.1 in
     let p = c.clauses.invariant in
     rw (q.1, q.2)
-    (formula-stops p c.in-Some.ensures.steps _ _ _ _ _ (rw c.in_err-add_clause.was at (c.add_clause.ensures.step p.so_far.running))
+    (formula-stops p c.in-Some.ensures.steps _ _ _ (rw c.in_err-add_clause.was at (c.add_clause.ensures.step p.so_far.running))
     (rw c.in_err-add_clause.was at (c.add_clause.ensures.delivered p.so_far.running)))
 
 pub returns-clause-delivered : goal.returns-clause-delivered
