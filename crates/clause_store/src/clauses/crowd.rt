@@ -70,6 +70,29 @@ fn search(places: &[Option<Clause>], buffer: &[Lit], lits: &[Lit]) -> Option<(us
     None
 }
 
+/// The clause of a place, where it has these literals, and the place.
+fn clause_at(
+    places: &[Option<Clause>],
+    at: usize,
+    buffer: &[Lit],
+    lits: &[Lit],
+) -> Option<(usize, Clause)>
+    requires { All (λ c. IsWithin c.lits buffer.now) (standing places.now) }
+    ensures { IfSome result (λ p. IsPlaced buffer.now lits.now places.now p.0 p.1) }
+{
+    if at >= places.len() {
+        return None;
+    }
+    let Some(clause) = places[at] else {
+        return None;
+    };
+    if has_lits(&clause, buffer, lits) {
+        Some((at, clause))
+    } else {
+        None
+    }
+}
+
 /// A copy of the literals.
 fn copy_of(alloc: Global, lits: &[Lit]) -> Result<Vec<Lit>, AllocError> {
     let mut copy = Vec::with_capacity(alloc, lits.len())?;
@@ -167,12 +190,7 @@ impl Crowd {
         ensures { IfSome result (λ p. IsPlaced buffer.now lits.now self.now.places.items p.0 p.1) }
     {
         let at = *self.noted.get(lits)?;
-        let clause = (*self.places.get(at)?)?;
-        if has_lits(&clause, buffer, lits) {
-            Some((at, clause))
-        } else {
-            None
-        }
+        clause_at(&self.places, at, buffer, lits)
     }
 
     /// How many copies of the kind there are of the clause with these literals.
