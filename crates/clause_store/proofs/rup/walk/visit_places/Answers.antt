@@ -1,4 +1,4 @@
-use Rattle.std.proofs.Common.{◌+◌, ◌++◌, Some, None, drop, length, map, sym, ap, ◌∙◌, arith}
+use Rattle.std.proofs.Common.{◌≡◌, get_or, ◌+◌, ◌++◌, Some, None, drop, length, map, sym, ap, ◌∙◌, arith}
 use Rattle.std.proofs.Math.ListN.{drop_of_length-le}
 use Rattle.checker_rules.specs.Passes.{walk}
 use Rattle.clause_store.specs.Crowds.{standing}
@@ -14,21 +14,22 @@ use Rattle.clause_store.proofs.rup.walk.visit_places.Goals as goal
 
 pub visit_clause-requires-clause-within : goal.visit_clause-requires-clause-within
 visit_clause-requires-clause-within c =
-    place-all c.args.buffer.now c.args.places.now c.loop-place.place-index _ c.loop-place-test.true c.in-Some.clause c.in-Some.is
+    place-all c.args.buffer.now c.args.places.now c.loop-place.place-index _ c.loop-place-test.true c.in-Some.clause (sym c.place-item.is ∙ c.in-Some.is)
     (λ e. IsWithin e.lits c.args.buffer.now) c.requires.within
 
 pub visit_clause-requires-clause-known : goal.visit_clause-requires-clause-known
 visit_clause-requires-clause-known c =
-    rw c.loop-place.invariant.undoable.known (place-all c.args.buffer.now c.args.places.now c.loop-place.place-index _ c.loop-place-test.true c.in-Some.clause c.in-Some.is
+    rw c.loop-place.invariant.undoable.known (place-all c.args.buffer.now c.args.places.now c.loop-place.place-index _ c.loop-place-test.true c.in-Some.clause (sym c.place-item.is ∙ c.in-Some.is)
     (λ e. AreKnown c.args.units.now (lits_of e.lits c.args.buffer.now)) c.requires.known)
 
 pub loop-place-preserved : goal.loop-place-preserved
 loop-place-preserved c =
+    let is : get_or c.args.places.now c.loop-place.place-index c.place-item.result ≡ Some c.in-Some.clause = sym c.place-item.is ∙ c.in-Some.is in
     let v = c.loop-place.invariant in let given = c.in_ok-visit_clause.ensures in let longer = given.lengthens c.if-branch.false in
     record {
-      same = place-walked c.args.buffer.now c.args.places.now c.loop-place.place-index _ c.loop-place-test.true c.in-Some.clause c.in-Some.is
+      same = place-walked c.args.buffer.now c.args.places.now c.loop-place.place-index _ c.loop-place-test.true c.in-Some.clause is
           c.loop-place.units c.visit_clause.new.units _ (rw c.if-branch.false at given.ok) v.same;
-      listed = λ rest. sym (place-listed c.args.buffer.now c.args.places.now c.loop-place.place-index _ c.loop-place-test.true c.in-Some.clause c.in-Some.is
+      listed = λ rest. sym (place-listed c.args.buffer.now c.args.places.now c.loop-place.place-index _ c.loop-place-test.true c.in-Some.clause is
           _ _ c.loop-place.units c.visit_clause.new.units rest _ (rw c.if-branch.false at given.listed)) ∙ v.listed rest;
       lengthens = record { units = lengthens_then _ _ _ _ _ _ v.lengthens.units longer.units; ids = lengthens_then _ _ _ _ _ _ v.lengthens.ids longer.ids };
       undoable = is_undoable_then _ _ _ _ _ _ v.undoable c.visit_clause.ensures.undoable;
@@ -38,7 +39,7 @@ loop-place-preserved c =
 pub loop-place-preserved-in_default : goal.loop-place-preserved-in_default
 loop-place-preserved-in_default c =
     let v = c.loop-place.invariant in
-    let free = sym (place-free c.args.buffer.now c.args.places.now c.loop-place.place-index _ c.loop-place-test.true c.in_default.is) in
+    let free = sym (place-free c.args.buffer.now c.args.places.now c.loop-place.place-index _ c.loop-place-test.true (sym c.place-item.is ∙ c.in_default.is)) in
     record {
       same = ap (λ cs. walk (true_lits c.loop-place.units) (lits_in c.args.buffer.now cs)) free ∙ v.same;
       listed = λ rest. ap (λ cs. ids_after c.loop-place.run.trace.items c.loop-place.units (map (stored_of c.args.buffer.now) cs ++ rest)) free ∙ v.listed rest;
@@ -49,12 +50,13 @@ loop-place-preserved-in_default c =
 
 pub returns-then-branch-clause-ok : goal.returns-then-branch-clause-ok
 returns-then-branch-clause-ok c =
-    place-falsified c.args.buffer.now c.args.places.now c.loop-place.place-index _ c.loop-place-test.true c.in-Some.clause c.in-Some.is
+    place-falsified c.args.buffer.now c.args.places.now c.loop-place.place-index _ c.loop-place-test.true c.in-Some.clause (sym c.place-item.is ∙ c.in-Some.is)
     c.loop-place.units c.visit_clause.new.units _ (rw c.if-branch.true at c.in_ok-visit_clause.ensures.ok) c.loop-place.invariant.same
 
 pub returns-then-branch-clause-listed : goal.returns-then-branch-clause-listed
 returns-then-branch-clause-listed c rest =
-    sym (c.loop-place.invariant.listed rest) ∙ place-listed c.args.buffer.now c.args.places.now c.loop-place.place-index _ c.loop-place-test.true c.in-Some.clause c.in-Some.is
+    let is : get_or c.args.places.now c.loop-place.place-index c.place-item.result ≡ Some c.in-Some.clause = sym c.place-item.is ∙ c.in-Some.is in
+    sym (c.loop-place.invariant.listed rest) ∙ place-listed c.args.buffer.now c.args.places.now c.loop-place.place-index _ c.loop-place-test.true c.in-Some.clause is
     _ _ c.loop-place.units c.visit_clause.new.units rest _ (rw c.if-branch.true at c.in_ok-visit_clause.ensures.listed)
 
 pub returns-clause-ok : goal.returns-clause-ok
