@@ -83,7 +83,7 @@ clauses_in es = flat_map clauses_of (values_of es)
 module _ (buffer old new : List ℕ) (m moved moved' : Buckets) (hash : ℕ) (b : Bucket) (rest : List (ℕ × Bucket))
     (within : AreWithin old moved) (kept : take (length old) new ≡ old)
     (others : (k : ℕ) → (k ≡ hash → ⊥) → clauses_at moved' k ≡ clauses_at moved k) where
-  pub bucket-same : get nat_eq m hash ≡ Some b → stored_in new moved' hash ≡ map (stored_of buffer) clauses_of b →
+  pub bucket-same : get nat_eq m hash ≡ Some b → stored_in new moved' hash ≡ map (stored_of buffer) (clauses_of b) →
       ((k : ℕ) → lookup (nat_eq k) ((hash, b) ∷ rest) ≡ None → stored_in old moved k ≡ stored_in buffer m k) →
       (k : ℕ) → lookup (nat_eq k) rest ≡ None → stored_in new moved' k ≡ stored_in buffer m k
   bucket-same found here same k none =
@@ -95,13 +95,13 @@ module _ (buffer old new : List ℕ) (m moved moved' : Buckets) (hash : ℕ) (b 
   pub bucket-within : length old ≤ length new → All (λ c. IsWithin c.lits new) (clauses_at moved' hash) → AreWithin new moved'
   bucket-within longer here = within_others new moved moved' hash (λ k i c l. let w = within k i c l in omega arith) here others
 
-  pub bucket-used : (before : ℕ) → length new ≡ length old + live_literals (map (stored_of buffer) clauses_of b) →
+  pub bucket-used : (before : ℕ) → length new ≡ length old + live_literals (map (stored_of buffer) (clauses_of b)) →
       length old + live_literals (map (stored_of buffer) (clauses_in ((hash, b) ∷ rest))) ≡ before →
       length new + live_literals (map (stored_of buffer) (clauses_in rest)) ≡ before
   bucket-used before grown used =
       let parts : live_literals (map (stored_of buffer) (clauses_in ((hash, b) ∷ rest))) ≡
-      live_literals (map (stored_of buffer) clauses_of b) + live_literals (map (stored_of buffer) (clauses_in rest)) =
-      cc (map-append (stored_of buffer) clauses_of b (clauses_in rest), live_literals-append (map (stored_of buffer) clauses_of b) (map (stored_of buffer) (clauses_in rest))) in
+      live_literals (map (stored_of buffer) (clauses_of b)) + live_literals (map (stored_of buffer) (clauses_in rest)) =
+      cc (map-append (stored_of buffer) (clauses_of b) (clauses_in rest), live_literals-append (map (stored_of buffer) (clauses_of b)) (map (stored_of buffer) (clauses_in rest))) in
       omega arith
 
 -- new buckets hold the clauses by their hashes, where they were made of the same clauses

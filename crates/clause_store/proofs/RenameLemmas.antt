@@ -60,7 +60,7 @@ module _ (f g : ℕ → Option ℕ) where
   of_hash-agree counts width k agree [] held = refl
   of_hash-agree counts width k agree (e ∷ es) held =
       let rest = of_hash-agree counts width k agree es (λ l. let n = held l in omega (arith, n)) in
-      let xor = xor_hash-agree e.lits (λ m h. agree m (let n = held m in let one = ap (λ b. cond b 1 0) h in omega (arith, n, one))) in
+      let xor = xor_hash-agree e.lits (λ m h. agree m (let n = held m in let one : cond (has m e.lits) 1 0 ≡ 1 = ap {B = ℕ} (λ b. cond b 1 0) h in omega (arith, n, one))) in
       let same : clause_hash f width e.lits ≡ clause_hash g width e.lits = cc (clause_hash-is f width e.lits, clause_hash-is g width e.lits, xor) in
       cc (same, rest)
 

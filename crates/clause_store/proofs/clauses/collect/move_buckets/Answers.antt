@@ -19,11 +19,11 @@ use Rattle.clause_store.proofs.clauses.collect.move_buckets.Goals as goal
 
 -- what the store says of each clause is true of those of a bucket that is found
 within_found : (h : ClauseHasher) (cs : Clauses) → IsIndexed h cs (stored_list cs) → (hash : ℕ) (b : Bucket) →
-    get nat_eq cs.buckets hash ≡ Some b → All (λ (d : Clause). IsWithin d.lits cs.literal_buffer.items) clauses_of b
+    get nat_eq cs.buckets hash ≡ Some b → All (λ (d : Clause). IsWithin d.lits cs.literal_buffer.items) (clauses_of b)
 within_found h cs f hash b found = subst (λ o. All (λ d. IsWithin d.lits cs.literal_buffer.items) (bucket_items o)) found (f.within hash)
 
 long_found : (h : ClauseHasher) (cs : Clauses) → IsIndexed h cs (stored_list cs) → (hash : ℕ) (b : Bucket) →
-    get nat_eq cs.buckets hash ≡ Some b → All (λ (d : Clause). 1 < length (lits_of d.lits cs.literal_buffer.items)) clauses_of b
+    get nat_eq cs.buckets hash ≡ Some b → All (λ (d : Clause). 1 < length (lits_of d.lits cs.literal_buffer.items)) (clauses_of b)
 long_found h cs f hash b found =
     long_all _ _
     (cc (whole-bucket h cs (stored_list cs) f hash))
@@ -52,17 +52,13 @@ pub move_bucket-requires-clause-within : goal.move_bucket-requires-clause-within
 move_bucket-requires-clause-within c =
     let cs = c.args.clauses.now in let l = c.loop-hash in let x = c.in-Some.bucket.now in
     let found = head_found cs _ _ _ x l.invariant.found c.in-Some.ensures.steps in
-    subst (λ b. All (λ d. IsWithin d.lits b) c.as_slice.result.now) (cc)
-    (subst (All (λ d. IsWithin d.lits cs.literal_buffer.items)) (cc)
-    (within_found _ cs c.requires.1 _ x found))
+    subst (λ b. All (λ d. IsWithin d.lits b) (clauses_of x)) (sym c.as_slice-buffer.ensures.value) (within_found _ cs c.requires.1 _ x found)
 
 pub move_bucket-requires-clause-long : goal.move_bucket-requires-clause-long
 move_bucket-requires-clause-long c =
     let cs = c.args.clauses.now in let l = c.loop-hash in let x = c.in-Some.bucket.now in
     let found = head_found cs _ _ _ x l.invariant.found c.in-Some.ensures.steps in
-    subst (λ b. All (λ d. 1 < length (lits_of d.lits b)) c.as_slice.result.now) (cc)
-    (subst (All (λ d. 1 < length (lits_of d.lits cs.literal_buffer.items))) (cc)
-    (long_found _ cs c.requires.1 _ x found))
+    subst (λ b. All (λ d. 1 < length (lits_of d.lits b)) (clauses_of x)) (sym c.as_slice-buffer.ensures.value) (long_found _ cs c.requires.1 _ x found)
 
 pub loop-hash-preserved : goal.loop-hash-preserved
 loop-hash-preserved c =
@@ -72,8 +68,8 @@ loop-hash-preserved c =
     let step : l.hash-iterator ≡ (hash, x) ∷ left = c.in-Some.ensures.steps in
     let found = head_found cs l.hash-iterator left hash x v.found step in
     let e = c.in_ok-bucket.ensures in let p = c.in_ok-put_bucket.ensures in let moved = c.put_bucket.new.buckets in
-    let read : map (stored_of c.as_slice-buffer.result.now) c.as_slice.result.now ≡ map (stored_of b) (clauses_of x) =
-    cc in
+    let read : map (stored_of c.as_slice-buffer.result.now) (clauses_of x) ≡ map (stored_of b) (clauses_of x) =
+    ap (λ u. map (stored_of u) (clauses_of x)) c.as_slice-buffer.ensures.value in
     let grown : length new ≡ length old + live_literals (map (stored_of b) (clauses_of x)) = cc in
     let longer : length old ≤ length new = omega arith in
     record {

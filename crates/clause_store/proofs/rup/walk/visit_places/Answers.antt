@@ -1,4 +1,4 @@
-use Rattle.std.proofs.Common.{◌≡◌, get_or, ◌+◌, ◌++◌, Some, None, drop, length, map, sym, ap, ◌∙◌, arith}
+use Rattle.std.proofs.Common.{◌≡◌, true, false, get_or, ◌+◌, ◌++◌, Some, None, drop, length, map, sym, ap, ◌∙◌, arith}
 use Rattle.std.proofs.Math.ListN.{drop_of_length-le}
 use Rattle.checker_rules.specs.Passes.{walk}
 use Rattle.clause_store.specs.Crowds.{standing}
@@ -30,7 +30,7 @@ loop-place-preserved c =
       same = place-walked c.args.buffer.now c.args.places.now c.loop-place.place-index _ c.loop-place-test.true c.in-Some.clause is
           c.loop-place.units c.visit_clause.new.units _ (rw c.if-branch.false at given.ok) v.same;
       listed = λ rest. sym (place-listed c.args.buffer.now c.args.places.now c.loop-place.place-index _ c.loop-place-test.true c.in-Some.clause is
-          _ _ c.loop-place.units c.visit_clause.new.units rest _ (rw c.if-branch.false at given.listed)) ∙ v.listed rest;
+          c.loop-place.run.trace.items c.visit_clause.new.run.trace.items c.loop-place.units c.visit_clause.new.units rest false (rw c.if-branch.false at given.listed)) ∙ v.listed rest;
       lengthens = record { units = lengthens_then _ _ _ _ _ _ v.lengthens.units longer.units; ids = lengthens_then _ _ _ _ _ _ v.lengthens.ids longer.ids };
       undoable = is_undoable_then _ _ _ _ _ _ v.undoable c.visit_clause.ensures.undoable;
       idle = c.visit_clause.ensures.idle ∙ v.idle;
@@ -57,7 +57,7 @@ pub returns-then-branch-clause-listed : goal.returns-then-branch-clause-listed
 returns-then-branch-clause-listed c rest =
     let is : get_or c.args.places.now c.loop-place.place-index c.place-item.result ≡ Some c.in-Some.clause = sym c.place-item.is ∙ c.in-Some.is in
     sym (c.loop-place.invariant.listed rest) ∙ place-listed c.args.buffer.now c.args.places.now c.loop-place.place-index _ c.loop-place-test.true c.in-Some.clause is
-    _ _ c.loop-place.units c.visit_clause.new.units rest _ (rw c.if-branch.true at c.in_ok-visit_clause.ensures.listed)
+    c.loop-place.run.trace.items c.visit_clause.new.run.trace.items c.loop-place.units c.visit_clause.new.units rest true (rw c.if-branch.true at c.in_ok-visit_clause.ensures.listed)
 
 pub returns-clause-ok : goal.returns-clause-ok
 returns-clause-ok c =
