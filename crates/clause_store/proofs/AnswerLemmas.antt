@@ -1,6 +1,6 @@
 -- What storing a clause answers, in the words of the rules.
-use Rattle.std.proofs.Common.{◌≡◌, ℕ, ◌+◌, ◌<◌, ◌≤◌, Bool, true, false, cond, not, ◌&&◌, ◌||◌, ltb, leb, List, [], ◌∷◌}
-use Rattle.std.proofs.Common.{set, Some, None, Result, Ok, Err, IfErr, OnErr, OnOk, refl, sym, ap, ◌∙◌, subst, arith}
+use Rattle.std.proofs.Common.{◌≡◌, ℕ, ◌+◌, ◌<◌, ◌≤◌, Bool, true, false, not, ◌&&◌, ltb, leb, List, [], ◌∷◌}
+use Rattle.std.proofs.Common.{set, Some, None, Result, Ok, Err, IfErr, OnErr, OnOk, refl, ap, subst, arith}
 use Rattle.std.specs.List.{list_all}
 use Rattle.std.specs.Result.{OkIff}
 use Rattle.std.proofs.lemmas.Bool.{and_parts, false_from_ne_true, not-true}
@@ -8,9 +8,9 @@ use Rattle.std.proofs.lemmas.Bool.Decides.{nat_tests}
 use Rattle.sat_rules.specs.Clauses.{is_negative, var_of}
 use Rattle.checker_rules.specs.Canonical.{same_list}
 use Rattle.checker_rules.specs.DeleteClause.{is_short}
-use Rattle.checker_rules.specs.Outcome.{Outcome, accept, and_then, count_exhausted, ids_exhausted, refuse}
+use Rattle.checker_rules.specs.Outcome.{Outcome, accept, count_exhausted, ids_exhausted, refuse}
 use Rattle.checker_rules.specs.State.{State, Stored, StoredUnit, makes_true, same_bool, unit_of}
-use Rattle.checker_rules.specs.Store.{count_limit, count_of, counters, id_limit, is_gone, is_stored, stands, store_unit, unit_id}
+use Rattle.checker_rules.specs.Store.{count_limit, count_of, counters, id_limit, is_gone, is_stored, stands}
 use Rattle.checker_rules.proofs.Sets.{same_list-eq}
 use Rattle.clause_store.specs.declared.clauses.StoreClauseResult.{StoreClauseResult}
 use Rattle.clause_store.specs.declared.clauses.StoreClauseResult.TheVariants.{New, Duplicate}

@@ -21,7 +21,7 @@ use Rattle.clause_store.specs.StateOf.{stored_units}
 use Rattle.clause_store.specs.Units.{lit_value, number_of}
 use Rattle.clause_store.specs.Trace.{AreStored, unlisted_lits}
 use Rattle.clause_store.proofs.TraceLemmas.{unlisted_lits-at_rest, unlisted_lits-set}
-use Rattle.clause_store.proofs.UnitsLemmas.{falsity, true_lits-falsity, true_lits-set, true_lits-truth, truth}
+use Rattle.clause_store.proofs.UnitsLemmas.{true_lits-falsity, true_lits-set, true_lits-truth, truth}
 
 -- a literal of the list has a known variable
 pub known-at : (c : List ℕ) (i m n : ℕ) → var_bound c ≤ n → i < length c → m ≡ get_or c i m → var_of m < n

@@ -1,5 +1,5 @@
 -- The answer of the check is that of the rules.
-use Rattle.std.proofs.Common.{◌≡◌, ℕ, ◌≤◌, Bool, true, false, not, cond, leb, List, [], ◌∷◌, ◌++◌, length, map, filter, Option, All, refl, sym, ap, ◌∙◌, subst}
+use Rattle.std.proofs.Common.{◌≡◌, ℕ, ◌≤◌, Bool, true, false, not, cond, List, [], ◌∷◌, length, map, filter, Option, All, refl, sym, ◌∙◌}
 use Rattle.std.specs.List.{list_all}
 use Rattle.std.specs.Option.{option_map}
 use Rattle.std.proofs.lemmas.Bool.{and_from, and_parts, leb-true}
@@ -9,7 +9,7 @@ use Rattle.sat_rules.specs.Clauses.{is_canonical, is_tautology}
 use Rattle.checker_rules.specs.Canonical.{var_bound}
 use Rattle.checker_rules.specs.DeleteClause.{is_short}
 use Rattle.checker_rules.specs.Exact.{AllCanonical, walk_check}
-use Rattle.checker_rules.specs.State.{Known, State, Stored, all_lits, bucket, buckets}
+use Rattle.checker_rules.specs.State.{Known, State, Stored, bucket, buckets}
 use Rattle.checker_rules.specs.Store.{is_gone}
 use Rattle.checker_rules.specs.Traced.{bucket_entries, walked}
 use Rattle.checker_rules.specs.WellFormed.{WellFormed, is_fine}
@@ -26,7 +26,7 @@ use Rattle.clause_store.specs.CheckLaw.{AnswersCheck, CheckIsByRules}
 use Rattle.clause_store.specs.Lits.{lits_of}
 use Rattle.clause_store.specs.Rup.{AreAllKnown, check_answer, clause_answer, named_buckets}
 use Rattle.clause_store.specs.StateOf.{IsBucketed, state_of, stored_unit, stored_units}
-use Rattle.clause_store.specs.Trace.{clause_trace, named_clauses}
+use Rattle.clause_store.specs.Trace.{named_clauses}
 use Rattle.clause_store.specs.Units.{AreKnown}
 use Rattle.clause_store.specs.View.{stored_list, stored_of}
 

@@ -8,7 +8,7 @@ use Rattle.checker_rules.specs.Canonical.{same_list}
 use Rattle.checker_rules.specs.DeleteClause.{is_short}
 use Rattle.checker_rules.specs.LiveLiterals.{live_literals, live_of}
 use Rattle.checker_rules.specs.State.{Stored}
-use Rattle.checker_rules.specs.Store.{count_of, id_among, is_gone, is_stored, lower}
+use Rattle.checker_rules.specs.Store.{count_of, is_gone, is_stored, lower}
 use Rattle.checker_rules.specs.WellFormed.{are_apart}
 use Rattle.checker_rules.proofs.Buckets.{buckets_serve}
 use Rattle.checker_rules.proofs.Deletions.{lower-lits}
@@ -24,7 +24,7 @@ use Rattle.clause_store.specs.Counts.{AreCounts, HoldOneMore, times_held}
 use Rattle.clause_store.specs.Lowered.{IsLeft, IsLowered, IsMissing, is_gone as is_none_left}
 use Rattle.clause_store.specs.StateOf.{hash_of}
 use Rattle.clause_store.specs.Store.{IsIndexed, is_whole}
-use Rattle.clause_store.specs.View.{stored_at, stored_in, stored_of}
+use Rattle.clause_store.specs.View.{stored_at}
 use Rattle.clause_store.proofs.EditLemmas.{here_or_there, not_equal, within_others}
 use Rattle.clause_store.proofs.FoundLemmas.{count_of-absent, lower-absent, lower-other, remaining-whole}
 use Rattle.clause_store.proofs.StoreLemmas.{count_of-bucket}

@@ -1,10 +1,9 @@
 -- What deleting a copy of a clause answers.
-use Rattle.std.proofs.Common.{◌≡◌, ℕ, ◌-◌, ◌*◌, ◌<◌, ◌≤◌, Bool, true, false, cond, not, eqb, List, length, map, sym, ap, ◌∙◌, subst, arith}
-use Rattle.std.specs.List.{list_all}
+use Rattle.std.proofs.Common.{◌≡◌, ℕ, ◌*◌, ◌<◌, ◌≤◌, Bool, true, false, cond, eqb, List, length, map, ◌∙◌, arith}
 use Rattle.std.proofs.lemmas.Grind.{common_steps}
 use Rattle.checker_rules.specs.Buckets.{remaining}
 use Rattle.checker_rules.specs.DeleteClause.{delete_copy, delete_justified, is_short}
-use Rattle.checker_rules.specs.Outcome.{Outcome, accept, delete_irredundant_is_redundant, delete_redundant_is_irredundant, delete_unit_or_empty, delete_unknown, refuse}
+use Rattle.checker_rules.specs.Outcome.{Outcome, accept, delete_irredundant_is_redundant, delete_redundant_is_irredundant, delete_unknown, refuse}
 use Rattle.checker_rules.specs.State.{Known, State, Stored}
 use Rattle.checker_rules.specs.Store.{count_of, is_stored, lower}
 use Rattle.clause_store.specs.declared.clauses.Clauses.{Clauses}
@@ -16,7 +15,7 @@ use Rattle.clause_store.specs.Delete.{Deletes, deleted_as}
 use Rattle.clause_store.specs.Edits.{KeepsRest}
 use Rattle.clause_store.specs.Lowered.{IsLeft}
 use Rattle.clause_store.specs.StateOf.{state_of, stored_units}
-use Rattle.clause_store.specs.Store.{IsIndexed, IsStore, is_stored_unit}
+use Rattle.clause_store.specs.Store.{IsIndexed, IsStore}
 use Rattle.clause_store.specs.View.{stored_list}
 use Rattle.clause_store.proofs.DeleteLemmas.{stored_with-copy}
 use Rattle.clause_store.proofs.EditLemmas.{is_store-by, stored_list-is}

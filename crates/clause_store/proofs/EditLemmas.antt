@@ -22,7 +22,7 @@ use Rattle.clause_store.specs.Edits.{IsPushed, IsRaised}
 use Rattle.clause_store.specs.Lits.{IsWithin}
 use Rattle.clause_store.specs.StateOf.{hash_of}
 use Rattle.clause_store.specs.Store.{IsIndexed, IsStore, is_stored_unit, is_whole}
-use Rattle.clause_store.specs.View.{stored_at, stored_in, stored_list, stored_of}
+use Rattle.clause_store.specs.View.{stored_list}
 use Rattle.clause_store.proofs.HeldEdits.{counts-pushed}
 use Rattle.clause_store.proofs.ViewLemmas.{above_from, list_is}
 

@@ -1,6 +1,6 @@
 -- The clauses of all buckets, sorted by their ids, are the stored list.
 use Rattle.std.proofs.Common.{◌≡◌, ℕ, zero, suc, ◌<◌, Less, Equal, Greater, Bool, true, false, cond, not, ◌||◌, eqb}
-use Rattle.std.proofs.Common.{ltb, List, [], ◌∷◌, ◌++◌, length, get_or, map, refl, sym, ap, ◌∙◌, subst, arith, inl, inr}
+use Rattle.std.proofs.Common.{ltb, List, [], ◌∷◌, ◌++◌, length, get_or, map, refl, sym, arith, inl, inr}
 use Rattle.std.specs.List.{AllByRecursion, Contains, IsDistinct, filter, flat_map, list_all, list_any}
 use Rattle.std.specs.List.Sorted.{IsNonDecreasing, IsPermutation, IsStrictlySortedBy}
 use Rattle.std.specs.Ordering.{nat_cmp}

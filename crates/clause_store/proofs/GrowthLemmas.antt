@@ -14,7 +14,7 @@ use Rattle.clause_store.specs.Counts.{AreCounts}
 use Rattle.clause_store.specs.Growth.{KnowsVars}
 use Rattle.clause_store.specs.Store.{IsIndexed, IsStore, is_stored_unit}
 use Rattle.clause_store.specs.View.{stored_list}
-use Rattle.clause_store.specs.StateOf.{state_of, stored_unit, stored_units}
+use Rattle.clause_store.specs.StateOf.{stored_unit, stored_units}
 use Rattle.clause_store.proofs.HeldEdits.{counts-known}
 
 map-free : (n : ℕ) → map (option_map stored_unit) (replicate n None) ≡ replicate n None

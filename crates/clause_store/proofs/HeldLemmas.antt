@@ -1,6 +1,6 @@
 -- The counts of the clauses that hold each literal.
 use Rattle.std.proofs.Common.{◌≡◌, ◌≢◌, ℕ, zero, suc, ◌+◌, ◌-◌, ◌*◌, ◌<◌, ◌||◌, Bool, true, false, cond, eqb, ltb, List, [], ◌∷◌, ◌++◌, length}
-use Rattle.std.proofs.Common.{get_or, set, take, drop, refl, sym, ap, ◌∙◌, subst, arith, eq-eqb, ltb-true, ⊎_elim, get_or-set_other, get_or-set_same}
+use Rattle.std.proofs.Common.{get_or, set, take, drop, refl, ap, ◌∙◌, arith, eq-eqb, ltb-true, ⊎_elim, get_or-set_other, get_or-set_same}
 use Rattle.std.specs.List.{list_all}
 use Rattle.std.proofs.Math.ListN.{get_or-eq_default}
 use Rattle.std.proofs.Math.Seq.{take-append_seam}

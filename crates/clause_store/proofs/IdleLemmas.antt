@@ -1,6 +1,6 @@
 -- Buckets that are looked up, and walked as long as that changes something.
 use Rattle.std.proofs.Common.{◌≡◌, ℕ, ◌+◌, ◌<◌, nat_eq, Bool, true, false, cond, List, drop, get_or, length, map, Option}
-use Rattle.std.proofs.Common.{None, Some, Result, Ok, Err, OnOk, OnErr, refl, sym, ap, ◌∙◌, subst, arith}
+use Rattle.std.proofs.Common.{None, Some, Result, Ok, Err, OnOk, OnErr, refl, sym, ◌∙◌, subst, arith}
 use Rattle.std.specs.HashMap.{get}
 use Rattle.std.proofs.lemmas.Bool.{eqb-true}
 use Rattle.std.proofs.lemmas.List.{drop_more}
@@ -9,7 +9,6 @@ use Rattle.clause_store.specs.declared.clauses.Clause.{Clause}
 use Rattle.clause_store.specs.declared.clauses.buckets.Bucket.{Bucket}
 use Rattle.clause_store.specs.declared.clauses.units.UnitClause.{UnitClause}
 use Rattle.clause_store.specs.declared.rup.Answer.{Answer}
-use Rattle.clause_store.specs.declared.rup.idle.IdleBuckets.{IdleBuckets}
 use Rattle.clause_store.specs.declared.rup.propagation.Propagation.{Propagation}
 use Rattle.clause_store.specs.Buckets.{Buckets, clauses_at, clauses_of}
 use Rattle.clause_store.specs.Idle.{AreIdle, IsIdleRun, IsIdleSince, Lengthens, LengthensRun, idle_at}

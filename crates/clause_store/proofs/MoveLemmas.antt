@@ -1,5 +1,5 @@
 -- Clauses moved to another buffer.
-use Rattle.std.proofs.Common.{◌≡◌, ℕ, zero, suc, ◌+◌, ◌<◌, ◌≤◌, true, false, cond, not, nat_eq, List, [], ◌∷◌, ◌++◌, length, get_or, take, map, Some, None, All, refl, sym, ap, ◌∙◌, arith, ⊎_elim}
+use Rattle.std.proofs.Common.{◌≡◌, ℕ, zero, suc, ◌+◌, ◌<◌, ◌≤◌, true, false, cond, not, nat_eq, List, [], ◌∷◌, ◌++◌, length, take, map, Some, None, All, refl, ap, ◌∙◌, arith, ⊎_elim}
 use Rattle.std.specs.HashMap.{get}
 use Rattle.std.specs.List.{flat_map, list_all, sum_by}
 use Rattle.std.specs.List.Sorted.{IsPermutation}

@@ -1,19 +1,18 @@
 -- A clause that was found in its place: what one copy more or less makes of the stored clauses.
-use Rattle.std.proofs.Common.{◌≡◌, ℕ, suc, ◌+◌, ◌<◌, Bool, true, false, ◌||◌, List, [], ◌∷◌, ◌++◌, length, get_or, take, drop, set, map, Option, Some, None, All, sym, ap, ◌∙◌, subst, arith}
+use Rattle.std.proofs.Common.{◌≡◌, ℕ, suc, ◌+◌, ◌<◌, Bool, true, false, List, [], ◌∷◌, ◌++◌, length, get_or, take, drop, set, map, Option, Some, None, All, ap, ◌∙◌}
 use Rattle.std.specs.List.{list_all}
 use Rattle.std.proofs.lemmas.Bool.{or_parts}
 use Rattle.std.proofs.lemmas.List.{map-append}
 use Rattle.std.proofs.lemmas.List.Elements.{All-append, All-drop, All-set, All-take}
-use Rattle.checker_rules.specs.Buckets.{remaining}
 use Rattle.checker_rules.specs.Canonical.{same_list}
 use Rattle.checker_rules.specs.State.{Stored}
-use Rattle.checker_rules.specs.Store.{count_of, is_gone, is_stored, lower, raise}
+use Rattle.checker_rules.specs.Store.{count_of, is_gone, is_stored, raise}
 use Rattle.checker_rules.specs.WellFormed.{are_apart}
 use Rattle.clause_store.specs.declared.clauses.Clause.{Clause}
 use Rattle.clause_store.specs.Buckets.{copies_of, is_of, raised}
 use Rattle.clause_store.specs.Crowds.{IsPlaced, standing}
 use Rattle.clause_store.specs.Found.{found_in}
-use Rattle.clause_store.specs.Lits.{IsWithin, lits_of}
+use Rattle.clause_store.specs.Lits.{IsWithin}
 use Rattle.clause_store.specs.Lowered.{IsLeft, IsLoweredIn, left_of, lowered}
 use Rattle.clause_store.specs.Store.{is_whole}
 use Rattle.clause_store.specs.View.{stored_of}

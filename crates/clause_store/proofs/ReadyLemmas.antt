@@ -1,12 +1,11 @@
 -- The state in which a clause is checked, and the outcome of the check.
-use Rattle.std.proofs.Common.{◌≡◌, ℕ, Bool, true, false, cond, List, length, Option, refl, sym, ap, ◌∙◌, subst}
-use Rattle.std.specs.Option.{option_map}
+use Rattle.std.proofs.Common.{◌≡◌, ℕ, Bool, true, false, cond, List, length, Option, refl, subst}
 use Rattle.std.proofs.lemmas.List.{length-map}
 use Rattle.sat_rules.specs.Clauses.{is_tautology}
 use Rattle.checker_rules.specs.Check.{apply_if_named, apply_pending, check, ready, some_pending_name}
 use Rattle.checker_rules.specs.Outcome.{accept, at_check_failed, no_clause_for_hash, refuse}
 use Rattle.checker_rules.specs.Passes.{none_empty}
-use Rattle.checker_rules.specs.State.{Known, State, StoredUnit, buckets, clause_passes}
+use Rattle.checker_rules.specs.State.{Known, State, buckets, clause_passes}
 use Rattle.checker_rules.specs.Traced.{check_trace}
 use Rattle.checker_rules.specs.WellFormed.{WellFormed}
 use Rattle.checker_rules.proofs.StepForms.{form-ready}
@@ -18,7 +17,7 @@ use Rattle.clause_store.specs.declared.rup.Answer.{Answer}
 use Rattle.clause_store.specs.declared.rup.Answer.TheVariants.{Passed}
 use Rattle.clause_store.specs.CheckLaw.{AnswersCheck}
 use Rattle.clause_store.specs.Rup.{AreAllKnown, check_answer, clause_answer, named_buckets}
-use Rattle.clause_store.specs.StateOf.{state_of, stored_unit, stored_units}
+use Rattle.clause_store.specs.StateOf.{state_of, stored_units}
 use Rattle.clause_store.specs.Store.{IsStore}
 use Rattle.clause_store.specs.Trace.{clause_trace, last_trace, named_clauses}
 use Rattle.clause_store.proofs.CheckLemmas.{check_is_by_rules}

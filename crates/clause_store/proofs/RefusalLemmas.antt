@@ -1,12 +1,11 @@
 -- Refusals, and what follows for the parts of a checker.
 use Rattle.std.specs.Result.{OnErr, OnOk}
-use Rattle.std.proofs.Common.{◌≡◌, List, None, Some, Result, Ok, Err, sym, ap, ◌∙◌, subst}
+use Rattle.std.proofs.Common.{◌≡◌, List, None, Some, Result, Ok, Err}
 use Rattle.checker_rules.specs.Outcome.{Cause, Outcome, refuse}
 use Rattle.checker_rules.specs.State.{Known, State}
 use Rattle.checker_rules.specs.Step.{Step}
 use Rattle.checker_rules.specs.Steps.{step}
 use Rattle.checker_rules.specs.WellFormed.{WellFormed}
-use Rattle.checker_parts.specs.Causes.{cause_of}
 use Rattle.checker_parts.specs.Faults.{AnswersOutcome, UnlessStopped}
 use Rattle.checker_parts.specs.declared.error.StepFault.{StepFault}
 use Rattle.checker_parts.specs.declared.error.StepFault.TheVariants.{Refused, Processor, OutOfMemory}

@@ -1,17 +1,16 @@
 -- Clauses whose hashes stay where variables are named anew.
-use Rattle.std.proofs.Common.{◌≡◌, ℕ, ◌+◌, ◌*◌, ◌≤◌, ◌<◌, Bool, true, false, cond, ◌||◌, eqb, ltb, List, [], ◌∷◌, get_or, Option, ⊎_elim, refl, sym, ap, ◌∙◌, subst, arith}
-use Rattle.std.specs.List.{filter, list_any}
+use Rattle.std.proofs.Common.{◌≡◌, ℕ, ◌+◌, ◌*◌, ◌≤◌, Bool, true, false, cond, ◌||◌, eqb, ltb, List, [], ◌∷◌, get_or, Option, ⊎_elim, refl, sym, ap, ◌∙◌, arith}
 use Rattle.std.proofs.lemmas.Bool.{cases_eq, eqb-true, ltb-false, or_parts}
 use Rattle.std.proofs.lemmas.Bool.Decides.{nat_tests}
 use Rattle.sat_rules.specs.Clauses.{has, var_of}
 use Rattle.checker_rules.specs.Buckets.{of_hash}
 use Rattle.checker_rules.specs.Check.{apply_name}
-use Rattle.checker_rules.specs.State.{Stored, clause_hash, named_hash, xor_hash}
+use Rattle.checker_rules.specs.State.{Stored, clause_hash, xor_hash}
 use Rattle.clause_store.specs.declared.clauses.Clauses.{Clauses}
 use Rattle.clause_store.specs.declared.hash.ClauseHasher.{ClauseHasher}
 use Rattle.clause_store.specs.Counts.{times_held}
 use Rattle.clause_store.specs.Names.{AgreeOnHeld}
-use Rattle.clause_store.specs.StateOf.{applied_of, hash_of}
+use Rattle.clause_store.specs.StateOf.{applied_of}
 use Rattle.clause_store.specs.Store.{IsIndexed, IsStore}
 use Rattle.clause_store.specs.View.{stored_list}
 use Rattle.clause_store.proofs.EditLemmas.{is_store-by}

@@ -1,5 +1,5 @@
 -- What follows from a clause, literal by literal.
-use Rattle.std.proofs.Common.{◌≡◌, ℕ, zero, suc, [], arith, ◌+◌, ◌<◌, Bool, false, cond, List, ◌∷◌, length, drop, get_or, Option, None, Some, refl, sym, ap, ◌∙◌}
+use Rattle.std.proofs.Common.{◌≡◌, ℕ, zero, suc, [], arith, ◌+◌, ◌<◌, Bool, false, cond, List, ◌∷◌, length, drop, get_or, Option, None, Some, refl, ap, ◌∙◌}
 use Rattle.std.specs.List.{list_any}
 use Rattle.std.proofs.lemmas.List.{drop_more}
 use Rattle.sat_rules.specs.Clauses.{unfalsified, var_of}

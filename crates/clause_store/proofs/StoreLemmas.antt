@@ -1,14 +1,13 @@
 -- The stored clauses through changes of their buckets.
-use Rattle.std.proofs.Common.{◌≡◌, ℕ, zero, suc, ◌<◌, ◌≤◌, Bool, true, false, cond, eqb, leb, List, [], ◌∷◌, length, set, Option, Some, None, sym, ap, ◌∙◌, subst, arith}
+use Rattle.std.proofs.Common.{◌≡◌, ℕ, zero, suc, ◌<◌, ◌≤◌, Bool, true, false, eqb, leb, List, [], ◌∷◌, length, set, Option, Some, None, subst, arith}
 use Rattle.std.specs.List.{list_all}
 use Rattle.std.specs.Option.{option_map}
 use Rattle.std.proofs.lemmas.List.{map-set}
 use Rattle.std.proofs.Math.ListN.{get_or-map}
 use Rattle.std.proofs.lemmas.Bool.{and_from, and_parts}
-use Rattle.checker_rules.specs.Buckets.{of_hash}
 use Rattle.checker_rules.specs.DeleteClause.{is_short}
 use Rattle.checker_rules.specs.State.{Stored, unit_of}
-use Rattle.checker_rules.specs.Store.{count_limit, count_of, id_among, is_stored}
+use Rattle.checker_rules.specs.Store.{count_limit, count_of}
 use Rattle.checker_rules.specs.WellFormed.{are_apart, ids_rise}
 use Rattle.checker_rules.proofs.Buckets.{buckets_serve}
 use Rattle.checker_rules.proofs.Entries.{apart_filter}

@@ -1,12 +1,12 @@
 -- Stored units that are listed and overwritten.
-use Rattle.std.proofs.Common.{◌≡◌, ℕ, zero, suc, ◌<◌, Bool, true, false, not, ◌&&◌, eqb, List, [], ◌∷◌, ◌++◌, length, set, Option, None, Some, is_some, ⊎_elim, refl, sym, ap, ◌∙◌, subst}
+use Rattle.std.proofs.Common.{◌≡◌, ℕ, zero, suc, ◌<◌, Bool, true, false, not, ◌&&◌, eqb, List, [], ◌∷◌, ◌++◌, length, set, Option, None, Some, is_some, ⊎_elim, refl, sym, ap, ◌∙◌}
 use Rattle.std.specs.Option.{option_map}
 use Rattle.std.proofs.lemmas.Bool.{and_parts, and_right, cases_eq, eq-eqb, false≢true, ne_eqb, true≢false}
 use Rattle.std.proofs.lemmas.Grind.{get_or-set_at}
-use Rattle.std.proofs.lemmas.List.{append-nil, append_assoc, get_or-set_other}
+use Rattle.std.proofs.lemmas.List.{append_assoc, get_or-set_other}
 use Rattle.std.proofs.lemmas.List.Elements.{All-head, All-tail}
 use Rattle.sat_rules.specs.Clauses.{is_negative, negate, var_of}
-use Rattle.checker_rules.specs.Hints.{listing, unit_item, visit, without_lit}
+use Rattle.checker_rules.specs.Hints.{visit, without_lit}
 use Rattle.checker_rules.specs.State.{makes_true, same_bool, unit_of}
 use Rattle.checker_rules.specs.Store.{unit_id}
 use Rattle.checker_rules.proofs.Traces.{var-negate}

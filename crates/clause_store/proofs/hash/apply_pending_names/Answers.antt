@@ -1,11 +1,9 @@
-use Rattle.std.proofs.Common.{◌≡◌, ◌||◌, cond, List, [], ◌∷◌, Option, Some, None, is_some, map, refl, sym, ap, ◌∙◌}
+use Rattle.std.proofs.Common.{◌≡◌, List, [], ◌∷◌, Option, Some, None, is_some, map, refl}
 use Rattle.std.specs.List.{list_any}
 use Rattle.std.proofs.lemmas.Result.{on_ok_weaker}
-use Rattle.checker_rules.specs.Check.{apply_pending}
 use Rattle.sat_formula.specs.declared.lit.Var.{Var}
 use Rattle.sat_formula.specs.Vars.{indexes_of}
 use Rattle.clause_store.specs.Names.{indexes}
-use Rattle.clause_store.specs.StateOf.{state_of}
 use Rattle.clause_store.proofs.hash.apply_pending_names.Goals as goal
 
 is_some-indexes_of : (o : Option Var) → is_some (indexes_of o) ≡ is_some o

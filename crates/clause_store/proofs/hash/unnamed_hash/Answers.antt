@@ -1,6 +1,4 @@
-use Rattle.std.proofs.Common.{◌+◌, None, drop, ap, ◌∙◌, arith}
-use Rattle.std.specs.Int.Bits.{bit_xor}
-use Rattle.checker_rules.specs.State.{xor_hash}
+use Rattle.std.proofs.Common.{None, arith}
 use Rattle.clause_store.proofs.HashLemmas.{xor_hash-all, xor_hash-from}
 use Rattle.clause_store.proofs.hash.unnamed_hash.Goals as goal
 

@@ -1,5 +1,3 @@
-use Rattle.std.proofs.Common.{◌+◌, ◌^◌, sym, ap, ◌∙◌}
-use Rattle.checker_rules.specs.State.{lit_code_hash}
 use Rattle.clause_store.proofs.HashLemmas.{named_hash-None}
 use Rattle.clause_store.proofs.hash.unnamed_lit_hash.Goals as goal
 

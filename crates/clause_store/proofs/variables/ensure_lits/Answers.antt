@@ -1,5 +1,4 @@
 use Rattle.std.proofs.Common.{refl}
-use Rattle.checker_rules.specs.Canonical.{var_bound}
 use Rattle.clause_store.proofs.GrowthLemmas.{knows_none}
 use Rattle.clause_store.proofs.variables.ensure_lits.Goals as goal
 

@@ -1,5 +1,3 @@
-use Rattle.std.proofs.Common.{◌∙◌, ap}
-use Rattle.checker_rules.specs.Canonical.{same_list}
 use Rattle.clause_store.proofs.SameListLemmas.{same_list-bytes_eq}
 use Rattle.clause_store.proofs.clauses.buckets.has_lits.Goals as goal
 

@@ -1,6 +1,5 @@
-use Rattle.std.proofs.Common.{◌≡◌, ◌∷◌, [], ◌<◌, ◌≤◌, ◌+◌, ℕ, suc, true, List, length, map, take, nat_eq, All, None, Some, sym, ap, ◌∙◌, subst, arith}
+use Rattle.std.proofs.Common.{◌≡◌, ◌∷◌, ◌<◌, ◌≤◌, ◌+◌, ℕ, suc, List, length, map, nat_eq, All, None, Some, sym, ap, subst, arith}
 use Rattle.std.specs.HashMap.{get}
-use Rattle.std.specs.List.{list_all}
 use Rattle.std.specs.Map.{lookup}
 use Rattle.std.proofs.lemmas.List.Elements.{All-nil}
 use Rattle.checker_rules.specs.LiveLiterals.{live_literals}
@@ -8,10 +7,10 @@ use Rattle.clause_store.specs.declared.clauses.buckets.Bucket.{Bucket}
 use Rattle.clause_store.specs.declared.clauses.Clause.{Clause}
 use Rattle.clause_store.specs.declared.clauses.Clauses.{Clauses}
 use Rattle.clause_store.specs.declared.hash.ClauseHasher.{ClauseHasher}
-use Rattle.clause_store.specs.Buckets.{bucket_items, clauses_at, clauses_of}
+use Rattle.clause_store.specs.Buckets.{bucket_items, clauses_of}
 use Rattle.clause_store.specs.Lits.{IsWithin, lits_of}
-use Rattle.clause_store.specs.Store.{IsIndexed, is_whole}
-use Rattle.clause_store.specs.View.{stored_in, stored_list, stored_of}
+use Rattle.clause_store.specs.Store.{IsIndexed}
+use Rattle.clause_store.specs.View.{stored_list, stored_of}
 use Rattle.clause_store.proofs.DeleteLemmas.{whole-bucket}
 use Rattle.clause_store.proofs.GatheredLemmas.{found_all, in_other_order}
 use Rattle.clause_store.proofs.MoveLemmas.{bucket-same, bucket-used, bucket-within, clauses_in, live_literals-order, long_all}

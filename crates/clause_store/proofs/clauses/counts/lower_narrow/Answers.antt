@@ -1,4 +1,4 @@
-use Rattle.std.proofs.Common.{◌<◌, ◌+◌, ◌-◌, ◌∙◌, ℕ, List, length, get_or, set, take, ap, sym, subst}
+use Rattle.std.proofs.Common.{◌<◌, ◌+◌, ◌-◌, ◌∙◌, ℕ, List, get_or, set, take, ap, subst}
 use Rattle.std.proofs.lemmas.List.{length-set}
 use Rattle.clause_store.specs.Counts.{HoldOneMore}
 use Rattle.clause_store.proofs.HeldLemmas.{has-at, item_is, lowered-more, raised-next}

@@ -1,4 +1,4 @@
-use Rattle.std.proofs.Common.{◌∙◌, List, ℕ, length, take, refl, subst, sym, arith}
+use Rattle.std.proofs.Common.{◌∙◌, take, refl, subst, arith}
 use Rattle.clause_store.specs.Counts.{HoldOneMore}
 use Rattle.clause_store.proofs.HeldLemmas.{held-written}
 use Rattle.clause_store.proofs.clauses.counts.widened.Goals as goal

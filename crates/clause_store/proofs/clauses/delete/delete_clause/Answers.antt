@@ -1,13 +1,10 @@
-use Rattle.std.proofs.Common.{◌≡◌, ℕ, List, length, map, sym, subst, arith}
+use Rattle.std.proofs.Common.{◌≡◌, List, length, map, subst, arith}
 use Rattle.checker_rules.specs.Buckets.{remaining}
 use Rattle.checker_rules.specs.State.{Stored}
 use Rattle.checker_rules.specs.Store.{lower}
 use Rattle.clause_store.specs.declared.clauses.Clauses.{Clauses}
 use Rattle.clause_store.specs.Counts.{AreCounts}
-use Rattle.clause_store.specs.Delete.{Deletes}
 use Rattle.clause_store.specs.Lowered.{IsMissing}
-use Rattle.clause_store.specs.StateOf.{state_of}
-use Rattle.clause_store.specs.Store.{IsIndexed}
 use Rattle.clause_store.specs.View.{stored_list}
 use Rattle.clause_store.proofs.DeletedLemmas.{both_rest, delete-no_copy, delete-unknown, deletes, state-unchanged, store-rest, store-unchanged}
 use Rattle.clause_store.proofs.EditLemmas.{stored_list-is}

@@ -5,7 +5,7 @@ use Rattle.std.proofs.lemmas.List.{take_all, take_more}
 use Rattle.std.proofs.lemmas.List.Elements.{All-filter, filter-append}
 use Rattle.checker_rules.specs.State.{Stored}
 use Rattle.clause_store.specs.declared.clauses.Clause.{Clause}
-use Rattle.clause_store.specs.Buckets.{clauses_at, has_hash}
+use Rattle.clause_store.specs.Buckets.{has_hash}
 use Rattle.clause_store.specs.Lits.{IsWithin, lits_of}
 use Rattle.clause_store.specs.StateOf.{hash_of}
 use Rattle.clause_store.specs.View.{stored_of}

@@ -1,5 +1,4 @@
-use Rattle.std.proofs.Common.{◌≡◌, true, ap, ◌∙◌}
-use Rattle.checker_rules.specs.Store.{count_of}
+use Rattle.std.proofs.Common.{◌≡◌, true}
 use Rattle.checker_rules.specs.WellFormed.{are_apart}
 use Rattle.clause_store.specs.StateOf.{hash_of}
 use Rattle.clause_store.specs.View.{stored_in, stored_list}

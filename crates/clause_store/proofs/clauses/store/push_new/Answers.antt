@@ -1,14 +1,9 @@
-use Rattle.std.proofs.Common.{◌≡◌, ◌+◌, ◌*◌, ◌≤◌, ◌∷◌, ◌++◌, List, [], ℕ, length, take, sym, ap, ◌∙◌, subst, arith}
+use Rattle.std.proofs.Common.{◌≡◌, ◌*◌, ◌≤◌, ◌∷◌, ◌++◌, [], ℕ, length, take, ap, subst, arith}
 use Rattle.checker_rules.specs.Canonical.{var_bound}
-use Rattle.checker_rules.specs.State.{Stored}
 use Rattle.checker_rules.specs.Store.{new_stored}
-use Rattle.clause_store.specs.declared.clauses.Clause.{Clause}
-use Rattle.clause_store.specs.declared.clauses.Clauses.{Clauses}
-use Rattle.clause_store.specs.declared.clauses.StoreClauseResult.TheVariants.{New}
 use Rattle.clause_store.specs.Buckets.{clauses_at, first_copy_of}
-use Rattle.clause_store.specs.Counts.{HoldOneMore}
-use Rattle.clause_store.specs.Lits.{IsWithin, buffer_used}
-use Rattle.clause_store.specs.View.{stored_at, stored_of}
+use Rattle.clause_store.specs.Lits.{IsWithin}
+use Rattle.clause_store.specs.View.{stored_of}
 use Rattle.clause_store.proofs.BufferLemmas.{stored_in-others, stored_in-pushed, within-pushed}
 use Rattle.clause_store.proofs.clauses.store.push_new.Goals as goal
 

@@ -1,9 +1,7 @@
 use Rattle.std.proofs.Common.{◌+◌, [], true, refl, sym, subst, arith}
-use Rattle.clause_store.specs.declared.clauses.Clauses.{Clauses}
 use Rattle.clause_store.specs.declared.clauses.StoreClauseResult.TheVariants.{New}
 use Rattle.clause_store.specs.StateOf.{state_of}
-use Rattle.clause_store.specs.Store.{IsStore, Stores}
-use Rattle.clause_store.specs.View.{stored_list}
+use Rattle.clause_store.specs.Store.{Stores}
 use Rattle.clause_store.proofs.AnswerLemmas.{empty-stored}
 use Rattle.clause_store.proofs.StoreLemmas.{few-short, is_store-units}
 use Rattle.clause_store.proofs.clauses.store.store_empty.Goals as goal

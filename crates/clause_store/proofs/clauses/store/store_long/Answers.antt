@@ -1,4 +1,4 @@
-use Rattle.std.proofs.Common.{◌≡◌, ◌<◌, ◌≤◌, Bool, true, false, ℕ, List, Some, length, map, sym, ap, ◌∙◌, subst, arith}
+use Rattle.std.proofs.Common.{◌≡◌, ◌<◌, ◌≤◌, Bool, true, false, ℕ, List, Some, map, ◌∙◌, subst, arith}
 use Rattle.checker_rules.specs.Store.{count_limit, count_of, is_stored, raise}
 use Rattle.checker_rules.specs.WellFormed.{are_apart}
 use Rattle.clause_store.specs.declared.clauses.Clauses.{Clauses}

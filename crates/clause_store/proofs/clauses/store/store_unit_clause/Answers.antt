@@ -1,12 +1,12 @@
-use Rattle.std.proofs.Common.{◌≡◌, ◌+◌, ◌/◌, [], ◌∷◌, Bool, true, false, not, set, slice_set, Some, None, Result, Ok, Err, OnOk, refl, sym, ap, ◌∙◌, subst, arith}
+use Rattle.std.proofs.Common.{◌≡◌, ◌+◌, ◌/◌, [], ◌∷◌, Bool, true, false, not, set, slice_set, Some, None, Result, Ok, Err, OnOk, refl, ap, ◌∙◌, subst, arith}
 use Rattle.std.specs.Bool.{beq}
 use Rattle.std.proofs.lemmas.List.{length-set}
 use Rattle.std.proofs.lemmas.Result.{on_err_weaker, on_ok_weaker}
 use Rattle.sat_rules.specs.Clauses.{is_negative, var_of}
-use Rattle.checker_rules.specs.State.{State, makes_true, same_bool, unit_of}
+use Rattle.checker_rules.specs.State.{State, same_bool, unit_of}
 use Rattle.clause_store.specs.declared.clauses.StoreClauseResult.TheVariants.{Duplicate}
 use Rattle.clause_store.specs.StateOf.{id_of_unit, state_of, stored_unit}
-use Rattle.clause_store.specs.Store.{IsStore, Stores, is_stored_unit, unit_for}
+use Rattle.clause_store.specs.Store.{Stores, is_stored_unit, unit_for}
 use Rattle.clause_store.specs.View.{stored_list}
 use Rattle.clause_store.proofs.AnswerLemmas.{answers-new, either_way, unit-conflict, unit-new, unit-stands}
 use Rattle.clause_store.proofs.StoreLemmas.{few-short, is_store-units, list_all-set, stored_units-set, unit_is}

@@ -1,4 +1,3 @@
-use Rattle.std.proofs.Common.{◌-◌, ◌/◌, ◌^◌, sym, ap, ◌∙◌}
 use Rattle.clause_store.specs.StateOf.{applied_of}
 use Rattle.clause_store.proofs.HashLemmas.{clause_hash-is}
 use Rattle.clause_store.proofs.hash.ClauseHasher.clause_hash.Goals as goal

@@ -1,6 +1,4 @@
-use Rattle.std.proofs.Common.{◌+◌, drop, refl, sym, ap, ◌∙◌, arith}
-use Rattle.std.specs.Int.Bits.{bit_xor}
-use Rattle.checker_rules.specs.State.{xor_hash}
+use Rattle.std.proofs.Common.{refl, arith}
 use Rattle.clause_store.specs.StateOf.{applied_of}
 use Rattle.clause_store.proofs.HashLemmas.{names_of-empty, xor_hash-all, xor_hash-from, xor_hash-unnamed}
 use Rattle.clause_store.proofs.hash.ClauseHasher.full_hash.Goals as goal

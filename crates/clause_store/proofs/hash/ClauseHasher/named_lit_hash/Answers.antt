@@ -1,6 +1,3 @@
-use Rattle.std.proofs.Common.{◌+◌, ◌*◌, cond, sym, ap, ◌∙◌}
-use Rattle.checker_rules.specs.State.{lit_code_hash, named_hash}
-use Rattle.clause_store.specs.StateOf.{applied_of}
 use Rattle.clause_store.proofs.HashLemmas.{named_hash-Some}
 use Rattle.clause_store.proofs.hash.ClauseHasher.named_lit_hash.Goals as goal
 

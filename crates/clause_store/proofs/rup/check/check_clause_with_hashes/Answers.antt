@@ -1,9 +1,6 @@
-use Rattle.std.proofs.Common.{ℕ, List, sym, ap, ◌∙◌, subst}
+use Rattle.std.proofs.Common.{sym, ap, ◌∙◌, subst}
 use Rattle.checker_rules.specs.Check.{ready}
-use Rattle.checker_rules.specs.Outcome.{Outcome}
-use Rattle.clause_store.specs.declared.rup.Answer.{Answer}
 use Rattle.clause_store.specs.CheckLaw.{AnswersCheck}
-use Rattle.clause_store.specs.Rup.{AreAllKnown}
 use Rattle.clause_store.specs.StateOf.{state_of}
 use Rattle.clause_store.proofs.ReadyLemmas.{check-failed, check-no_clause, check-passed, ready-answers, ready-form, ready-known, ready-trace, same-units}
 use Rattle.clause_store.proofs.rup.check.check_clause_with_hashes.Goals as goal

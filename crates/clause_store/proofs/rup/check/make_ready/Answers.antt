@@ -1,5 +1,4 @@
 use Rattle.std.proofs.lemmas.Result.{on_ok_weaker}
-use Rattle.checker_rules.specs.Canonical.{var_bound}
 use Rattle.clause_store.proofs.GrowthLemmas.{is_store-known}
 use Rattle.clause_store.proofs.ReadyLemmas.{pending-length}
 use Rattle.clause_store.proofs.rup.check.make_ready.Goals as goal

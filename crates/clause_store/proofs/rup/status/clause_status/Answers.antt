@@ -1,4 +1,4 @@
-use Rattle.std.proofs.Common.{◌≡◌, arith, false, Some, None, sym, ap, ◌∙◌}
+use Rattle.std.proofs.Common.{◌≡◌, arith, false, Some, None, sym, ◌∙◌}
 use Rattle.clause_store.specs.Units.{lit_value}
 use Rattle.clause_store.proofs.StatusLemmas.{drop-at, below_bound, status_from-false, status_from-free}
 use Rattle.clause_store.proofs.UnitsLemmas.{falsity-is, true_lits-falsity}

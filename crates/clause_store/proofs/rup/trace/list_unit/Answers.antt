@@ -1,7 +1,5 @@
 use Rattle.std.proofs.Common.{sym, ap, refl, ◌∙◌}
 use Rattle.clause_store.specs.Rup.{true_lits}
-use Rattle.clause_store.specs.Trace.{looked}
-use Rattle.clause_store.specs.Units.{stored_id, unit_at}
 use Rattle.clause_store.proofs.TraceLemmas.{looked-listed, true_lits-renamed}
 use Rattle.clause_store.proofs.rup.trace.list_unit.Goals as goal
 

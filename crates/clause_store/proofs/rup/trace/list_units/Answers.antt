@@ -1,5 +1,4 @@
-use Rattle.std.proofs.Common.{◌≡◌, None, sym, ap, ◌∙◌}
-use Rattle.clause_store.specs.Trace.{looked}
+use Rattle.std.proofs.Common.{◌≡◌, None, sym, ◌∙◌}
 use Rattle.clause_store.specs.Units.{lit_value}
 use Rattle.clause_store.proofs.IdleLemmas.{lengthens_then}
 use Rattle.clause_store.proofs.StatusLemmas.{drop-at}

@@ -1,4 +1,4 @@
-use Rattle.std.proofs.Common.{ℕ, ◌+◌, ◌<◌, drop, length, set, None, List, ap, sym, ◌∙◌, subst, length-set}
+use Rattle.std.proofs.Common.{ℕ, ◌+◌, drop, None, List, ap, sym, ◌∙◌, length-set}
 use Rattle.std.proofs.Math.ListN.{drop_of_length-le}
 use Rattle.sat_rules.specs.Clauses.{var_of}
 use Rattle.clause_store.specs.Trail.{freed, undone}

@@ -1,4 +1,4 @@
-use Rattle.std.proofs.Common.{◌≡◌, ℕ, ◌+◌, length, ap, refl, ◌∙◌}
+use Rattle.std.proofs.Common.{ap, refl, ◌∙◌}
 use Rattle.clause_store.specs.Rup.{status_of, true_lits}
 use Rattle.clause_store.specs.Units.{AreKnown}
 use Rattle.clause_store.specs.View.{stored_of}

@@ -1,5 +1,5 @@
 use Rattle.std.proofs.Common.{All, length, sym, ◌∙◌, subst}
-use Rattle.clause_store.specs.Idle.{IsIdleRun, IsIdleSince, idle_at}
+use Rattle.clause_store.specs.Idle.{IsIdleRun, IsIdleSince}
 use Rattle.clause_store.specs.Lits.{IsWithin, lits_of}
 use Rattle.clause_store.specs.Units.{AreKnown}
 use Rattle.clause_store.specs.View.{stored_in}

@@ -1,4 +1,3 @@
-use Rattle.std.proofs.Common.{Some, ap, ◌∙◌}
 use Rattle.clause_store.proofs.IdleLemmas.{first-ended, first-walked, listed-ended, listed-walked}
 use Rattle.clause_store.proofs.TrailLemmas.{is_undoable_then}
 use Rattle.clause_store.proofs.rup.walk.walk_buckets.Goals as goal

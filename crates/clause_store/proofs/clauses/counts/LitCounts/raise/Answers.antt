@@ -1,7 +1,5 @@
-use Rattle.std.proofs.Common.{◌∙◌, List, ℕ, ◌+◌, get_or, length, take, ap, sym, arith}
-use Rattle.clause_store.specs.Counts.{HoldOneMore}
+use Rattle.std.proofs.Common.{◌∙◌, ap, sym, arith}
 use Rattle.clause_store.specs.CountsByCode.{counts_in}
-use Rattle.clause_store.specs.declared.clauses.counts.LitCounts.{LitCounts}
 use Rattle.clause_store.proofs.HeldLemmas.{held-written}
 use Rattle.clause_store.proofs.clauses.counts.LitCounts.raise.Goals as goal
 use Rattle.clause_store.proofs.clauses.counts.LitCounts.raise.Goals.{in-Narrow-1, in-Wide-1}

@@ -1,9 +1,7 @@
-use Rattle.std.proofs.Common.{◌≡◌, ◌∙◌, ◌<◌, true, false, set, map, sym, ap, subst, arith}
+use Rattle.std.proofs.Common.{◌≡◌, ◌∙◌, true, false, arith}
 use Rattle.clause_store.specs.Buckets.{copies_of}
-use Rattle.clause_store.specs.Crowds.{standing}
 use Rattle.clause_store.specs.Lits.{IsWithin}
 use Rattle.clause_store.specs.Lowered.{is_gone, left_of}
-use Rattle.clause_store.specs.View.{stored_of}
 use Rattle.clause_store.proofs.CrowdLemmas.{All-stands}
 use Rattle.clause_store.proofs.PlacedLemmas.{lowered-goes, lowered-stays, lowered-within, placed-count, placed-stored}
 use Rattle.clause_store.proofs.clauses.crowd.Crowd.lower.Goals as goal

@@ -1,6 +1,5 @@
-use Rattle.std.proofs.Common.{◌≡◌, ◌<◌, ◌≤◌, Some, set, map, sym, ap, ◌∙◌, subst, arith}
+use Rattle.std.proofs.Common.{◌<◌, ◌≤◌, map, sym, ap, ◌∙◌, subst, arith}
 use Rattle.checker_rules.specs.Store.{count_limit}
-use Rattle.clause_store.specs.Buckets.{copies_of, raised}
 use Rattle.clause_store.specs.Crowds.{standing}
 use Rattle.clause_store.specs.Lits.{IsWithin}
 use Rattle.clause_store.specs.View.{stored_of}
