@@ -1,5 +1,5 @@
 -- The step of an input clause, by its cause.
-use Rattle.std.proofs.Common.{◌≡◌, ℕ, ◌<◌, ◌-◌, ◌^◌, Bool, true, false, cond, ltb, leb, List, Option, Some, None, refl, ◌∙◌, arith, Err, lt-ltb, le-ltb, le-leb}
+use Rattle.std.proofs.Common.{◌≡◌, ℕ, ◌<◌, ◌≤◌, ◌-◌, ◌^◌, Bool, true, false, cond, ltb, leb, List, Option, Some, None, refl, ◌∙◌, arith, Err, lt-ltb, le-ltb, le-leb}
 use Rattle.std.proofs.lemmas.Bool.{lt-leb}
 use Rattle.checker_rules.specs.Canonical.{canonical}
 use Rattle.checker_rules.specs.KnownVars.{some_not_sampling}
@@ -20,6 +20,7 @@ use Rattle.clause_store.specs.Store.{UnlessOutOfMemory}
 use Rattle.clause_store.specs.declared.clauses.store.StoreFault.{StoreFault}
 use Rattle.clause_store.specs.declared.clauses.store.StoreFault.TheVariants as storing
 use Rattle.clause_store.proofs.RefusalLemmas.{answers-refuse}
+use Rattle.checker_steps.specs.declared.steps.add_clause.Added.{Added}
 
 -- refused with the cause, where there is one
 abbrev pub by_cause : Option Cause → State → Outcome → Outcome
@@ -90,7 +91,7 @@ answers-unstored_input storing.CountExhausted s t ls live none h =
     rw h.1 (answers-input causes.CountExhausted s ls live (early-full s (canonical ls) none h.0))
 
 -- what holds of the store unless memory was refused holds unless the step gave up
-pub unless-unstored : {A : Type 0} (P : Type 0) (fault : StoreFault) → UnlessOutOfMemory {A = A} (Err fault) P → UnlessStopped {A = Unit {0}} (Err (store_fault fault)) P
+pub unless-unstored : (P : Type 0) (fault : StoreFault) → UnlessOutOfMemory {A = Added} (Err fault) P → UnlessStopped {A = Unit {0}} (Err (store_fault fault)) P
 unless-unstored P storing.OutOfMemory h = tt
 unless-unstored P storing.IdsExhausted h = h
 unless-unstored P storing.CountExhausted h = h

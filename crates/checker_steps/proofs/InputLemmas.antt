@@ -63,7 +63,7 @@ module _ (c : List ℕ) (s : State) (room : s.next < id_limit) where
 -- what was stored has known variables, and is no tautology
 pub stored-fine : (n : ℕ) (c : List ℕ) (es : List Stored) → list_all (is_fine n) es ≡ true → is_stored c es ≡ true → (is_tautology c ≡ false) × (var_bound c ≤ n)
 stored-fine n c [] fine h = cc
-stored-fine n c (e ∷ es) fine h = by (same_list e.lits c) refl h
+stored-fine n c (e ∷ es) fine h = by (same_list e.lits c) refl h (stored-fine n c es (and_parts (is_fine n e) (list_all (is_fine n) es) fine).1)
   where
     first : same_list e.lits c ≡ true → (is_tautology c ≡ false) × (var_bound c ≤ n)
     first same =
@@ -73,9 +73,10 @@ stored-fine n c (e ∷ es) fine h = by (same_list e.lits c) refl h
         let u = and_parts (not (is_gone e)) (leb (var_bound e.lits) n) t.1 in
         rw (← same_list-eq e.lits c same) (not-true (is_tautology e.lits) r.0, leb-true (var_bound e.lits) n u.1)
 
-    by : (b : Bool) → same_list e.lits c ≡ b → (b || is_stored c es) ≡ true → (is_tautology c ≡ false) × (var_bound c ≤ n)
-    by true same k = first same
-    by false other k = stored-fine n c es (and_parts (is_fine n e) (list_all (is_fine n) es) fine).1 k
+    by : (b : Bool) → same_list e.lits c ≡ b → (b || is_stored c es) ≡ true → (is_stored c es ≡ true → (is_tautology c ≡ false) × (var_bound c ≤ n)) →
+        (is_tautology c ≡ false) × (var_bound c ≤ n)
+    by true same k others = first same
+    by false other k others = others k
 
 some-stored : (c : List ℕ) (es : List Stored) → 0 < count_of false c es → is_stored c es ≡ true
 some-stored c es some = by (is_stored c es) refl

@@ -46,19 +46,19 @@ take_clause-taken-requires-clause-canonical g c = ap is_canonical (c.as_slice-cl
 
 pub take_clause-taken-requires-clause-room : goal.take_clause-taken-requires-clause-room
 take_clause-taken-requires-clause-room g c =
-    let ctx = c.args.ctx.now in early-ids (context_state ctx) c.as_slice-clause.result.now (c.in_default-cause.ensures ctx.checker_state ctx.clause_hasher)
+    let ctx = c.args.ctx.now in early-ids (context_state ctx) c.as_slice-clause.result.now (c.in_default-early_cause.ensures ctx.checker_state ctx.clause_hasher)
 
 -- the clause was not stored
-pub returns-in-Err-taken : goal.returns-in-Err-taken
-returns-in-Err-taken g c =
-    let ctx = c.args.ctx.now in let ls = c.args.lits.now in let s = context_state ctx in let fault = c.in-Err-taken.fault in
+pub returns-in-Err : goal.returns-in-Err
+returns-in-Err g c =
+    let ctx = c.args.ctx.now in let ls = c.args.lits.now in let s = context_state ctx in let fault = c.in-Err.fault in
     let list = c.as_slice-clause.ensures.value ∙ c.in-Ok.ensures.items in
-    let early = subst (λ (x : List ℕ). early_cause s x ≡ None) list (c.in_default-cause.ensures ctx.checker_state ctx.clause_hasher) in
+    let early = subst (λ (x : List ℕ). early_cause s x ≡ None) list (c.in_default-early_cause.ensures ctx.checker_state ctx.clause_hasher) in
     let after = state_of c.take_clause-taken.new.state ctx.clause_hasher c.take_clause-taken.new.clauses c.take_clause-taken.new.variables in
-    let answer = answers-unstored_input fault s after ls c.if-ctx.false early (subst (λ (x : List ℕ). IsFaultOf fault x s after) list c.in-Err-taken.ensures.fault) in
+    let answer = answers-unstored_input fault s after ls c.if-ctx.false early (subst (λ (x : List ℕ). IsFaultOf fault x s after) list c.in-Err.ensures.fault) in
     rw c.store_fault.ensures (record {
       step = answer;
-      kept = kept-answer {A = Unit {0}} (Err (store_fault fault)) _ _ _ _ _ _ _ _ (add_clause ls) c.requires answer (unless-unstored _ fault c.in-Err-taken.ensures.store);
+      kept = kept-answer {A = Unit {0}} (Err (store_fault fault)) _ _ _ _ _ _ _ _ (add_clause ls) c.requires answer (unless-unstored _ fault c.in-Err.ensures.store);
       delivered = delivered-refused g.P.ProofProcessor g.T.ProofTranscriptProcessor (Unit {0}) (store_fault fault) (Emits s (add_clause ls)) (step s (add_clause ls)) after _ (quiet-unstored fault)
           (λ cause refused. emits-refused s (add_clause ls) [] cause refused refl) answer;
       after_unsat = λ unsat. absurd cc;
@@ -69,7 +69,7 @@ returns-in-Ok-taken g c =
     let ctx = c.args.ctx.now in
     let ls = c.args.lits.now in let s = context_state ctx in let h = c.in-Ok-taken.ensures in let r = c.emit_added.result in
     let list = c.as_slice-clause.ensures.value ∙ c.in-Ok.ensures.items in
-    let early = subst (λ (x : List ℕ). early_cause s x ≡ None) list (c.in_default-cause.ensures ctx.checker_state ctx.clause_hasher) in
+    let early = subst (λ (x : List ℕ). early_cause s x ≡ None) list (c.in_default-early_cause.ensures ctx.checker_state ctx.clause_hasher) in
     let none = early-room s (canonical ls) early (subst (λ (x : List ℕ). count_of false x s.clauses < count_limit) list h.room) in
     let answer = answers-all g.P.ProofProcessor g.T.ProofTranscriptProcessor _ _ _ r _ _ c.emit_added.ensures
     (answers-accept (add-accepts s ls c.if-ctx.false none) (h.state ∙ ap (taken s) list)) in

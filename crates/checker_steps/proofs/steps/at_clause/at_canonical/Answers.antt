@@ -17,7 +17,7 @@ use Rattle.checker_steps.proofs.steps.at_clause.at_canonical.Goals as goal
 
 pub returns-in_err-id : goal.returns-in_err-id
 returns-in_err-id g c =
-    let a = c.args in let clause = a.clause.now in let new = c.derive-id.new.ctx in let e = c.in_err-id.field-0.0 in let h = c.in_err-id.ensures in
+    let a = c.args in let clause = a.clause.now in let new = c.derive.new.ctx in let e = c.in_err-id.field-0.0 in let h = c.in_err-id.ensures in
     let s = context_state a.ctx.now in let apart = λ (ls : List ℕ) (list : clause ≡ canonical ls). sym (ap is_tautology list) ∙ c.requires.no_tautology in
     let answer = λ (ls : List ℕ) (list : clause ≡ canonical ls).
     answers-part e _ (step s (at_clause a.redundant ls a.hashes.now)) (context_state new) (at-refused s a.redundant ls a.hashes.now clause list (apart ls list)) h.answer in
@@ -32,7 +32,7 @@ returns-in_err-id g c =
 
 pub returns-then-redundant : goal.returns-then-redundant
 returns-then-redundant g c =
-    let a = c.args in let clause = a.clause.now in let new = c.derive-id.new.ctx in let id = c.in_ok-id.id in let h = c.in_ok-id.ensures in
+    let a = c.args in let clause = a.clause.now in let new = c.derive.new.ctx in let id = c.in_ok-id.id in let h = c.in_ok-id.ensures in
     let s = context_state a.ctx.now in let u = context_state new in let apart = λ (ls : List ℕ) (list : clause ≡ canonical ls). sym (ap is_tautology list) ∙ c.requires.no_tautology in
     let answer = λ (ls : List ℕ) (list : clause ≡ canonical ls). at-stored s a.redundant ls a.hashes.now clause list (apart ls list) u u id h.answer h.id
     (ap (λ b. kept_as_previous b clause id u) (sym c.if-redundant.true)) in
@@ -45,7 +45,7 @@ returns-then-redundant g c =
 
 pub returns : goal.returns
 returns g c =
-    let a = c.args in let clause = a.clause.now in let new = c.derive-id.new.ctx in let id = c.in_ok-id.id in let h = c.in_ok-id.ensures in
+    let a = c.args in let clause = a.clause.now in let new = c.derive.new.ctx in let id = c.in_ok-id.id in let h = c.in_ok-id.ensures in
     let s = context_state a.ctx.now in let u = context_state new in let apart = λ (ls : List ℕ) (list : clause ≡ canonical ls). sym (ap is_tautology list) ∙ c.requires.no_tautology in
     let last = c.set_previous in
     let answer = λ (ls : List ℕ) (list : clause ≡ canonical ls).
