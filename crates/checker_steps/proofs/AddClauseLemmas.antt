@@ -1,5 +1,5 @@
 -- The step of an input clause, by its cause.
-use Rattle.std.proofs.Common.{◌≡◌, ℕ, ◌<◌, ◌≤◌, ◌-◌, ◌^◌, Bool, true, false, cond, ltb, leb, List, Option, Some, None, refl, ◌∙◌, arith, Err, lt-ltb, le-ltb, le-leb}
+use Rattle.std.proofs.Common.{◌≡◌, ℕ, ◌<◌, ◌≤◌, ◌-◌, ◌^◌, Bool, true, false, cond, ltb, List, Option, Some, None, refl, ◌∙◌, arith, Err, lt-ltb, le-ltb, le-leb}
 use Rattle.std.proofs.lemmas.Bool.{lt-leb}
 use Rattle.checker_rules.specs.Canonical.{canonical}
 use Rattle.checker_rules.specs.KnownVars.{some_not_sampling}

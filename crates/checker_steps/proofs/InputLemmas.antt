@@ -1,5 +1,5 @@
 -- Storing an input clause, and what it emits.
-use Rattle.std.proofs.Common.{◌≡◌, ℕ, ◌+◌, ◌-◌, ◌<◌, ◌≤◌, Bool, true, false, cond, not, ◌||◌, leb, List, [], ◌∷◌, length, append-nil, Some, None, Err, refl, sym, ap, ◌∙◌, subst, arith, lt-ltb}
+use Rattle.std.proofs.Common.{◌≡◌, ℕ, ◌+◌, ◌-◌, ◌<◌, ◌≤◌, Bool, true, false, cond, not, ◌||◌, leb, List, [], ◌∷◌, length, append-nil, Err, refl, sym, ap, ◌∙◌, subst, arith, lt-ltb}
 use Rattle.std.specs.List.{list_all}
 use Rattle.std.proofs.Math.Bool.{and-false}
 use Rattle.std.proofs.lemmas.Bool.{and_parts, leb-false, leb-true, not-true}

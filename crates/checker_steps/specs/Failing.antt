@@ -2,7 +2,7 @@
 --     is_failure end, has_failed r      whether a call ends so; whether the checker has failed when it answers r
 --     IsFailed r      the answer of a checker that had failed before the call
 --     RecordsFailure r s      where the call gave up the state says so
-use Rattle.std.specs.Prelude.{◌≡◌, Bool, true, false, Result, Ok, Err}
+use Rattle.std.specs.Prelude.{◌≡◌, Bool, true, false, Result, Err}
 use Rattle.checker_rules.specs.State.{State}
 use Rattle.checker_parts.specs.Endings.{Ending, given_up, had_failed, ending}
 use Rattle.checker_parts.specs.declared.error.CheckerError.{CheckerError}
