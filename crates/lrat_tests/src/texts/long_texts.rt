@@ -1,6 +1,5 @@
 //! Lines over more than one buffer.
-use crate::line::LratLine;
-use crate::reader::LineReader;
+use lrat_text::{LineReader, LratLine};
 use std::test::Fail;
 
 /// A long comment, a long run of blanks, and a line with many literals and hints.

@@ -3,8 +3,7 @@ mod failing;
 mod redundancy;
 mod rows;
 
-use crate::checker::LratChecker;
-use crate::fault::LratFault;
+use lrat_checker::{LratChecker, LratFault};
 use sat_formula::{CnfFormula, Lit};
 use std::io;
 use std::io::{ErrorKind, Read};

@@ -1,7 +1,5 @@
 //! Conversions with their bytes and statuses, texts of faults, and reads and writes that fail.
-use crate::run::convert;
-use crate::status::exit_status;
-use crate::width::HashWidth;
+use lrat_to_proof::{HashWidth, convert, exit_status};
 use std::alloc::Global;
 use std::io;
 use std::io::{ErrorKind, Read, Write};

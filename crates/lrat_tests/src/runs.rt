@@ -1,12 +1,10 @@
 //! Runs with their verdicts, lines and statuses, texts of faults, and reads and writes that fail.
-use crate::fault::RunFault;
-use crate::run::run_check;
+use lrat_check::{RunFault, exit_status, run_check};
 use std::alloc::Global;
 use std::io;
 use std::io::{ErrorKind, Read, Write};
 use std::process::Abort;
 use std::test::Fail;
-use verdicts::exit_status;
 
 /// Four clauses, one against each pair of values of two variables.
 const FOUR: &[u8] = b"1 2 0 1 -2 0 -1 2 0 -1 -2 0";

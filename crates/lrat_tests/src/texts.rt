@@ -2,8 +2,7 @@
 mod long_texts;
 mod rows;
 
-use crate::line::{Hint, LratLine};
-use crate::reader::LineReader;
+use lrat_text::{Hint, LineReader, LratLine};
 use std::alloc::{AllocError, Global};
 use std::io;
 use std::io::{ErrorKind, Read};

@@ -1,6 +1,6 @@
 //! Texts of faults, readers that fail, and lines that are no text.
 use super::{BROKEN, Bytes, FOUR, UNITS, answer_to, checker, shown};
-use crate::fault::{LineFault, LratCause};
+use lrat_checker::{LineFault, LratCause};
 use lrat_text::{Hint, LratLine};
 use sat_formula::Lit;
 use std::test::Fail;
