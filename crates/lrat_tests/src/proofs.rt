@@ -1,110 +1,76 @@
 //! Proofs with their answers, from the rules read by hand.
+mod calls;
 mod failing;
 mod redundancy;
 mod rows;
 
 use lrat_checker::{LratChecker, LratFault};
-use sat_formula::{CnfFormula, Lit};
-use std::io;
-use std::io::{ErrorKind, Read};
+use sat_formula::read_formula;
+use std::alloc::{AllocError, Global};
+use std::process::Abort;
 use std::test::Fail;
-
-/// Clauses in numbers as in DIMACS.
-type Numbers = &'static [&'static [i64]];
+use test_streams::Pieces;
 
 /// A formula, and a proof with its answer.
-type Row = (Numbers, &'static str, &'static str);
+type Row = (&'static str, &'static str, &'static str);
 
 /// 1: -1 2    2: 2 3    3: 2 -3
-const THREE: Numbers = &[&[-1, 2], &[2, 3], &[2, -3]];
+const THREE: &str = "-1 2 0 2 3 0 2 -3 0";
 
 /// 1: 1 2    2: 1 -2    3: -1 2    4: -1 -2
-const FOUR: Numbers = &[&[1, 2], &[1, -2], &[-1, 2], &[-1, -2]];
+const FOUR: &str = "1 2 0 1 -2 0 -1 2 0 -1 -2 0";
 
 /// 1: -1 2    2: -1 3
-const BOTH: Numbers = &[&[-1, 2], &[-1, 3]];
+const BOTH: &str = "-1 2 0 -1 3 0";
 
-const UNITS: Numbers = &[&[1], &[-1]];
-
-fn formula(rt: &HostRuntime, clauses: Numbers) -> Result<CnfFormula, Fail> {
-    let mut formula = CnfFormula::new(rt.alloc());
-    for clause in clauses {
-        let mut lits: Vec<Lit> = Vec::new(rt.alloc());
-        for number in *clause {
-            lits.push(Lit::from_dimacs(*number).ok_or("in range")?)?;
-        }
-        formula.add_clause(&lits)?;
-    }
-    Ok(formula)
-}
-
-fn checker(rt: &HostRuntime, clauses: Numbers) -> Result<LratChecker, Fail> {
-    let formula = formula(rt, clauses)?;
-    let checker = LratChecker::new(rt.alloc(), &formula)?;
-    Ok(checker)
-}
-
-/// An answer in words.
-fn shown(rt: &HostRuntime, answer: Result<bool, LratFault>) -> Result<String, Fail> {
-    let text = match answer {
-        Ok(true) => String::from_str(rt.alloc(), "refuted")?,
-        Ok(false) => String::from_str(rt.alloc(), "accepted")?,
-        Err(fault) => format!(in rt.alloc(); "{fault}")?,
-    };
-    Ok(text)
-}
-
-/// One byte a read; after the last one the end, or a failure.
-#[derive(Drop)]
-struct Bytes<'a> {
-    text: &'a [u8],
-    breaks: bool,
-}
-
-impl Read for Bytes<'_> {
-    fn read(&mut self, buf: &mut [u8]) -> io::Result<usize> {
-        if buf.is_empty() {
-            return Ok(0);
-        }
-        match self.text.split_first() {
-            Some((byte, rest)) => {
-                buf[0] = *byte;
-                self.text = rest;
-                Ok(1)
-            }
-            None if self.breaks => Err(io::Error::new(ErrorKind::Interrupted, "broken")),
-            None => Ok(0),
-        }
-    }
-}
+const UNITS: &str = "1 0 -1 0";
 
 const BROKEN: &str = "error reading proof: broken";
 
 /// How answers of refused lines begin.
 const LINES: [(usize, &str); 3] = [(1, "line 1:"), (2, "line 2:"), (3, "line 3:")];
 
-/// The answer of a new checker in words.
-fn answer_to<R: Read + Drop>(rt: &HostRuntime, clauses: Numbers, proof: R) -> Result<String, Fail> {
-    let mut checker = checker(rt, clauses)?;
-    shown(rt, checker.check(proof))
+fn checker(alloc: Global, formula: &str) -> Result<LratChecker, Fail> {
+    let formula = read_formula(alloc, formula.as_bytes())?;
+    Ok(LratChecker::new(alloc, &formula)?)
 }
 
-/// The number of the first row that is answered otherwise, read at once or byte by byte.
-fn wrong_row(rt: &HostRuntime, rows: &[Row]) -> Result<Option<usize>, Fail> {
-    for (row, (clauses, proof, answer)) in rows.iter().enumerate() {
-        let text = proof.as_bytes();
-        if answer_to(rt, clauses, text)?.as_str() != *answer {
-            return Ok(Some(row));
-        }
-        let bytes = Bytes {
-            text,
-            breaks: false,
-        };
-        if answer_to(rt, clauses, bytes)?.as_str() != *answer {
-            return Ok(Some(row));
+/// An answer in words.
+fn shown(alloc: Global, answer: Result<bool, LratFault>) -> Result<String, AllocError> {
+    match answer {
+        Ok(true) => "refuted".to_string(alloc),
+        Ok(false) => "accepted".to_string(alloc),
+        Err(fault) => fault.to_string(alloc),
+    }
+}
+
+/// The answer of a new checker in words.
+fn answer_to(alloc: Global, formula: &str, proof: Pieces<'_>) -> Result<String, Fail> {
+    let mut checker = checker(alloc, formula)?;
+    Ok(shown(alloc, checker.check(proof))?)
+}
+
+fn is_answered(
+    rt: &impl Abort,
+    alloc: Global,
+    formula: &str,
+    proof: Pieces<'_>,
+    answer: &str,
+) -> Result<(), Fail> {
+    let seen = answer_to(alloc, formula, proof)?;
+    assert_eq!(rt; seen.as_str(), answer);
+    Ok(())
+}
+
+/// The rows are answered so, read at once and byte by byte.
+fn hold_whole(rt: &impl Abort, alloc: Global, rows: &[Row]) -> Result<(), Fail> {
+    for (formula, proof, answer) in rows {
+        for size in [usize::MAX, 1] {
+            let proof = Pieces::of_size(proof.as_bytes(), size);
+            is_answered(rt, alloc, formula, proof, answer)?;
         }
     }
-    Ok(None)
+    Ok(())
 }
 
 /// What is answered where so many lines were read to their ends before a read fails.
@@ -117,18 +83,30 @@ fn broken_after<'a>(answer: &'a str, lines: usize) -> &'a str {
     BROKEN
 }
 
-/// The number of the first row that is answered otherwise where some read fails.
-fn wrong_broken_row(rt: &HostRuntime, rows: &[Row]) -> Result<Option<usize>, Fail> {
-    for (row, (clauses, proof, answer)) in rows.iter().enumerate() {
-        let all = proof.as_bytes();
-        for read in 0..all.len().saturating_add(1) {
-            let text = &all[..read];
-            let lines = text.iter().filter(|byte| **byte == b'\n').count();
-            let bytes = Bytes { text, breaks: true };
-            if answer_to(rt, clauses, bytes)?.as_str() != broken_after(answer, lines) {
-                return Ok(Some(row));
-            }
-        }
+fn line_ends(text: &[u8]) -> usize {
+    text.iter().filter(|byte| **byte == b'\n').count()
+}
+
+/// The row is answered by its lines before the read that fails, whichever that is.
+fn holds_broken(
+    rt: &impl Abort,
+    alloc: Global,
+    (formula, proof, answer): &Row,
+) -> Result<(), Fail> {
+    let all = proof.as_bytes();
+    for read in 0..=all.len() {
+        let text = &all[..read];
+        let answer = broken_after(answer, line_ends(text));
+        is_answered(rt, alloc, formula, Pieces::broken(text), answer)?;
     }
-    Ok(None)
+    Ok(())
+}
+
+/// The rows are answered so, also where one of their reads fails.
+fn hold(rt: &impl Abort, alloc: Global, rows: &[Row]) -> Result<(), Fail> {
+    hold_whole(rt, alloc, rows)?;
+    for row in rows {
+        holds_broken(rt, alloc, row)?;
+    }
+    Ok(())
 }

@@ -1,65 +1,29 @@
-//! Texts of faults, readers that fail, and lines that are no text.
-use super::{BROKEN, Bytes, FOUR, UNITS, answer_to, checker, shown};
-use lrat_checker::{LineFault, LratCause};
+//! Texts of faults, and lines that are no text.
+use super::{FOUR, UNITS, checker};
+use lrat_checker::{LineFault, LratCause, LratChecker};
 use lrat_text::{Hint, LratLine};
 use sat_formula::Lit;
+use std::process::Abort;
 use std::test::Fail;
 
-const BROKEN_TEXTS: [(&[u8], &str, &str); 4] = [
-    (b"", BROKEN, BROKEN),
-    // a line that was not read to its end is not judged
-    (b"3 1 0 9 0", BROKEN, BROKEN),
-    (
-        b"3 1 0 9 0\n",
-        "line 1: no clause has the id of a hint",
-        "line 1: no clause has the id of a hint",
-    ),
-    (b"3 0 1 2 0\n4 ", BROKEN, "refuted"),
-];
-
-#[test]
-fn readers_that_fail(rt: HostRuntime) -> Result<(), Fail> {
-    for (text, checked, refuted) in BROKEN_TEXTS {
-        let bytes = Bytes { text, breaks: true };
-        assert_eq!(rt; answer_to(&rt, UNITS, bytes)?.as_str(), checked);
-        let mut first = checker(&rt, UNITS)?;
-        let bytes = Bytes { text, breaks: true };
-        assert_eq!(rt; shown(&rt, first.refute(bytes))?.as_str(), refuted);
-    }
-    Ok(())
-}
-
-/// What is answered after a fault, by each call.
-#[test]
-fn calls_after_a_fault(rt: HostRuntime) -> Result<(), Fail> {
-    let mut checker = checker(&rt, UNITS)?;
-    assert_eq!(rt;
-        shown(&rt, checker.check(&b"3 0 1 2 0\n4 0 1 2"[..]))?.as_str(),
-        "line 2: unfinished line"
-    );
-    assert_eq!(rt;
-        shown(&rt, checker.check(&b""[..]))?.as_str(),
-        "an earlier line was not accepted"
-    );
-    assert_eq!(rt;
-        shown(&rt, checker.refute(&b""[..]))?.as_str(),
-        "an earlier line was not accepted"
-    );
-    assert_eq!(rt;
-        checker.check_line(LratLine::Delete { ids: &[] }),
-        Err(LineFault::Failed)
-    );
-    assert!(rt; checker.refuted());
-    Ok(())
-}
+const EMPTY: LratLine<'static> = LratLine::Add {
+    id: 1,
+    clause: &[],
+    hints: &[Hint::Along(5), Hint::Along(3), Hint::Along(4)],
+};
 
 #[test]
 fn single_lines(rt: HostRuntime) -> Result<(), Fail> {
-    let mut checker = checker(&rt, FOUR)?;
     let one = [Lit::from_dimacs(1).ok_or("in range")?];
+    let mut checker = checker(rt.alloc(), FOUR)?;
+    takes_single_lines(&rt, &mut checker, &one);
+    Ok(())
+}
+
+fn takes_single_lines(rt: &impl Abort, checker: &mut LratChecker, one: &[Lit]) {
     let unit = LratLine::Add {
         id: 5,
-        clause: &one,
+        clause: one,
         hints: &[Hint::Along(1), Hint::Along(2)],
     };
     assert_eq!(rt; checker.check_line(unit), Ok(()));
@@ -67,19 +31,30 @@ fn single_lines(rt: HostRuntime) -> Result<(), Fail> {
         checker.check_line(LratLine::Delete { ids: &[1, 2] }),
         Ok(())
     );
-    let empty = LratLine::Add {
-        id: 1,
-        clause: &[],
-        hints: &[Hint::Along(5), Hint::Along(3), Hint::Along(4)],
-    };
-    assert_eq!(rt; checker.check_line(empty), Ok(()));
+    assert_eq!(rt; checker.check_line(EMPTY), Ok(()));
     assert!(rt; checker.refuted());
     assert_eq!(rt;
-        checker.check_line(empty),
+        checker.check_line(EMPTY),
         Err(LineFault::Refused(LratCause::IdTaken))
     );
-    assert_eq!(rt; checker.check_line(empty), Err(LineFault::Failed));
+    assert_eq!(rt; checker.check_line(EMPTY), Err(LineFault::Failed));
+}
+
+/// A line after a text with a fault.
+#[test]
+fn line_after_a_fault(rt: HostRuntime) -> Result<(), Fail> {
+    let mut checker = checker(rt.alloc(), UNITS)?;
+    takes_no_line(&rt, &mut checker);
     Ok(())
+}
+
+fn takes_no_line(rt: &impl Abort, checker: &mut LratChecker) {
+    assert!(rt; checker.check(b"3 0 1 2 0\n4 0 1 2".as_slice()).is_err());
+    assert_eq!(rt;
+        checker.check_line(LratLine::Delete { ids: &[] }),
+        Err(LineFault::Failed)
+    );
+    assert!(rt; checker.refuted());
 }
 
 const CAUSES: [(LratCause, &str); 6] = [
@@ -100,17 +75,24 @@ const CAUSES: [(LratCause, &str); 6] = [
 #[test]
 fn texts_of_causes(rt: HostRuntime) -> Result<(), Fail> {
     for (cause, text) in CAUSES {
-        assert_eq!(rt; format!(in rt.alloc(); "{cause}")?.as_str(), text);
-        let fault = LineFault::Refused(cause);
-        assert_eq!(rt; format!(in rt.alloc(); "{fault}")?.as_str(), text);
+        assert_eq!(rt; cause.to_string(rt.alloc())?.as_str(), text);
     }
-    assert_eq!(rt;
-        format!(in rt.alloc(); "{}", LineFault::OutOfMemory)?.as_str(),
-        "out of memory"
-    );
-    assert_eq!(rt;
-        format!(in rt.alloc(); "{}", LineFault::Failed)?.as_str(),
-        "an earlier line was not accepted"
-    );
+    Ok(())
+}
+
+const FAULTS: [(LineFault, &str); 2] = [
+    (LineFault::OutOfMemory, "out of memory"),
+    (LineFault::Failed, "an earlier line was not accepted"),
+];
+
+#[test]
+fn texts_of_faults(rt: HostRuntime) -> Result<(), Fail> {
+    for (cause, text) in CAUSES {
+        let fault = LineFault::Refused(cause);
+        assert_eq!(rt; fault.to_string(rt.alloc())?.as_str(), text);
+    }
+    for (fault, text) in FAULTS {
+        assert_eq!(rt; fault.to_string(rt.alloc())?.as_str(), text);
+    }
     Ok(())
 }

@@ -1,5 +1,5 @@
 //! Lines that add clauses by propagation, deletions and ids.
-use super::{BOTH, FOUR, Numbers, Row, THREE, UNITS, checker, shown, wrong_broken_row, wrong_row};
+use super::{BOTH, FOUR, Row, THREE, UNITS, hold, hold_whole};
 use std::test::Fail;
 
 const PROPAGATION: [Row; 18] = [
@@ -20,7 +20,7 @@ const PROPAGATION: [Row; 18] = [
     (FOUR, "5 0 1 9 0", "line 1: clause of a hint is not unit"),
     (THREE, "4 0 0", "line 1: hints end without a conflict"),
     (
-        &[&[2, 3], &[-2, 4]],
+        "2 3 0 -2 4 0",
         "3 2 0 1 0",
         "line 1: hints end without a conflict",
     ),
@@ -33,14 +33,14 @@ const PROPAGATION: [Row; 18] = [
         "line 2: clause of a hint is not unit",
     ),
     // literals that stand twice, and a clause with both literals of a variable
-    (&[&[1, 1], &[-1]], "3 0 1 2 0", "refuted"),
+    ("1 1 0 -1 0", "3 0 1 2 0", "refuted"),
     (
-        &[&[1, -1], &[-1, 2]],
+        "1 -1 0 -1 2 0",
         "3 2 0 1 0",
         "line 1: clause of a hint is not unit",
     ),
-    (&[&[1, -1], &[-1, 2]], "3 2 0 2 1 0", "accepted"),
-    (&[&[-2, 2]], "2 2 -2 0 1 0", "accepted"),
+    ("1 -1 0 -1 2 0", "3 2 0 2 1 0", "accepted"),
+    ("-2 2 0", "2 2 -2 0 1 0", "accepted"),
 ];
 
 /// What a checker of lines of hints would refuse too, or would not: ids need not rise, and hints
@@ -62,12 +62,7 @@ const LINES_OF_HINTS: [Row; 9] = [
 ];
 
 /// 2^28 is the greatest number of a variable, and its literals have no places.
-const PAIRS: Numbers = &[
-    &[1, 268435456],
-    &[1, -268435456],
-    &[-1, 268435456],
-    &[-1, -268435456],
-];
+const PAIRS: &str = "1 268435456 0 1 -268435456 0 -1 268435456 0 -1 -268435456 0";
 
 const FAR_LITERALS: [Row; 9] = [
     (UNITS, "3 268435456 0 1 2 0\n4 0 1 2 0", "refuted"),
@@ -81,20 +76,20 @@ const FAR_LITERALS: [Row; 9] = [
     ),
     // with a far literal true, one that would have a place is new
     (
-        &[&[268435456, 9], &[268435456, -9]],
+        "268435456 9 0 268435456 -9 0",
         "3 268435456 0 1 2 0\n4 268435456 9 0 3 0",
         "accepted",
     ),
     // clauses that are redundant by it: none has its negation, none any more, one, and one of two
     (UNITS, "3 -268435456 0 0", "accepted"),
-    (&[&[268435456]], "1 d 1 0\n3 -268435456 0 0", "accepted"),
+    ("268435456 0", "1 d 1 0\n3 -268435456 0 0", "accepted"),
     (
-        &[&[268435456, 1]],
+        "268435456 1 0",
         "3 -268435456 0 0",
         "line 1: hints end without a conflict",
     ),
     (
-        &[&[268435456, 1], &[268435456, 2]],
+        "268435456 1 0 268435456 2 0",
         "1 d 1 0\n3 -268435456 0 0",
         "line 2: hints end without a conflict",
     ),
@@ -149,134 +144,34 @@ const IDS: [Row; 15] = [
     (THREE, "4 1 0 0\n", "line 1: hints end without a conflict"),
 ];
 
+/// The empty clause of a formula refutes it, whatever the proof.
+const EMPTY_CLAUSES: [Row; 3] = [
+    ("0", "", "refuted"),
+    ("0", "2 0 1 0", "refuted"),
+    (BOTH, "", "accepted"),
+];
+
 #[test]
 fn lines_by_propagation(rt: HostRuntime) -> Result<(), Fail> {
-    assert_eq!(rt; wrong_row(&rt, &PROPAGATION)?, None);
-    assert_eq!(rt; wrong_broken_row(&rt, &PROPAGATION)?, None);
-    Ok(())
+    hold(&rt, rt.alloc(), &PROPAGATION)
 }
 
 #[test]
 fn lines_of_hints(rt: HostRuntime) -> Result<(), Fail> {
-    assert_eq!(rt; wrong_row(&rt, &LINES_OF_HINTS)?, None);
-    assert_eq!(rt; wrong_broken_row(&rt, &LINES_OF_HINTS)?, None);
-    Ok(())
+    hold(&rt, rt.alloc(), &LINES_OF_HINTS)
 }
 
 #[test]
 fn far_literals(rt: HostRuntime) -> Result<(), Fail> {
-    assert_eq!(rt; wrong_row(&rt, &FAR_LITERALS)?, None);
-    assert_eq!(rt; wrong_broken_row(&rt, &FAR_LITERALS)?, None);
-    Ok(())
+    hold(&rt, rt.alloc(), &FAR_LITERALS)
 }
 
 #[test]
 fn ids_of_lines(rt: HostRuntime) -> Result<(), Fail> {
-    assert_eq!(rt; wrong_row(&rt, &IDS)?, None);
-    assert_eq!(rt; wrong_broken_row(&rt, &IDS)?, None);
-    Ok(())
+    hold(&rt, rt.alloc(), &IDS)
 }
 
-/// Clauses are added and deleted again, more than the checker first has room for.
-#[test]
-fn many_deletions(rt: HostRuntime) -> Result<(), Fail> {
-    let mut checker = checker(&rt, FOUR)?;
-    for round in 0..500u64 {
-        let id = 5 + 2 * round;
-        let proof = format!(in rt.alloc();
-            "{id} 1 0 1 2 0\n{} 1 2 3 4 5 6 0 {id} 0\n1 d {id} 0\n",
-            id + 1
-        )?;
-        assert_eq!(rt;
-            shown(&rt, checker.check(proof.as_bytes()))?.as_str(),
-            "accepted"
-        );
-    }
-    let again = shown(&rt, checker.check(&b"5 0 1004 0\n"[..]))?;
-    assert_eq!(rt; again.as_str(), "line 1: clause of a hint is not unit");
-    Ok(())
-}
-
-/// An id far above the number of clauses is no longer far when it comes again.
-#[test]
-fn ids_that_were_far(rt: HostRuntime) -> Result<(), Fail> {
-    let mut text = String::from_str(rt.alloc(), "20000 2 0 2 3 0\n")?;
-    for id in 4..1200u64 {
-        write!(text, "{id} 2 9 0 20000 0\n")?;
-    }
-    let again = b"7 d 20000 0\n20000 2 7 0 2 3 0\n1200 2 7 8 0 20000 0\n20000 2 0 2 3 0\n";
-    let mut checker = checker(&rt, THREE)?;
-    assert_eq!(rt;
-        shown(&rt, checker.check(text.as_bytes()))?.as_str(),
-        "accepted"
-    );
-    assert_eq!(rt;
-        shown(&rt, checker.check(&again[..]))?.as_str(),
-        "line 4: id is taken"
-    );
-    Ok(())
-}
-
-/// Lines of several texts are checked one after the other; each text counts its lines from 1.
-#[test]
-fn several_texts(rt: HostRuntime) -> Result<(), Fail> {
-    let mut checker = checker(&rt, FOUR)?;
-    assert_eq!(rt;
-        shown(&rt, checker.check(&b"5 1 0 1 2 0\n\n"[..]))?.as_str(),
-        "accepted"
-    );
-    assert!(rt; !checker.refuted());
-    assert_eq!(rt;
-        shown(&rt, checker.check(&b"6 0 5 3 4 0"[..]))?.as_str(),
-        "refuted"
-    );
-    assert!(rt; checker.refuted());
-    assert_eq!(rt; shown(&rt, checker.check(&b""[..]))?.as_str(), "refuted");
-    assert_eq!(rt;
-        shown(&rt, checker.check(&b"\n6 0 5 3 4 0"[..]))?.as_str(),
-        "line 2: id is taken"
-    );
-    assert_eq!(rt;
-        shown(&rt, checker.check(&b""[..]))?.as_str(),
-        "an earlier line was not accepted"
-    );
-    assert!(rt; checker.refuted());
-    Ok(())
-}
-
-const AFTER_THE_EMPTY_CLAUSE: [(&str, &str, &str); 4] = [
-    ("3 0 1 2 0\n3 0 0\n", "line 2: id is taken", "refuted"),
-    ("3 0 1 2 0\nx\n", "line 2: malformed line", "refuted"),
-    (
-        "3 0 1 2\n",
-        "line 1: malformed line",
-        "line 1: malformed line",
-    ),
-    ("3 1 0 1 0\n", "accepted", "accepted"),
-];
-
-#[test]
-fn refuting_stops_at_the_empty_clause(rt: HostRuntime) -> Result<(), Fail> {
-    for (proof, checked, refuted) in AFTER_THE_EMPTY_CLAUSE {
-        let mut all = checker(&rt, UNITS)?;
-        assert_eq!(rt; shown(&rt, all.check(proof.as_bytes()))?.as_str(), checked);
-        let mut first = checker(&rt, UNITS)?;
-        assert_eq!(rt;
-            shown(&rt, first.refute(proof.as_bytes()))?.as_str(),
-            refuted
-        );
-    }
-    Ok(())
-}
-
-/// The empty clause of a formula refutes it, whatever the proof.
 #[test]
 fn empty_clause_of_the_formula(rt: HostRuntime) -> Result<(), Fail> {
-    let rows: [Row; 3] = [
-        (&[&[]], "", "refuted"),
-        (&[&[]], "2 0 1 0", "refuted"),
-        (BOTH, "", "accepted"),
-    ];
-    assert_eq!(rt; wrong_row(&rt, &rows)?, None);
-    Ok(())
+    hold_whole(&rt, rt.alloc(), &EMPTY_CLAUSES)
 }

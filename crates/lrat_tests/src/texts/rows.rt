@@ -1,8 +1,9 @@
 //! Texts with their answers, each beside the number of the line that gives it.
-use super::{Pieces, shown};
+use super::shown;
 use std::alloc::{AllocError, Global};
 use std::process::Abort;
 use std::test::Fail;
+use test_streams::Pieces;
 
 type Row = (&'static [u8], &'static [(usize, &'static str)]);
 
@@ -150,118 +151,110 @@ const OTHER_WORDS: [Row; 14] = [
 ];
 
 /// What is answered where so many lines were read to their LF and the next read fails.
-fn expected(alloc: Global, answers: &[(usize, &str)], lines: usize) -> Result<String, Fail> {
+fn expected(alloc: Global, answers: &[(usize, &str)], lines: usize) -> Result<String, AllocError> {
     let mut all = String::new(alloc);
-    let mut ended = false;
-    for (line, answer) in answers {
-        if *line > lines {
-            write!(all, "error reading proof: broken\n")?;
-            ended = true;
-            break;
-        }
-        write_answer(*line, answer, &mut all)?;
-        ended = !is_line(answer);
-    }
+    let ended = write_answers(&mut all, answers, lines)?;
     if !ended && lines < usize::MAX {
-        write!(all, "error reading proof: broken\n")?;
+        writeln!(all, "error reading proof: broken")?;
     }
     write!(all, "end")?;
     Ok(all)
 }
 
-fn is_line(answer: &str) -> bool {
-    answer.ends_with("0")
-}
-
-fn write_answer(line: usize, answer: &str, all: &mut String) -> Result<(), AllocError> {
-    if is_line(answer) {
-        write!(all, "{answer} @{line}\n")
-    } else {
-        write!(all, "line {line}: {answer}\n")
+/// Writes the answers up to this line. Answers whether the last one is a fault.
+fn write_answers(
+    all: &mut String,
+    answers: &[(usize, &str)],
+    lines: usize,
+) -> Result<bool, AllocError> {
+    for (line, answer) in answers {
+        if *line > lines {
+            return Ok(false);
+        }
+        if !answer.ends_with("0") {
+            writeln!(all, "line {line}: {answer}")?;
+            return Ok(true);
+        }
+        writeln!(all, "{answer} @{line}")?;
     }
+    Ok(false)
 }
 
+fn line_ends(text: &[u8]) -> usize {
+    text.iter().filter(|byte| **byte == b'\n').count()
+}
+
+/// The rows are answered so read at once and in pieces, and where any of their reads fails.
 fn hold(rt: &impl Abort, alloc: Global, rows: &[Row]) -> Result<(), Fail> {
     for (text, answers) in rows {
-        let whole = expected(alloc, answers, usize::MAX)?;
-        assert_eq!(rt; shown(alloc, *text)?.as_str(), whole.as_str());
-        for size in 1..3usize {
-            assert_eq!(rt;
-                in_pieces(alloc, text, size, 0)?.as_str(),
-                whole.as_str(),
-                "by {size}"
-            );
+        for size in [usize::MAX, 1, 2] {
+            is_answered(rt, alloc, answers, Pieces::of_size(text, size), usize::MAX)?;
+        }
+        for read in 0..=text.len() {
+            let lines = line_ends(&text[..read]);
+            let failing = read.saturating_add(1);
+            is_answered(
+                rt,
+                alloc,
+                answers,
+                Pieces::failing_at(text, 1, failing),
+                lines,
+            )?;
         }
     }
     Ok(())
 }
 
-fn hold_where_reads_fail(rt: &impl Abort, alloc: Global, rows: &[Row]) -> Result<(), Fail> {
-    for (text, answers) in rows {
-        for read in 0..text.len().saturating_add(1) {
-            let lines = text[..read].iter().filter(|byte| **byte == b'\n').count();
-            let cut = expected(alloc, answers, lines)?;
-            let all = in_pieces(alloc, text, 1, read.saturating_add(1))?;
-            assert_eq!(rt; all.as_str(), cut.as_str(), "after {read} bytes");
-        }
-    }
+/// The answers are these, up to those of so many lines.
+fn is_answered(
+    rt: &impl Abort,
+    alloc: Global,
+    answers: &[(usize, &str)],
+    text: Pieces<'_>,
+    lines: usize,
+) -> Result<(), Fail> {
+    let seen = shown(alloc, text)?;
+    let wanted = expected(alloc, answers, lines)?;
+    assert_eq!(rt; seen.as_str(), wanted.as_str());
     Ok(())
-}
-
-fn in_pieces(alloc: Global, text: &[u8], size: usize, fails_at: usize) -> Result<String, Fail> {
-    let pieces = Pieces {
-        text,
-        size,
-        reads: 0,
-        fails_at,
-    };
-    shown(alloc, pieces)
 }
 
 #[test]
 fn passed_over(rt: HostRuntime) -> Result<(), Fail> {
-    hold(&rt, rt.alloc(), &PASSED_OVER)?;
-    hold_where_reads_fail(&rt, rt.alloc(), &PASSED_OVER)
+    hold(&rt, rt.alloc(), &PASSED_OVER)
 }
 
 #[test]
 fn lines(rt: HostRuntime) -> Result<(), Fail> {
-    hold(&rt, rt.alloc(), &LINES)?;
-    hold_where_reads_fail(&rt, rt.alloc(), &LINES)
+    hold(&rt, rt.alloc(), &LINES)
 }
 
 #[test]
 fn blanks_and_zeros(rt: HostRuntime) -> Result<(), Fail> {
-    hold(&rt, rt.alloc(), &BLANKS_AND_ZEROS)?;
-    hold_where_reads_fail(&rt, rt.alloc(), &BLANKS_AND_ZEROS)
+    hold(&rt, rt.alloc(), &BLANKS_AND_ZEROS)
 }
 
 #[test]
 fn largest_numbers(rt: HostRuntime) -> Result<(), Fail> {
-    hold(&rt, rt.alloc(), &LARGEST_NUMBERS)?;
-    hold_where_reads_fail(&rt, rt.alloc(), &LARGEST_NUMBERS)
+    hold(&rt, rt.alloc(), &LARGEST_NUMBERS)
 }
 
 #[test]
 fn zeros_that_are_missing(rt: HostRuntime) -> Result<(), Fail> {
-    hold(&rt, rt.alloc(), &ZEROS_THAT_ARE_MISSING)?;
-    hold_where_reads_fail(&rt, rt.alloc(), &ZEROS_THAT_ARE_MISSING)
+    hold(&rt, rt.alloc(), &ZEROS_THAT_ARE_MISSING)
 }
 
 #[test]
 fn words_after_the_last_zero(rt: HostRuntime) -> Result<(), Fail> {
-    hold(&rt, rt.alloc(), &WORDS_AFTER_THE_LAST_ZERO)?;
-    hold_where_reads_fail(&rt, rt.alloc(), &WORDS_AFTER_THE_LAST_ZERO)
+    hold(&rt, rt.alloc(), &WORDS_AFTER_THE_LAST_ZERO)
 }
 
 #[test]
 fn signs(rt: HostRuntime) -> Result<(), Fail> {
-    hold(&rt, rt.alloc(), &SIGNS)?;
-    hold_where_reads_fail(&rt, rt.alloc(), &SIGNS)
+    hold(&rt, rt.alloc(), &SIGNS)
 }
 
 #[test]
 fn other_words(rt: HostRuntime) -> Result<(), Fail> {
-    hold(&rt, rt.alloc(), &OTHER_WORDS)?;
-    hold_where_reads_fail(&rt, rt.alloc(), &OTHER_WORDS)
+    hold(&rt, rt.alloc(), &OTHER_WORDS)
 }

@@ -1,0 +1,47 @@
+//! Readers that give few bytes a read, or fail.
+use std::io;
+use std::io::{ErrorKind, Read};
+
+/// Gives so many bytes a read, and may fail one of its reads.
+#[derive(Clone, Copy)]
+pub struct Pieces<'a> {
+    rest: &'a [u8],
+    size: usize,
+    /// The number of the read that fails, counted from 1. It is 0 where none does, or one has.
+    failing: usize,
+}
+
+impl Pieces<'_> {
+    /// So many bytes a read.
+    pub fn of_size(bytes: &[u8], size: usize) -> Pieces<'_> {
+        Pieces::failing_at(bytes, size, 0)
+    }
+
+    /// So many bytes a read, and the read of this number, counted from 1, fails.
+    pub fn failing_at(bytes: &[u8], size: usize, failing: usize) -> Pieces<'_> {
+        Pieces {
+            rest: bytes,
+            size,
+            failing,
+        }
+    }
+
+    /// One byte a read, and after the last one a read that fails.
+    pub fn broken(bytes: &[u8]) -> Pieces<'_> {
+        Pieces::failing_at(bytes, 1, bytes.len().saturating_add(1))
+    }
+}
+
+impl Read for Pieces<'_> {
+    fn read(&mut self, buf: &mut [u8]) -> io::Result<usize> {
+        if self.failing == 1 {
+            self.failing = 0;
+            return Err(io::Error::new(ErrorKind::Interrupted, "broken"));
+        }
+        self.failing = self.failing.saturating_sub(1);
+        let count = self.size.min(buf.len()).min(self.rest.len());
+        buf[..count].copy_from_slice(&self.rest[..count]);
+        self.rest = &self.rest[count..];
+        Ok(count)
+    }
+}
