@@ -9,8 +9,6 @@ mod lines;
 mod listing;
 mod marks;
 mod room;
-#[cfg(test)]
-mod tests;
 mod values;
 mod word;
 

@@ -9,6 +9,7 @@ pub struct Pieces<'a> {
     size: usize,
     /// The number of the read that fails, counted from 1. It is 0 where none does, or one has.
     failing: usize,
+    kind: ErrorKind,
 }
 
 impl Pieces<'_> {
@@ -23,6 +24,7 @@ impl Pieces<'_> {
             rest: bytes,
             size,
             failing,
+            kind: ErrorKind::Interrupted,
         }
     }
 
@@ -30,13 +32,20 @@ impl Pieces<'_> {
     pub fn broken(bytes: &[u8]) -> Pieces<'_> {
         Pieces::failing_at(bytes, 1, bytes.len().saturating_add(1))
     }
+
+    /// One byte a read, and after the last one a read that has no memory.
+    pub fn without_memory(bytes: &[u8]) -> Pieces<'_> {
+        let mut pieces = Pieces::broken(bytes);
+        pieces.kind = ErrorKind::OutOfMemory;
+        pieces
+    }
 }
 
 impl Read for Pieces<'_> {
     fn read(&mut self, buf: &mut [u8]) -> io::Result<usize> {
         if self.failing == 1 {
             self.failing = 0;
-            return Err(io::Error::new(ErrorKind::Interrupted, "broken"));
+            return Err(io::Error::new(self.kind, "broken"));
         }
         self.failing = self.failing.saturating_sub(1);
         let count = self.size.min(buf.len()).min(self.rest.len());

@@ -1,6 +1,6 @@
 //! Lines that say nothing of hints.
+use hint_checker::{HintChecker, HintFault};
 use sat_formula::CnfFormula;
-use sat_hints::{HintChecker, HintFault};
 use std::alloc::Global;
 use std::test::Fail;
 
