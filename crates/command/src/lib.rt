@@ -6,8 +6,6 @@ mod header;
 mod kind;
 mod outputs;
 mod status;
-#[cfg(test)]
-mod tests;
 
 pub use files::{
     Input, create_output, open_input, say_drat_proof, say_formula, say_proof, warn_of_header,

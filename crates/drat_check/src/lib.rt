@@ -8,8 +8,6 @@ mod fault;
 mod outputs;
 mod proof;
 mod run;
-#[cfg(test)]
-mod tests;
 mod with_outputs;
 
 pub use fault::{OutputFault, ProofFault, RunFault};

@@ -17,8 +17,6 @@ mod propagator;
 mod records;
 mod redundancy;
 mod sweep;
-#[cfg(test)]
-mod tests;
 mod trail;
 mod watches;
 

@@ -7,8 +7,6 @@ mod fault;
 mod number;
 mod reader;
 mod step;
-#[cfg(test)]
-mod tests;
 mod text;
 
 pub use fault::{DratFault, DratKind};

@@ -6,8 +6,6 @@ mod fault;
 mod laws;
 mod run;
 mod status;
-#[cfg(test)]
-mod tests;
 mod verdict;
 
 pub use fault::RunFault;

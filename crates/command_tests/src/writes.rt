@@ -1,9 +1,9 @@
 //! Writers that take bytes in parts, fail, are interrupted, or hold bytes back.
-use crate::append::{append_whole, write_whole};
 use std::alloc::Global;
 use std::io;
 use std::io::{BufWriter, ErrorKind, Write};
 use std::test::Fail;
+use whole_writes::{append_whole, write_whole};
 
 /// Takes up to so many bytes a write, every other time after it was interrupted, and none past its
 /// end. Its flush succeeds or fails, and is counted.

@@ -1,6 +1,5 @@
 //! Files by their first bytes, which are those that other programs write, and headers by the rules.
-use crate::header::{CountingReader, Counts, LyingHeader};
-use crate::kind::{Kind, kind_of};
+use command::{CountingReader, Counts, Kind, LyingHeader, kind_of};
 use std::io::Read;
 use std::test::Fail;
 

@@ -1,6 +1,5 @@
 //! Small proofs, as rows: what is told of each.
-use crate::elaborator::Elaborator;
-use crate::fault::ElaborateFault;
+use drat_elaborate::{ElaborateFault, Elaborator};
 use lrat_text::{Hint, LratLine};
 use sat_formula::{CnfFormula, Lit, read_formula};
 use std::alloc::Global;
@@ -11,11 +10,6 @@ use std::test::Fail;
 /// it adds. What is told: how many additions are taken before a conflict; the lines, or the fault;
 /// the clauses of the formula that are used; the deletions that met none, or only reasons.
 type Row = (&'static str, &'static str, &'static str, &'static str);
-
-/// Reads clauses.
-fn clauses(alloc: Global, text: &str) -> Result<CnfFormula, Fail> {
-    Ok(read_formula(alloc, text.as_bytes())?)
-}
 
 fn add_formula(elaborator: &mut Elaborator, formula: &CnfFormula) -> Result<(), ElaborateFault> {
     for clause in formula {
@@ -146,22 +140,21 @@ fn tell(
 }
 
 /// What is told of a row. The elaborator, which has many parts, stands in this function alone.
-fn told_of(
-    text: &mut String,
-    alloc: Global,
-    parts: (&CnfFormula, &CnfFormula, &CnfFormula),
-) -> Result<(), Fail> {
-    let mut elaborator = Elaborator::new(alloc);
-    tell(text, &mut elaborator, parts)
+fn told_of(alloc: Global, parts: (&CnfFormula, &CnfFormula, &CnfFormula)) -> Result<String, Fail> {
+    let mut text = String::new(alloc);
+    tell(&mut text, &mut Elaborator::new(alloc), parts)?;
+    Ok(text)
 }
 
-fn check(rt: &impl Abort, alloc: Global, row: Row) -> Result<(), Fail> {
-    let (formula, deleted, lemmas, told) = row;
-    let formula = clauses(alloc, formula)?;
-    let deleted = clauses(alloc, deleted)?;
-    let lemmas = clauses(alloc, lemmas)?;
-    let mut text = String::new(alloc);
-    told_of(&mut text, alloc, (&formula, &deleted, &lemmas))?;
+fn is_told(
+    rt: &impl Abort,
+    alloc: Global,
+    (formula, deleted, lemmas, told): Row,
+) -> Result<(), Fail> {
+    let formula = read_formula(alloc, formula.as_bytes())?;
+    let deleted = read_formula(alloc, deleted.as_bytes())?;
+    let lemmas = read_formula(alloc, lemmas.as_bytes())?;
+    let text = told_of(alloc, (&formula, &deleted, &lemmas))?;
     assert_eq!(rt; text.as_str(), told);
     Ok(())
 }
@@ -174,11 +167,6 @@ const BY_PROPAGATION: Row = (
     "late clause: internal error; 1 added: d 5; 6 1 0 1 2; d 2 1; 7 0 6 3 4; \
      used 1 2 3 4; 1 missing, 0 kept",
 );
-
-#[test]
-fn lemma_by_propagation(rt: HostRuntime) -> Result<(), Fail> {
-    check(&rt, rt.alloc(), BY_PROPAGATION)
-}
 
 /// The first two lemmas don't follow. No clause has 4 when the first comes; the second is resolved
 /// with it, which propagation refutes.
@@ -193,11 +181,6 @@ const REDUNDANT: Row = (
      used 1 2 3 4 5 6 7 8 9 10 11; 0 missing, 0 kept",
 );
 
-#[test]
-fn redundant_lemmas(rt: HostRuntime) -> Result<(), Fail> {
-    check(&rt, rt.alloc(), REDUNDANT)
-}
-
 /// The clause 3 doesn't follow, and neither does what it makes with 1 2 -3.
 const UNFOUNDED: Row = (
     "1 2 -3 0 1 -2 0 -1 2 0 -1 -2 -3 0",
@@ -207,11 +190,6 @@ const UNFOUNDED: Row = (
      step 1: clause neither follows nor is redundant by its first literal",
 );
 
-#[test]
-fn refused_lemma(rt: HostRuntime) -> Result<(), Fail> {
-    check(&rt, rt.alloc(), UNFOUNDED)
-}
-
 /// The proof stops before a conflict.
 const OPEN: Row = (
     "1 2 0 1 -2 0",
@@ -219,11 +197,6 @@ const OPEN: Row = (
     "1 0",
     "late clause: internal error; 1 added: no conflict after 1 steps",
 );
-
-#[test]
-fn no_conflict(rt: HostRuntime) -> Result<(), Fail> {
-    check(&rt, rt.alloc(), OPEN)
-}
 
 /// The clause 1 forces its literal, and is kept; the tautology goes first; a literal stands twice
 /// in the lemma, and a deletion names the clause in another order.
@@ -235,11 +208,6 @@ const REASON: Row = (
      used 1 2 3 4 5; 0 missing, 1 kept",
 );
 
-#[test]
-fn kept_reason(rt: HostRuntime) -> Result<(), Fail> {
-    check(&rt, rt.alloc(), REASON)
-}
-
 /// The empty clause of a formula needs no proof.
 const EMPTY: Row = (
     "1 0 0 2 3 0",
@@ -249,6 +217,9 @@ const EMPTY: Row = (
 );
 
 #[test]
-fn empty_clause(rt: HostRuntime) -> Result<(), Fail> {
-    check(&rt, rt.alloc(), EMPTY)
+fn proofs(rt: HostRuntime) -> Result<(), Fail> {
+    for row in [BY_PROPAGATION, REDUNDANT, UNFOUNDED, OPEN, REASON, EMPTY] {
+        is_told(&rt, rt.alloc(), row)?;
+    }
+    Ok(())
 }

@@ -1,0 +1,102 @@
+//! Runs with their verdicts, lines and statuses, texts of faults, and reads and writes that fail.
+use drat_check::{RunFault, exit_status, run_check};
+use std::alloc::{AllocError, Global};
+use std::process::Abort;
+use std::test::Fail;
+use test_streams::{Full, Pieces};
+
+/// Four clauses, one against each pair of values of two variables.
+const FOUR: &[u8] = b"1 2 0 1 -2 0 -1 2 0 -1 -2 0";
+
+/// What a run answers: its line or the text of its fault, and its exit status.
+type Outcome = (&'static str, u8);
+
+const VERIFIED: Outcome = ("s VERIFIED UNSAT\n", 0);
+
+const NOT_VERIFIED: Outcome = ("s NOT VERIFIED\n", 3);
+
+/// The second step is needed, and is not right.
+const UNFOUNDED: Outcome = (
+    "proof: step 2: clause neither follows nor is redundant by its first literal",
+    1,
+);
+
+/// A formula and a proof with what is answered.
+type Row = (&'static [u8], &'static [u8], Outcome);
+
+const RUNS: [Row; 18] = [
+    (FOUR, b"1 0\n0\n", VERIFIED),
+    (FOUR, b"1 0\nd 1 2 0\n0", VERIFIED),
+    (FOUR, b"c a comment\n-2 0\n", VERIFIED),
+    (FOUR, b"", NOT_VERIFIED),
+    (FOUR, b"d 1 2 0\n1 0\n", UNFOUNDED),
+    (FOUR, b"1 2 -1 0\n", NOT_VERIFIED),
+    (FOUR, b"1 x 0\n", ("proof: step 1: malformed", 1)),
+    (FOUR, b"1 2 0\n2 -1", ("proof: step 2: unfinished", 1)),
+    (
+        FOUR,
+        b"268435457 0\n",
+        ("proof: step 1: number too large", 1),
+    ),
+    // binary: a byte before the literals, `a` or `d`, then 2 v + sign for each, then 0
+    (FOUR, b"a\x02\0a\0", VERIFIED),
+    (FOUR, b"d\x02\x04\0a\x02\0", UNFOUNDED),
+    (FOUR, b"a\x02\x04\0a\x01\0", ("proof: step 2: malformed", 1)),
+    // a clause with a variable of its own is redundant by it; one that cuts is not
+    (FOUR, b"3 1 0 -3 -1 0 1 0 0", VERIFIED),
+    (b"1 2 0 -1 -2 0", b"1 0 2 0 0", UNFOUNDED),
+    // formulas that need no step, have no clause, or can't be read
+    (b"0", b"", VERIFIED),
+    (b"1 0 -1 0", b"", VERIFIED),
+    (b"", b"", NOT_VERIFIED),
+    (b"1 x 0", b"0", ("formula: line 1: bad number", 1)),
+];
+
+fn whole(bytes: &[u8]) -> Pieces<'_> {
+    Pieces::of_size(bytes, usize::MAX)
+}
+
+/// The line that was written, or else the text of the fault.
+fn is_answered(
+    rt: &impl Abort,
+    alloc: Global,
+    cnf: &[u8],
+    proof: Pieces<'_>,
+    (text, status): Outcome,
+) -> Result<(), AllocError> {
+    let mut out = Vec::new(alloc);
+    let answer = run_check(alloc, whole(cnf), proof, &mut out);
+    assert_eq!(rt; exit_status(&answer), status, "{text}");
+    match answer {
+        Ok(_) => assert_eq!(rt; out.as_slice(), text.as_bytes()),
+        Err(fault) => {
+            assert_eq!(rt; out.len(), 0);
+            assert_eq!(rt; fault.to_string(alloc)?.as_str(), text);
+        }
+    }
+    Ok(())
+}
+
+#[test]
+fn runs(rt: HostRuntime) -> Result<(), Fail> {
+    for (cnf, proof, outcome) in RUNS {
+        is_answered(&rt, rt.alloc(), cnf, whole(proof), outcome)?;
+    }
+    Ok(())
+}
+
+#[test]
+fn reads_that_fail(rt: HostRuntime) -> Result<(), Fail> {
+    let fault = ("proof: error reading proof: broken", 1);
+    is_answered(&rt, rt.alloc(), FOUR, Pieces::broken(b"1 0\n"), VERIFIED)?;
+    is_answered(&rt, rt.alloc(), FOUR, Pieces::broken(b"1 2 0\n1"), fault)?;
+    Ok(())
+}
+
+#[test]
+fn line_that_cannot_be_written(rt: HostRuntime) {
+    let mut out = Full::after(0);
+    let answer = run_check(rt.alloc(), whole(FOUR), whole(b"1 0\n"), &mut out);
+    assert_eq!(rt; matches!(answer, Err(RunFault::Write(_))), true);
+    assert_eq!(rt; exit_status(&answer), 1);
+}

@@ -1,0 +1,155 @@
+//! Runs with their verdicts, lines and statuses, texts of faults, and reads and writes that fail.
+use model_check::{RunFault, Verdict, exit_status, run_check};
+use std::alloc::{AllocError, Global};
+use std::process::Abort;
+use std::test::Fail;
+use test_streams::{Full, Pieces};
+
+/// What a run answers: its line or the text of its fault, the clause that is not met, and its exit
+/// status.
+type Outcome = (&'static str, u64, u8);
+
+const VERIFIED: Outcome = ("s VERIFIED SAT\n", 0, 0);
+
+const fn unmet(clause: u64) -> Outcome {
+    ("s NOT VERIFIED\n", clause, 3)
+}
+
+const fn refused(text: &'static str) -> Outcome {
+    (text, 0, 1)
+}
+
+/// 1 or 2, not 1 or 3, not 2 or not 3.
+const THREE: &[u8] = b"p cnf 3 3\n1 2 0\n-1 3 0\n-2 -3 0\n";
+
+/// A formula and an answer with what is said of it.
+type Row = (&'static [u8], &'static [u8], Outcome);
+
+const ANSWERS: [Row; 15] = [
+    (THREE, b"s SATISFIABLE\nv 1 -2 3 0\n", VERIFIED),
+    (THREE, b"c\ns SATISFIABLE\nv -1 2\nv -3 0\nc\n", VERIFIED),
+    (THREE, b"1 -2 3 0", VERIFIED),
+    (THREE, b"3 1 -2 4 0", VERIFIED),
+    (THREE, b"1 2 3 0", unmet(3)),
+    (THREE, b"1 -2 -3 0", unmet(2)),
+    (THREE, b"-1 -2 3 0", unmet(1)),
+    (THREE, b"0", unmet(1)),
+    (THREE, b"1 3 0", unmet(3)),
+    (
+        THREE,
+        b"1 -1 2 3 0",
+        refused("answer: line 1: both signs of a variable"),
+    ),
+    (
+        THREE,
+        b"s UNSATISFIABLE\n",
+        refused("answer: line 1: the answer is UNSATISFIABLE"),
+    ),
+    (
+        THREE,
+        b"c\ns UNKNOWN\n",
+        refused("answer: line 2: the answer is UNKNOWN"),
+    ),
+    (
+        THREE,
+        b"s SATISFIABLE\nv 1 -2 3",
+        refused("answer: line 2: the answer ends early"),
+    ),
+    (
+        THREE,
+        b"v 1 -2 3 0\n",
+        refused("answer: line 2: no status line"),
+    ),
+    (
+        THREE,
+        b"1 -2 3 0\n1",
+        refused("answer: line 2: a number after the last one"),
+    ),
+];
+
+/// An empty clause is met by nothing, and no clause is met by anything. A formula is read to its
+/// end.
+const FORMULAS: [Row; 6] = [
+    (b"", b"0", VERIFIED),
+    (b"0", b"1 0", unmet(1)),
+    (b"1 0 0 2 0", b"1 2 0", unmet(2)),
+    (b"1 -1 0", b"2 0", unmet(1)),
+    (
+        b"1 0\n2 x 0",
+        b"-1 0",
+        refused("formula: line 2: bad number"),
+    ),
+    (
+        b"1 0 2",
+        b"1 2 0",
+        refused("formula: line 1: unterminated clause"),
+    ),
+];
+
+fn clause_of(verdict: Verdict) -> u64 {
+    match verdict {
+        Verdict::Verified => 0,
+        Verdict::NotVerified { clause } => clause,
+    }
+}
+
+fn whole(bytes: &[u8]) -> Pieces<'_> {
+    Pieces::of_size(bytes, usize::MAX)
+}
+
+/// The line that was written, or else the text of the fault.
+fn is_answered(
+    rt: &impl Abort,
+    alloc: Global,
+    cnf: Pieces<'_>,
+    answer: Pieces<'_>,
+    (text, unmet, status): Outcome,
+) -> Result<(), AllocError> {
+    let mut out = Vec::new(alloc);
+    let outcome = run_check(alloc, cnf, answer, &mut out);
+    assert_eq!(rt; exit_status(&outcome), status, "{text}");
+    match outcome {
+        Ok(verdict) => {
+            assert_eq!(rt; out.as_slice(), text.as_bytes());
+            assert_eq!(rt; clause_of(verdict), unmet);
+        }
+        Err(fault) => {
+            assert_eq!(rt; out.len(), 0);
+            assert_eq!(rt; fault.to_string(alloc)?.as_str(), text);
+        }
+    }
+    Ok(())
+}
+
+fn hold(rt: &impl Abort, alloc: Global, rows: &[Row]) -> Result<(), AllocError> {
+    for (cnf, answer, outcome) in rows {
+        is_answered(rt, alloc, whole(cnf), whole(answer), *outcome)?;
+    }
+    Ok(())
+}
+
+#[test]
+fn runs(rt: HostRuntime) -> Result<(), Fail> {
+    hold(&rt, rt.alloc(), &ANSWERS)?;
+    hold(&rt, rt.alloc(), &FORMULAS)?;
+    Ok(())
+}
+
+const ANSWER: &[u8] = b"1 -2 3 0";
+
+#[test]
+fn reads_that_fail(rt: HostRuntime) -> Result<(), Fail> {
+    let fault = refused("answer: error reading answer: broken");
+    is_answered(&rt, rt.alloc(), whole(THREE), Pieces::broken(ANSWER), fault)?;
+    let fault = refused("formula: error reading formula: broken");
+    is_answered(&rt, rt.alloc(), Pieces::broken(THREE), whole(ANSWER), fault)?;
+    Ok(())
+}
+
+#[test]
+fn line_that_cannot_be_written(rt: HostRuntime) {
+    let mut out = Full::after(0);
+    let outcome = run_check(rt.alloc(), whole(THREE), whole(ANSWER), &mut out);
+    assert_eq!(rt; matches!(outcome, Err(RunFault::Write(_))), true);
+    assert_eq!(rt; exit_status(&outcome), 1);
+}
