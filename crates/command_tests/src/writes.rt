@@ -2,6 +2,7 @@
 use std::alloc::Global;
 use std::io;
 use std::io::{BufWriter, ErrorKind, Write};
+use std::process::Abort;
 use std::test::Fail;
 use whole_writes::{append_whole, write_whole};
 
@@ -56,67 +57,78 @@ impl Write for Disk {
 
 /// The kind of an answer's error.
 fn kind_of(answer: io::Result<()>) -> Option<ErrorKind> {
-    answer.err().map(|fault| fault.kind())
+    match answer {
+        Ok(()) => None,
+        Err(fault) => Some(fault.kind()),
+    }
 }
 
 #[test]
-fn parts_are_joined(rt: HostRuntime) -> Result<(), Fail> {
+fn parts_are_joined(rt: HostRuntime) {
     for most in [1, 2, 3, 7, 8, 100] {
-        let mut disk = Disk::new(rt.alloc(), 1000, most);
-        assert_eq!(rt; kind_of(append_whole(&mut disk, b"one two ")), None);
-        assert_eq!(rt; disk.flushes, 0);
-        assert_eq!(rt; kind_of(write_whole(&mut disk, b"three")), None);
-        assert_eq!(rt; kind_of(write_whole(&mut disk, b"")), None);
-        assert_eq!(rt; disk.bytes.as_slice(), b"one two three".as_slice());
-        assert_eq!(rt; disk.flushes, 2);
+        joins_parts(&rt, &mut Disk::new(rt.alloc(), 1000, most));
     }
-    Ok(())
 }
 
+fn joins_parts(rt: &impl Abort, disk: &mut Disk) {
+    assert_eq!(rt; kind_of(append_whole(disk, b"one two ")), None);
+    assert_eq!(rt; disk.flushes, 0);
+    assert_eq!(rt; kind_of(write_whole(disk, b"three")), None);
+    assert_eq!(rt; kind_of(write_whole(disk, b"")), None);
+    assert_eq!(rt; disk.bytes.as_slice(), b"one two three".as_slice());
+    assert_eq!(rt; disk.flushes, 2);
+}
+
+const LINE: &[u8] = b"s VERIFIED UNSAT\n";
+
 #[test]
-fn full_disks_hold_a_beginning(rt: HostRuntime) -> Result<(), Fail> {
-    let text = b"s VERIFIED UNSAT\n".as_slice();
-    for room in 0..text.len() {
-        let mut disk = Disk::new(rt.alloc(), room, 5);
-        assert_eq!(rt;
-            kind_of(write_whole(&mut disk, text)),
-            Some(ErrorKind::StorageFull)
-        );
-        assert_eq!(rt; disk.bytes.as_slice(), &text[..room]);
-        assert_eq!(rt; disk.flushes, 0);
+fn full_disks_hold_a_beginning(rt: HostRuntime) {
+    for room in 0..LINE.len() {
+        holds_a_beginning(&rt, &mut Disk::new(rt.alloc(), room, 5), &LINE[..room]);
     }
-    Ok(())
+}
+
+fn holds_a_beginning(rt: &impl Abort, disk: &mut Disk, beginning: &[u8]) {
+    let fault = kind_of(write_whole(disk, LINE));
+    assert_eq!(rt; fault, Some(ErrorKind::StorageFull));
+    assert_eq!(rt; disk.bytes.as_slice(), beginning);
+    assert_eq!(rt; disk.flushes, 0);
 }
 
 #[test]
-fn writers_that_take_nothing(rt: HostRuntime) -> Result<(), Fail> {
-    let mut disk = Disk::new(rt.alloc(), 1000, 0);
-    assert_eq!(rt;
-        kind_of(write_whole(&mut disk, b"x")),
-        Some(ErrorKind::WriteZero)
-    );
-    assert_eq!(rt; kind_of(write_whole(&mut disk, b"")), None);
-    Ok(())
+fn writers_that_take_nothing(rt: HostRuntime) {
+    takes_nothing(&rt, &mut Disk::new(rt.alloc(), 1000, 0));
+}
+
+fn takes_nothing(rt: &impl Abort, disk: &mut Disk) {
+    let fault = kind_of(write_whole(disk, b"x"));
+    assert_eq!(rt; fault, Some(ErrorKind::WriteZero));
+    assert_eq!(rt; kind_of(write_whole(disk, b"")), None);
 }
 
 #[test]
-fn flushes_that_fail(rt: HostRuntime) -> Result<(), Fail> {
+fn flushes_that_fail(rt: HostRuntime) {
     let mut disk = Disk::new(rt.alloc(), 1000, 2);
     disk.flush_fails = true;
-    assert_eq!(rt;
-        kind_of(write_whole(&mut disk, b"line")),
-        Some(ErrorKind::BrokenPipe)
-    );
+    does_not_flush(&rt, &mut disk);
+}
+
+fn does_not_flush(rt: &impl Abort, disk: &mut Disk) {
+    let fault = kind_of(write_whole(disk, b"line"));
+    assert_eq!(rt; fault, Some(ErrorKind::BrokenPipe));
     assert_eq!(rt; disk.bytes.as_slice(), b"line".as_slice());
-    Ok(())
 }
 
 #[test]
 fn buffers_are_emptied(rt: HostRuntime) -> Result<(), Fail> {
     let mut out = BufWriter::new(rt.alloc(), Vec::new(rt.alloc()))?;
-    append_whole(&mut out, b"held")?;
-    assert_eq!(rt; out.get_ref().len(), 0);
-    write_whole(&mut out, b" back")?;
-    assert_eq!(rt; out.get_ref().as_slice(), b"held back".as_slice());
+    empties_its_buffer(&rt, &mut out);
     Ok(())
+}
+
+fn empties_its_buffer(rt: &impl Abort, out: &mut BufWriter<Vec<u8>>) {
+    assert_eq!(rt; kind_of(append_whole(out, b"held")), None);
+    assert_eq!(rt; out.get_ref().len(), 0);
+    assert_eq!(rt; kind_of(write_whole(out, b" back")), None);
+    assert_eq!(rt; out.get_ref().as_slice(), b"held back".as_slice());
 }

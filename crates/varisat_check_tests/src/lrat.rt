@@ -1,7 +1,7 @@
 //! Runs that a writer of hints writes, and what a checker of hints says of them.
 use crate::four_clauses::{FIRST_MISSING, FOUR, HASHES, WIDTH_1, proof_of_four};
 use crate::outcomes::{is_answered, refused};
-use crate::streams::{Full, byte_by_byte};
+use crate::streams::byte_by_byte;
 use log::sink::Discard;
 use proof_bytes::{ProofStep, write_step};
 use sat_formula::{CnfFormula, Lit};
@@ -10,6 +10,7 @@ use std::alloc::Global;
 use std::io::Read;
 use std::process::Abort;
 use std::test::Fail;
+use test_streams::Full;
 use varisat_check::{RunFault, Verdict, read_formula, run_lrat};
 
 /// The text of a formula, a proof, what is written, the verdict, and what a checker of hints
@@ -181,13 +182,29 @@ fn outputs_that_cannot_be_written(rt: HostRuntime) -> Result<(), Fail> {
     let formula = formula(alloc, UNITS)?;
     let mut out = Vec::new(alloc);
     let writer = LratWriter::new(alloc, 2);
-    let answer = run_lrat(&Discard, alloc, &formula, writer, end, &mut out, &mut Full);
+    let answer = run_lrat(
+        &Discard,
+        alloc,
+        &formula,
+        writer,
+        end,
+        &mut out,
+        &mut Full::after(0),
+    );
     assert!(rt; matches!(&answer, Err(RunFault::Write(_))));
     assert!(rt; out.is_empty());
 
     let mut lrat = Vec::new(alloc);
     let writer = LratWriter::new(alloc, 2);
-    let answer = run_lrat(&Discard, alloc, &formula, writer, end, &mut Full, &mut lrat);
+    let answer = run_lrat(
+        &Discard,
+        alloc,
+        &formula,
+        writer,
+        end,
+        &mut Full::after(0),
+        &mut lrat,
+    );
     assert!(rt; matches!(&answer, Err(RunFault::Write(_))));
     assert_eq!(rt; lrat.as_slice(), b"5 0 1 2 0\n".as_slice());
     Ok(())

@@ -2,15 +2,15 @@
 //! fail.
 use crate::four_clauses::{FIRST_MISSING, FOUR, WIDTH_1, proof_of_four};
 use crate::outcomes::{NOT_SHOWN, Outcome, SHOWN, WITH_ONE_ADDED, is_answered, refused};
-use crate::streams::{Counting, Full, broken, byte_by_byte};
+use crate::streams::{Counting, byte_by_byte};
 use checker_parts::error::CheckerError;
 use log::sink::Discard;
 use sat_formula::Lit;
 use std::alloc::Global;
-use std::io;
-use std::io::{ErrorKind, Read};
+use std::io::Read;
 use std::process::Abort;
 use std::test::Fail;
+use test_streams::{Full, Pieces};
 use varisat_check::{RunFault, run_check, run_proof};
 use varisat_checker::Checker;
 
@@ -148,24 +148,20 @@ fn reads_that_fail(rt: HostRuntime) -> Result<(), Fail> {
     let alloc = rt.alloc();
     let end: &[u8] = &[0x0D];
     let cnf = "1 0\n-1 0\n".as_bytes();
-    let cause = io::Error::from(ErrorKind::ConnectionReset);
-
-    let text = format!(in alloc; "error reading formula: {cause}")?;
-    check(&rt, alloc, broken(cnf), end, refused(&text))?;
-
-    let text = format!(in alloc; "step 2: Error reading proof file: {cause}")?;
-    check(&rt, alloc, cnf, broken(&[0x05, 0x00]), refused(&text))
+    let fault = refused("error reading formula: broken");
+    check(&rt, alloc, Pieces::broken(cnf), end, fault)?;
+    let fault = refused("step 2: Error reading proof file: broken");
+    check(&rt, alloc, cnf, Pieces::broken(&[0x05, 0x00]), fault)
 }
 
 #[test]
 fn lines_that_cannot_be_written(rt: HostRuntime) -> Result<(), Fail> {
     let alloc = rt.alloc();
     let end: &[u8] = &[0x0D];
-    let cause = io::Error::from(ErrorKind::StorageFull);
-    let answer = run_check(&Discard, alloc, "1 0\n-1 0\n".as_bytes(), end, &mut Full);
+    let mut out = Full::after(0);
+    let answer = run_check(&Discard, alloc, "1 0\n-1 0\n".as_bytes(), end, &mut out);
     assert!(rt; matches!(&answer, Err(RunFault::Write(_))));
-    let text = format!(in alloc; "error writing: {cause}")?;
-    is_answered(&rt, alloc, answer, &[], refused(&text))
+    is_answered(&rt, alloc, answer, &[], refused("error writing: full"))
 }
 
 /// So that no part of a line stands where the next write fails.
@@ -188,7 +184,13 @@ fn a_line_is_one_write(rt: HostRuntime) -> Result<(), Fail> {
 #[test]
 fn refused_proof_is_not_a_failed_write(rt: HostRuntime) -> Result<(), Fail> {
     let empty: &[u8] = &[];
-    let answer = run_check(&Discard, rt.alloc(), "1 0".as_bytes(), empty, &mut Full);
+    let answer = run_check(
+        &Discard,
+        rt.alloc(),
+        "1 0".as_bytes(),
+        empty,
+        &mut Full::after(0),
+    );
     assert!(rt;
         matches!(
             &answer,
