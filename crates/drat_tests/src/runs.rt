@@ -52,10 +52,6 @@ const RUNS: [Row; 18] = [
     (b"1 x 0", b"0", ("formula: line 1: bad number", 1)),
 ];
 
-fn whole(bytes: &[u8]) -> Pieces<'_> {
-    Pieces::of_size(bytes, usize::MAX)
-}
-
 /// The line that was written, or else the text of the fault.
 fn is_answered(
     rt: &impl Abort,
@@ -65,7 +61,7 @@ fn is_answered(
     (text, status): Outcome,
 ) -> Result<(), AllocError> {
     let mut out = Vec::new(alloc);
-    let answer = run_check(alloc, whole(cnf), proof, &mut out);
+    let answer = run_check(alloc, Pieces::whole(cnf), proof, &mut out);
     assert_eq!(rt; exit_status(&answer), status, "{text}");
     match answer {
         Ok(_) => assert_eq!(rt; out.as_slice(), text.as_bytes()),
@@ -80,7 +76,7 @@ fn is_answered(
 #[test]
 fn runs(rt: HostRuntime) -> Result<(), Fail> {
     for (cnf, proof, outcome) in RUNS {
-        is_answered(&rt, rt.alloc(), cnf, whole(proof), outcome)?;
+        is_answered(&rt, rt.alloc(), cnf, Pieces::whole(proof), outcome)?;
     }
     Ok(())
 }
@@ -96,7 +92,12 @@ fn reads_that_fail(rt: HostRuntime) -> Result<(), Fail> {
 #[test]
 fn line_that_cannot_be_written(rt: HostRuntime) {
     let mut out = Full::after(0);
-    let answer = run_check(rt.alloc(), whole(FOUR), whole(b"1 0\n"), &mut out);
+    let answer = run_check(
+        rt.alloc(),
+        Pieces::whole(FOUR),
+        Pieces::whole(b"1 0\n"),
+        &mut out,
+    );
     assert_eq!(rt; matches!(answer, Err(RunFault::Write(_))), true);
     assert_eq!(rt; exit_status(&answer), 1);
 }

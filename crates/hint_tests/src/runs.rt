@@ -64,7 +64,7 @@ fn is_answered(
 }
 
 fn whole(text: &str) -> Pieces<'_> {
-    Pieces::of_size(text.as_bytes(), usize::MAX)
+    Pieces::whole(text.as_bytes())
 }
 
 fn byte_by_byte(text: &str) -> Pieces<'_> {

@@ -93,8 +93,8 @@ fn is_answered(
 
 fn are_answered(rt: &impl Abort, alloc: Global, rows: &[Row]) -> Result<(), AllocError> {
     for (cnf, proof, outcome) in rows {
-        let cnf = Pieces::of_size(cnf.as_bytes(), usize::MAX);
-        let proof = Pieces::of_size(proof.as_bytes(), usize::MAX);
+        let cnf = Pieces::whole(cnf.as_bytes());
+        let proof = Pieces::whole(proof.as_bytes());
         is_answered(rt, alloc, cnf, proof, *outcome)?;
     }
     Ok(())
@@ -110,7 +110,7 @@ fn runs(rt: HostRuntime) -> Result<(), Fail> {
 
 #[test]
 fn reads_that_fail(rt: HostRuntime) -> Result<(), Fail> {
-    let four = Pieces::of_size(FOUR.as_bytes(), usize::MAX);
+    let four = Pieces::whole(FOUR.as_bytes());
     let formula = Pieces::broken(b"1 0 -1 0");
     let outcome = ("formula: error reading formula: broken", 1);
     is_answered(&rt, rt.alloc(), formula, four, outcome)?;

@@ -170,10 +170,6 @@ const REFUSED: [Refusal; 10] = [
     (b"1 0\n2 x 0", REFUTATION, "formula: line 2: bad number"),
 ];
 
-fn whole(bytes: &[u8]) -> Pieces<'_> {
-    Pieces::of_size(bytes, usize::MAX)
-}
-
 /// The bytes of the proof are these.
 fn converts(
     rt: &impl Abort,
@@ -184,7 +180,7 @@ fn converts(
     (status, bytes): (u8, &[u8]),
 ) {
     let mut out = Vec::new(alloc);
-    let answer = convert(alloc, whole(cnf), proof, width, &mut out);
+    let answer = convert(alloc, Pieces::whole(cnf), proof, width, &mut out);
     assert_eq!(rt; exit_status(&answer), status);
     assert_eq!(rt; out.as_slice(), bytes);
 }
@@ -214,7 +210,7 @@ fn conversions(rt: HostRuntime) {
             &rt,
             rt.alloc(),
             cnf,
-            whole(proof),
+            Pieces::whole(proof),
             HashWidth::full(),
             outcome,
         );
@@ -226,7 +222,14 @@ fn narrow_hashes(rt: HostRuntime) {
     let nine = HashWidth::from_bits(9).unwrap_or(HashWidth::full());
     assert_eq!(rt; nine.bits(), 9);
     let outcome = (0, REFUTED_IN_NINE_BITS);
-    converts(&rt, rt.alloc(), FOUR, whole(REFUTATION), nine, outcome);
+    converts(
+        &rt,
+        rt.alloc(),
+        FOUR,
+        Pieces::whole(REFUTATION),
+        nine,
+        outcome,
+    );
     assert!(rt; HashWidth::from_bits(0).is_none());
     assert!(rt; HashWidth::from_bits(65).is_none());
     assert_eq!(rt; HashWidth::from_bits(64), Some(HashWidth::full()));
@@ -244,7 +247,13 @@ fn formulas_that_are_refuted_already(rt: HostRuntime) {
 #[test]
 fn refusals(rt: HostRuntime) -> Result<(), Fail> {
     for (cnf, proof, text) in REFUSED {
-        refuses(&rt, rt.alloc(), whole(cnf), whole(proof), text)?;
+        refuses(
+            &rt,
+            rt.alloc(),
+            Pieces::whole(cnf),
+            Pieces::whole(proof),
+            text,
+        )?;
     }
     Ok(())
 }
@@ -253,10 +262,10 @@ fn refusals(rt: HostRuntime) -> Result<(), Fail> {
 fn reads_that_fail(rt: HostRuntime) -> Result<(), Fail> {
     let formula = Pieces::broken(b"1 0 2 0");
     let text = "formula: error reading formula: broken";
-    refuses(&rt, rt.alloc(), formula, whole(REFUTATION), text)?;
+    refuses(&rt, rt.alloc(), formula, Pieces::whole(REFUTATION), text)?;
     let proof = Pieces::broken(b"5 1 0 1 2 0\n6 0 5");
     let text = "error reading proof: broken";
-    refuses(&rt, rt.alloc(), whole(FOUR), proof, text)?;
+    refuses(&rt, rt.alloc(), Pieces::whole(FOUR), proof, text)?;
     Ok(())
 }
 
@@ -279,8 +288,8 @@ fn written(alloc: Global, room: usize) -> Result<Conversion, ConvertFault> {
     let mut out = Full::after(room);
     convert(
         alloc,
-        whole(FOUR),
-        whole(REFUTATION),
+        Pieces::whole(FOUR),
+        Pieces::whole(REFUTATION),
         HashWidth::full(),
         &mut out,
     )

@@ -11,13 +11,11 @@ type Outcome = (&'static str, u64, u8);
 
 const VERIFIED: Outcome = ("s VERIFIED SAT\n", 0, 0);
 
-const fn unmet(clause: u64) -> Outcome {
-    ("s NOT VERIFIED\n", clause, 3)
-}
+const FIRST_UNMET: Outcome = ("s NOT VERIFIED\n", 1, 3);
 
-const fn refused(text: &'static str) -> Outcome {
-    (text, 0, 1)
-}
+const SECOND_UNMET: Outcome = ("s NOT VERIFIED\n", 2, 3);
+
+const THIRD_UNMET: Outcome = ("s NOT VERIFIED\n", 3, 3);
 
 /// 1 or 2, not 1 or 3, not 2 or not 3.
 const THREE: &[u8] = b"p cnf 3 3\n1 2 0\n-1 3 0\n-2 -3 0\n";
@@ -30,40 +28,40 @@ const ANSWERS: [Row; 15] = [
     (THREE, b"c\ns SATISFIABLE\nv -1 2\nv -3 0\nc\n", VERIFIED),
     (THREE, b"1 -2 3 0", VERIFIED),
     (THREE, b"3 1 -2 4 0", VERIFIED),
-    (THREE, b"1 2 3 0", unmet(3)),
-    (THREE, b"1 -2 -3 0", unmet(2)),
-    (THREE, b"-1 -2 3 0", unmet(1)),
-    (THREE, b"0", unmet(1)),
-    (THREE, b"1 3 0", unmet(3)),
+    (THREE, b"1 2 3 0", THIRD_UNMET),
+    (THREE, b"1 -2 -3 0", SECOND_UNMET),
+    (THREE, b"-1 -2 3 0", FIRST_UNMET),
+    (THREE, b"0", FIRST_UNMET),
+    (THREE, b"1 3 0", THIRD_UNMET),
     (
         THREE,
         b"1 -1 2 3 0",
-        refused("answer: line 1: both signs of a variable"),
+        ("answer: line 1: both signs of a variable", 0, 1),
     ),
     (
         THREE,
         b"s UNSATISFIABLE\n",
-        refused("answer: line 1: the answer is UNSATISFIABLE"),
+        ("answer: line 1: the answer is UNSATISFIABLE", 0, 1),
     ),
     (
         THREE,
         b"c\ns UNKNOWN\n",
-        refused("answer: line 2: the answer is UNKNOWN"),
+        ("answer: line 2: the answer is UNKNOWN", 0, 1),
     ),
     (
         THREE,
         b"s SATISFIABLE\nv 1 -2 3",
-        refused("answer: line 2: the answer ends early"),
+        ("answer: line 2: the answer ends early", 0, 1),
     ),
     (
         THREE,
         b"v 1 -2 3 0\n",
-        refused("answer: line 2: no status line"),
+        ("answer: line 2: no status line", 0, 1),
     ),
     (
         THREE,
         b"1 -2 3 0\n1",
-        refused("answer: line 2: a number after the last one"),
+        ("answer: line 2: a number after the last one", 0, 1),
     ),
 ];
 
@@ -71,18 +69,18 @@ const ANSWERS: [Row; 15] = [
 /// end.
 const FORMULAS: [Row; 6] = [
     (b"", b"0", VERIFIED),
-    (b"0", b"1 0", unmet(1)),
-    (b"1 0 0 2 0", b"1 2 0", unmet(2)),
-    (b"1 -1 0", b"2 0", unmet(1)),
+    (b"0", b"1 0", FIRST_UNMET),
+    (b"1 0 0 2 0", b"1 2 0", SECOND_UNMET),
+    (b"1 -1 0", b"2 0", FIRST_UNMET),
     (
         b"1 0\n2 x 0",
         b"-1 0",
-        refused("formula: line 2: bad number"),
+        ("formula: line 2: bad number", 0, 1),
     ),
     (
         b"1 0 2",
         b"1 2 0",
-        refused("formula: line 1: unterminated clause"),
+        ("formula: line 1: unterminated clause", 0, 1),
     ),
 ];
 
@@ -91,10 +89,6 @@ fn clause_of(verdict: Verdict) -> u64 {
         Verdict::Verified => 0,
         Verdict::NotVerified { clause } => clause,
     }
-}
-
-fn whole(bytes: &[u8]) -> Pieces<'_> {
-    Pieces::of_size(bytes, usize::MAX)
 }
 
 /// The line that was written, or else the text of the fault.
@@ -123,7 +117,13 @@ fn is_answered(
 
 fn hold(rt: &impl Abort, alloc: Global, rows: &[Row]) -> Result<(), AllocError> {
     for (cnf, answer, outcome) in rows {
-        is_answered(rt, alloc, whole(cnf), whole(answer), *outcome)?;
+        is_answered(
+            rt,
+            alloc,
+            Pieces::whole(cnf),
+            Pieces::whole(answer),
+            *outcome,
+        )?;
     }
     Ok(())
 }
@@ -139,17 +139,34 @@ const ANSWER: &[u8] = b"1 -2 3 0";
 
 #[test]
 fn reads_that_fail(rt: HostRuntime) -> Result<(), Fail> {
-    let fault = refused("answer: error reading answer: broken");
-    is_answered(&rt, rt.alloc(), whole(THREE), Pieces::broken(ANSWER), fault)?;
-    let fault = refused("formula: error reading formula: broken");
-    is_answered(&rt, rt.alloc(), Pieces::broken(THREE), whole(ANSWER), fault)?;
+    let fault = ("answer: error reading answer: broken", 0, 1);
+    is_answered(
+        &rt,
+        rt.alloc(),
+        Pieces::whole(THREE),
+        Pieces::broken(ANSWER),
+        fault,
+    )?;
+    let fault = ("formula: error reading formula: broken", 0, 1);
+    is_answered(
+        &rt,
+        rt.alloc(),
+        Pieces::broken(THREE),
+        Pieces::whole(ANSWER),
+        fault,
+    )?;
     Ok(())
 }
 
 #[test]
 fn line_that_cannot_be_written(rt: HostRuntime) {
     let mut out = Full::after(0);
-    let outcome = run_check(rt.alloc(), whole(THREE), whole(ANSWER), &mut out);
+    let outcome = run_check(
+        rt.alloc(),
+        Pieces::whole(THREE),
+        Pieces::whole(ANSWER),
+        &mut out,
+    );
     assert_eq!(rt; matches!(outcome, Err(RunFault::Write(_))), true);
     assert_eq!(rt; exit_status(&outcome), 1);
 }

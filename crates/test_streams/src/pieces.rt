@@ -13,6 +13,11 @@ pub struct Pieces<'a> {
 }
 
 impl Pieces<'_> {
+    /// As many bytes a read as there is room for.
+    pub fn whole(bytes: &[u8]) -> Pieces<'_> {
+        Pieces::of_size(bytes, usize::MAX)
+    }
+
     /// So many bytes a read.
     pub fn of_size(bytes: &[u8], size: usize) -> Pieces<'_> {
         Pieces::failing_at(bytes, size, 0)
