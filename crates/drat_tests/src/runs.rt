@@ -1,6 +1,7 @@
 //! Runs with their verdicts, lines and statuses, texts of faults, and reads and writes that fail.
 use drat_check::{RunFault, exit_status, run_check};
 use std::alloc::{AllocError, Global};
+use std::io::ErrorKind;
 use std::process::Abort;
 use std::test::Fail;
 use test_streams::{Full, Pieces};
@@ -84,8 +85,20 @@ fn runs(rt: HostRuntime) -> Result<(), Fail> {
 #[test]
 fn reads_that_fail(rt: HostRuntime) -> Result<(), Fail> {
     let fault = ("proof: error reading proof: broken", 1);
-    is_answered(&rt, rt.alloc(), FOUR, Pieces::broken(b"1 0\n"), VERIFIED)?;
-    is_answered(&rt, rt.alloc(), FOUR, Pieces::broken(b"1 2 0\n1"), fault)?;
+    is_answered(
+        &rt,
+        rt.alloc(),
+        FOUR,
+        Pieces::broken(b"1 0\n", ErrorKind::ConnectionReset),
+        VERIFIED,
+    )?;
+    is_answered(
+        &rt,
+        rt.alloc(),
+        FOUR,
+        Pieces::broken(b"1 2 0\n1", ErrorKind::ConnectionReset),
+        fault,
+    )?;
     Ok(())
 }
 

@@ -1,6 +1,7 @@
 //! Runs with their verdicts, lines and statuses, texts of faults, and reads and writes that fail.
 use hint_check::{Verdict, exit_status, run_check};
 use std::alloc::{AllocError, Global};
+use std::io::ErrorKind;
 use std::process::Abort;
 use std::test::Fail;
 use test_streams::{Full, Pieces};
@@ -90,10 +91,10 @@ const HINTS: &str = "5 0 1 2 0\n";
 
 #[test]
 fn reads_that_fail(rt: HostRuntime) -> Result<(), Fail> {
-    let formula = Pieces::broken(UNITS.as_bytes());
+    let formula = Pieces::broken(UNITS.as_bytes(), ErrorKind::ConnectionReset);
     let outcome = (None, "error reading formula: broken", 1);
     is_answered(&rt, rt.alloc(), formula, whole(HINTS), outcome)?;
-    let hints = Pieces::broken(HINTS.as_bytes());
+    let hints = Pieces::broken(HINTS.as_bytes(), ErrorKind::ConnectionReset);
     let outcome = (None, "error reading hints: broken", 1);
     is_answered(&rt, rt.alloc(), whole(UNITS), hints, outcome)?;
     Ok(())
@@ -102,7 +103,7 @@ fn reads_that_fail(rt: HostRuntime) -> Result<(), Fail> {
 /// A reader without memory is no failed read.
 #[test]
 fn reads_without_memory(rt: HostRuntime) -> Result<(), Fail> {
-    let hints = Pieces::without_memory(HINTS.as_bytes());
+    let hints = Pieces::broken(HINTS.as_bytes(), ErrorKind::OutOfMemory);
     let outcome = (None, "out of memory", 1);
     is_answered(&rt, rt.alloc(), whole(UNITS), hints, outcome)?;
     Ok(())

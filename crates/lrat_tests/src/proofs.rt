@@ -7,6 +7,7 @@ mod rows;
 use lrat_checker::{LratChecker, LratFault};
 use sat_formula::read_formula;
 use std::alloc::{AllocError, Global};
+use std::io::ErrorKind;
 use std::process::Abort;
 use std::test::Fail;
 use test_streams::Pieces;
@@ -97,7 +98,13 @@ fn holds_broken(
     for read in 0..=all.len() {
         let text = &all[..read];
         let answer = broken_after(answer, line_ends(text));
-        is_answered(rt, alloc, formula, Pieces::broken(text), answer)?;
+        is_answered(
+            rt,
+            alloc,
+            formula,
+            Pieces::broken(text, ErrorKind::Interrupted),
+            answer,
+        )?;
     }
     Ok(())
 }

@@ -111,10 +111,10 @@ fn runs(rt: HostRuntime) -> Result<(), Fail> {
 #[test]
 fn reads_that_fail(rt: HostRuntime) -> Result<(), Fail> {
     let four = Pieces::whole(FOUR.as_bytes());
-    let formula = Pieces::broken(b"1 0 -1 0");
+    let formula = Pieces::broken(b"1 0 -1 0", ErrorKind::ConnectionReset);
     let outcome = ("formula: error reading formula: broken", 1);
     is_answered(&rt, rt.alloc(), formula, four, outcome)?;
-    let proof = Pieces::broken(b"5 1 0 1 2 0\n6 0 5");
+    let proof = Pieces::broken(b"5 1 0 1 2 0\n6 0 5", ErrorKind::ConnectionReset);
     let outcome = ("proof: error reading proof: broken", 1);
     is_answered(&rt, rt.alloc(), four, proof, outcome)?;
     Ok(())

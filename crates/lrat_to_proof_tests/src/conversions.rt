@@ -1,6 +1,7 @@
 //! Conversions with their bytes and statuses, texts of faults, and reads and writes that fail.
 use lrat_to_proof::{Conversion, ConvertFault, HashWidth, convert, exit_status};
 use std::alloc::{AllocError, Global};
+use std::io::ErrorKind;
 use std::process::Abort;
 use std::test::Fail;
 use test_streams::{Full, Pieces};
@@ -239,7 +240,7 @@ fn narrow_hashes(rt: HostRuntime) {
 #[test]
 fn formulas_that_are_refuted_already(rt: HostRuntime) {
     for cnf in REFUTED_FORMULAS {
-        let proof = Pieces::broken(b"");
+        let proof = Pieces::broken(b"", ErrorKind::ConnectionReset);
         converts(&rt, rt.alloc(), cnf, proof, HashWidth::full(), (0, NO_STEP));
     }
 }
@@ -260,10 +261,10 @@ fn refusals(rt: HostRuntime) -> Result<(), Fail> {
 
 #[test]
 fn reads_that_fail(rt: HostRuntime) -> Result<(), Fail> {
-    let formula = Pieces::broken(b"1 0 2 0");
+    let formula = Pieces::broken(b"1 0 2 0", ErrorKind::ConnectionReset);
     let text = "formula: error reading formula: broken";
     refuses(&rt, rt.alloc(), formula, Pieces::whole(REFUTATION), text)?;
-    let proof = Pieces::broken(b"5 1 0 1 2 0\n6 0 5");
+    let proof = Pieces::broken(b"5 1 0 1 2 0\n6 0 5", ErrorKind::ConnectionReset);
     let text = "error reading proof: broken";
     refuses(&rt, rt.alloc(), Pieces::whole(FOUR), proof, text)?;
     Ok(())
@@ -272,7 +273,7 @@ fn reads_that_fail(rt: HostRuntime) -> Result<(), Fail> {
 /// Bytes that come one by one, and none after the empty clause.
 #[test]
 fn no_read_after_the_empty_clause(rt: HostRuntime) {
-    let proof = Pieces::broken(REFUTATION);
+    let proof = Pieces::broken(REFUTATION, ErrorKind::ConnectionReset);
     converts(
         &rt,
         rt.alloc(),

@@ -1,6 +1,7 @@
 //! Runs with their verdicts, lines and statuses, texts of faults, and reads and writes that fail.
 use model_check::{RunFault, Verdict, exit_status, run_check};
 use std::alloc::{AllocError, Global};
+use std::io::ErrorKind;
 use std::process::Abort;
 use std::test::Fail;
 use test_streams::{Full, Pieces};
@@ -144,14 +145,14 @@ fn reads_that_fail(rt: HostRuntime) -> Result<(), Fail> {
         &rt,
         rt.alloc(),
         Pieces::whole(THREE),
-        Pieces::broken(ANSWER),
+        Pieces::broken(ANSWER, ErrorKind::ConnectionReset),
         fault,
     )?;
     let fault = ("formula: error reading formula: broken", 0, 1);
     is_answered(
         &rt,
         rt.alloc(),
-        Pieces::broken(THREE),
+        Pieces::broken(THREE, ErrorKind::ConnectionReset),
         Pieces::whole(ANSWER),
         fault,
     )?;

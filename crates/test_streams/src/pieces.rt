@@ -23,7 +23,7 @@ impl Pieces<'_> {
         Pieces::failing_at(bytes, size, 0)
     }
 
-    /// So many bytes a read, and the read of this number, counted from 1, fails.
+    /// So many bytes a read, and the read of this number, counted from 1, is interrupted.
     pub fn failing_at(bytes: &[u8], size: usize, failing: usize) -> Pieces<'_> {
         Pieces {
             rest: bytes,
@@ -33,16 +33,14 @@ impl Pieces<'_> {
         }
     }
 
-    /// One byte a read, and after the last one a read that fails.
-    pub fn broken(bytes: &[u8]) -> Pieces<'_> {
-        Pieces::failing_at(bytes, 1, bytes.len().saturating_add(1))
-    }
-
-    /// One byte a read, and after the last one a read that has no memory.
-    pub fn without_memory(bytes: &[u8]) -> Pieces<'_> {
-        let mut pieces = Pieces::broken(bytes);
-        pieces.kind = ErrorKind::OutOfMemory;
-        pieces
+    /// One byte a read, and after the last one a read that fails so.
+    pub fn broken(bytes: &[u8], kind: ErrorKind) -> Pieces<'_> {
+        Pieces {
+            rest: bytes,
+            size: 1,
+            failing: bytes.len().saturating_add(1),
+            kind,
+        }
     }
 }
 

@@ -3,7 +3,7 @@ use crate::streams::byte_by_byte;
 use checker_parts::error::DimacsError;
 use sat_formula::CnfFormula;
 use std::alloc::Global;
-use std::io::Read;
+use std::io::{ErrorKind, Read};
 use std::process::Abort;
 use std::test::Fail;
 use test_streams::Pieces;
@@ -72,7 +72,10 @@ fn faults_stand_with_their_lines(rt: HostRuntime) -> Result<(), Fail> {
 #[test]
 fn failed_read_is_no_end(rt: HostRuntime) -> Result<(), Fail> {
     let alloc = rt.alloc();
-    let answer = read_formula(alloc, Pieces::broken(b"1 0\n-1 0\n"));
+    let answer = read_formula(
+        alloc,
+        Pieces::broken(b"1 0\n-1 0\n", ErrorKind::ConnectionReset),
+    );
     assert!(rt; matches!(&answer, Err(RunFault::Formula(DimacsError::Read(_)))));
     assert_eq!(rt;
         shown(alloc, answer)?.as_str(),

@@ -7,7 +7,7 @@ use checker_parts::error::CheckerError;
 use log::sink::Discard;
 use sat_formula::Lit;
 use std::alloc::Global;
-use std::io::Read;
+use std::io::{ErrorKind, Read};
 use std::process::Abort;
 use std::test::Fail;
 use test_streams::{Full, Pieces};
@@ -149,9 +149,21 @@ fn reads_that_fail(rt: HostRuntime) -> Result<(), Fail> {
     let end: &[u8] = &[0x0D];
     let cnf = "1 0\n-1 0\n".as_bytes();
     let fault = refused("error reading formula: broken");
-    check(&rt, alloc, Pieces::broken(cnf), end, fault)?;
+    check(
+        &rt,
+        alloc,
+        Pieces::broken(cnf, ErrorKind::ConnectionReset),
+        end,
+        fault,
+    )?;
     let fault = refused("step 2: Error reading proof file: broken");
-    check(&rt, alloc, cnf, Pieces::broken(&[0x05, 0x00]), fault)
+    check(
+        &rt,
+        alloc,
+        cnf,
+        Pieces::broken(&[0x05, 0x00], ErrorKind::ConnectionReset),
+        fault,
+    )
 }
 
 #[test]

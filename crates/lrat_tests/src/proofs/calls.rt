@@ -2,6 +2,7 @@
 use super::{BROKEN, FOUR, THREE, UNITS, checker, shown};
 use lrat_checker::LratChecker;
 use std::alloc::{AllocError, Global};
+use std::io::ErrorKind;
 use std::process::Abort;
 use std::test::Fail;
 use test_streams::Pieces;
@@ -29,8 +30,8 @@ fn called(
     let answer = match call {
         Call::Check => checker.check(text),
         Call::Refute => checker.refute(text),
-        Call::CheckBroken => checker.check(Pieces::broken(text)),
-        Call::RefuteBroken => checker.refute(Pieces::broken(text)),
+        Call::CheckBroken => checker.check(Pieces::broken(text, ErrorKind::Interrupted)),
+        Call::RefuteBroken => checker.refute(Pieces::broken(text, ErrorKind::Interrupted)),
     };
     shown(alloc, answer)
 }

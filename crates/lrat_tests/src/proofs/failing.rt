@@ -6,12 +6,6 @@ use sat_formula::Lit;
 use std::process::Abort;
 use std::test::Fail;
 
-const EMPTY: LratLine<'static> = LratLine::Add {
-    id: 1,
-    clause: &[],
-    hints: &[Hint::Along(5), Hint::Along(3), Hint::Along(4)],
-};
-
 #[test]
 fn single_lines(rt: HostRuntime) -> Result<(), Fail> {
     let one = [Lit::from_dimacs(1).ok_or("in range")?];
@@ -26,18 +20,23 @@ fn takes_single_lines(rt: &impl Abort, checker: &mut LratChecker, one: &[Lit]) {
         clause: one,
         hints: &[Hint::Along(1), Hint::Along(2)],
     };
+    let empty = LratLine::Add {
+        id: 1,
+        clause: &[],
+        hints: &[Hint::Along(5), Hint::Along(3), Hint::Along(4)],
+    };
     assert_eq!(rt; checker.check_line(unit), Ok(()));
     assert_eq!(rt;
         checker.check_line(LratLine::Delete { ids: &[1, 2] }),
         Ok(())
     );
-    assert_eq!(rt; checker.check_line(EMPTY), Ok(()));
+    assert_eq!(rt; checker.check_line(empty), Ok(()));
     assert!(rt; checker.refuted());
     assert_eq!(rt;
-        checker.check_line(EMPTY),
+        checker.check_line(empty),
         Err(LineFault::Refused(LratCause::IdTaken))
     );
-    assert_eq!(rt; checker.check_line(EMPTY), Err(LineFault::Failed));
+    assert_eq!(rt; checker.check_line(empty), Err(LineFault::Failed));
 }
 
 /// A line after a text with a fault.
