@@ -2,7 +2,7 @@
 use drat_elaborate::{ElaborateFault, Elaborator};
 use lrat_text::{Hint, LratLine};
 use sat_formula::{CnfFormula, Lit, read_formula};
-use std::alloc::Global;
+use std::alloc::{AllocError, Global};
 use std::process::Abort;
 use std::test::Fail;
 
@@ -39,7 +39,7 @@ fn add_lemmas(elaborator: &mut Elaborator, lemmas: &CnfFormula) -> Result<u64, E
 }
 
 /// Tells a line, as LRAT text without a last 0.
-fn tell_line(text: &mut String, line: LratLine<'_>) -> Result<(), Fail> {
+fn tell_line(text: &mut String, line: LratLine<'_>) -> Result<(), AllocError> {
     match line {
         LratLine::Add { id, clause, hints } => {
             write!(text, "{id} ")?;
@@ -51,20 +51,18 @@ fn tell_line(text: &mut String, line: LratLine<'_>) -> Result<(), Fail> {
             tell_ids(text, ids)?;
         }
     }
-    write!(text, "; ")?;
-    Ok(())
+    write!(text, "; ")
 }
 
-fn tell_clause(text: &mut String, clause: &[Lit]) -> Result<(), Fail> {
+fn tell_clause(text: &mut String, clause: &[Lit]) -> Result<(), AllocError> {
     for lit in clause {
         let number = lit.to_dimacs();
         write!(text, "{number} ")?;
     }
-    write!(text, "0")?;
-    Ok(())
+    write!(text, "0")
 }
 
-fn tell_hints(text: &mut String, hints: &[Hint]) -> Result<(), Fail> {
+fn tell_hints(text: &mut String, hints: &[Hint]) -> Result<(), AllocError> {
     for hint in hints {
         match *hint {
             Hint::Along(id) => write!(text, " {id}")?,
@@ -74,7 +72,7 @@ fn tell_hints(text: &mut String, hints: &[Hint]) -> Result<(), Fail> {
     Ok(())
 }
 
-fn tell_ids(text: &mut String, ids: &[u64]) -> Result<(), Fail> {
+fn tell_ids(text: &mut String, ids: &[u64]) -> Result<(), AllocError> {
     for id in ids {
         write!(text, " {id}")?;
     }
@@ -92,7 +90,7 @@ fn tell_lines(text: &mut String, elaborator: &mut Elaborator) -> Result<(), Fail
 }
 
 /// Tells the ids of the clauses that are used, and the deletions that were passed over.
-fn tell_use(text: &mut String, elaborator: &Elaborator) -> Result<(), Fail> {
+fn tell_use(text: &mut String, elaborator: &Elaborator) -> Result<(), AllocError> {
     write!(text, "used")?;
     for index in 0..20 {
         if elaborator.is_used(index) {
@@ -102,8 +100,7 @@ fn tell_use(text: &mut String, elaborator: &Elaborator) -> Result<(), Fail> {
     }
     let missing = elaborator.missing_deletions();
     let kept = elaborator.kept_reasons();
-    write!(text, "; {missing} missing, {kept} kept")?;
-    Ok(())
+    write!(text, "; {missing} missing, {kept} kept")
 }
 
 /// Tells what is elaborated.
@@ -111,13 +108,11 @@ fn tell_proof(text: &mut String, elaborator: &mut Elaborator) -> Result<(), Fail
     match elaborator.elaborate() {
         Ok(()) => {
             tell_lines(text, elaborator)?;
-            tell_use(text, elaborator)
+            tell_use(text, elaborator)?;
         }
-        Err(fault) => {
-            write!(text, "{fault}")?;
-            Ok(())
-        }
+        Err(fault) => write!(text, "{fault}")?,
     }
+    Ok(())
 }
 
 /// Tells all of a row. What comes out of order is refused, or says nothing: the lines before they
@@ -216,10 +211,15 @@ const EMPTY: Row = (
     "late clause: internal error; 0 added: d 1 3; 4 0 2; used 2; 0 missing, 0 kept",
 );
 
-#[test]
-fn proofs(rt: HostRuntime) -> Result<(), Fail> {
-    for row in [BY_PROPAGATION, REDUNDANT, UNFOUNDED, OPEN, REASON, EMPTY] {
-        is_told(&rt, rt.alloc(), row)?;
+fn are_told(rt: &impl Abort, alloc: Global, rows: &[Row]) -> Result<(), Fail> {
+    for row in rows {
+        is_told(rt, alloc, *row)?;
     }
     Ok(())
+}
+
+#[test]
+fn proofs(rt: HostRuntime) -> Result<(), Fail> {
+    let rows = [BY_PROPAGATION, REDUNDANT, UNFOUNDED, OPEN, REASON, EMPTY];
+    are_told(&rt, rt.alloc(), &rows)
 }

@@ -1,5 +1,5 @@
 //! Runs with their verdicts, lines and statuses, texts of faults, and reads and writes that fail.
-use drat_check::{RunFault, exit_status, run_check};
+use drat_check::{RunFault, Verdict, exit_status, run_check};
 use std::alloc::{AllocError, Global};
 use std::io::ErrorKind;
 use std::process::Abort;
@@ -9,15 +9,16 @@ use test_streams::{Full, Pieces};
 /// Four clauses, one against each pair of values of two variables.
 const FOUR: &[u8] = b"1 2 0 1 -2 0 -1 2 0 -1 -2 0";
 
-/// What a run answers: its line or the text of its fault, and its exit status.
-type Outcome = (&'static str, u8);
+/// What a run writes, the text of its fault, and its exit status.
+type Outcome = (&'static str, &'static str, u8);
 
-const VERIFIED: Outcome = ("s VERIFIED UNSAT\n", 0);
+const VERIFIED: Outcome = ("s VERIFIED UNSAT\n", "", 0);
 
-const NOT_VERIFIED: Outcome = ("s NOT VERIFIED\n", 3);
+const NOT_VERIFIED: Outcome = ("s NOT VERIFIED\n", "", 3);
 
 /// The second step is needed, and is not right.
 const UNFOUNDED: Outcome = (
+    "",
     "proof: step 2: clause neither follows nor is redundant by its first literal",
     1,
 );
@@ -32,17 +33,21 @@ const RUNS: [Row; 18] = [
     (FOUR, b"", NOT_VERIFIED),
     (FOUR, b"d 1 2 0\n1 0\n", UNFOUNDED),
     (FOUR, b"1 2 -1 0\n", NOT_VERIFIED),
-    (FOUR, b"1 x 0\n", ("proof: step 1: malformed", 1)),
-    (FOUR, b"1 2 0\n2 -1", ("proof: step 2: unfinished", 1)),
+    (FOUR, b"1 x 0\n", ("", "proof: step 1: malformed", 1)),
+    (FOUR, b"1 2 0\n2 -1", ("", "proof: step 2: unfinished", 1)),
     (
         FOUR,
         b"268435457 0\n",
-        ("proof: step 1: number too large", 1),
+        ("", "proof: step 1: number too large", 1),
     ),
     // binary: a byte before the literals, `a` or `d`, then 2 v + sign for each, then 0
     (FOUR, b"a\x02\0a\0", VERIFIED),
     (FOUR, b"d\x02\x04\0a\x02\0", UNFOUNDED),
-    (FOUR, b"a\x02\x04\0a\x01\0", ("proof: step 2: malformed", 1)),
+    (
+        FOUR,
+        b"a\x02\x04\0a\x01\0",
+        ("", "proof: step 2: malformed", 1),
+    ),
     // a clause with a variable of its own is redundant by it; one that cuts is not
     (FOUR, b"3 1 0 -3 -1 0 1 0 0", VERIFIED),
     (b"1 2 0 -1 -2 0", b"1 0 2 0 0", UNFOUNDED),
@@ -50,67 +55,77 @@ const RUNS: [Row; 18] = [
     (b"0", b"", VERIFIED),
     (b"1 0 -1 0", b"", VERIFIED),
     (b"", b"", NOT_VERIFIED),
-    (b"1 x 0", b"0", ("formula: line 1: bad number", 1)),
+    (b"1 x 0", b"0", ("", "formula: line 1: bad number", 1)),
 ];
 
-/// The line that was written, or else the text of the fault.
+/// The text of a fault, and of a verdict none.
+fn fault_text(alloc: Global, answer: Result<Verdict, RunFault>) -> Result<String, AllocError> {
+    match answer {
+        Ok(_) => Ok(String::new(alloc)),
+        Err(fault) => fault.to_string(alloc),
+    }
+}
+
+fn has_outcome(
+    rt: &impl Abort,
+    alloc: Global,
+    answer: Result<Verdict, RunFault>,
+    written: &[u8],
+    (line, fault, status): Outcome,
+) -> Result<(), AllocError> {
+    assert_eq!(rt; written, line.as_bytes());
+    assert_eq!(rt; exit_status(&answer), status);
+    let said = fault_text(alloc, answer)?;
+    assert_eq!(rt; said.as_str(), fault);
+    Ok(())
+}
+
 fn is_answered(
     rt: &impl Abort,
     alloc: Global,
-    cnf: &[u8],
+    cnf: Pieces<'_>,
     proof: Pieces<'_>,
-    (text, status): Outcome,
+    outcome: Outcome,
 ) -> Result<(), AllocError> {
     let mut out = Vec::new(alloc);
-    let answer = run_check(alloc, Pieces::whole(cnf), proof, &mut out);
-    assert_eq!(rt; exit_status(&answer), status, "{text}");
-    match answer {
-        Ok(_) => assert_eq!(rt; out.as_slice(), text.as_bytes()),
-        Err(fault) => {
-            assert_eq!(rt; out.len(), 0);
-            assert_eq!(rt; fault.to_string(alloc)?.as_str(), text);
-        }
+    let answer = run_check(alloc, cnf, proof, &mut out);
+    has_outcome(rt, alloc, answer, &out, outcome)
+}
+
+fn are_answered(rt: &impl Abort, alloc: Global, rows: &[Row]) -> Result<(), AllocError> {
+    for (cnf, proof, outcome) in rows {
+        is_answered(
+            rt,
+            alloc,
+            Pieces::whole(cnf),
+            Pieces::whole(proof),
+            *outcome,
+        )?;
     }
     Ok(())
 }
 
 #[test]
 fn runs(rt: HostRuntime) -> Result<(), Fail> {
-    for (cnf, proof, outcome) in RUNS {
-        is_answered(&rt, rt.alloc(), cnf, Pieces::whole(proof), outcome)?;
-    }
+    are_answered(&rt, rt.alloc(), &RUNS)?;
     Ok(())
 }
 
 #[test]
 fn reads_that_fail(rt: HostRuntime) -> Result<(), Fail> {
-    let fault = ("proof: error reading proof: broken", 1);
-    is_answered(
-        &rt,
-        rt.alloc(),
-        FOUR,
-        Pieces::broken(b"1 0\n", ErrorKind::ConnectionReset),
-        VERIFIED,
-    )?;
-    is_answered(
-        &rt,
-        rt.alloc(),
-        FOUR,
-        Pieces::broken(b"1 2 0\n1", ErrorKind::ConnectionReset),
-        fault,
-    )?;
+    let four = Pieces::whole(FOUR);
+    let proof = Pieces::broken(b"1 0\n", ErrorKind::ConnectionReset);
+    is_answered(&rt, rt.alloc(), four, proof, VERIFIED)?;
+    let proof = Pieces::broken(b"1 2 0\n1", ErrorKind::ConnectionReset);
+    let outcome = ("", "proof: error reading proof: broken", 1);
+    is_answered(&rt, rt.alloc(), four, proof, outcome)?;
     Ok(())
 }
 
 #[test]
-fn line_that_cannot_be_written(rt: HostRuntime) {
-    let mut out = Full::after(0);
-    let answer = run_check(
-        rt.alloc(),
-        Pieces::whole(FOUR),
-        Pieces::whole(b"1 0\n"),
-        &mut out,
-    );
-    assert_eq!(rt; matches!(answer, Err(RunFault::Write(_))), true);
-    assert_eq!(rt; exit_status(&answer), 1);
+fn line_that_cannot_be_written(rt: HostRuntime) -> Result<(), Fail> {
+    let proof = Pieces::whole(b"1 0\n");
+    let answer = run_check(rt.alloc(), FOUR, proof, &mut Full::after(0));
+    has_outcome(&rt, rt.alloc(), answer, &[], ("", "error writing: full", 1))?;
+    Ok(())
 }

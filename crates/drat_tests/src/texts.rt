@@ -85,8 +85,10 @@ const BINARY: [Row; 9] = [
     (b"a\x02\x00d\x82", "add 1; step 2: unfinished; end"),
 ];
 
-/// Proofs by one byte a read, of which the read of this number fails.
-const BROKEN: [(&[u8], usize, &str); 4] = [
+/// A proof, and the number of the read that fails.
+type BrokenRow = (&'static [u8], usize, &'static str);
+
+const BROKEN: [BrokenRow; 4] = [
     (b"1 0\n2 0\n", 1, "error reading proof: broken; end"),
     (b"1 0\n2 0\n", 8, "add 1; error reading proof: broken; end"),
     (b"d 1 0\n2 0\n", 4, "error reading proof: broken; end"),
@@ -124,11 +126,16 @@ fn steps(rt: HostRuntime) -> Result<(), Fail> {
     Ok(())
 }
 
+/// By one byte a read.
+fn hold_broken(rt: &impl Abort, alloc: Global, rows: &[BrokenRow]) -> Result<(), AllocError> {
+    for (bytes, failing, expected) in rows {
+        is_shown(rt, alloc, Pieces::failing_at(bytes, 1, *failing), expected)?;
+    }
+    Ok(())
+}
+
 #[test]
 fn reads_that_fail(rt: HostRuntime) -> Result<(), Fail> {
-    for (bytes, failing, expected) in BROKEN {
-        let proof = Pieces::failing_at(bytes, 1, failing);
-        is_shown(&rt, rt.alloc(), proof, expected)?;
-    }
+    hold_broken(&rt, rt.alloc(), &BROKEN)?;
     Ok(())
 }

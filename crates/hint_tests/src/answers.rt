@@ -1,7 +1,7 @@
 //! Answers to texts, from the rules read by hand.
 use hint_checker::{HintChecker, HintFault};
-use sat_formula::read_formula;
-use std::alloc::Global;
+use sat_formula::{CnfFormula, read_formula};
+use std::alloc::{AllocError, Global};
 use std::process::Abort;
 use std::test::Fail;
 
@@ -113,15 +113,22 @@ const CALLS: [Row; 26] = [
 /// The texts of each row are answered so.
 pub fn are_answered(rt: &impl Abort, alloc: Global, rows: &[Row]) -> Result<(), Fail> {
     for (formula, texts) in rows {
-        let mut checker = checker(alloc, formula)?;
-        answers(rt, &mut checker, texts);
+        let formula = read_formula(alloc, formula.as_bytes())?;
+        new_answers(rt, alloc, &formula, texts)?;
     }
     Ok(())
 }
 
-fn checker(alloc: Global, formula: &str) -> Result<HintChecker, Fail> {
-    let formula = read_formula(alloc, formula.as_bytes())?;
-    Ok(HintChecker::new(alloc, &formula)?)
+/// A new checker answers so.
+fn new_answers(
+    rt: &impl Abort,
+    alloc: Global,
+    formula: &CnfFormula,
+    texts: &[(&str, Answer)],
+) -> Result<(), AllocError> {
+    let mut checker = HintChecker::new(alloc, formula)?;
+    answers(rt, &mut checker, texts);
+    Ok(())
 }
 
 fn answers(rt: &impl Abort, checker: &mut HintChecker, texts: &[(&str, Answer)]) {
@@ -156,10 +163,20 @@ const FAULTS: [(HintFault, &str); 6] = [
     (HintFault::OutOfMemory, "out of memory"),
 ];
 
+fn have_texts(
+    rt: &impl Abort,
+    alloc: Global,
+    rows: &[(HintFault, &str)],
+) -> Result<(), AllocError> {
+    for (fault, text) in rows {
+        let said = fault.to_string(alloc)?;
+        assert_eq!(rt; said.as_str(), *text);
+    }
+    Ok(())
+}
+
 #[test]
 fn texts_of_faults(rt: HostRuntime) -> Result<(), Fail> {
-    for (fault, text) in FAULTS {
-        assert_eq!(rt; fault.to_string(rt.alloc())?.as_str(), text);
-    }
+    have_texts(&rt, rt.alloc(), &FAULTS)?;
     Ok(())
 }

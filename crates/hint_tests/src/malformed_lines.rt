@@ -1,7 +1,8 @@
 //! Lines that say nothing of hints.
 use hint_checker::{HintChecker, HintFault};
 use sat_formula::CnfFormula;
-use std::alloc::Global;
+use std::alloc::{AllocError, Global};
+use std::process::Abort;
 use std::test::Fail;
 
 const MALFORMED: [&[u8]; 46] = [
@@ -60,9 +61,18 @@ const MALFORMED: [&[u8]; 46] = [
 
 #[test]
 fn malformed_lines(rt: HostRuntime) -> Result<(), Fail> {
-    let formula = CnfFormula::new(rt.alloc());
-    for line in MALFORMED {
-        let answer = answer_of_new(rt.alloc(), &formula, line)?;
+    are_malformed(&rt, rt.alloc(), &CnfFormula::new(rt.alloc()), &MALFORMED)?;
+    Ok(())
+}
+
+fn are_malformed(
+    rt: &impl Abort,
+    alloc: Global,
+    formula: &CnfFormula,
+    lines: &[&[u8]],
+) -> Result<(), AllocError> {
+    for line in lines {
+        let answer = answer_of_new(alloc, formula, line)?;
         assert_eq!(rt; answer, Err(HintFault::Malformed { line: 1 }), "{line:?}");
     }
     Ok(())
@@ -73,7 +83,7 @@ fn answer_of_new(
     alloc: Global,
     formula: &CnfFormula,
     line: &[u8],
-) -> Result<Result<bool, HintFault>, Fail> {
+) -> Result<Result<bool, HintFault>, AllocError> {
     let mut checker = HintChecker::new(alloc, formula)?;
     Ok(checker.check(line))
 }

@@ -4,8 +4,9 @@ mod failing;
 mod redundancy;
 mod rows;
 
+use crate::texts::line_ends;
 use lrat_checker::{LratChecker, LratFault};
-use sat_formula::read_formula;
+use sat_formula::{CnfFormula, read_formula};
 use std::alloc::{AllocError, Global};
 use std::io::ErrorKind;
 use std::process::Abort;
@@ -31,11 +32,6 @@ const BROKEN: &str = "error reading proof: broken";
 /// How answers of refused lines begin.
 const LINES: [(usize, &str); 3] = [(1, "line 1:"), (2, "line 2:"), (3, "line 3:")];
 
-fn checker(alloc: Global, formula: &str) -> Result<LratChecker, Fail> {
-    let formula = read_formula(alloc, formula.as_bytes())?;
-    Ok(LratChecker::new(alloc, &formula)?)
-}
-
 /// An answer in words.
 fn shown(alloc: Global, answer: Result<bool, LratFault>) -> Result<String, AllocError> {
     match answer {
@@ -46,32 +42,33 @@ fn shown(alloc: Global, answer: Result<bool, LratFault>) -> Result<String, Alloc
 }
 
 /// The answer of a new checker in words.
-fn answer_to(alloc: Global, formula: &str, proof: Pieces<'_>) -> Result<String, Fail> {
-    let mut checker = checker(alloc, formula)?;
-    Ok(shown(alloc, checker.check(proof))?)
+fn answer_to(alloc: Global, formula: &CnfFormula, proof: Pieces<'_>) -> Result<String, AllocError> {
+    let mut checker = LratChecker::new(alloc, formula)?;
+    shown(alloc, checker.check(proof))
 }
 
 fn is_answered(
     rt: &impl Abort,
     alloc: Global,
-    formula: &str,
+    formula: &CnfFormula,
     proof: Pieces<'_>,
     answer: &str,
-) -> Result<(), Fail> {
+) -> Result<(), AllocError> {
     let seen = answer_to(alloc, formula, proof)?;
     assert_eq!(rt; seen.as_str(), answer);
     Ok(())
 }
 
-/// The rows are answered so, read at once and byte by byte.
-fn hold_whole(rt: &impl Abort, alloc: Global, rows: &[Row]) -> Result<(), Fail> {
-    for (formula, proof, answer) in rows {
-        for size in [usize::MAX, 1] {
-            let proof = Pieces::of_size(proof.as_bytes(), size);
-            is_answered(rt, alloc, formula, proof, answer)?;
-        }
-    }
-    Ok(())
+/// The proof is answered so, read at once and byte by byte.
+fn is_answered_whole(
+    rt: &impl Abort,
+    alloc: Global,
+    formula: &CnfFormula,
+    proof: &[u8],
+    answer: &str,
+) -> Result<(), AllocError> {
+    is_answered(rt, alloc, formula, Pieces::whole(proof), answer)?;
+    is_answered(rt, alloc, formula, Pieces::of_size(proof, 1), answer)
 }
 
 /// What is answered where so many lines were read to their ends before a read fails.
@@ -84,35 +81,43 @@ fn broken_after<'a>(answer: &'a str, lines: usize) -> &'a str {
     BROKEN
 }
 
-fn line_ends(text: &[u8]) -> usize {
-    text.iter().filter(|byte| **byte == b'\n').count()
+/// Where a read fails, whichever it is, what is answered is that of the lines before it.
+fn is_answered_broken(
+    rt: &impl Abort,
+    alloc: Global,
+    formula: &CnfFormula,
+    proof: &[u8],
+    answer: &str,
+) -> Result<(), AllocError> {
+    for read in 0..=proof.len() {
+        let text = &proof[..read];
+        let answer = broken_after(answer, line_ends(text));
+        let broken = Pieces::broken(text, ErrorKind::Interrupted);
+        is_answered(rt, alloc, formula, broken, answer)?;
+    }
+    Ok(())
 }
 
-/// The row is answered by its lines before the read that fails, whichever that is.
+fn holds_whole(rt: &impl Abort, alloc: Global, (formula, proof, answer): &Row) -> Result<(), Fail> {
+    let formula = read_formula(alloc, formula.as_bytes())?;
+    is_answered_whole(rt, alloc, &formula, proof.as_bytes(), answer)?;
+    Ok(())
+}
+
 fn holds_broken(
     rt: &impl Abort,
     alloc: Global,
     (formula, proof, answer): &Row,
 ) -> Result<(), Fail> {
-    let all = proof.as_bytes();
-    for read in 0..=all.len() {
-        let text = &all[..read];
-        let answer = broken_after(answer, line_ends(text));
-        is_answered(
-            rt,
-            alloc,
-            formula,
-            Pieces::broken(text, ErrorKind::Interrupted),
-            answer,
-        )?;
-    }
+    let formula = read_formula(alloc, formula.as_bytes())?;
+    is_answered_broken(rt, alloc, &formula, proof.as_bytes(), answer)?;
     Ok(())
 }
 
 /// The rows are answered so, also where one of their reads fails.
 fn hold(rt: &impl Abort, alloc: Global, rows: &[Row]) -> Result<(), Fail> {
-    hold_whole(rt, alloc, rows)?;
     for row in rows {
+        holds_whole(rt, alloc, row)?;
         holds_broken(rt, alloc, row)?;
     }
     Ok(())

@@ -75,3 +75,14 @@ fn show_deletion(all: &mut String, ids: &[u64]) -> Result<(), AllocError> {
     }
     Ok(())
 }
+
+/// How many lines stand whole in the text.
+pub fn line_ends(text: &[u8]) -> usize {
+    let mut count: usize = 0;
+    for byte in text {
+        if *byte == b'\n' {
+            count = count.saturating_add(1);
+        }
+    }
+    count
+}

@@ -1,7 +1,7 @@
 //! What no clause says of answers: rows over readers of any cut, reads that fail, and texts of
 //! faults.
 use answer_text::{Literals, read_answer};
-use sat_formula::{Lit, read_formula};
+use sat_formula::{CnfFormula, Lit, read_formula};
 use std::alloc::{AllocError, Global};
 use std::process::Abort;
 use std::test::Fail;
@@ -76,9 +76,11 @@ const FAULTS: [Row; 20] = [
     (b"v 1 0\n", "line 2: no status line"),
 ];
 
-/// Answers by six bytes a read, of which the read of this number fails. It is not the end of the
-/// answer, and a fault before it is told.
-const BROKEN: [(&[u8], usize, &str); 3] = [
+/// An answer, and the number of the read that fails. It is not the end of the answer, and a fault
+/// before it is told.
+type BrokenRow = (&'static [u8], usize, &'static str);
+
+const BROKEN: [BrokenRow; 3] = [
     (b"1 2 0\n", 2, "error reading answer: broken"),
     (b"1 -1 0", 2, "line 1: both signs of a variable"),
     (b"", 1, "error reading answer: broken"),
@@ -111,35 +113,47 @@ fn answers(rt: HostRuntime) -> Result<(), Fail> {
     Ok(())
 }
 
-#[test]
-fn reads_that_fail(rt: HostRuntime) -> Result<(), Fail> {
-    for (bytes, failing, text) in BROKEN {
-        let answer = Pieces::failing_at(bytes, 6, failing);
-        is_shown(&rt, rt.alloc(), answer, text)?;
+/// By six bytes a read.
+fn hold_broken(rt: &impl Abort, alloc: Global, rows: &[BrokenRow]) -> Result<(), AllocError> {
+    for (bytes, failing, text) in rows {
+        is_shown(rt, alloc, Pieces::failing_at(bytes, 6, *failing), text)?;
     }
     Ok(())
 }
 
-/// Clauses, each with whether the literals 1 -2 meet it.
-const CLAUSES: [(&str, bool); 5] = [
-    ("1 0", true),
-    ("-1 0", false),
-    ("2 -2 0", true),
-    ("3 2 0", false),
-    ("0", false),
-];
+#[test]
+fn reads_that_fail(rt: HostRuntime) -> Result<(), Fail> {
+    hold_broken(&rt, rt.alloc(), &BROKEN)?;
+    Ok(())
+}
 
-fn meets(alloc: Global, literals: &Literals, clause: &str) -> Result<bool, Fail> {
-    let formula = read_formula(alloc, clause.as_bytes())?;
-    let clause = formula.iter().next().ok_or("no clause")?;
-    Ok(literals.meets(clause))
+const CLAUSES: &[u8] = b"1 0 -1 0 2 -2 0 3 2 0 0";
+
+/// Which of the clauses the literals 1 -2 meet.
+const MET: &str = "yes no yes no no ";
+
+fn write_met(
+    all: &mut String,
+    literals: &Literals,
+    clauses: &CnfFormula,
+) -> Result<(), AllocError> {
+    for clause in clauses {
+        let met = if literals.meets(clause) {
+            "yes "
+        } else {
+            "no "
+        };
+        write!(all, "{met}")?;
+    }
+    Ok(())
 }
 
 #[test]
 fn clauses(rt: HostRuntime) -> Result<(), Fail> {
+    let clauses = read_formula(rt.alloc(), CLAUSES)?;
     let literals = read_answer(rt.alloc(), b"1 -2 0".as_slice())?;
-    for (clause, met) in CLAUSES {
-        assert_eq!(rt; meets(rt.alloc(), &literals, clause)?, met);
-    }
+    let mut all = String::new(rt.alloc());
+    write_met(&mut all, &literals, &clauses)?;
+    assert_eq!(rt; all.as_str(), MET);
     Ok(())
 }

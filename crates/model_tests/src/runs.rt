@@ -6,17 +6,16 @@ use std::process::Abort;
 use std::test::Fail;
 use test_streams::{Full, Pieces};
 
-/// What a run answers: its line or the text of its fault, the clause that is not met, and its exit
-/// status.
-type Outcome = (&'static str, u64, u8);
+/// What a run writes, the text of its fault, the clause that is not met, and its exit status.
+type Outcome = (&'static str, &'static str, u64, u8);
 
-const VERIFIED: Outcome = ("s VERIFIED SAT\n", 0, 0);
+const VERIFIED: Outcome = ("s VERIFIED SAT\n", "", 0, 0);
 
-const FIRST_UNMET: Outcome = ("s NOT VERIFIED\n", 1, 3);
+const FIRST_UNMET: Outcome = ("s NOT VERIFIED\n", "", 1, 3);
 
-const SECOND_UNMET: Outcome = ("s NOT VERIFIED\n", 2, 3);
+const SECOND_UNMET: Outcome = ("s NOT VERIFIED\n", "", 2, 3);
 
-const THIRD_UNMET: Outcome = ("s NOT VERIFIED\n", 3, 3);
+const THIRD_UNMET: Outcome = ("s NOT VERIFIED\n", "", 3, 3);
 
 /// 1 or 2, not 1 or 3, not 2 or not 3.
 const THREE: &[u8] = b"p cnf 3 3\n1 2 0\n-1 3 0\n-2 -3 0\n";
@@ -24,7 +23,7 @@ const THREE: &[u8] = b"p cnf 3 3\n1 2 0\n-1 3 0\n-2 -3 0\n";
 /// A formula and an answer with what is said of it.
 type Row = (&'static [u8], &'static [u8], Outcome);
 
-const ANSWERS: [Row; 15] = [
+const RUNS: [Row; 21] = [
     (THREE, b"s SATISFIABLE\nv 1 -2 3 0\n", VERIFIED),
     (THREE, b"c\ns SATISFIABLE\nv -1 2\nv -3 0\nc\n", VERIFIED),
     (THREE, b"1 -2 3 0", VERIFIED),
@@ -37,38 +36,35 @@ const ANSWERS: [Row; 15] = [
     (
         THREE,
         b"1 -1 2 3 0",
-        ("answer: line 1: both signs of a variable", 0, 1),
+        ("", "answer: line 1: both signs of a variable", 0, 1),
     ),
     (
         THREE,
         b"s UNSATISFIABLE\n",
-        ("answer: line 1: the answer is UNSATISFIABLE", 0, 1),
+        ("", "answer: line 1: the answer is UNSATISFIABLE", 0, 1),
     ),
     (
         THREE,
         b"c\ns UNKNOWN\n",
-        ("answer: line 2: the answer is UNKNOWN", 0, 1),
+        ("", "answer: line 2: the answer is UNKNOWN", 0, 1),
     ),
     (
         THREE,
         b"s SATISFIABLE\nv 1 -2 3",
-        ("answer: line 2: the answer ends early", 0, 1),
+        ("", "answer: line 2: the answer ends early", 0, 1),
     ),
     (
         THREE,
         b"v 1 -2 3 0\n",
-        ("answer: line 2: no status line", 0, 1),
+        ("", "answer: line 2: no status line", 0, 1),
     ),
     (
         THREE,
         b"1 -2 3 0\n1",
-        ("answer: line 2: a number after the last one", 0, 1),
+        ("", "answer: line 2: a number after the last one", 0, 1),
     ),
-];
-
-/// An empty clause is met by nothing, and no clause is met by anything. A formula is read to its
-/// end.
-const FORMULAS: [Row; 6] = [
+    // an empty clause is met by nothing, and no clause is met by anything; a formula is read to its
+    // end
     (b"", b"0", VERIFIED),
     (b"0", b"1 0", FIRST_UNMET),
     (b"1 0 0 2 0", b"1 2 0", SECOND_UNMET),
@@ -76,53 +72,65 @@ const FORMULAS: [Row; 6] = [
     (
         b"1 0\n2 x 0",
         b"-1 0",
-        ("formula: line 2: bad number", 0, 1),
+        ("", "formula: line 2: bad number", 0, 1),
     ),
     (
         b"1 0 2",
         b"1 2 0",
-        ("formula: line 1: unterminated clause", 0, 1),
+        ("", "formula: line 1: unterminated clause", 0, 1),
     ),
 ];
 
-fn clause_of(verdict: Verdict) -> u64 {
-    match verdict {
-        Verdict::Verified => 0,
-        Verdict::NotVerified { clause } => clause,
+/// The clause that is not met, counted from 1.
+fn unmet_clause(answer: &Result<Verdict, RunFault>) -> u64 {
+    match answer {
+        Ok(Verdict::NotVerified { clause }) => *clause,
+        _ => 0,
     }
 }
 
-/// The line that was written, or else the text of the fault.
+/// The text of a fault, and of a verdict none.
+fn fault_text(alloc: Global, answer: Result<Verdict, RunFault>) -> Result<String, AllocError> {
+    match answer {
+        Ok(_) => Ok(String::new(alloc)),
+        Err(fault) => fault.to_string(alloc),
+    }
+}
+
+fn has_outcome(
+    rt: &impl Abort,
+    alloc: Global,
+    answer: Result<Verdict, RunFault>,
+    written: &[u8],
+    (line, fault, unmet, status): Outcome,
+) -> Result<(), AllocError> {
+    assert_eq!(rt; written, line.as_bytes());
+    assert_eq!(rt; exit_status(&answer), status);
+    assert_eq!(rt; unmet_clause(&answer), unmet);
+    let said = fault_text(alloc, answer)?;
+    assert_eq!(rt; said.as_str(), fault);
+    Ok(())
+}
+
 fn is_answered(
     rt: &impl Abort,
     alloc: Global,
     cnf: Pieces<'_>,
-    answer: Pieces<'_>,
-    (text, unmet, status): Outcome,
+    literals: Pieces<'_>,
+    outcome: Outcome,
 ) -> Result<(), AllocError> {
     let mut out = Vec::new(alloc);
-    let outcome = run_check(alloc, cnf, answer, &mut out);
-    assert_eq!(rt; exit_status(&outcome), status, "{text}");
-    match outcome {
-        Ok(verdict) => {
-            assert_eq!(rt; out.as_slice(), text.as_bytes());
-            assert_eq!(rt; clause_of(verdict), unmet);
-        }
-        Err(fault) => {
-            assert_eq!(rt; out.len(), 0);
-            assert_eq!(rt; fault.to_string(alloc)?.as_str(), text);
-        }
-    }
-    Ok(())
+    let answer = run_check(alloc, cnf, literals, &mut out);
+    has_outcome(rt, alloc, answer, &out, outcome)
 }
 
-fn hold(rt: &impl Abort, alloc: Global, rows: &[Row]) -> Result<(), AllocError> {
-    for (cnf, answer, outcome) in rows {
+fn are_answered(rt: &impl Abort, alloc: Global, rows: &[Row]) -> Result<(), AllocError> {
+    for (cnf, literals, outcome) in rows {
         is_answered(
             rt,
             alloc,
             Pieces::whole(cnf),
-            Pieces::whole(answer),
+            Pieces::whole(literals),
             *outcome,
         )?;
     }
@@ -131,8 +139,7 @@ fn hold(rt: &impl Abort, alloc: Global, rows: &[Row]) -> Result<(), AllocError> 
 
 #[test]
 fn runs(rt: HostRuntime) -> Result<(), Fail> {
-    hold(&rt, rt.alloc(), &ANSWERS)?;
-    hold(&rt, rt.alloc(), &FORMULAS)?;
+    are_answered(&rt, rt.alloc(), &RUNS)?;
     Ok(())
 }
 
@@ -140,34 +147,25 @@ const ANSWER: &[u8] = b"1 -2 3 0";
 
 #[test]
 fn reads_that_fail(rt: HostRuntime) -> Result<(), Fail> {
-    let fault = ("answer: error reading answer: broken", 0, 1);
-    is_answered(
-        &rt,
-        rt.alloc(),
-        Pieces::whole(THREE),
-        Pieces::broken(ANSWER, ErrorKind::ConnectionReset),
-        fault,
-    )?;
-    let fault = ("formula: error reading formula: broken", 0, 1);
-    is_answered(
-        &rt,
-        rt.alloc(),
-        Pieces::broken(THREE, ErrorKind::ConnectionReset),
-        Pieces::whole(ANSWER),
-        fault,
-    )?;
+    let broken = Pieces::broken(ANSWER, ErrorKind::ConnectionReset);
+    let outcome = ("", "answer: error reading answer: broken", 0, 1);
+    is_answered(&rt, rt.alloc(), Pieces::whole(THREE), broken, outcome)?;
+    let broken = Pieces::broken(THREE, ErrorKind::ConnectionReset);
+    let outcome = ("", "formula: error reading formula: broken", 0, 1);
+    is_answered(&rt, rt.alloc(), broken, Pieces::whole(ANSWER), outcome)?;
     Ok(())
 }
 
 #[test]
-fn line_that_cannot_be_written(rt: HostRuntime) {
-    let mut out = Full::after(0);
-    let outcome = run_check(
+fn line_that_cannot_be_written(rt: HostRuntime) -> Result<(), Fail> {
+    let literals = Pieces::whole(ANSWER);
+    let answer = run_check(rt.alloc(), THREE, literals, &mut Full::after(0));
+    has_outcome(
+        &rt,
         rt.alloc(),
-        Pieces::whole(THREE),
-        Pieces::whole(ANSWER),
-        &mut out,
-    );
-    assert_eq!(rt; matches!(outcome, Err(RunFault::Write(_))), true);
-    assert_eq!(rt; exit_status(&outcome), 1);
+        answer,
+        &[],
+        ("", "error writing: full", 0, 1),
+    )?;
+    Ok(())
 }

@@ -1,6 +1,7 @@
 //! Calls on one checker, one after the other.
-use super::{BROKEN, FOUR, THREE, UNITS, checker, shown};
+use super::{BROKEN, FOUR, THREE, UNITS, shown};
 use lrat_checker::LratChecker;
+use sat_formula::{CnfFormula, read_formula};
 use std::alloc::{AllocError, Global};
 use std::io::ErrorKind;
 use std::process::Abort;
@@ -24,14 +25,14 @@ fn called(
     alloc: Global,
     checker: &mut LratChecker,
     call: Call,
-    proof: &str,
+    proof: &[u8],
 ) -> Result<String, AllocError> {
-    let text = proof.as_bytes();
+    let broken = Pieces::broken(proof, ErrorKind::Interrupted);
     let answer = match call {
-        Call::Check => checker.check(text),
-        Call::Refute => checker.refute(text),
-        Call::CheckBroken => checker.check(Pieces::broken(text, ErrorKind::Interrupted)),
-        Call::RefuteBroken => checker.refute(Pieces::broken(text, ErrorKind::Interrupted)),
+        Call::Check => checker.check(proof),
+        Call::Refute => checker.refute(proof),
+        Call::CheckBroken => checker.check(broken),
+        Call::RefuteBroken => checker.refute(broken),
     };
     shown(alloc, answer)
 }
@@ -43,9 +44,28 @@ fn answers(
     calls: Calls,
 ) -> Result<(), AllocError> {
     for (call, proof, answer, refuted) in calls {
-        let seen = called(alloc, checker, *call, proof)?;
+        let seen = called(alloc, checker, *call, proof.as_bytes())?;
         assert_eq!(rt; seen.as_str(), *answer);
         assert_eq!(rt; checker.refuted(), *refuted);
+    }
+    Ok(())
+}
+
+/// A new checker answers so.
+fn new_answers(
+    rt: &impl Abort,
+    alloc: Global,
+    formula: &CnfFormula,
+    calls: Calls,
+) -> Result<(), AllocError> {
+    let mut checker = LratChecker::new(alloc, formula)?;
+    answers(rt, alloc, &mut checker, calls)
+}
+
+fn hold(rt: &impl Abort, alloc: Global, rows: &[(&str, Calls)]) -> Result<(), Fail> {
+    for (formula, calls) in rows {
+        let formula = read_formula(alloc, formula.as_bytes())?;
+        new_answers(rt, alloc, &formula, calls)?;
     }
     Ok(())
 }
@@ -144,11 +164,7 @@ const CALLS: [(&str, Calls); 18] = [
 
 #[test]
 fn calls(rt: HostRuntime) -> Result<(), Fail> {
-    for (formula, calls) in CALLS {
-        let mut checker = checker(rt.alloc(), formula)?;
-        answers(&rt, rt.alloc(), &mut checker, calls)?;
-    }
-    Ok(())
+    hold(&rt, rt.alloc(), &CALLS)
 }
 
 /// Checks a text, which is answered so.
@@ -159,7 +175,7 @@ fn checks(
     text: &str,
     answer: &str,
 ) -> Result<(), AllocError> {
-    let seen = called(alloc, checker, Call::Check, text)?;
+    let seen = shown(alloc, checker.check(text.as_bytes()))?;
     assert_eq!(rt; seen.as_str(), answer);
     Ok(())
 }
@@ -167,8 +183,12 @@ fn checks(
 /// Clauses are added and deleted again, more than the checker first has room for.
 #[test]
 fn many_deletions(rt: HostRuntime) -> Result<(), Fail> {
-    let mut checker = checker(rt.alloc(), FOUR)?;
-    deletes_many(&rt, rt.alloc(), &mut checker)?;
+    let formula = read_formula(rt.alloc(), FOUR.as_bytes())?;
+    deletes_many(
+        &rt,
+        rt.alloc(),
+        &mut LratChecker::new(rt.alloc(), &formula)?,
+    )?;
     Ok(())
 }
 
@@ -193,18 +213,24 @@ fn added_and_deleted(alloc: Global, id: u64, next: u64) -> Result<String, AllocE
 /// An id far above the number of clauses is no longer far when it comes again.
 #[test]
 fn ids_that_were_far(rt: HostRuntime) -> Result<(), Fail> {
-    let text = many_clauses(rt.alloc())?;
-    let mut checker = checker(rt.alloc(), THREE)?;
-    comes_again(&rt, rt.alloc(), &mut checker, &text)?;
+    let mut text = String::new(rt.alloc());
+    write_clauses(&mut text)?;
+    let formula = read_formula(rt.alloc(), THREE.as_bytes())?;
+    comes_again(
+        &rt,
+        rt.alloc(),
+        &mut LratChecker::new(rt.alloc(), &formula)?,
+        &text,
+    )?;
     Ok(())
 }
 
-fn many_clauses(alloc: Global) -> Result<String, AllocError> {
-    let mut text = String::from_str(alloc, "20000 2 0 2 3 0\n")?;
+fn write_clauses(text: &mut String) -> Result<(), AllocError> {
+    writeln!(text, "20000 2 0 2 3 0")?;
     for id in 4..1200u64 {
         writeln!(text, "{id} 2 9 0 20000 0")?;
     }
-    Ok(text)
+    Ok(())
 }
 
 fn comes_again(

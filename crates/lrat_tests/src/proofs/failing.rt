@@ -1,59 +1,69 @@
 //! Texts of faults, and lines that are no text.
-use super::{FOUR, UNITS, checker};
+use super::{FOUR, UNITS};
 use lrat_checker::{LineFault, LratCause, LratChecker};
 use lrat_text::{Hint, LratLine};
-use sat_formula::Lit;
+use sat_formula::{Lit, read_formula};
+use std::alloc::{AllocError, Global};
 use std::process::Abort;
 use std::test::Fail;
+
+/// A line, and what is answered to it.
+type Row<'a> = (LratLine<'a>, Result<(), LineFault>);
+
+/// The lines are answered so, and the formula is refuted then.
+fn takes_lines(rt: &impl Abort, checker: &mut LratChecker, rows: &[Row<'_>]) {
+    for (line, answer) in rows {
+        assert_eq!(rt; checker.check_line(*line), *answer);
+    }
+    assert!(rt; checker.refuted());
+}
 
 #[test]
 fn single_lines(rt: HostRuntime) -> Result<(), Fail> {
     let one = [Lit::from_dimacs(1).ok_or("in range")?];
-    let mut checker = checker(rt.alloc(), FOUR)?;
-    takes_single_lines(&rt, &mut checker, &one);
+    let formula = read_formula(rt.alloc(), FOUR.as_bytes())?;
+    refutes_by_lines(&rt, &mut LratChecker::new(rt.alloc(), &formula)?, &one);
     Ok(())
 }
 
-fn takes_single_lines(rt: &impl Abort, checker: &mut LratChecker, one: &[Lit]) {
+fn refutes_by_lines(rt: &impl Abort, checker: &mut LratChecker, one: &[Lit]) {
     let unit = LratLine::Add {
         id: 5,
         clause: one,
         hints: &[Hint::Along(1), Hint::Along(2)],
     };
+    let deletion = LratLine::Delete { ids: &[1, 2] };
     let empty = LratLine::Add {
         id: 1,
         clause: &[],
         hints: &[Hint::Along(5), Hint::Along(3), Hint::Along(4)],
     };
-    assert_eq!(rt; checker.check_line(unit), Ok(()));
-    assert_eq!(rt;
-        checker.check_line(LratLine::Delete { ids: &[1, 2] }),
-        Ok(())
+    takes_lines(
+        rt,
+        checker,
+        &[(unit, Ok(())), (deletion, Ok(())), (empty, Ok(()))],
     );
-    assert_eq!(rt; checker.check_line(empty), Ok(()));
-    assert!(rt; checker.refuted());
-    assert_eq!(rt;
-        checker.check_line(empty),
-        Err(LineFault::Refused(LratCause::IdTaken))
+    let taken = Err(LineFault::Refused(LratCause::IdTaken));
+    takes_lines(
+        rt,
+        checker,
+        &[(empty, taken), (empty, Err(LineFault::Failed))],
     );
-    assert_eq!(rt; checker.check_line(empty), Err(LineFault::Failed));
 }
 
-/// A line after a text with a fault.
+/// A line after a text with a fault, whose first line refuted the formula.
 #[test]
 fn line_after_a_fault(rt: HostRuntime) -> Result<(), Fail> {
-    let mut checker = checker(rt.alloc(), UNITS)?;
-    takes_no_line(&rt, &mut checker);
+    let formula = read_formula(rt.alloc(), UNITS.as_bytes())?;
+    takes_no_line(&rt, &mut LratChecker::new(rt.alloc(), &formula)?);
     Ok(())
 }
 
 fn takes_no_line(rt: &impl Abort, checker: &mut LratChecker) {
-    assert!(rt; checker.check(b"3 0 1 2 0\n4 0 1 2".as_slice()).is_err());
-    assert_eq!(rt;
-        checker.check_line(LratLine::Delete { ids: &[] }),
-        Err(LineFault::Failed)
-    );
-    assert!(rt; checker.refuted());
+    let answer = checker.check(b"3 0 1 2 0\n4 0 1 2".as_slice());
+    assert!(rt; answer.is_err());
+    let deletion = LratLine::Delete { ids: &[] };
+    takes_lines(rt, checker, &[(deletion, Err(LineFault::Failed))]);
 }
 
 const CAUSES: [(LratCause, &str); 6] = [
@@ -71,27 +81,47 @@ const CAUSES: [(LratCause, &str); 6] = [
     ),
 ];
 
-#[test]
-fn texts_of_causes(rt: HostRuntime) -> Result<(), Fail> {
-    for (cause, text) in CAUSES {
-        assert_eq!(rt; cause.to_string(rt.alloc())?.as_str(), text);
-    }
+fn has_text(
+    rt: &impl Abort,
+    alloc: Global,
+    fault: LineFault,
+    text: &str,
+) -> Result<(), AllocError> {
+    let said = fault.to_string(alloc)?;
+    assert_eq!(rt; said.as_str(), text);
     Ok(())
 }
 
-const FAULTS: [(LineFault, &str); 2] = [
-    (LineFault::OutOfMemory, "out of memory"),
-    (LineFault::Failed, "an earlier line was not accepted"),
-];
+fn cause_has_text(
+    rt: &impl Abort,
+    alloc: Global,
+    cause: LratCause,
+    text: &str,
+) -> Result<(), AllocError> {
+    let said = cause.to_string(alloc)?;
+    assert_eq!(rt; said.as_str(), text);
+    has_text(rt, alloc, LineFault::Refused(cause), text)
+}
+
+fn have_texts(
+    rt: &impl Abort,
+    alloc: Global,
+    rows: &[(LratCause, &str)],
+) -> Result<(), AllocError> {
+    for (cause, text) in rows {
+        cause_has_text(rt, alloc, *cause, text)?;
+    }
+    has_text(rt, alloc, LineFault::OutOfMemory, "out of memory")?;
+    has_text(
+        rt,
+        alloc,
+        LineFault::Failed,
+        "an earlier line was not accepted",
+    )
+}
 
 #[test]
 fn texts_of_faults(rt: HostRuntime) -> Result<(), Fail> {
-    for (cause, text) in CAUSES {
-        let fault = LineFault::Refused(cause);
-        assert_eq!(rt; fault.to_string(rt.alloc())?.as_str(), text);
-    }
-    for (fault, text) in FAULTS {
-        assert_eq!(rt; fault.to_string(rt.alloc())?.as_str(), text);
-    }
+    have_texts(&rt, rt.alloc(), &CAUSES)?;
     Ok(())
 }

@@ -1,5 +1,7 @@
 //! Lines that add clauses by propagation, deletions and ids.
-use super::{BOTH, FOUR, Row, THREE, UNITS, hold, hold_whole};
+use super::{BOTH, FOUR, Row, THREE, UNITS, hold, holds_whole};
+use std::alloc::Global;
+use std::process::Abort;
 use std::test::Fail;
 
 const PROPAGATION: [Row; 18] = [
@@ -172,6 +174,13 @@ fn ids_of_lines(rt: HostRuntime) -> Result<(), Fail> {
 }
 
 #[test]
-fn empty_clause_of_the_formula(rt: HostRuntime) -> Result<(), Fail> {
+fn empty_clauses_of_formulas(rt: HostRuntime) -> Result<(), Fail> {
     hold_whole(&rt, rt.alloc(), &EMPTY_CLAUSES)
+}
+
+fn hold_whole(rt: &impl Abort, alloc: Global, rows: &[Row]) -> Result<(), Fail> {
+    for row in rows {
+        holds_whole(rt, alloc, row)?;
+    }
+    Ok(())
 }

@@ -45,9 +45,17 @@ fn many_lines(rt: HostRuntime) -> Result<(), Fail> {
 }
 
 fn has_many_lines(rt: &impl Abort, reader: &mut LineReader<&[u8]>) {
-    for line in 1..9001u64 {
-        assert_eq!(rt; lengths(reader.next_line()), Some((12, 2, 1)));
-        assert_eq!(rt; reader.line(), line);
-    }
+    assert_eq!(rt; other_line(reader), None);
     assert!(rt; matches!(reader.next_line(), Ok(None)));
+}
+
+/// The number of the first of 9000 lines that is another one, or has another number.
+fn other_line(reader: &mut LineReader<&[u8]>) -> Option<u64> {
+    for line in 1..9001u64 {
+        let found = lengths(reader.next_line());
+        if found != Some((12, 2, 1)) || reader.line() != line {
+            return Some(line);
+        }
+    }
+    None
 }

@@ -1,5 +1,5 @@
 //! Texts with their answers, each beside the number of the line that gives it.
-use super::shown;
+use super::{line_ends, shown};
 use std::alloc::{AllocError, Global};
 use std::process::Abort;
 use std::test::Fail;
@@ -178,10 +178,6 @@ fn write_answers(
         writeln!(all, "{answer} @{line}")?;
     }
     Ok(false)
-}
-
-fn line_ends(text: &[u8]) -> usize {
-    text.iter().filter(|byte| **byte == b'\n').count()
 }
 
 /// The rows are answered so read at once and in pieces, and where any of their reads fails.
