@@ -64,10 +64,11 @@ fn tell_clause(text: &mut String, clause: &[Lit]) -> Result<(), AllocError> {
 
 fn tell_hints(text: &mut String, hints: &[Hint]) -> Result<(), AllocError> {
     for hint in hints {
-        match *hint {
-            Hint::Along(id) => write!(text, " {id}")?,
-            Hint::Against(id) => write!(text, " -{id}")?,
-        }
+        let (sign, id) = match *hint {
+            Hint::Along(id) => ("", id),
+            Hint::Against(id) => ("-", id),
+        };
+        write!(text, " {sign}{id}")?;
     }
     Ok(())
 }

@@ -61,10 +61,11 @@ fn show_addition(
 }
 
 fn show_hint(all: &mut String, hint: Hint) -> Result<(), AllocError> {
-    match hint {
-        Hint::Along(id) => write!(all, "{id} "),
-        Hint::Against(id) => write!(all, "-{id} "),
-    }
+    let (sign, id) = match hint {
+        Hint::Along(id) => ("", id),
+        Hint::Against(id) => ("-", id),
+    };
+    write!(all, "{sign}{id} ")
 }
 
 /// The words after the first number, up to the last one.

@@ -171,7 +171,7 @@ const REFUSED: [Refusal; 10] = [
     (b"1 0\n2 x 0", REFUTATION, "formula: line 2: bad number"),
 ];
 
-/// The bytes of the proof are these.
+/// The exit status and the bytes of the proof are these.
 fn converts(
     rt: &impl Abort,
     alloc: Global,
@@ -181,12 +181,84 @@ fn converts(
     (status, bytes): (u8, &[u8]),
 ) {
     let mut out = Vec::new(alloc);
-    let answer = convert(alloc, Pieces::whole(cnf), proof, width, &mut out);
+    let answer = convert(alloc, cnf, proof, width, &mut out);
     assert_eq!(rt; exit_status(&answer), status);
     assert_eq!(rt; out.as_slice(), bytes);
 }
 
+fn all_convert(rt: &impl Abort, alloc: Global, rows: &[Row]) {
+    for (cnf, proof, outcome) in rows {
+        converts(
+            rt,
+            alloc,
+            cnf,
+            Pieces::whole(proof),
+            HashWidth::full(),
+            *outcome,
+        );
+    }
+}
+
+#[test]
+fn conversions(rt: HostRuntime) {
+    all_convert(&rt, rt.alloc(), &CONVERTED);
+}
+
+#[test]
+fn narrow_hashes(rt: HostRuntime) {
+    let nine = HashWidth::from_bits(9).unwrap_or(HashWidth::full());
+    assert_eq!(rt; nine.bits(), 9);
+    assert!(rt; HashWidth::from_bits(0).is_none());
+    assert!(rt; HashWidth::from_bits(65).is_none());
+    assert_eq!(rt; HashWidth::from_bits(64), Some(HashWidth::full()));
+    let proof = Pieces::whole(REFUTATION);
+    converts(
+        &rt,
+        rt.alloc(),
+        FOUR,
+        proof,
+        nine,
+        (0, REFUTED_IN_NINE_BITS),
+    );
+}
+
+/// The proof of a formula that is refuted is not read.
+fn convert_unread(rt: &impl Abort, alloc: Global, formulas: &[&[u8]]) {
+    for cnf in formulas {
+        let proof = Pieces::broken(b"", ErrorKind::ConnectionReset);
+        converts(rt, alloc, cnf, proof, HashWidth::full(), (0, NO_STEP));
+    }
+}
+
+#[test]
+fn formulas_that_are_refuted_already(rt: HostRuntime) {
+    convert_unread(&rt, rt.alloc(), &REFUTED_FORMULAS);
+}
+
+/// The text of a fault, and of a conversion none.
+fn fault_text(
+    alloc: Global,
+    answer: Result<Conversion, ConvertFault>,
+) -> Result<String, AllocError> {
+    match answer {
+        Ok(_) => Ok(String::new(alloc)),
+        Err(fault) => fault.to_string(alloc),
+    }
+}
+
 /// The fault has this text.
+fn is_refusal(
+    rt: &impl Abort,
+    alloc: Global,
+    answer: Result<Conversion, ConvertFault>,
+    text: &str,
+) -> Result<(), AllocError> {
+    assert_eq!(rt; exit_status(&answer), 1);
+    let said = fault_text(alloc, answer)?;
+    assert_eq!(rt; said.as_str(), text);
+    Ok(())
+}
+
 fn refuses(
     rt: &impl Abort,
     alloc: Global,
@@ -196,66 +268,19 @@ fn refuses(
 ) -> Result<(), AllocError> {
     let mut out = Vec::new(alloc);
     let answer = convert(alloc, cnf, proof, HashWidth::full(), &mut out);
-    assert_eq!(rt; exit_status(&answer), 1, "{text}");
-    match answer {
-        Ok(_) => assert!(rt; false, "{text}"),
-        Err(fault) => assert_eq!(rt; fault.to_string(alloc)?.as_str(), text),
+    is_refusal(rt, alloc, answer, text)
+}
+
+fn all_refuse(rt: &impl Abort, alloc: Global, rows: &[Refusal]) -> Result<(), AllocError> {
+    for (cnf, proof, text) in rows {
+        refuses(rt, alloc, Pieces::whole(cnf), Pieces::whole(proof), text)?;
     }
     Ok(())
 }
 
 #[test]
-fn conversions(rt: HostRuntime) {
-    for (cnf, proof, outcome) in CONVERTED {
-        converts(
-            &rt,
-            rt.alloc(),
-            cnf,
-            Pieces::whole(proof),
-            HashWidth::full(),
-            outcome,
-        );
-    }
-}
-
-#[test]
-fn narrow_hashes(rt: HostRuntime) {
-    let nine = HashWidth::from_bits(9).unwrap_or(HashWidth::full());
-    assert_eq!(rt; nine.bits(), 9);
-    let outcome = (0, REFUTED_IN_NINE_BITS);
-    converts(
-        &rt,
-        rt.alloc(),
-        FOUR,
-        Pieces::whole(REFUTATION),
-        nine,
-        outcome,
-    );
-    assert!(rt; HashWidth::from_bits(0).is_none());
-    assert!(rt; HashWidth::from_bits(65).is_none());
-    assert_eq!(rt; HashWidth::from_bits(64), Some(HashWidth::full()));
-}
-
-/// Where the formula is refuted the proof is not read.
-#[test]
-fn formulas_that_are_refuted_already(rt: HostRuntime) {
-    for cnf in REFUTED_FORMULAS {
-        let proof = Pieces::broken(b"", ErrorKind::ConnectionReset);
-        converts(&rt, rt.alloc(), cnf, proof, HashWidth::full(), (0, NO_STEP));
-    }
-}
-
-#[test]
 fn refusals(rt: HostRuntime) -> Result<(), Fail> {
-    for (cnf, proof, text) in REFUSED {
-        refuses(
-            &rt,
-            rt.alloc(),
-            Pieces::whole(cnf),
-            Pieces::whole(proof),
-            text,
-        )?;
-    }
+    all_refuse(&rt, rt.alloc(), &REFUSED)?;
     Ok(())
 }
 
@@ -286,32 +311,26 @@ fn no_read_after_the_empty_clause(rt: HostRuntime) {
 
 /// What is answered where so many bytes can be written.
 fn written(alloc: Global, room: usize) -> Result<Conversion, ConvertFault> {
-    let mut out = Full::after(room);
+    let proof = Pieces::whole(REFUTATION);
     convert(
         alloc,
-        Pieces::whole(FOUR),
-        Pieces::whole(REFUTATION),
+        FOUR,
+        proof,
         HashWidth::full(),
-        &mut out,
+        &mut Full::after(room),
     )
 }
 
-/// The text of the fault where there is room for so many bytes.
-fn unwritten(rt: &impl Abort, alloc: Global, room: usize) -> Result<(), AllocError> {
-    let answer = written(alloc, room);
-    assert_eq!(rt; exit_status(&answer), 1);
-    match answer {
-        Ok(_) => assert!(rt; false, "{room}"),
-        Err(fault) => assert_eq!(rt; fault.to_string(alloc)?.as_str(), "error writing: full"),
+fn are_unwritten(rt: &impl Abort, alloc: Global) -> Result<(), AllocError> {
+    for room in 0..REFUTED.len() {
+        is_refusal(rt, alloc, written(alloc, room), "error writing: full")?;
     }
     Ok(())
 }
 
 #[test]
 fn writes_that_fail(rt: HostRuntime) -> Result<(), Fail> {
-    for room in 0..REFUTED.len() {
-        unwritten(&rt, rt.alloc(), room)?;
-    }
+    are_unwritten(&rt, rt.alloc())?;
     assert_eq!(rt; exit_status(&written(rt.alloc(), REFUTED.len())), 0);
     Ok(())
 }
