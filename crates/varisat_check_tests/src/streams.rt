@@ -1,13 +1,7 @@
-//! Readers of one byte a read, and a writer that counts the writes.
+//! A writer that counts the writes.
 use std::alloc::Global;
 use std::io;
 use std::io::Write;
-use test_streams::Pieces;
-
-/// Gives these bytes one a read.
-pub fn byte_by_byte(bytes: &[u8]) -> Pieces<'_> {
-    Pieces::of_size(bytes, 1)
-}
 
 /// Takes all bytes, and counts the writes.
 #[derive(Drop)]
