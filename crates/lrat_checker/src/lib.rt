@@ -14,8 +14,6 @@ mod propagation;
 mod redundancy;
 mod room;
 mod span;
-#[cfg(test)]
-mod tests;
 mod values;
 mod work;
 
