@@ -152,11 +152,7 @@ const WITH_IDS: [Row; 11] = [
         b"o 1 1 2 0\na 5 x 0",
         ("", "proof: step 2: malformed", 1),
     ),
-    (
-        FOUR,
-        b"o\x01\x02\x04\0a\x05\x02\0l\x02\x04\0",
-        VERIFIED,
-    ),
+    (FOUR, b"o\x01\x02\x04\0a\x05\x02\0l\x02\x04\0", VERIFIED),
     (
         FOUR,
         b"o\x01\x02\x04\0d\x01\0a\x05\x02\0",
@@ -184,7 +180,12 @@ fn formats_that_are_given(rt: HostRuntime) -> Result<(), Fail> {
     is_row(&rt, alloc, (FOUR, addition, unfinished), ProofFormat::Told)?;
     let malformed = ("", "proof: step 1: malformed", 1);
     is_row(&rt, alloc, (FOUR, b"1 0\n", malformed), ProofFormat::Frat)?;
-    is_row(&rt, alloc, (FOUR, b"o 1 1 2 0\n", malformed), ProofFormat::Drat)?;
+    is_row(
+        &rt,
+        alloc,
+        (FOUR, b"o 1 1 2 0\n", malformed),
+        ProofFormat::Drat,
+    )?;
     Ok(())
 }
 
@@ -203,7 +204,14 @@ fn reads_that_fail(rt: HostRuntime) -> Result<(), Fail> {
 fn line_that_cannot_be_written(rt: HostRuntime) -> Result<(), Fail> {
     let proof = Pieces::whole(b"1 0\n");
     let mut out = Full::after(0);
-    let answer = run_check(&Discard, rt.alloc(), FOUR, proof, ProofFormat::Told, &mut out);
+    let answer = run_check(
+        &Discard,
+        rt.alloc(),
+        FOUR,
+        proof,
+        ProofFormat::Told,
+        &mut out,
+    );
     has_outcome(&rt, rt.alloc(), answer, &[], ("", "error writing: full", 1))?;
     Ok(())
 }
