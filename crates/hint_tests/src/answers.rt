@@ -125,7 +125,7 @@ fn new_answers(
     alloc: Global,
     formula: &CnfFormula,
     texts: &[(&str, Answer)],
-) -> Result<(), AllocError> {
+) -> Result<(), HintFault> {
     let mut checker = HintChecker::new(alloc, formula)?;
     answers(rt, &mut checker, texts);
     Ok(())

@@ -1,7 +1,7 @@
 //! Lines that say nothing of hints.
 use hint_checker::{HintChecker, HintFault};
 use sat_formula::CnfFormula;
-use std::alloc::{AllocError, Global};
+use std::alloc::Global;
 use std::process::Abort;
 use std::test::Fail;
 
@@ -70,7 +70,7 @@ fn are_malformed(
     alloc: Global,
     formula: &CnfFormula,
     lines: &[&[u8]],
-) -> Result<(), AllocError> {
+) -> Result<(), HintFault> {
     for line in lines {
         let answer = answer_of_new(alloc, formula, line)?;
         assert_eq!(rt; answer, Err(HintFault::Malformed { line: 1 }), "{line:?}");
@@ -83,7 +83,7 @@ fn answer_of_new(
     alloc: Global,
     formula: &CnfFormula,
     line: &[u8],
-) -> Result<Result<bool, HintFault>, AllocError> {
+) -> Result<Result<bool, HintFault>, HintFault> {
     let mut checker = HintChecker::new(alloc, formula)?;
     Ok(checker.check(line))
 }

@@ -18,7 +18,7 @@ enum Told {
     Other,
 }
 
-fn told(answer: &Result<bool, HintTextFault>) -> Told {
+fn answer_told(answer: &Result<bool, HintTextFault>) -> Told {
     match answer {
         Ok(refuted) => Told::Refuted(*refuted),
         Err(HintTextFault::Refused(HintFault::Malformed { line })) => Told::Malformed(*line),
@@ -32,9 +32,9 @@ fn told_of_new<R: Read + Drop>(
     alloc: Global,
     formula: &CnfFormula,
     text: R,
-) -> Result<Told, AllocError> {
+) -> Result<Told, HintFault> {
     let mut checker = HintChecker::new(alloc, formula)?;
-    Ok(told(&checker.check_reader(text)))
+    Ok(answer_told(&checker.check_reader(text)))
 }
 
 /// So many lines, and a last one.
@@ -53,7 +53,7 @@ fn is_told(
     formula: &CnfFormula,
     (line, last): (&str, &str),
     expected: Told,
-) -> Result<(), AllocError> {
+) -> Result<(), Fail> {
     let text = long_text(alloc, line, last)?;
     let seen = told_of_new(alloc, formula, text.as_str().as_bytes())?;
     assert!(rt; seen == expected, "{line}{last}");
@@ -94,9 +94,9 @@ fn is_told_of_broken(
     formula: &CnfFormula,
     text: &[u8],
     expected: Told,
-) -> Result<(), AllocError> {
+) -> Result<(), HintFault> {
     let mut checker = HintChecker::new(alloc, formula)?;
-    let seen = told(&checker.check_reader(Pieces::broken(text, ErrorKind::ConnectionReset)));
+    let seen = answer_told(&checker.check_reader(Pieces::broken(text, ErrorKind::ConnectionReset)));
     assert!(rt; seen == expected, "{text:?}");
     assert_eq!(rt; checker.check(b""), Err(HintFault::Malformed { line: 0 }));
     Ok(())

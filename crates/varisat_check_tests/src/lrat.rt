@@ -1,6 +1,7 @@
 //! Runs that a writer of hints writes, and what a checker of hints says of them.
 use crate::four_clauses::{FIRST_MISSING, FOUR, HASHES, WIDTH_1, proof_of_four};
 use crate::outcomes::{NOT_SHOWN, Outcome, SHOWN, has_outcome};
+use hint_checker::HintFault;
 use log::sink::Discard;
 use proof_bytes::{ProofStep, write_step};
 use sat_formula::{CnfFormula, Lit, read_formula};
@@ -85,7 +86,7 @@ fn is_accepted(
     formula: &CnfFormula,
     lines: &str,
     answer: bool,
-) -> Result<(), AllocError> {
+) -> Result<(), HintFault> {
     let mut checker = HintChecker::new(alloc, formula)?;
     assert_eq!(rt; checker.check(lines.as_bytes()), Ok(answer));
     Ok(())
