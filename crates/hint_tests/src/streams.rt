@@ -9,7 +9,7 @@ use test_streams::Pieces;
 
 const UNITS: &[u8] = b"1 0 -1 0";
 
-/// What is answered to a text: whether it refutes, the line that is malformed, or a read that failed.
+/// What is answered to a text: whether it refutes, which line is malformed, or that a read failed.
 #[derive(Clone, Copy, PartialEq)]
 enum Told {
     Refuted(bool),
