@@ -6,20 +6,28 @@ use Rattle.std.proofs.lemmas.Bool.{eqb-true}
 use Rattle.std.specs.Prelude.{◌==◌, slice_index}
 use Rattle.std.proofs.lemmas.Bool.Decides.{nat_tests}
 use Rattle.std.proofs.lemmas.List.{take_all}
-use Rattle.sat_formula.specs.Bytes.{is_blank, is_digit}
-use Rattle.sat_formula.specs.Lines.{value_from, words_of}
+use Rattle.sat_formula.specs.Bytes.{is_digit, is_lf}
+use Rattle.sat_formula.specs.Lines.{value_from}
+use Rattle.lrat_text.specs.Bytes.{IsLine, ends_word, words_in}
 use Rattle.lrat_text.specs.declared.number.Number.TheVariants.{Exact}
 use Rattle.lrat_text.specs.FirstNumbers.{HasDigits, IsDigitsWord, IsFirst}
 use Rattle.lrat_text.specs.Numbers.{number_of}
 use Rattle.lrat_text.proofs.NumberLemmas.{judged-exact}
-use Rattle.lrat_text.proofs.WordLemmas.{words_of-drop, words_of-first}
+use Rattle.lrat_text.proofs.WordLemmas.{line_some, line_inside, words_in-first}
 
 -- ---- digits
 
-no_blank : (b : ℕ) → is_digit b ≡ true → is_blank b ≡ false
-no_blank b e = go (is_blank b) refl
+no_end : (b : ℕ) → is_digit b ≡ true → ends_word b ≡ false
+no_end b e = go (ends_word b) refl
   where
-    go : (x : Bool) → is_blank b ≡ x → x ≡ false
+    go : (x : Bool) → ends_word b ≡ x → x ≡ false
+    go true p = absurd (grind (arith, nat_tests, e, p))
+    go false p = refl
+
+no_lf : (b : ℕ) → is_digit b ≡ true → is_lf b ≡ false
+no_lf b e = go (is_lf b) refl
+  where
+    go : (x : Bool) → is_lf b ≡ x → x ≡ false
     go true p = absurd (grind (arith, nat_tests, e, p))
     go false p = refl
 
@@ -64,15 +72,15 @@ digit_fits_after n v d few small e =
     omega (arith, small, digit_small d e, below)
 
 -- none yet, and one more
-pub digits_none : (bytes : List ℕ) → HasDigits bytes 0 0
-digits_none bytes = record { within = omega arith; digits = λ k lt. absurd (omega (arith, lt)); value = refl; fits = omega arith }
+pub digits_none : (bytes : List ℕ) → IsLine bytes → HasDigits bytes 0 0
+digits_none bytes p = record { within = line_some bytes p; digits = λ k lt. absurd (omega (arith, lt)); value = refl; fits = omega arith }
 
-pub digits_more : (bytes : List ℕ) (n v : ℕ) → HasDigits bytes n v → n < length bytes → n < 18 → v < 10 ^ n → is_digit (slice_index bytes n) ≡ true →
+pub digits_more : (bytes : List ℕ) (n v : ℕ) → IsLine bytes → HasDigits bytes n v → n < 18 → v < 10 ^ n → is_digit (slice_index bytes n) ≡ true →
     HasDigits bytes (n + 1) (v * 10 + (slice_index bytes n - 48))
-digits_more bytes n v h lt few small e = record {
-  within = omega (arith, lt);
+digits_more bytes n v p h few small e = record {
+  within = line_inside bytes n p h.within (no_lf (slice_index bytes n) e);
   digits = λ k below. at_or_before k (k == n) refl below;
-  value = ap (λ m. value_from 0 (take m bytes)) (suc-is n) ∙ ap (value_from 0) (take-more bytes n lt) ∙ value_from-more 0 v (slice_index bytes n) (take n bytes) h.value e;
+  value = ap (λ m. value_from 0 (take m bytes)) (suc-is n) ∙ ap (value_from 0) (take-more bytes n h.within) ∙ value_from-more 0 v (slice_index bytes n) (take n bytes) h.value e;
   fits = digit_fits_after n v (slice_index bytes n) few small e;
 }
   where
@@ -87,10 +95,10 @@ plain_says bytes zero v h some fits = absurd (omega arith)
 plain_says [] (suc n) v h some fits = let le = h.within in absurd (omega (arith, le))
 plain_says (b ∷ bytes) (suc n) v h some fits = rw (no_minus b (h.digits 0 (omega arith)), h.value) (judged-exact false v fits (λ e. absurd cc))
 
-pub first_plain : (bytes rest : List ℕ) (v : ℕ) → IsDigitsWord bytes v rest → IsFirst (words_of bytes) (Exact false v) (words_of rest)
+pub first_plain : (bytes rest : List ℕ) (v : ℕ) → IsDigitsWord bytes v rest → IsFirst (words_in bytes) (Exact false v) (words_in rest)
 first_plain bytes rest v w = record {
   word = take w.len bytes;
-  words = words_of-first bytes w.len w.some w.digits.within (λ k lt. no_blank (slice_index bytes k) (w.digits.digits k lt)) w.end ∙ ap (λ ws. take w.len bytes ∷ ws) (sym w.words);
+  words = words_in-first bytes w.len w.some w.digits.within (λ k lt. no_end (slice_index bytes k) (w.digits.digits k lt)) w.end ∙ ap (λ ws. take w.len bytes ∷ ws) (sym w.words);
   says = plain_says bytes w.len v w.digits w.some w.digits.fits;
 }
 
@@ -99,14 +107,14 @@ negative_says bytes zero v h some fits other = absurd (omega arith)
 negative_says [] (suc n) v h some fits other = let le = h.within in absurd (omega (arith, le))
 negative_says (b ∷ bytes) (suc n) v h some fits other = rw h.value (judged-exact true v fits (λ e. other))
 
-pub first_negative : (bytes rest : List ℕ) (v : ℕ) → IsDigitsWord bytes v rest → (v ≡ 0 → ⊥) → IsFirst (words_of (45 ∷ bytes)) (Exact true v) (words_of rest)
+pub first_negative : (bytes rest : List ℕ) (v : ℕ) → IsDigitsWord bytes v rest → (v ≡ 0 → ⊥) → IsFirst (words_in (45 ∷ bytes)) (Exact true v) (words_in rest)
 first_negative bytes rest v w other = record {
   word = 45 ∷ take w.len bytes;
-  words = words_of-first (45 ∷ bytes) (suc w.len) (omega arith) (let le = w.digits.within in omega (arith, le)) free (λ lt. w.end (omega (arith, lt))) ∙
+  words = words_in-first (45 ∷ bytes) (suc w.len) (omega arith) (let lt = w.digits.within in omega (arith, lt)) free w.end ∙
       ap (λ ws. (45 ∷ take w.len bytes) ∷ ws) (sym w.words);
   says = negative_says bytes w.len v w.digits w.some w.digits.fits other;
 }
   where
-    free : (k : ℕ) → k < suc w.len → is_blank (get_or (45 ∷ bytes) k 0) ≡ false
+    free : (k : ℕ) → k < suc w.len → ends_word (get_or (45 ∷ bytes) k 0) ≡ false
     free zero lt = refl
-    free (suc k) lt = no_blank (slice_index bytes k) (w.digits.digits k (omega (arith, lt)))
+    free (suc k) lt = no_end (slice_index bytes k) (w.digits.digits k (omega (arith, lt)))
