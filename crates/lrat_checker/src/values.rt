@@ -78,10 +78,9 @@ impl Values {
     pub(crate) fn set(&mut self, lit: Lit) -> Result<(), AllocError>
         ensures { OnOk result (self.new ≡ with_lit lit self.old) }
     {
-        if self.is_true(lit) {
+        if !self.marks.insert(lit)? {
             return Ok(());
         }
-        self.marks.set(lit)?;
         match self.trail.push(lit) {
             Ok(()) => Ok(()),
             Err(_) => {
