@@ -15,20 +15,20 @@ use std::marker::Model;
 /// literal and its negation can both be.
 #[derive(Drop)]
 pub(crate) struct Values {
+    /// Of the negations of these literals: a walk over a clause looks for those.
     marks: Marks,
     trail: Vec<Lit>,
 }
 
 impl Model for Values {
     ghost use Rattle.std.specs.Prelude.{ℕ, List};
-    ghost use Rattle.lrat_checker.specs.Marks.{has_mark};
-    ghost use Rattle.lrat_checker.specs.Values.{IsMarked};
+    ghost use Rattle.lrat_checker.specs.Values.{IsMarked, true_by};
 
     ghost Value = { List ℕ };
 
     ghost view = { λ v. v.trail.items };
 
-    ghost invariant = { λ v. IsMarked (has_mark v.marks) v.trail.items };
+    ghost invariant = { λ v. IsMarked (true_by v.marks) v.trail.items };
 }
 
 /// The literals of a clause that are not false.
@@ -70,7 +70,7 @@ impl Values {
     fn is_true(&self, lit: Lit) -> bool
         ensures { result ≡ has lit self.now }
     {
-        self.marks.has(lit)
+        self.marks.has(!lit)
     }
 
     /// The literal is true from here on.
@@ -78,13 +78,13 @@ impl Values {
     pub(crate) fn set(&mut self, lit: Lit) -> Result<(), AllocError>
         ensures { OnOk result (self.new ≡ with_lit lit self.old) }
     {
-        if !self.marks.insert(lit)? {
+        if !self.marks.insert(!lit)? {
             return Ok(());
         }
         match self.trail.push(lit) {
             Ok(()) => Ok(()),
             Err(_) => {
-                self.marks.clear(lit);
+                self.marks.clear(!lit);
                 Err(AllocError)
             }
         }
@@ -109,7 +109,7 @@ impl Values {
         ensures { self.new ≡ [] }
     {
         for lit in &self.trail {
-            self.marks.clear(*lit);
+            self.marks.clear(!*lit);
         }
         self.trail.clear();
     }
@@ -128,7 +128,7 @@ impl Values {
         ensures { self.new ≡ take (length self.old - 1) self.old }
     {
         if let Some(lit) = self.trail.pop() {
-            self.marks.clear(lit);
+            self.marks.clear(!lit);
         }
     }
 
@@ -151,7 +151,7 @@ impl Values {
         let near = self.marks.near();
         let mut found = None;
         for lit in clause {
-            if self.marks.has_in(near, !*lit) {
+            if self.marks.has_in(near, *lit) {
                 continue;
             }
             if is_other(found, *lit) {
