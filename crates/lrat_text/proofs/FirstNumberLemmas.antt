@@ -5,7 +5,7 @@ use Rattle.std.proofs.Math.Nat.{pow-le-pow_right, pow-suc}
 use Rattle.std.proofs.lemmas.Bool.{eqb-true}
 use Rattle.std.specs.Prelude.{◌==◌, slice_index}
 use Rattle.std.proofs.lemmas.Bool.Decides.{nat_tests}
-use Rattle.std.proofs.lemmas.List.{take_all}
+use Rattle.std.proofs.lemmas.List.{drop_more, take_all}
 use Rattle.sat_formula.specs.Bytes.{is_digit, is_lf}
 use Rattle.sat_formula.specs.Lines.{value_from}
 use Rattle.lrat_text.specs.Bytes.{IsLine, ends_word, words_in}
@@ -13,7 +13,7 @@ use Rattle.lrat_text.specs.declared.number.Number.TheVariants.{Exact}
 use Rattle.lrat_text.specs.FirstNumbers.{HasDigits, IsDigitsWord, IsFirst}
 use Rattle.lrat_text.specs.Numbers.{number_of}
 use Rattle.lrat_text.proofs.NumberLemmas.{judged-exact}
-use Rattle.lrat_text.proofs.WordLemmas.{line_some, line_inside, words_in-first}
+use Rattle.lrat_text.proofs.WordLemmas.{line_some, line_inside, line_rest, words_in-end, words_in-first}
 
 -- ---- digits
 
@@ -88,6 +88,21 @@ digits_more bytes n v p h few small e = record {
     at_or_before k true p below = subst (λ i. is_digit (slice_index bytes i) ≡ true) (sym (eqb-true k n p)) e
     at_or_before k false p below = h.digits k (grind (arith, nat_tests, p, below))
 
+-- a word of digits that a space ends
+pub space_after : (bytes : List ℕ) (n v : ℕ) → IsLine bytes → HasDigits bytes n v → 0 < n → slice_index bytes n ≡ 32 → IsDigitsWord bytes v (take (length bytes - (n + 1)) (drop (n + 1) bytes))
+space_after bytes n v p h some e =
+    let more = line_inside bytes n p h.within (rw e refl) in
+    let all = take_all (length bytes - (n + 1)) (drop (n + 1) bytes) (omega (arith, length-drop (n + 1) bytes)) in
+    record {
+      len = n;
+      digits = h;
+      some = some;
+      end = rw e refl;
+      words = ap words_in all ∙ sym (words_in-end 32 (drop (n + 1) bytes) refl) ∙ ap (λ (b : ℕ). words_in (b ∷ drop (n + 1) bytes)) (sym e) ∙ ap words_in (sym (drop_more bytes n 0 h.within));
+      line = line_rest bytes (n + 1) more p;
+      shorter = omega (arith, ap (λ (bs : List ℕ). length bs) all, length-drop (n + 1) bytes, h.within);
+    }
+
 -- ---- the number in front
 
 plain_says : (bytes : List ℕ) (n v : ℕ) → HasDigits bytes n v → 0 < n → v < 2 ^ 64 → number_of (take n bytes) ≡ Exact false v
@@ -118,3 +133,13 @@ first_negative bytes rest v w other = record {
     free : (k : ℕ) → k < suc w.len → ends_word (get_or (45 ∷ bytes) k 0) ≡ false
     free zero lt = refl
     free (suc k) lt = no_end (slice_index bytes k) (w.digits.digits k (omega (arith, lt)))
+
+-- the digits after a `-`
+pub minus_line : (bytes : List ℕ) → IsLine bytes → get_or bytes 0 0 ≡ 45 → IsLine (take (length bytes - 1) (drop 1 bytes))
+minus_line bytes p e = line_rest bytes 1 (line_inside bytes 0 p (line_some bytes p) (rw e refl)) p
+
+pub first_after_minus : (bytes rest : List ℕ) (v : ℕ) → 0 < length bytes → get_or bytes 0 0 ≡ 45 → IsDigitsWord (take (length bytes - 1) (drop 1 bytes)) v rest → (v ≡ 0 → ⊥) →
+    IsFirst (words_in bytes) (Exact true v) (words_in rest)
+first_after_minus [] rest v some e w other = absurd (omega (arith, some))
+first_after_minus (b ∷ bytes) rest v some e w other =
+    rw e (first_negative bytes rest v (subst (λ (ds : List ℕ). IsDigitsWord ds v rest) (take_all (length (b ∷ bytes) - 1) bytes (omega arith)) w) other)

@@ -1,16 +1,22 @@
 -- Words of a line, by the places of its blanks.
-use Rattle.std.proofs.Common.{◌≡◌, ℕ, zero, suc, ◌+◌, ◌-◌, ◌<◌, ◌≤◌, Bool, true, false, List, [], ◌∷◌, ◌++◌, length, get_or, take, drop, refl, sym, ap, ◌∙◌, arith, length-drop}
+use Rattle.std.proofs.Common.{◌≡◌, ℕ, zero, suc, ◌+◌, ◌-◌, ◌<◌, ◌≤◌, Bool, true, false, List, [], ◌∷◌, ◌++◌, length, get_or, take, drop, refl, sym, ap, subst, ◌∙◌, arith, length-drop}
 use Rattle.std.proofs.lemmas.List.{take_all, drop-append-le, length-append}
+use Rattle.std.proofs.lemmas.Bool.Decides.{nat_tests}
 use Rattle.std.proofs.lemmas.List.Elements.{All-drop}
-use Rattle.std.specs.Prelude.{filter, ◌==◌, ◌||◌, nat_eq, codes}
-use Rattle.std.specs.List.{slice_split, onto_first, starts_with}
-use Rattle.std.specs.Str.{bytes_eq}
+use Rattle.std.specs.Prelude.{filter}
+use Rattle.std.specs.List.{slice_split, onto_first}
 use Rattle.sat_formula.specs.Bytes.{is_blank, is_lf}
 use Rattle.sat_formula.specs.Lines.{has_bytes, words_of}
 use Rattle.sat_formula.proofs.Lines.{front, others, slice_split-front}
 use Rattle.lrat_text.specs.Bytes.{IsOpen, IsLine, ends_word, words_in}
 
 -- ---- a line and its LF
+
+open_first : (b : ℕ) (line : List ℕ) → IsOpen (b ∷ line) → is_lf b ≡ false
+open_first b line is_open = is_open 0 0 (omega arith)
+
+open_rest : (b : ℕ) (line : List ℕ) → IsOpen (b ∷ line) → IsOpen line
+open_rest b line is_open = λ k d lt. is_open (suc k) d (omega (arith, lt))
 
 pub line_some : (bytes : List ℕ) → IsLine bytes → 0 < length bytes
 line_some bytes p = rw p.is (omega (arith, length-append p.line (10 ∷ [])))
@@ -36,12 +42,11 @@ inside (b ∷ line) zero lt other = omega (arith, length-append line (10 ∷ [])
 inside (b ∷ line) (suc n) lt other = let more = inside line n (omega (arith, lt)) other in omega (arith, more)
 
 pub line_inside : (bytes : List ℕ) (n : ℕ) → IsLine bytes → n < length bytes → is_lf (get_or bytes n 0) ≡ false → n + 1 < length bytes
-line_inside bytes n p lt other = let P : List ℕ → Type 0 = λ bs. n < length bs → is_lf (get_or bs n 0) ≡ false → n + 1 < length bs in
-    rw p.is at (inside p.line n) lt other
+line_inside bytes n p lt other = subst (λ (bs : List ℕ). n < length bs → is_lf (get_or bs n 0) ≡ false → n + 1 < length bs) (sym p.is) (inside p.line n) lt other
 
 -- ---- words
 
-words_in-end : (b : ℕ) (bytes : List ℕ) → ends_word b ≡ true → words_in (b ∷ bytes) ≡ words_in bytes
+pub words_in-end : (b : ℕ) (bytes : List ℕ) → ends_word b ≡ true → words_in (b ∷ bytes) ≡ words_in bytes
 words_in-end b bytes e = rw e refl
 
 blank_ends : (b : ℕ) → is_blank b ≡ true → ends_word b ≡ true
@@ -51,6 +56,29 @@ blank_ends b e = rw e refl
 pub words_in-drop : (bytes : List ℕ) → 0 < length bytes → is_blank (get_or bytes 0 0) ≡ true → words_in (drop 1 bytes) ≡ words_in bytes
 words_in-drop [] some blank = absurd (omega arith)
 words_in-drop (b ∷ bytes) some blank = sym (words_in-end b bytes (blank_ends b blank))
+
+blank_no_lf : (b : ℕ) → is_blank b ≡ true → is_lf b ≡ false
+blank_no_lf b e = go (is_lf b) refl
+  where
+    go : (x : Bool) → is_lf b ≡ x → x ≡ false
+    go true p = absurd (grind (arith, nat_tests, e, p))
+    go false p = refl
+
+-- what follows a blank in front
+pub record IsPassed (bytes rest : List ℕ) : Type 0 where
+  pub line : IsLine rest
+  pub words : words_in rest ≡ words_in bytes
+  pub shorter : length rest < length bytes
+
+pub blank_passed : (bytes : List ℕ) → IsLine bytes → is_blank (get_or bytes 0 0) ≡ true → IsPassed bytes (take (length bytes - 1) (drop 1 bytes))
+blank_passed bytes p e =
+    let some = line_some bytes p in
+    let all = take_all (length bytes - 1) (drop 1 bytes) (omega (arith, length-drop 1 bytes)) in
+    record {
+      line = line_rest bytes 1 (line_inside bytes 0 p some (blank_no_lf (get_or bytes 0 0) e)) p;
+      words = ap words_in all ∙ words_in-drop bytes some e;
+      shorter = omega (arith, ap (λ (bs : List ℕ). length bs) all, length-drop 1 bytes, some);
+    }
 
 -- bytes that are cut at the first end of a word: the part before it, and the parts after it
 pub record IsCut (bytes : List ℕ) (n : ℕ) : Type 0 where
@@ -86,7 +114,7 @@ words_in-word bytes word n same some lt h e =
 -- an LF that is no blank stands alone
 lf_alone : (bytes line : List ℕ) → bytes ≡ line ++ 10 ∷ [] → IsOpen line → is_lf (get_or bytes 0 0) ≡ true → bytes ≡ 10 ∷ []
 lf_alone bytes [] e is_open lf = e
-lf_alone bytes (b ∷ line) e is_open lf = let first = rw e at lf in let other = is_open.0 in absurd cc
+lf_alone bytes (b ∷ line) e is_open lf = let first = rw e at lf in let other = open_first b line is_open in absurd cc
 
 end_is_lf : (b : ℕ) → is_blank b ≡ false → ends_word b ≡ true → is_lf b ≡ true
 end_is_lf b blank e = rw blank at e
@@ -114,16 +142,17 @@ begins (b ∷ bytes) p blank word later words = go (ends_word b) refl
 
 -- ---- the words of the line without its LF
 
-onto_more : (b : ℕ) (bytes : List ℕ) (parts more : List (List ℕ)) → onto_first b (slice_split is_blank bytes ++ more) ≡ onto_first b (slice_split is_blank bytes) ++ more
-onto_more b bytes parts more = rw (slice_split-front is_blank bytes) refl
+onto_more : (b : ℕ) (bytes : List ℕ) (more : List (List ℕ)) → onto_first b (slice_split is_blank bytes ++ more) ≡ onto_first b (slice_split is_blank bytes) ++ more
+onto_more b bytes more = rw (slice_split-front is_blank bytes) refl
+
+split-more : (b : ℕ) (line : List ℕ) → is_lf b ≡ false → slice_split ends_word (line ++ 10 ∷ []) ≡ slice_split is_blank line ++ [] ∷ [] → (x : Bool) → is_blank b ≡ x →
+    slice_split ends_word (b ∷ line ++ 10 ∷ []) ≡ slice_split is_blank (b ∷ line) ++ [] ∷ []
+split-more b line other later true e = rw e (ap (λ (parts : List (List ℕ)). [] ∷ parts) later)
+split-more b line other later false e = rw (e, other) (ap (onto_first b) later ∙ onto_more b line ([] ∷ []))
 
 split-line : (line : List ℕ) → IsOpen line → slice_split ends_word (line ++ 10 ∷ []) ≡ slice_split is_blank line ++ [] ∷ []
 split-line [] is_open = refl
-split-line (b ∷ line) is_open = go (is_blank b) refl
-  where
-    go : (x : Bool) → is_blank b ≡ x → slice_split ends_word (b ∷ line ++ 10 ∷ []) ≡ slice_split is_blank (b ∷ line) ++ [] ∷ []
-    go true e = rw e (ap (λ (parts : List (List ℕ)). [] ∷ parts) (split-line line is_open.1))
-    go false e = rw (e, is_open.0) (ap (onto_first b) (split-line line is_open.1) ∙ onto_more b line [] ([] ∷ []))
+split-line (b ∷ line) is_open = split-more b line (open_first b line is_open) (split-line line (open_rest b line is_open)) (is_blank b) refl
 
 filter-last : (parts : List (List ℕ)) → filter has_bytes (parts ++ [] ∷ []) ≡ filter has_bytes parts
 filter-last [] = refl
