@@ -1,5 +1,5 @@
 -- What reading a line says, and reading on to one that says something.
-use Rattle.std.proofs.Common.{◌≡◌, ℕ, ◌<◌, Bool, true, false, List, [], ◌∷◌, ◌++◌, Option, Some, None, Result, Ok, Err, refl, sym, ap}
+use Rattle.std.proofs.Common.{◌≡◌, ℕ, ◌<◌, Bool, true, false, List, [], Option, Some, None, Result, Ok, Err, refl, sym, ap}
 use Rattle.std.specs.Prelude.{not, IsErrAnd}
 use Rattle.std.proofs.lemmas.Result.{err_from_is_err_and}
 use Rattle.sat_formula.specs.Lines.{words_of}
@@ -14,7 +14,7 @@ use Rattle.lrat_text.specs.declared.fault.Stop.{Stop}
 use Rattle.lrat_text.specs.declared.fault.Stop.TheVariants as stops
 use Rattle.lrat_text.specs.declared.reader.LineReader.{LineReader}
 use Rattle.lrat_text.specs.declared.row.Head.{Head}
-use Rattle.lrat_text.specs.Bytes.{IsLine, IsOpen}
+use Rattle.lrat_text.specs.Bytes.{IsOpen}
 use Rattle.lrat_text.specs.Grammar.{says}
 use Rattle.lrat_text.specs.Holding.{HoldsLine}
 use Rattle.lrat_text.specs.NextLine.{bytes_left, has_ended, line_number, work_left, rest_of, Reads, Answers, JudgesLine, Explains}
@@ -35,13 +35,9 @@ held : {R : Type 0} (a b : Known) (before : ℕ) (source : Source R) (line : Lis
 held a b before source line true p = line_leads before line p.0 p.1
 held a b before source line false p = last_ends before line p.0 p.1 p.2
 
-holds_open : {R : Type 0} (a b : Known) (source : Source R) (line : List ℕ) (whole : Bool) → HoldsLine a b source line (Ok whole) → IsOpen line
+pub holds_open : {R : Type 0} (a b : Known) (source : Source R) (line : List ℕ) (whole : Bool) → HoldsLine a b source line (Ok whole) → IsOpen line
 holds_open a b source line true p = p.0
 holds_open a b source line false p = p.0
-
--- a line that was taken, with an LF behind it
-pub holds_line : {R : Type 0} (a b : Known) (source : Source R) (line : List ℕ) (whole : Bool) → HoldsLine a b source line (Ok whole) → (bytes : List ℕ) → bytes ≡ line ++ 10 ∷ [] → IsLine bytes
-holds_line a b source line whole p bytes e = record { line = line; is = e; is_open = holds_open a b source line whole p }
 
 module _ {R : Type 0} (remaining : R → Option (List ℕ)) (old new : LineReader R) (line : List ℕ) where
   pub line_judged : (whole : Bool) (r : Result (Option Head) Stop) → HoldsLine (bytes_left remaining old) (bytes_left remaining new) new.lines.source line (Ok whole)

@@ -2,9 +2,10 @@ use Rattle.std.proofs.Common.{Ok, [], ◌∷◌, ◌++◌, ap, sym, ◌≡◌, �
 use Rattle.std.specs.Prelude.{not}
 use Rattle.sat_formula.specs.Outcome.{next_line}
 use Rattle.sat_formula.specs.Source.{unread}
+use Rattle.lrat_text.specs.Bytes.{IsLine}
 use Rattle.lrat_text.specs.Holding.{HoldsLine, unread_lines}
 use Rattle.lrat_text.specs.NextLine.{bytes_left}
-use Rattle.lrat_text.proofs.ReaderLemmas.{holds_line, line_judged, short_for}
+use Rattle.lrat_text.proofs.ReaderLemmas.{holds_open, line_judged, short_for}
 use Rattle.lrat_text.proofs.WordLemmas.{words_in-line}
 use Rattle.lrat_text.proofs.reader.LineReader.held_line.Goals as goal
 use Rattle.lrat_text.proofs.reader.LineReader.held_line.Goals.{then-whole, else-whole}
@@ -23,7 +24,11 @@ returns-clause-judged g c =
     let items : c.held.result.now ≡ held.held.items ++ 10 ∷ [] = c.held.ensures ∙ c.in_ok-end_held.ensures.ok ∙ ap (λ t. t.held.items ++ 10 ∷ []) lines in
     let source : c.end_held.new.self.source ≡ held.source = c.in_ok-end_held.ensures.source ∙ ap (λ t. t.source) lines in
     let taken = c.in_ok-whole.ensures.line in
-    let line = holds_line (bytes_left remaining s) (unread_lines remaining held) held.source held.held.items whole taken c.held.result.now items in
+    let line : IsLine c.held.result.now = record {
+      line = held.held.items;
+      is = items;
+      is_open = holds_open (bytes_left remaining s) (unread_lines remaining held) held.source held.held.items whole taken;
+    } in
     rw c.end_line.ensures
     (line_judged remaining s (record s { lines = c.end_held.new.self; row = c.read.new.self; number = next_line s.number; ended = not whole })
     held.held.items whole c.read.result
