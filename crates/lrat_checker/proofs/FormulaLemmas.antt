@@ -1,6 +1,9 @@
 -- Clauses of a formula, given one after the other.
-use Rattle.std.proofs.Common.{◌≡◌, ℕ, suc, ◌+◌, List, [], ◌∷◌, ◌++◌, length, refl, ap, ◌∙◌, arith}
-use Rattle.std.specs.Prelude.{◌||◌}
+use Rattle.std.proofs.Common.{◌≡◌, ℕ, suc, ◌+◌, false, List, [], ◌∷◌, ◌++◌, length, Option, Some, None, Result, Ok, Err, refl, ap, ◌∙◌, arith}
+use Rattle.std.specs.Prelude.{◌||◌, ◌==◌, OnOk}
+use Rattle.std.specs.Result.{is_err}
+use Rattle.sat_formula.specs.Outcome.{Ended, Outcome}
+use Rattle.sat_formula.specs.Whole.{BeginsWith}
 use Rattle.lrat_rules.specs.Lines.{has_empty}
 use Rattle.lrat_rules.specs.Tables.{Table, empty_table, formula_table, put, put_from}
 
@@ -17,3 +20,17 @@ pub empty_more : (cs : List (List ℕ)) (c : List ℕ) → has_empty (cs ++ c �
 empty_more [] c = refl
 empty_more ([] ∷ cs) c = refl
 empty_more ((l ∷ ls) ∷ cs) c = empty_more cs c
+
+pub empty_is : (c : List ℕ) → (length c == 0) ≡ has_empty (c ∷ [])
+empty_is [] = refl
+empty_is (l ∷ ls) = refl
+
+-- an outcome begins with no clause
+pub begins_anyhow : (known : Option Outcome) → BeginsWith known []
+begins_anyhow None = (([], Ended), tt)
+begins_anyhow (Some o) = (o, refl)
+
+-- what is said of an answer that is no error
+pub ok_part : {A E P : Type 0} (r : Result A E) → is_err r ≡ false → OnOk r P → P
+ok_part (Ok x) e p = p
+ok_part (Err x) e p = absurd cc

@@ -1,7 +1,7 @@
 -- Trails of literals, and marks of what they hold.
 use Rattle.std.proofs.Common.{◌≡◌, ℕ, ◌+◌, ◌<◌, Bool, true, false, cond, not, ◌&&◌, ◌||◌, eqb, List, [], ◌∷◌, ◌++◌, length, get_or, drop, refl, sym, ap, ◌∙◌, eq-eqb, inl, inr}
 use mathlib.Core.Path.{fun_ext}
-use Rattle.std.proofs.lemmas.Bool.{eqb-true, eqb-false, and_parts, and_from, both_ways, not-false, not-true, ne_eqb, or_cases}
+use Rattle.std.proofs.lemmas.Bool.{eqb-true, eqb-false, and_parts, and_from, both_ways, not-true, ne_eqb, or_cases}
 use Rattle.std.proofs.lemmas.List.{at_drop_more}
 use Rattle.sat_rules.specs.Clauses.{add_lit, has, negate}
 use Rattle.sat_rules.proofs.Chains.{negate-negate}
@@ -79,15 +79,6 @@ marked-push marks t l m new more set = record {
   marked = λ k. set k ∙ ap (λ b. eqb k l || b) (m.marked k) ∙ sym (has-push t l k);
   once = all_once-push t l ∙ and_from (not (has l t)) (all_once t) (ap not new) m.once;
 }
-
--- a mark is set again
-pub marked-again : (marks : ℕ → Bool) (t : List ℕ) (l : ℕ) → IsMarked marks t → false ≡ not (marks l) → (more : ℕ → Bool) →
-    ((k : ℕ) → more k ≡ (eqb k l || marks k)) → IsMarked more t
-marked-again marks t l m old more set = record { marked = λ k. set k ∙ go k (eqb k l) refl ∙ m.marked k; once = m.once }
-  where
-    go : (k : ℕ) (b : Bool) → eqb k l ≡ b → (b || marks k) ≡ marks k
-    go k true e = sym (ap marks (eqb-true k l e) ∙ not-false (marks l) (sym old))
-    go k false e = refl
 
 -- the mark of the last literal is cleared
 pub marked-pop : (marks : ℕ → Bool) (t : List ℕ) (l : ℕ) → IsMarked marks (t ++ l ∷ []) → (fewer : ℕ → Bool) →

@@ -89,10 +89,10 @@ impl LratFormula {
         ensures { (formula : List (List ℕ)) → HoldsFormula formula self.old
             → OnOk result (HoldsFormula (formula ++ clause.now ∷ []) self.new) }
     {
-        if self.failed {
+        if self.failed || self.given == u64::MAX {
             return Err(AllocError);
         }
-        let id = self.given.checked_add(1).ok_or(AllocError)?;
+        let id = self.given + 1;
         self.failed = true;
         self.clauses.put(id, clause)?;
         self.failed = false;

@@ -92,7 +92,7 @@ impl Marks {
     {
         let code = lit.code();
         if code < self.near.len() {
-            let is_new = !self.near[code];
+            let is_new = !self.has(lit);
             self.near[code] = true;
             return Ok(is_new);
         }

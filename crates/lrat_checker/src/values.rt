@@ -1,10 +1,10 @@
 //! Which literals are true.
-ghost use Rattle.std.specs.Prelude.{◌≡◌, ◌<◌, ◌-◌, [], ℕ, length, take, OnOk};
+ghost use Rattle.std.specs.Prelude.{◌≡◌, ◌<◌, ◌-◌, [], ℕ, length, take, OnOk, Some};
 ghost use Rattle.std.specs.List.{list_any};
 ghost use Rattle.sat_rules.specs.Clauses.{has, unfalsified};
 ghost use Rattle.lrat_rules.specs.Groups.{add_negated};
 ghost use Rattle.lrat_rules.specs.Propagation.{Ending, by_left};
-ghost use Rattle.lrat_checker.specs.Values.{IsGrown, among, is_other, lits_besides, with_lit};
+ghost use Rattle.lrat_checker.specs.Values.{IsGrown, among, left_from, lits_besides, with_lit};
 
 use crate::marks::Marks;
 use sat_formula::Lit;
@@ -149,29 +149,33 @@ impl Values {
             ≡ on_left result none one }
     {
         let near = self.marks.near();
-        let mut found = None;
-        for lit in clause {
-            if self.marks.has_in(near, *lit) {
-                continue;
+        let mut index = 0;
+        'lits: while index < clause.len() {
+            let lit = clause[index];
+            index += 1;
+            if !self.marks.has_in(near, lit) {
+                return self.left_with(lit, &clause[index..]);
             }
-            if is_other(found, *lit) {
+        }
+        Left::Nothing
+    }
+
+    /// A literal that is not false, and those among others that are not.
+    #[inline(always)]
+    fn left_with(&self, lit: Lit, others: &[Lit]) -> Left
+        ensures { (none : Ending) (one : ℕ → Ending)
+            → left_from (among self.now) (Some lit) others.now none one
+            ≡ on_left result none one }
+    {
+        let near = self.marks.near();
+        let mut index = 0;
+        'lits: while index < others.len() {
+            let other = others[index];
+            index += 1;
+            if !self.marks.has_in(near, other) && other != lit {
                 return Left::More;
             }
-            found = Some(*lit);
         }
-        match found {
-            None => Left::Nothing,
-            Some(lit) => Left::One(lit),
-        }
-    }
-}
-
-/// Whether another literal was found before.
-fn is_other(found: Option<Lit>, lit: Lit) -> bool
-    ensures { result ≡ is_other found lit }
-{
-    match found {
-        Some(found) => found != lit,
-        None => false,
+        Left::One(lit)
     }
 }

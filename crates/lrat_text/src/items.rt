@@ -8,7 +8,7 @@ ghost use Rattle.lrat_text.specs.Reading.{ReadsAs};
 
 use crate::fault::{LineKind, Stop};
 use crate::line::Hint;
-use crate::number::{Number, split_number};
+use crate::number::{Number, any_number, short_number};
 use sat_formula::{Lit, Var};
 
 const MAX_VARIABLE: u64 = Var::MAX_COUNT as u64;
@@ -91,13 +91,22 @@ pub(crate) fn read_items<'a, T: Item>(
     into.clear();
     let mut rest = bytes;
     'words: loop {
-        let Some((number, after)) = split_number(rest) else {
+        // apart, since what a call answers in memory is set to zero before it
+        if let Some((number, after)) = short_number(rest) {
+            match T::of(number)? {
+                Some(item) => into.push(item)?,
+                None => return Ok(after),
+            }
+            rest = after;
+            continue;
+        }
+        let Some((number, after)) = any_number(rest) else {
             return Err(Stop::Wrong(short));
         };
-        rest = after;
         match T::of(number)? {
             Some(item) => into.push(item)?,
-            None => return Ok(rest),
+            None => return Ok(after),
         }
+        rest = after;
     }
 }

@@ -99,7 +99,7 @@ pub(crate) fn split_number(bytes: &[u8]) -> Option<(Number, &[u8])>
 
 /// The first word as a number, and what follows it, whatever stands there.
 #[inline(never)]
-fn any_number(bytes: &[u8]) -> Option<(Number, &[u8])>
+pub(crate) fn any_number(bytes: &[u8]) -> Option<(Number, &[u8])>
     requires { IsLine bytes.now }
     ensures first { IfSome result (λ r. IsFirst (words_in bytes.now) r.0 (words_in r.1.now)) }
     ensures line { IfSome result (λ r. IsLine r.1.now) }
@@ -112,7 +112,7 @@ fn any_number(bytes: &[u8]) -> Option<(Number, &[u8])>
 
 /// The first number and what is after it, in one pass, where the bytes begin with few digits.
 #[inline(always)]
-fn short_number(bytes: &[u8]) -> Option<(Number, &[u8])>
+pub(crate) fn short_number(bytes: &[u8]) -> Option<(Number, &[u8])>
     requires { IsLine bytes.now }
     ensures first { IfSome result (λ r. IsFirst (words_in bytes.now) r.0 (words_in r.1.now)) }
     ensures line { IfSome result (λ r. IsLine r.1.now) }
@@ -161,7 +161,7 @@ fn leading_digits(bytes: &[u8]) -> (u64, usize)
     let mut value = 0u64;
     let mut len = 0;
     'digits: while len < FEW_DIGITS && is_digit(bytes[len]) {
-        value = value * 10 + (bytes[len] - b'0') as u64;
+        value = value * 10 + (bytes[len] as u64 - b'0' as u64);
         len += 1;
     }
     (value, len)

@@ -93,7 +93,7 @@ impl Row {
             return Err(Stop::Wrong(short));
         };
         if word == b"d".as_slice() {
-            return self.deletion(rest, short);
+            return self.deletion(skip_blanks(rest), short);
         }
         if id == 0 {
             return Err(Stop::Wrong(LineKind::Malformed));

@@ -13,5 +13,7 @@ loop-clause-preserved c =
     append_assoc given (clause ∷ []) c.next.new.self ∙ ap (λ cs. given ++ cs) (sym c.in-Some.ensures.steps) ∙ c.loop-clause.invariant.1,
     c.in_ok-add_clause.ensures given c.loop-clause.invariant.2)
 
-pub returns-in-None : goal.returns-in-None
-returns-in-None c = ?
+pub returns : goal.returns
+returns c =
+    let given = c.loop-clause.invariant.0 in
+    subst (λ cs. HoldsFormula cs c.loop-clause.made) (sym (append-nil given) ∙ ap (λ cs. given ++ cs) (sym c.in-None.ensures.steps.0) ∙ c.loop-clause.invariant.1) c.loop-clause.invariant.2

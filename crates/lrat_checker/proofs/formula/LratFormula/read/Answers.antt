@@ -1,6 +1,8 @@
-use Rattle.std.proofs.Common.{◌≡◌, [], ◌∷◌, ◌++◌}
+use Rattle.std.proofs.Common.{◌≡◌, [], ◌∷◌, ◌++◌, sym, ◌∙◌, subst}
 use Rattle.std.proofs.lemmas.Result.{err_from_is_err_and}
 use Rattle.sat_formula.proofs.Whole.{HasGiven-more, BeginsWith-given, IsOutcome-ended, FailsAfter-given, outcome_left-new}
+use Rattle.lrat_checker.specs.Standing.{HoldsFormula}
+use Rattle.lrat_checker.proofs.FormulaLemmas.{begins_anyhow, ok_part}
 use Rattle.lrat_checker.proofs.formula.LratFormula.read.Goals as goal
 
 pub clauses-preserved : goal.clauses-preserved
@@ -9,7 +11,11 @@ clauses-preserved g c =
     let inv = c.clauses.invariant in
     (inv.0 ++ c.next_clause.new.into.items ∷ [],
     HasGiven-more g.F.Read.remaining _ c.clauses.reader c.next_clause.new.self _ _ inv.1 more.after_end more.next,
-    ?)
+    subst (λ clause. HoldsFormula (inv.0 ++ clause ∷ []) c.add_clause.new.self) c.deref.ensures.value
+    (ok_part c.add_clause.result (sym c.is_err.ensures.value ∙ c.if-is_err.false) (c.add_clause.ensures inv.0 inv.2)))
+
+pub returns-in-Err-clause-fault : goal.returns-in-Err-clause-fault
+returns-in-Err-clause-fault g c = ([], begins_anyhow _)
 
 pub returns-clause-whole : goal.returns-clause-whole
 returns-clause-whole g c =

@@ -1,12 +1,7 @@
-use Rattle.std.proofs.Common.{◌||◌, ◌∙◌, ap, eqb, not, false, sym, arith}
+use Rattle.std.proofs.Common.{◌||◌, ◌∙◌, ap, eqb, arith}
 use Rattle.lrat_checker.specs.Marks.{has_mark}
-use Rattle.lrat_checker.proofs.MarkLemmas.{mark-at, mark-set}
+use Rattle.lrat_checker.proofs.MarkLemmas.{mark-set}
 use Rattle.lrat_checker.proofs.marks.Marks.insert.Goals as goal
-
-pub returns-then-code-len-clause-is_new : goal.returns-then-code-len-clause-is_new
-returns-then-code-len-clause-is_new c =
-    let m = c.args.self.now in
-    ap not (sym (mark-at m.near.items m.far c.code-code.result false (omega (arith, c.if-code-len.true, c.len.ensures))) ∙ ap (has_mark m) c.code-code.ensures.value)
 
 pub returns-then-code-len-clause-ok : goal.returns-then-code-len-clause-ok
 returns-then-code-len-clause-ok c l =
