@@ -2,6 +2,7 @@
 use Rattle.std.proofs.Common.{◌≡◌, ℕ, suc, ◌+◌, false, List, [], ◌∷◌, ◌++◌, length, Option, Some, None, Result, Ok, Err, refl, ap, ◌∙◌, arith}
 use Rattle.std.specs.Prelude.{◌||◌, ◌==◌, OnOk}
 use Rattle.std.specs.Result.{is_err}
+use Rattle.std.proofs.lemmas.Bool.{ne_eqb}
 use Rattle.sat_formula.specs.Outcome.{Ended, Outcome}
 use Rattle.sat_formula.specs.Whole.{BeginsWith}
 use Rattle.lrat_rules.specs.Lines.{has_empty}
@@ -23,7 +24,7 @@ empty_more ((l ∷ ls) ∷ cs) c = empty_more cs c
 
 pub empty_is : (c : List ℕ) → (length c == 0) ≡ has_empty (c ∷ [])
 empty_is [] = refl
-empty_is (l ∷ ls) = refl
+empty_is (l ∷ ls) = ne_eqb (length (l ∷ ls)) 0 (λ e. omega (arith, e))
 
 -- an outcome begins with no clause
 pub begins_anyhow : (known : Option Outcome) → BeginsWith known []
