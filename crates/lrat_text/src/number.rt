@@ -131,7 +131,8 @@ pub(crate) fn short_number(bytes: &[u8]) -> Option<(Number, &[u8])>
     Some((Number::Exact { negative, value }, rest))
 }
 
-/// The value of a word of few digits in front, and what follows it. A space after it is passed over.
+/// The value of a word of few digits in front, and what follows it. A space after it is passed
+/// over.
 #[inline(always)]
 fn digits_word(bytes: &[u8]) -> Option<(u64, &[u8])>
     requires { IsLine bytes.now }
@@ -151,8 +152,8 @@ fn digits_word(bytes: &[u8]) -> Option<(u64, &[u8])>
     Some((value, &bytes[len..]))
 }
 
-/// The value of the digits in front, at most ten, and how many they are. The bound is a constant, so
-/// no count is kept, and the LF ends them, so no length is compared.
+/// The value of the digits in front, at most ten, and how many they are. The bound is a constant,
+/// so no count is kept, and the LF ends them, so no length is compared.
 #[inline(always)]
 fn leading_digits(bytes: &[u8]) -> (u64, usize)
     requires { IsLine bytes.now }
