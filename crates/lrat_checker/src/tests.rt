@@ -1,5 +1,6 @@
 //! Proofs with their answers, from the rules read by hand.
 mod failing;
+mod given;
 mod redundancy;
 mod rows;
 
