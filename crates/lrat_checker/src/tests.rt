@@ -1,6 +1,5 @@
 //! Proofs with their answers, from the rules read by hand.
 mod failing;
-mod given;
 mod redundancy;
 mod rows;
 
