@@ -1,6 +1,7 @@
 -- Where a checker stands: the lines that it has accepted after a formula's clauses, and what it holds.
 --     has_failed c, has_refuted c      a line was not accepted;  the empty clause is the formula's, or a line added it
 --     HoldsFormula formula f      the clauses of the formula were given, and no other
+--     lacks_clause f      a clause that was given was not taken
 --     HasAccepted formula lines c      the lines were accepted, and whether they refute the formula is known
 --     IsReady formula lines c      and the checker holds what is stored after them
 --     IsAnswer formula lines line fault      the fault of a line after them
@@ -26,6 +27,10 @@ pub record HoldsFormula (formula : List (List ℕ)) (f : LratFormula) : Type 0 w
   pub empty : f.has_empty ≡ has_empty formula
   pub tight : IsTight f.clauses.near
   pub going : f.failed ≡ false
+
+-- a clause was not taken, so that no line may be accepted
+abbrev pub lacks_clause : LratFormula → Bool
+lacks_clause f = f.failed
 
 -- a line was not accepted
 abbrev pub has_failed : LratChecker → Bool

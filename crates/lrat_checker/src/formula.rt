@@ -1,6 +1,7 @@
 //! The clauses of a formula, given one after the other.
-ghost use Rattle.std.specs.Prelude.{◌≡◌, ◌<◌, ◌++◌, ◌∷◌, [], ℕ, Bool, false, List, None, IfErr, IfOk, OnOk};
+ghost use Rattle.std.specs.Prelude.{◌≡◌, ◌<◌, ◌++◌, ◌∷◌, [], ℕ, Bool, true, false, List, None, IfErr, IfOk, OnErr, OnOk};
 ghost use Rattle.std.specs.Option.{option_map};
+ghost use Rattle.std.specs.Result.{is_err};
 ghost use Rattle.sat_formula.specs.Lines.{outcome_of};
 ghost use Rattle.sat_formula.specs.Outcome.{Ended};
 ghost use Rattle.sat_formula.specs.Whole.{FailsAfter, IsOutcome};
@@ -28,7 +29,7 @@ pub struct LratFormula {
 }
 
 impl LratFormula {
-    ghost use Rattle.lrat_checker.specs.Standing.{HoldsFormula, HoldsLittle, IsReady};
+    ghost use Rattle.lrat_checker.specs.Standing.{HoldsFormula, HoldsLittle, IsReady, has_failed, lacks_clause};
 
     /// No clause. It takes no memory yet for those to come, beside some.
     pub fn new(alloc: Global) -> Result<LratFormula, AllocError>
@@ -85,11 +86,18 @@ impl LratFormula {
     }
 
     /// One clause more.
+    ///
+    /// After a clause that was not taken every later call answers the same.
     pub fn add_clause(&mut self, clause: &[Lit]) -> Result<(), AllocError>
-        ensures { (formula : List (List ℕ)) → HoldsFormula formula self.old
+        ensures given { (formula : List (List ℕ)) → HoldsFormula formula self.old
             → OnOk result (HoldsFormula (formula ++ clause.now ∷ []) self.new) }
+        ensures fails { OnErr result (lacks_clause self.new ≡ true) }
+        ensures going { OnOk result (lacks_clause self.new ≡ false) }
+        ensures failed { lacks_clause self.old ≡ true
+            → (is_err result ≡ true) × (self.new ≡ self.old) }
     {
         if self.failed || self.given == u64::MAX {
+            self.failed = true;
             return Err(AllocError);
         }
         let id = self.given + 1;
@@ -101,12 +109,13 @@ impl LratFormula {
         Ok(())
     }
 
-    /// A checker of lines after these clauses.
+    /// A checker of lines after these clauses. It accepts none after a clause that was not taken.
     pub fn checker(self) -> LratChecker
         ensures ready { (formula : List (List ℕ)) → HoldsFormula formula self
             → IsReady formula [] result }
         ensures tight { (formula : List (List ℕ)) → HoldsFormula formula self
             → HoldsLittle result }
+        ensures failed { has_failed result ≡ lacks_clause self }
     {
         let LratFormula {
             alloc,

@@ -16,8 +16,8 @@ invariant_of-self-2 c = record {
       ∙ old.free (search rules) id (omega (arith, later));
 }
 
-pub returns : goal.returns
-returns c = λ formula p.
+pub returns-clause-given : goal.returns-clause-given
+returns-clause-given c = λ formula p.
     let clause = c.args.clause.now in
     record {
       table = c.in_ok-put.ensures.table ∙ ap (put (c.args.self.now.given + 1) clause) p.table ∙ ap (λ n. put (n + 1) clause (formula_table formula)) p.count ∙ sym (formula_more formula clause);

@@ -8,10 +8,11 @@ loop-clause-init c = ([], c.into_iter-clause-iterator.ensures.into_iter_gives, c
 pub loop-clause-preserved : goal.loop-clause-preserved
 loop-clause-preserved c =
     let given = c.loop-clause.invariant.0 in
-    let clause = c.in-Some.clause.now in
-    (given ++ clause ∷ [],
-    append_assoc given (clause ∷ []) c.next.new.self ∙ ap (λ cs. given ++ cs) (sym c.in-Some.ensures.steps) ∙ c.loop-clause.invariant.1,
-    c.in_ok-add_clause.ensures given c.loop-clause.invariant.2)
+    let clause = c.in-Some.clause.now in (
+      given ++ clause ∷ [],
+      append_assoc given (clause ∷ []) c.next.new.self ∙ ap (λ cs. given ++ cs) (sym c.in-Some.ensures.steps) ∙ c.loop-clause.invariant.1,
+      c.in_ok-add_clause.ensures.given given c.loop-clause.invariant.2,
+    )
 
 pub returns : goal.returns
 returns c =

@@ -8,11 +8,12 @@ use Rattle.lrat_checker.proofs.formula.LratFormula.read.Goals as goal
 pub clauses-preserved : goal.clauses-preserved
 clauses-preserved g c =
     let more = rw c.if-branch.true at c.in_ok-next_clause.ensures in
-    let inv = c.clauses.invariant in
-    (inv.0 ++ c.next_clause.new.into.items ∷ [],
-    HasGiven-more g.F.Read.remaining _ c.clauses.reader c.next_clause.new.self _ _ inv.1 more.after_end more.next,
-    subst (λ clause. HoldsFormula (inv.0 ++ clause ∷ []) c.add_clause.new.self) c.deref.ensures.value
-    (ok_part c.add_clause.result (sym c.is_err.ensures.value ∙ c.if-is_err.false) (c.add_clause.ensures inv.0 inv.2)))
+    let inv = c.clauses.invariant in (
+      inv.0 ++ c.next_clause.new.into.items ∷ [],
+      HasGiven-more g.F.Read.remaining _ c.clauses.reader c.next_clause.new.self _ _ inv.1 more.after_end more.next,
+      subst (λ clause. HoldsFormula (inv.0 ++ clause ∷ []) c.add_clause.new.self) c.deref.ensures.value
+          (ok_part c.add_clause.result (sym c.is_err.ensures.value ∙ c.if-is_err.false) (c.add_clause.ensures.given inv.0 inv.2)),
+    )
 
 pub returns-in-Err-clause-fault : goal.returns-in-Err-clause-fault
 returns-in-Err-clause-fault g c = ([], begins_anyhow _)
