@@ -29,3 +29,6 @@ returns-in-Err-write_line-clause-unwritten g c = λ formula held _.
       decided = decided formula (g.P.Read.remaining c.args.proof) (Ok c.in-Ok.refuted) refutes;
       begins = subst (λ v. AppendsBeginning old new (shown_line v)) c.of-verdict.ensures c.in-Err-write_line.ensures.beginning;
     }
+
+pub returns-in-Err-write_line-clause-run : goal.returns-in-Err-write_line-clause-run
+returns-in-Err-write_line-clause-run g c = λ formula held. (c.in-Ok.refuted, c.in-Ok.ensures formula held)
