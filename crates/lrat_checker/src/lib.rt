@@ -15,8 +15,6 @@ mod propagation;
 mod redundancy;
 mod room;
 mod span;
-#[cfg(test)]
-mod tests;
 mod values;
 mod work;
 
