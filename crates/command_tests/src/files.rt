@@ -101,17 +101,19 @@ fn headers_that_lie(rt: HostRuntime) -> Result<(), Fail> {
     Ok(())
 }
 
+/// The two counts of a header, and the largest variable and the number of clauses.
+fn lie_of([variables, clauses, largest, number]: [u64; 4]) -> LyingHeader {
+    let said = Counts { variables, clauses };
+    let counts = Counts {
+        variables: largest,
+        clauses: number,
+    };
+    LyingHeader { said, counts }
+}
+
 fn have_lies(rt: &impl Abort, rows: &[(&[u8], [u64; 4])]) -> io::Result<()> {
-    for (text, [variables, clauses, largest, number]) in rows {
-        let said = Counts {
-            variables: *variables,
-            clauses: *clauses,
-        };
-        let counts = Counts {
-            variables: *largest,
-            clauses: *number,
-        };
-        has_header(rt, text, Some(LyingHeader { said, counts }))?;
+    for (text, counts) in rows {
+        has_header(rt, text, Some(lie_of(*counts)))?;
     }
     Ok(())
 }
