@@ -6,6 +6,7 @@ mod checker;
 mod clauses;
 mod counts;
 mod fault;
+mod formula;
 mod groups;
 mod judging;
 mod marks;
@@ -19,3 +20,4 @@ mod work;
 
 pub use checker::LratChecker;
 pub use fault::{LineFault, LratCause, LratFault};
+pub use formula::LratFormula;

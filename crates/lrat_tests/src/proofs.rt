@@ -1,6 +1,7 @@
 //! Proofs with their answers, from the rules read by hand.
 mod calls;
 mod failing;
+mod given;
 mod redundancy;
 mod rows;
 

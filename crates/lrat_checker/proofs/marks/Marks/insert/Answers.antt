@@ -1,7 +1,7 @@
 use Rattle.std.proofs.Common.{◌||◌, ◌∙◌, ap, eqb, arith}
 use Rattle.lrat_checker.specs.Marks.{has_mark}
 use Rattle.lrat_checker.proofs.MarkLemmas.{mark-set}
-use Rattle.lrat_checker.proofs.marks.Marks.set.Goals as goal
+use Rattle.lrat_checker.proofs.marks.Marks.insert.Goals as goal
 
 pub returns-then-code-len-clause-ok : goal.returns-then-code-len-clause-ok
 returns-then-code-len-clause-ok c l =

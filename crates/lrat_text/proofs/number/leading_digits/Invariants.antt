@@ -1,6 +1,6 @@
-use Rattle.std.proofs.Common.{◌-◌, ◌<◌, ◌≤◌, ◌^◌, length}
+use Rattle.std.proofs.Common.{◌-◌, ◌<◌, ◌≤◌, ◌^◌}
 use Rattle.lrat_text.specs.FirstNumbers.{HasDigits}
-use Rattle.lrat_text.proofs.number.digits_up_to.Given as goal
+use Rattle.lrat_text.proofs.number.leading_digits.Given as goal
 
 abbrev pub invariant-digits : goal.invariant-digits
 invariant-digits l = record {
@@ -9,4 +9,4 @@ invariant-digits l = record {
 }
 
 abbrev pub decreases-digits : goal.decreases-digits
-decreases-digits l = l.place - l.len
+decreases-digits l = 10 - l.len
