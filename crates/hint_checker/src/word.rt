@@ -50,6 +50,7 @@ impl<'a> Words<'a> {
             return Some(Some(value));
         }
         let word = self.next()?;
+        self.pass_blank();
         Some(value(word))
     }
 
@@ -63,7 +64,19 @@ impl<'a> Words<'a> {
             return Some(said);
         }
         let word = self.next()?;
+        self.pass_blank();
         Some(clause_word(word))
+    }
+
+    /// Passes over the blank in front, where there is one: a word that is read in one pass has none.
+    fn pass_blank(&mut self)
+        ensures { self.new ≡ self.old }
+    {
+        if let Some((first, after)) = self.rest.split_first() {
+            if is_blank(*first) {
+                self.rest = after;
+            }
+        }
     }
 }
 
