@@ -68,7 +68,7 @@ impl<'a> Words<'a> {
         Some(clause_word(word))
     }
 
-    /// Passes over the blank in front, where there is one: a word that is read in one pass has none.
+    /// Passes over a blank in front: where one stands, no word is read in one pass.
     fn pass_blank(&mut self)
         ensures { self.new ≡ self.old }
     {
