@@ -44,6 +44,7 @@ lfsr30   | registers 24 30 1    | cadical
 mult7bc  | multiplier 7         | cadical --block --cover --condition
 mult7i   | multiplier 7         | cadical --plain
 php7v    | pigeons 7            | cryptominisat5 --bva 1 --bvaeveryn 1
+php8v    | pigeons 8            | cryptominisat5 --bva 1 --bvaeveryn 1
 col120v  | colours 120 9.2 4 2  | cryptominisat5 --bva 1 --bvaeveryn 1
 mult6v   | multiplier 6         | cryptominisat5 --bva 1 --bvaeveryn 1
 cook10   | pigeons 10           | extended 10

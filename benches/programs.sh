@@ -71,9 +71,10 @@ hints() {
 
 # told NAME PROGRAM: the figure of the table, or nothing
 told() {
-  awk -F' *[|] *' -v name="$1" -v program="$2" '
+  tr -d '`' < "$top/benches/README.md" | awk -F' *[|] *' -v name="$1" -v program="$2" '
+    !/^[|]/ { split("", column) }
     $2 == "instructions a hint" { for (i = 2; i <= NF; i++) column[$i] = i; next }
-    $2 == name && column[program] { print $column[program] }' "$top/benches/README.md" | tr -d '`'
+    $2 == name && column[program] { print $column[program] }'
 }
 
 g++ -O2 -o "$work/reference" "$top/benches/lrat/reference.cc"

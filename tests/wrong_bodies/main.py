@@ -8,7 +8,8 @@ says something only where the same copy without the edit is proved, so that is t
 What can't be a copy, as a method of a trait or a constant, names the function that has to be refused, by a line `only:`. It is
 changed where it stands, and has a check of its own, of that function alone.
 
-Then `wrong-bodies/REFUSED` is written: a sum over the words of the crate's src, specs and wrong bodies, and their count.
+Then `wrong-bodies/REFUSED` is written: a sum over the words of the crate's src, specs and wrong bodies, and their count. Tests
+of its own, `src/tests.rt` and `src/tests/`, are left out, with the lines that declare them: no wrong body rests on them.
 """
 
 import concurrent.futures
@@ -43,6 +44,8 @@ def words_of(path):
         lines = [it.strip() for it in file.read().split("\n")]
     imported, kept = set(), []
     for line in lines:
+        if line in ("#[cfg(test)]", "mod tests;"):
+            continue
         place = re.fullmatch(r"(?:ghost )?use Rattle\.[^{}]*?(?:\.\{([^}]*)\}| as (\w+));?", line)
         if place:
             imported.update((place[1] or place[2] or "").split(", "))
@@ -56,6 +59,8 @@ def record(crate):
     found = edits(crate)
     for part in ("src", "specs"):
         found += [f"{at}/{it}" for at, _, names in os.walk(f"{crate}/{part}") for it in names]
+    tests = f"{crate}/src/tests"
+    found = [it for it in found if it != f"{tests}.rt" and not it.startswith(f"{tests}/")]
     total = hashlib.sha256()
     for path in sorted(found):
         total.update(repr((os.path.relpath(path, crate), words_of(path))).encode())

@@ -7,8 +7,6 @@ mod literals;
 mod number;
 mod reader;
 mod spot;
-#[cfg(test)]
-mod tests;
 
 pub use fault::{AnswerFault, AnswerKind};
 pub use laws::{answer_rows, answers_are_consistent};

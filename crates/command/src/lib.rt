@@ -7,8 +7,6 @@ mod header;
 mod kind;
 mod outputs;
 mod status;
-#[cfg(test)]
-mod tests;
 
 pub use about::{About, Entry};
 pub use files::{

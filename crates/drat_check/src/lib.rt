@@ -10,8 +10,6 @@ mod progress;
 mod proof;
 mod reader;
 mod run;
-#[cfg(test)]
-mod tests;
 mod with_outputs;
 
 pub use fault::{OutputFault, ProofFault, RunFault};

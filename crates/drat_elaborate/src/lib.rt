@@ -11,8 +11,6 @@ mod elaborator;
 mod fault;
 mod forward;
 mod frat;
-#[cfg(test)]
-mod frat_tests;
 mod hinted;
 mod lines;
 mod lit_set;
@@ -26,8 +24,6 @@ mod records;
 mod redundancy;
 mod steps;
 mod sweep;
-#[cfg(test)]
-mod tests;
 mod trail;
 mod variables;
 mod watches;

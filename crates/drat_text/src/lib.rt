@@ -10,8 +10,6 @@ pub mod fault;
 pub mod number;
 mod reader;
 mod step;
-#[cfg(test)]
-mod tests;
 mod text;
 
 pub use fault::{DratFault, DratKind};

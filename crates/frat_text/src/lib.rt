@@ -8,8 +8,6 @@ mod format;
 mod reader;
 mod step;
 mod telling;
-#[cfg(test)]
-mod tests;
 mod text;
 
 pub use reader::FratReader;

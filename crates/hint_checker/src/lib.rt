@@ -14,8 +14,6 @@ mod room;
 mod short;
 mod span;
 mod stream;
-#[cfg(test)]
-mod tests;
 mod values;
 mod word;
 

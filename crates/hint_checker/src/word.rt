@@ -50,6 +50,7 @@ impl<'a> Words<'a> {
             return Some(Some(value));
         }
         let word = self.next()?;
+        self.pass_blank();
         Some(value(word))
     }
 
@@ -63,7 +64,19 @@ impl<'a> Words<'a> {
             return Some(said);
         }
         let word = self.next()?;
+        self.pass_blank();
         Some(clause_word(word))
+    }
+
+    /// Passes over a blank in front: where one stands, no word is read in one pass.
+    fn pass_blank(&mut self)
+        ensures { self.new ≡ self.old }
+    {
+        if let Some((first, after)) = self.rest.split_first() {
+            if is_blank(*first) {
+                self.rest = after;
+            }
+        }
     }
 }
 

@@ -3,8 +3,6 @@
 
 mod fault;
 mod run;
-#[cfg(test)]
-mod tests;
 
 pub use fault::RunFault;
 pub use run::{run_check, run_proof};

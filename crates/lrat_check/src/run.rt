@@ -4,13 +4,14 @@ ghost use Rattle.std.specs.Io.KnownBytes.{Appends};
 ghost use Rattle.sat_rules.specs.Clauses.{all_true};
 ghost use Rattle.sat_formula.specs.Refuted.{IsRefuted};
 ghost use Rattle.whole_writes.specs.Beginnings.{AppendsBeginning};
+ghost use Rattle.lrat_checker.specs.Standing.{HoldsFormula};
 ghost use Rattle.lrat_check.specs.Runs.{BeginsLine, BeginsLineAfter, IsCheckRun, IsDecided, IsProofRun, IsRefusedRun, IsUnwritten, Refutes};
 ghost use Rattle.verdicts.specs.Verdicts.{shown_line};
 ghost use Rattle.verdicts.specs.declared.verdict.Verdict.TheVariants.{Verified};
 
 use crate::fault::RunFault;
-use lrat_checker::{LratChecker, LratFault};
-use sat_formula::{CnfFormula, read_formula};
+use lrat_checker::{LratFault, LratFormula};
+use sat_formula::CnfFormula;
 use std::alloc::Global;
 use std::io;
 use std::io::{Read, Write};
@@ -37,13 +38,9 @@ pub fn run_proof<P: Read + Drop, W: Write>(
         (W.contents out.old) (W.contents out.new) }
     ensures refutes { result ≡ Ok Verified → (a : ℕ → Bool) → all_true a formula.now ≡ false }
 {
-    let verdict = match refute(alloc, formula, proof) {
-        Ok(refuted) => Verdict::of(refuted),
-        Err(fault) => return Err(RunFault::Proof(fault)),
-    };
-    match write_line(out, verdict) {
-        Ok(()) => Ok(verdict),
-        Err(fault) => Err(RunFault::Write(fault)),
+    match LratFormula::of(alloc, formula) {
+        Ok(held) => run_after(held, proof, out),
+        Err(_) => Err(RunFault::Proof(LratFault::OutOfMemory)),
     }
 }
 
@@ -66,18 +63,46 @@ pub fn run_check<F: Read + Drop, P: Read + Drop, W: Write>(
     ensures refutes { (text : List ℕ) → F.remaining cnf ≡ Some text
         → result ≡ Ok Verified → IsRefuted text }
 {
-    match read_formula(alloc, cnf) {
-        Ok(formula) => run_proof(alloc, &formula, proof, out),
+    match LratFormula::read(alloc, cnf) {
+        Ok(read) => run_after(read, proof, out),
         Err(fault) => Err(RunFault::Formula(fault)),
     }
 }
 
-/// Whether the proof shows that no assignment satisfies the formula.
-fn refute<P: Read + Drop>(alloc: Global, formula: &CnfFormula, proof: P) -> Result<bool, LratFault>
-    ensures { Refutes formula.now (P.remaining proof) result }
+/// Checks a proof after the clauses of a formula that were given, and writes the verdict's line.
+fn run_after<P: Read + Drop, W: Write>(
+    held: LratFormula,
+    proof: P,
+    out: &mut W,
+) -> Result<Verdict, RunFault>
+    ensures run { (formula : List (List ℕ)) → HoldsFormula formula held
+        → IsProofRun formula (P.remaining proof) result }
+    ensures decided { (formula : List (List ℕ)) → HoldsFormula formula held
+        → IfSome (P.remaining proof) (λ text. IsDecided formula text result) }
+    ensures line { IfOk result (λ verdict.
+        Appends (W.contents out.old) (W.contents out.new) (shown_line verdict)) }
+    ensures silent { IsRefusedRun result → out.new ≡ out.old }
+    ensures unwritten { (formula : List (List ℕ)) → HoldsFormula formula held
+        → IsUnwritten result → BeginsLine formula (P.remaining proof)
+        (W.contents out.old) (W.contents out.new) }
+    ensures refutes { (formula : List (List ℕ)) → HoldsFormula formula held
+        → result ≡ Ok Verified → (a : ℕ → Bool) → all_true a formula ≡ false }
 {
-    match LratChecker::new(alloc, formula) {
-        Ok(mut checker) => checker.refute(proof),
-        Err(_) => Err(LratFault::OutOfMemory),
+    let verdict = match refute(held, proof) {
+        Ok(refuted) => Verdict::of(refuted),
+        Err(fault) => return Err(RunFault::Proof(fault)),
+    };
+    match write_line(out, verdict) {
+        Ok(()) => Ok(verdict),
+        Err(fault) => Err(RunFault::Write(fault)),
     }
+}
+
+/// Whether the proof shows that no assignment satisfies the formula that was given.
+fn refute<P: Read + Drop>(held: LratFormula, proof: P) -> Result<bool, LratFault>
+    ensures { (formula : List (List ℕ)) → HoldsFormula formula held
+        → Refutes formula (P.remaining proof) result }
+{
+    let mut checker = held.checker();
+    checker.refute(proof)
 }

@@ -6,5 +6,6 @@ pub mod SpanLemmas
 pub mod TableLemmas
 pub mod JudgeLemmas
 pub mod StandLemmas
+pub mod FormulaLemmas
 pub mod TextLemmas
 pub mod ReadingLemmas

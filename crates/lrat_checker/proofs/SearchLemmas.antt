@@ -43,3 +43,12 @@ module _ (s : ℕ → Bool) (c : List ℕ) (i m : ℕ) (w : i < length c) (e : m
   pub search_stops : (found : Option ℕ) → s (negate m) ≡ false → is_other found m ≡ true → left_from s found (drop i c) none one ≡ stuck not_unit
   search_stops found f t = here found ∙ ap (λ b. cond b (left_from s found (drop (i + 1) c) none one) (cond (is_other found m) (stuck not_unit) (left_from s (Some m) (drop (i + 1) c) none one))) f
       ∙ ap (λ b. cond b (stuck not_unit) (left_from s (Some m) (drop (i + 1) c) none one)) t
+
+  -- a false literal is passed over
+  pub search_goes : (found : Option ℕ) → s (negate m) ≡ true → left_from s found (drop (i + 1) c) none one ≡ left_from s found (drop i c) none one
+  search_goes found f = sym (here found ∙ ap (λ b. cond b (left_from s found (drop (i + 1) c) none one) (cond (is_other found m) (stuck not_unit) (left_from s (Some m) (drop (i + 1) c) none one))) f)
+
+  -- one that is not false is found, or was
+  pub search_finds : (found : Option ℕ) → s (negate m) ≡ false → is_other found m ≡ false → left_from s found (drop i c) none one ≡ left_from s (Some m) (drop (i + 1) c) none one
+  search_finds found f t = here found ∙ ap (λ b. cond b (left_from s found (drop (i + 1) c) none one) (cond (is_other found m) (stuck not_unit) (left_from s (Some m) (drop (i + 1) c) none one))) f
+      ∙ ap (λ b. cond b (stuck not_unit) (left_from s (Some m) (drop (i + 1) c) none one)) t

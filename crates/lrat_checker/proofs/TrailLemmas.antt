@@ -3,7 +3,8 @@ use Rattle.std.proofs.Common.{◌≡◌, ℕ, ◌+◌, ◌<◌, Bool, true, fals
 use mathlib.Core.Path.{fun_ext}
 use Rattle.std.proofs.lemmas.Bool.{eqb-true, eqb-false, and_parts, and_from, both_ways, not-true, ne_eqb, or_cases}
 use Rattle.std.proofs.lemmas.List.{at_drop_more}
-use Rattle.sat_rules.specs.Clauses.{add_lit, has}
+use Rattle.sat_rules.specs.Clauses.{add_lit, has, negate}
+use Rattle.sat_rules.proofs.Chains.{negate-negate}
 use Rattle.lrat_rules.specs.Counts.{all_once}
 use Rattle.lrat_checker.specs.Values.{IsMarked, among, with_lit}
 
@@ -55,6 +56,21 @@ among-with_lit l t = fun_ext (λ k. go (has l t) refl k)
     go false e k = has-push t l k
 
 -- ---- marks
+
+-- negations are one where the literals are
+pub eqb-negate : (l m : ℕ) → eqb (negate l) (negate m) ≡ eqb l m
+eqb-negate l m = go (eqb l m) refl
+  where
+    go : (b : Bool) → eqb l m ≡ b → eqb (negate l) (negate m) ≡ b
+    go true e = eq-eqb (negate l) (negate m) (ap negate (eqb-true l m e))
+    go false e = ne_eqb (negate l) (negate m) (λ q. eqb-false l m e (sym (negate-negate l) ∙ ap negate q ∙ negate-negate m))
+
+-- what the mark of a negation says where one is set, and where one is cleared
+pub set_of : (x : ℕ → Bool) (more : ℕ → Bool) (n l : ℕ) → n ≡ negate l → ((k : ℕ) → more k ≡ (eqb k n || x k)) → (k : ℕ) → more (negate k) ≡ (eqb k l || x (negate k))
+set_of x more n l is set k = set (negate k) ∙ ap (λ j. eqb (negate k) j || x (negate k)) is ∙ ap (λ b. b || x (negate k)) (eqb-negate k l)
+
+pub cleared_of : (x : ℕ → Bool) (fewer : ℕ → Bool) (n l : ℕ) → n ≡ negate l → ((k : ℕ) → fewer k ≡ (not (eqb k n) && x k)) → (k : ℕ) → fewer (negate k) ≡ (not (eqb k l) && x (negate k))
+cleared_of x fewer n l is cleared k = cleared (negate k) ∙ ap (λ j. not (eqb (negate k) j) && x (negate k)) is ∙ ap (λ b. not b && x (negate k)) (eqb-negate k l)
 
 -- a mark is set for a new literal
 pub marked-push : (marks : ℕ → Bool) (t : List ℕ) (l : ℕ) → IsMarked marks t → has l t ≡ false → (more : ℕ → Bool) →

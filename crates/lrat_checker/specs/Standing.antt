@@ -1,21 +1,36 @@
 -- Where a checker stands: the lines that it has accepted after a formula's clauses, and what it holds.
 --     has_failed c, has_refuted c      a line was not accepted;  the empty clause is the formula's, or a line added it
+--     HoldsFormula formula f      the clauses of the formula were given, and no other
+--     lacks_clause f      a clause that was given was not taken
 --     HasAccepted formula lines c      the lines were accepted, and whether they refute the formula is known
 --     IsReady formula lines c      and the checker holds what is stored after them
 --     IsAnswer formula lines line fault      the fault of a line after them
 --     HoldsLittle c      the clauses take little room that no clause uses
-use Rattle.std.specs.Prelude.{◌≡◌, ℕ, Bool, false, List, Some}
+use Rattle.std.specs.Prelude.{◌≡◌, ℕ, Bool, false, List, length, Some}
 use Rattle.sat_rules.specs.Named.{Item}
-use Rattle.lrat_rules.specs.Lines.{Line, is_refuted, run}
+use Rattle.lrat_rules.specs.Lines.{Line, has_empty, is_refuted, run}
 use Rattle.lrat_rules.specs.Refusals.{cause_of_line}
 use Rattle.lrat_rules.specs.Stores.{formula_store}
-use Rattle.lrat_rules.specs.Tables.{IsTableOf}
+use Rattle.lrat_rules.specs.Tables.{IsTableOf, formula_table}
 use Rattle.lrat_checker.specs.Causes.{cause_of}
 use Rattle.lrat_checker.specs.Held.{table_of}
 use Rattle.lrat_checker.specs.Near.{IsTight}
 use Rattle.lrat_checker.specs.declared.checker.LratChecker.{LratChecker}
+use Rattle.lrat_checker.specs.declared.formula.LratFormula.{LratFormula}
 use Rattle.lrat_checker.specs.declared.fault.LineFault.{LineFault}
 use Rattle.lrat_checker.specs.declared.fault.LineFault.TheVariants.{Failed, OutOfMemory, Refused}
+
+-- the clauses were given in this order, and it is known whether one is empty
+pub record HoldsFormula (formula : List (List ℕ)) (f : LratFormula) : Type 0 where
+  pub table : table_of f.clauses ≡ formula_table formula
+  pub count : f.given ≡ length formula
+  pub empty : f.has_empty ≡ has_empty formula
+  pub tight : IsTight f.clauses.near
+  pub going : f.failed ≡ false
+
+-- a clause was not taken, so that no line may be accepted
+abbrev pub lacks_clause : LratFormula → Bool
+lacks_clause f = f.failed
 
 -- a line was not accepted
 abbrev pub has_failed : LratChecker → Bool

@@ -1,5 +1,6 @@
 -- The literals that are true, as a trail.
 --     among t      the set of the literals of a trail
+--     true_by m l      a literal is true by the marks
 --     with_lit l t      the trail with one more literal, unless it has it
 --     lits_besides o c      the literals of a clause besides one, or all
 --     IsMarked marks t      the marks are those of the literals of the trail, which has none twice
@@ -11,10 +12,16 @@ use Rattle.lrat_rules.specs.Causes.{not_unit}
 use Rattle.lrat_rules.specs.Counts.{all_once}
 use Rattle.lrat_rules.specs.Groups.{without}
 use Rattle.lrat_rules.specs.Propagation.{Ending, stuck}
+use Rattle.lrat_checker.specs.Marks.{has_mark}
+use Rattle.lrat_checker.specs.declared.marks.Marks.{Marks}
 
 -- the set of the literals of a trail
 abbrev pub among : List ℕ → ℕ → Bool
 among t m = has m t
+
+-- a literal is true by the marks: that of its negation
+abbrev pub true_by : Marks → ℕ → Bool
+true_by m l = has_mark m (negate l)
 
 -- the trail with one more literal, unless it has it
 abbrev pub with_lit : ℕ → List ℕ → List ℕ

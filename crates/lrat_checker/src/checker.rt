@@ -1,7 +1,7 @@
 //! The checker of LRAT proofs.
 ghost use Rattle.std.specs.Prelude.{◌≡◌, ◌∷◌, ◌++◌, ◌||◌, ◌&&◌, ℕ, Bool, true, false, [], List, None, Some, Err, IfErr, IfOk, OnOk, OnErr};
 ghost use Rattle.sat_rules.specs.Clauses.{all_true};
-ghost use Rattle.lrat_rules.specs.Lines.{Line, adds_empty, has_empty};
+ghost use Rattle.lrat_rules.specs.Lines.{Line, adds_empty};
 ghost use Rattle.lrat_rules.specs.Tables.{cause_by_table, table_after};
 ghost use Rattle.lrat_checker.specs.Causes.{IsCause};
 ghost use Rattle.lrat_checker.specs.declared.fault.LineFault.TheVariants.{Failed};
@@ -11,6 +11,7 @@ ghost use Rattle.lrat_text.specs.NextLine.{view};
 
 use crate::clauses::Clauses;
 use crate::fault::{LineFault, LratFault, Stop};
+use crate::formula::LratFormula;
 use crate::judging::judge;
 use crate::work::Work;
 use lrat_text::{LineReader, LratLine, LratTextFault};
@@ -38,13 +39,27 @@ impl LratChecker {
         ensures ready { IfOk result (λ checker. IsReady formula.now [] checker) }
         ensures tight { IfOk result (λ checker. HoldsLittle checker) }
     {
-        Ok(LratChecker {
+        Ok(LratFormula::of(alloc, formula)?.checker())
+    }
+
+    /// A checker that holds these clauses, which have the empty one or not.
+    pub(crate) fn after(
+        alloc: Global,
+        clauses: Clauses,
+        has_empty: bool,
+        failed: bool,
+    ) -> LratChecker
+        ensures clauses { result.clauses ≡ clauses }
+        ensures refuted { result.refuted ≡ has_empty }
+        ensures failed { result.failed ≡ failed }
+    {
+        LratChecker {
             alloc,
-            clauses: Clauses::new(alloc, formula)?,
+            clauses,
             work: Work::new(alloc),
-            refuted: has_empty_clause(formula),
-            failed: false,
-        })
+            refuted: has_empty,
+            failed,
+        }
     }
 
     /// Whether the formula has the empty clause, or a line so far added it: then no assignment
@@ -209,16 +224,4 @@ impl LratChecker {
             }
         }
     }
-}
-
-/// Whether a formula has the empty clause.
-fn has_empty_clause(formula: &CnfFormula) -> bool
-    ensures { result ≡ has_empty formula.now }
-{
-    for clause in formula {
-        if clause.is_empty() {
-            return true;
-        }
-    }
-    false
 }

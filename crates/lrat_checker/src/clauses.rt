@@ -1,15 +1,14 @@
 //! The stored clauses.
 ghost use Rattle.std.specs.Prelude.{◌≡◌, ◌==◌, ◌+◌, ◌-◌, ◌*◌, ◌≤◌, ◌^◌, ◌&&◌, ℕ, None, Some, true, false, if◌then◌else◌, is_some, length, min, nat_eq, IfOk, OnOk};
-ghost use Rattle.std.specs.List.{sum_by};
 ghost use Rattle.std.specs.Option.{option_copied};
 ghost use Rattle.std.specs.HashMap.{get};
-ghost use Rattle.lrat_rules.specs.Tables.{drop_all, drop_one, empty_table, formula_table, put};
+ghost use Rattle.lrat_rules.specs.Tables.{drop_all, drop_one, empty_table, put};
 ghost use Rattle.lrat_checker.specs.Far.{far_clause};
 ghost use Rattle.lrat_checker.specs.Near.{IsTight, gets_place, near_clause, spare_places};
 
 use crate::counts::LitCounts;
 use crate::near::NearClauses;
-use sat_formula::{CnfFormula, Lit};
+use sat_formula::Lit;
 use std::alloc::{AllocError, Global};
 use std::collections::HashMap;
 
@@ -37,22 +36,8 @@ pub(crate) struct Clauses {
 impl Clauses {
     ghost use Rattle.lrat_checker.specs.Held.{table_of};
 
-    /// The clauses of a formula under 1, 2 and so on.
-    pub(crate) fn new(alloc: Global, formula: &CnfFormula) -> Result<Clauses, AllocError>
-        ensures table { IfOk result (λ made. table_of made ≡ formula_table formula.now) }
-        ensures tight { IfOk result (λ made. IsTight made.near) }
-    {
-        let mut made = Clauses::empty(alloc, formula.len(), lits_of(formula))?;
-        let mut id = 0u64;
-        for clause in formula {
-            id += 1;
-            made.put(id, clause)?;
-        }
-        Ok(made)
-    }
-
     /// No clause, with places for some.
-    fn empty(alloc: Global, room: usize, lits: u64) -> Result<Clauses, AllocError>
+    pub(crate) fn empty(alloc: Global, room: usize) -> Result<Clauses, AllocError>
         ensures table { IfOk result (λ made. table_of made ≡ empty_table) }
         ensures tight { IfOk result (λ made. IsTight made.near) }
     {
@@ -61,7 +46,7 @@ impl Clauses {
             near: NearClauses::new(alloc, room)?,
             far: HashMap::new(alloc),
             stored: 0,
-            counts: LitCounts::new(alloc, lits),
+            counts: LitCounts::new(alloc),
         })
     }
 
@@ -167,15 +152,4 @@ impl Clauses {
             self.counts.lower(&clause);
         }
     }
-}
-
-/// How many literals the clauses of a formula have.
-fn lits_of(formula: &CnfFormula) -> u64
-    ensures { result ≡ min (sum_by length formula.now) (2 ^ 64 - 1) }
-{
-    let mut lits = 0u64;
-    for clause in formula {
-        lits = lits.saturating_add(clause.len() as u64);
-    }
-    lits
 }

@@ -24,15 +24,15 @@ pub(crate) struct LitCounts {
 impl LitCounts {
     ghost use Rattle.lrat_checker.specs.Counts.{lit_count};
 
-    /// No literal stands in a clause. There may be places for the literals of so many.
-    pub(crate) fn new(alloc: Global, lits: u64) -> LitCounts
+    /// No literal stands in a clause.
+    pub(crate) fn new(alloc: Global) -> LitCounts
         ensures counts { (l : ℕ) → lit_count result l ≡ 0 }
-        ensures stored { result.stored ≡ lits }
+        ensures stored { result.stored ≡ 0 }
     {
         LitCounts {
             near: Vec::new(alloc),
             far: HashMap::new(alloc),
-            stored: lits,
+            stored: 0,
         }
     }
 

@@ -6,6 +6,7 @@ mod checker;
 mod clauses;
 mod counts;
 mod fault;
+mod formula;
 mod groups;
 mod judging;
 mod marks;
@@ -14,10 +15,9 @@ mod propagation;
 mod redundancy;
 mod room;
 mod span;
-#[cfg(test)]
-mod tests;
 mod values;
 mod work;
 
 pub use checker::LratChecker;
 pub use fault::{LineFault, LratCause, LratFault};
+pub use formula::LratFormula;

@@ -1,5 +1,5 @@
 //! Marks of literals.
-ghost use Rattle.std.specs.Prelude.{◌≡◌, ◌+◌, ◌*◌, ◌<◌, ◌≤◌, ◌^◌, ◌&&◌, ◌||◌, ◌==◌, ℕ, false, not, length, max, nat_eq, OnErr, OnOk};
+ghost use Rattle.std.specs.Prelude.{◌≡◌, ◌+◌, ◌*◌, ◌<◌, ◌≤◌, ◌^◌, ◌&&◌, ◌||◌, ◌==◌, ℕ, false, not, length, max, nat_eq, IfOk, OnErr, OnOk};
 ghost use Rattle.std.specs.HashSet.{contains};
 ghost use Rattle.lrat_checker.specs.Room.{spare_lits};
 
@@ -81,9 +81,10 @@ impl Marks {
         !self.far.is_empty() && self.far.contains(&code)
     }
 
-    /// The literal is marked from here on.
+    /// The literal is marked from here on. The answer is whether it was not before.
     #[inline(always)]
-    pub(crate) fn set(&mut self, lit: Lit) -> Result<(), AllocError>
+    pub(crate) fn insert(&mut self, lit: Lit) -> Result<bool, AllocError>
+        ensures is_new { IfOk result (λ is_new. is_new ≡ not (has_mark self.old lit)) }
         ensures ok { OnOk result ((l : ℕ)
             → has_mark self.new l ≡ (l == lit || has_mark self.old l)) }
         ensures err { OnErr result ((l : ℕ) → has_mark self.new l ≡ has_mark self.old l) }
@@ -91,17 +92,19 @@ impl Marks {
     {
         let code = lit.code();
         if code < self.near.len() {
+            let is_new = !self.has(lit);
             self.near[code] = true;
-            return Ok(());
+            return Ok(is_new);
         }
-        self.set_new(code)
+        self.insert_beyond(code)
     }
 
     #[cold]
     #[inline(never)]
-    fn set_new(&mut self, code: usize) -> Result<(), AllocError>
+    fn insert_beyond(&mut self, code: usize) -> Result<bool, AllocError>
         requires beyond { length self.old.near.items ≤ code }
         requires small { code < 2 ^ 29 }
+        ensures is_new { IfOk result (λ is_new. is_new ≡ not (has_mark self.old code)) }
         ensures ok { OnOk result ((l : ℕ)
             → has_mark self.new l ≡ (l == code || has_mark self.old l)) }
         ensures err { OnErr result ((l : ℕ) → has_mark self.new l ≡ has_mark self.old l) }
@@ -110,10 +113,10 @@ impl Marks {
         if self.far.is_empty() && gets_room(code, self.stored) {
             self.near.resize(code + 1, false)?;
             self.near[code] = true;
-            return Ok(());
+            return Ok(true);
         }
         match self.far.insert(code) {
-            Ok(_) => Ok(()),
+            Ok(is_new) => Ok(is_new),
             Err(_) => Err(AllocError),
         }
     }

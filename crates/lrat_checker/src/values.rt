@@ -1,10 +1,10 @@
 //! Which literals are true.
-ghost use Rattle.std.specs.Prelude.{◌≡◌, ◌<◌, ◌-◌, [], ℕ, length, take, OnOk};
+ghost use Rattle.std.specs.Prelude.{◌≡◌, ◌<◌, ◌-◌, [], ℕ, length, take, OnOk, Some};
 ghost use Rattle.std.specs.List.{list_any};
 ghost use Rattle.sat_rules.specs.Clauses.{has, unfalsified};
 ghost use Rattle.lrat_rules.specs.Groups.{add_negated};
 ghost use Rattle.lrat_rules.specs.Propagation.{Ending, by_left};
-ghost use Rattle.lrat_checker.specs.Values.{IsGrown, among, is_other, lits_besides, with_lit};
+ghost use Rattle.lrat_checker.specs.Values.{IsGrown, among, left_from, lits_besides, with_lit};
 
 use crate::marks::Marks;
 use sat_formula::Lit;
@@ -15,20 +15,20 @@ use std::marker::Model;
 /// literal and its negation can both be.
 #[derive(Drop)]
 pub(crate) struct Values {
+    /// Of the negations of these literals: a walk over a clause looks for those.
     marks: Marks,
     trail: Vec<Lit>,
 }
 
 impl Model for Values {
     ghost use Rattle.std.specs.Prelude.{ℕ, List};
-    ghost use Rattle.lrat_checker.specs.Marks.{has_mark};
-    ghost use Rattle.lrat_checker.specs.Values.{IsMarked};
+    ghost use Rattle.lrat_checker.specs.Values.{IsMarked, true_by};
 
     ghost Value = { List ℕ };
 
     ghost view = { λ v. v.trail.items };
 
-    ghost invariant = { λ v. IsMarked (has_mark v.marks) v.trail.items };
+    ghost invariant = { λ v. IsMarked (true_by v.marks) v.trail.items };
 }
 
 /// The literals of a clause that are not false.
@@ -70,7 +70,7 @@ impl Values {
     fn is_true(&self, lit: Lit) -> bool
         ensures { result ≡ has lit self.now }
     {
-        self.marks.has(lit)
+        self.marks.has(!lit)
     }
 
     /// The literal is true from here on.
@@ -78,14 +78,13 @@ impl Values {
     pub(crate) fn set(&mut self, lit: Lit) -> Result<(), AllocError>
         ensures { OnOk result (self.new ≡ with_lit lit self.old) }
     {
-        if self.is_true(lit) {
+        if !self.marks.insert(!lit)? {
             return Ok(());
         }
-        self.marks.set(lit)?;
         match self.trail.push(lit) {
             Ok(()) => Ok(()),
             Err(_) => {
-                self.marks.clear(lit);
+                self.marks.clear(!lit);
                 Err(AllocError)
             }
         }
@@ -110,7 +109,7 @@ impl Values {
         ensures { self.new ≡ [] }
     {
         for lit in &self.trail {
-            self.marks.clear(*lit);
+            self.marks.clear(!*lit);
         }
         self.trail.clear();
     }
@@ -129,7 +128,7 @@ impl Values {
         ensures { self.new ≡ take (length self.old - 1) self.old }
     {
         if let Some(lit) = self.trail.pop() {
-            self.marks.clear(lit);
+            self.marks.clear(!lit);
         }
     }
 
@@ -150,29 +149,33 @@ impl Values {
             ≡ on_left result none one }
     {
         let near = self.marks.near();
-        let mut found = None;
-        for lit in clause {
-            if self.marks.has_in(near, !*lit) {
-                continue;
+        let mut index = 0;
+        'lits: while index < clause.len() {
+            let lit = clause[index];
+            index += 1;
+            if !self.marks.has_in(near, lit) {
+                return self.left_with(lit, &clause[index..]);
             }
-            if is_other(found, *lit) {
+        }
+        Left::Nothing
+    }
+
+    /// A literal that is not false, and those among others that are not.
+    #[inline(always)]
+    fn left_with(&self, lit: Lit, others: &[Lit]) -> Left
+        ensures { (none : Ending) (one : ℕ → Ending)
+            → left_from (among self.now) (Some lit) others.now none one
+            ≡ on_left result none one }
+    {
+        let near = self.marks.near();
+        let mut index = 0;
+        'lits: while index < others.len() {
+            let other = others[index];
+            index += 1;
+            if !self.marks.has_in(near, other) && other != lit {
                 return Left::More;
             }
-            found = Some(*lit);
         }
-        match found {
-            None => Left::Nothing,
-            Some(lit) => Left::One(lit),
-        }
-    }
-}
-
-/// Whether another literal was found before.
-fn is_other(found: Option<Lit>, lit: Lit) -> bool
-    ensures { result ≡ is_other found lit }
-{
-    match found {
-        Some(found) => found != lit,
-        None => false,
+        Left::One(lit)
     }
 }

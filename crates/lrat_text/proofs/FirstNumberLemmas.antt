@@ -5,21 +5,29 @@ use Rattle.std.proofs.Math.Nat.{pow-le-pow_right, pow-suc}
 use Rattle.std.proofs.lemmas.Bool.{eqb-true}
 use Rattle.std.specs.Prelude.{◌==◌, slice_index}
 use Rattle.std.proofs.lemmas.Bool.Decides.{nat_tests}
-use Rattle.std.proofs.lemmas.List.{take_all}
-use Rattle.sat_formula.specs.Bytes.{is_blank, is_digit}
-use Rattle.sat_formula.specs.Lines.{value_from, words_of}
+use Rattle.std.proofs.lemmas.List.{drop_more, take_all}
+use Rattle.sat_formula.specs.Bytes.{is_digit, is_lf}
+use Rattle.sat_formula.specs.Lines.{value_from}
+use Rattle.lrat_text.specs.Bytes.{IsLine, ends_word, words_in}
 use Rattle.lrat_text.specs.declared.number.Number.TheVariants.{Exact}
 use Rattle.lrat_text.specs.FirstNumbers.{HasDigits, IsDigitsWord, IsFirst}
 use Rattle.lrat_text.specs.Numbers.{number_of}
 use Rattle.lrat_text.proofs.NumberLemmas.{judged-exact}
-use Rattle.lrat_text.proofs.WordLemmas.{words_of-drop, words_of-first}
+use Rattle.lrat_text.proofs.WordLemmas.{line_some, line_inside, line_rest, words_in-end, words_in-first}
 
 -- ---- digits
 
-no_blank : (b : ℕ) → is_digit b ≡ true → is_blank b ≡ false
-no_blank b e = go (is_blank b) refl
+no_end : (b : ℕ) → is_digit b ≡ true → ends_word b ≡ false
+no_end b e = go (ends_word b) refl
   where
-    go : (x : Bool) → is_blank b ≡ x → x ≡ false
+    go : (x : Bool) → ends_word b ≡ x → x ≡ false
+    go true p = absurd (grind (arith, nat_tests, e, p))
+    go false p = refl
+
+no_lf : (b : ℕ) → is_digit b ≡ true → is_lf b ≡ false
+no_lf b e = go (is_lf b) refl
+  where
+    go : (x : Bool) → is_lf b ≡ x → x ≡ false
     go true p = absurd (grind (arith, nat_tests, e, p))
     go false p = refl
 
@@ -64,21 +72,36 @@ digit_fits_after n v d few small e =
     omega (arith, small, digit_small d e, below)
 
 -- none yet, and one more
-pub digits_none : (bytes : List ℕ) → HasDigits bytes 0 0
-digits_none bytes = record { within = omega arith; digits = λ k lt. absurd (omega (arith, lt)); value = refl; fits = omega arith }
+pub digits_none : (bytes : List ℕ) → IsLine bytes → HasDigits bytes 0 0
+digits_none bytes p = record { within = line_some bytes p; digits = λ k lt. absurd (omega (arith, lt)); value = refl; fits = omega arith }
 
-pub digits_more : (bytes : List ℕ) (n v : ℕ) → HasDigits bytes n v → n < length bytes → n < 18 → v < 10 ^ n → is_digit (slice_index bytes n) ≡ true →
+pub digits_more : (bytes : List ℕ) (n v : ℕ) → IsLine bytes → HasDigits bytes n v → n < 18 → v < 10 ^ n → is_digit (slice_index bytes n) ≡ true →
     HasDigits bytes (n + 1) (v * 10 + (slice_index bytes n - 48))
-digits_more bytes n v h lt few small e = record {
-  within = omega (arith, lt);
+digits_more bytes n v p h few small e = record {
+  within = line_inside bytes n p h.within (no_lf (slice_index bytes n) e);
   digits = λ k below. at_or_before k (k == n) refl below;
-  value = ap (λ m. value_from 0 (take m bytes)) (suc-is n) ∙ ap (value_from 0) (take-more bytes n lt) ∙ value_from-more 0 v (slice_index bytes n) (take n bytes) h.value e;
+  value = ap (λ m. value_from 0 (take m bytes)) (suc-is n) ∙ ap (value_from 0) (take-more bytes n h.within) ∙ value_from-more 0 v (slice_index bytes n) (take n bytes) h.value e;
   fits = digit_fits_after n v (slice_index bytes n) few small e;
 }
   where
     at_or_before : (k : ℕ) (b : Bool) → (k == n) ≡ b → k < n + 1 → is_digit (slice_index bytes k) ≡ true
     at_or_before k true p below = subst (λ i. is_digit (slice_index bytes i) ≡ true) (sym (eqb-true k n p)) e
     at_or_before k false p below = h.digits k (grind (arith, nat_tests, p, below))
+
+-- a word of digits that a space ends
+pub space_after : (bytes : List ℕ) (n v : ℕ) → IsLine bytes → HasDigits bytes n v → 0 < n → slice_index bytes n ≡ 32 → IsDigitsWord bytes v (take (length bytes - (n + 1)) (drop (n + 1) bytes))
+space_after bytes n v p h some e =
+    let more = line_inside bytes n p h.within (rw e refl) in
+    let all = take_all (length bytes - (n + 1)) (drop (n + 1) bytes) (omega (arith, length-drop (n + 1) bytes)) in
+    record {
+      len = n;
+      digits = h;
+      some = some;
+      end = rw e refl;
+      words = ap words_in all ∙ sym (words_in-end 32 (drop (n + 1) bytes) refl) ∙ ap (λ (b : ℕ). words_in (b ∷ drop (n + 1) bytes)) (sym e) ∙ ap words_in (sym (drop_more bytes n 0 h.within));
+      line = line_rest bytes (n + 1) more p;
+      shorter = omega (arith, ap (λ (bs : List ℕ). length bs) all, length-drop (n + 1) bytes, h.within);
+    }
 
 -- ---- the number in front
 
@@ -87,10 +110,10 @@ plain_says bytes zero v h some fits = absurd (omega arith)
 plain_says [] (suc n) v h some fits = let le = h.within in absurd (omega (arith, le))
 plain_says (b ∷ bytes) (suc n) v h some fits = rw (no_minus b (h.digits 0 (omega arith)), h.value) (judged-exact false v fits (λ e. absurd cc))
 
-pub first_plain : (bytes rest : List ℕ) (v : ℕ) → IsDigitsWord bytes v rest → IsFirst (words_of bytes) (Exact false v) (words_of rest)
+pub first_plain : (bytes rest : List ℕ) (v : ℕ) → IsDigitsWord bytes v rest → IsFirst (words_in bytes) (Exact false v) (words_in rest)
 first_plain bytes rest v w = record {
   word = take w.len bytes;
-  words = words_of-first bytes w.len w.some w.digits.within (λ k lt. no_blank (slice_index bytes k) (w.digits.digits k lt)) w.end ∙ ap (λ ws. take w.len bytes ∷ ws) (sym w.words);
+  words = words_in-first bytes w.len w.some w.digits.within (λ k lt. no_end (slice_index bytes k) (w.digits.digits k lt)) w.end ∙ ap (λ ws. take w.len bytes ∷ ws) (sym w.words);
   says = plain_says bytes w.len v w.digits w.some w.digits.fits;
 }
 
@@ -99,14 +122,24 @@ negative_says bytes zero v h some fits other = absurd (omega arith)
 negative_says [] (suc n) v h some fits other = let le = h.within in absurd (omega (arith, le))
 negative_says (b ∷ bytes) (suc n) v h some fits other = rw h.value (judged-exact true v fits (λ e. other))
 
-pub first_negative : (bytes rest : List ℕ) (v : ℕ) → IsDigitsWord bytes v rest → (v ≡ 0 → ⊥) → IsFirst (words_of (45 ∷ bytes)) (Exact true v) (words_of rest)
+pub first_negative : (bytes rest : List ℕ) (v : ℕ) → IsDigitsWord bytes v rest → (v ≡ 0 → ⊥) → IsFirst (words_in (45 ∷ bytes)) (Exact true v) (words_in rest)
 first_negative bytes rest v w other = record {
   word = 45 ∷ take w.len bytes;
-  words = words_of-first (45 ∷ bytes) (suc w.len) (omega arith) (let le = w.digits.within in omega (arith, le)) free (λ lt. w.end (omega (arith, lt))) ∙
+  words = words_in-first (45 ∷ bytes) (suc w.len) (omega arith) (let lt = w.digits.within in omega (arith, lt)) free w.end ∙
       ap (λ ws. (45 ∷ take w.len bytes) ∷ ws) (sym w.words);
   says = negative_says bytes w.len v w.digits w.some w.digits.fits other;
 }
   where
-    free : (k : ℕ) → k < suc w.len → is_blank (get_or (45 ∷ bytes) k 0) ≡ false
+    free : (k : ℕ) → k < suc w.len → ends_word (get_or (45 ∷ bytes) k 0) ≡ false
     free zero lt = refl
-    free (suc k) lt = no_blank (slice_index bytes k) (w.digits.digits k (omega (arith, lt)))
+    free (suc k) lt = no_end (slice_index bytes k) (w.digits.digits k (omega (arith, lt)))
+
+-- the digits after a `-`
+pub minus_line : (bytes : List ℕ) → IsLine bytes → get_or bytes 0 0 ≡ 45 → IsLine (take (length bytes - 1) (drop 1 bytes))
+minus_line bytes p e = line_rest bytes 1 (line_inside bytes 0 p (line_some bytes p) (rw e refl)) p
+
+pub first_after_minus : (bytes rest : List ℕ) (v : ℕ) → 0 < length bytes → get_or bytes 0 0 ≡ 45 → IsDigitsWord (take (length bytes - 1) (drop 1 bytes)) v rest → (v ≡ 0 → ⊥) →
+    IsFirst (words_in bytes) (Exact true v) (words_in rest)
+first_after_minus [] rest v some e w other = absurd (omega (arith, some))
+first_after_minus (b ∷ bytes) rest v some e w other =
+    rw e (first_negative bytes rest v (subst (λ (ds : List ℕ). IsDigitsWord ds v rest) (take_all (length (b ∷ bytes) - 1) bytes (omega arith)) w) other)

@@ -1,8 +1,11 @@
 -- The lines of a text, one after the other.
-use Rattle.std.proofs.Common.{◌≡◌, ℕ, Bool, true, false, List, [], ◌∷◌, ◌++◌, Option, Result, refl, sym, ap, ◌∙◌, append_assoc}
+use Rattle.std.proofs.Common.{◌≡◌, ℕ, ◌+◌, ◌<◌, ◌≤◌, Bool, true, false, List, [], ◌∷◌, ◌++◌, length, get_or, take, Option, Some, Result, refl, sym, ap, ◌∙◌, append_assoc, arith}
 use Rattle.std.specs.Io.KnownBytes.{Consumes, IsAtEnd}
 use Rattle.std.proofs.KnownBytes.{Consumes-trans, Consumes-nil}
+use Rattle.std.proofs.lemmas.Bool.{eqb-true, false_from_ne_true}
+use Rattle.std.proofs.lemmas.List.{get_or-take, get_or_default, length-take-le, take_more}
 use Rattle.std.proofs.lemmas.List.Splits.{slice_split_at, slice_split_none}
+use Rattle.memchr.specs.Find.{IsFirstByte, is_byte}
 use Rattle.sat_formula.specs.Bytes.{is_lf}
 use Rattle.sat_formula.specs.Lines.{lines_of, words_of}
 use Rattle.sat_formula.specs.Outcome.{next_line}
@@ -11,7 +14,7 @@ use Rattle.lrat_rules.specs.Lines.{Line}
 use Rattle.lrat_text.specs.declared.fault.LineKind.{LineKind}
 use Rattle.lrat_text.specs.declared.fault.LineKind.TheVariants.{Malformed, Unfinished}
 use Rattle.lrat_text.specs.Grammar.{says}
-use Rattle.lrat_text.specs.Bytes.{IsOpen}
+use Rattle.lrat_text.specs.Bytes.{IsLine, IsOpen}
 use Rattle.lrat_text.specs.Taking.{Leads, EndsAll, Follows, Breaks}
 use Rattle.lrat_text.specs.Texts.{Outcome, line_then, lines_from, outcome_after}
 
@@ -48,6 +51,18 @@ last_ends before line is_open consumed at_end = record {
   consumed = consumed;
   at_end = at_end;
   same = ap (lines_from before) (slice_split_none is_lf line is_open);
+}
+
+-- the bytes up to the first LF, and it
+pub first_line : (bytes : List ℕ) (n : ℕ) → IsFirstByte (is_byte 10) bytes (Some n) → IsLine (take (n + 1) bytes)
+first_line bytes n p = record {
+  line = take n bytes;
+  is = take_more bytes n 0 p.0.high ∙ ap (λ (b : ℕ). take n bytes ++ b ∷ []) (eqb-true (get_or bytes n 0) 10 p.1);
+  is_open = λ k d lt.
+      let high = p.0.high in
+      let below : k < n = omega (arith, lt, length-take-le n bytes) in
+      ap is_lf (get_or-take n bytes k d below ∙ get_or_default bytes k d 0 (omega (arith, below, high)))
+      ∙ false_from_ne_true (is_lf (get_or bytes k 0)) (p.0.before k (omega arith) below);
 }
 
 -- ---- line after line

@@ -14,6 +14,7 @@ use Rattle.lrat_text.specs.declared.fault.Stop.{Stop}
 use Rattle.lrat_text.specs.declared.fault.Stop.TheVariants as stops
 use Rattle.lrat_text.specs.declared.reader.LineReader.{LineReader}
 use Rattle.lrat_text.specs.declared.row.Head.{Head}
+use Rattle.lrat_text.specs.Bytes.{IsOpen}
 use Rattle.lrat_text.specs.Grammar.{says}
 use Rattle.lrat_text.specs.Holding.{HoldsLine}
 use Rattle.lrat_text.specs.NextLine.{bytes_left, has_ended, line_number, work_left, rest_of, Reads, Answers, JudgesLine, Explains}
@@ -33,6 +34,10 @@ held : {R : Type 0} (a b : Known) (before : ℕ) (source : Source R) (line : Lis
     Follows a b before (not whole) (said_then (next_line before) (says (short_for whole) (words_of line)))
 held a b before source line true p = line_leads before line p.0 p.1
 held a b before source line false p = last_ends before line p.0 p.1 p.2
+
+pub holds_open : {R : Type 0} (a b : Known) (source : Source R) (line : List ℕ) (whole : Bool) → HoldsLine a b source line (Ok whole) → IsOpen line
+holds_open a b source line true p = p.0
+holds_open a b source line false p = p.0
 
 module _ {R : Type 0} (remaining : R → Option (List ℕ)) (old new : LineReader R) (line : List ℕ) where
   pub line_judged : (whole : Bool) (r : Result (Option Head) Stop) → HoldsLine (bytes_left remaining old) (bytes_left remaining new) new.lines.source line (Ok whole)

@@ -1,14 +1,14 @@
 //! Lists of a line, each up to its 0.
-ghost use Rattle.std.specs.Prelude.{◌≡◌, Option, Result};
-ghost use Rattle.sat_formula.specs.Lines.{words_of};
+ghost use Rattle.std.specs.Prelude.{◌≡◌, IfOk, Option, Result};
 ghost use Rattle.lrat_text.specs.declared.number.Number.{Number};
 ghost use Rattle.lrat_text.specs.declared.fault.LineKind.{LineKind};
+ghost use Rattle.lrat_text.specs.Bytes.{IsLine, words_in};
 ghost use Rattle.lrat_text.specs.Items.{lit_said, hint_said, id_said, items_at};
 ghost use Rattle.lrat_text.specs.Reading.{ReadsAs};
 
 use crate::fault::{LineKind, Stop};
 use crate::line::Hint;
-use crate::number::{Number, split_number};
+use crate::number::{Number, any_number, short_number};
 use sat_formula::{Lit, Var};
 
 const MAX_VARIABLE: u64 = Var::MAX_COUNT as u64;
@@ -25,6 +25,7 @@ pub(crate) trait Item: Copy {
 impl Item for Lit {
     ghost said = { lit_said };
 
+    #[inline(always)]
     fn of(number: Number) -> Result<Option<Lit>, LineKind> {
         match number {
             Number::Exact { value: 0, .. } => Ok(None),
@@ -40,6 +41,7 @@ impl Item for Lit {
 impl Item for Hint {
     ghost said = { hint_said };
 
+    #[inline(always)]
     fn of(number: Number) -> Result<Option<Hint>, LineKind> {
         match number {
             Number::Exact { value: 0, .. } => Ok(None),
@@ -60,6 +62,7 @@ impl Item for Hint {
 impl Item for u64 {
     ghost said = { id_said };
 
+    #[inline(always)]
     fn of(number: Number) -> Result<Option<u64>, LineKind> {
         match number {
             Number::Exact { value: 0, .. } => Ok(None),
@@ -80,19 +83,30 @@ pub(crate) fn read_items<'a, T: Item>(
     short: LineKind,
     into: &mut Vec<T>,
 ) -> Result<&'a [u8], Stop>
-    ensures { ReadsAs (λ rest. (into.new.items, words_of rest.now))
-        (items_at T.said short (words_of bytes.now)) result }
+    requires { IsLine bytes.now }
+    ensures read { ReadsAs (λ rest. (into.new.items, words_in rest.now))
+        (items_at T.said short (words_in bytes.now)) result }
+    ensures line { IfOk result (λ rest. IsLine rest.now) }
 {
     into.clear();
     let mut rest = bytes;
     'words: loop {
-        let Some((number, after)) = split_number(rest) else {
+        // apart, since what a call answers in memory is set to zero before it
+        if let Some((number, after)) = short_number(rest) {
+            match T::of(number)? {
+                Some(item) => into.push(item)?,
+                None => return Ok(after),
+            }
+            rest = after;
+            continue;
+        }
+        let Some((number, after)) = any_number(rest) else {
             return Err(Stop::Wrong(short));
         };
-        rest = after;
         match T::of(number)? {
             Some(item) => into.push(item)?,
-            None => return Ok(rest),
+            None => return Ok(after),
         }
+        rest = after;
     }
 }

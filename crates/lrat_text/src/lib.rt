@@ -9,8 +9,6 @@ mod lines;
 mod number;
 mod reader;
 mod row;
-#[cfg(test)]
-mod tests;
 mod words;
 
 pub use fault::{LineKind, LratTextFault};

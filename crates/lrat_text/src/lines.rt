@@ -1,8 +1,8 @@
 //! The lines of a text, one after the other.
-ghost use Rattle.std.specs.Prelude.{◌≡◌, ◌<◌, ◌≤◌, ◌+◌, ◌-◌, ◌^◌, ◌++◌, ◌∷◌, [], Ok, IfSome, true, IsTrue, length, slice_index, take};
+ghost use Rattle.std.specs.Prelude.{◌≡◌, ◌<◌, ◌≤◌, ◌-◌, ◌^◌, ◌++◌, ◌∷◌, [], Ok, IfErr, IfSome, OnOk, true, IsTrue, length, take};
 ghost use Rattle.std.specs.Io.KnownBytes.{Consumes};
 ghost use Rattle.sat_formula.specs.Source.{is_limited};
-ghost use Rattle.lrat_text.specs.Bytes.{IsOpen};
+ghost use Rattle.lrat_text.specs.Bytes.{IsLine};
 
 use crate::fault::Stop;
 use memchr::memchr;
@@ -41,37 +41,38 @@ impl<R: Read> Lines<R> {
         self.source.error()
     }
 
-    /// The line that was taken last, without its LF.
+    /// The line that is held.
     pub(crate) fn held(&self) -> &[u8]
         ensures { result.now ≡ self.now.held.items }
     {
         &self.held
     }
 
-    /// The next line without its LF, where all of it stands ahead.
+    /// The next line with its LF, where all of it stands ahead.
     pub(crate) fn whole_ahead(&self) -> Option<&[u8]>
-        ensures open { IfSome result (λ line. IsOpen line.now) }
+        ensures line { IfSome result (λ line. IsLine line.now) }
         ensures ahead { IfSome result (λ line.
-            take (length line.now + 1) (ahead_of self.now.source) ≡ line.now ++ 10 ∷ []) }
-        ensures len { IfSome result (λ line. length line.now < length (ahead_of self.now.source)) }
+            take (length line.now) (ahead_of self.now.source) ≡ line.now) }
+        ensures len { IfSome result (λ line. length line.now ≤ length (ahead_of self.now.source)) }
     {
         let ahead = self.source.ahead();
         let len = memchr(b'\n', ahead)?;
-        Some(&ahead[..len])
+        Some(&ahead[..len + 1])
     }
 
-    /// Takes a line of this length, which stands ahead, and its LF.
+    /// Takes a line of this length, which stands ahead.
     pub(crate) fn take_line(&mut self, len: usize)
-        requires { len < length (ahead_of self.old.source) }
-        ensures bytes { let taken = take (len + 1) (ahead_of self.old.source) in
+        requires some { 0 < len }
+        requires ahead { len ≤ length (ahead_of self.old.source) }
+        ensures bytes { let taken = take len (ahead_of self.old.source) in
             let old = unread_lines R.remaining self.old in
             Consumes old (unread_lines R.remaining self.new) taken }
         ensures nearer { room_in self.new < room_in self.old }
     {
-        self.source.take_ahead(len + 1);
+        self.source.take_ahead(len);
     }
 
-    /// Takes the next line, and answers whether an LF ended it.
+    /// Takes the next line, holds it without its LF, and answers whether an LF ended it.
     pub(crate) fn hold(&mut self) -> Result<bool, Stop>
         ensures line { let old = unread_lines R.remaining self.old in
             let new = unread_lines R.remaining self.new in
@@ -89,5 +90,15 @@ impl<R: Read> Lines<R> {
                 Err(NoByte::OutOfMemory) => return Err(Stop::OutOfMemory),
             }
         }
+    }
+
+    /// Puts an LF behind the line that is held, whether it had one or not.
+    pub(crate) fn end_held(&mut self) -> Result<(), Stop>
+        ensures source { self.new.source ≡ self.old.source }
+        ensures ok { OnOk result (self.new.held.items ≡ self.old.held.items ++ 10 ∷ []) }
+        ensures err { IfErr result (λ stop. stop ≡ Stop.OutOfMemory) }
+    {
+        self.held.push(b'\n')?;
+        Ok(())
     }
 }

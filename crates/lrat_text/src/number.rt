@@ -1,12 +1,13 @@
 //! Numbers, by their words.
-ghost use Rattle.std.specs.Prelude.{◌≡◌, ◌==◌, ◌<◌, ◌^◌, [], length, IfSome, IfNone, ◌+◌, ◌*◌, ◌≤◌};
-ghost use Rattle.sat_formula.specs.Lines.{value_of, words_of};
+ghost use Rattle.std.specs.Prelude.{◌≡◌, ◌<◌, [], length, IfSome, IfNone, ◌+◌, ◌*◌};
+ghost use Rattle.sat_formula.specs.Lines.{value_of};
+ghost use Rattle.lrat_text.specs.Bytes.{IsLine, words_in};
 ghost use Rattle.lrat_text.specs.Numbers.{number_of, judged, capped};
 ghost use Rattle.lrat_text.specs.Grammar.{first_said};
 ghost use Rattle.lrat_text.specs.FirstNumbers.{HasDigits, IsDigitsWord, IsFirst};
 
 use crate::fault::LineKind;
-use crate::words::{is_blank, is_digit, skip_blanks, split_word};
+use crate::words::{ends_word, is_digit, skip_blanks, split_word};
 
 /// Words of fewer digits are read in one pass.
 const FEW_DIGITS: usize = 10;
@@ -84,25 +85,41 @@ fn with_digit(value: u64, digit: u8) -> Option<u64>
 /// The first word as a number, and what follows it.
 #[inline(always)]
 pub(crate) fn split_number(bytes: &[u8]) -> Option<(Number, &[u8])>
-    ensures first { IfSome result (λ r. IsFirst (words_of bytes.now) r.0 (words_of r.1.now)) }
+    requires { IsLine bytes.now }
+    ensures first { IfSome result (λ r. IsFirst (words_in bytes.now) r.0 (words_in r.1.now)) }
+    ensures line { IfSome result (λ r. IsLine r.1.now) }
     ensures shorter { IfSome result (λ r. length r.1.now < length bytes.now) }
-    ensures none { IfNone result (words_of bytes.now ≡ []) }
+    ensures none { IfNone result (words_in bytes.now ≡ []) }
 {
     if let Some(short) = short_number(bytes) {
         return Some(short);
     }
+    any_number(bytes)
+}
+
+/// The first word as a number, and what follows it, whatever stands there.
+#[inline(never)]
+pub(crate) fn any_number(bytes: &[u8]) -> Option<(Number, &[u8])>
+    requires { IsLine bytes.now }
+    ensures first { IfSome result (λ r. IsFirst (words_in bytes.now) r.0 (words_in r.1.now)) }
+    ensures line { IfSome result (λ r. IsLine r.1.now) }
+    ensures shorter { IfSome result (λ r. length r.1.now < length bytes.now) }
+    ensures none { IfNone result (words_in bytes.now ≡ []) }
+{
     let (word, rest) = split_word(bytes)?;
     Some((Number::of(word), skip_blanks(rest)))
 }
 
 /// The first number and what is after it, in one pass, where the bytes begin with few digits.
 #[inline(always)]
-fn short_number(bytes: &[u8]) -> Option<(Number, &[u8])>
-    ensures first { IfSome result (λ r. IsFirst (words_of bytes.now) r.0 (words_of r.1.now)) }
+pub(crate) fn short_number(bytes: &[u8]) -> Option<(Number, &[u8])>
+    requires { IsLine bytes.now }
+    ensures first { IfSome result (λ r. IsFirst (words_in bytes.now) r.0 (words_in r.1.now)) }
+    ensures line { IfSome result (λ r. IsLine r.1.now) }
     ensures shorter { IfSome result (λ r. length r.1.now < length bytes.now) }
 {
-    if let Some((b'-', digits)) = bytes.split_first() {
-        let (value, rest) = digits_word(digits)?;
+    if bytes[0] == b'-' {
+        let (value, rest) = digits_word(&bytes[1..])?;
         if value == 0 {
             return None;
         }
@@ -114,48 +131,38 @@ fn short_number(bytes: &[u8]) -> Option<(Number, &[u8])>
     Some((Number::Exact { negative, value }, rest))
 }
 
-/// The value of a word of few digits in front, and what follows it and its blank.
+/// The value of a word of few digits in front, and what follows it. A space after it is passed
+/// over.
 #[inline(always)]
 fn digits_word(bytes: &[u8]) -> Option<(u64, &[u8])>
+    requires { IsLine bytes.now }
     ensures { IfSome result (λ r. IsDigitsWord bytes.now r.0 r.1.now) }
 {
     let (value, len) = leading_digits(bytes);
     if len == 0 {
         return None;
     }
-    if len == bytes.len() {
-        return Some((value, &bytes[len..]));
+    let end = bytes[len];
+    if end == b' ' {
+        return Some((value, &bytes[len + 1..]));
     }
-    if !is_blank(bytes[len]) {
+    if !ends_word(end) {
         return None;
     }
-    Some((value, &bytes[len + 1..]))
+    Some((value, &bytes[len..]))
 }
 
-/// The value of the digits in front, at most ten, and how many they are.
+/// The value of the digits in front, at most ten, and how many they are. The bound is a constant,
+/// so no count is kept, and the LF ends them, so no length is compared.
 #[inline(always)]
 fn leading_digits(bytes: &[u8]) -> (u64, usize)
-    ensures { HasDigits bytes.now result.1 result.0 }
-{
-    if bytes.len() < FEW_DIGITS {
-        digits_up_to(bytes, bytes.len())
-    } else {
-        digits_up_to(bytes, FEW_DIGITS)
-    }
-}
-
-/// The value of the digits before a place, and how many they are. Where the place is a constant, no
-/// count is kept.
-#[inline(always)]
-fn digits_up_to(bytes: &[u8], place: usize) -> (u64, usize)
-    requires few { place ≤ 18 }
-    requires within { place ≤ length bytes.now }
+    requires { IsLine bytes.now }
     ensures { HasDigits bytes.now result.1 result.0 }
 {
     let mut value = 0u64;
     let mut len = 0;
-    'digits: while len < place && is_digit(bytes[len]) {
-        value = value * 10 + (bytes[len] - b'0') as u64;
+    'digits: while len < FEW_DIGITS && is_digit(bytes[len]) {
+        value = value * 10 + (bytes[len] as u64 - b'0' as u64);
         len += 1;
     }
     (value, len)

@@ -118,6 +118,7 @@ impl<R: Read> LineReader<R> {
         } else {
             LineKind::Unfinished
         };
+        self.lines.end_held()?;
         self.row.read(self.lines.held(), short)
     }
 

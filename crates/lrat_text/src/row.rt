@@ -1,13 +1,13 @@
 //! A line, read into lists.
 ghost use Rattle.std.specs.Prelude.{◌≡◌, [], Err, OnOk, IfErr};
 ghost use Rattle.lrat_rules.specs.Lines.{Line};
-ghost use Rattle.sat_formula.specs.Lines.{words_of};
+ghost use Rattle.lrat_text.specs.Bytes.{IsLine, words_in};
 ghost use Rattle.lrat_text.specs.Grammar.{alone};
 
 use crate::fault::{LineKind, Stop};
 use crate::items::read_items;
 use crate::line::{Hint, LratLine};
-use crate::number::Number;
+use crate::number::split_number;
 use crate::words::{skip_blanks, split_word};
 use sat_formula::Lit;
 use std::alloc::Global;
@@ -57,27 +57,43 @@ impl Row {
     /// Reads a line of these bytes, if it says anything. `short` is the fault of a line that ends
     /// before its last 0.
     pub(crate) fn read(&mut self, bytes: &[u8], short: LineKind) -> Result<Option<Head>, Stop>
-        ensures { ReadsAs (line_if self.new) (says short (words_of bytes.now)) result }
+        requires { IsLine bytes.now }
+        ensures { ReadsAs (line_if self.new) (says short (words_in bytes.now)) result }
     {
-        let Some((word, rest)) = split_word(bytes) else {
-            return Ok(None);
-        };
-        if word.starts_with(b"c") {
+        let words = skip_blanks(bytes);
+        if words[0] == b'c' {
             return Ok(None);
         }
-        let id = Number::of(word).first()?;
-        let head = self.after_id(skip_blanks(rest), short, id)?;
+        let Some((number, rest)) = split_number(words) else {
+            return Ok(None);
+        };
+        let id = number.first()?;
+        let head = self.after_id(rest, short, id)?;
         Ok(Some(head))
     }
 
     fn after_id(&mut self, bytes: &[u8], short: LineKind, id: u64) -> Result<Head, Stop>
-        ensures { ReadsAs (line_of self.new) (after_id short id (words_of bytes.now)) result }
+        requires { IsLine bytes.now }
+        ensures { ReadsAs (line_of self.new) (after_id short id (words_in bytes.now)) result }
+    {
+        let words = skip_blanks(bytes);
+        if id != 0 && words[0] != b'd' {
+            // its first word is read once, as a literal
+            return self.clause(words, short, id);
+        }
+        self.after_word(words, short, id)
+    }
+
+    /// Reads what follows an id, by its first word.
+    fn after_word(&mut self, bytes: &[u8], short: LineKind, id: u64) -> Result<Head, Stop>
+        requires { IsLine bytes.now }
+        ensures { ReadsAs (line_of self.new) (after_id short id (words_in bytes.now)) result }
     {
         let Some((word, rest)) = split_word(bytes) else {
             return Err(Stop::Wrong(short));
         };
         if word == b"d".as_slice() {
-            return self.deletion(rest, short);
+            return self.deletion(skip_blanks(rest), short);
         }
         if id == 0 {
             return Err(Stop::Wrong(LineKind::Malformed));
@@ -86,7 +102,8 @@ impl Row {
     }
 
     fn deletion(&mut self, bytes: &[u8], short: LineKind) -> Result<Head, Stop>
-        ensures { ReadsAs (line_of self.new) (deletion_at short (words_of bytes.now)) result }
+        requires { IsLine bytes.now }
+        ensures { ReadsAs (line_of self.new) (deletion_at short (words_in bytes.now)) result }
     {
         let rest = read_items(bytes, short, &mut self.ids)?;
         end(rest)?;
@@ -94,7 +111,8 @@ impl Row {
     }
 
     fn clause(&mut self, bytes: &[u8], short: LineKind, id: u64) -> Result<Head, Stop>
-        ensures { ReadsAs (line_of self.new) (clause_at short id (words_of bytes.now)) result }
+        requires { IsLine bytes.now }
+        ensures { ReadsAs (line_of self.new) (clause_at short id (words_in bytes.now)) result }
     {
         let after_lits = read_items(bytes, short, &mut self.lits)?;
         let rest = read_items(after_lits, short, &mut self.hints)?;
@@ -105,9 +123,10 @@ impl Row {
 
 /// Nothing but blanks follows a line's last 0.
 fn end(bytes: &[u8]) -> Result<(), LineKind>
-    ensures ok { OnOk result (words_of bytes.now ≡ []) }
+    requires { IsLine bytes.now }
+    ensures ok { OnOk result (words_in bytes.now ≡ []) }
     ensures err { IfErr result (λ kind. (line : Line)
-        → alone line (words_of bytes.now) ≡ Err kind) }
+        → alone line (words_in bytes.now) ≡ Err kind) }
 {
     match split_word(bytes) {
         None => Ok(()),

@@ -1,13 +1,21 @@
-//! The words of a line: what stands between blanks.
+//! The words of a line: what stands between blanks, up to the LF.
 ghost use Rattle.std.specs.Prelude.{◌≡◌, ℕ, ◌<◌, ◌≤◌, ◌∷◌, [], length, slice_index, true, false, IfSome, IfNone};
 ghost use Rattle.sat_formula.specs.Bytes.{is_blank, is_digit};
-ghost use Rattle.sat_formula.specs.Lines.{words_of};
+ghost use Rattle.lrat_text.specs.Bytes.{IsLine, ends_word, words_in};
 
 #[inline(always)]
 pub(crate) fn is_blank(byte: u8) -> bool
     ensures { result ≡ is_blank byte }
 {
     byte == b' ' || byte == b'\t' || byte == b'\r'
+}
+
+/// Whether the byte is a blank or an LF. One comparison tells most bytes of a word.
+#[inline(always)]
+pub(crate) fn ends_word(byte: u8) -> bool
+    ensures { result ≡ ends_word byte }
+{
+    byte <= b' ' && (is_blank(byte) || byte == b'\n')
 }
 
 #[inline(always)]
@@ -19,39 +27,44 @@ pub(crate) fn is_digit(byte: u8) -> bool
 
 /// The first word, and what follows it.
 pub(crate) fn split_word(bytes: &[u8]) -> Option<(&[u8], &[u8])>
-    ensures word { IfSome result (λ r. words_of bytes.now ≡ r.0.now ∷ words_of r.1.now) }
+    requires { IsLine bytes.now }
+    ensures word { IfSome result (λ r. words_in bytes.now ≡ r.0.now ∷ words_in r.1.now) }
+    ensures line { IfSome result (λ r. IsLine r.1.now) }
     ensures shorter { IfSome result (λ r. length r.1.now < length bytes.now) }
-    ensures none { IfNone result (words_of bytes.now ≡ []) }
+    ensures none { IfNone result (words_in bytes.now ≡ []) }
 {
     let word = skip_blanks(bytes);
-    if word.is_empty() {
+    let len = word_len(word);
+    if len == 0 {
         return None;
     }
-    let len = word_len(word);
     Some((&word[..len], &word[len..]))
 }
 
-/// What follows the blanks in front.
+/// What follows the blanks in front. The LF ends it, so no length is compared.
 pub(crate) fn skip_blanks(bytes: &[u8]) -> &[u8]
-    ensures words { words_of result.now ≡ words_of bytes.now }
+    requires { IsLine bytes.now }
+    ensures line { IsLine result.now }
+    ensures words { words_in result.now ≡ words_in bytes.now }
     ensures len { length result.now ≤ length bytes.now }
-    ensures word { 0 < length result.now → is_blank (slice_index result.now 0) ≡ false }
+    ensures word { is_blank (slice_index result.now 0) ≡ false }
 {
     let mut rest = bytes;
-    'blanks: while rest.len() > 0 && is_blank(rest[0]) {
+    'blanks: while is_blank(rest[0]) {
         rest = &rest[1..];
     }
     rest
 }
 
-/// How many bytes stand before the first blank.
+/// How many bytes stand before the first blank or the LF.
 fn word_len(bytes: &[u8]) -> usize
-    ensures len { result ≤ length bytes.now }
-    ensures word { (k : ℕ) → k < result → is_blank (slice_index bytes.now k) ≡ false }
-    ensures end { result < length bytes.now → is_blank (slice_index bytes.now result) ≡ true }
+    requires { IsLine bytes.now }
+    ensures len { result < length bytes.now }
+    ensures word { (k : ℕ) → k < result → ends_word (slice_index bytes.now k) ≡ false }
+    ensures end { ends_word (slice_index bytes.now result) ≡ true }
 {
     let mut len = 0;
-    'bytes: while len < bytes.len() && !is_blank(bytes[len]) {
+    'bytes: while !ends_word(bytes[len]) {
         len += 1;
     }
     len

@@ -10,8 +10,6 @@ mod holding;
 mod run;
 mod status;
 mod steps;
-#[cfg(test)]
-mod tests;
 mod width;
 
 pub use fault::{ConvertFault, LineCause};

@@ -8,8 +8,6 @@ mod line;
 mod run;
 mod seeking;
 mod status;
-#[cfg(test)]
-mod tests;
 mod verdict;
 
 pub use fault::RunFault;

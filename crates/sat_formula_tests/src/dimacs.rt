@@ -1,32 +1,10 @@
 //! Worked texts over readers of any cut, and reads that fail.
 use sat_formula::{DimacsFault, DimacsReader, Lit};
 use std::alloc::Global;
-use std::io;
-use std::io::{ErrorKind, Read};
+use std::io::Read;
 use std::process::Abort;
 use std::test::Fail;
-
-/// So many bytes a read, and a failure at the read of this number, counted from 1.
-#[derive(Drop)]
-struct Pieces<'a> {
-    text: &'a [u8],
-    size: usize,
-    reads: usize,
-    fails_at: usize,
-}
-
-impl Read for Pieces<'_> {
-    fn read(&mut self, buf: &mut [u8]) -> io::Result<usize> {
-        self.reads = self.reads.saturating_add(1);
-        if self.reads == self.fails_at {
-            return Err(io::Error::new(ErrorKind::Interrupted, "broken"));
-        }
-        let count = self.size.min(buf.len()).min(self.text.len());
-        buf[..count].copy_from_slice(&self.text[..count]);
-        self.text = &self.text[count..];
-        Ok(count)
-    }
-}
+use test_streams::Pieces;
 
 /// Each clause by its numbers, the text of a fault and how many literals it left, to the end.
 fn shown<R: Read + Drop>(alloc: Global, inner: R) -> Result<String, Fail> {
@@ -150,12 +128,7 @@ fn is_shown(
     size: usize,
     read: usize,
 ) -> Result<(), Fail> {
-    let pieces = Pieces {
-        text,
-        size,
-        reads: 0,
-        fails_at: read.saturating_add(1),
-    };
+    let pieces = Pieces::failing_at(text, size, read.saturating_add(1));
     let seen = shown(alloc, pieces)?;
     let wanted = expected(alloc, answers, read)?;
     assert_eq!(rt; seen, wanted, "by {size} bytes, {read} read");

@@ -1,12 +1,8 @@
-//! What no clause of `sat_hints` and `hint_checker` says, as tests: worked texts and worked steps,
-//! what is refused, and texts of faults.
+//! What no clause of `sat_hints` says, as tests: worked steps, what is refused, and texts of
+//! faults.
 //!
-//! They stand apart so that the libraries are not proved a second time with them.
+//! They stand apart so that the library is not proved a second time with them.
 #![tactic(auto)]
 
-#[cfg(test)]
-mod answers;
-#[cfg(test)]
-mod malformed_lines;
 #[cfg(test)]
 mod writer;

@@ -9,8 +9,6 @@ mod formula;
 #[cfg(test)]
 mod four_clauses;
 #[cfg(test)]
-mod hints;
-#[cfg(test)]
 mod library;
 #[cfg(test)]
 mod lrat;

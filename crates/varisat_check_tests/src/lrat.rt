@@ -1,20 +1,26 @@
 //! Runs that a writer of hints writes, and what a checker of hints says of them.
 use crate::four_clauses::{FIRST_MISSING, FOUR, HASHES, WIDTH_1, proof_of_four};
-use crate::outcomes::{is_answered, refused};
-use crate::streams::{Full, byte_by_byte};
+use crate::outcomes::{NOT_SHOWN, Outcome, SHOWN, has_outcome};
+use hint_checker::HintFault;
 use log::sink::Discard;
 use proof_bytes::{ProofStep, write_step};
-use sat_formula::{CnfFormula, Lit};
+use sat_formula::{CnfFormula, Lit, read_formula};
 use sat_hints::{HintChecker, LratWriter};
-use std::alloc::Global;
-use std::io::Read;
+use std::alloc::{AllocError, Global};
 use std::process::Abort;
 use std::test::Fail;
-use varisat_check::{RunFault, Verdict, read_formula, run_lrat};
+use test_streams::{Full, Pieces};
+use varisat_check::{RunFault, Verdict, run_lrat};
 
-/// The text of a formula, a proof, what is written, the verdict, and what a checker of hints
+/// The text of a formula, a proof, what is written, the outcome, and what a checker of hints
 /// answers to the text.
-type Row<'a> = (&'a str, &'a [u8], &'a str, Verdict, bool);
+type Row = (
+    &'static str,
+    &'static [u8],
+    &'static str,
+    Outcome<'static>,
+    bool,
+);
 
 const UNITS: &str = "1 0\n-1 0\n";
 
@@ -34,90 +40,102 @@ const MARKED: [u8; 44] = [
     0xFE, 0xD7, 0x66, 0x7E, 0x08, 0xBD, 0x03, 0x9D, 0x74, 0x9F, 0xC4, 0x0D,
 ];
 
-fn formula(alloc: Global, cnf: &str) -> Result<CnfFormula, Fail> {
-    match read_formula(alloc, cnf.as_bytes()) {
-        Ok(formula) => Ok(formula),
-        Err(_) => Err("no formula".into()),
-    }
-}
+const RUNS: [Row; 7] = [
+    (FOUR, &WIDTH_1, LINES, SHOWN, true),
+    (FOUR, &WIDTH_1_MARKED, LINES, SHOWN, true),
+    (FOUR, &MARKED, LINES, SHOWN, true),
+    (UNITS, &[0x0D], "5 0 1 2 0\n", SHOWN, true),
+    ("0", &[0x0D], "", SHOWN, false),
+    // the conflict is closed before the variable goes
+    (
+        UNITS,
+        &[0x03, 0x00, 0x0D],
+        "5 0 1 2 0\n5 d 1 0\n",
+        SHOWN,
+        true,
+    ),
+    ("1 0", &[0x0D], "", NOT_SHOWN, false),
+];
 
-/// Runs over a formula and a proof, and tries what was written.
-fn is_written<R: Read + Drop>(alloc: Global, proof: R, row: &Row<'_>) -> Result<bool, Fail> {
-    let &(cnf, _, text, verdict, answer) = row;
-    let line = format!(in alloc; "{verdict}\n")?;
-    let formula = formula(alloc, cnf)?;
-    let writer = LratWriter::new(alloc, formula.len() as u64);
+/// Runs with a writer for so many clauses: the outcome and what is written as hints.
+fn is_written(
+    rt: &impl Abort,
+    alloc: Global,
+    (formula, announced): (&CnfFormula, u64),
+    proof: Pieces<'_>,
+    (lines, outcome): (&str, Outcome<'_>),
+) -> Result<(), AllocError> {
     let (mut out, mut lrat) = (Vec::new(alloc), Vec::new(alloc));
-    let Ok((found, _)) = run_lrat(
-        &Discard, alloc, &formula, writer, proof, &mut out, &mut lrat,
-    ) else {
-        return Ok(false);
-    };
-    if found != verdict || out.as_slice() != line.as_bytes() || lrat.as_slice() != text.as_bytes() {
-        return Ok(false);
-    }
-    is_accepted(alloc, &formula, &lrat, answer)
+    let writer = LratWriter::new(alloc, announced);
+    let answer = run_lrat(&Discard, alloc, formula, writer, proof, &mut out, &mut lrat);
+    assert_eq!(rt; lrat.as_slice(), lines.as_bytes());
+    has_outcome(rt, alloc, verdict_of(answer), &out, outcome)
 }
 
-/// Whether a checker of hints answers so.
+fn verdict_of(answer: Result<(Verdict, LratWriter), RunFault>) -> Result<Verdict, RunFault> {
+    match answer {
+        Ok((verdict, _)) => Ok(verdict),
+        Err(fault) => Err(fault),
+    }
+}
+
+/// A checker of hints answers so.
 fn is_accepted(
+    rt: &impl Abort,
     alloc: Global,
     formula: &CnfFormula,
-    lrat: &[u8],
+    lines: &str,
     answer: bool,
-) -> Result<bool, Fail> {
+) -> Result<(), HintFault> {
     let mut checker = HintChecker::new(alloc, formula)?;
-    Ok(checker.check(lrat) == Ok(answer))
+    assert_eq!(rt; checker.check(lines.as_bytes()), Ok(answer));
+    Ok(())
 }
 
-#[test]
-fn runs_and_their_lines(rt: HostRuntime) -> Result<(), Fail> {
-    let alloc = rt.alloc();
-    let proof = proof_of_four(alloc)?;
-    let rows: [Row<'_>; 8] = [
-        (FOUR, &proof, LINES, Verdict::Unsatisfiable, true),
-        (FOUR, &WIDTH_1, LINES, Verdict::Unsatisfiable, true),
-        (FOUR, &WIDTH_1_MARKED, LINES, Verdict::Unsatisfiable, true),
-        (FOUR, &MARKED, LINES, Verdict::Unsatisfiable, true),
-        (UNITS, &[0x0D], "5 0 1 2 0\n", Verdict::Unsatisfiable, true),
-        ("0", &[0x0D], "", Verdict::Unsatisfiable, false),
-        // the conflict is closed before the variable goes
-        (
-            UNITS,
-            &[0x03, 0x00, 0x0D],
-            "5 0 1 2 0\n5 d 1 0\n",
-            Verdict::Unsatisfiable,
-            true,
-        ),
-        ("1 0", &[0x0D], "", Verdict::NotShown, false),
-    ];
-    for (number, row) in rows.iter().enumerate() {
-        assert!(rt; is_written(alloc, row.1, row)?, "run {number}");
-        assert!(rt;
-            is_written(alloc, byte_by_byte(row.1), row)?,
-            "run {number}, byte by byte"
-        );
+/// The proof is read at once and byte by byte.
+fn is_cut(
+    rt: &impl Abort,
+    alloc: Global,
+    (formula, announced): (&CnfFormula, u64),
+    proof: &[u8],
+    (lines, outcome): (&str, Outcome<'_>),
+) -> Result<(), AllocError> {
+    for size in [usize::MAX, 1] {
+        let proof = Pieces::of_size(proof, size);
+        is_written(rt, alloc, (formula, announced), proof, (lines, outcome))?;
     }
     Ok(())
 }
 
-/// A formula with a writer for so many clauses, where the proof is not accepted.
-fn is_refused<R: Read + Drop>(
+fn holds(
     rt: &impl Abort,
     alloc: Global,
-    (cnf, announced): (&str, u64),
-    proof: R,
-    text: &str,
+    proof: &[u8],
+    (cnf, _, lines, outcome, answer): &Row,
 ) -> Result<(), Fail> {
-    let formula = formula(alloc, cnf)?;
-    let writer = LratWriter::new(alloc, announced);
-    let (mut out, mut lrat) = (Vec::new(alloc), Vec::new(alloc));
-    let answer = run_lrat(
-        &Discard, alloc, &formula, writer, proof, &mut out, &mut lrat,
-    );
-    assert!(rt; lrat.is_empty());
-    let answer = answer.map(|(verdict, _)| verdict);
-    is_answered(rt, alloc, answer, &out, refused(text))
+    let formula = read_formula(alloc, cnf.as_bytes())?;
+    let announced = formula.len() as u64;
+    is_cut(rt, alloc, (&formula, announced), proof, (*lines, *outcome))?;
+    is_accepted(rt, alloc, &formula, lines, *answer)?;
+    Ok(())
+}
+
+fn hold(rt: &impl Abort, alloc: Global, rows: &[Row]) -> Result<(), Fail> {
+    for row in rows {
+        holds(rt, alloc, row.1, row)?;
+    }
+    Ok(())
+}
+
+#[test]
+fn runs_and_their_lines(rt: HostRuntime) -> Result<(), Fail> {
+    hold(&rt, rt.alloc(), &RUNS)
+}
+
+#[test]
+fn run_with_whole_hashes(rt: HostRuntime) -> Result<(), Fail> {
+    let proof = proof_of_four(rt.alloc())?;
+    holds(&rt, rt.alloc(), &proof, &(FOUR, b"", LINES, SHOWN, true))
 }
 
 /// A derived clause, and an input clause after it.
@@ -135,60 +153,110 @@ fn late_input(alloc: Global) -> Result<Vec<u8>, Fail> {
     Ok(proof)
 }
 
+/// A formula with a writer for so many clauses, where the proof is not accepted: no hints are
+/// written.
+fn is_refused(
+    rt: &impl Abort,
+    alloc: Global,
+    (cnf, announced): (&str, u64),
+    proof: &[u8],
+    text: &str,
+) -> Result<(), Fail> {
+    let formula = read_formula(alloc, cnf.as_bytes())?;
+    is_cut(rt, alloc, (&formula, announced), proof, ("", ("", text, 1)))?;
+    Ok(())
+}
+
+/// A formula, for how many clauses the writer is, a proof, and the text of the fault.
+type Refusal = (&'static str, u64, &'static [u8], &'static str);
+
+const REFUSED: [Refusal; 2] = [
+    (
+        UNITS,
+        1,
+        &[0x0D],
+        "Error in proof processor: more input clauses than announced",
+    ),
+    (
+        UNITS,
+        u64::MAX,
+        &[0x0D],
+        "Error in proof processor: clause number out of range",
+    ),
+];
+
+fn are_refused(rt: &impl Abort, alloc: Global, rows: &[Refusal]) -> Result<(), Fail> {
+    for (cnf, announced, proof, text) in rows {
+        is_refused(rt, alloc, (*cnf, *announced), proof, text)?;
+    }
+    Ok(())
+}
+
 #[test]
 fn faults_of_the_writer(rt: HostRuntime) -> Result<(), Fail> {
-    let alloc = rt.alloc();
-    let late = late_input(alloc)?;
-    let rows: [((&str, u64), &[u8], &str); 3] = [
-        (
-            (UNITS, 1),
-            &[0x0D],
-            "Error in proof processor: more input clauses than announced",
-        ),
-        (
-            (FOUR, 9),
-            &late,
-            "Error in proof processor: input clause after a derived clause",
-        ),
-        (
-            (UNITS, u64::MAX),
-            &[0x0D],
-            "Error in proof processor: clause number out of range",
-        ),
-    ];
-    for (formula, proof, text) in rows {
-        is_refused(&rt, alloc, formula, proof, text)?;
+    are_refused(&rt, rt.alloc(), &REFUSED)
+}
+
+#[test]
+fn late_input_clause(rt: HostRuntime) -> Result<(), Fail> {
+    let late = late_input(rt.alloc())?;
+    let text = "Error in proof processor: input clause after a derived clause";
+    is_refused(&rt, rt.alloc(), (FOUR, 9), &late, text)
+}
+
+fn are_incomplete(rt: &impl Abort, alloc: Global) -> Result<(), Fail> {
+    for (len, step) in FIRST_MISSING.iter().enumerate() {
+        let text = format!(in alloc; "step {step}: Unexpected end of proof file")?;
+        is_refused(rt, alloc, (FOUR, 4), &WIDTH_1[..len], &text)?;
     }
     Ok(())
 }
 
 #[test]
 fn no_beginning_of_a_proof_is_written(rt: HostRuntime) -> Result<(), Fail> {
-    let alloc = rt.alloc();
-    for (len, step) in FIRST_MISSING.iter().enumerate() {
-        let proof = &WIDTH_1[..len];
-        let text = format!(in alloc; "step {step}: Unexpected end of proof file")?;
-        is_refused(&rt, alloc, (FOUR, 4), proof, &text)?;
-        is_refused(&rt, alloc, (FOUR, 4), byte_by_byte(proof), &text)?;
-    }
-    Ok(())
+    are_incomplete(&rt, rt.alloc())
+}
+
+/// Where there is no room for hints, no line is written.
+fn has_no_room(rt: &impl Abort, alloc: Global, formula: &CnfFormula) {
+    let mut out = Vec::new(alloc);
+    let writer = LratWriter::new(alloc, 2);
+    let end = b"\x0D".as_slice();
+    let answer = run_lrat(
+        &Discard,
+        alloc,
+        formula,
+        writer,
+        end,
+        &mut out,
+        &mut Full::after(0),
+    );
+    assert!(rt; matches!(&answer, Err(RunFault::Write(_))));
+    assert!(rt; out.is_empty());
+}
+
+/// Where there is no room for the line, the hints are written.
+fn has_no_room_for_its_line(rt: &impl Abort, alloc: Global, formula: &CnfFormula) {
+    let mut lrat = Vec::new(alloc);
+    let writer = LratWriter::new(alloc, 2);
+    let end = b"\x0D".as_slice();
+    let answer = run_lrat(
+        &Discard,
+        alloc,
+        formula,
+        writer,
+        end,
+        &mut Full::after(0),
+        &mut lrat,
+    );
+    assert!(rt; matches!(&answer, Err(RunFault::Write(_))));
+    assert_eq!(rt; lrat.as_slice(), b"5 0 1 2 0\n".as_slice());
 }
 
 #[test]
 fn outputs_that_cannot_be_written(rt: HostRuntime) -> Result<(), Fail> {
-    let alloc = rt.alloc();
-    let end: &[u8] = &[0x0D];
-    let formula = formula(alloc, UNITS)?;
-    let mut out = Vec::new(alloc);
-    let writer = LratWriter::new(alloc, 2);
-    let answer = run_lrat(&Discard, alloc, &formula, writer, end, &mut out, &mut Full);
-    assert!(rt; matches!(&answer, Err(RunFault::Write(_))));
-    assert!(rt; out.is_empty());
-
-    let mut lrat = Vec::new(alloc);
-    let writer = LratWriter::new(alloc, 2);
-    let answer = run_lrat(&Discard, alloc, &formula, writer, end, &mut Full, &mut lrat);
-    assert!(rt; matches!(&answer, Err(RunFault::Write(_))));
-    assert_eq!(rt; lrat.as_slice(), b"5 0 1 2 0\n".as_slice());
+    let formula = read_formula(rt.alloc(), UNITS.as_bytes())?;
+    has_no_room(&rt, rt.alloc(), &formula);
+    has_no_room_for_its_line(&rt, rt.alloc(), &formula);
     Ok(())
 }

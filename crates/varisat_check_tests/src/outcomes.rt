@@ -1,47 +1,39 @@
 //! What runs over a proof answer and write.
-use std::alloc::Global;
+use std::alloc::{AllocError, Global};
 use std::process::Abort;
-use std::test::Fail;
 use varisat_check::{RunFault, Verdict, exit_status};
 
-/// What a run answers: its verdict or the text of its fault, what it wrote, and its exit status.
-pub type Outcome<'a> = (Result<Verdict, &'a str>, &'a str, u8);
+/// What a run writes, the text of its fault, and its exit status.
+pub type Outcome<'a> = (&'a str, &'a str, u8);
 
 /// The formula is unsatisfiable.
-pub const SHOWN: Outcome<'static> = (Ok(Verdict::Unsatisfiable), "s UNSATISFIABLE\n", 0);
+pub const SHOWN: Outcome<'static> = ("s UNSATISFIABLE\n", "", 0);
 
 /// It is with one clause that the proof added.
-pub const WITH_ONE_ADDED: Outcome<'static> = (
-    Ok(Verdict::UnsatisfiableWithAdded(1)),
-    "s UNSATISFIABLE WITH 1 ADDED CLAUSES\n",
-    3,
-);
+pub const WITH_ONE_ADDED: Outcome<'static> = ("s UNSATISFIABLE WITH 1 ADDED CLAUSES\n", "", 3);
 
 /// The proof was accepted, and shows nothing.
-pub const NOT_SHOWN: Outcome<'static> = (Ok(Verdict::NotShown), "s NOT SHOWN\n", 3);
+pub const NOT_SHOWN: Outcome<'static> = ("s NOT SHOWN\n", "", 3);
 
-/// The formula or the proof is refused, and nothing is written.
-pub fn refused(text: &str) -> Outcome<'_> {
-    (Err(text), "", 1)
+/// The text of a fault, and of a verdict none.
+fn fault_text(alloc: Global, answer: Result<Verdict, RunFault>) -> Result<String, AllocError> {
+    match answer {
+        Ok(_) => Ok(String::new(alloc)),
+        Err(fault) => fault.to_string(alloc),
+    }
 }
 
-/// The answer, what was written and the exit status are those of the outcome.
-pub fn is_answered(
+/// What was written, the exit status and the text of the fault are those of the outcome.
+pub fn has_outcome(
     rt: &impl Abort,
     alloc: Global,
     answer: Result<Verdict, RunFault>,
     written: &[u8],
-    (verdict, line, status): Outcome<'_>,
-) -> Result<(), Fail> {
-    assert_eq!(rt; exit_status(&answer), status);
+    (line, fault, status): Outcome<'_>,
+) -> Result<(), AllocError> {
     assert_eq!(rt; written, line.as_bytes());
-    match (answer, verdict) {
-        (Ok(found), Ok(expected)) => assert_eq!(rt; found, expected),
-        (Err(fault), Err(text)) => {
-            assert_eq!(rt; format!(in alloc; "{fault}")?.as_str(), text);
-        }
-        (Ok(_), Err(text)) => return Err(text.into()),
-        (Err(_), Ok(_)) => return Err("refused".into()),
-    }
+    assert_eq!(rt; exit_status(&answer), status);
+    let said = fault_text(alloc, answer)?;
+    assert_eq!(rt; said.as_str(), fault);
     Ok(())
 }

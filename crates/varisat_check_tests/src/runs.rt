@@ -1,199 +1,235 @@
 //! Runs with their verdicts, lines and statuses, texts of faults, and readers and writers that
 //! fail.
 use crate::four_clauses::{FIRST_MISSING, FOUR, WIDTH_1, proof_of_four};
-use crate::outcomes::{NOT_SHOWN, Outcome, SHOWN, WITH_ONE_ADDED, is_answered, refused};
-use crate::streams::{Counting, Full, broken, byte_by_byte};
+use crate::outcomes::{NOT_SHOWN, Outcome, SHOWN, WITH_ONE_ADDED, has_outcome};
+use crate::streams::Counting;
 use checker_parts::error::CheckerError;
 use log::sink::Discard;
-use sat_formula::Lit;
-use std::alloc::Global;
-use std::io;
-use std::io::{ErrorKind, Read};
+use sat_formula::{CnfFormula, read_formula};
+use std::alloc::{AllocError, Global};
+use std::io::ErrorKind;
 use std::process::Abort;
 use std::test::Fail;
+use test_streams::{Full, Pieces};
 use varisat_check::{RunFault, run_check, run_proof};
 use varisat_checker::Checker;
 
-/// A formula and a proof.
-fn check<F: Read + Drop, P: Read + Drop>(
+const UNITS: &[u8] = b"1 0\n-1 0\n";
+
+const END: &[u8] = b"\x0D";
+
+/// A formula and a proof with what is answered.
+type Row = (&'static [u8], &'static [u8], Outcome<'static>);
+
+const RUNS: [Row; 11] = [
+    (b"1 0", b"\x05\x00\x0D", WITH_ONE_ADDED),
+    (UNITS, END, SHOWN),
+    (b"1 0", END, NOT_SHOWN),
+    // texts of refusals
+    (b"1 0\n2 x 0", END, ("", "line 2: bad number", 1)),
+    (b"1 2", END, ("", "line 1: unterminated clause", 1)),
+    (b"p cnf 1\n", END, ("", "line 1: bad header", 1)),
+    (b"1 0\np cnf 1 1\n", END, ("", "line 2: late header", 1)),
+    (b"268435457 0", END, ("", "line 1: variable too large", 1)),
+    (b"1 0", b"", ("", "step 1: Unexpected end of proof file", 1)),
+    (
+        b"1 0",
+        b"\x0E",
+        (
+            "",
+            "step 1: Could not parse proof step: unknown step tag",
+            1,
+        ),
+    ),
+    (
+        b"1 2 0",
+        b"\x06\x00\x00\x00",
+        ("", "step 1: Checking proof failed: AT check failed", 1),
+    ),
+];
+
+fn is_answered(
     rt: &impl Abort,
     alloc: Global,
-    cnf: F,
-    proof: P,
-    expected: Outcome<'_>,
-) -> Result<(), Fail> {
+    cnf: Pieces<'_>,
+    proof: Pieces<'_>,
+    outcome: Outcome<'_>,
+) -> Result<(), AllocError> {
     let mut out = Vec::new(alloc);
     let answer = run_check(&Discard, alloc, cnf, proof, &mut out);
-    is_answered(rt, alloc, answer, &out, expected)
+    has_outcome(rt, alloc, answer, &out, outcome)
 }
 
-/// A checker with these units, and then one proof after the other.
+fn are_answered(rt: &impl Abort, alloc: Global, rows: &[Row]) -> Result<(), AllocError> {
+    for (cnf, proof, outcome) in rows {
+        is_answered(
+            rt,
+            alloc,
+            Pieces::whole(cnf),
+            Pieces::whole(proof),
+            *outcome,
+        )?;
+    }
+    Ok(())
+}
+
+#[test]
+fn runs(rt: HostRuntime) -> Result<(), Fail> {
+    are_answered(&rt, rt.alloc(), &RUNS)?;
+    Ok(())
+}
+
+/// A formula, and the proofs over it in turn.
+type Proofs = (&'static str, &'static [(&'static [u8], Outcome<'static>)]);
+
+const PROOFS_IN_TURN: [Proofs; 5] = [
+    ("1 0 -1 0", &[(END, SHOWN)]),
+    ("", &[(END, NOT_SHOWN)]),
+    ("", &[(b"\x05\x00\x0D", WITH_ONE_ADDED)]),
+    (
+        "",
+        &[(b"", ("", "step 1: Unexpected end of proof file", 1))],
+    ),
+    // an accepted end asks for nothing more
+    ("", &[(b"\x05\x00\x0D", WITH_ONE_ADDED), (b"", SHOWN)]),
+];
+
+/// A new checker with this formula, and then one proof after the other.
 fn prove(
     rt: &impl Abort,
     alloc: Global,
-    units: &[i64],
+    formula: &CnfFormula,
     proofs: &[(&[u8], Outcome<'_>)],
-) -> Result<(), Fail> {
+) -> Result<(), AllocError> {
     let mut checker = Checker::new(alloc);
-    prove_with(rt, alloc, &mut checker, units, proofs)
+    prove_with(rt, alloc, &mut checker, formula, proofs)
 }
 
 fn prove_with(
     rt: &impl Abort,
     alloc: Global,
     checker: &mut Checker,
-    units: &[i64],
+    formula: &CnfFormula,
     proofs: &[(&[u8], Outcome<'_>)],
-) -> Result<(), Fail> {
-    for &number in units {
-        let lit = Lit::from_dimacs(number).ok_or("no literal")?;
-        assert!(rt; checker.add_clause(&[lit]).is_ok());
-    }
-    for &(proof, expected) in proofs {
+) -> Result<(), AllocError> {
+    assert!(rt; checker.add_formula(formula).is_ok());
+    for (proof, outcome) in proofs {
         let mut out = Vec::new(alloc);
-        let answer = run_proof(&Discard, checker, proof, &mut out);
-        is_answered(rt, alloc, answer, &out, expected)?;
+        let answer = run_proof(&Discard, checker, *proof, &mut out);
+        has_outcome(rt, alloc, answer, &out, *outcome)?;
     }
     Ok(())
 }
 
-/// Units, and the proofs over them in turn.
-type Proofs<'a> = (&'a [i64], &'a [(&'a [u8], Outcome<'a>)]);
+fn prove_all(rt: &impl Abort, alloc: Global, rows: &[Proofs]) -> Result<(), Fail> {
+    for (cnf, proofs) in rows {
+        let formula = read_formula(alloc, cnf.as_bytes())?;
+        prove(rt, alloc, &formula, proofs)?;
+    }
+    Ok(())
+}
 
 #[test]
 fn proofs_on_a_new_checker(rt: HostRuntime) -> Result<(), Fail> {
-    let rows: [Proofs<'_>; 5] = [
-        (&[1, -1], &[(&[0x0D], SHOWN)]),
-        (&[], &[(&[0x0D], NOT_SHOWN)]),
-        (&[], &[(&[0x05, 0x00, 0x0D], WITH_ONE_ADDED)]),
-        (
-            &[],
-            &[(&[], refused("step 1: Unexpected end of proof file"))],
-        ),
-        // An accepted end asks for nothing more.
-        (&[], &[(&[0x05, 0x00, 0x0D], WITH_ONE_ADDED), (&[], SHOWN)]),
-    ];
-    for (units, proofs) in rows {
-        prove(&rt, rt.alloc(), units, proofs)?;
-    }
-    Ok(())
+    prove_all(&rt, rt.alloc(), &PROOFS_IN_TURN)
 }
 
-#[test]
-fn formulas_with_short_proofs(rt: HostRuntime) -> Result<(), Fail> {
-    let rows: [(&str, &[u8], Outcome<'_>); 3] = [
-        ("1 0", &[0x05, 0x00, 0x0D], WITH_ONE_ADDED),
-        ("1 0\n-1 0\n", &[0x0D], SHOWN),
-        ("1 0", &[0x0D], NOT_SHOWN),
-    ];
-    for (cnf, proof, expected) in rows {
-        check(&rt, rt.alloc(), cnf.as_bytes(), proof, expected)?;
-    }
-    Ok(())
+/// A proof from the four clauses, read at once and byte by byte.
+fn is_cut(
+    rt: &impl Abort,
+    alloc: Global,
+    proof: &[u8],
+    outcome: Outcome<'_>,
+) -> Result<(), AllocError> {
+    let cnf = FOUR.as_bytes();
+    is_answered(rt, alloc, Pieces::whole(cnf), Pieces::whole(proof), outcome)?;
+    is_answered(
+        rt,
+        alloc,
+        Pieces::of_size(cnf, 1),
+        Pieces::of_size(proof, 1),
+        outcome,
+    )
 }
 
 #[test]
 fn four_clauses_however_cut(rt: HostRuntime) -> Result<(), Fail> {
-    let alloc = rt.alloc();
-    let cnf = FOUR.as_bytes();
-    let proof = proof_of_four(alloc)?;
-    for proof in [proof.as_slice(), WIDTH_1.as_slice()] {
-        check(&rt, alloc, cnf, proof, SHOWN)?;
-        check(&rt, alloc, byte_by_byte(cnf), byte_by_byte(proof), SHOWN)?;
+    let proof = proof_of_four(rt.alloc())?;
+    is_cut(&rt, rt.alloc(), &proof, SHOWN)?;
+    is_cut(&rt, rt.alloc(), &WIDTH_1, SHOWN)?;
+    Ok(())
+}
+
+fn are_incomplete(rt: &impl Abort, alloc: Global) -> Result<(), AllocError> {
+    for (len, step) in FIRST_MISSING.iter().enumerate() {
+        let text = format!(in alloc; "step {step}: Unexpected end of proof file")?;
+        is_cut(rt, alloc, &WIDTH_1[..len], ("", &text, 1))?;
     }
     Ok(())
 }
 
 #[test]
 fn no_beginning_of_a_proof_will_do(rt: HostRuntime) -> Result<(), Fail> {
-    let alloc = rt.alloc();
-    let cnf = FOUR.as_bytes();
-    for (len, step) in FIRST_MISSING.iter().enumerate() {
-        let proof = &WIDTH_1[..len];
-        let text = format!(in alloc; "step {step}: Unexpected end of proof file")?;
-        check(&rt, alloc, cnf, proof, refused(&text))?;
-        check(&rt, alloc, cnf, byte_by_byte(proof), refused(&text))?;
-    }
-    Ok(())
-}
-
-#[test]
-fn texts_of_refusals(rt: HostRuntime) -> Result<(), Fail> {
-    let rows: [(&str, &[u8], &str); 8] = [
-        ("1 0\n2 x 0", &[0x0D], "line 2: bad number"),
-        ("1 2", &[0x0D], "line 1: unterminated clause"),
-        ("p cnf 1\n", &[0x0D], "line 1: bad header"),
-        ("1 0\np cnf 1 1\n", &[0x0D], "line 2: late header"),
-        ("268435457 0", &[0x0D], "line 1: variable too large"),
-        ("1 0", &[], "step 1: Unexpected end of proof file"),
-        (
-            "1 0",
-            &[0x0E],
-            "step 1: Could not parse proof step: unknown step tag",
-        ),
-        (
-            "1 2 0",
-            &[0x06, 0x00, 0x00, 0x00],
-            "step 1: Checking proof failed: AT check failed",
-        ),
-    ];
-    for (cnf, proof, text) in rows {
-        check(&rt, rt.alloc(), cnf.as_bytes(), proof, refused(text))?;
-    }
+    are_incomplete(&rt, rt.alloc())?;
     Ok(())
 }
 
 #[test]
 fn reads_that_fail(rt: HostRuntime) -> Result<(), Fail> {
-    let alloc = rt.alloc();
-    let end: &[u8] = &[0x0D];
-    let cnf = "1 0\n-1 0\n".as_bytes();
-    let cause = io::Error::from(ErrorKind::ConnectionReset);
-
-    let text = format!(in alloc; "error reading formula: {cause}")?;
-    check(&rt, alloc, broken(cnf), end, refused(&text))?;
-
-    let text = format!(in alloc; "step 2: Error reading proof file: {cause}")?;
-    check(&rt, alloc, cnf, broken(&[0x05, 0x00]), refused(&text))
-}
-
-#[test]
-fn lines_that_cannot_be_written(rt: HostRuntime) -> Result<(), Fail> {
-    let alloc = rt.alloc();
-    let end: &[u8] = &[0x0D];
-    let cause = io::Error::from(ErrorKind::StorageFull);
-    let answer = run_check(&Discard, alloc, "1 0\n-1 0\n".as_bytes(), end, &mut Full);
-    assert!(rt; matches!(&answer, Err(RunFault::Write(_))));
-    let text = format!(in alloc; "error writing: {cause}")?;
-    is_answered(&rt, alloc, answer, &[], refused(&text))
-}
-
-/// So that no part of a line stands where the next write fails.
-#[test]
-fn a_line_is_one_write(rt: HostRuntime) -> Result<(), Fail> {
-    let alloc = rt.alloc();
-    let end: &[u8] = &[0x0D];
-    for (cnf, line) in [
-        ("1 0\n-1 0\n", "s UNSATISFIABLE\n"),
-        ("1 0\n", "s NOT SHOWN\n"),
-    ] {
-        let mut out = Counting::new(alloc);
-        assert!(rt; run_check(&Discard, alloc, cnf.as_bytes(), end, &mut out).is_ok());
-        assert_eq!(rt; out.text.as_slice(), line.as_bytes());
-        assert_eq!(rt; out.writes, 1);
-    }
+    let cnf = Pieces::broken(UNITS, ErrorKind::ConnectionReset);
+    let outcome = ("", "error reading formula: broken", 1);
+    is_answered(&rt, rt.alloc(), cnf, Pieces::whole(END), outcome)?;
+    let proof = Pieces::broken(b"\x05\x00", ErrorKind::ConnectionReset);
+    let outcome = ("", "step 2: Error reading proof file: broken", 1);
+    is_answered(&rt, rt.alloc(), Pieces::whole(UNITS), proof, outcome)?;
     Ok(())
 }
 
 #[test]
-fn refused_proof_is_not_a_failed_write(rt: HostRuntime) -> Result<(), Fail> {
-    let empty: &[u8] = &[];
-    let answer = run_check(&Discard, rt.alloc(), "1 0".as_bytes(), empty, &mut Full);
+fn lines_that_cannot_be_written(rt: HostRuntime) -> Result<(), Fail> {
+    let answer = run_check(&Discard, rt.alloc(), UNITS, END, &mut Full::after(0));
+    has_outcome(&rt, rt.alloc(), answer, &[], ("", "error writing: full", 1))?;
+    Ok(())
+}
+
+/// So that no part of a line stands where the next write fails.
+#[test]
+fn a_line_is_one_write(rt: HostRuntime) {
+    is_one_write(
+        &rt,
+        &mut Counting::new(rt.alloc()),
+        rt.alloc(),
+        UNITS,
+        "s UNSATISFIABLE\n",
+    );
+    is_one_write(
+        &rt,
+        &mut Counting::new(rt.alloc()),
+        rt.alloc(),
+        b"1 0\n",
+        "s NOT SHOWN\n",
+    );
+}
+
+fn is_one_write(rt: &impl Abort, out: &mut Counting, alloc: Global, cnf: &[u8], line: &str) {
+    assert!(rt; run_check(&Discard, alloc, cnf, END, out).is_ok());
+    assert_eq!(rt; out.text.as_slice(), line.as_bytes());
+    assert_eq!(rt; out.writes, 1);
+}
+
+#[test]
+fn refused_proof_is_not_a_failed_write(rt: HostRuntime) {
+    let answer = run_check(
+        &Discard,
+        rt.alloc(),
+        b"1 0".as_slice(),
+        b"".as_slice(),
+        &mut Full::after(0),
+    );
     assert!(rt;
         matches!(
             &answer,
             Err(RunFault::Proof(CheckerError::ProofIncomplete { step: 1 }))
         )
     );
-    Ok(())
 }

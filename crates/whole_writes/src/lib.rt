@@ -2,7 +2,5 @@
 #![tactic(auto)]
 
 mod append;
-#[cfg(test)]
-mod tests;
 
 pub use append::{append_whole, write_whole};

@@ -1,10 +1,11 @@
 use Rattle.std.proofs.Common.{◌≡◌, ◌≤◌, length}
-use Rattle.sat_formula.specs.Lines.{words_of}
+use Rattle.lrat_text.specs.Bytes.{IsLine, words_in}
 use Rattle.lrat_text.proofs.words.skip_blanks.Given as goal
 
 abbrev pub invariant-blanks : goal.invariant-blanks
 invariant-blanks l = record {
-  words : words_of l.rest ≡ words_of l.fn.bytes;
+  line : IsLine l.rest;
+  words : words_in l.rest ≡ words_in l.fn.bytes;
   len : length l.rest ≤ length l.fn.bytes;
 }
 

@@ -1,12 +1,12 @@
-use Rattle.std.proofs.Common.{◌≡◌, ℕ, ◌<◌, ◌≤◌, ◌-◌, false, length}
+use Rattle.std.proofs.Common.{◌≡◌, ℕ, ◌<◌, ◌-◌, false, length}
 use Rattle.std.specs.Prelude.{slice_index}
-use Rattle.sat_formula.specs.Bytes.{is_blank}
+use Rattle.lrat_text.specs.Bytes.{ends_word}
 use Rattle.lrat_text.proofs.words.word_len.Given as goal
 
 abbrev pub invariant-bytes : goal.invariant-bytes
 invariant-bytes l = record {
-  len : l.len ≤ length l.bytes;
-  word : (k : ℕ) → k < l.len → is_blank (slice_index l.bytes k) ≡ false;
+  len : l.len < length l.bytes;
+  word : (k : ℕ) → k < l.len → ends_word (slice_index l.bytes k) ≡ false;
 }
 
 abbrev pub decreases-bytes : goal.decreases-bytes

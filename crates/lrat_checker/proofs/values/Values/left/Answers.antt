@@ -1,30 +1,28 @@
-use Rattle.std.proofs.Common.{sym, ap, ◌∙◌}
-use Rattle.sat_rules.specs.Clauses.{has}
-use Rattle.std.proofs.lemmas.List.{at_drop_all}
-use Rattle.lrat_checker.specs.Values.{among, by_found, left_from}
-use Rattle.lrat_checker.proofs.SearchLemmas.{left_is, search_stops}
+use Rattle.std.proofs.Common.{◌+◌, ◌-◌, None, Some, drop, length, length-drop, refl, sym, ap, ◌∙◌, arith}
+use Rattle.std.proofs.lemmas.List.{at_drop_all, take_all}
+use Rattle.sat_rules.specs.Clauses.{has, negate}
+use Rattle.sat_rules.proofs.Chains.{negate-negate}
+use Rattle.lrat_checker.specs.Marks.{has_mark}
+use Rattle.lrat_checker.specs.Values.{among, left_from}
+use Rattle.lrat_checker.proofs.SearchLemmas.{left_is, search_finds}
 use Rattle.lrat_checker.proofs.values.Values.left.Goals as goal
 
--- a second literal that is not false
-pub returns-then-is_other : goal.returns-then-is_other
-returns-then-is_other c none one =
+-- a literal that is not false
+pub returns-then-not-has_in : goal.returns-then-not-has_in
+returns-then-not-has_in c none one =
     let s = among c.args.self.now in
-    let m = c.not.result in
     let clause = c.args.clause.now in
-    sym (left_is s clause none one) ∙ sym (c.loop-lit.invariant none one)
-    ∙ search_stops s clause c.loop-lit.lit-index c.lit-item.result c.loop-lit-test.true c.lit-item.is none one c.loop-lit.found
-    (ap s (sym c.not.ensures) ∙ sym (ap (has m) c.self.view_is) ∙ sym (c.self.invariant.marked m) ∙ sym c.has_in.ensures ∙ c.if-has_in.false) (sym c.is_other.ensures ∙ c.if-is_other.true)
+    let i = c.lits.index in
+    let m = c.index-clause-index.result in
+    sym (left_is s clause none one) ∙ sym (c.lits.invariant.same none one)
+    ∙ search_finds s clause i m c.lits-test.true c.index-clause-index.is none one None
+    (sym (ap (has (negate m)) c.self.view_is) ∙ sym (c.self.invariant.marked (negate m)) ∙ ap (has_mark c.self.inside.marks) (negate-negate m) ∙ sym c.has_in.ensures ∙ c.if-not-has_in.true) refl
+    ∙ ap (λ others. left_from s (Some m) others none one) (sym (take_all (length clause - (i + 1)) (drop (i + 1) clause) (omega (arith, length-drop (i + 1) clause))))
+    ∙ c.left_with.ensures none one
 
-pub returns-in-None : goal.returns-in-None
-returns-in-None c none one =
+pub returns : goal.returns
+returns c none one =
     let s = among c.args.self.now in
     let clause = c.args.clause.now in
-    sym (left_is s clause none one) ∙ sym (c.loop-lit.invariant none one)
-    ∙ at_drop_all (λ d. left_from s c.loop-lit.found d none one) clause c.loop-lit.lit-index c.loop-lit-test.false ∙ ap (λ o. by_found o none one) c.in-None.is
-
-pub returns-in-Some : goal.returns-in-Some
-returns-in-Some c none one =
-    let s = among c.args.self.now in
-    let clause = c.args.clause.now in
-    sym (left_is s clause none one) ∙ sym (c.loop-lit.invariant none one)
-    ∙ at_drop_all (λ d. left_from s c.loop-lit.found d none one) clause c.loop-lit.lit-index c.loop-lit-test.false ∙ ap (λ o. by_found o none one) c.in-Some.is
+    sym (left_is s clause none one) ∙ sym (c.lits.invariant.same none one)
+    ∙ at_drop_all (λ others. left_from s None others none one) clause c.lits.index (omega (arith, c.lits-test.false))

@@ -1,0 +1,55 @@
+//! What a program says of itself.
+use command::{About, Entry};
+use std::test::Fail;
+
+const ONE: Entry<'static> = Entry {
+    name: "ONE",
+    text: "the first",
+};
+
+const WHOLE: About<'static> = About {
+    call: "mine ONE [--two N]",
+    does: "Does it.",
+    operands: &[ONE],
+    options: &[Entry {
+        name: "--two N",
+        text: "twice",
+    }],
+    verified: "well",
+    open: "not yet",
+    environment: &[Entry {
+        name: "A_LONGER_NAME",
+        text: "longer",
+    }],
+    examples: &[Entry {
+        name: "mine a --two 3",
+        text: "does it thrice",
+    }],
+};
+
+#[test]
+fn text_about_a_program(rt: HostRuntime) -> Result<(), Fail> {
+    let text = format!(in rt.alloc(); "{}", WHOLE)?;
+    assert_eq!(rt;
+        text.as_str(),
+        "usage: mine ONE [--two N]\n\nDoes it.\n\n\
+         operands:\n\
+        \x20 ONE           the first\n\n\
+         options:\n\
+        \x20 --two N       twice\n\
+        \x20 --help        says how the program is called\n\
+        \x20 --version     says of which version it is\n\n\
+         exit status:\n\
+        \x20 0             well\n\
+        \x20 1             a file is malformed or refused, or a read, a write or an allocation \
+         failed: nothing is claimed, and standard error says why\n\
+        \x20 2             wrong arguments, or a file that can't be opened\n\
+        \x20 3             not yet\n\n\
+         environment:\n\
+        \x20 A_LONGER_NAME  longer\n\n\
+         examples:\n\
+        \x20 does it thrice:\n\
+        \x20     mine a --two 3\n"
+    );
+    Ok(())
+}

@@ -1,0 +1,155 @@
+//! Files by their first bytes, which are those that other programs write, and headers by the rules.
+use command::{CountingReader, Counts, Kind, LyingHeader, kind_of};
+use std::io;
+use std::io::Read;
+use std::process::Abort;
+use std::test::Fail;
+
+const KINDS: [(&[u8], Kind); 11] = [
+    (b"\x1F\x8B\x08\x00", Kind::Gzip),
+    (b"\xFD7zXZ\x00\x00\x04", Kind::Xz),
+    (b"\x28\xB5\x2F\xFD\x24\x0C", Kind::Zstd),
+    (b"BZh91AY&SY", Kind::Bzip2),
+    // binary LRAT: the clause 5 of the literal 1, with the hints 1 and 2
+    (b"a\x0A\x02\x00\x02\x04\x00", Kind::BinaryProof),
+    // binary DRAT: the clauses 129 -8191 and, deleted, -63 -8193
+    (b"a\x82\x02\xFF\x7F\x00", Kind::BinaryProof),
+    (b"d\x7F\x83\x80\x01\x00", Kind::BinaryProof),
+    (b"d 1 2 0\n", Kind::DratText),
+    (b"1 0\nd 1 2 0\n0\n", Kind::DratText),
+    (b"-1 20 0\n", Kind::DratText),
+    (b"0\n", Kind::DratText),
+];
+
+#[test]
+fn kinds_of_files(rt: HostRuntime) {
+    are_of_kinds(&rt, &KINDS);
+}
+
+fn are_of_kinds(rt: &impl Abort, rows: &[(&[u8], Kind)]) {
+    for (bytes, kind) in rows {
+        assert_eq!(rt; kind_of(bytes), Some(*kind));
+    }
+}
+
+const NO_KIND: [&[u8]; 12] = [
+    b"",
+    b"\x1F",
+    b"\xFD7zX",
+    b"BZ",
+    b"p cnf 2 4\n",
+    b"c comment\n",
+    b"5 1 0 1 2 0\n",
+    b"5 d 1 0\n",
+    b"5 0 0\n",
+    b"1 2",
+    b"a word",
+    b"\xEF\xBB\xBF1 0\n",
+];
+
+#[test]
+fn files_of_no_such_kind(rt: HostRuntime) {
+    are_of_no_kind(&rt, &NO_KIND);
+}
+
+fn are_of_no_kind(rt: &impl Abort, rows: &[&[u8]]) {
+    for bytes in rows {
+        assert_eq!(rt; kind_of(bytes), None);
+    }
+}
+
+/// What is said of the header of a text that is read in parts of so many bytes.
+fn lying_header(text: &[u8], part: usize) -> io::Result<Option<LyingHeader>> {
+    let mut reader = CountingReader::new(text);
+    let mut buffer = [0; 64];
+    let room = part.min(64);
+    for _ in 0..=text.len() {
+        if reader.read(&mut buffer[..room])? == 0 {
+            break;
+        }
+    }
+    Ok(reader.lying_header())
+}
+
+fn has_header(rt: &impl Abort, text: &[u8], header: Option<LyingHeader>) -> io::Result<()> {
+    for part in [1, 2, 3, 64] {
+        let found = lying_header(text, part)?;
+        assert_eq!(rt; found, header);
+    }
+    Ok(())
+}
+
+/// A text, the two counts of its header, and the largest variable and the number of clauses.
+const LIES: [(&[u8], [u64; 4]); 12] = [
+    (b"p cnf 1 1\n1 2 0\n", [1, 1, 2, 1]),
+    (b"p cnf 2 2\n1 -2 0\n", [2, 2, 2, 1]),
+    (b"p cnf 2 0\n1 -2 0\n", [2, 0, 2, 1]),
+    (b"p cnf 2 1\n1 -3 0 2 0\n", [2, 1, 3, 2]),
+    (b"p cnf 0 1", [0, 1, 0, 0]),
+    (b"p cnf 9 2\n9\n0 0\n0", [9, 2, 9, 3]),
+    (b"c 7 0\n \tp  cnf 03\t2 \r\n\t1 2 3 0\r\n", [3, 2, 3, 1]),
+    (b"p cnf 2 1\n1 2 0\nc 3 0\n2 0\n", [2, 1, 2, 2]),
+    (b"p cnf 2 2\n1 2 0\n%\n3 0\n0\n", [2, 2, 2, 1]),
+    (b"p cnf 10 1\n010 0 -11 0\n", [10, 1, 11, 2]),
+    (b"p cnf 1 18446744073709551616\n1 0\n", [1, u64::MAX, 1, 1]),
+    (b"p cnf 1 1\n1 -268435456 0", [1, 1, 268_435_456, 1]),
+];
+
+#[test]
+fn headers_that_lie(rt: HostRuntime) -> Result<(), Fail> {
+    have_lies(&rt, &LIES)?;
+    Ok(())
+}
+
+/// The two counts of a header, and the largest variable and the number of clauses.
+fn lie_of([variables, clauses, largest, number]: [u64; 4]) -> LyingHeader {
+    let said = Counts { variables, clauses };
+    let counts = Counts {
+        variables: largest,
+        clauses: number,
+    };
+    LyingHeader { said, counts }
+}
+
+fn have_lies(rt: &impl Abort, rows: &[(&[u8], [u64; 4])]) -> io::Result<()> {
+    for (text, counts) in rows {
+        has_header(rt, text, Some(lie_of(*counts)))?;
+    }
+    Ok(())
+}
+
+const RIGHT: [&[u8]; 11] = [
+    b"",
+    b"p cnf 0 0",
+    b"p cnf 0 0\n",
+    b"1 2 0\n",
+    b"c p cnf 9 9\n1 2 0\n",
+    b"p cnf 2 1\n1 -2 0\n",
+    // more variables may be said than there are
+    b"p cnf 5 2\n1 -2 0\n0\n",
+    b"c 3 0\np cnf 2 2\nc 4 0\n1\n2 0 -1 0",
+    b"p cnf 2 1\n1 2 0\n%\n3 0\n",
+    b"p cnf 99999999999999999999 1\n268435456 0\n",
+    b"  p cnf 2 1 \n\n\n1 2\nc\n0\n",
+];
+
+#[test]
+fn headers_that_are_right_or_absent(rt: HostRuntime) -> Result<(), Fail> {
+    have_no_lie(&rt, &RIGHT)?;
+    Ok(())
+}
+
+fn have_no_lie(rt: &impl Abort, rows: &[&[u8]]) -> io::Result<()> {
+    for text in rows {
+        has_header(rt, text, None)?;
+    }
+    Ok(())
+}
+
+#[test]
+fn text_of_a_lying_header(rt: HostRuntime) -> Result<(), Fail> {
+    let lie = lying_header(b"p cnf 1 3\n1 2 0\n", 64)?.ok_or("no lie")?;
+    let said = lie.to_string(rt.alloc())?;
+    assert_eq!(rt; said.as_str(), "p cnf 1 3, but what was read is p cnf 2 1");
+    Ok(())
+}

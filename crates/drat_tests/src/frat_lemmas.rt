@@ -1,0 +1,111 @@
+//! Small FRAT proofs, as rows: what is told of each.
+use crate::lemmas::{add_formula, tell_proof};
+use drat_elaborate::{ElaborateFault, Elaborator};
+use frat_text::FratReader;
+use sat_formula::read_formula;
+use std::alloc::Global;
+use std::process::Abort;
+use std::test::Fail;
+
+/// A formula as DIMACS, a proof, and what is told: the lines, or the fault; the clauses of the
+/// formula that are used; the deletions that met none, or only reasons.
+type Row = (&'static str, &'static str, &'static str);
+
+/// 1 follows from the first two clauses, and from the next two; with it 4 follows from the fifth
+/// and sixth, and is against the last two.
+const TWO_WAYS: &str = "1 2 0 1 -2 0 1 3 0 1 -3 0 -1 4 5 0 -1 4 -5 0 -1 -4 5 0 -1 -4 -5 0";
+
+const ROWS: [Row; 7] = [
+    // By the hints, where they come to a conflict.
+    (
+        TWO_WAYS,
+        "o 1 1 2 0 o 2 1 -2 0 o 9 3 1 0 o 7 -3 1 0 a 20 1 0 l 9 7 0 a 21 4 0",
+        "d 1 2; 9 1 0 3 4; d 4 3; 10 4 0 9 5 6; d 6 5; 11 0 9 10 7 8; \
+         used 3 4 5 6 7 8; 0 missing, 0 kept",
+    ),
+    (
+        TWO_WAYS,
+        "o 1 1 2 0 o 2 1 -2 0 o 9 3 1 0 o 7 -3 1 0 a 20 1 0 l 1 2 0 a 21 4 0",
+        "d 3 4; 9 1 0 1 2; d 2 1; 10 4 0 9 5 6; d 6 5; 11 0 9 10 7 8; \
+         used 1 2 5 6 7 8; 0 missing, 0 kept",
+    ),
+    // Two ids change places before the hints.
+    (
+        TWO_WAYS,
+        "o 1 1 2 0 o 2 1 -2 0 o 9 3 1 0 o 7 -3 1 0 r 1 9 9 1 2 7 7 2 0 a 20 1 0 l 1 2 0 a 21 4 0",
+        "d 1 2; 9 1 0 3 4; d 4 3; 10 4 0 9 5 6; d 6 5; 11 0 9 10 7 8; \
+         used 3 4 5 6 7 8; 0 missing, 0 kept",
+    ),
+    // A clause that is deleted is no hint, and the last two deletions meet none.
+    (
+        TWO_WAYS,
+        "o 1 1 2 0 o 2 1 -2 0 d 1 0 d 1 1 2 0 d 8 0 a 20 1 0 l 1 2 0 a 21 4 0",
+        "d 1 2; 9 1 0 4 3; d 3 4; 10 4 0 9 5 6; d 6 5; 11 0 9 10 7 8; \
+         used 3 4 5 6 7 8; 2 missing, 0 kept",
+    ),
+    // The first clause forces its literal.
+    (
+        "1 0 -1 2 0 -2 3 4 0 -2 3 -4 0 -2 -3 4 0 -2 -3 -4 0",
+        "o 5 1 0 d 5 1 0 a 6 3 0",
+        "7 3 0 1 2 3 4; d 4 3; 8 0 1 2 7 5 6; used 1 2 3 4 5 6; 0 missing, 1 kept",
+    ),
+    (
+        "1 2 0 1 2 0",
+        "o 1 1 2 0 o 2 2 1 0 f 1 1 2 0 o 3 1 2 0",
+        "step 4: clause is not in the formula",
+    ),
+    (
+        "1 2 0 1 -2 0",
+        "a 3 1 0 l 1 2 0 a 4 -3 0 f 4 -3 0 r 4 5 0 d 9 0 a 6 2 0",
+        "no conflict after 7 steps",
+    ),
+];
+
+/// Takes in the steps of a proof, up to a conflict. The answer is the fault of a step.
+fn take_steps(
+    elaborator: &mut Elaborator,
+    alloc: Global,
+    proof: &str,
+) -> Result<Option<ElaborateFault>, Fail> {
+    let mut reader = FratReader::new(alloc, proof.as_bytes());
+    for _ in 0..20u32 {
+        if elaborator.is_refuted() {
+            break;
+        }
+        let Some(step) = reader.next_step()? else {
+            break;
+        };
+        if let Err(fault) = elaborator.take_frat_step(step) {
+            return Ok(Some(fault));
+        }
+    }
+    Ok(None)
+}
+
+/// Tells all of a row, or the fault of a step.
+fn tell(text: &mut String, alloc: Global, formula: &str, proof: &str) -> Result<(), Fail> {
+    let formula = read_formula(alloc, formula.as_bytes())?;
+    let mut elaborator = Elaborator::new(alloc);
+    add_formula(&mut elaborator, &formula)?;
+    if let Some(fault) = take_steps(&mut elaborator, alloc, proof)? {
+        write!(text, "{fault}")?;
+        return Ok(());
+    }
+    tell_proof(text, &mut elaborator)
+}
+
+fn check(rt: &impl Abort, alloc: Global, row: &Row) -> Result<(), Fail> {
+    let (formula, proof, told) = *row;
+    let mut text = String::new(alloc);
+    tell(&mut text, alloc, formula, proof)?;
+    assert_eq!(rt; text.as_str(), told);
+    Ok(())
+}
+
+#[test]
+fn rows(rt: HostRuntime) -> Result<(), Fail> {
+    for row in &ROWS {
+        check(&rt, rt.alloc(), row)?;
+    }
+    Ok(())
+}

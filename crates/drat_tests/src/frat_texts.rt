@@ -1,0 +1,238 @@
+//! What no clause says: rows of proofs over readers of any cut, reads that fail, and which proofs
+//! count as FRAT.
+use drat_text::bytes::Bytes;
+use frat_text::{FratAction, FratHint, FratReader, FratStep, Renaming, is_frat};
+use sat_formula::Lit;
+use std::alloc::{AllocError, Global};
+use std::process::Abort;
+use std::test::Fail;
+use test_streams::Pieces;
+
+fn write_clause(
+    action: FratAction,
+    id: u64,
+    lits: &[Lit],
+    all: &mut String,
+) -> Result<(), AllocError> {
+    let word = match action {
+        FratAction::Original => "original",
+        FratAction::Add => "add",
+        FratAction::Delete => "delete",
+        FratAction::Final => "final",
+    };
+    write!(all, "{word} {id}:")?;
+    for lit in lits {
+        write!(all, " {}", lit.to_dimacs())?;
+    }
+    write!(all, "; ")
+}
+
+fn write_hints(hints: &[FratHint], all: &mut String) -> Result<(), AllocError> {
+    write!(all, "hints")?;
+    for hint in hints {
+        let sign = if hint.is_negative { "-" } else { "" };
+        write!(all, " {sign}{}", hint.id)?;
+    }
+    write!(all, "; ")
+}
+
+fn write_renamings(renamings: &[Renaming], all: &mut String) -> Result<(), AllocError> {
+    write!(all, "renames")?;
+    for renaming in renamings {
+        write!(all, " {}>{}", renaming.from, renaming.to)?;
+    }
+    write!(all, "; ")
+}
+
+fn write_step(step: FratStep<'_>, all: &mut String) -> Result<(), AllocError> {
+    match step {
+        FratStep::Clause { action, id, lits } => write_clause(action, id, lits, all),
+        FratStep::Hints(hints) => write_hints(hints, all),
+        FratStep::Renames(renamings) => write_renamings(renamings, all),
+    }
+}
+
+/// Each step, and the end or the text of a fault.
+fn shown(alloc: Global, proof: Pieces<'_>) -> Result<String, AllocError> {
+    let mut all = String::new(alloc);
+    show_all(&mut all, &mut FratReader::new(alloc, proof))?;
+    Ok(all)
+}
+
+fn show_all(all: &mut String, reader: &mut FratReader<Pieces<'_>>) -> Result<(), AllocError> {
+    for _ in 0..20u32 {
+        if !show_next(all, reader)? {
+            break;
+        }
+    }
+    Ok(())
+}
+
+/// Shows a step, or the text of a fault. Answers whether it was not the end.
+fn show_next(all: &mut String, reader: &mut FratReader<Pieces<'_>>) -> Result<bool, AllocError> {
+    match reader.next_step() {
+        Ok(Some(step)) => write_step(step, all)?,
+        Ok(None) => {
+            write!(all, "end")?;
+            return Ok(false);
+        }
+        Err(fault) => write!(all, "{fault}; ")?,
+    }
+    Ok(true)
+}
+
+type Row = (&'static [u8], &'static str);
+
+const TEXT: [Row; 21] = [
+    (b"", "end"),
+    (b"\n c 1 0\n\t\r\n", "end"),
+    (
+        b"o 1 1 -2 0\nf 1 1 -2 0\n",
+        "original 1: 1 -2; final 1: 1 -2; end",
+    ),
+    (
+        b"a 3 1 0 l 1 -2 0\nd 3 1 0",
+        "add 3: 1; hints 1 -2; delete 3: 1; end",
+    ),
+    (b"a 4 0", "add 4:; end"),
+    (b"l 0 a 5 1 0", "hints; add 5: 1; end"),
+    (b"r 1 7 2 8 0\nr 0\n", "renames 1>7 2>8; renames; end"),
+    (
+        b"o1\n2\n0\nc x .\no 007 -3 00",
+        "original 1: 2; original 7: -3; end",
+    ),
+    (
+        b"o 1152921504606846975 268435456 0",
+        "original 1152921504606846975: 268435456; end",
+    ),
+    (b"o 1152921504606846976 0", "step 1: number too large; end"),
+    (b"l 1152921504606846976 0", "step 1: number too large; end"),
+    (
+        b"o 1 0 a 2 268435457 0",
+        "original 1:; step 2: number too large; end",
+    ),
+    (b"o 0 1 0", "step 1: malformed; end"),
+    (b"o -1 1 0", "step 1: malformed; end"),
+    (b"l 1 -0", "step 1: malformed; end"),
+    (b"r 1 0", "step 1: malformed; end"),
+    (b"r 1 -2 0", "step 1: malformed; end"),
+    (b"1 2 0", "step 1: malformed; end"),
+    (b"a 1 2 x 0", "step 1: malformed; end"),
+    (b"a 1 2", "step 1: unfinished; end"),
+    (b"a 1 2 0\nl ", "add 1: 2; step 2: unfinished; end"),
+];
+
+const BINARY: [Row; 10] = [
+    (
+        b"o\x01\x02\x05\x00f\x01\x02\x05\x00",
+        "original 1: 1 -2; final 1: 1 -2; end",
+    ),
+    (
+        b"a\x83\x01\x7f\x00l\x02\x05\x00d\x83\x01\x00",
+        "add 131: -63; hints 1 -2; delete 131:; end",
+    ),
+    (b"r\x01\x07\x82\x01\x08\x00", "renames 1>7 130>8; end"),
+    (
+        b"o\xff\xff\xff\xff\xff\xff\xff\xff\x0f\x00",
+        "original 1152921504606846975:; end",
+    ),
+    (
+        b"o\x80\x80\x80\x80\x80\x80\x80\x80\x10\x00",
+        "step 1: number too large; end",
+    ),
+    (
+        b"o\x81\x80\x80\x80\x80\x80\x80\x80\x80\x00\x00",
+        "step 1: number too large; end",
+    ),
+    (b"a\x01\x01\x00", "step 1: malformed; end"),
+    (b"r\x01\x00", "step 1: malformed; end"),
+    (b"o\x01\x00c\x00", "original 1:; step 2: malformed; end"),
+    (b"o\x01\x00a\x82", "original 1:; step 2: unfinished; end"),
+];
+
+fn is_shown(
+    rt: &impl Abort,
+    alloc: Global,
+    proof: Pieces<'_>,
+    expected: &str,
+) -> Result<(), AllocError> {
+    let seen = shown(alloc, proof)?;
+    assert_eq!(rt; seen.as_str(), expected);
+    Ok(())
+}
+
+fn hold(rt: &impl Abort, alloc: Global, rows: &[Row]) -> Result<(), AllocError> {
+    for (bytes, expected) in rows {
+        for size in [1, 2, 3, 100] {
+            is_shown(rt, alloc, Pieces::of_size(bytes, size), expected)?;
+        }
+    }
+    Ok(())
+}
+
+#[test]
+fn frat_steps(rt: HostRuntime) -> Result<(), Fail> {
+    hold(&rt, rt.alloc(), &TEXT)?;
+    hold(&rt, rt.alloc(), &BINARY)?;
+    Ok(())
+}
+
+/// A proof, and the number of the read that fails.
+type BrokenRow = (&'static [u8], usize, &'static str);
+
+const BROKEN: [BrokenRow; 3] = [
+    (b"o 1 1 0\na 2 2 0\n", 1, "error reading proof: broken; end"),
+    (
+        b"c 1\no 1 1 0\na 2 2 0\n",
+        14,
+        "original 1: 1; error reading proof: broken; end",
+    ),
+    (
+        b"o\x01\x02\x00a\x02\x04\x00",
+        6,
+        "original 1: 1; error reading proof: broken; end",
+    ),
+];
+
+/// By one byte a read.
+fn hold_broken(rt: &impl Abort, alloc: Global, rows: &[BrokenRow]) -> Result<(), AllocError> {
+    for (bytes, failing, expected) in rows {
+        is_shown(rt, alloc, Pieces::failing_at(bytes, 1, *failing), expected)?;
+    }
+    Ok(())
+}
+
+#[test]
+fn frat_reads_that_fail(rt: HostRuntime) -> Result<(), Fail> {
+    hold_broken(&rt, rt.alloc(), &BROKEN)?;
+    Ok(())
+}
+
+const TELLING: [(&[u8], bool); 10] = [
+    (b"o 1 1 0\n", true),
+    (b"o\x01\x02\x00", true),
+    (b"\r\n\tc o\nf 1 0", true),
+    (b"l 1 0", true),
+    (b"r 1 2 0", true),
+    (b"a 1 2 0", false),
+    (b"d 1 0", false),
+    (b"1 2 0", false),
+    (b"c o 1 0", false),
+    (b"", false),
+];
+
+fn are_told_apart(rt: &impl Abort, alloc: Global, rows: &[(&[u8], bool)]) -> Result<(), Fail> {
+    for (bytes, expected) in rows {
+        for size in [1, 100] {
+            let mut proof = Bytes::new(alloc, Pieces::of_size(bytes, size));
+            let told = is_frat(&mut proof)?;
+            assert_eq!(rt; told, *expected);
+        }
+    }
+    Ok(())
+}
+
+#[test]
+fn frat_and_drat(rt: HostRuntime) -> Result<(), Fail> {
+    are_told_apart(&rt, rt.alloc(), &TELLING)
+}

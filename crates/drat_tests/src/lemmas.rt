@@ -1,0 +1,256 @@
+//! Small proofs, as rows: what is told of each.
+use drat_elaborate::{ElaborateFault, Elaborator};
+use lrat_text::{Hint, LratLine};
+use sat_formula::{CnfFormula, Lit, read_formula};
+use std::alloc::{AllocError, Global};
+use std::process::Abort;
+use std::test::Fail;
+
+/// A formula and the steps of a proof, as DIMACS: the clauses that it deletes, and then those that
+/// it adds. What is told: how many additions are taken before a conflict; the lines, or the fault;
+/// the clauses of the formula that are used; the deletions that met none, or only reasons.
+type Row = (&'static str, &'static str, &'static str, &'static str);
+
+pub(crate) fn add_formula(
+    elaborator: &mut Elaborator,
+    formula: &CnfFormula,
+) -> Result<(), ElaborateFault> {
+    for clause in formula {
+        elaborator.add_clause(clause)?;
+    }
+    elaborator.begin_proof()
+}
+
+fn delete_clauses(elaborator: &mut Elaborator, deleted: &CnfFormula) -> Result<(), ElaborateFault> {
+    for clause in deleted {
+        elaborator.delete_clause(clause)?;
+    }
+    Ok(())
+}
+
+/// How many clauses are added before a conflict.
+fn add_lemmas(elaborator: &mut Elaborator, lemmas: &CnfFormula) -> Result<u64, ElaborateFault> {
+    let mut count: u64 = 0;
+    for clause in lemmas {
+        if elaborator.is_refuted() {
+            break;
+        }
+        elaborator.add_lemma(clause)?;
+        count = count.saturating_add(1);
+    }
+    Ok(count)
+}
+
+/// Tells a line, as LRAT text without a last 0.
+fn tell_line(text: &mut String, line: LratLine<'_>) -> Result<(), AllocError> {
+    match line {
+        LratLine::Add { id, clause, hints } => {
+            write!(text, "{id} ")?;
+            tell_clause(text, clause)?;
+            tell_hints(text, hints)?;
+        }
+        LratLine::Delete { ids } => {
+            write!(text, "d")?;
+            tell_ids(text, ids)?;
+        }
+    }
+    write!(text, "; ")
+}
+
+fn tell_clause(text: &mut String, clause: &[Lit]) -> Result<(), AllocError> {
+    for lit in clause {
+        let number = lit.to_dimacs();
+        write!(text, "{number} ")?;
+    }
+    write!(text, "0")
+}
+
+fn tell_hints(text: &mut String, hints: &[Hint]) -> Result<(), AllocError> {
+    for hint in hints {
+        let (sign, id) = match *hint {
+            Hint::Along(id) => ("", id),
+            Hint::Against(id) => ("-", id),
+        };
+        write!(text, " {sign}{id}")?;
+    }
+    Ok(())
+}
+
+fn tell_ids(text: &mut String, ids: &[u64]) -> Result<(), AllocError> {
+    for id in ids {
+        write!(text, " {id}")?;
+    }
+    Ok(())
+}
+
+fn tell_lines(text: &mut String, elaborator: &mut Elaborator) -> Result<(), Fail> {
+    for _ in 0..20 {
+        match elaborator.next_line()? {
+            Some(line) => tell_line(text, line)?,
+            None => break,
+        }
+    }
+    Ok(())
+}
+
+/// Tells the ids of the clauses that are used, and the deletions that were passed over.
+fn tell_use(text: &mut String, elaborator: &Elaborator) -> Result<(), AllocError> {
+    write!(text, "used")?;
+    for index in 0..20 {
+        if elaborator.is_used(index) {
+            let id = index + 1;
+            write!(text, " {id}")?;
+        }
+    }
+    let missing = elaborator.missing_deletions();
+    let kept = elaborator.kept_reasons();
+    write!(text, "; {missing} missing, {kept} kept")
+}
+
+/// Tells what is elaborated.
+pub(crate) fn tell_proof(text: &mut String, elaborator: &mut Elaborator) -> Result<(), Fail> {
+    match elaborate(elaborator) {
+        Ok(()) => {
+            tell_lines(text, elaborator)?;
+            tell_use(text, elaborator)?;
+        }
+        Err(fault) => write!(text, "{fault}")?,
+    }
+    Ok(())
+}
+
+/// Goes over all steps, two in a call.
+fn elaborate(elaborator: &mut Elaborator) -> Result<(), ElaborateFault> {
+    for _ in 0..20 {
+        if elaborator.elaborate(2)? {
+            break;
+        }
+    }
+    Ok(())
+}
+
+/// Tells all of a row. What comes out of order is refused, or says nothing: the lines before they
+/// are made are none.
+fn tell(
+    text: &mut String,
+    elaborator: &mut Elaborator,
+    (formula, deleted, lemmas): (&CnfFormula, &CnfFormula, &CnfFormula),
+) -> Result<(), Fail> {
+    add_formula(elaborator, formula)?;
+    match elaborator.add_clause(&[]) {
+        Ok(()) => write!(text, "a late clause is taken; ")?,
+        Err(fault) => write!(text, "late clause: {fault}; ")?,
+    }
+    delete_clauses(elaborator, deleted)?;
+    let count = add_lemmas(elaborator, lemmas)?;
+    write!(text, "{count} added: ")?;
+    tell_lines(text, elaborator)?;
+    tell_proof(text, elaborator)
+}
+
+/// What is told of a row. The elaborator, which has many parts, stands in this function alone.
+fn told_of(alloc: Global, parts: (&CnfFormula, &CnfFormula, &CnfFormula)) -> Result<String, Fail> {
+    let mut text = String::new(alloc);
+    tell(&mut text, &mut Elaborator::new(alloc), parts)?;
+    Ok(text)
+}
+
+fn is_told(
+    rt: &impl Abort,
+    alloc: Global,
+    (formula, deleted, lemmas, told): Row,
+) -> Result<(), Fail> {
+    let formula = read_formula(alloc, formula.as_bytes())?;
+    let deleted = read_formula(alloc, deleted.as_bytes())?;
+    let lemmas = read_formula(alloc, lemmas.as_bytes())?;
+    let text = told_of(alloc, (&formula, &deleted, &lemmas))?;
+    assert_eq!(rt; text.as_str(), told);
+    Ok(())
+}
+
+/// Four clauses on two variables, and one that is not needed. The deletion meets none.
+const BY_PROPAGATION: Row = (
+    "1 2 0 1 -2 0 -1 2 0 -1 -2 0 3 4 0",
+    "5 6 0",
+    "1 0",
+    "late clause: internal error; 1 added: d 5; 6 1 0 1 2; d 2 1; 7 0 6 3 4; \
+     used 1 2 3 4; 1 missing, 0 kept",
+);
+
+/// The four clauses over variables with large numbers, which the lines have as they are.
+const FAR: Row = (
+    "100000 268435456 0 100000 -268435456 0 -100000 268435456 0 -100000 -268435456 0",
+    "-268435456 7 0",
+    "100000 0",
+    "late clause: internal error; 1 added: 5 100000 0 1 2; d 2 1; 6 0 5 3 4; \
+     used 1 2 3 4; 1 missing, 0 kept",
+);
+
+/// The first two lemmas don't follow. No clause has 4 when the first comes; the second is resolved
+/// with it, which propagation refutes.
+const REDUNDANT: Row = (
+    "1 2 3 0 1 2 -3 0 1 -2 3 0 1 -2 -3 0 -1 2 -3 0 -1 -2 3 0 -1 -2 -3 0 -6 -1 2 3 0 -7 -1 2 3 0 \
+     6 8 -1 0 7 -8 -1 0",
+    "",
+    "-4 6 7 0 4 -1 0 1 2 0 1 0 2 0",
+    "late clause: internal error; 5 added: \
+     12 -4 7 6 0; 13 4 -1 0 -12 10 11; d 11 10; 14 1 2 0 1 2; d 2 1; 15 1 0 14 3 4; \
+     d 4 3 14; 16 2 0 15 13 5 9 8 12; d 12 8 9 5 13; 17 0 15 16 6 7; \
+     used 1 2 3 4 5 6 7 8 9 10 11; 0 missing, 0 kept",
+);
+
+/// The clause 3 doesn't follow, and neither does what it makes with 1 2 -3.
+const UNFOUNDED: Row = (
+    "1 2 -3 0 1 -2 0 -1 2 0 -1 -2 -3 0",
+    "",
+    "3 0 1 0",
+    "late clause: internal error; 2 added: \
+     step 1: clause neither follows nor is redundant by its first literal",
+);
+
+/// The proof stops before a conflict.
+const OPEN: Row = (
+    "1 2 0 1 -2 0",
+    "",
+    "1 0",
+    "late clause: internal error; 1 added: no conflict after 1 steps",
+);
+
+/// The clause 1 forces its literal, and is kept; the tautology goes first; a literal stands twice
+/// in the lemma, and a deletion names the clause in another order.
+const REASON: Row = (
+    "1 0 -1 2 3 0 -1 2 -3 0 -2 3 0 -2 -3 0 4 -4 5 0",
+    "1 0 5 4 -4 4 0",
+    "2 2 -1 0",
+    "late clause: internal error; 1 added: d 6; 7 2 -1 0 2 3; d 3 2; 8 0 1 7 4 5; \
+     used 1 2 3 4 5; 0 missing, 1 kept",
+);
+
+/// The empty clause of a formula needs no proof.
+const EMPTY: Row = (
+    "1 0 0 2 3 0",
+    "",
+    "1 0",
+    "late clause: internal error; 0 added: d 1 3; 4 0 2; used 2; 0 missing, 0 kept",
+);
+
+fn are_told(rt: &impl Abort, alloc: Global, rows: &[Row]) -> Result<(), Fail> {
+    for row in rows {
+        is_told(rt, alloc, *row)?;
+    }
+    Ok(())
+}
+
+#[test]
+fn proofs(rt: HostRuntime) -> Result<(), Fail> {
+    let rows = [
+        BY_PROPAGATION,
+        FAR,
+        REDUNDANT,
+        UNFOUNDED,
+        OPEN,
+        REASON,
+        EMPTY,
+    ];
+    are_told(&rt, rt.alloc(), &rows)
+}

@@ -1,0 +1,141 @@
+//! Rows of proofs over readers of any cut, and reads that fail.
+use drat_text::{DratReader, DratStep};
+use sat_formula::Lit;
+use std::alloc::{AllocError, Global};
+use std::io::Read;
+use std::process::Abort;
+use std::test::Fail;
+use test_streams::Pieces;
+
+/// Each step, as `add` or `delete` with its literals, and the end or the text of a fault.
+fn shown(alloc: Global, proof: Pieces<'_>) -> Result<String, AllocError> {
+    let mut all = String::new(alloc);
+    show_all(&mut all, &mut DratReader::new(alloc, proof))?;
+    Ok(all)
+}
+
+fn show_all(all: &mut String, reader: &mut DratReader<Pieces<'_>>) -> Result<(), AllocError> {
+    for _ in 0..20u32 {
+        if !show_next(all, reader)? {
+            break;
+        }
+    }
+    Ok(())
+}
+
+/// Shows a step, or the text of a fault. Answers whether it was not the end.
+fn show_next(all: &mut String, reader: &mut DratReader<Pieces<'_>>) -> Result<bool, AllocError> {
+    match reader.next_step() {
+        Ok(Some(DratStep::Add(lits))) => show_step(all, "add", lits)?,
+        Ok(Some(DratStep::Delete(lits))) => show_step(all, "delete", lits)?,
+        Ok(None) => {
+            write!(all, "end")?;
+            return Ok(false);
+        }
+        Err(fault) => write!(all, "{fault}; ")?,
+    }
+    Ok(true)
+}
+
+fn show_step(all: &mut String, kind: &str, lits: &[Lit]) -> Result<(), AllocError> {
+    write!(all, "{kind}")?;
+    for lit in lits {
+        write!(all, " {}", lit.to_dimacs())?;
+    }
+    write!(all, "; ")
+}
+
+type Row = (&'static [u8], &'static str);
+
+const TEXT: [Row; 14] = [
+    (b"", "end"),
+    (b"\n c 1 0\n%\n\t\r\n", "end"),
+    (b"1 -2 0\nd 1 -2 0\n0\n", "add 1 -2; delete 1 -2; add; end"),
+    (b"1 -2 0 d 3 0", "add 1 -2; delete 3; end"),
+    (b"1\n2\n0\n", "add 1 2; end"),
+    (b"d1 0\n", "delete 1; end"),
+    (b"d d 0\n", "step 1: malformed; end"),
+    (b"007 00\n", "add 7; end"),
+    (b"268435456 -268435456 0", "add 268435456 -268435456; end"),
+    (b"1 0\n268435457 0", "add 1; step 2: number too large; end"),
+    (b"1 0\n2 x 0", "add 1; step 2: malformed; end"),
+    (b"-0 0", "step 1: malformed; end"),
+    (b"1 2", "step 1: unfinished; end"),
+    (b"1 0\nd ", "add 1; step 2: unfinished; end"),
+];
+
+const BINARY: [Row; 9] = [
+    (b"a\x02\x05\x00", "add 1 -2; end"),
+    (b"d\x02\x05\x00a\x00", "delete 1 -2; add; end"),
+    (b"a\x7f\x82\x01\xff\x7f\x00", "add -63 65 -8191; end"),
+    (
+        b"a\x80\x80\x80\x80\x02\x81\x80\x80\x80\x02\x00",
+        "add 268435456 -268435456; end",
+    ),
+    (
+        b"a\x82\x80\x80\x80\x02\x00",
+        "step 1: number too large; end",
+    ),
+    (
+        b"a\x00a\x82\x80\x80\x80\x80\x00\x00",
+        "add; step 2: number too large; end",
+    ),
+    (b"a\x01\x00", "step 1: malformed; end"),
+    (b"a\x02\x00x", "add 1; step 2: malformed; end"),
+    (b"a\x02\x00d\x82", "add 1; step 2: unfinished; end"),
+];
+
+/// A proof, and the number of the read that fails.
+type BrokenRow = (&'static [u8], usize, &'static str);
+
+const BROKEN: [BrokenRow; 4] = [
+    (b"1 0\n2 0\n", 1, "error reading proof: broken; end"),
+    (b"1 0\n2 0\n", 8, "add 1; error reading proof: broken; end"),
+    (b"d 1 0\n2 0\n", 4, "error reading proof: broken; end"),
+    (
+        b"a\x02\x00a\x04\x00",
+        5,
+        "add 1; error reading proof: broken; end",
+    ),
+];
+
+fn is_shown(
+    rt: &impl Abort,
+    alloc: Global,
+    proof: Pieces<'_>,
+    expected: &str,
+) -> Result<(), AllocError> {
+    let seen = shown(alloc, proof)?;
+    assert_eq!(rt; seen.as_str(), expected);
+    Ok(())
+}
+
+fn hold(rt: &impl Abort, alloc: Global, rows: &[Row]) -> Result<(), AllocError> {
+    for (bytes, expected) in rows {
+        for size in [1, 2, 3, 100] {
+            is_shown(rt, alloc, Pieces::of_size(bytes, size), expected)?;
+        }
+    }
+    Ok(())
+}
+
+#[test]
+fn steps(rt: HostRuntime) -> Result<(), Fail> {
+    hold(&rt, rt.alloc(), &TEXT)?;
+    hold(&rt, rt.alloc(), &BINARY)?;
+    Ok(())
+}
+
+/// By one byte a read.
+fn hold_broken(rt: &impl Abort, alloc: Global, rows: &[BrokenRow]) -> Result<(), AllocError> {
+    for (bytes, failing, expected) in rows {
+        is_shown(rt, alloc, Pieces::failing_at(bytes, 1, *failing), expected)?;
+    }
+    Ok(())
+}
+
+#[test]
+fn reads_that_fail(rt: HostRuntime) -> Result<(), Fail> {
+    hold_broken(&rt, rt.alloc(), &BROKEN)?;
+    Ok(())
+}

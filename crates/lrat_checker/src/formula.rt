@@ -1,0 +1,129 @@
+//! The clauses of a formula, given one after the other.
+ghost use Rattle.std.specs.Prelude.{◌≡◌, ◌<◌, ◌++◌, ◌∷◌, [], ℕ, Bool, true, false, List, None, IfErr, IfOk, OnErr, OnOk};
+ghost use Rattle.std.specs.Option.{option_map};
+ghost use Rattle.std.specs.Result.{is_err};
+ghost use Rattle.sat_formula.specs.Lines.{outcome_of};
+ghost use Rattle.sat_formula.specs.Outcome.{Ended};
+ghost use Rattle.sat_formula.specs.Whole.{FailsAfter, IsOutcome};
+ghost use Rattle.lrat_checker.specs.Held.{table_of};
+
+use crate::checker::LratChecker;
+use crate::clauses::Clauses;
+use sat_formula::{CnfFormula, DimacsFault, DimacsReader, Lit};
+use std::alloc::{AllocError, Global};
+use std::io::Read;
+
+/// The clauses of a formula under 1, 2 and so on, before lines are checked.
+///
+/// A clause for which there was no memory can't be left out: after it no clause is taken, and no
+/// line is accepted.
+#[derive(Drop)]
+pub struct LratFormula {
+    alloc: Global,
+    clauses: Clauses,
+    /// How many were given.
+    given: u64,
+    has_empty: bool,
+    failed: bool,
+    ghost free: { failed ≡ false → (id : ℕ) → given < id → (table_of clauses).named id ≡ None },
+}
+
+impl LratFormula {
+    ghost use Rattle.lrat_checker.specs.Standing.{HoldsFormula, HoldsLittle, IsReady, has_failed, lacks_clause};
+
+    /// No clause. It takes no memory yet for those to come, beside some.
+    pub fn new(alloc: Global) -> Result<LratFormula, AllocError>
+        ensures { IfOk result (λ made. HoldsFormula [] made) }
+    {
+        LratFormula::with_room(alloc, 0)
+    }
+
+    /// No clause, with room for so many.
+    fn with_room(alloc: Global, room: usize) -> Result<LratFormula, AllocError>
+        ensures { IfOk result (λ made. HoldsFormula [] made) }
+    {
+        Ok(LratFormula {
+            alloc,
+            clauses: Clauses::empty(alloc, room)?,
+            given: 0,
+            has_empty: false,
+            failed: false,
+        })
+    }
+
+    /// The clauses of a formula that stands in memory.
+    pub fn of(alloc: Global, formula: &CnfFormula) -> Result<LratFormula, AllocError>
+        ensures { IfOk result (λ made. HoldsFormula formula.now made) }
+    {
+        let mut made = LratFormula::with_room(alloc, formula.len())?;
+        for clause in formula {
+            made.add_clause(clause)?;
+        }
+        Ok(made)
+    }
+
+    /// The clauses of a text in DIMACS CNF, the whole of it, or its first fault. They stand here
+    /// alone.
+    pub fn read<F: Read + Drop>(alloc: Global, cnf: F) -> Result<LratFormula, DimacsFault>
+        ensures whole { IfOk result (λ made. (formula : List (List ℕ))
+            × IsOutcome (option_map outcome_of (F.remaining cnf)) (formula, Ended)
+            × HoldsFormula formula made) }
+        ensures fault { IfErr result (λ fault. (clauses : List (List ℕ))
+            × FailsAfter (option_map outcome_of (F.remaining cnf)) clauses fault) }
+    {
+        let mut made = match LratFormula::new(alloc) {
+            Ok(made) => made,
+            Err(_) => return Err(DimacsFault::OutOfMemory),
+        };
+        let mut reader = DimacsReader::new(alloc, cnf);
+        let mut clause = Vec::new(alloc);
+        'clauses: while reader.next_clause(&mut clause)? {
+            if made.add_clause(&clause).is_err() {
+                return Err(DimacsFault::OutOfMemory);
+            }
+        }
+        Ok(made)
+    }
+
+    /// One clause more.
+    ///
+    /// After a clause that was not taken every later call answers the same.
+    pub fn add_clause(&mut self, clause: &[Lit]) -> Result<(), AllocError>
+        ensures given { (formula : List (List ℕ)) → HoldsFormula formula self.old
+            → OnOk result (HoldsFormula (formula ++ clause.now ∷ []) self.new) }
+        ensures fails { OnErr result (lacks_clause self.new ≡ true) }
+        ensures going { OnOk result (lacks_clause self.new ≡ false) }
+        ensures failed { lacks_clause self.old ≡ true
+            → (is_err result ≡ true) × (self.new ≡ self.old) }
+    {
+        if self.failed || self.given == u64::MAX {
+            self.failed = true;
+            return Err(AllocError);
+        }
+        let id = self.given + 1;
+        self.failed = true;
+        self.clauses.put(id, clause)?;
+        self.failed = false;
+        self.given = id;
+        self.has_empty |= clause.is_empty();
+        Ok(())
+    }
+
+    /// A checker of lines after these clauses. It accepts none after a clause that was not taken.
+    pub fn checker(self) -> LratChecker
+        ensures ready { (formula : List (List ℕ)) → HoldsFormula formula self
+            → IsReady formula [] result }
+        ensures tight { (formula : List (List ℕ)) → HoldsFormula formula self
+            → HoldsLittle result }
+        ensures failed { has_failed result ≡ lacks_clause self }
+    {
+        let LratFormula {
+            alloc,
+            clauses,
+            given: _,
+            has_empty,
+            failed,
+        } = self;
+        LratChecker::after(alloc, clauses, has_empty, failed)
+    }
+}

@@ -1,0 +1,59 @@
+//! Readers that give few bytes a read, or fail.
+use std::io;
+use std::io::{ErrorKind, Read};
+
+/// Gives so many bytes a read, and may fail one of its reads.
+#[derive(Clone, Copy)]
+pub struct Pieces<'a> {
+    rest: &'a [u8],
+    size: usize,
+    /// The number of the read that fails, counted from 1. It is 0 where none does, or one has.
+    failing: usize,
+    kind: ErrorKind,
+}
+
+impl Pieces<'_> {
+    /// As many bytes a read as there is room for.
+    pub fn whole(bytes: &[u8]) -> Pieces<'_> {
+        Pieces::of_size(bytes, usize::MAX)
+    }
+
+    /// So many bytes a read.
+    pub fn of_size(bytes: &[u8], size: usize) -> Pieces<'_> {
+        Pieces::failing_at(bytes, size, 0)
+    }
+
+    /// So many bytes a read, and the read of this number, counted from 1, is interrupted.
+    pub fn failing_at(bytes: &[u8], size: usize, failing: usize) -> Pieces<'_> {
+        Pieces {
+            rest: bytes,
+            size,
+            failing,
+            kind: ErrorKind::Interrupted,
+        }
+    }
+
+    /// One byte a read, and after the last one a read that fails so.
+    pub fn broken(bytes: &[u8], kind: ErrorKind) -> Pieces<'_> {
+        Pieces {
+            rest: bytes,
+            size: 1,
+            failing: bytes.len().saturating_add(1),
+            kind,
+        }
+    }
+}
+
+impl Read for Pieces<'_> {
+    fn read(&mut self, buf: &mut [u8]) -> io::Result<usize> {
+        if self.failing == 1 {
+            self.failing = 0;
+            return Err(io::Error::new(self.kind, "broken"));
+        }
+        self.failing = self.failing.saturating_sub(1);
+        let count = self.size.min(buf.len()).min(self.rest.len());
+        buf[..count].copy_from_slice(&self.rest[..count]);
+        self.rest = &self.rest[count..];
+        Ok(count)
+    }
+}
