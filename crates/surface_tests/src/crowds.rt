@@ -76,16 +76,11 @@ fn delete_others(alloc: Global, ctx: &mut Context) -> Result<(), Fail>
     Ok(())
 }
 
-/// Whether the ids rise.
-fn rise(ids: &[u64]) -> bool {
-    ids.windows(2).all(|pair| pair[0] < pair[1])
-}
-
 /// The ids of both buckets of hashes of one bit, each by rising ids, and all together so.
 fn all_ids(rt: &impl Abort, alloc: Global, ctx: &Context) -> Result<Vec<u64>, Fail> {
     let mut all = ids_in(alloc, ctx, 0)?;
     let others = ids_in(alloc, ctx, 1)?;
-    assert!(rt; rise(&all) && rise(&others));
+    assert!(rt; all.is_sorted() && others.is_sorted());
     all.extend_from_slice(&others)?;
     all.sort_unstable();
     Ok(all)
