@@ -9,11 +9,11 @@ use Rattle.lrat_checker.proofs.PlaceLemmas.{in_use-push, lits_at-more, lits_at-n
 
 -- ---- the clauses of the first ids in a buffer of their own, without garbage
 
-pub record Packed (lits places packed new : List ℕ) (i : ℕ) : Type 0 where
-  pub count : length new ≡ i
-  pub same : (k : ℕ) → k < i → lits_at packed (get_or new k 0) ≡ lits_at lits (get_or places k 0)
-  pub rising : are_rising packed 0 new ≡ true
-  pub used : in_use packed new ≡ length packed
+pub record Packed (lits places packed starts : List ℕ) (i : ℕ) : Type 0 where
+  pub count : length starts ≡ i
+  pub same : (k : ℕ) → k < i → lits_at packed (get_or starts k 0) ≡ lits_at lits (get_or places k 0)
+  pub rising : are_rising packed 0 starts ≡ true
+  pub used : in_use packed starts ≡ length packed
 
 pub packed-first : (lits places : List ℕ) → Packed lits places [] [] 0
 packed-first lits places = record {
@@ -24,41 +24,41 @@ packed-first lits places = record {
 }
 
 -- an id more, which has no clause
-packed-none : (lits places packed new : List ℕ) (i : ℕ) → Packed lits places packed new i → get_or places i 0 ≡ 0 → Packed lits places packed (new ++ 0 ∷ []) (i + 1)
-packed-none lits places packed new i m none = record {
-  count = omega (arith, length_push new 0, m.count);
+packed-none : (lits places packed starts : List ℕ) (i : ℕ) → Packed lits places packed starts i → get_or places i 0 ≡ 0 → Packed lits places packed (starts ++ 0 ∷ []) (i + 1)
+packed-none lits places packed starts i m none = record {
+  count = omega (arith, length_push starts 0, m.count);
   same = λ k w. same_at k (eqb k i) refl w;
-  rising = rising-more_nones packed 0 new 1 m.rising;
-  used = more_nones-in_use packed new 1 ∙ m.used;
+  rising = rising-more_nones packed 0 starts 1 m.rising;
+  used = more_nones-in_use packed starts 1 ∙ m.used;
 }
   where
-    same_at : (k : ℕ) (b : Bool) → eqb k i ≡ b → k < i + 1 → lits_at packed (get_or (new ++ 0 ∷ []) k 0) ≡ lits_at lits (get_or places k 0)
+    same_at : (k : ℕ) (b : Bool) → eqb k i ≡ b → k < i + 1 → lits_at packed (get_or (starts ++ 0 ∷ []) k 0) ≡ lits_at lits (get_or places k 0)
     same_at k true e w =
         let is : k ≡ i = eqb-true k i e in
-        ap (lits_at packed) (get_or_at new 0 [] 0 k (omega (arith, m.count))) ∙ ap (lits_at lits) (sym (ap (λ j. get_or places j 0) is ∙ none))
+        ap (lits_at packed) (get_or_at starts 0 [] 0 k (omega (arith, m.count))) ∙ ap (lits_at lits) (sym (ap (λ j. get_or places j 0) is ∙ none))
     same_at k false e w =
         let ne = eqb-false k i e in
-        ap (lits_at packed) (get_or_append_left new (0 ∷ []) 0 k (omega (arith, m.count))) ∙ m.same k (omega arith)
+        ap (lits_at packed) (get_or_append_left starts (0 ∷ []) 0 k (omega (arith, m.count))) ∙ m.same k (omega arith)
 
 -- and one with a clause
-packed-next : (lits places packed new : List ℕ) (i n : ℕ) (c : List ℕ) → Packed lits places packed new i → n ≡ length c → lits_at lits (get_or places i 0) ≡ Some c →
-    Packed lits places (packed ++ n ∷ c) (new ++ (length packed + 1) ∷ []) (i + 1)
-packed-next lits places packed new i n c m len here = record {
-  count = omega (arith, length_push new (length packed + 1), m.count);
+packed-next : (lits places packed starts : List ℕ) (i n : ℕ) (c : List ℕ) → Packed lits places packed starts i → n ≡ length c → lits_at lits (get_or places i 0) ≡ Some c →
+    Packed lits places (packed ++ n ∷ c) (starts ++ (length packed + 1) ∷ []) (i + 1)
+packed-next lits places packed starts i n c m len here = record {
+  count = omega (arith, length_push starts (length packed + 1), m.count);
   same = λ k w. same_at k (eqb k i) refl w;
-  rising = rising-push packed c n 0 new len m.rising;
-  used = omega (arith, in_use-push packed c n 0 new m.rising, m.used, length-append packed (n ∷ c));
+  rising = rising-push packed c n 0 starts len m.rising;
+  used = omega (arith, in_use-push packed c n 0 starts m.rising, m.used, length-append packed (n ∷ c));
 }
   where
-    same_at : (k : ℕ) (b : Bool) → eqb k i ≡ b → k < i + 1 → lits_at (packed ++ n ∷ c) (get_or (new ++ (length packed + 1) ∷ []) k 0) ≡ lits_at lits (get_or places k 0)
+    same_at : (k : ℕ) (b : Bool) → eqb k i ≡ b → k < i + 1 → lits_at (packed ++ n ∷ c) (get_or (starts ++ (length packed + 1) ∷ []) k 0) ≡ lits_at lits (get_or places k 0)
     same_at k true e w =
         let is : k ≡ i = eqb-true k i e in
-        ap (lits_at (packed ++ n ∷ c)) (get_or_at new (length packed + 1) [] 0 k (omega (arith, m.count)))
+        ap (lits_at (packed ++ n ∷ c)) (get_or_at starts (length packed + 1) [] 0 k (omega (arith, m.count)))
         ∙ lits_at-new packed c n len ∙ sym (ap (λ j. lits_at lits (get_or places j 0)) is ∙ here)
     same_at k false e w =
         let ne = eqb-false k i e in
-        ap (lits_at (packed ++ n ∷ c)) (get_or_append_left new ((length packed + 1) ∷ []) 0 k (omega (arith, m.count)))
-        ∙ lits_at-more packed (n ∷ c) (get_or new k 0) (place-within packed 0 new m.rising k) ∙ m.same k (omega arith)
+        ap (lits_at (packed ++ n ∷ c)) (get_or_append_left starts ((length packed + 1) ∷ []) 0 k (omega (arith, m.count)))
+        ∙ lits_at-more packed (n ∷ c) (get_or starts k 0) (place-within packed 0 starts m.rising k) ∙ m.same k (omega arith)
 
 -- ---- lists that agree from some index on
 
@@ -74,17 +74,17 @@ agree-get_or e p a b w h =
 
 -- ---- the loop: the first ids have their clauses at the start of the buffer, and the others where they were
 
-pub record Packing (lits places now new : List ℕ) (i end : ℕ) : Type 0 where
-  pub places : length new ≡ length places
+pub record Packing (lits places now starts : List ℕ) (i end : ℕ) : Type 0 where
+  pub count : length starts ≡ length places
   pub size : length now ≡ length lits
-  pub to_come : drop i new ≡ drop i places
+  pub to_come : drop i starts ≡ drop i places
   pub above : drop end now ≡ drop end lits
   pub left : are_rising lits end (drop i places) ≡ true
-  pub packed : Packed lits places (take end now) (take i new) i
+  pub packed : Packed lits places (take end now) (take i starts) i
 
 pub packing-first : (lits places : List ℕ) → are_rising lits 0 places ≡ true → Packing lits places lits places 0 0
 packing-first lits places h = record {
-  places = refl;
+  count = refl;
   size = refl;
   to_come = refl;
   above = refl;
@@ -93,103 +93,103 @@ packing-first lits places h = record {
 }
 
 -- the next id
-record Next (lits places now new : List ℕ) (i end : ℕ) : Type 0 where
-  place : get_or places i 0 ≡ get_or new i 0
-  coming : drop (i + 1) new ≡ drop (i + 1) places
-  cases : ((get_or new i 0 ≡ 0) × (are_rising lits end (drop (i + 1) places) ≡ true))
-      ⊎ ((end < get_or new i 0) × (are_rising lits (get_or new i 0 + len_at lits (get_or new i 0)) (drop (i + 1) places) ≡ true))
+record Next (lits places now starts : List ℕ) (i end : ℕ) : Type 0 where
+  place : get_or places i 0 ≡ get_or starts i 0
+  coming : drop (i + 1) starts ≡ drop (i + 1) places
+  cases : ((get_or starts i 0 ≡ 0) × (are_rising lits end (drop (i + 1) places) ≡ true))
+      ⊎ ((end < get_or starts i 0) × (are_rising lits (get_or starts i 0 + len_at lits (get_or starts i 0)) (drop (i + 1) places) ≡ true))
 
-packing-at : (lits places now new : List ℕ) (i end : ℕ) → Packing lits places now new i end → i < length new → Next lits places now new i end
-packing-at lits places now new i end m w = record {
+packing-at : (lits places now starts : List ℕ) (i end : ℕ) → Packing lits places now starts i end → i < length starts → Next lits places now starts i end
+packing-at lits places now starts i end m w = record {
   place = same;
-  coming = agree-drop i (i + 1) new places (omega arith) m.to_come;
+  coming = agree-drop i (i + 1) starts places (omega arith) m.to_come;
   cases = subst (λ p. ((p ≡ 0) × (are_rising lits end (drop (i + 1) places) ≡ true))
       ⊎ ((end < p) × (are_rising lits (p + len_at lits p) (drop (i + 1) places) ≡ true))) same
-      (rising-cases lits end (get_or places i 0) (drop (i + 1) places) (subst (λ ps. are_rising lits end ps ≡ true) (drop_more places i 0 (omega (arith, m.places))) m.left));
+      (rising-cases lits end (get_or places i 0) (drop (i + 1) places) (subst (λ ps. are_rising lits end ps ≡ true) (drop_more places i 0 (omega (arith, m.count))) m.left));
 }
   where
-    same : get_or places i 0 ≡ get_or new i 0
-    same = sym (agree-get_or i i new places (omega arith) m.to_come)
+    same : get_or places i 0 ≡ get_or starts i 0
+    same = sym (agree-get_or i i starts places (omega arith) m.to_come)
 
 -- where its clause is
-pub packing-within : (lits places now new : List ℕ) (i end : ℕ) → Packing lits places now new i end → i < length new → 0 < get_or new i 0 →
-    (end < get_or new i 0) × (get_or new i 0 + len_at now (get_or new i 0) ≤ length now)
-packing-within lits places now new i end m w u = elim (packing-at lits places now new i end m w).cases [
+pub packing-within : (lits places now starts : List ℕ) (i end : ℕ) → Packing lits places now starts i end → i < length starts → 0 < get_or starts i 0 →
+    (end < get_or starts i 0) × (get_or starts i 0 + len_at now (get_or starts i 0) ≤ length now)
+packing-within lits places now starts i end m w u = elim ((packing-at lits places now starts i end m w).cases) [
   | inl z ↦ absurd (omega (arith, z.0))
-  | inr s ↦ (s.0, ends s.0 (rising-low lits (get_or new i 0 + len_at lits (get_or new i 0)) (drop (i + 1) places) s.1))
+  | inr s ↦ (s.0, ends s.0 (rising-low lits (get_or starts i 0 + len_at lits (get_or starts i 0)) (drop (i + 1) places) s.1))
 ]
   where
-    ends : end < get_or new i 0 → get_or new i 0 + len_at lits (get_or new i 0) ≤ length lits → get_or new i 0 + len_at now (get_or new i 0) ≤ length now
+    ends : end < get_or starts i 0 → get_or starts i 0 + len_at lits (get_or starts i 0) ≤ length lits → get_or starts i 0 + len_at now (get_or starts i 0) ≤ length now
     ends low h =
-        let len = agree-get_or end (get_or new i 0 - 1) now lits (omega arith) m.above in
+        let len = agree-get_or end (get_or starts i 0 - 1) now lits (omega arith) m.above in
         omega (arith, len, m.size)
 
 -- past an id without a clause
-pub packing-none : (lits places now new : List ℕ) (i end : ℕ) → Packing lits places now new i end → i < length new → get_or new i 0 ≡ 0 → Packing lits places now new (i + 1) end
-packing-none lits places now new i end m w none =
-    let at = packing-at lits places now new i end m w in
+pub packing-none : (lits places now starts : List ℕ) (i end : ℕ) → Packing lits places now starts i end → i < length starts → get_or starts i 0 ≡ 0 → Packing lits places now starts (i + 1) end
+packing-none lits places now starts i end m w none =
+    let next = packing-at lits places now starts i end m w in
     record {
-      places = m.places;
+      count = m.count;
       size = m.size;
-      to_come = at.coming;
+      to_come = next.coming;
       above = m.above;
-      left = elim at.cases [ | inl z ↦ z.1 | inr s ↦ absurd (omega (arith, s.0, none)) ];
-      packed = subst (λ ps. Packed lits places (take end now) ps (i + 1)) (sym (take_more new i 0 w ∙ ap (λ p. take i new ++ p ∷ []) none))
-          (packed-none lits places (take end now) (take i new) i m.packed (at.place ∙ none));
+      left = elim next.cases [ | inl z ↦ z.1 | inr s ↦ absurd (omega (arith, s.0, none)) ];
+      packed = subst (λ ps. Packed lits places (take end now) ps (i + 1)) (sym (take_more starts i 0 w ∙ ap (λ p. take i starts ++ p ∷ []) none))
+          (packed-none lits places (take end now) (take i starts) i m.packed (next.place ∙ none));
     }
 
 -- past an id whose clause moved down
-pub packing-next : (lits places now new : List ℕ) (i end : ℕ) → Packing lits places now new i end → i < length new → 0 < get_or new i 0 →
-    (later : List ℕ) (after : ℕ) → after ≡ end + (len_at now (get_or new i 0) + 1) →
-    take after later ≡ take end now ++ len_at now (get_or new i 0) ∷ slice_range now (get_or new i 0) (get_or new i 0 + len_at now (get_or new i 0)) →
-    drop after later ≡ drop after now → length later ≡ length now → Packing lits places later (set new i (end + 1)) (i + 1) after
-packing-next lits places now new i end m w u later after is moved above size =
-    let p = get_or new i 0 in
+pub packing-next : (lits places now starts : List ℕ) (i end : ℕ) → Packing lits places now starts i end → i < length starts → 0 < get_or starts i 0 →
+    (later : List ℕ) (after : ℕ) → after ≡ end + (len_at now (get_or starts i 0) + 1) →
+    take after later ≡ take end now ++ len_at now (get_or starts i 0) ∷ slice_range now (get_or starts i 0) (get_or starts i 0 + len_at now (get_or starts i 0)) →
+    drop after later ≡ drop after now → length later ≡ length now → Packing lits places later (set starts i (end + 1)) (i + 1) after
+packing-next lits places now starts i end m w u later after is moved above size =
+    let p = get_or starts i 0 in
     let n = len_at now p in
-    let at = packing-at lits places now new i end m w in
-    let inside = packing-within lits places now new i end m w u in
+    let next = packing-at lits places now starts i end m w in
+    let inside = packing-within lits places now starts i end m w u in
     let low : end < p = inside.0 in
     let high : p + n ≤ length now = inside.1 in
     let long : end ≤ length now = omega arith in
     let start : length (take end now) ≡ end = length-take-le end now long in
-    let here : lits_at lits (get_or places i 0) ≡ Some (slice_range now p (p + n)) = clause at.place low in
+    let here : lits_at lits (get_or places i 0) ≡ Some (slice_range now p (p + n)) = clause next.place low in
     let len : n ≡ length (slice_range now p (p + n)) = sym (length-take-le (p + n - p) (drop p now) (omega (arith, length-drop p now)) ∙ omega arith) in
     record {
-      places = length-set new i (end + 1) ∙ m.places;
+      count = length-set starts i (end + 1) ∙ m.count;
       size = size ∙ m.size;
-      to_come = drop-set-lt (i + 1) new i (end + 1) (omega arith) ∙ at.coming;
+      to_come = drop-set-lt (i + 1) starts i (end + 1) (omega arith) ∙ next.coming;
       above = above ∙ agree-drop end after now lits (omega arith) m.above;
-      left = elim at.cases [
+      left = elim next.cases [
         | inl z ↦ absurd (omega (arith, z.0))
         | inr s ↦ rising-lower lits (p + len_at lits p) after (drop (i + 1) places) (ends low) s.1
       ];
-      packed = subst (λ ps. Packed lits places (take after later) ps (i + 1)) (sym (take_more_set new i (end + 1) w))
-          (subst (λ b. Packed lits places b (take i new ++ (end + 1) ∷ []) (i + 1)) (sym moved)
-          (subst (λ e. Packed lits places (take end now ++ n ∷ slice_range now p (p + n)) (take i new ++ (e + 1) ∷ []) (i + 1)) start
-          (packed-next lits places (take end now) (take i new) i n (slice_range now p (p + n)) m.packed len here)));
+      packed = subst (λ ps. Packed lits places (take after later) ps (i + 1)) (sym (take_more_set starts i (end + 1) w))
+          (subst (λ b. Packed lits places b (take i starts ++ (end + 1) ∷ []) (i + 1)) (sym moved)
+          (subst (λ e. Packed lits places (take end now ++ n ∷ slice_range now p (p + n)) (take i starts ++ (e + 1) ∷ []) (i + 1)) start
+          (packed-next lits places (take end now) (take i starts) i n (slice_range now p (p + n)) m.packed len here)));
     }
   where
-    same_len : end < get_or new i 0 → len_at now (get_or new i 0) ≡ len_at lits (get_or new i 0)
-    same_len low = agree-get_or end (get_or new i 0 - 1) now lits (omega arith) m.above
+    same_len : end < get_or starts i 0 → len_at now (get_or starts i 0) ≡ len_at lits (get_or starts i 0)
+    same_len low = agree-get_or end (get_or starts i 0 - 1) now lits (omega arith) m.above
 
-    ends : end < get_or new i 0 → after ≤ get_or new i 0 + len_at lits (get_or new i 0)
+    ends : end < get_or starts i 0 → after ≤ get_or starts i 0 + len_at lits (get_or starts i 0)
     ends low = omega (arith, same_len low, is)
 
-    clause : get_or places i 0 ≡ get_or new i 0 → end < get_or new i 0 → lits_at lits (get_or places i 0) ≡ Some (slice_range now (get_or new i 0) (get_or new i 0 + len_at now (get_or new i 0)))
+    clause : get_or places i 0 ≡ get_or starts i 0 → end < get_or starts i 0 → lits_at lits (get_or places i 0) ≡ Some (slice_range now (get_or starts i 0) (get_or starts i 0 + len_at now (get_or starts i 0)))
     clause q low =
-        let p = get_or new i 0 in
+        let p = get_or starts i 0 in
         ap (lits_at lits) q ∙ cond-false (eqb p 0) _ _ (ne_eqb p 0 (λ z. omega arith))
         ∙ ap (λ n. Some (slice_range lits p (p + n))) (sym (same_len low))
         ∙ ap (λ x. Some (take (p + len_at now p - p) x)) (sym (agree-drop end p now lits (omega arith) m.above))
 
 -- past the last
-pub packing-all : (lits places now new : List ℕ) (i end : ℕ) → Packing lits places now new i end → length new ≤ i → Packed lits places (take end now) new i
-packing-all lits places now new i end m w = subst (λ ps. Packed lits places (take end now) ps i) (take_all i new w) m.packed
+pub packing-all : (lits places now starts : List ℕ) (i end : ℕ) → Packing lits places now starts i end → length starts ≤ i → Packed lits places (take end now) starts i
+packing-all lits places now starts i end m w = subst (λ ps. Packed lits places (take end now) ps i) (take_all i starts w) m.packed
 
-pub packed-all : (lits places packed new : List ℕ) (i : ℕ) → Packed lits places packed new i → length new ≡ length places → (k : ℕ) → lits_at packed (get_or new k 0) ≡ lits_at lits (get_or places k 0)
-packed-all lits places packed new i m same k = elim (cases_lt k i) [
+pub packed-all : (lits places packed starts : List ℕ) (i : ℕ) → Packed lits places packed starts i → length starts ≡ length places → (k : ℕ) → lits_at packed (get_or starts k 0) ≡ lits_at lits (get_or places k 0)
+packed-all lits places packed starts i m same k = elim (cases_lt k i) [
   | inl lt ↦ m.same k lt
-  | inr ge ↦ ap (lits_at packed) (get_or_past new k 0 (omega (arith, m.count))) ∙ ap (lits_at lits) (sym (get_or_past places k 0 (omega (arith, m.count))))
+  | inr ge ↦ ap (lits_at packed) (get_or_past starts k 0 (omega (arith, m.count))) ∙ ap (lits_at lits) (sym (get_or_past places k 0 (omega (arith, m.count))))
 ]
 
 -- ---- one clause that moves down
