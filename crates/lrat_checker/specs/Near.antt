@@ -11,10 +11,10 @@ use Rattle.lrat_checker.specs.declared.near.NearClauses.{NearClauses}
 abbrev pub near_clause : NearClauses → ℕ → Option (List ℕ)
 near_clause x i = lits_at x.lits.items (get_or x.places.items i 0)
 
--- the buffer has at most a third more than the clauses take, each its literals and one place for its length, or at most one more for two places of ids
+-- the buffer has at most a third more than the clauses take, each its literals and its length, or at most one more for each place of an id
 abbrev pub IsTight : NearClauses → Type 0
 IsTight x = (3 * length x.lits.items ≤ 4 * in_use x.lits.items x.places.items)
-    ⊎ (2 * length x.lits.items ≤ 2 * in_use x.lits.items x.places.items + length x.places.items)
+    ⊎ (length x.lits.items ≤ in_use x.lits.items x.places.items + length x.places.items)
 
 -- so many places there are beside four for each clause that was stored
 abbrev pub spare_places : ℕ

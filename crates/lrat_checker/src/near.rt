@@ -141,15 +141,15 @@ impl NearClauses {
         }
     }
 
-    /// Where more than a quarter of the buffer is garbage, and more than half as much as there are
-    /// places to look at, the clauses close up.
+    /// Where more than a quarter of the buffer is garbage, and more than there are places to look
+    /// at, the clauses close up.
     pub(crate) fn collect_garbage(&mut self)
         ensures same { (k : ℕ) → near_clause self.new k ≡ near_clause self.old k }
         ensures places { length self.new.places.items ≡ length self.old.places.items }
         ensures tight { IsTight self.new }
         ensures idle { IsTight self.old → self.new ≡ self.old }
     {
-        if self.garbage <= self.lits.len() / 4 || self.garbage <= self.places.len() / 2 {
+        if self.garbage <= self.lits.len() / 4 || self.garbage <= self.places.len() {
             return;
         }
         let end = pack(&mut self.places, &mut self.lits);
