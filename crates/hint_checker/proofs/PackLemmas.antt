@@ -139,7 +139,7 @@ packing-none lits places now starts i end m w none =
     }
 
 -- past an id whose clause moved down
-pub packing-next : (lits places now starts : List ℕ) (i end : ℕ) → Packing lits places now starts i end → i < length starts → 0 < get_or starts i 0 →
+packing-next : (lits places now starts : List ℕ) (i end : ℕ) → Packing lits places now starts i end → i < length starts → 0 < get_or starts i 0 →
     (later : List ℕ) (after : ℕ) → after ≡ end + (len_at now (get_or starts i 0) + 1) →
     take after later ≡ take end now ++ len_at now (get_or starts i 0) ∷ slice_range now (get_or starts i 0) (get_or starts i 0 + len_at now (get_or starts i 0)) →
     drop after later ≡ drop after now → length later ≡ length now → Packing lits places later (set starts i (end + 1)) (i + 1) after
@@ -181,6 +181,14 @@ packing-next lits places now starts i end m w u later after is moved above size 
         ap (lits_at lits) q ∙ cond-false (eqb p 0) _ _ (ne_eqb p 0 (λ z. omega arith))
         ∙ ap (λ n. Some (slice_range lits p (p + n))) (sym (same_len low))
         ∙ ap (λ x. Some (take (p + len_at now p - p) x)) (sym (agree-drop end p now lits (omega arith) m.above))
+
+-- the same with the place as it was read
+pub packing-moved : (lits places now starts : List ℕ) (i end : ℕ) → Packing lits places now starts i end → i < length starts → (p : ℕ) → p ≡ get_or starts i 0 → 0 < p →
+    (later : List ℕ) (after : ℕ) → after ≡ end + (len_at now p + 1) → take after later ≡ take end now ++ len_at now p ∷ slice_range now p (p + len_at now p) →
+    drop after later ≡ drop after now → length later ≡ length now → Packing lits places later (set starts i (end + 1)) (i + 1) after
+packing-moved lits places now starts i end m w p e u later after is moved above size =
+    packing-next lits places now starts i end m w (subst (λ q. 0 < q) e u) later after (subst (λ q. after ≡ end + (len_at now q + 1)) e is)
+    (subst (λ q. take after later ≡ take end now ++ len_at now q ∷ slice_range now q (q + len_at now q)) e moved) above size
 
 -- past the last
 pub packing-all : (lits places now starts : List ℕ) (i end : ℕ) → Packing lits places now starts i end → length starts ≤ i → Packed lits places (take end now) starts i

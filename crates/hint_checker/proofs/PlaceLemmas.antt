@@ -176,18 +176,18 @@ set-last ps i x e = sym (take_all (i + 1) (set ps i x) (omega (arith, length-sam
     length-same : length (set ps i x) ≡ length ps
     length-same = length-set ps i x
 
-pub stored-rising : (lits c : List ℕ) (n : ℕ) (ps : List ℕ) (i : ℕ) → n ≡ length c → are_rising lits 0 ps ≡ true → length ps ≡ i + 1 → are_rising (lits ++ n ∷ c) 0 (set ps i (length lits + 1)) ≡ true
+stored-rising : (lits c : List ℕ) (n : ℕ) (ps : List ℕ) (i : ℕ) → n ≡ length c → are_rising lits 0 ps ≡ true → length ps ≡ i + 1 → are_rising (lits ++ n ∷ c) 0 (set ps i (length lits + 1)) ≡ true
 stored-rising lits c n ps i e h w =
     subst (λ qs. are_rising (lits ++ n ∷ c) 0 qs ≡ true) (sym (set-last ps i (length lits + 1) w)) (rising-push lits c n 0 (take i ps) e (rising-take lits 0 ps h i))
 
-pub stored-in_use : (lits c : List ℕ) (n : ℕ) (ps : List ℕ) (i : ℕ) → are_rising lits 0 ps ≡ true → length ps ≡ i + 1 → get_or ps i 0 ≡ 0 → in_use (lits ++ n ∷ c) (set ps i (length lits + 1)) ≡ in_use lits ps + (n + 1)
+stored-in_use : (lits c : List ℕ) (n : ℕ) (ps : List ℕ) (i : ℕ) → are_rising lits 0 ps ≡ true → length ps ≡ i + 1 → get_or ps i 0 ≡ 0 → in_use (lits ++ n ∷ c) (set ps i (length lits + 1)) ≡ in_use lits ps + (n + 1)
 stored-in_use lits c n ps i h w free =
     let f = size_at (lits ++ n ∷ c) in
     let moved = sum_by-set f ps i (length lits + 1) 0 (omega arith) in
     let none : f (get_or ps i 0) ≡ 0 = ap f free in
     omega (arith, moved, none, in_use-more lits (n ∷ c) 0 ps h, size-new lits c n)
 
-pub stored-at : (lits c : List ℕ) (n : ℕ) (ps : List ℕ) (i : ℕ) → n ≡ length c → are_rising lits 0 ps ≡ true → length ps ≡ i + 1 → (k : ℕ) →
+stored-at : (lits c : List ℕ) (n : ℕ) (ps : List ℕ) (i : ℕ) → n ≡ length c → are_rising lits 0 ps ≡ true → length ps ≡ i + 1 → (k : ℕ) →
     lits_at (lits ++ n ∷ c) (get_or (set ps i (length lits + 1)) k 0) ≡ cond (eqb k i) (Some c) (lits_at lits (get_or ps k 0))
 stored-at lits c n ps i e h w k = go (eqb k i) refl
   where
@@ -198,6 +198,23 @@ stored-at lits c n ps i e h w k = go (eqb k i) refl
     go false q =
         ap (lits_at (lits ++ n ∷ c)) (get_or-set_other ps i k (length lits + 1) 0 (eqb-false k i q))
         ∙ lits_at-more lits (n ∷ c) (get_or ps k 0) (place-within lits 0 ps h k)
+
+-- what the buffer and the places are then
+pub record Stored (lits c : List ℕ) (n : ℕ) (ps : List ℕ) (i : ℕ) (buffer starts : List ℕ) : Type 0 where
+  pub rising : are_rising buffer 0 starts ≡ true
+  pub used : in_use buffer starts ≡ in_use lits ps + (n + 1)
+  pub size : length buffer ≡ length lits + (n + 1)
+  pub here : (k : ℕ) → lits_at buffer (get_or starts k 0) ≡ cond (eqb k i) (Some c) (lits_at lits (get_or ps k 0))
+
+pub stored : (lits c : List ℕ) (n : ℕ) (ps : List ℕ) (i : ℕ) → n ≡ length c → are_rising lits 0 ps ≡ true → length ps ≡ i + 1 → get_or ps i 0 ≡ 0 →
+    (buffer : List ℕ) (x : ℕ) → buffer ≡ lits ++ n ∷ c → x ≡ length lits → Stored lits c n ps i buffer (set ps i (x + 1))
+stored lits c n ps i len h w free buffer x longer end =
+    subst (λ b. Stored lits c n ps i b (set ps i (x + 1))) (sym longer) (subst (λ y. Stored lits c n ps i (lits ++ n ∷ c) (set ps i (y + 1))) (sym end) (record {
+      rising = stored-rising lits c n ps i len h w;
+      used = stored-in_use lits c n ps i h w free;
+      size = omega (arith, length-append lits (n ∷ c));
+      here = stored-at lits c n ps i len h w;
+    }))
 
 -- ---- an id without a clause
 
@@ -234,3 +251,16 @@ more_nones-at [] (suc n) zero = refl
 more_nones-at [] (suc n) (suc k) = more_nones-at [] n k
 more_nones-at (p ∷ ps) n zero = refl
 more_nones-at (p ∷ ps) n (suc k) = more_nones-at ps n k
+
+-- a list of places that is filled up, or that stays for want of memory
+pub filled : (ps qs rs : List ℕ) (b : Bool) (n m : ℕ) → qs ≡ ps → rs ≡ cond b (take n qs ++ replicate m 0) qs → length ps ≤ n → (rs ≡ ps ++ replicate m 0) ⊎ (rs ≡ ps)
+filled ps qs rs true n m e f w = inl (f ∙ ap (λ x. take n x ++ replicate m 0) e ∙ ap (λ x. x ++ replicate m 0) (take_all n ps w))
+filled ps qs rs false n m e f w = inr (f ∙ e)
+
+pub filled-rising : (lits ps rs : List ℕ) (m : ℕ) → are_rising lits 0 ps ≡ true → (rs ≡ ps ++ replicate m 0) ⊎ (rs ≡ ps) → are_rising lits 0 rs ≡ true
+filled-rising lits ps rs m h (inl e) = ap (are_rising lits 0) e ∙ rising-more_nones lits 0 ps m h
+filled-rising lits ps rs m h (inr e) = ap (are_rising lits 0) e ∙ h
+
+pub filled-in_use : (lits ps rs : List ℕ) (m : ℕ) → (rs ≡ ps ++ replicate m 0) ⊎ (rs ≡ ps) → in_use lits rs ≡ in_use lits ps
+filled-in_use lits ps rs m (inl e) = ap (in_use lits) e ∙ more_nones-in_use lits ps m
+filled-in_use lits ps rs m (inr e) = ap (in_use lits) e
