@@ -69,6 +69,7 @@ impl NearClauses {
             ≡ (if stored && (k == id) then Some clause.now else near_clause self.old k)) }
         ensures left { IfOk result (λ stored. stored ≡ false → self.new ≡ self.old) }
         ensures err { OnErr result ((k : ℕ) → near_clause self.new k ≡ near_clause self.old k) }
+        ensures full { OnErr result (has_room self.old id (length clause.now) ≡ true) }
         ensures places { length self.new.places.items
             ≤ max (length self.old.places.items) (id + 1) }
         ensures tight { IsTight self.old → IsTight self.new }
