@@ -133,7 +133,7 @@ packing-none lits places now starts i end m w none =
       size = m.size;
       to_come = next.coming;
       above = m.above;
-      left = elim next.cases [ | inl z ↦ z.1 | inr s ↦ absurd (omega (arith, s.0, none)) ];
+      left = elim next.cases [ inl z ↦ z.1 | inr s ↦ absurd (omega (arith, s.0, none)) ];
       packed = subst (λ ps. Packed lits places (take end now) ps (i + 1)) (sym (take_more starts i 0 w ∙ ap (λ p. take i starts ++ p ∷ []) none))
           (packed-none lits places (take end now) (take i starts) i m.packed (next.place ∙ none));
     }
@@ -226,7 +226,8 @@ moved-down xs p n end low high after is =
     let first = length-take-le end xs (omega arith) in
     let second = length-take-le k (drop (p - 1) xs) (omega (arith, length-drop (p - 1) xs)) in
     let long : length front ≡ after = omega (arith, length-append (take end xs) (take k (drop (p - 1) xs)), first, second) in
-    let to : end + k ≡ after = omega arith in
-    (take_at front rest after long ∙ ap (λ j. take end xs ++ take j (drop (p - 1) xs)) e ∙ ap (λ x. take end xs ++ x) (record-is xs p n (omega arith) high),
-    drop_at front rest after long ∙ ap (λ j. drop j xs) to,
-    omega (arith, length-append front rest, length-drop (end + k) xs))
+    let to : end + k ≡ after = omega arith in (
+      take_at front rest after long ∙ ap (λ j. take end xs ++ take j (drop (p - 1) xs)) e ∙ ap (λ x. take end xs ++ x) (record-is xs p n (omega arith) high),
+      drop_at front rest after long ∙ ap (λ j. drop j xs) to,
+      omega (arith, length-append front rest, length-drop (end + k) xs),
+    )

@@ -17,8 +17,8 @@ invariant_of-self-2-clause-counted c =
     let x = c.make_place.new.self in
     let end : c.len-place.result ≡ length x.lits.items = search rules in
     let after = stored x.lits.items c.args.clause.now c.args.len x.places.items c.args.id c.requires.len x.rising c.in_ok-make_place.ensures.room
-        (c.make_place.ensures.same c.args.id ∙ get_or_past c.args.self.now.places.items c.args.id 0 c.requires.greater)
-        c.append.new.lits.items c.len-place.result c.in_ok-append.ensures.ok end in
+    (c.make_place.ensures.same c.args.id ∙ get_or_past c.args.self.now.places.items c.args.id 0 c.requires.greater)
+    c.append.new.lits.items c.len-place.result c.in_ok-append.ensures.ok end in
     omega (arith, after.used, after.size, x.counted)
 
 pub returns-clause-ok : goal.returns-clause-ok
