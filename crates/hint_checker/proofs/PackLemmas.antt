@@ -1,7 +1,7 @@
 -- Clauses that close up within their buffer.
-use Rattle.std.proofs.Common.{◌≡◌, ℕ, zero, suc, ◌+◌, ◌-◌, ◌<◌, ◌≤◌, ◌⊎◌, inl, inr, Bool, true, false, eqb, List, [], ◌∷◌, ◌++◌, length, get_or, add-one, add-zero}
-use Rattle.std.proofs.Common.{set, take, drop, slice_range, Option, Some, None, refl, sym, ap, ◌∙◌, subst, arith, length-append, length-drop, length-set, length-take-le}
-use Rattle.std.proofs.lemmas.Bool.{cases_lt, cond-false, eqb-true, eqb-false, leb-true, ne_eqb}
+use Rattle.std.proofs.Common.{◌≡◌, ℕ, suc, ◌+◌, ◌-◌, ◌<◌, ◌≤◌, ◌⊎◌, inl, inr, Bool, true, false, eqb, List, [], ◌∷◌, ◌++◌, length, get_or, add-one}
+use Rattle.std.proofs.Common.{set, take, drop, slice_range, Some, refl, sym, ap, ◌∙◌, subst, arith, length-append, length-drop, length-set, length-take-le}
+use Rattle.std.proofs.lemmas.Bool.{cases_lt, cond-false, eqb-true, eqb-false, ne_eqb}
 use Rattle.std.proofs.lemmas.List.{drop-drop, drop-set-lt, drop_at, drop_more, get_or_append_left, get_or_at, get_or-drop, get_or_past, length_push, take_all, take_at, take_more, take_more_set}
 use Rattle.std.specs.List.{copy_within}
 use Rattle.hint_checker.specs.Places.{are_rising, in_use, len_at, lits_at}
@@ -133,7 +133,7 @@ packing-none lits places now starts i end m w none =
       size = m.size;
       to_come = next.coming;
       above = m.above;
-      left = elim next.cases [ | inl z ↦ z.1 | inr s ↦ absurd (omega (arith, s.0, none)) ];
+      left = elim next.cases [ inl z ↦ z.1 | inr s ↦ absurd (omega (arith, s.0, none)) ];
       packed = subst (λ ps. Packed lits places (take end now) ps (i + 1)) (sym (take_more starts i 0 w ∙ ap (λ p. take i starts ++ p ∷ []) none))
           (packed-none lits places (take end now) (take i starts) i m.packed (next.place ∙ none));
     }
@@ -226,7 +226,8 @@ moved-down xs p n end low high after is =
     let first = length-take-le end xs (omega arith) in
     let second = length-take-le k (drop (p - 1) xs) (omega (arith, length-drop (p - 1) xs)) in
     let long : length front ≡ after = omega (arith, length-append (take end xs) (take k (drop (p - 1) xs)), first, second) in
-    let to : end + k ≡ after = omega arith in
-    (take_at front rest after long ∙ ap (λ j. take end xs ++ take j (drop (p - 1) xs)) e ∙ ap (λ x. take end xs ++ x) (record-is xs p n (omega arith) high),
-    drop_at front rest after long ∙ ap (λ j. drop j xs) to,
-    omega (arith, length-append front rest, length-drop (end + k) xs))
+    let to : end + k ≡ after = omega arith in (
+      take_at front rest after long ∙ ap (λ j. take end xs ++ take j (drop (p - 1) xs)) e ∙ ap (λ x. take end xs ++ x) (record-is xs p n (omega arith) high),
+      drop_at front rest after long ∙ ap (λ j. drop j xs) to,
+      omega (arith, length-append front rest, length-drop (end + k) xs),
+    )

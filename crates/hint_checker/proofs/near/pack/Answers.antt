@@ -20,11 +20,11 @@ loop-id-preserved c =
     let at : c.index.result.now ≡ get_or l.places.items l.id 0 = get_or_read l.places.items l.id c.index.result.now low c.index.ensures 0 in
     elim c.if-place-gt0.branch [
       | then-place-gt0 w ↦
-        let down = w.move_down-end in
-        rw (w.places-is, w.lits-is, w.end-is) (packing-moved c.args.lits.now.items c.args.places.now.items l.lits.items l.places.items l.id l.end l.invariant low
-        c.index.result.now at w.if-place-gt0.true down.new.lits.items down.result down.ensures.end down.ensures.moved down.ensures.above down.ensures.len)
+          let down = w.move_down-end in
+          rw (w.places-is, w.lits-is, w.end-is) (packing-moved c.args.lits.now.items c.args.places.now.items l.lits.items l.places.items l.id l.end l.invariant low
+          c.index.result.now at w.if-place-gt0.true down.new.lits.items down.result down.ensures.end down.ensures.moved down.ensures.above down.ensures.len)
       | else-place-gt0 w ↦
-        rw (w.places-is, w.lits-is, w.end-is) (packing-none c.args.lits.now.items c.args.places.now.items l.lits.items l.places.items l.id l.end l.invariant low (omega (arith, at, w.if-place-gt0.false)))
+          rw (w.places-is, w.lits-is, w.end-is) (packing-none c.args.lits.now.items c.args.places.now.items l.lits.items l.places.items l.id l.end l.invariant low (omega (arith, at, w.if-place-gt0.false)))
     ]
 
 pub returns-clause-same : goal.returns-clause-same
