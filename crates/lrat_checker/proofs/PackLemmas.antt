@@ -1,7 +1,7 @@
 -- Clauses that close up within their buffer.
-use Rattle.std.proofs.Common.{◌≡◌, ℕ, zero, suc, ◌+◌, ◌-◌, ◌<◌, ◌≤◌, ◌⊎◌, inl, inr, Bool, true, false, eqb, List, [], ◌∷◌, ◌++◌, length, get_or, add-one, add-zero}
-use Rattle.std.proofs.Common.{set, take, drop, slice_range, Option, Some, None, refl, sym, ap, ◌∙◌, subst, arith, length-append, length-drop, length-set, length-take-le}
-use Rattle.std.proofs.lemmas.Bool.{cases_lt, cond-false, eqb-true, eqb-false, leb-true, ne_eqb}
+use Rattle.std.proofs.Common.{◌≡◌, ℕ, suc, ◌+◌, ◌-◌, ◌<◌, ◌≤◌, ◌⊎◌, inl, inr, Bool, true, false, eqb, List, [], ◌∷◌, ◌++◌, length, get_or, add-one}
+use Rattle.std.proofs.Common.{set, take, drop, slice_range, Some, refl, sym, ap, ◌∙◌, subst, arith, length-append, length-drop, length-set, length-take-le}
+use Rattle.std.proofs.lemmas.Bool.{cases_lt, cond-false, eqb-true, eqb-false, ne_eqb}
 use Rattle.std.proofs.lemmas.List.{drop-drop, drop-set-lt, drop_at, drop_more, get_or_append_left, get_or_at, get_or-drop, get_or_past, length_push, take_all, take_at, take_more, take_more_set}
 use Rattle.std.specs.List.{copy_within}
 use Rattle.lrat_checker.specs.Places.{are_rising, in_use, len_at, lits_at}

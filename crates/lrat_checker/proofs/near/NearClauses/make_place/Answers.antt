@@ -1,4 +1,4 @@
-use Rattle.std.proofs.Common.{◌≡◌, ◌+◌, ◌-◌, ◌∙◌, ap, arith, is_ok}
+use Rattle.std.proofs.Common.{◌+◌, ◌∙◌, ap, arith, is_ok}
 use Rattle.lrat_checker.proofs.PlaceLemmas.{filled, filled-in_use, filled-rising}
 use Rattle.lrat_checker.proofs.near.NearClauses.make_place.Goals as goal
 

@@ -1,7 +1,7 @@
-use Rattle.std.proofs.Common.{◌≡◌, ◌+◌, ◌∙◌, Some, ap, ap₂, arith, cond, eqb, get_or, length, rules}
+use Rattle.std.proofs.Common.{◌≡◌, ◌∙◌, Some, ap, ap₂, arith, cond, eqb, length, rules}
 use Rattle.std.proofs.lemmas.List.{get_or_past}
 use Rattle.lrat_checker.specs.Places.{lits_at}
-use Rattle.lrat_checker.proofs.PlaceLemmas.{Stored, stored}
+use Rattle.lrat_checker.proofs.PlaceLemmas.{stored}
 use Rattle.lrat_checker.proofs.near.NearClauses.store.Goals as goal
 
 pub invariant_of-self-2-clause-rising : goal.invariant_of-self-2-clause-rising
