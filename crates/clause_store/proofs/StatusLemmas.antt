@@ -1,5 +1,5 @@
 -- What follows from a clause, literal by literal.
-use Rattle.std.proofs.Common.{◌≡◌, ℕ, zero, suc, [], arith, ◌+◌, ◌<◌, ◌≤◌, Bool, true, false, cond, List, ◌∷◌, length, drop, take, get_or, Option, None, Some, refl, sym, ap, ◌∙◌}
+use Rattle.std.proofs.Common.{◌≡◌, ℕ, zero, suc, [], arith, ◌+◌, ◌<◌, Bool, true, false, cond, List, ◌∷◌, length, drop, get_or, Option, None, Some, refl, sym, ap, ◌∙◌}
 use Rattle.std.specs.List.{list_all, list_any}
 use Rattle.std.specs.Option.{is_some}
 use Rattle.std.proofs.lemmas.Bool.{and_parts}
@@ -94,14 +94,3 @@ status_of-unit us m c h all = status_from-free us m c (none-by (lit_value us m) 
 pub status_of-two : (us : List (Option UnitClause)) (m : ℕ) (c : List ℕ) → is_some (lit_value us m) ≡ false → list_all (λ l. true_lits us (negate l)) c ≡ false →
     status_of (true_lits us) (m ∷ c) ≡ statuses.Idle
 status_of-two us m c h other = status_from-free us m c (none-by (lit_value us m) h) ∙ status_from-other us m c other
-
--- a part of a list has no greater variable
-pub bound-drop : (k : ℕ) (c : List ℕ) → var_bound (drop k c) ≤ var_bound c
-bound-drop zero c = omega arith
-bound-drop (suc k) [] = omega arith
-bound-drop (suc k) (m ∷ c) = let b = bound-drop k c in omega arith
-
-pub bound-take : (k : ℕ) (c : List ℕ) → var_bound (take k c) ≤ var_bound c
-bound-take zero c = omega arith
-bound-take (suc k) [] = omega arith
-bound-take (suc k) (m ∷ c) = let b = bound-take k c in omega arith

@@ -27,10 +27,12 @@ pub fn clause_status(units: &Units, lits: &[Lit]) -> ClauseStatus
     requires { AreKnown units.now lits.now }
     ensures { result ≡ status_of (true_lits units.now) lits.now }
 {
-    for (index, lit) in lits.iter().enumerate() {
+    let mut rest = lits;
+    while let Some((lit, others)) = rest.split_first() {
         if !units.is_known_false(*lit) {
-            return status_with(units, *lit, &lits[index + 1..]);
+            return status_with(units, *lit, others);
         }
+        rest = others;
     }
     ClauseStatus::Falsified
 }
