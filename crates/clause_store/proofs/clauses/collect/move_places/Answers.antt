@@ -1,0 +1,76 @@
+use Rattle.std.proofs.Common.{◌≡◌, ◌∷◌, ◌+◌, ◌++◌, ◌<◌, [], ℕ, List, Option, Some, None, append-nil, length, take, drop, set, get_or, refl, sym, ap, ◌∙◌, arith}
+use Rattle.std.proofs.lemmas.List.{drop-set-lt, drop_more, length-set, take-append-drop, take_all, take_more_set}
+use Rattle.clause_store.specs.declared.clauses.Clause.{Clause}
+use Rattle.clause_store.specs.Crowds.{standing}
+use Rattle.clause_store.specs.Lits.{buffer_used, moved_to}
+use Rattle.clause_store.specs.Moved.{all_moved_to, all_used}
+use Rattle.clause_store.proofs.CrowdLemmas.{place-here, standing-append, standing-drop, standing-more}
+use Rattle.clause_store.proofs.MoveLemmas.{all_moved_to-append, all_used-append}
+use Rattle.clause_store.proofs.clauses.collect.move_places.Goals as goal
+
+-- the same place in the same list, read from its rest
+same-place : (ps qs : List (Option Clause)) (i : ℕ) (p : Option Clause) → drop i ps ≡ drop i qs → length ps ≡ length qs → i < length ps →
+    p ≡ get_or ps i p → (p ≡ get_or qs i p) × (drop (i + 1) ps ≡ drop (i + 1) qs)
+same-place ps qs i p rest many less is =
+    let both : get_or ps i p ∷ drop (i + 1) ps ≡ get_or qs i p ∷ drop (i + 1) qs =
+    sym (drop_more ps i p less) ∙ rest ∙ drop_more qs i p (omega arith) in
+    (is ∙ cc, cc)
+
+-- the literals of the clause that is read still have room
+room : (ps : List (Option Clause)) (i : ℕ) (d : Clause) → i < length ps → Some d ≡ get_or ps i (Some d) →
+    (n : ℕ) × (all_used (standing ps) ≡ all_used (standing (take i ps)) + (buffer_used d.lits + n))
+room ps i d less is =
+    let before = standing (take i ps) in let after = standing (drop (i + 1) ps) in
+    let all : standing ps ≡ before ++ d ∷ after =
+    ap standing (sym (take-append-drop i ps)) ∙ standing-append (take i ps) (drop i ps) ∙ ap (λ cs. before ++ cs) (standing-drop ps i (Some d) less is) in
+    (all_used after, ap all_used all ∙ all_used-append before (d ∷ after))
+
+pub move_to-requires : goal.move_to-requires
+move_to-requires c =
+    let ps = c.args.places.now in let l = c.loop-i in let v = l.invariant in let d = c.in-Some.clause in
+    let here = same-place l.places ps l.i (Some d) v.rest v.many (omega (arith, v.many, c.loop-i-test.true)) (place-here l.places l.i _ (Some d) (omega (arith, v.many, c.loop-i-test.true)) c.in-Some.is) in
+    let r = room ps l.i d c.loop-i-test.true here.0 in
+    omega (arith, r.1, v.end, c.requires)
+
+pub loop-i-preserved : goal.loop-i-preserved
+loop-i-preserved c =
+    let ps = c.args.places.now in let l = c.loop-i in let v = l.invariant in let d = c.in-Some.clause in let i = l.i in
+    let less : i < length l.places = omega (arith, v.many, c.loop-i-test.true) in
+    let here = same-place l.places ps i (Some d) v.rest v.many less (place-here l.places i _ (Some d) less c.in-Some.is) in
+    let e : Clause = record d { lits = moved_to l.at d.lits } in
+    let more : standing (take (i + 1) ps) ≡ standing (take i ps) ++ d ∷ [] = standing-more ps i (Some d) c.loop-i-test.true here.0 in
+    record {
+      moved = ap standing (take_more_set l.places i (Some e) less) ∙ standing-append (take i l.places) (Some e ∷ [])
+          ∙ ap (λ cs. cs ++ e ∷ []) v.moved
+          ∙ ap (λ n. all_moved_to c.args.first (standing (take i ps)) ++ record d { lits = moved_to n d.lits } ∷ []) v.end
+          ∙ sym (all_moved_to-append c.args.first (standing (take i ps)) (d ∷ []))
+          ∙ ap (all_moved_to c.args.first) (sym more);
+      rest = drop-set-lt (i + 1) l.places i (Some e) (omega arith) ∙ here.1;
+      many = length-set l.places i (Some e) ∙ v.many;
+      end = let used = ap all_used more ∙ all_used-append (standing (take i ps)) (d ∷ []) in omega (arith, used, v.end, c.move_to.ensures.end);
+    }
+
+pub loop-i-preserved-in_default : goal.loop-i-preserved-in_default
+loop-i-preserved-in_default c =
+    let ps = c.args.places.now in let l = c.loop-i in let v = l.invariant in let i = l.i in
+    let less : i < length l.places = omega (arith, v.many, c.loop-i-test.true) in
+    let read = place-here l.places i _ None less c.in_default.is in
+    let here = same-place l.places ps i None v.rest v.many less read in
+    let old : standing (take (i + 1) l.places) ≡ standing (take i l.places) = standing-more l.places i None less read ∙ append-nil _ in
+    let new : standing (take (i + 1) ps) ≡ standing (take i ps) = standing-more ps i None c.loop-i-test.true here.0 ∙ append-nil _ in
+    record {
+      moved = old ∙ v.moved ∙ ap (all_moved_to c.args.first) (sym new);
+      rest = here.1;
+      many = v.many;
+      end = v.end ∙ ap (λ cs. c.args.first + all_used cs) (sym new);
+    }
+
+pub returns-clause-moved : goal.returns-clause-moved
+returns-clause-moved c =
+    let ps = c.args.places.now in let l = c.loop-i in let v = l.invariant in
+    ap standing (sym (take_all l.i l.places (omega (arith, v.many)))) ∙ v.moved ∙ ap (λ qs. all_moved_to c.args.first (standing qs)) (take_all l.i ps (omega arith))
+
+pub returns-clause-end : goal.returns-clause-end
+returns-clause-end c =
+    let ps = c.args.places.now in let l = c.loop-i in
+    l.invariant.end ∙ ap (λ qs. c.args.first + all_used (standing qs)) (take_all l.i ps (omega arith))
