@@ -40,8 +40,7 @@ clauses_in es = flat_map clauses_of (values_of es)
 -- what is true of two lists is true of each
 pub All-first : {X : Type 0} (P : X → Type 0) (xs ys : List X) → All P (xs ++ ys) → All P xs
 All-first P [] ys all = All-nil P
-All-first P (x ∷ xs) ys all zero d l = All-head P x (xs ++ ys) all
-All-first P (x ∷ xs) ys all (suc k) d l = All-first P xs ys (All-tail P x (xs ++ ys) all) k d (omega arith)
+All-first P (x ∷ xs) ys all = All-cons P x xs (All-head P x (xs ++ ys) all) (All-first P xs ys (All-tail P x (xs ++ ys) all))
 
 pub All-second : {X : Type 0} (P : X → Type 0) (xs ys : List X) → All P (xs ++ ys) → All P ys
 All-second P [] ys all = all

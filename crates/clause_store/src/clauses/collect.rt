@@ -1,5 +1,5 @@
 //! Collecting the garbage of the literal buffer.
-ghost use Rattle.std.specs.Prelude.{◌≡◌, ◌+◌, ◌<◌, ◌≤◌, ◌++◌, ◌*◌, ◌^◌, ℕ, List, All, IfOk, OnOk, length, map};
+ghost use Rattle.std.specs.Prelude.{◌≡◌, ◌+◌, ◌<◌, ◌≤◌, ◌++◌, ◌*◌, ◌^◌, ℕ, List, true, All, IfOk, OnOk, length, map};
 ghost use Rattle.checker_rules.specs.LiveLiterals.{live_literals};
 ghost use Rattle.clause_store.specs.Buckets.{AreWithin, clauses_of};
 ghost use Rattle.clause_store.specs.Crowds.{standing};
@@ -115,10 +115,18 @@ fn move_buckets(buckets: &mut Buckets)
         → AreWithin (all_in_buffer buffer (walked buckets.old)) buckets.new }
 {
     let mut at = 0;
-    buckets.retain(move |_hash, bucket| {
-        at = move_bucket(bucket, at);
-        true
-    });
+    buckets.retain(
+        move |_hash, bucket|
+            requires { at + all_used (clauses_of bucket.now) < 2 ^ 64 }
+            ensures stays { result ≡ true }
+            ensures moved { clauses_of bucket.exit.now
+                ≡ all_moved_to at.entry (clauses_of bucket.entry.now) }
+            ensures end { at.exit ≡ at.entry + all_used (clauses_of bucket.entry.now) }
+        {
+            at = move_bucket(bucket, at);
+            true
+        },
+    );
 }
 
 /// The literals that a bucket's clauses have in the buffer stand in another from `at` on. It

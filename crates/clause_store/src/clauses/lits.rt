@@ -61,10 +61,12 @@ impl ClauseLits {
         ensures used { OnOk result (length other.new.items ≡ length other.old.items +
             live_of (lits_of self.now buffer.now)) }
     {
-        if let ClauseLits::Long { start, after_four } = self {
-            other.extend_from_slice(&buffer[*start..*start + (*after_four + 4)])?;
+        match self {
+            ClauseLits::Two(_) | ClauseLits::Three(_) => Ok(()),
+            ClauseLits::Long { start, after_four } => {
+                other.extend_from_slice(&buffer[*start..*start + (*after_four + 4)])
+            }
         }
-        Ok(())
     }
 
     /// The literals in the buffer stand in another from `at` on. It answers where they end there.

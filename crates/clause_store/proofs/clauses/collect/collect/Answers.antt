@@ -15,5 +15,5 @@ returns-clause-filed c =
       rise = c.requires.rise;
       apart = c.requires.apart;
       whole = c.requires.whole;
-      used = omega arith;
+      used = omega (arith, c.in_ok-buffer.ensures.used);
     }

@@ -25,8 +25,8 @@ room ps i d less is =
     ap standing (sym (take-append-drop i ps)) ∙ standing-append (take i ps) (drop i ps) ∙ ap (λ cs. before ++ cs) (standing-drop ps i (Some d) less is) in
     (all_used after, ap all_used all ∙ all_used-append before (d ∷ after))
 
-pub move_to-requires : goal.move_to-requires
-move_to-requires c =
+pub move_to-at-requires : goal.move_to-at-requires
+move_to-at-requires c =
     let ps = c.args.places.now in let l = c.loop-i in let v = l.invariant in let d = c.in-Some.clause in
     let here = same-place l.places ps l.i (Some d) v.rest v.many (omega (arith, v.many, c.loop-i-test.true)) (place-here l.places l.i _ (Some d) (omega (arith, v.many, c.loop-i-test.true)) c.in-Some.is) in
     let r = room ps l.i d c.loop-i-test.true here.0 in
@@ -37,17 +37,18 @@ loop-i-preserved c =
     let ps = c.args.places.now in let l = c.loop-i in let v = l.invariant in let d = c.in-Some.clause in let i = l.i in
     let less : i < length l.places = omega (arith, v.many, c.loop-i-test.true) in
     let here = same-place l.places ps i (Some d) v.rest v.many less (place-here l.places i _ (Some d) less c.in-Some.is) in
-    let e : Clause = record d { lits = moved_to l.at d.lits } in
+    let e : Clause = record d { lits = c.move_to-at.new.self } in
+    let is : e ≡ record d { lits = moved_to (c.args.first + all_used (standing (take i ps))) d.lits } =
+    ap (λ ls. record d { lits = ls }) (c.move_to-at.ensures.moved ∙ ap (λ n. moved_to n d.lits) v.end) in
     let more : standing (take (i + 1) ps) ≡ standing (take i ps) ++ d ∷ [] = standing-more ps i (Some d) c.loop-i-test.true here.0 in
     record {
       moved = ap standing (take_more_set l.places i (Some e) less) ∙ standing-append (take i l.places) (Some e ∷ [])
-          ∙ ap (λ cs. cs ++ e ∷ []) v.moved
-          ∙ ap (λ n. all_moved_to c.args.first (standing (take i ps)) ++ record d { lits = moved_to n d.lits } ∷ []) v.end
+          ∙ ap (λ cs. cs ++ e ∷ []) v.moved ∙ ap (λ x. all_moved_to c.args.first (standing (take i ps)) ++ x ∷ []) is
           ∙ sym (all_moved_to-append c.args.first (standing (take i ps)) (d ∷ []))
           ∙ ap (all_moved_to c.args.first) (sym more);
       rest = drop-set-lt (i + 1) l.places i (Some e) (omega arith) ∙ here.1;
       many = length-set l.places i (Some e) ∙ v.many;
-      end = let used = ap all_used more ∙ all_used-append (standing (take i ps)) (d ∷ []) in omega (arith, used, v.end, c.move_to.ensures.end);
+      end = let used = ap all_used more ∙ all_used-append (standing (take i ps)) (d ∷ []) in omega (arith, used, v.end, c.move_to-at.ensures.end);
     }
 
 pub loop-i-preserved-in_default : goal.loop-i-preserved-in_default
