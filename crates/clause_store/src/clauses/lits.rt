@@ -62,7 +62,8 @@ impl ClauseLits {
             live_of (lits_of self.now buffer.now)) }
     {
         match self {
-            ClauseLits::Two(_) | ClauseLits::Three(_) => Ok(()),
+            ClauseLits::Two([_a, _b]) => Ok(()),
+            ClauseLits::Three([_a, _b, _c]) => Ok(()),
             ClauseLits::Long { start, after_four } => {
                 other.extend_from_slice(&buffer[*start..*start + (*after_four + 4)])
             }

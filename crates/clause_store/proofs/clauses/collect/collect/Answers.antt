@@ -4,6 +4,9 @@ use Rattle.clause_store.proofs.clauses.collect.collect.Goals as goal
 pub copy_lits-requires : goal.copy_lits-requires
 copy_lits-requires c = (c.args.hasher.now, c.requires)
 
+pub move_buckets-requires : goal.move_buckets-requires
+move_buckets-requires c = omega (arith, c.in_ok-buffer.ensures.count)
+
 pub returns-clause-filed : goal.returns-clause-filed
 returns-clause-filed c =
     let b = c.args.clauses.now.literal_buffer.items in let moved = c.move_buckets.ensures in

@@ -1,4 +1,4 @@
-use Rattle.std.proofs.Common.{◌≡◌, ◌∷◌, ◌+◌, ◌++◌, ◌<◌, ℕ, List, map, rules, sym, ap, ◌∙◌, subst, arith}
+use Rattle.std.proofs.Common.{◌≡◌, ◌∷◌, ◌+◌, ◌++◌, ◌<◌, ◌^◌, ℕ, List, map, rules, sym, ap, ◌∙◌, subst, arith}
 use Rattle.std.specs.List.{flat_map}
 use Rattle.std.proofs.lemmas.List.{map-append}
 use Rattle.std.proofs.lemmas.List.Concat.{flat_map-append}
@@ -26,7 +26,9 @@ retain-requires c = record {
   at = λ before after f k v split ran.
       let end = end-before _ (λ g. g.0) (λ g j u b w g' t. (search rules, search rules, search rules)) before _ f ran in
       let room = used_before c.args.buckets.now.entries before after k v split in
-      λ p q key value. ?;
+      let all : all_used (clauses_in c.args.buckets.now.entries) < 2 ^ 64 = c.requires in
+      let fits : f.0 + all_used (clauses_of v) < 2 ^ 64 = omega (arith, end, room.1, all) in
+      λ p q key value. subst (λ b. f.0 + all_used (clauses_of b) < 2 ^ 64) (sym value) fits;
 }
 
 pub returns-clause-same : goal.returns-clause-same
