@@ -1,7 +1,6 @@
 use Rattle.std.proofs.Common.{◌≡◌, ◌+◌, ◌≤◌, ℕ, Bool, true, false, cond, ltb, List, length, refl, rules, arith}
 use Rattle.std.proofs.lemmas.Bool.Decides.{nat_tests}
 use Rattle.checker_rules.specs.LiveLiterals.{live_of}
-use Rattle.clause_store.specs.Lits.{lits_of}
 use Rattle.clause_store.proofs.clauses.lits.ClauseLits.copy_to.Goals as goal
 
 -- three literals or fewer do not stand in the buffer
