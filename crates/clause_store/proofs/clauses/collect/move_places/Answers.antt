@@ -1,4 +1,4 @@
-use Rattle.std.proofs.Common.{◌≡◌, ◌∷◌, ◌+◌, ◌++◌, ◌<◌, [], ℕ, List, Option, Some, None, append-nil, length, take, drop, set, get_or, refl, sym, ap, ◌∙◌, arith}
+use Rattle.std.proofs.Common.{◌≡◌, ◌∷◌, ◌+◌, ◌++◌, ◌<◌, [], ℕ, List, Option, Some, None, append-nil, length, take, drop, get_or, sym, ap, ◌∙◌, arith}
 use Rattle.std.proofs.lemmas.List.{drop-set-lt, drop_more, length-set, take-append-drop, take_all, take_more_set}
 use Rattle.clause_store.specs.declared.clauses.Clause.{Clause}
 use Rattle.clause_store.specs.Crowds.{standing}
