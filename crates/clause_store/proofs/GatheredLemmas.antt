@@ -94,5 +94,9 @@ module _ (h : ClauseHasher) (cs : Clauses) (es : List Stored) (f : IsIndexed h c
       ids-same [] = refl
       ids-same (x ∷ xs) = cc (ids-same xs)
 
+  -- they lie in the buffer
+  pub walked_within : All (λ c. IsWithin c.lits cs.literal_buffer.items) (flat_map clauses_of (values cs.buckets))
+  walked_within = all_within cs.literal_buffer.items cs.buckets unique f.within
+
   pub gathered_within : (all : List Clause) → IsPermutation (flat_map clauses_of (values cs.buckets)) all → All (λ c. IsWithin c.lits cs.literal_buffer.items) all
-  gathered_within all p = All-permutation (λ c. IsWithin c.lits cs.literal_buffer.items) _ all p (all_within cs.literal_buffer.items cs.buckets unique f.within)
+  gathered_within all p = All-permutation (λ c. IsWithin c.lits cs.literal_buffer.items) _ all p walked_within
