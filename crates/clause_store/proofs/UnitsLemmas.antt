@@ -13,7 +13,12 @@ use Rattle.checker_rules.proofs.Traces.{var-negate}
 use Rattle.clause_store.specs.declared.clauses.units.UnitClause.{UnitClause}
 use Rattle.clause_store.specs.Rup.{true_lits}
 use Rattle.clause_store.specs.StateOf.{stored_unit, stored_units}
-use Rattle.clause_store.specs.Units.{lit_value, unit_at, value_by}
+use Rattle.clause_store.specs.Units.{lit_value, signed, unit_at, value_by}
+
+-- the value of a literal by that of its variable
+pub signed-value : (o : Option UnitClause) (m : ℕ) → signed (option_map (λ (u : UnitClause). u.value) o) m ≡ value_by o m
+signed-value None m = refl
+signed-value (Some u) m = refl
 
 pub unit_of-stored_units : (us : List (Option UnitClause)) (v : ℕ) → unit_of (stored_units us) v ≡ option_map stored_unit (unit_at us v)
 unit_of-stored_units [] v = refl

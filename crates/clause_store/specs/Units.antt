@@ -1,5 +1,6 @@
 -- The values of variables.
-use Rattle.std.specs.Prelude.{◌≡◌, ℕ, ◌≤◌, Bool, true, false, not, List, [], ◌∷◌, Option, None, Some, length, slice_index_or, slice_set}
+use Rattle.std.specs.Prelude.{◌≡◌, ℕ, ◌<◌, ◌≤◌, Bool, true, false, not, List, [], ◌∷◌, Option, None, Some, length, slice_index_or, slice_set}
+use Rattle.std.specs.Option.{option_map}
 use Rattle.sat_rules.specs.Clauses.{is_negative, var_of}
 use Rattle.checker_rules.specs.Canonical.{var_bound}
 use Rattle.checker_rules.specs.State.{same_bool}
@@ -78,6 +79,11 @@ signed_unit (Some u) m = Some (same_bool u.value (not (is_negative m)), u)
 -- the value of a literal with that; none for one of a variable without a value
 abbrev pub lit_unit : List (Option UnitClause) → ℕ → Option (Bool × UnitClause)
 lit_unit us m = signed_unit (unit_at us (var_of m)) m
+
+-- these are the values of the known variables
+abbrev pub AreValues : List Value → List (Option UnitClause) → Type 0
+AreValues vs us = (i : ℕ) → i < length us → (i < length vs)
+    × (known (slice_index_or vs i values.Free) ≡ option_map (λ u. u.value) (unit_at us i))
 
 -- the variables of the literals are known
 abbrev pub AreKnown : List (Option UnitClause) → List ℕ → Type 0

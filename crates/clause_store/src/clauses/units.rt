@@ -31,7 +31,7 @@ pub struct UnitClause {
 /// The first two stand in the order of `bool`, so that one comparison tells whether a value makes a
 /// literal false.
 #[derive(Clone, Copy, PartialEq, Eq)]
-enum Value {
+pub(crate) enum Value {
     False,
     True,
     Free,
@@ -219,13 +219,23 @@ impl Units {
         self.values[lit.index()].of_lit(lit)
     }
 
-    /// Whether the value of its known variable makes the literal false.
+    /// The values alone, for `is_false_by`.
     #[inline(always)]
-    pub fn is_known_false(&self, lit: Lit) -> bool
-        requires { var_of lit < length self.now }
+    pub(crate) fn values(&self) -> &[Value]
+        ensures { spec.AreValues result.now self.now }
+    {
+        self.values.as_slice()
+    }
+
+    /// Whether the value of its known variable makes the literal false, where the values are at
+    /// hand.
+    #[inline(always)]
+    pub(crate) fn is_false_by(&self, values: &[Value], lit: Lit) -> bool
+        requires known { var_of lit < length self.now }
+        requires values { spec.AreValues values.now self.now }
         ensures { result ≡ true_lits self.now (negate lit) }
     {
-        self.known_lit_value(lit) == Some(false)
+        values[lit.index()].of_lit(lit) == Some(false)
     }
 
     fn is_true(&self, lit: Lit) -> bool

@@ -27,9 +27,10 @@ pub fn clause_status(units: &Units, lits: &[Lit]) -> ClauseStatus
     requires { AreKnown units.now lits.now }
     ensures { result ≡ status_of (true_lits units.now) lits.now }
 {
+    let values = units.values();
     let mut rest = lits;
     while let Some((lit, others)) = rest.split_first() {
-        if !units.is_known_false(*lit) {
+        if !units.is_false_by(values, *lit) {
             return status_with(units, *lit, others);
         }
         rest = others;
@@ -57,8 +58,9 @@ fn are_false(units: &Units, lits: &[Lit]) -> bool
     requires { AreKnown units.now lits.now }
     ensures { result ≡ list_all (λ m. true_lits units.now (negate m)) lits.now }
 {
+    let values = units.values();
     for lit in lits {
-        if !units.is_known_false(*lit) {
+        if !units.is_false_by(values, *lit) {
             return false;
         }
     }

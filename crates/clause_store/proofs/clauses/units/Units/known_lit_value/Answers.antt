@@ -1,14 +1,11 @@
-use Rattle.std.proofs.Common.{◌≡◌, ℕ, ◌<◌, Bool, length, Option, Some, None, refl, ap, ◌∙◌}
+use Rattle.std.proofs.Common.{◌<◌, Bool, length, Option, ap, ◌∙◌}
 use Rattle.std.specs.Option.{option_map}
 use Rattle.clause_store.specs.declared.clauses.units.UnitClause.{UnitClause}
 use Rattle.clause_store.specs.declared.clauses.units.Value.TheVariants as values
 use Rattle.clause_store.specs.Units.{known, signed, unit_at, value_by}
 use Rattle.clause_store.proofs.ColumnLemmas.{is_place, read_there, value-units_by}
+use Rattle.clause_store.proofs.UnitsLemmas.{signed-value}
 use Rattle.clause_store.proofs.clauses.units.Units.known_lit_value.Goals as goal
-
-signed-value : (o : Option UnitClause) (m : ℕ) → signed (option_map (λ (u : UnitClause). u.value) o) m ≡ value_by o m
-signed-value None m = refl
-signed-value (Some u) m = refl
 
 pub index-requires-2 : goal.index-requires-2
 index-requires-2 c =
