@@ -3,6 +3,7 @@ ghost use Rattle.std.specs.Prelude.{◌≡◌, ◌≤◌, ◌+◌, ◌-◌, ◌^
 ghost use Rattle.sat_formula.specs.Source.{is_limited};
 
 use crate::fault::Stop;
+use crate::growth::grow;
 use memchr::memrchr;
 use sat_formula::source::{NoByte, Source};
 use std::alloc::Global;
@@ -64,6 +65,7 @@ impl<R: Read> Stream<R> {
     {
         self.lines.clear();
         if let Some(len) = memrchr(b'\n', self.source.ahead()) {
+            grow(&mut self.lines, len)?;
             self.lines.extend_from_slice(&self.source.ahead()[..len])?;
             self.source.take_ahead(len + 1);
             return Ok(true);
