@@ -1,12 +1,11 @@
 -- The search for the literals of a clause that are not false.
-use Rattle.std.proofs.Common.{◌≡◌, ℕ, ◌+◌, ◌<◌, Bool, true, false, cond, not, ◌&&◌, eqb, List, [], ◌∷◌, length, get_or, drop, Option, Some, None, refl, sym, ap, ◌∙◌}
+use Rattle.std.proofs.Common.{◌≡◌, ℕ, Bool, true, false, cond, not, ◌&&◌, eqb, List, [], ◌∷◌, Some, None, refl, sym, ap, ◌∙◌}
 use Rattle.std.specs.List.{list_all}
 use Rattle.std.proofs.lemmas.Bool.{eqb-true}
-use Rattle.std.proofs.lemmas.List.{at_drop_more}
 use Rattle.sat_rules.specs.Clauses.{negate, unfalsified}
 use Rattle.lrat_rules.specs.Causes.{not_unit}
 use Rattle.lrat_rules.specs.Propagation.{Ending, by_left, stuck}
-use Rattle.lrat_checker.specs.Values.{is_other, left_from}
+use Rattle.lrat_checker.specs.Values.{left_from}
 
 -- after one was found
 one_left : (s : ℕ → Bool) (l : ℕ) (c : List ℕ) (none : Ending) (one : ℕ → Ending) → left_from s (Some l) c none one ≡ cond (list_all (eqb l) (unfalsified s c)) (one l) (stuck not_unit)
@@ -35,20 +34,6 @@ left_is s (m ∷ ms) none one = go (left_is s ms none one) (s (negate m))
     go rest true = rest
     go rest false = one_left s m ms none one
 
--- the search at the next literal
-module _ (s : ℕ → Bool) (c : List ℕ) (i m : ℕ) (w : i < length c) (e : m ≡ get_or c i m) (none : Ending) (one : ℕ → Ending) where
-  here : (found : Option ℕ) → left_from s found (drop i c) none one ≡ left_from s found (m ∷ drop (i + 1) c) none one
-  here found = at_drop_more (λ d. left_from s found d none one) c i m w ∙ ap (λ k. left_from s found (k ∷ drop (i + 1) c) none one) (sym e)
-
-  pub search_stops : (found : Option ℕ) → s (negate m) ≡ false → is_other found m ≡ true → left_from s found (drop i c) none one ≡ stuck not_unit
-  search_stops found f t = here found ∙ ap (λ b. cond b (left_from s found (drop (i + 1) c) none one) (cond (is_other found m) (stuck not_unit) (left_from s (Some m) (drop (i + 1) c) none one))) f
-      ∙ ap (λ b. cond b (stuck not_unit) (left_from s (Some m) (drop (i + 1) c) none one)) t
-
-  -- a false literal is passed over
-  pub search_goes : (found : Option ℕ) → s (negate m) ≡ true → left_from s found (drop (i + 1) c) none one ≡ left_from s found (drop i c) none one
-  search_goes found f = sym (here found ∙ ap (λ b. cond b (left_from s found (drop (i + 1) c) none one) (cond (is_other found m) (stuck not_unit) (left_from s (Some m) (drop (i + 1) c) none one))) f)
-
-  -- one that is not false is found, or was
-  pub search_finds : (found : Option ℕ) → s (negate m) ≡ false → is_other found m ≡ false → left_from s found (drop i c) none one ≡ left_from s (Some m) (drop (i + 1) c) none one
-  search_finds found f t = here found ∙ ap (λ b. cond b (left_from s found (drop (i + 1) c) none one) (cond (is_other found m) (stuck not_unit) (left_from s (Some m) (drop (i + 1) c) none one))) f
-      ∙ ap (λ b. cond b (stuck not_unit) (left_from s (Some m) (drop (i + 1) c) none one)) t
+-- a literal that is not false is found
+pub search_finds : (s : ℕ → Bool) (m : ℕ) (ms : List ℕ) (none : Ending) (one : ℕ → Ending) → s (negate m) ≡ false → left_from s None (m ∷ ms) none one ≡ left_from s (Some m) ms none one
+search_finds s m ms none one f = ap (λ b. cond b (left_from s None ms none one) (left_from s (Some m) ms none one)) f

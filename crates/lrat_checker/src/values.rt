@@ -149,13 +149,12 @@ impl Values {
             ≡ on_left result none one }
     {
         let near = self.marks.near();
-        let mut index = 0;
-        'lits: while index < clause.len() {
-            let lit = clause[index];
-            index += 1;
-            if !self.marks.has_in(near, lit) {
-                return self.left_with(lit, &clause[index..]);
+        let mut rest = clause;
+        while let Some((lit, others)) = rest.split_first() {
+            if !self.marks.has_in(near, *lit) {
+                return self.left_with(*lit, others);
             }
+            rest = others;
         }
         Left::Nothing
     }
@@ -168,13 +167,12 @@ impl Values {
             ≡ on_left result none one }
     {
         let near = self.marks.near();
-        let mut index = 0;
-        'lits: while index < others.len() {
-            let other = others[index];
-            index += 1;
-            if !self.marks.has_in(near, other) && other != lit {
+        let mut rest = others;
+        while let Some((other, later)) = rest.split_first() {
+            if !self.marks.has_in(near, *other) && *other != lit {
                 return Left::More;
             }
+            rest = later;
         }
         Left::One(lit)
     }
