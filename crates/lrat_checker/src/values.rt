@@ -1,10 +1,11 @@
 //! Which literals are true.
-ghost use Rattle.std.specs.Prelude.{◌≡◌, ◌<◌, ◌-◌, [], ℕ, length, take, OnOk, Some};
-ghost use Rattle.std.specs.List.{list_any};
-ghost use Rattle.sat_rules.specs.Clauses.{has, unfalsified};
+ghost use Rattle.std.specs.Prelude.{◌≡◌, ◌<◌, ◌-◌, ◌∷◌, ◌++◌, [], ℕ, if◌then◌else◌, length, nat_eq, take, MatchOption, OnOk, Some};
+ghost use Rattle.std.specs.List.{list_all, list_any};
+ghost use Rattle.sat_rules.specs.Clauses.{has, negate, unfalsified};
+ghost use Rattle.lrat_rules.specs.Causes.{not_unit};
 ghost use Rattle.lrat_rules.specs.Groups.{add_negated};
-ghost use Rattle.lrat_rules.specs.Propagation.{Ending, by_left};
-ghost use Rattle.lrat_checker.specs.Values.{IsGrown, among, left_from, lits_besides, with_lit};
+ghost use Rattle.lrat_rules.specs.Propagation.{Ending, by_left, stuck};
+ghost use Rattle.lrat_checker.specs.Values.{IsGrown, among, lits_besides, with_lit};
 
 use crate::marks::Marks;
 use sat_formula::Lit;
@@ -143,36 +144,69 @@ impl Values {
     }
 
     /// The literals of a clause that are not false.
+    ///
+    /// Nearly all that a check looks at are false. They are passed over by one comparison each, in
+    /// loops that do nothing else.
     pub(crate) fn left(&self, clause: &[Lit]) -> Left
         ensures { (none : Ending) (one : ℕ → Ending)
             → by_left (unfalsified (among self.now) clause.now) none one
             ≡ on_left result none one }
     {
+        let Some((lit, others)) = self.last_left(clause) else {
+            return Left::Nothing;
+        };
+        if !self.are_false(others) {
+            return self.left_of_several(clause, lit);
+        }
+        Left::One(lit)
+    }
+
+    /// The last literal of a clause that is not false, and what comes before it. From the end on,
+    /// the number of literals still to come is all that changes.
+    #[inline(always)]
+    fn last_left<'a>(&self, clause: &'a [Lit]) -> Option<(Lit, &'a [Lit])>
+        ensures { MatchOption result (unfalsified (among self.now) clause.now ≡ [])
+            (λ found. unfalsified (among self.now) clause.now
+            ≡ unfalsified (among self.now) found.1.now ++ found.0 ∷ []) }
+    {
         let near = self.marks.near();
         let mut rest = clause;
-        while let Some((lit, others)) = rest.split_first() {
+        while let Some((lit, others)) = rest.split_last() {
             if !self.marks.has_in(near, *lit) {
-                return self.left_with(*lit, others);
+                return Some((*lit, others));
             }
             rest = others;
         }
-        Left::Nothing
+        None
     }
 
-    /// A literal that is not false, and those among others that are not.
+    /// Whether all literals are false.
     #[inline(always)]
-    fn left_with(&self, lit: Lit, others: &[Lit]) -> Left
-        ensures { (none : Ending) (one : ℕ → Ending)
-            → left_from (among self.now) (Some lit) others.now none one
-            ≡ on_left result none one }
+    fn are_false(&self, lits: &[Lit]) -> bool
+        ensures { result ≡ list_all (λ m. among self.now (negate m)) lits.now }
     {
         let near = self.marks.near();
-        let mut rest = others;
-        while let Some((other, later)) = rest.split_first() {
-            if !self.marks.has_in(near, *other) && *other != lit {
+        for lit in lits {
+            if !self.marks.has_in(near, *lit) {
+                return false;
+            }
+        }
+        true
+    }
+
+    /// The literals of a clause that are not false, where this one is among them and not alone. In
+    /// a good line it is repeated then, which is seldom.
+    #[cold]
+    #[inline(never)]
+    fn left_of_several(&self, clause: &[Lit], lit: Lit) -> Left
+        ensures { (none : Ending) (one : ℕ → Ending) → on_left result none one
+            ≡ (if list_all (nat_eq lit) (unfalsified (among self.now) clause.now) then one lit
+            else stuck not_unit) }
+    {
+        for other in clause {
+            if *other != lit && !self.marks.has(*other) {
                 return Left::More;
             }
-            rest = later;
         }
         Left::One(lit)
     }

@@ -1,21 +1,22 @@
-use Rattle.std.proofs.Common.{◌∷◌, None, sym, ap, ◌∙◌}
-use Rattle.sat_rules.specs.Clauses.{has, negate}
-use Rattle.sat_rules.proofs.Chains.{negate-negate}
-use Rattle.lrat_checker.specs.Marks.{has_mark}
-use Rattle.lrat_checker.specs.Values.{among, left_from}
-use Rattle.lrat_checker.proofs.SearchLemmas.{left_is, search_finds}
+use Rattle.std.proofs.Common.{◌∷◌, ◌++◌, cond, eqb, [], sym, ap, ◌∙◌}
+use Rattle.std.specs.List.{list_all}
+use Rattle.sat_rules.specs.Clauses.{unfalsified}
+use Rattle.lrat_rules.specs.Causes.{not_unit}
+use Rattle.lrat_rules.specs.Propagation.{by_left, stuck}
+use Rattle.lrat_checker.specs.Values.{among}
+use Rattle.lrat_checker.proofs.SearchLemmas.{all_false, left_of}
 use Rattle.lrat_checker.proofs.values.Values.left.Goals as goal
 
--- a literal that is not false
-pub returns-then-not-has_in : goal.returns-then-not-has_in
-returns-then-not-has_in c none one =
-    let s = among c.args.self.now in
-    let step = c.in-Some in
-    ?
+-- others are left
+pub returns-then-not-are_false : goal.returns-then-not-are_false
+returns-then-not-are_false c none one =
+    let lit = c.in-Some.lit in
+    ap (λ u. by_left u none one) c.in-Some.ensures ∙ left_of (unfalsified (among c.args.self.now) c.in-Some.others.now) lit none one
+    ∙ ap (λ u. cond (list_all (eqb lit) u) (one lit) (stuck not_unit)) (sym c.in-Some.ensures)
+    ∙ sym (c.left_of_several.ensures none one)
 
--- all are false
+-- the others are false
 pub returns : goal.returns
 returns c none one =
-    let s = among c.args.self.now in
-    let step = c.loop-lit-test in
-    ?
+    ap (λ u. by_left u none one)
+    (c.in-Some.ensures ∙ ap (λ u. u ++ c.in-Some.lit ∷ []) (all_false (among c.args.self.now) c.in-Some.others.now (sym c.are_false.ensures ∙ c.if-not-are_false.false)))
