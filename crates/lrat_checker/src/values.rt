@@ -156,38 +156,38 @@ impl Values {
             return Left::Nothing;
         };
         if !self.are_false(others) {
-            return self.left_of_several(clause, lit);
+            return self.left_of_several(clause, *lit);
         }
-        Left::One(lit)
+        Left::One(*lit)
     }
 
     /// The last literal of a clause that is not false, and what comes before it. From the end on,
     /// the number of literals still to come is all that changes.
     #[inline(always)]
-    fn last_left<'a>(&self, clause: &'a [Lit]) -> Option<(Lit, &'a [Lit])>
+    fn last_left<'a>(&self, clause: &'a [Lit]) -> Option<(&'a Lit, &'a [Lit])>
         ensures { MatchOption result (unfalsified (among self.now) clause.now ≡ [])
             (λ found. unfalsified (among self.now) clause.now
-            ≡ unfalsified (among self.now) found.1.now ++ found.0 ∷ []) }
+            ≡ unfalsified (among self.now) found.1.now ++ found.0.now ∷ []) }
     {
         let near = self.marks.near();
         let mut rest = clause;
         while let Some((lit, others)) = rest.split_last() {
             if !self.marks.has_in(near, *lit) {
-                return Some((*lit, others));
+                return Some((lit, others));
             }
             rest = others;
         }
         None
     }
 
-    /// Whether all literals are false.
+    /// Whether all of these literals are false.
     #[inline(always)]
-    fn are_false(&self, lits: &[Lit]) -> bool
-        ensures { result ≡ list_all (λ m. among self.now (negate m)) lits.now }
+    fn are_false(&self, others: &[Lit]) -> bool
+        ensures { result ≡ list_all (λ m. among self.now (negate m)) others.now }
     {
         let near = self.marks.near();
-        for lit in lits {
-            if !self.marks.has_in(near, *lit) {
+        for other in others {
+            if !self.marks.has_in(near, *other) {
                 return false;
             }
         }

@@ -5,5 +5,5 @@ use Rattle.lrat_checker.specs.Values.{among}
 use Rattle.lrat_checker.proofs.values.Values.are_false.Given as goal
 
 -- what is behind is all false
-abbrev pub invariant-loop-lit : goal.invariant-loop-lit
-invariant-loop-lit l = list_all (λ m. among l.self (negate m)) (drop l.lit-index l.lits) ≡ list_all (λ m. among l.self (negate m)) l.lits
+abbrev pub invariant-loop-other : goal.invariant-loop-other
+invariant-loop-other l = list_all (λ m. among l.self (negate m)) (drop l.other-index l.others) ≡ list_all (λ m. among l.self (negate m)) l.others
