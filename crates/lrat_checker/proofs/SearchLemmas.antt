@@ -2,7 +2,7 @@
 use Rattle.std.proofs.Common.{◌≡◌, ℕ, Bool, true, false, cond, not, ◌&&◌, eqb, List, [], ◌∷◌, ◌++◌, refl, sym, ap, ◌∙◌, eq-eqb}
 use Rattle.std.specs.List.{list_all}
 use Rattle.std.proofs.lemmas.Bool.{and_parts, eqb-false, eqb-true}
-use Rattle.sat_rules.specs.Clauses.{negate, unfalsified}
+use Rattle.sat_rules.specs.Clauses.{is_falsified, negate, unfalsified}
 use Rattle.lrat_rules.specs.Causes.{not_unit}
 use Rattle.lrat_rules.specs.Propagation.{Ending, by_left, stuck}
 
@@ -12,7 +12,7 @@ unfalsified-false s [] m f = ap (λ b. cond (not b) (m ∷ []) []) f
 unfalsified-false s (k ∷ c) m f = ap (λ u. cond (not (s (negate k))) (k ∷ u) u) (unfalsified-false s c m f)
 
 -- where all are false, none is left
-pub all_false : (s : ℕ → Bool) (c : List ℕ) → list_all (λ m. s (negate m)) c ≡ true → unfalsified s c ≡ []
+pub all_false : (s : ℕ → Bool) (c : List ℕ) → is_falsified s c ≡ true → unfalsified s c ≡ []
 all_false s [] all = refl
 all_false s (k ∷ c) all =
     let parts = and_parts _ _ all in

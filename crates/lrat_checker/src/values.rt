@@ -1,7 +1,7 @@
 //! Which literals are true.
 ghost use Rattle.std.specs.Prelude.{◌≡◌, ◌<◌, ◌-◌, ◌∷◌, ◌++◌, [], ℕ, if◌then◌else◌, length, nat_eq, take, MatchOption, OnOk, Some};
 ghost use Rattle.std.specs.List.{list_all, list_any};
-ghost use Rattle.sat_rules.specs.Clauses.{has, negate, unfalsified};
+ghost use Rattle.sat_rules.specs.Clauses.{has, is_falsified, unfalsified};
 ghost use Rattle.lrat_rules.specs.Causes.{not_unit};
 ghost use Rattle.lrat_rules.specs.Groups.{add_negated};
 ghost use Rattle.lrat_rules.specs.Propagation.{Ending, by_left, stuck};
@@ -109,8 +109,10 @@ impl Values {
     pub(crate) fn clear(&mut self)
         ensures { self.new ≡ [] }
     {
-        for lit in &self.trail {
+        let mut rest = self.trail.as_slice();
+        while let Some((lit, others)) = rest.split_last() {
             self.marks.clear(!*lit);
+            rest = others;
         }
         self.trail.clear();
     }
@@ -183,7 +185,7 @@ impl Values {
     /// Whether all of these literals are false.
     #[inline(always)]
     fn are_false(&self, others: &[Lit]) -> bool
-        ensures { result ≡ list_all (λ m. among self.now (negate m)) others.now }
+        ensures { result ≡ is_falsified (among self.now) others.now }
     {
         let near = self.marks.near();
         for other in others {
