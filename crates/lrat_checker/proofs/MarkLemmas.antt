@@ -31,6 +31,14 @@ mark-set near far k w l = go (eqb l k) refl
     go true e = get_or-set_at near k l true (contains nat_eq far l) (eqb-true l k e) w
     go false e = get_or-set_other near k l true (contains nat_eq far l) (eqb-false l k e)
 
+-- a mark that is there stays
+pub mark-again : (x : ℕ → Bool) (k : ℕ) → x k ≡ true → (l : ℕ) → x l ≡ (eqb l k || x l)
+mark-again x k e l = go (eqb l k) refl
+  where
+    go : (b : Bool) → eqb l k ≡ b → x l ≡ (b || x l)
+    go true same = ap x (eqb-true l k same) ∙ e
+    go false other = refl
+
 pub mark-unset : (near : List Bool) (far : Far) (k : ℕ) → k < length near → (l : ℕ) → mark_of (set near k false) far l ≡ (not (eqb l k) && mark_of near far l)
 unfolding mark_of
 mark-unset near far k w l = go (eqb l k) refl

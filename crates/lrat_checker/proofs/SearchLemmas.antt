@@ -1,54 +1,37 @@
--- The search for the literals of a clause that are not false.
-use Rattle.std.proofs.Common.{◌≡◌, ℕ, ◌+◌, ◌<◌, Bool, true, false, cond, not, ◌&&◌, eqb, List, [], ◌∷◌, length, get_or, drop, Option, Some, None, refl, sym, ap, ◌∙◌}
+-- The literals of a clause that are not false, found from the last one on.
+use Rattle.std.proofs.Common.{◌≡◌, ℕ, Bool, true, false, cond, not, ◌&&◌, eqb, List, [], ◌∷◌, ◌++◌, refl, sym, ap, ◌∙◌, eq-eqb}
 use Rattle.std.specs.List.{list_all}
-use Rattle.std.proofs.lemmas.Bool.{eqb-true}
-use Rattle.std.proofs.lemmas.List.{at_drop_more}
-use Rattle.sat_rules.specs.Clauses.{negate, unfalsified}
+use Rattle.std.proofs.lemmas.Bool.{and_parts, eqb-false, eqb-true}
+use Rattle.sat_rules.specs.Clauses.{is_falsified, negate, unfalsified}
 use Rattle.lrat_rules.specs.Causes.{not_unit}
 use Rattle.lrat_rules.specs.Propagation.{Ending, by_left, stuck}
-use Rattle.lrat_checker.specs.Values.{is_other, left_from}
 
--- after one was found
-one_left : (s : ℕ → Bool) (l : ℕ) (c : List ℕ) (none : Ending) (one : ℕ → Ending) → left_from s (Some l) c none one ≡ cond (list_all (eqb l) (unfalsified s c)) (one l) (stuck not_unit)
-one_left s l [] none one = refl
-one_left s l (m ∷ ms) none one = go (λ k. one_left s k ms none one) (s (negate m)) (eqb l m) refl
+-- a false literal at the end is passed over
+pub unfalsified-false : (s : ℕ → Bool) (c : List ℕ) (m : ℕ) → s (negate m) ≡ true → unfalsified s (c ++ m ∷ []) ≡ unfalsified s c
+unfalsified-false s [] m f = ap (λ b. cond (not b) (m ∷ []) []) f
+unfalsified-false s (k ∷ c) m f = ap (λ u. cond (not (s (negate k))) (k ∷ u) u) (unfalsified-false s c m f)
+
+-- where all are false, none is left
+pub all_false : (s : ℕ → Bool) (c : List ℕ) → is_falsified s c ≡ true → unfalsified s c ≡ []
+all_false s [] all = refl
+all_false s (k ∷ c) all =
+    let parts = and_parts _ _ all in
+    ap (λ b. cond (not b) (k ∷ unfalsified s c) (unfalsified s c)) parts.0 ∙ all_false s c parts.1
+
+-- where all are as the first one, the last is
+last_as_first : (x l : ℕ) (v : List ℕ) → list_all (eqb x) (v ++ l ∷ []) ≡ true → x ≡ l
+last_as_first x l [] all = let parts = and_parts _ _ all in eqb-true x l parts.0
+last_as_first x l (k ∷ v) all = let parts = and_parts _ _ all in last_as_first x l v parts.1
+
+-- one literal is left, perhaps repeated, or more are
+pub left_of : (v : List ℕ) (l : ℕ) (none : Ending) (one : ℕ → Ending) → by_left (v ++ l ∷ []) none one ≡ cond (list_all (eqb l) (v ++ l ∷ [])) (one l) (stuck not_unit)
+left_of [] l none one = ap (λ b. cond (b && true) (one l) (stuck not_unit)) (sym (eq-eqb l l refl))
+left_of (x ∷ v) l none one = go (eqb l x) refl
   where
-    go : ((k : ℕ) → left_from s (Some k) ms none one ≡ cond (list_all (eqb k) (unfalsified s ms)) (one k) (stuck not_unit)) → (b c : Bool) → eqb l m ≡ c →
-        cond b (left_from s (Some l) ms none one) (cond (not (eqb l m)) (stuck not_unit) (left_from s (Some m) ms none one)) ≡
-        cond (list_all (eqb l) (cond (not b) (m ∷ unfalsified s ms) (unfalsified s ms))) (one l) (stuck not_unit)
-    go rest true c e = rest l
-    go rest false true e =
-        ap (λ c. cond (not c) (stuck not_unit) (left_from s (Some m) ms none one)) e
-        ∙ ap (λ k. left_from s (Some k) ms none one) (sym (eqb-true l m e)) ∙ rest l
-        ∙ sym (ap (λ c. cond (c && list_all (eqb l) (unfalsified s ms)) (one l) (stuck not_unit)) e)
-    go rest false false e =
-        ap (λ c. cond (not c) (stuck not_unit) (left_from s (Some m) ms none one)) e
-        ∙ sym (ap (λ c. cond (c && list_all (eqb l) (unfalsified s ms)) (one l) (stuck not_unit)) e)
+    not_all : eqb l x ≡ false → (b : Bool) → list_all (eqb x) (v ++ l ∷ []) ≡ b → b ≡ false
+    not_all other true e = absurd (eqb-false l x other (sym (last_as_first x l v e)))
+    not_all other false e = refl
 
--- the search finds what is left
-pub left_is : (s : ℕ → Bool) (c : List ℕ) (none : Ending) (one : ℕ → Ending) → left_from s None c none one ≡ by_left (unfalsified s c) none one
-left_is s [] none one = refl
-left_is s (m ∷ ms) none one = go (left_is s ms none one) (s (negate m))
-  where
-    go : left_from s None ms none one ≡ by_left (unfalsified s ms) none one → (b : Bool) →
-        cond b (left_from s None ms none one) (left_from s (Some m) ms none one) ≡ by_left (cond (not b) (m ∷ unfalsified s ms) (unfalsified s ms)) none one
-    go rest true = rest
-    go rest false = one_left s m ms none one
-
--- the search at the next literal
-module _ (s : ℕ → Bool) (c : List ℕ) (i m : ℕ) (w : i < length c) (e : m ≡ get_or c i m) (none : Ending) (one : ℕ → Ending) where
-  here : (found : Option ℕ) → left_from s found (drop i c) none one ≡ left_from s found (m ∷ drop (i + 1) c) none one
-  here found = at_drop_more (λ d. left_from s found d none one) c i m w ∙ ap (λ k. left_from s found (k ∷ drop (i + 1) c) none one) (sym e)
-
-  pub search_stops : (found : Option ℕ) → s (negate m) ≡ false → is_other found m ≡ true → left_from s found (drop i c) none one ≡ stuck not_unit
-  search_stops found f t = here found ∙ ap (λ b. cond b (left_from s found (drop (i + 1) c) none one) (cond (is_other found m) (stuck not_unit) (left_from s (Some m) (drop (i + 1) c) none one))) f
-      ∙ ap (λ b. cond b (stuck not_unit) (left_from s (Some m) (drop (i + 1) c) none one)) t
-
-  -- a false literal is passed over
-  pub search_goes : (found : Option ℕ) → s (negate m) ≡ true → left_from s found (drop (i + 1) c) none one ≡ left_from s found (drop i c) none one
-  search_goes found f = sym (here found ∙ ap (λ b. cond b (left_from s found (drop (i + 1) c) none one) (cond (is_other found m) (stuck not_unit) (left_from s (Some m) (drop (i + 1) c) none one))) f)
-
-  -- one that is not false is found, or was
-  pub search_finds : (found : Option ℕ) → s (negate m) ≡ false → is_other found m ≡ false → left_from s found (drop i c) none one ≡ left_from s (Some m) (drop (i + 1) c) none one
-  search_finds found f t = here found ∙ ap (λ b. cond b (left_from s found (drop (i + 1) c) none one) (cond (is_other found m) (stuck not_unit) (left_from s (Some m) (drop (i + 1) c) none one))) f
-      ∙ ap (λ b. cond b (stuck not_unit) (left_from s (Some m) (drop (i + 1) c) none one)) t
+    go : (c : Bool) → eqb l x ≡ c → cond (list_all (eqb x) (v ++ l ∷ [])) (one x) (stuck not_unit) ≡ cond (c && list_all (eqb l) (v ++ l ∷ [])) (one l) (stuck not_unit)
+    go true same = ap (λ k. cond (list_all (eqb k) (v ++ l ∷ [])) (one k) (stuck not_unit)) (sym (eqb-true l x same))
+    go false other = ap (λ b. cond b (one x) (stuck not_unit)) (not_all other (list_all (eqb x) (v ++ l ∷ [])) refl)

@@ -1,8 +1,7 @@
 -- Trails of literals, and marks of what they hold.
-use Rattle.std.proofs.Common.{◌≡◌, ℕ, ◌+◌, ◌<◌, Bool, true, false, cond, not, ◌&&◌, ◌||◌, eqb, List, [], ◌∷◌, ◌++◌, length, get_or, drop, refl, sym, ap, ◌∙◌, eq-eqb, inl, inr}
+use Rattle.std.proofs.Common.{◌≡◌, ℕ, Bool, true, false, cond, not, ◌&&◌, ◌||◌, eqb, List, [], ◌∷◌, ◌++◌, length, refl, sym, ap, ◌∙◌, eq-eqb, inl, inr, arith}
 use mathlib.Core.Path.{fun_ext}
 use Rattle.std.proofs.lemmas.Bool.{eqb-true, eqb-false, and_parts, and_from, both_ways, not-true, ne_eqb, or_cases}
-use Rattle.std.proofs.lemmas.List.{at_drop_more}
 use Rattle.sat_rules.specs.Clauses.{add_lit, has, negate}
 use Rattle.sat_rules.proofs.Chains.{negate-negate}
 use Rattle.lrat_rules.specs.Counts.{all_once}
@@ -92,21 +91,21 @@ marked-pop marks t l m fewer cleared = record { marked = λ k. at k (eqb k l) re
     at k true e = cleared k ∙ ap (λ b. not b && marks k) e ∙ sym (ap (λ j. has j t) (eqb-true k l e) ∙ not-true (has l t) parts.0)
     at k false e = cleared k ∙ ap (λ b. not b && marks k) e ∙ m.marked k ∙ has-push t l k ∙ ap (λ b. b || has k t) e
 
--- a mark that is left after the first ones of a trail were cleared is that of a later literal
-pub later_in_trail : (trail : List ℕ) (i k m : ℕ) (b : Bool) → i < length trail → m ≡ get_or trail i m →
-    (b ≡ true → has k (drop i trail) ≡ true) → (not (eqb k m) && b) ≡ true → has k (drop (i + 1) trail) ≡ true
-later_in_trail trail i k m b w e h t =
+-- a mark that is left after the last one of a trail was cleared is that of an earlier literal
+pub earlier_in_trail : (trail others : List ℕ) (k m : ℕ) (b : Bool) → trail ≡ others ++ m ∷ [] →
+    (b ≡ true → has k trail ≡ true) → (not (eqb k m) && b) ≡ true → has k others ≡ true
+earlier_in_trail trail others k m b e h t =
     let parts = and_parts _ _ t in
-    let here = at_drop_more (has k) trail i m w ∙ ap (λ l. has k (l ∷ drop (i + 1) trail)) (sym e) in
-    elim (or_cases (eqb k m) (has k (drop (i + 1) trail)) (sym here ∙ h parts.1)) [
+    elim (or_cases (eqb k m) (has k others) (sym (has-push others m k) ∙ ap (has k) (sym e) ∙ h parts.1)) [
       | inl y ↦ absurd (both_ways (eqb k m) (not-true _ parts.0) y)
       | inr y ↦ y
     ]
 
 -- no mark is left
-pub marked-none : (marks : ℕ → Bool) → ((k : ℕ) → marks k ≡ true → ⊥) → IsMarked marks []
-marked-none marks none = record { marked = λ k. go k (marks k) refl; once = refl }
+pub marked-none : (marks : ℕ → Bool) (t : List ℕ) → length t ≡ 0 → ((k : ℕ) → marks k ≡ true → has k t ≡ true) → IsMarked marks []
+marked-none marks (m ∷ t) e left = absurd (omega (arith, e))
+marked-none marks [] e left = record { marked = λ k. go k (marks k) refl; once = refl }
   where
     go : (k : ℕ) (b : Bool) → marks k ≡ b → b ≡ false
-    go k true e = absurd (none k e)
-    go k false e = refl
+    go k true m = sym (left k m)
+    go k false m = refl

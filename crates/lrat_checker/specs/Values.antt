@@ -5,13 +5,10 @@
 --     lits_besides o c      the literals of a clause besides one, or all
 --     IsMarked marks t      the marks are those of the literals of the trail, which has none twice
 --     IsGrown t u      the trail t with more at its end
---     left_from s found c none one      the search for the literals that are not false, from the one found before
-use Rattle.std.specs.Prelude.{◌≡◌, ℕ, ◌==◌, Bool, true, false, not, if◌then◌else◌, List, [], ◌∷◌, ◌++◌, length, take, Option, Some, None}
+use Rattle.std.specs.Prelude.{◌≡◌, ℕ, Bool, true, if◌then◌else◌, List, [], ◌∷◌, ◌++◌, length, take, Option, Some, None}
 use Rattle.sat_rules.specs.Clauses.{has, negate}
-use Rattle.lrat_rules.specs.Causes.{not_unit}
 use Rattle.lrat_rules.specs.Counts.{all_once}
 use Rattle.lrat_rules.specs.Groups.{without}
-use Rattle.lrat_rules.specs.Propagation.{Ending, stuck}
 use Rattle.lrat_checker.specs.Marks.{has_mark}
 use Rattle.lrat_checker.specs.declared.marks.Marks.{Marks}
 
@@ -40,20 +37,3 @@ pub record IsMarked (marks : ℕ → Bool) (t : List ℕ) : Type 0 where
 -- the trail t with more at its end
 abbrev pub IsGrown : List ℕ → List ℕ → Type 0
 IsGrown t u = take (length t) u ≡ t
-
--- another literal was found before
-abbrev pub is_other : Option ℕ → ℕ → Bool
-is_other None m = false
-is_other (Some l) m = not (l == m)
-
--- by the literal found, where there is one
-abbrev pub by_found : Option ℕ → Ending → (ℕ → Ending) → Ending
-by_found None none one = none
-by_found (Some l) none one = one l
-
--- the literals that are not false in turn: a second one ends the search
-abbrev pub left_from : (ℕ → Bool) → Option ℕ → List ℕ → Ending → (ℕ → Ending) → Ending
-left_from s found [] none one = by_found found none one
-left_from s found (m ∷ ms) none one =
-    if s (negate m) then left_from s found ms none one
-    else (if is_other found m then stuck not_unit else left_from s (Some m) ms none one)

@@ -91,12 +91,14 @@ impl Marks {
         ensures stored { self.new.stored ≡ self.old.stored }
     {
         let code = lit.code();
-        if code < self.near.len() {
-            let is_new = !self.has(lit);
-            self.near[code] = true;
-            return Ok(is_new);
+        if code >= self.near.len() {
+            return self.insert_beyond(code);
         }
-        self.insert_beyond(code)
+        if self.has(lit) {
+            return Ok(false);
+        }
+        self.near[code] = true;
+        Ok(true)
     }
 
     #[cold]

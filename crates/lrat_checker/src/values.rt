@@ -1,10 +1,11 @@
 //! Which literals are true.
-ghost use Rattle.std.specs.Prelude.{◌≡◌, ◌<◌, ◌-◌, [], ℕ, length, take, OnOk, Some};
-ghost use Rattle.std.specs.List.{list_any};
-ghost use Rattle.sat_rules.specs.Clauses.{has, unfalsified};
+ghost use Rattle.std.specs.Prelude.{◌≡◌, ◌<◌, ◌-◌, ◌∷◌, ◌++◌, [], ℕ, if◌then◌else◌, length, nat_eq, take, MatchOption, OnOk, Some};
+ghost use Rattle.std.specs.List.{list_all, list_any};
+ghost use Rattle.sat_rules.specs.Clauses.{has, is_falsified, unfalsified};
+ghost use Rattle.lrat_rules.specs.Causes.{not_unit};
 ghost use Rattle.lrat_rules.specs.Groups.{add_negated};
-ghost use Rattle.lrat_rules.specs.Propagation.{Ending, by_left};
-ghost use Rattle.lrat_checker.specs.Values.{IsGrown, among, left_from, lits_besides, with_lit};
+ghost use Rattle.lrat_rules.specs.Propagation.{Ending, by_left, stuck};
+ghost use Rattle.lrat_checker.specs.Values.{IsGrown, among, lits_besides, with_lit};
 
 use crate::marks::Marks;
 use sat_formula::Lit;
@@ -108,8 +109,10 @@ impl Values {
     pub(crate) fn clear(&mut self)
         ensures { self.new ≡ [] }
     {
-        for lit in &self.trail {
+        let mut rest = self.trail.as_slice();
+        while let Some((lit, others)) = rest.split_last() {
             self.marks.clear(!*lit);
+            rest = others;
         }
         self.trail.clear();
     }
@@ -143,36 +146,67 @@ impl Values {
     }
 
     /// The literals of a clause that are not false.
+    ///
+    /// Nearly all that a check looks at are false. They are passed over by one comparison each, in
+    /// loops that do nothing else.
     pub(crate) fn left(&self, clause: &[Lit]) -> Left
         ensures { (none : Ending) (one : ℕ → Ending)
             → by_left (unfalsified (among self.now) clause.now) none one
             ≡ on_left result none one }
     {
-        let near = self.marks.near();
-        let mut index = 0;
-        'lits: while index < clause.len() {
-            let lit = clause[index];
-            index += 1;
-            if !self.marks.has_in(near, lit) {
-                return self.left_with(lit, &clause[index..]);
-            }
+        let Some((lit, others)) = self.last_left(clause) else {
+            return Left::Nothing;
+        };
+        if !self.are_false(others) {
+            return self.left_of_several(clause, *lit);
         }
-        Left::Nothing
+        Left::One(*lit)
     }
 
-    /// A literal that is not false, and those among others that are not.
+    /// The last literal of a clause that is not false, and what comes before it. From the end on,
+    /// the number of literals still to come is all that changes.
     #[inline(always)]
-    fn left_with(&self, lit: Lit, others: &[Lit]) -> Left
-        ensures { (none : Ending) (one : ℕ → Ending)
-            → left_from (among self.now) (Some lit) others.now none one
-            ≡ on_left result none one }
+    fn last_left<'a>(&self, clause: &'a [Lit]) -> Option<(&'a Lit, &'a [Lit])>
+        ensures { MatchOption result (unfalsified (among self.now) clause.now ≡ [])
+            (λ found. unfalsified (among self.now) clause.now
+            ≡ unfalsified (among self.now) found.1.now ++ found.0.now ∷ []) }
     {
         let near = self.marks.near();
-        let mut index = 0;
-        'lits: while index < others.len() {
-            let other = others[index];
-            index += 1;
-            if !self.marks.has_in(near, other) && other != lit {
+        let mut rest = clause;
+        while let Some((lit, others)) = rest.split_last() {
+            if !self.marks.has_in(near, *lit) {
+                return Some((lit, others));
+            }
+            rest = others;
+        }
+        None
+    }
+
+    /// Whether all of these literals are false.
+    #[inline(always)]
+    fn are_false(&self, others: &[Lit]) -> bool
+        ensures { result ≡ is_falsified (among self.now) others.now }
+    {
+        let near = self.marks.near();
+        for other in others {
+            if !self.marks.has_in(near, *other) {
+                return false;
+            }
+        }
+        true
+    }
+
+    /// The literals of a clause that are not false, where this one is among them and not alone. In
+    /// a good line it is repeated then, which is seldom.
+    #[cold]
+    #[inline(never)]
+    fn left_of_several(&self, clause: &[Lit], lit: Lit) -> Left
+        ensures { (none : Ending) (one : ℕ → Ending) → on_left result none one
+            ≡ (if list_all (nat_eq lit) (unfalsified (among self.now) clause.now) then one lit
+            else stuck not_unit) }
+    {
+        for other in clause {
+            if *other != lit && !self.marks.has(*other) {
                 return Left::More;
             }
         }

@@ -1,8 +1,11 @@
-use Rattle.std.proofs.Common.{◌≡◌, ℕ, true, drop}
+use Rattle.std.proofs.Common.{◌≡◌, ℕ, true, length}
 use Rattle.sat_rules.specs.Clauses.{has}
 use Rattle.lrat_checker.specs.Values.{true_by}
 use Rattle.lrat_checker.proofs.values.Values.clear.Given as goal
 
--- what is still true comes later in the trail
+-- what is still true comes before
 abbrev pub invariant-loop-lit : goal.invariant-loop-lit
-invariant-loop-lit l = (k : ℕ) → true_by l.self-inside.1.0 k ≡ true → has k (drop l.lit-index l.lit-items) ≡ true
+invariant-loop-lit l = (k : ℕ) → true_by l.self-inside.1.0 k ≡ true → has k l.rest ≡ true
+
+abbrev pub decreases-loop-lit : goal.decreases-loop-lit
+decreases-loop-lit l = length l.rest

@@ -1,0 +1,8 @@
+use Rattle.std.proofs.Common.{◌≡◌, drop}
+use Rattle.sat_rules.specs.Clauses.{is_falsified}
+use Rattle.lrat_checker.specs.Values.{among}
+use Rattle.lrat_checker.proofs.values.Values.are_false.Given as goal
+
+-- what is behind is all false
+abbrev pub invariant-loop-other : goal.invariant-loop-other
+invariant-loop-other l = is_falsified (among l.self) (drop l.other-index l.others) ≡ is_falsified (among l.self) l.others

@@ -1,0 +1,11 @@
+use Rattle.std.proofs.Common.{◌≡◌, length}
+use Rattle.sat_rules.specs.Clauses.{unfalsified}
+use Rattle.lrat_checker.specs.Values.{among}
+use Rattle.lrat_checker.proofs.values.Values.last_left.Given as goal
+
+-- what comes after is all false
+abbrev pub invariant-loop-lit : goal.invariant-loop-lit
+invariant-loop-lit l = unfalsified (among l.self) l.rest ≡ unfalsified (among l.self) l.clause
+
+abbrev pub decreases-loop-lit : goal.decreases-loop-lit
+decreases-loop-lit l = length l.rest
