@@ -5,6 +5,53 @@ ghost use Rattle.clause_store.specs.Lits.{lits_of, IsWithin, buffer_used, in_buf
 
 use sat_formula::lit::Lit;
 use std::alloc::AllocError;
+use std::marker::Model;
+
+/// The place where literals begin in the buffer, as two numbers of four bytes.
+///
+/// A number of eight bytes would make each stored clause eight bytes longer.
+#[derive(Clone, Copy)]
+pub struct Start {
+    low: u32,
+    high: u32,
+}
+
+impl Model for Start {
+    ghost use Rattle.std.specs.Prelude.{ℕ, ◌+◌, ◌*◌, ◌/◌, ◌%◌, ◌<◌, ◌^◌};
+    ghost use Rattle.std.proofs.lemmas.Nat.{div-mul-add, mod-mul-add};
+
+    ghost Value = { ℕ };
+
+    ghost view = { λ s. s.high * 2 ^ 32 + s.low };
+
+    ghost invariant = { λ s. s.low < 2 ^ 32 };
+
+    ghost inverse = { λ n. record { low = n % 2 ^ 32; high = n / 2 ^ 32 } };
+
+    ghost inverse_ok = { λ s h i. record {
+      low = mod-mul-add s.high (2 ^ 32) s.low h i;
+      high = div-mul-add s.high (2 ^ 32) s.low h i;
+    } };
+}
+
+impl Start {
+    #[inline(always)]
+    fn of(at: usize) -> Start
+        ensures { result ≡ at }
+    {
+        Start {
+            low: (at % (1 << 32)) as u32,
+            high: (at >> 32) as u32,
+        }
+    }
+
+    #[inline(always)]
+    fn get(self) -> usize
+        ensures { result ≡ self }
+    {
+        ((self.high as usize) << 32) + self.low as usize
+    }
+}
 
 /// The literals of a clause of two or more: two or three in place, or a range of the buffer.
 #[derive(Clone, Copy)]
@@ -12,7 +59,7 @@ pub enum ClauseLits {
     Two([Lit; 2]),
     Three([Lit; 3]),
     /// Four literals and those after them.
-    Long { start: usize, after_four: usize },
+    Long { start: Start, after_four: u32 },
 }
 
 impl ClauseLits {
@@ -31,12 +78,10 @@ impl ClauseLits {
             [a, b] => Ok(ClauseLits::Two([*a, *b])),
             [a, b, c] => Ok(ClauseLits::Three([*a, *b, *c])),
             _ => {
-                let start = buffer.len();
+                let start = Start::of(buffer.len());
+                let after_four = after_four(lits)?;
                 buffer.extend_from_slice(lits)?;
-                Ok(ClauseLits::Long {
-                    start,
-                    after_four: lits.len() - 4,
-                })
+                Ok(ClauseLits::Long { start, after_four })
             }
         }
     }
@@ -49,7 +94,7 @@ impl ClauseLits {
         match self {
             ClauseLits::Two(lits) => lits,
             ClauseLits::Three(lits) => lits,
-            ClauseLits::Long { start, after_four } => &buffer[*start..*start + (*after_four + 4)],
+            ClauseLits::Long { start, after_four } => in_range(buffer, *start, *after_four),
         }
     }
 
@@ -65,7 +110,7 @@ impl ClauseLits {
             ClauseLits::Two([_a, _b]) => Ok(()),
             ClauseLits::Three([_a, _b, _c]) => Ok(()),
             ClauseLits::Long { start, after_four } => {
-                other.extend_from_slice(&buffer[*start..*start + (*after_four + 4)])
+                other.extend_from_slice(in_range(buffer, *start, *after_four))
             }
         }
     }
@@ -78,8 +123,8 @@ impl ClauseLits {
     {
         match self {
             ClauseLits::Long { start, after_four } => {
-                *start = at;
-                at + (*after_four + 4)
+                *start = Start::of(at);
+                at + (*after_four as usize + 4)
             }
             _ => at,
         }
@@ -91,4 +136,26 @@ impl ClauseLits {
     {
         if lits.len() > 3 { lits.len() } else { 0 }
     }
+}
+
+/// Four literals of the buffer from a place on, and those after them.
+#[inline(always)]
+fn in_range(buffer: &[Lit], start: Start, after_four: u32) -> &[Lit]
+    requires { start + (after_four + 4) ≤ length buffer.now }
+    ensures { result.now ≡ take (after_four + 4) (drop start buffer.now) }
+{
+    let start = start.get();
+    &buffer[start..start + (after_four as usize + 4)]
+}
+
+/// How many literals come after the first four.
+///
+/// No stored clause has more than 32 bits can count: its literals are distinct, and there are not
+/// so many. What is known here does not say so, and the error stands in place of a clause that is
+/// never stored.
+fn after_four(lits: &[Lit]) -> Result<u32, AllocError>
+    requires { 4 ≤ length lits.now }
+    ensures { IfOk result (λ more. more + 4 ≡ length lits.now) }
+{
+    u32::try_from(lits.len() - 4).map_err(|_| AllocError)
 }

@@ -104,6 +104,8 @@ pub fn rebuild_buckets(
         ≡ record clauses.old { buckets = clauses.new.buckets }) }
 {
     let all = gather(alloc, clauses)?;
+    // The old table goes before the new one is made, so that memory never holds both.
+    clauses.buckets = HashMap::new(alloc);
     clauses.buckets = rebuild(alloc, hasher, &all, &clauses.literal_buffer)?;
     Ok(())
 }
