@@ -4,10 +4,12 @@
 #![tactic(auto)]
 
 #[cfg(test)]
+mod call;
+#[cfg(test)]
 mod exhausted;
 #[cfg(test)]
 mod ids;
 #[cfg(test)]
-mod parts;
+mod rows;
 #[cfg(test)]
 mod variables;

@@ -3,6 +3,7 @@ use anyhow::bail;
 use checker_parts::processor::{CheckerData, ProofProcessor, ProofTranscriptProcessor};
 use checker_parts::step::{CheckedProofStep, ProofTranscriptStep, ResolutionPropagations};
 use checker_parts::variables::Variables;
+use std::process::Abort;
 use std::test::Fail;
 
 /// Counts the steps, and answers a fault where there are none left to take.
@@ -62,38 +63,36 @@ impl ProofTranscriptProcessor for Counts {
     }
 }
 
+/// One step is told, and the next one is answered by the fault.
 #[test]
-fn processors(rt: HostRuntime) -> Result<(), Fail> {
-    let alloc = rt.alloc();
-    let variables = Variables::new(alloc);
-    let _propagations = ResolutionPropagations {};
-    let step = CheckedProofStep::AddClause { id: 0, clause: &[] };
-    let mut counts: Box<dyn ProofProcessor> = Box::new(
-        alloc,
-        Counts {
-            count: [0],
-            left: 1,
-        },
-    )?;
-    assert!(rt; counts.process_step(&step, CheckerData(&variables)).is_ok());
-    assert_eq!(rt; counts.output(), [1].as_slice());
-    assert!(rt; counts.process_step(&step, CheckerData(&variables)).is_err());
-    assert_eq!(rt; counts.output(), [1].as_slice());
+fn boxes_of_both_kinds(rt: HostRuntime) -> Result<(), Fail> {
+    let counts = Counts {
+        count: [0],
+        left: 1,
+    };
+    let mut processor: Box<dyn ProofProcessor> = Box::new(rt.alloc(), counts)?;
+    processes(&rt, &mut processor, &Variables::new(rt.alloc()));
+    let counts = Counts {
+        count: [0],
+        left: 1,
+    };
+    let mut transcript: Box<dyn ProofTranscriptProcessor> = Box::new(rt.alloc(), counts)?;
+    transcribes(&rt, &mut transcript);
     Ok(())
 }
 
-#[test]
-fn transcripts(rt: HostRuntime) -> Result<(), Fail> {
-    let alloc = rt.alloc();
-    let mut counts: Box<dyn ProofTranscriptProcessor> = Box::new(
-        alloc,
-        Counts {
-            count: [0],
-            left: 1,
-        },
-    )?;
-    assert!(rt; counts.process_step(&ProofTranscriptStep::Unsat).is_ok());
-    assert_eq!(rt; counts.output(), [1].as_slice());
-    assert!(rt; counts.process_step(&ProofTranscriptStep::Unsat).is_err());
-    Ok(())
+fn processes(rt: &impl Abort, counts: &mut Box<dyn ProofProcessor>, variables: &Variables) {
+    let _propagations = ResolutionPropagations {};
+    let step = CheckedProofStep::AddClause { id: 0, clause: &[] };
+    for is_taken in [true, false] {
+        let taken = counts.process_step(&step, CheckerData(variables));
+        assert!(rt; taken.is_ok() == is_taken && counts.output() == [1].as_slice());
+    }
+}
+
+fn transcribes(rt: &impl Abort, counts: &mut Box<dyn ProofTranscriptProcessor>) {
+    for is_taken in [true, false] {
+        let taken = counts.process_step(&ProofTranscriptStep::Unsat);
+        assert!(rt; taken.is_ok() == is_taken && counts.output() == [1].as_slice());
+    }
 }

@@ -1,5 +1,4 @@
 //! Formulas that are read whole, and texts that are not.
-use checker_parts::error::DimacsError;
 use sat_formula::CnfFormula;
 use std::alloc::{AllocError, Global};
 use std::io::ErrorKind;
@@ -53,27 +52,19 @@ const TEXTS: [(&str, &str); 8] = [
 ];
 
 /// The texts are read so, at once and byte by byte.
-fn all_read(rt: &impl Abort, alloc: Global, rows: &[(&str, &str)]) -> Result<(), AllocError> {
-    for (cnf, expected) in rows {
+#[test]
+fn formulas(rt: HostRuntime) -> Result<(), Fail> {
+    for (cnf, expected) in TEXTS {
         for size in [usize::MAX, 1] {
-            reads(rt, alloc, Pieces::of_size(cnf.as_bytes(), size), expected)?;
+            reads(&rt, rt.alloc(), Pieces::of_size(cnf.as_bytes(), size), expected)?;
         }
     }
     Ok(())
 }
 
 #[test]
-fn formulas(rt: HostRuntime) -> Result<(), Fail> {
-    all_read(&rt, rt.alloc(), &TEXTS)?;
-    Ok(())
-}
-
-#[test]
 fn failed_read_is_no_end(rt: HostRuntime) -> Result<(), Fail> {
     let cnf = Pieces::broken(b"1 0\n-1 0\n", ErrorKind::ConnectionReset);
-    let answer = read_formula(rt.alloc(), cnf);
-    assert!(rt; matches!(&answer, Err(RunFault::Formula(DimacsError::Read(_)))));
-    let seen = shown(rt.alloc(), answer)?;
-    assert_eq!(rt; seen.as_str(), "error reading formula: broken");
+    reads(&rt, rt.alloc(), cnf, "error reading formula: broken")?;
     Ok(())
 }

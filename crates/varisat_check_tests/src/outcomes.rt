@@ -15,25 +15,19 @@ pub const WITH_ONE_ADDED: Outcome<'static> = ("s UNSATISFIABLE WITH 1 ADDED CLAU
 /// The proof was accepted, and shows nothing.
 pub const NOT_SHOWN: Outcome<'static> = ("s NOT SHOWN\n", "", 3);
 
-/// The text of a fault, and of a verdict none.
-fn fault_text(alloc: Global, answer: Result<Verdict, RunFault>) -> Result<String, AllocError> {
-    match answer {
-        Ok(_) => Ok(String::new(alloc)),
-        Err(fault) => fault.to_string(alloc),
-    }
-}
-
 /// What was written, the exit status and the text of the fault are those of the outcome.
 pub fn has_outcome(
     rt: &impl Abort,
     alloc: Global,
     answer: Result<Verdict, RunFault>,
     written: &[u8],
-    (line, fault, status): Outcome<'_>,
+    (line, text, status): Outcome<'_>,
 ) -> Result<(), AllocError> {
-    assert_eq!(rt; written, line.as_bytes());
-    assert_eq!(rt; exit_status(&answer), status);
-    let said = fault_text(alloc, answer)?;
-    assert_eq!(rt; said.as_str(), fault);
+    assert_eq!(rt; (written, exit_status(&answer)), (line.as_bytes(), status));
+    let said = match answer {
+        Ok(_) => String::new(alloc),
+        Err(fault) => fault.to_string(alloc)?,
+    };
+    assert_eq!(rt; said.as_str(), text);
     Ok(())
 }
