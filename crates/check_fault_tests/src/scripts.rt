@@ -1,5 +1,5 @@
 //! All scripts, played.
-use crate::failing_readers::NO_READ_AFTER_THE_END;
+use crate::failing_readers::{FAILED_READS, NO_READ_AFTER_THE_END};
 use crate::fault_texts::TEXTS;
 use crate::faults::{BOXES, FAILED, FAULTS};
 use crate::hints::WRITTEN;
@@ -17,6 +17,7 @@ fn all_agree(rt: &impl Abort, alloc: Global, scripts: &[&str]) -> Result<(), Fai
 
 #[test]
 fn scripts(rt: HostRuntime) -> Result<(), Fail> {
+    all_agree(&rt, rt.alloc(), &FAILED_READS)?;
     all_agree(&rt, rt.alloc(), &NO_READ_AFTER_THE_END)?;
     all_agree(&rt, rt.alloc(), &TEXTS)?;
     all_agree(&rt, rt.alloc(), &BOXES)?;

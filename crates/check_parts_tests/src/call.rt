@@ -7,15 +7,17 @@ use check_calls::calls::{hashes, lits};
 use check_calls::cuts::Cuts;
 use checker_parts::error::{CheckCause, CheckerError};
 use log::sink::Discard;
-use proof_bytes::{DeleteClauseProof, ProofStep};
-use sat_formula::Lit;
+use proof_bytes::{ClauseHash, DeleteClauseProof, ProofStep};
+use sat_formula::{Lit, Var};
 use std::alloc::Global;
 use std::io::ErrorKind;
 use std::test::Fail;
-use varisat_checker::check::{add_clause, attempt_step, check_step, process_unit_conflicts};
+use varisat_checker::check::{add_clause, attempt_step, process_unit_conflicts};
+use varisat_checker::clauses::rebuild::append_bucket;
 use varisat_checker::clauses::store::copies;
 use varisat_checker::context::Context;
 use varisat_checker::proof::check_proof;
+use varisat_checker::state::check_step;
 
 /// A call, or a look. Those over a clause and hashes are given both.
 pub enum Call {
@@ -34,6 +36,10 @@ pub enum Call {
     Look(Look),
     /// Counts the stored copies of a clause that are redundant, or are not.
     Copies(bool),
+    /// The hash of a clause, by the names that are applied.
+    Hash,
+    /// Whether the bucket of this hash has the clauses of these ids.
+    Bucket(ClauseHash, &'static [u64]),
 }
 
 /// The kind of a step over a clause and hashes.
@@ -43,6 +49,11 @@ pub enum Kind {
     DeriveRedundant,
     /// Deletes a clause that the previous one is to subsume.
     Simplify,
+    /// Deletes a clause that a unit is to satisfy.
+    Satisfied,
+    HashBits(u32),
+    /// Names the variable of this index for the solver, as itself.
+    SolverName(usize),
     End,
 }
 
@@ -92,7 +103,7 @@ fn see(
     ctx: &mut Context,
     call: &Call,
     clause: &[Lit],
-    hashes: &[u64],
+    hashes: &[ClauseHash],
 ) -> Result<Seen, Fail>
     requires { ContextInvariant ctx.old }
     ensures { OnOk result (ContextInvariant ctx.new) }
@@ -102,6 +113,11 @@ fn see(
         Call::Copies(redundant) => {
             let count = copies(&ctx.clause_hasher, &ctx.clauses, clause, *redundant);
             Ok(Seen::Number(count as u64))
+        }
+        Call::Hash => Ok(Seen::Number(ctx.clause_hasher.clause_hash(clause))),
+        Call::Bucket(hash, ids) => {
+            let found = ids_in(alloc, ctx, *hash)?;
+            Ok(Seen::Is(found.as_slice() == *ids))
         }
         Call::Empty => {
             with_empty_previous(alloc, ctx);
@@ -116,7 +132,7 @@ fn see_answer(
     ctx: &mut Context,
     call: &Call,
     clause: &[Lit],
-    hashes: &[u64],
+    hashes: &[ClauseHash],
 ) -> Result<Seen, Fail>
     requires { ContextInvariant ctx.old }
     ensures { OnOk result (ContextInvariant ctx.new) }
@@ -140,15 +156,21 @@ fn answer(
     ctx: &mut Context,
     call: &Call,
     clause: &[Lit],
-    hashes: &[u64],
+    hashes: &[ClauseHash],
 ) -> Result<(), CheckerError>
     requires { ContextInvariant ctx.old }
     ensures { UnlessFailed result (ContextInvariant ctx.new) }
 {
     match call {
         Call::Add => add_clause(alloc, ctx, clause),
-        Call::Attempt(kind) => attempt_step(alloc, ctx, &step_of(kind, clause, hashes)),
-        Call::Check(kind) => check_step(alloc, ctx, &step_of(kind, clause, hashes)),
+        Call::Attempt(kind) => match step_of(kind, clause, hashes) {
+            Some(step) => attempt_step(alloc, ctx, &step),
+            None => Err(CheckerError::Failed),
+        },
+        Call::Check(kind) => match step_of(kind, clause, hashes) {
+            Some(step) => check_step(alloc, ctx, &step),
+            None => Err(CheckerError::Failed),
+        },
         Call::Close => process_unit_conflicts(alloc, ctx),
         Call::Prove(proof, failing) => {
             let proof = Cuts::failing_at(proof, *failing, ErrorKind::Other);
@@ -158,8 +180,13 @@ fn answer(
     }
 }
 
-fn step_of<'a>(kind: &Kind, clause: &'a [Lit], propagation_hashes: &'a [u64]) -> ProofStep<'a> {
-    match kind {
+/// None: there is no such variable.
+fn step_of<'a>(
+    kind: &Kind,
+    clause: &'a [Lit],
+    propagation_hashes: &'a [ClauseHash],
+) -> Option<ProofStep<'a>> {
+    Some(match kind {
         Kind::Add => ProofStep::AddClause { clause },
         Kind::Derive => ProofStep::AtClause {
             redundant: false,
@@ -175,8 +202,20 @@ fn step_of<'a>(kind: &Kind, clause: &'a [Lit], propagation_hashes: &'a [u64]) ->
             clause,
             proof: DeleteClauseProof::Simplified,
         },
+        Kind::Satisfied => ProofStep::DeleteClause {
+            clause,
+            proof: DeleteClauseProof::Satisfied,
+        },
+        Kind::HashBits(bits) => ProofStep::ChangeHashBits { bits: *bits },
+        Kind::SolverName(index) => {
+            let global = Var::from_index(*index)?;
+            ProofStep::SolverVarName {
+                global,
+                solver: Some(global),
+            }
+        }
         Kind::End => ProofStep::End,
-    }
+    })
 }
 
 fn with_empty_previous(alloc: Global, ctx: &mut Context)
@@ -198,4 +237,17 @@ fn look(ctx: &Context, what: &Look) -> Seen {
         Look::Unsat => Seen::Is(ctx.checker_state.unsat),
         Look::Ended => Seen::Is(ctx.checker_state.ended),
     }
+}
+
+/// The ids of the clauses in the bucket of a hash.
+pub fn ids_in(alloc: Global, ctx: &Context, hash: ClauseHash) -> Result<Vec<u64>, Fail> {
+    let mut ids = Vec::new(alloc);
+    if let Some(bucket) = ctx.clauses.buckets.get(&hash) {
+        let mut clauses = Vec::new(alloc);
+        append_bucket(&mut clauses, bucket)?;
+        for clause in &clauses {
+            ids.push(clause.id)?;
+        }
+    }
+    Ok(ids)
 }

@@ -4,7 +4,11 @@
 #![tactic(auto)]
 
 #[cfg(test)]
+mod buckets;
+#[cfg(test)]
 mod call;
+#[cfg(test)]
+mod crowds;
 #[cfg(test)]
 mod exhausted;
 #[cfg(test)]

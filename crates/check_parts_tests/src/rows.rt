@@ -2,6 +2,7 @@
 ghost use Rattle.checker_steps.specs.Context.{ContextInvariant};
 
 use crate::call::{Call, Seen, make};
+use crate::buckets::{ONE_BIT, SOLVER_NAMES};
 use crate::exhausted::{CLOSING, LAST_ID, LAST_STEP_NUMBER, LAST_STEP_READ, NOTHING_READ};
 use crate::ids::{DERIVED_THAT_STANDS, INPUTS, UNENTAILED};
 use std::alloc::Global;
@@ -18,7 +19,7 @@ pub type Calls = &'static [Step];
 /// What a row shows, the next id of the parts, how many steps they have counted, and the calls.
 type Row = (&'static str, u64, u64, Calls);
 
-const ROWS: [Row; 8] = [
+const ROWS: [Row; 10] = [
     ("the last id", u64::MAX - 1, 0, LAST_ID),
     ("no id for the closing conflict", u64::MAX - 2, 0, CLOSING),
     ("the last step number", 0, u64::MAX - 1, LAST_STEP_NUMBER),
@@ -32,6 +33,8 @@ const ROWS: [Row; 8] = [
     ("each input clause takes an id", 0, 0, INPUTS),
     ("a derived clause that stands", 0, 0, DERIVED_THAT_STANDS),
     ("clauses that nothing entails", 0, 0, UNENTAILED),
+    ("hashes of one bit", 0, 0, ONE_BIT),
+    ("hashes by solver names", 0, 0, SOLVER_NAMES),
 ];
 
 /// New parts whose next id is this, and that counted so many steps.

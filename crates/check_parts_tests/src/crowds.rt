@@ -2,10 +2,7 @@
 ghost use Rattle.std.specs.Prelude.{OnOk};
 ghost use Rattle.checker_steps.specs.Context.{ContextInvariant};
 
-use crate::buckets::ids_in;
-use crate::steps::{add, check};
-use check_calls::calls::lits;
-use proof_bytes::{DeleteClauseProof, ProofStep};
+use crate::call::{Call, Kind, Seen, ids_in, make};
 use std::alloc::Global;
 use std::process::Abort;
 use std::test::Fail;
@@ -15,62 +12,60 @@ use varisat_checker::context::Context;
 /// the next id.
 const COUNT: u64 = 100;
 
+const ADD: Call = Call::Check(Kind::Add);
+
+/// Deletes a pair, which the unit satisfies.
+const DELETE: Call = Call::Check(Kind::Satisfied);
+
 /// Literal 1 and one more.
 fn pair(alloc: Global, number: u64) -> Result<String, Fail> {
     Ok(format!(in alloc; "1 {}", number % COUNT + 2)?)
 }
 
-/// Whether the pair is among those that `delete_some` deletes: 73 is the inverse of 37.
-fn is_deleted(number: u64) -> bool {
+/// Whether the pair is among those of `Turns::Some`: 73 is the inverse of 37.
+fn is_one_of_some(number: u64) -> bool {
     number % COUNT * 73 % COUNT < 60
 }
 
-fn add_pairs(alloc: Global, ctx: &mut Context) -> Result<(), Fail>
-    requires { ContextInvariant ctx.old }
-    ensures { OnOk result (ContextInvariant ctx.new) }
-{
-    for number in 0..COUNT {
-        add(alloc, ctx, &pair(alloc, number)?)?;
-    }
-    Ok(())
+/// An order of pairs.
+enum Turns {
+    /// All, from the first to the last.
+    All,
+    /// Sixty, here and there.
+    Some,
+    /// The others, from the last to the first.
+    Others,
 }
 
-/// Deletes a pair, which the unit satisfies.
-fn delete_pair(alloc: Global, ctx: &mut Context, number: u64) -> Result<(), Fail>
-    requires { ContextInvariant ctx.old }
-    ensures { OnOk result (ContextInvariant ctx.new) }
-{
-    let clause = lits(alloc, &pair(alloc, number)?)?;
-    let step = ProofStep::DeleteClause {
-        clause: &clause,
-        proof: DeleteClauseProof::Satisfied,
-    };
-    match check(alloc, ctx, &step)? {
-        None => Ok(()),
-        Some(_) => Err("a deletion is refused".into()),
+/// The pair of this turn. None: there is none.
+fn pair_at(turns: &Turns, turn: u64) -> Option<u64> {
+    let last = (COUNT - 1).saturating_sub(turn);
+    match turns {
+        Turns::All => Some(turn),
+        Turns::Some if turn < 60 => Some(turn * 37 % COUNT),
+        Turns::Others if !is_one_of_some(last) => Some(last),
+        _ => None,
     }
 }
 
-/// Deletes sixty pairs, here and there.
-fn delete_some(alloc: Global, ctx: &mut Context) -> Result<(), Fail>
+/// A call over a clause, which is not refused.
+fn takes(alloc: Global, ctx: &mut Context, call: &Call, numbers: &str) -> Result<(), Fail>
     requires { ContextInvariant ctx.old }
     ensures { OnOk result (ContextInvariant ctx.new) }
 {
-    for turn in 0..60 {
-        delete_pair(alloc, ctx, turn * 37 % COUNT)?;
+    match make(alloc, ctx, call, numbers, "")? {
+        Seen::Done => Ok(()),
+        _ => Err("a call is refused".into()),
     }
-    Ok(())
 }
 
-/// Deletes the others, from the last to the first.
-fn delete_others(alloc: Global, ctx: &mut Context) -> Result<(), Fail>
+fn takes_pairs(alloc: Global, ctx: &mut Context, call: &Call, turns: &Turns) -> Result<(), Fail>
     requires { ContextInvariant ctx.old }
     ensures { OnOk result (ContextInvariant ctx.new) }
 {
     for turn in 0..COUNT {
-        let number = COUNT - 1 - turn;
-        if !is_deleted(number) {
-            delete_pair(alloc, ctx, number)?;
+        if let Some(number) = pair_at(turns, turn) {
+            takes(alloc, ctx, call, &pair(alloc, number)?)?;
         }
     }
     Ok(())
@@ -86,11 +81,11 @@ fn all_ids(rt: &impl Abort, alloc: Global, ctx: &Context) -> Result<Vec<u64>, Fa
     Ok(all)
 }
 
-/// The ids of the pairs that `delete_some` leaves.
+/// The ids of the pairs that are left without those of `Turns::Some`.
 fn left(alloc: Global) -> Result<Vec<u64>, Fail> {
     let mut ids = Vec::new(alloc);
     for number in 0..COUNT {
-        if !is_deleted(number) {
+        if !is_one_of_some(number) {
             ids.push(number + 1)?;
         }
     }
@@ -106,20 +101,19 @@ fn clauses_of_one_hash_go_in_any_order(rt: HostRuntime) -> Result<(), Fail> {
 fn pairs_go(rt: &impl Abort, alloc: Global, ctx: &mut Context) -> Result<(), Fail>
     requires { ContextInvariant ctx.old }
 {
-    let refused = check(alloc, ctx, &ProofStep::ChangeHashBits { bits: 1 })?;
-    assert_eq!(rt; refused, None);
-    add(alloc, ctx, "1")?;
-    add_pairs(alloc, ctx)?;
-    delete_some(alloc, ctx)?;
+    takes(alloc, ctx, &Call::Check(Kind::HashBits(1)), "")?;
+    takes(alloc, ctx, &ADD, "1")?;
+    takes_pairs(alloc, ctx, &ADD, &Turns::All)?;
+    takes_pairs(alloc, ctx, &DELETE, &Turns::Some)?;
     assert_eq!(rt;
         all_ids(rt, alloc, ctx)?.as_slice(),
         left(alloc)?.as_slice()
     );
     // Pair 37 was deleted. Stored again it takes the next id, and stands last.
-    add(alloc, ctx, &pair(alloc, 37)?)?;
+    takes(alloc, ctx, &ADD, &pair(alloc, 37)?)?;
     assert_eq!(rt; all_ids(rt, alloc, ctx)?.last(), Some(&101));
-    delete_pair(alloc, ctx, 37)?;
-    delete_others(alloc, ctx)?;
+    takes(alloc, ctx, &DELETE, &pair(alloc, 37)?)?;
+    takes_pairs(alloc, ctx, &DELETE, &Turns::Others)?;
     assert!(rt; all_ids(rt, alloc, ctx)?.is_empty());
     Ok(())
 }
