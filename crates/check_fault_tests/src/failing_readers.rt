@@ -1,6 +1,7 @@
 //! Reads that fail, and reads that are not made.
 use crate::script::agrees;
 use std::alloc::{AllocError, Global};
+use std::process::Abort;
 use std::test::Fail;
 
 const KINDS: [&str; 3] = ["UnexpectedEof", "Interrupted", "Other"];
@@ -9,9 +10,9 @@ const KINDS: [&str; 3] = ["UnexpectedEof", "Interrupted", "Other"];
 /// read, and `KIND` for the kind of its fault.
 type Reads = (&'static [&'static str], &'static str);
 
-/// Two opposite units and the end, whose steps end at 3, 6 and 7 bytes: so many steps stand then.
-/// The checker goes on with the number after the failing step's.
-const READS_OF_A_PROOF: [Reads; 3] = [
+const FAILING_READS: [Reads; 6] = [
+    // Two opposite units and the end, whose steps end at 3, 6 and 7 bytes: so many steps stand
+    // then. The checker goes on with the number after the failing step's.
     (
         &["1", "2", "3"],
         "\
@@ -54,11 +55,8 @@ unsat
 > true
 ",
     ),
-];
-
-/// Two opposite units, whose clauses end at 4 and 9 bytes: so many clauses stand then. The checker
-/// goes on with the whole text.
-const READS_OF_A_TEXT: [Reads; 3] = [
+    // Two opposite units, whose clauses end at 4 and 9 bytes: so many clauses stand then. The
+    // checker goes on with the whole text.
     (
         &["1", "2", "3", "4"],
         "\
@@ -102,12 +100,11 @@ fn script_of(alloc: Global, script: &str, read: &str, kind: &str) -> Result<Stri
     script.replace(alloc, "KIND", kind)
 }
 
-#[test]
-fn failing_reads(rt: HostRuntime) -> Result<(), Fail> {
-    for (reads, script) in READS_OF_A_PROOF.iter().chain(READS_OF_A_TEXT.iter()) {
-        for read in *reads {
+pub fn failing_reads(rt: &impl Abort, alloc: Global) -> Result<(), Fail> {
+    for (reads, script) in FAILING_READS {
+        for read in reads {
             for kind in KINDS {
-                agrees(&rt, rt.alloc(), &script_of(rt.alloc(), script, read, kind)?)?;
+                agrees(rt, alloc, &script_of(alloc, script, read, kind)?)?;
             }
         }
     }

@@ -83,11 +83,10 @@ fn step_text_len(answer: Result<(), CheckerError>) -> Option<usize> {
 
 /// A refusal shows its proof step, whether it was handed in or read. Refused user names and
 /// assumptions show none.
-#[test]
-fn refused_steps_are_shown(rt: HostRuntime) -> Result<(), Fail> {
-    let clause = lits(rt.alloc(), "1")?;
-    let mut checker = Checker::new(rt.alloc());
-    shows_steps(&rt, rt.alloc(), &mut checker, &clause)
+pub fn refused_steps(rt: &impl Abort, alloc: Global) -> Result<(), Fail> {
+    let clause = lits(alloc, "1")?;
+    let mut checker = Checker::new(alloc);
+    shows_steps(rt, alloc, &mut checker, &clause)
 }
 
 fn shows_steps(

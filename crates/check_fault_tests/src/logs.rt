@@ -8,6 +8,7 @@ use std::test::Fail;
 use varisat_checker::Checker;
 
 /// What a checker is given.
+#[derive(Clone, Copy)]
 enum Given {
     /// A formula's text. The read of this number fails, counted from 1.
     Text(&'static [u8], u32),
@@ -92,10 +93,9 @@ fn new_checker_tells(rt: &impl Abort, alloc: Global, row: Row) -> Result<(), Fai
     all_tell(rt, alloc, &mut checker, row)
 }
 
-#[test]
-fn lines_are_told(rt: HostRuntime) -> Result<(), Fail> {
+pub fn lines(rt: &impl Abort, alloc: Global) -> Result<(), Fail> {
     for row in ROWS {
-        new_checker_tells(&rt, rt.alloc(), row)?;
+        new_checker_tells(rt, alloc, row)?;
     }
     Ok(())
 }

@@ -20,6 +20,7 @@ use varisat_checker::proof::check_proof;
 use varisat_checker::state::check_step;
 
 /// A call, or a look. Those over a clause and hashes are given both.
+#[derive(Clone, Copy)]
 pub enum Call {
     /// Adds an input clause.
     Add,
@@ -43,6 +44,7 @@ pub enum Call {
 }
 
 /// The kind of a step over a clause and hashes.
+#[derive(Clone, Copy)]
 pub enum Kind {
     Add,
     Derive,
@@ -58,6 +60,7 @@ pub enum Kind {
 }
 
 /// What is looked at.
+#[derive(Clone, Copy)]
 pub enum Look {
     NextId,
     PreviousId,

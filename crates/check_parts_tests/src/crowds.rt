@@ -22,17 +22,18 @@ fn pair(alloc: Global, number: u64) -> Result<String, Fail> {
     Ok(format!(in alloc; "1 {}", number % COUNT + 2)?)
 }
 
-/// Whether the pair is among those of `Turns::Some`: 73 is the inverse of 37.
-fn is_one_of_some(number: u64) -> bool {
+/// Whether the pair is among the sixty that are deleted first: 73 is the inverse of 37.
+fn is_of_sixty(number: u64) -> bool {
     number % COUNT * 73 % COUNT < 60
 }
 
 /// An order of pairs.
+#[derive(Clone, Copy)]
 enum Turns {
     /// All, from the first to the last.
     All,
     /// Sixty, here and there.
-    Some,
+    Sixty,
     /// The others, from the last to the first.
     Others,
 }
@@ -42,8 +43,8 @@ fn pair_at(turns: &Turns, turn: u64) -> Option<u64> {
     let last = (COUNT - 1).saturating_sub(turn);
     match turns {
         Turns::All => Some(turn),
-        Turns::Some if turn < 60 => Some(turn * 37 % COUNT),
-        Turns::Others if !is_one_of_some(last) => Some(last),
+        Turns::Sixty if turn < 60 => Some(turn % COUNT * 37 % COUNT),
+        Turns::Others if !is_of_sixty(last) => Some(last),
         _ => None,
     }
 }
@@ -81,21 +82,20 @@ fn all_ids(rt: &impl Abort, alloc: Global, ctx: &Context) -> Result<Vec<u64>, Fa
     Ok(all)
 }
 
-/// The ids of the pairs that are left without those of `Turns::Some`.
+/// The ids of the pairs that are left without those sixty.
 fn left(alloc: Global) -> Result<Vec<u64>, Fail> {
     let mut ids = Vec::new(alloc);
     for number in 0..COUNT {
-        if !is_one_of_some(number) {
+        if !is_of_sixty(number) {
             ids.push(number + 1)?;
         }
     }
     Ok(ids)
 }
 
-#[test]
-fn clauses_of_one_hash_go_in_any_order(rt: HostRuntime) -> Result<(), Fail> {
-    let mut ctx = Context::new(rt.alloc());
-    pairs_go(&rt, rt.alloc(), &mut ctx)
+pub fn crowds(rt: &impl Abort, alloc: Global) -> Result<(), Fail> {
+    let mut ctx = Context::new(alloc);
+    pairs_go(rt, alloc, &mut ctx)
 }
 
 fn pairs_go(rt: &impl Abort, alloc: Global, ctx: &mut Context) -> Result<(), Fail>
@@ -104,7 +104,7 @@ fn pairs_go(rt: &impl Abort, alloc: Global, ctx: &mut Context) -> Result<(), Fai
     takes(alloc, ctx, &Call::Check(Kind::HashBits(1)), "")?;
     takes(alloc, ctx, &ADD, "1")?;
     takes_pairs(alloc, ctx, &ADD, &Turns::All)?;
-    takes_pairs(alloc, ctx, &DELETE, &Turns::Some)?;
+    takes_pairs(alloc, ctx, &DELETE, &Turns::Sixty)?;
     assert_eq!(rt;
         all_ids(rt, alloc, ctx)?.as_slice(),
         left(alloc)?.as_slice()

@@ -4,6 +4,8 @@ use crate::call::{Call, Kind, Look, Seen};
 use crate::rows::Calls;
 use check_calls::calls::{hash, lits};
 use checker_parts::error::CheckCause;
+use std::alloc::Global;
+use std::process::Abort;
 use std::test::Fail;
 use varisat_checker::hash::ClauseHasher;
 
@@ -59,19 +61,26 @@ pub const UNENTAILED: Calls = &[
     (Call::Copies(false), "1 2 3", "", Seen::Number(1)),
 ];
 
-#[test]
-fn hashes_of_clauses(rt: HostRuntime) -> Result<(), Fail> {
-    let hasher = ClauseHasher::new(rt.alloc());
-    for (clause, name) in [
-        ("1 2", "A"),
-        ("1 -2", "B"),
-        ("-1 2", "C"),
-        ("-1 -2", "D"),
-        ("-2 3", "Y"),
-        ("-3 4", "Z"),
-        ("", "0"),
-    ] {
-        assert_eq!(rt; hasher.clause_hash(&lits(rt.alloc(), clause)?), hash(name)?);
+/// Clauses with the names of their hashes.
+const HASHES: [(&str, &str); 7] = [
+    ("1 2", "A"),
+    ("1 -2", "B"),
+    ("-1 2", "C"),
+    ("-1 -2", "D"),
+    ("-2 3", "Y"),
+    ("-3 4", "Z"),
+    ("", "0"),
+];
+
+/// Whether the clause has this hash.
+fn has_hash(alloc: Global, clause: &str, name: &str) -> Result<bool, Fail> {
+    let clause = lits(alloc, clause)?;
+    Ok(ClauseHasher::new(alloc).clause_hash(&clause) == hash(name)?)
+}
+
+pub fn hashes(rt: &impl Abort, alloc: Global) -> Result<(), Fail> {
+    for (clause, name) in HASHES {
+        assert!(rt; has_hash(alloc, clause, name)?, "{name}");
     }
     Ok(())
 }

@@ -5,6 +5,7 @@ use crate::call::{Call, Seen, make};
 use crate::buckets::{ONE_BIT, SOLVER_NAMES};
 use crate::exhausted::{CLOSING, LAST_ID, LAST_STEP_NUMBER, LAST_STEP_READ, NOTHING_READ};
 use crate::ids::{DERIVED_THAT_STANDS, INPUTS, UNENTAILED};
+use crate::{crowds, ids, variables};
 use std::alloc::Global;
 use std::process::Abort;
 use std::test::Fail;
@@ -75,7 +76,11 @@ fn play_all(rt: &impl Abort, alloc: Global, rows: &[Row]) -> Result<(), Fail> {
     Ok(())
 }
 
+/// All of them, in one test: each test function is proved too.
 #[test]
-fn calls_over_parts(rt: HostRuntime) -> Result<(), Fail> {
-    play_all(&rt, rt.alloc(), &ROWS)
+fn rows(rt: HostRuntime) -> Result<(), Fail> {
+    play_all(&rt, rt.alloc(), &ROWS)?;
+    ids::hashes(&rt, rt.alloc())?;
+    variables::variables(&rt, rt.alloc())?;
+    crowds::crowds(&rt, rt.alloc())
 }

@@ -13,6 +13,7 @@ use varisat_checker::variables::{
 };
 
 /// A call over a variable.
+#[derive(Clone, Copy)]
 enum Call {
     Know,
     /// Names it as the first one.
@@ -103,10 +104,9 @@ fn play_new(rt: &impl Abort, alloc: Global, steps: &[Step]) -> Result<(), Fail> 
     play(rt, &mut ctx, steps)
 }
 
-#[test]
-fn variables_of_parts(rt: HostRuntime) -> Result<(), Fail> {
+pub fn variables(rt: &impl Abort, alloc: Global) -> Result<(), Fail> {
     for steps in ROWS {
-        play_new(&rt, rt.alloc(), steps)?;
+        play_new(rt, alloc, steps)?;
     }
     Ok(())
 }

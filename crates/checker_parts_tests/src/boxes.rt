@@ -3,15 +3,21 @@ use anyhow::bail;
 use checker_parts::processor::{CheckerData, ProofProcessor, ProofTranscriptProcessor};
 use checker_parts::step::{CheckedProofStep, ProofTranscriptStep, ResolutionPropagations};
 use checker_parts::variables::Variables;
+use std::alloc::Global;
 use std::process::Abort;
 use std::test::Fail;
 
 /// Counts the steps, and answers a fault where there are none left to take.
-#[derive(Drop)]
+#[derive(Clone, Copy)]
 struct Counts {
     count: [u8; 1],
     left: u8,
 }
+
+const ONE_STEP: Counts = Counts {
+    count: [0],
+    left: 1,
+};
 
 impl ProofProcessor for Counts {
     ghost use Rattle.std.specs.Prelude.{⊤};
@@ -64,20 +70,12 @@ impl ProofTranscriptProcessor for Counts {
 }
 
 /// One step is told, and the next one is answered by the fault.
-#[test]
-fn boxes_of_both_kinds(rt: HostRuntime) -> Result<(), Fail> {
-    let counts = Counts {
-        count: [0],
-        left: 1,
-    };
-    let mut processor: Box<dyn ProofProcessor> = Box::new(rt.alloc(), counts)?;
-    processes(&rt, &mut processor, &Variables::new(rt.alloc()));
-    let counts = Counts {
-        count: [0],
-        left: 1,
-    };
-    let mut transcript: Box<dyn ProofTranscriptProcessor> = Box::new(rt.alloc(), counts)?;
-    transcribes(&rt, &mut transcript);
+pub fn boxes(rt: &impl Abort, alloc: Global) -> Result<(), Fail> {
+    let variables = Variables::new(alloc);
+    let mut processor: Box<dyn ProofProcessor> = Box::new(alloc, ONE_STEP)?;
+    processes(rt, &mut processor, &variables);
+    let mut transcript: Box<dyn ProofTranscriptProcessor> = Box::new(alloc, ONE_STEP)?;
+    transcribes(rt, &mut transcript);
     Ok(())
 }
 

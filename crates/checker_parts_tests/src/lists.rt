@@ -6,6 +6,7 @@ use crate::literals::lits;
 use checker_parts::sorted_lits::{copy_canonical, is_subset};
 use sat_formula::lit::Lit;
 use std::alloc::Global;
+use std::process::Abort;
 use std::test::Fail;
 
 /// These literals in canonical form.
@@ -39,18 +40,6 @@ fn is_copied(
     Ok(answer == is_tautology && target.as_slice() == wanted.as_slice())
 }
 
-#[test]
-fn canonical_lists(rt: HostRuntime) -> Result<(), Fail> {
-    let mut target = lits(rt.alloc(), &[-4])?;
-    for (given, wanted, is_tautology) in COPIES {
-        assert!(rt;
-            is_copied(rt.alloc(), &mut target, given, wanted, is_tautology)?,
-            "{given:?}"
-        );
-    }
-    Ok(())
-}
-
 /// Two lists, whether the first has to be a proper subset of the second, and whether it is one.
 const SUBSETS: [(&[i64], &[i64], bool, bool); 5] = [
     (&[1], &[1, 2], true, true),
@@ -66,13 +55,13 @@ fn is_part(alloc: Global, part: &[i64], whole: &[i64], strict: bool) -> Result<b
     Ok(is_subset(&part, &whole, strict))
 }
 
-#[test]
-fn subsets(rt: HostRuntime) -> Result<(), Fail> {
+pub fn lists(rt: &impl Abort, alloc: Global) -> Result<(), Fail> {
+    let mut target = lits(alloc, &[-4])?;
+    for (given, wanted, is_tautology) in COPIES {
+        assert!(rt; is_copied(alloc, &mut target, given, wanted, is_tautology)?, "{given:?}");
+    }
     for (part, whole, strict, answer) in SUBSETS {
-        assert!(rt;
-            is_part(rt.alloc(), part, whole, strict)? == answer,
-            "{part:?} {whole:?}"
-        );
+        assert!(rt; is_part(alloc, part, whole, strict)? == answer, "{part:?} {whole:?}");
     }
     Ok(())
 }

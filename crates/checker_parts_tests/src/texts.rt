@@ -8,7 +8,6 @@ use std::fmt::Display;
 use std::io;
 use std::io::ErrorKind;
 use std::process::Abort;
-use std::test::Fail;
 
 /// Causes with their texts.
 const CAUSES: [(CheckCause, &str); 29] = [
@@ -111,16 +110,15 @@ fn says<E: Display>(
     text: &str,
 ) -> Result<(), AllocError> {
     let seen = error.to_string(alloc)?;
-    assert_eq!(rt; seen.strip_prefix(beginning), Some(text));
+    assert_eq!(rt; seen.as_str().strip_prefix(beginning), Some(text));
     Ok(())
 }
 
 /// A cause has its text, and that stands in the text of a refused step.
-#[test]
-fn causes(rt: HostRuntime) -> Result<(), Fail> {
+pub fn causes(rt: &impl Abort, alloc: Global) -> Result<(), AllocError> {
     for (cause, text) in CAUSES {
-        says(&rt, rt.alloc(), &cause, "", text)?;
-        says(&rt, rt.alloc(), &refused(rt.alloc(), cause), REFUSED, text)?;
+        says(rt, alloc, &cause, "", text)?;
+        says(rt, alloc, &refused(alloc, cause), REFUSED, text)?;
     }
     Ok(())
 }
@@ -166,22 +164,18 @@ const KINDS: [(DimacsKind, &str); 5] = [
     ),
 ];
 
-#[test]
-fn errors(rt: HostRuntime) -> Result<(), Fail> {
+pub fn errors(rt: &impl Abort, alloc: Global) -> Result<(), AllocError> {
     for (place, text) in ERRORS.iter().enumerate() {
-        says(&rt, rt.alloc(), &error_at(place), "", text)?;
-        let in_formula = DimacsError::Checker(error_at(place));
-        says(&rt, rt.alloc(), &in_formula, "", text)?;
+        says(rt, alloc, &error_at(place), "", text)?;
+        says(rt, alloc, &DimacsError::Checker(error_at(place)), "", text)?;
     }
     for (kind, text) in KINDS {
-        let malformed = DimacsError::Malformed { line: 4, kind };
-        says(&rt, rt.alloc(), &malformed, "", text)?;
+        says(rt, alloc, &DimacsError::Malformed { line: 4, kind }, "", text)?;
     }
     let unread = DimacsError::Read(io::Error::from(ErrorKind::UnexpectedEof));
     let text = "error reading formula: unexpected end of file";
-    says(&rt, rt.alloc(), &unread, "", text)?;
-    let refused = DimacsError::Checker(refused(rt.alloc(), CheckCause::NotSampling));
+    says(rt, alloc, &unread, "", text)?;
+    let refused = DimacsError::Checker(refused(alloc, CheckCause::NotSampling));
     let text = "variable is not a sampling variable";
-    says(&rt, rt.alloc(), &refused, REFUSED, text)?;
-    Ok(())
+    says(rt, alloc, &refused, REFUSED, text)
 }

@@ -81,7 +81,10 @@ fn read_all(
         match reader.next_step() {
             Ok(step) => write_step(written, &step)?,
             Err(fault) => {
-                let then = reader.next_step().err().map(seen);
+                let then = match reader.next_step() {
+                    Ok(_) => None,
+                    Err(fault) => Some(seen(fault)),
+                };
                 return Ok((count, Some(seen(fault)), then));
             }
         }

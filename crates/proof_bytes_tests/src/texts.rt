@@ -4,7 +4,7 @@ use crate::writing::{KINDS, WRITTEN};
 use proof_bytes::MalformedStep;
 use std::alloc::{AllocError, Global};
 use std::io::ErrorKind;
-use std::test::Fail;
+use std::process::Abort;
 
 const END: Fault = Fault::End;
 
@@ -86,10 +86,9 @@ fn is_read(
     Ok(whole && bytewise)
 }
 
-#[test]
-fn texts_of_both_versions(rt: HostRuntime) -> Result<(), Fail> {
+pub fn are_read(rt: &impl Abort, alloc: Global) -> Result<(), AllocError> {
     for (text, steps, count, fault) in TEXTS {
-        assert!(rt; is_read(rt.alloc(), text, steps, count, fault)?, "{text:?}");
+        assert!(rt; is_read(alloc, text, steps, count, fault)?, "{text:?}");
     }
     Ok(())
 }
@@ -121,14 +120,13 @@ const STEPS_WITHIN: [(u32, usize); 16] = [
 ];
 
 /// A text that ends after so many bytes, and the read after so many that fails.
-#[test]
-fn beginnings_and_failing_reads(rt: HostRuntime) -> Result<(), Fail> {
+pub fn are_cut(rt: &impl Abort, alloc: Global) -> Result<(), AllocError> {
     for (len, (count, end)) in STEPS_WITHIN.iter().enumerate() {
         let steps = &TWO_CHECKS[..(*end).min(16)];
         let beginning = &TWO_CHECKS[..len];
-        assert!(rt; is_read(rt.alloc(), beginning, steps, *count, END)?, "{len}");
+        assert!(rt; is_read(alloc, beginning, steps, *count, END)?, "{len}");
         let failing = Cuts::failing_after(&TWO_CHECKS, len);
-        assert!(rt; gives(rt.alloc(), failing, steps, *count, UNREAD)?, "{len}");
+        assert!(rt; gives(alloc, failing, steps, *count, UNREAD)?, "{len}");
     }
     Ok(())
 }

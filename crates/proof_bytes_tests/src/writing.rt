@@ -33,12 +33,11 @@ fn is_written(alloc: Global, number: u64, bytes: &[u8]) -> Result<bool, AllocErr
     Ok(written.as_slice() == bytes)
 }
 
-#[test]
-fn numbers(rt: HostRuntime) -> Result<(), Fail> {
+pub fn numbers(rt: &impl Abort, alloc: Global) -> Result<(), AllocError> {
     for (number, bytes) in NUMBERS {
-        assert!(rt; is_written(rt.alloc(), number, bytes)?, "{number}");
+        assert!(rt; is_written(alloc, number, bytes)?, "{number}");
         let text = Cuts::of_size(bytes, usize::MAX);
-        assert!(rt; gives(rt.alloc(), text, bytes, 1, Fault::End)?, "{number}");
+        assert!(rt; gives(alloc, text, bytes, 1, Fault::End)?, "{number}");
     }
     Ok(())
 }
@@ -137,11 +136,10 @@ fn write_kinds(out: &mut Vec<u8>, first: Var, last: Var) -> Result<(), AllocErro
 }
 
 /// They are read in the module `texts`.
-#[test]
-fn each_kind(rt: HostRuntime) -> Result<(), Fail> {
+pub fn each_kind(rt: &impl Abort, alloc: Global) -> Result<(), Fail> {
     let first = Var::from_index(0).ok_or("no variable")?;
     let last = Var::from_index(Var::MAX_COUNT - 1).ok_or("no variable")?;
-    let mut written: Vec<u8> = Vec::new(rt.alloc());
+    let mut written: Vec<u8> = Vec::new(alloc);
     write_kinds(&mut written, first, last)?;
     assert_eq!(rt; written.as_slice(), KINDS.as_slice());
     Ok(())
@@ -186,10 +184,9 @@ pub const WRITTEN: [u8; 24] = [
     0x01, 0x0C, 0x01, 0x02, 0x02, 0x01, 0x00, 0x0D,
 ];
 
-#[test]
-fn writer_of_version_2(rt: HostRuntime) -> Result<(), Fail> {
+pub fn writer_of_version_2(rt: &impl Abort, alloc: Global) -> Result<(), Fail> {
     let lit = Lit::from_code(2).ok_or("no literal")?;
-    let two_bytes = [
+    let two_bytes: [Row<'_>; 3] = [
         (ProofStep::ChangeHashBits { bits: 9 }, true, 4),
         (
             ProofStep::AtClause {
@@ -211,8 +208,8 @@ fn writer_of_version_2(rt: HostRuntime) -> Result<(), Fail> {
         ),
     ];
     let text = b"\x00\x02\x09\x09\x06\x00\x00\x01\xFF\x01".as_slice();
-    are_written(&rt, rt.alloc(), &two_bytes, text)?;
-    let many_widths = [
+    are_written(rt, alloc, &two_bytes, text)?;
+    let many_widths: [Row<'_>; 5] = [
         (
             ProofStep::UnitClauses {
                 units: &[(lit, 0xC4AF_7593_0295_082A)],
@@ -232,6 +229,6 @@ fn writer_of_version_2(rt: HostRuntime) -> Result<(), Fail> {
         ),
         (ProofStep::End, true, 24),
     ];
-    are_written(&rt, rt.alloc(), &many_widths, &WRITTEN)?;
+    are_written(rt, alloc, &many_widths, &WRITTEN)?;
     Ok(())
 }

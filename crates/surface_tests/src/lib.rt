@@ -8,3 +8,5 @@
 mod boxed_writer;
 #[cfg(test)]
 mod parts;
+#[cfg(test)]
+mod rows;

@@ -3,7 +3,6 @@ use sat_formula::CnfFormula;
 use std::alloc::{AllocError, Global};
 use std::io::ErrorKind;
 use std::process::Abort;
-use std::test::Fail;
 use test_streams::Pieces;
 use varisat_check::{RunFault, read_formula};
 
@@ -51,20 +50,13 @@ const TEXTS: [(&str, &str); 8] = [
     ("1 0\n\n2 3\n", "line 4: unterminated clause"),
 ];
 
-/// The texts are read so, at once and byte by byte.
-#[test]
-fn formulas(rt: HostRuntime) -> Result<(), Fail> {
+/// The texts are read so, at once and byte by byte. A failed read is no end.
+pub fn formulas(rt: &impl Abort, alloc: Global) -> Result<(), AllocError> {
     for (cnf, expected) in TEXTS {
         for size in [usize::MAX, 1] {
-            reads(&rt, rt.alloc(), Pieces::of_size(cnf.as_bytes(), size), expected)?;
+            reads(rt, alloc, Pieces::of_size(cnf.as_bytes(), size), expected)?;
         }
     }
-    Ok(())
-}
-
-#[test]
-fn failed_read_is_no_end(rt: HostRuntime) -> Result<(), Fail> {
     let cnf = Pieces::broken(b"1 0\n-1 0\n", ErrorKind::ConnectionReset);
-    reads(&rt, rt.alloc(), cnf, "error reading formula: broken")?;
-    Ok(())
+    reads(rt, alloc, cnf, "error reading formula: broken")
 }

@@ -13,7 +13,7 @@ pub const INCOMPLETE: [&str; 16] = [
     AT_1, AT_1, AT_2, AT_2, AT_2, AT_2, AT_2, AT_2, AT_2, AT_3, AT_3, AT_3, AT_3, AT_3, AT_3, AT_4,
 ];
 
-const AT_1: &str = "step 1: Unexpected end of proof file";
+pub const AT_1: &str = "step 1: Unexpected end of proof file";
 
 const AT_2: &str = "step 2: Unexpected end of proof file";
 

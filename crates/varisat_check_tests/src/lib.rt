@@ -15,6 +15,8 @@ mod lrat;
 #[cfg(test)]
 mod outcomes;
 #[cfg(test)]
+mod rows;
+#[cfg(test)]
 mod runs;
 #[cfg(test)]
 mod streams;

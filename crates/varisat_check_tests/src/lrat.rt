@@ -125,20 +125,15 @@ fn holds(rt: &impl Abort, alloc: Global, row: &Row<'_>) -> Result<(), Fail> {
     Ok(())
 }
 
-#[test]
-fn runs_and_their_lines(rt: HostRuntime) -> Result<(), Fail> {
+/// The rows, and no beginning of a proof is written.
+pub fn written_runs(rt: &impl Abort, alloc: Global) -> Result<(), Fail> {
     for row in ROWS {
-        holds(&rt, rt.alloc(), &row)?;
+        holds(rt, alloc, &row)?;
     }
-    Ok(())
-}
-
-#[test]
-fn no_beginning_of_a_proof_is_written(rt: HostRuntime) -> Result<(), Fail> {
     for (len, text) in INCOMPLETE.iter().enumerate() {
         let proof = &WIDTH_1[..len];
-        let row = (FOUR, 4, proof, "", ("", *text, 1), false, Full::Neither);
-        holds(&rt, rt.alloc(), &row)?;
+        let row: Row<'_> = (FOUR, 4, proof, "", ("", *text, 1), false, Full::Neither);
+        holds(rt, alloc, &row)?;
     }
     Ok(())
 }

@@ -1,6 +1,6 @@
 //! Runs with their verdicts, lines and statuses, texts of faults, and readers and writers that
 //! fail.
-use crate::four_clauses::{FOUR, INCOMPLETE, WIDTH_1, WIDTH_64};
+use crate::four_clauses::{AT_1, FOUR, INCOMPLETE, WIDTH_1, WIDTH_64};
 use crate::outcomes::{NOT_SHOWN, Outcome, SHOWN, WITH_ONE_ADDED, has_outcome};
 use crate::streams::Counting;
 use log::sink::Discard;
@@ -68,7 +68,7 @@ const RUNS: [Row<'static>; 18] = [
         ("", "line 1: variable too large", 1),
         Broken::Nothing,
     ),
-    ("1 0", b"", ("", INCOMPLETE[0], 1), Broken::Nothing),
+    ("1 0", b"", ("", AT_1, 1), Broken::Nothing),
     (
         "1 0",
         b"\x0E",
@@ -101,7 +101,7 @@ const RUNS: [Row<'static>; 18] = [
     // writes that fail
     (UNITS, END, ("", "error writing: full", 1), Broken::Output),
     // a refused proof is not a failed write
-    ("1 0", b"", ("", INCOMPLETE[0], 1), Broken::Output),
+    ("1 0", b"", ("", AT_1, 1), Broken::Output),
 ];
 
 /// A line is one write, so that no part of it stands where the next write fails.
@@ -115,7 +115,8 @@ fn is_answered(
     let proof = pieces(proof, size, matches!(broken, Broken::Proof));
     let mut out = Counting::new(alloc, matches!(broken, Broken::Output));
     let answer = run_check(&Discard, alloc, cnf, proof, &mut out);
-    assert_eq!(rt; out.writes, u64::from(!out.text.is_empty()));
+    let writes = if out.text.is_empty() { 0 } else { 1 };
+    assert_eq!(rt; out.writes, writes);
     has_outcome(rt, alloc, answer, &out.text, *outcome)
 }
 
@@ -134,19 +135,14 @@ fn is_cut(rt: &impl Abort, alloc: Global, row: &Row<'_>) -> Result<(), AllocErro
     is_answered(rt, alloc, row, 1)
 }
 
-#[test]
-fn runs_however_cut(rt: HostRuntime) -> Result<(), Fail> {
+/// The rows, and no beginning of a proof will do.
+pub fn runs(rt: &impl Abort, alloc: Global) -> Result<(), AllocError> {
     for row in RUNS {
-        is_cut(&rt, rt.alloc(), &row)?;
+        is_cut(rt, alloc, &row)?;
     }
-    Ok(())
-}
-
-#[test]
-fn no_beginning_of_a_proof_will_do(rt: HostRuntime) -> Result<(), Fail> {
     for (len, text) in INCOMPLETE.iter().enumerate() {
-        let row = (FOUR, &WIDTH_1[..len], ("", *text, 1), Broken::Nothing);
-        is_cut(&rt, rt.alloc(), &row)?;
+        let row: Row<'_> = (FOUR, &WIDTH_1[..len], ("", *text, 1), Broken::Nothing);
+        is_cut(rt, alloc, &row)?;
     }
     Ok(())
 }
@@ -158,7 +154,7 @@ const PROOFS_IN_TURN: [Proofs; 5] = [
     ("1 0 -1 0", &[(END, SHOWN)]),
     ("", &[(END, NOT_SHOWN)]),
     ("", &[(b"\x05\x00\x0D", WITH_ONE_ADDED)]),
-    ("", &[(b"", ("", INCOMPLETE[0], 1))]),
+    ("", &[(b"", ("", AT_1, 1))]),
     // an accepted end asks for nothing more
     ("", &[(b"\x05\x00\x0D", WITH_ONE_ADDED), (b"", SHOWN)]),
 ];
@@ -194,10 +190,9 @@ fn prove_new(rt: &impl Abort, alloc: Global, row: &Proofs) -> Result<(), Fail> {
     prove_all(rt, alloc, &mut checker, row)
 }
 
-#[test]
-fn proofs_on_a_new_checker(rt: HostRuntime) -> Result<(), Fail> {
+pub fn proofs_in_turn(rt: &impl Abort, alloc: Global) -> Result<(), Fail> {
     for row in PROOFS_IN_TURN {
-        prove_new(&rt, rt.alloc(), &row)?;
+        prove_new(rt, alloc, &row)?;
     }
     Ok(())
 }
