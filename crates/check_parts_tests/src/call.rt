@@ -112,7 +112,7 @@ fn see(
     ensures { OnOk result (ContextInvariant ctx.new) }
 {
     match call {
-        Call::Look(what) => Ok(look(ctx, what)),
+        Call::Look(what) => Ok(recorded(ctx, what)),
         Call::Copies(redundant) => {
             let count = copies(&ctx.clause_hasher, &ctx.clauses, clause, *redundant);
             Ok(Seen::Number(count as u64))
@@ -230,7 +230,7 @@ fn with_empty_previous(alloc: Global, ctx: &mut Context)
     ctx.checker_state.previous_id = Some(0);
 }
 
-fn look(ctx: &Context, what: &Look) -> Seen {
+fn recorded(ctx: &Context, what: &Look) -> Seen {
     match what {
         Look::NextId => Seen::Number(ctx.clauses.next_clause_id),
         Look::PreviousId => Seen::Id(ctx.checker_state.previous_id),

@@ -19,7 +19,9 @@ pub const LAST_ID: Calls = &[
     // A unit that stands needs none.
     (Call::Attempt(Kind::Derive), "1", "", Seen::Done),
     (
-        Call::Attempt(Kind::Derive), "1 2", "",
+        Call::Attempt(Kind::Derive),
+        "1 2",
+        "",
         Seen::Refused(2, CheckCause::IdsExhausted, true),
     ),
     (Call::Look(Look::NextId), "", "", Seen::Number(u64::MAX)),
@@ -30,16 +32,22 @@ pub const CLOSING: Calls = &[
     (Call::Add, "1", "", Seen::Done),
     (Call::Add, "-1", "", Seen::Done),
     (
-        Call::Look(Look::UnitConflict), "", "",
+        Call::Look(Look::UnitConflict),
+        "",
+        "",
         Seen::Pair(Some((u64::MAX - 2, u64::MAX - 1))),
     ),
     (
-        Call::Close, "", "",
+        Call::Close,
+        "",
+        "",
         Seen::Refused(0, CheckCause::IdsExhausted, false),
     ),
     // At the end of a proof it is refused with the number of the step before.
     (
-        Call::Prove(b"\x0D", 0), "", "",
+        Call::Prove(b"\x0D", 0),
+        "",
+        "",
         Seen::Refused(1, CheckCause::IdsExhausted, false),
     ),
     (Call::Look(Look::Unsat), "", "", Seen::Is(true)),

@@ -41,20 +41,21 @@ pub const DERIVED_THAT_STANDS: Calls = &[
 
 pub const UNENTAILED: Calls = &[
     (Call::Check(Kind::Add), "1 2", "", Seen::Done),
-    (
-        Call::Check(Kind::DeriveRedundant), "1 2 3", "A",
-        Seen::Done,
-    ),
+    (Call::Check(Kind::DeriveRedundant), "1 2 3", "A", Seen::Done),
     (Call::Empty, "", "", Seen::Done),
     (Call::Check(Kind::Simplify), "1 2", "", Seen::Done),
     // The previous clause is forgotten, and the redundant one is left alone.
     (
-        Call::Check(Kind::Simplify), "1 2 3", "",
+        Call::Check(Kind::Simplify),
+        "1 2 3",
+        "",
         Seen::Refused(0, CheckCause::NotSubsumed, false),
     ),
     // Nothing entails it now, and by itself it passes.
     (
-        Call::Check(Kind::Derive), "1 2 3", "8251C5B11EE16443",
+        Call::Check(Kind::Derive),
+        "1 2 3",
+        "8251C5B11EE16443",
         Seen::Done,
     ),
     (Call::Look(Look::PreviousId), "", "", Seen::Id(Some(1))),

@@ -1,8 +1,8 @@
 //! Rows of calls, each over new parts.
 ghost use Rattle.checker_steps.specs.Context.{ContextInvariant};
 
-use crate::call::{Call, Seen, make};
 use crate::buckets::{ONE_BIT, SOLVER_NAMES};
+use crate::call::{Call, Seen, make};
 use crate::exhausted::{CLOSING, LAST_ID, LAST_STEP_NUMBER, LAST_STEP_READ, NOTHING_READ};
 use crate::ids::{DERIVED_THAT_STANDS, INPUTS, UNENTAILED};
 use crate::{crowds, ids, variables};

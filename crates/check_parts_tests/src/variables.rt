@@ -24,13 +24,7 @@ enum Call {
 
 /// A call, its variable, the answer, how many variables are known then, and whether the variable is
 /// named as the first one. It has no name otherwise.
-type Step = (
-    Call,
-    &'static str,
-    Result<(), StepFault>,
-    usize,
-    bool,
-);
+type Step = (Call, &'static str, Result<(), StepFault>, usize, bool);
 
 /// Calls over new parts in turn, up to one that is refused.
 const ROWS: [&[Step]; 3] = [

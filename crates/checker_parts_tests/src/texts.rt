@@ -170,7 +170,13 @@ pub fn errors(rt: &impl Abort, alloc: Global) -> Result<(), AllocError> {
         says(rt, alloc, &DimacsError::Checker(error_at(place)), "", text)?;
     }
     for (kind, text) in KINDS {
-        says(rt, alloc, &DimacsError::Malformed { line: 4, kind }, "", text)?;
+        says(
+            rt,
+            alloc,
+            &DimacsError::Malformed { line: 4, kind },
+            "",
+            text,
+        )?;
     }
     let unread = DimacsError::Read(io::Error::from(ErrorKind::UnexpectedEof));
     let text = "error reading formula: unexpected end of file";

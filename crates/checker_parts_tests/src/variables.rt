@@ -20,7 +20,14 @@ enum Call {
 
 /// A call, and what is seen then: how many variables are known, whether the second one is taken as
 /// a name, the mode of the first, and the indexes of the user variables of both.
-type Row = (Call, usize, bool, SamplingMode, Option<usize>, Option<usize>);
+type Row = (
+    Call,
+    usize,
+    bool,
+    SamplingMode,
+    Option<usize>,
+    Option<usize>,
+);
 
 /// A name is given, shows, and goes: then the variable is hidden.
 #[rattlefmt::skip]
@@ -64,7 +71,11 @@ fn play(rt: &impl Abort, variables: &mut Variables, rows: &[Row]) -> Result<(), 
         assert!(rt; variables.is_taken(two) == *is_taken && !variables.is_taken(nine));
         assert!(rt; variables.get(one).sampling_mode == *mode);
         assert_eq!(rt;
-            [user_of(variables, one), user_of(variables, two), user_of(variables, nine)],
+            [
+                user_of(variables, one),
+                user_of(variables, two),
+                user_of(variables, nine)
+            ],
             [*first, *second, None]
         );
     }

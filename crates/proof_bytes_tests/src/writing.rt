@@ -1,6 +1,6 @@
 //! Steps of each kind and numbers of each length, written and read.
 use crate::reading::{Cuts, Fault, gives};
-use proof_bytes::{DeleteClauseProof, ProofStep, ProofWriter, WriteFault, write_step};
+use proof_bytes::{ClauseHash, DeleteClauseProof, ProofStep, ProofWriter, WriteFault, write_step};
 use sat_formula::{Lit, Var};
 use std::alloc::{AllocError, Global};
 use std::process::Abort;
@@ -65,82 +65,103 @@ pub const KINDS: [u8; 90] = [
     0x0D,
 ];
 
-/// The steps of these kinds, in their order, over the first and the last variable, and over the
-/// least and the greatest literal.
-fn write_kinds(out: &mut Vec<u8>, first: Var, last: Var) -> Result<(), AllocError> {
-    let (least, greatest) = (first.lit(true), last.lit(false));
-    let steps = [
-        ProofStep::SolverVarName {
-            global: first,
-            solver: Some(last),
+/// What steps are over: two variables, lists of literals, and a list of units.
+#[derive(Clone, Copy)]
+struct Given<'a> {
+    first: Var,
+    last: Var,
+    one: &'a [Lit],
+    two: &'a [Lit],
+    three: &'a [Lit],
+    units: &'a [(Lit, ClauseHash)],
+}
+
+/// The step of these kinds at a place.
+fn kind_at<'a>(place: usize, given: Given<'a>) -> ProofStep<'a> {
+    match place {
+        0 => ProofStep::SolverVarName {
+            global: given.first,
+            solver: Some(given.last),
         },
-        ProofStep::SolverVarName {
-            global: last,
+        1 => ProofStep::SolverVarName {
+            global: given.last,
             solver: None,
         },
-        ProofStep::UserVarName {
-            global: last,
-            user: Some(first),
+        2 => ProofStep::UserVarName {
+            global: given.last,
+            user: Some(given.first),
         },
-        ProofStep::UserVarName {
-            global: first,
+        3 => ProofStep::UserVarName {
+            global: given.first,
             user: None,
         },
-        ProofStep::DeleteVar { var: last },
-        ProofStep::ChangeSamplingMode {
-            var: first,
+        4 => ProofStep::DeleteVar { var: given.last },
+        5 => ProofStep::ChangeSamplingMode {
+            var: given.first,
             sample: true,
         },
-        ProofStep::ChangeSamplingMode {
-            var: first,
+        6 => ProofStep::ChangeSamplingMode {
+            var: given.first,
             sample: false,
         },
-        ProofStep::AddClause {
-            clause: &[greatest, least, least],
+        7 => ProofStep::AddClause {
+            clause: given.three,
         },
-        ProofStep::AtClause {
+        8 => ProofStep::AtClause {
             redundant: true,
-            clause: &[least],
+            clause: given.one,
             propagation_hashes: &[300, 0],
         },
-        ProofStep::DeleteClause {
-            clause: &[least, least],
+        9 => ProofStep::DeleteClause {
+            clause: given.two,
             proof: DeleteClauseProof::Redundant,
         },
-        ProofStep::DeleteClause {
-            clause: &[least],
+        10 => ProofStep::DeleteClause {
+            clause: given.one,
             proof: DeleteClauseProof::Satisfied,
         },
-        ProofStep::DeleteClause {
+        11 => ProofStep::DeleteClause {
             clause: &[],
             proof: DeleteClauseProof::Simplified,
         },
-        ProofStep::UnitClauses {
-            units: &[(least, 128), (greatest, 1)],
+        12 => ProofStep::UnitClauses { units: given.units },
+        13 => ProofStep::ChangeHashBits { bits: u32::MAX },
+        14 => ProofStep::Model {
+            assignment: given.one,
         },
-        ProofStep::ChangeHashBits { bits: u32::MAX },
-        ProofStep::Model {
-            assignment: &[least],
-        },
-        ProofStep::Assumptions { assumptions: &[] },
-        ProofStep::FailedAssumptions {
-            failed_core: &[least],
+        15 => ProofStep::Assumptions { assumptions: &[] },
+        16 => ProofStep::FailedAssumptions {
+            failed_core: given.one,
             propagation_hashes: &[7],
         },
-        ProofStep::End,
-    ];
-    for step in &steps {
-        write_step(out, step)?;
+        _ => ProofStep::End,
+    }
+}
+
+/// Writes the step of each kind.
+fn write_kinds(out: &mut Vec<u8>, given: Given<'_>) -> Result<(), AllocError> {
+    for place in 0..18usize {
+        write_step(out, &kind_at(place, given))?;
     }
     Ok(())
 }
 
-/// They are read in the module `texts`.
+/// Over the first and the last variable, and the least and the greatest literal. The bytes are read
+/// in the module `texts`.
 pub fn each_kind(rt: &impl Abort, alloc: Global) -> Result<(), Fail> {
     let first = Var::from_index(0).ok_or("no variable")?;
     let last = Var::from_index(Var::MAX_COUNT - 1).ok_or("no variable")?;
+    let (least, greatest) = (first.lit(true), last.lit(false));
+    let given = Given {
+        first,
+        last,
+        one: &[least],
+        two: &[least, least],
+        three: &[greatest, least, least],
+        units: &[(least, 128), (greatest, 1)],
+    };
     let mut written: Vec<u8> = Vec::new(alloc);
-    write_kinds(&mut written, first, last)?;
+    write_kinds(&mut written, given)?;
     assert_eq!(rt; written.as_slice(), KINDS.as_slice());
     Ok(())
 }
@@ -158,24 +179,39 @@ fn fits(
     }
 }
 
-/// A step of a new writer, whether it fits, and how many bytes of the text are written then.
-type Row<'a> = (ProofStep<'a>, bool, usize);
-
-fn are_written(
-    rt: &impl Abort,
-    alloc: Global,
-    rows: &[Row<'_>],
-    text: &[u8],
-) -> Result<(), AllocError> {
-    let mut writer = ProofWriter::new();
-    let mut out: Vec<u8> = Vec::new(alloc);
-    for (step, is_taken, len) in rows {
-        let taken = fits(&mut writer, &mut out, step)?;
-        assert_eq!(rt; taken, *is_taken);
-        assert_eq!(rt; out.as_slice(), &text[..(*len).min(text.len())]);
+/// The step of a writer at a place, over one literal.
+fn wide_step_at<'a>(place: usize, one: &'a [Lit], units: &'a [(Lit, ClauseHash)]) -> ProofStep<'a> {
+    match place {
+        0 => ProofStep::ChangeHashBits { bits: 9 },
+        1 => ProofStep::AtClause {
+            redundant: false,
+            clause: &[],
+            propagation_hashes: &[512],
+        },
+        2 => ProofStep::AtClause {
+            redundant: false,
+            clause: &[],
+            propagation_hashes: &[511],
+        },
+        3 => ProofStep::UnitClauses { units },
+        4 => ProofStep::ChangeHashBits { bits: 65 },
+        5 => ProofStep::ChangeHashBits { bits: 1 },
+        6 => ProofStep::FailedAssumptions {
+            failed_core: one,
+            propagation_hashes: &[1, 0],
+        },
+        _ => ProofStep::End,
     }
-    Ok(())
 }
+
+/// The place of a step of a new writer, whether it fits, and how many bytes of the text are written
+/// then.
+type Row = (usize, bool, usize);
+
+/// Hashes of 2 bytes.
+const TWO_BYTES: [Row; 3] = [(0, true, 4), (1, false, 4), (2, true, 10)];
+
+const TEXT_OF_TWO_BYTES: [u8; 10] = [0x00, 0x02, 0x09, 0x09, 0x06, 0x00, 0x00, 0x01, 0xFF, 0x01];
 
 /// Hashes of 8 bytes and of 1, and a width that is none, in each step that has hashes. It is read
 /// in the module `texts`.
@@ -184,51 +220,36 @@ pub const WRITTEN: [u8; 24] = [
     0x01, 0x0C, 0x01, 0x02, 0x02, 0x01, 0x00, 0x0D,
 ];
 
+const MANY_WIDTHS: [Row; 5] = [
+    (3, true, 13),
+    (4, true, 15),
+    (5, true, 17),
+    (6, true, 23),
+    (7, true, 24),
+];
+
+fn are_written(
+    rt: &impl Abort,
+    alloc: Global,
+    lit: Lit,
+    rows: &[Row],
+    text: &[u8],
+) -> Result<(), AllocError> {
+    let (one, units) = ([lit], [(lit, 0xC4AF_7593_0295_082A)]);
+    let mut writer = ProofWriter::new();
+    let mut out: Vec<u8> = Vec::new(alloc);
+    for (place, is_taken, len) in rows {
+        let step = wide_step_at(*place, &one, &units);
+        let taken = fits(&mut writer, &mut out, &step)?;
+        assert_eq!(rt; taken, *is_taken);
+        assert_eq!(rt; out.as_slice(), &text[..(*len).min(text.len())]);
+    }
+    Ok(())
+}
+
 pub fn writer_of_version_2(rt: &impl Abort, alloc: Global) -> Result<(), Fail> {
     let lit = Lit::from_code(2).ok_or("no literal")?;
-    let two_bytes: [Row<'_>; 3] = [
-        (ProofStep::ChangeHashBits { bits: 9 }, true, 4),
-        (
-            ProofStep::AtClause {
-                redundant: false,
-                clause: &[],
-                propagation_hashes: &[512],
-            },
-            false,
-            4,
-        ),
-        (
-            ProofStep::AtClause {
-                redundant: false,
-                clause: &[],
-                propagation_hashes: &[511],
-            },
-            true,
-            10,
-        ),
-    ];
-    let text = b"\x00\x02\x09\x09\x06\x00\x00\x01\xFF\x01".as_slice();
-    are_written(rt, alloc, &two_bytes, text)?;
-    let many_widths: [Row<'_>; 5] = [
-        (
-            ProofStep::UnitClauses {
-                units: &[(lit, 0xC4AF_7593_0295_082A)],
-            },
-            true,
-            13,
-        ),
-        (ProofStep::ChangeHashBits { bits: 65 }, true, 15),
-        (ProofStep::ChangeHashBits { bits: 1 }, true, 17),
-        (
-            ProofStep::FailedAssumptions {
-                failed_core: &[lit],
-                propagation_hashes: &[1, 0],
-            },
-            true,
-            23,
-        ),
-        (ProofStep::End, true, 24),
-    ];
-    are_written(rt, alloc, &many_widths, &WRITTEN)?;
+    are_written(rt, alloc, lit, &TWO_BYTES, &TEXT_OF_TWO_BYTES)?;
+    are_written(rt, alloc, lit, &MANY_WIDTHS, &WRITTEN)?;
     Ok(())
 }
