@@ -1,5 +1,7 @@
-//! Ids and hashes, as the parts of a checker show them, and steps over parts of which the form alone
-//! is known: they are answered by the rules, whatever the clauses rest on.
+//! Ids and hashes, as the parts of a checker show them.
+//!
+//! Of some parts the form alone is known: steps over them are answered by the rules, whatever the
+//! clauses rest on.
 use crate::call::{Call, Kind, Look, Seen};
 use crate::rows::Calls;
 use check_calls::calls::{hash, lits};
