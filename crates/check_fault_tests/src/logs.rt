@@ -93,9 +93,11 @@ fn new_checker_tells(rt: &impl Abort, alloc: Global, row: Row) -> Result<(), Fai
     all_tell(rt, alloc, &mut checker, row)
 }
 
-pub fn lines(rt: &impl Abort, alloc: Global) -> Result<(), Fail> {
+/// In a test of its own, since its proofs are long, and a test has its time.
+#[test]
+fn lines_are_told(rt: HostRuntime) -> Result<(), Fail> {
     for row in ROWS {
-        new_checker_tells(rt, alloc, row)?;
+        new_checker_tells(&rt, rt.alloc(), row)?;
     }
     Ok(())
 }

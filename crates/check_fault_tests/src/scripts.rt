@@ -4,7 +4,7 @@ use crate::fault_texts::TEXTS;
 use crate::faults::{BOXES, FAILED, FAULTS};
 use crate::hints::WRITTEN;
 use crate::script::agrees;
-use crate::{failing_readers, fault_texts, logs};
+use crate::{failing_readers, fault_texts};
 use std::alloc::Global;
 use std::process::Abort;
 use std::test::Fail;
@@ -24,7 +24,7 @@ fn faults(rt: &impl Abort, alloc: Global) -> Result<(), Fail> {
     Ok(())
 }
 
-/// All of them, and the rows that are no scripts, in one test: each test function is proved too.
+/// All of them, and the steps that are shown, in one test: each test function is proved too.
 #[test]
 fn scripts(rt: HostRuntime) -> Result<(), Fail> {
     for scripts in [
@@ -38,6 +38,5 @@ fn scripts(rt: HostRuntime) -> Result<(), Fail> {
     }
     faults(&rt, rt.alloc())?;
     failing_readers::failing_reads(&rt, rt.alloc())?;
-    fault_texts::refused_steps(&rt, rt.alloc())?;
-    logs::lines(&rt, rt.alloc())
+    fault_texts::refused_steps(&rt, rt.alloc())
 }
