@@ -114,6 +114,7 @@ fn shows_steps(
     let handed_in = step_text_len(checker.self_check_step(step));
     let read = step_text_len(checker.check_proof(&Discard, bytes));
     assert!(rt; handed_in > Some(0) && read == handed_in);
+    given(alloc, checker, "1")?;
     assert_eq!(rt; step_text_len(checker.self_check_step(unnamed)), Some(0));
     assert!(rt; checker.self_check_step(witness).is_ok());
     assert_eq!(rt; step_text_len(checker.self_check_step(assumed)), Some(0));

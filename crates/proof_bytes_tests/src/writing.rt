@@ -1,6 +1,7 @@
 //! Steps of each kind and numbers of each length, written and read.
-use crate::reading::{Cuts, Fault, gives};
-use proof_bytes::{ClauseHash, DeleteClauseProof, ProofStep, ProofWriter, WriteFault, write_step};
+use proof_bytes::{
+    ClauseHash, DeleteClauseProof, ProofStep, ProofWriter, StepReader, WriteFault, write_step,
+};
 use sat_formula::{Lit, Var};
 use std::alloc::{AllocError, Global};
 use std::process::Abort;
@@ -21,8 +22,7 @@ const NUMBERS: [(u64, &[u8]); 8] = [
     ),
 ];
 
-/// Whether a number is written so. What is read of the bytes is the same step then, since no two
-/// steps have the same bytes.
+/// Whether a number is written so.
 fn is_written(alloc: Global, number: u64, bytes: &[u8]) -> Result<bool, AllocError> {
     let mut written: Vec<u8> = Vec::new(alloc);
     let step = ProofStep::FailedAssumptions {
@@ -33,11 +33,24 @@ fn is_written(alloc: Global, number: u64, bytes: &[u8]) -> Result<bool, AllocErr
     Ok(written.as_slice() == bytes)
 }
 
+/// Whether a number is read so.
+fn is_read(alloc: Global, number: u64, bytes: &[u8]) -> bool {
+    let mut reader = StepReader::new(alloc, bytes);
+    match reader.next_step() {
+        Ok(
+            ProofStep::FailedAssumptions {
+                failed_core,
+                propagation_hashes,
+            },
+        ) => failed_core.is_empty() && propagation_hashes == [number].as_slice(),
+        _ => false,
+    }
+}
+
 pub fn numbers(rt: &impl Abort, alloc: Global) -> Result<(), AllocError> {
     for (number, bytes) in NUMBERS {
         assert!(rt; is_written(alloc, number, bytes)?, "{number}");
-        let text = Cuts::of_size(bytes, usize::MAX);
-        assert!(rt; gives(alloc, text, bytes, 1, Fault::End)?, "{number}");
+        assert!(rt; is_read(alloc, number, bytes), "{number}");
     }
     Ok(())
 }

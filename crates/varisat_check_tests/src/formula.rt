@@ -1,4 +1,5 @@
 //! Formulas that are read whole, and texts that are not.
+use checker_parts::error::DimacsError;
 use sat_formula::CnfFormula;
 use std::alloc::{AllocError, Global};
 use std::io::ErrorKind;
@@ -50,7 +51,16 @@ const TEXTS: [(&str, &str); 8] = [
     ("1 0\n\n2 3\n", "line 4: unterminated clause"),
 ];
 
-/// The texts are read so, at once and byte by byte. A failed read is no end.
+/// A failed read is no end.
+fn fails(rt: &impl Abort, alloc: Global, cnf: Pieces<'_>) -> Result<(), AllocError> {
+    let answer = read_formula(alloc, cnf);
+    assert!(rt; matches!(&answer, Err(RunFault::Formula(DimacsError::Read(_)))));
+    let seen = shown(alloc, answer)?;
+    assert_eq!(rt; seen.as_str(), "error reading formula: broken");
+    Ok(())
+}
+
+/// The texts are read so, at once and byte by byte.
 pub fn formulas(rt: &impl Abort, alloc: Global) -> Result<(), AllocError> {
     for (cnf, expected) in TEXTS {
         for size in [usize::MAX, 1] {
@@ -58,5 +68,5 @@ pub fn formulas(rt: &impl Abort, alloc: Global) -> Result<(), AllocError> {
         }
     }
     let cnf = Pieces::broken(b"1 0\n-1 0\n", ErrorKind::ConnectionReset);
-    reads(rt, alloc, cnf, "error reading formula: broken")
+    fails(rt, alloc, cnf)
 }

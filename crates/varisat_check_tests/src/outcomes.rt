@@ -1,4 +1,5 @@
 //! What runs over a proof answer and write.
+use checker_parts::error::CheckerError;
 use std::alloc::{AllocError, Global};
 use std::process::Abort;
 use varisat_check::{RunFault, Verdict, exit_status};
@@ -15,6 +16,18 @@ pub const WITH_ONE_ADDED: Outcome<'static> = ("s UNSATISFIABLE WITH 1 ADDED CLAU
 /// The proof was accepted, and shows nothing.
 pub const NOT_SHOWN: Outcome<'static> = ("s NOT SHOWN\n", "", 3);
 
+/// Whether such a text is the text of such a fault: of a failed write, of a proof that ends early,
+/// or of another one.
+fn is_of_kind(answer: &Result<Verdict, RunFault>, text: &str) -> bool {
+    let is_write = text.starts_with("error writing: ");
+    let is_early = text.ends_with(": Unexpected end of proof file");
+    match answer {
+        Err(RunFault::Write(_)) => is_write,
+        Err(RunFault::Proof(CheckerError::ProofIncomplete { .. })) => is_early,
+        _ => !is_write && !is_early,
+    }
+}
+
 /// What was written, the exit status and the text of the fault are those of the outcome.
 pub fn has_outcome(
     rt: &impl Abort,
@@ -24,6 +37,7 @@ pub fn has_outcome(
     (line, text, status): Outcome<'_>,
 ) -> Result<(), AllocError> {
     assert_eq!(rt; (written, exit_status(&answer)), (line.as_bytes(), status));
+    assert!(rt; is_of_kind(&answer, text), "{text}");
     let said = match answer {
         Ok(_) => String::new(alloc),
         Err(fault) => fault.to_string(alloc)?,
