@@ -2,7 +2,7 @@
 use std::alloc::{AllocError, AllocFailed};
 
 /// Whether want of memory was answered in place of something.
-#[derive(Clone, Copy)]
+#[derive(Clone, Copy, Debug, PartialEq, Eq)]
 pub enum Memory {
     Ample,
     Wanting,
@@ -19,7 +19,7 @@ impl Memory {
 }
 
 /// What no row allows.
-#[derive(Clone, Copy, Debug)]
+#[derive(Clone, Copy, Debug, PartialEq, Eq)]
 pub enum Wrong {
     /// A row of this program says something that is no call.
     NoCall,
@@ -40,7 +40,7 @@ pub enum Wrong {
 }
 
 /// Why a row is not played to its end.
-#[derive(Clone, Copy)]
+#[derive(Clone, Copy, Debug, PartialEq, Eq)]
 pub enum Stop {
     /// Memory was refused to what plays the row, and to no call.
     Own,

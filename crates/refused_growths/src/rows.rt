@@ -1,6 +1,6 @@
 //! The rows by name.
 use crate::outcome::Played;
-use crate::script::all_judged;
+use crate::script::{all_judged, judged};
 use crate::scripts::{
     ANNOUNCED_COUNT, COLLECTION, DELETIONS, LITERAL_BUFFER, REFUTATION, SHORT_LIST,
     SOLVER_NAME_REMOVED, SOLVER_NAMES, TEXT_AND_PROOF, TEXTS, UNITS, USER_NAMES,
@@ -42,33 +42,19 @@ pub const NAMES: [&str; 27] = [
 /// Rows in which each read fails in turn.
 pub const READS: [&str; 2] = ["failing_reads_of_a_proof", "failing_reads_of_texts"];
 
-/// The rows that are scripts, each script over a new checker.
-const SCRIPTS: [(&str, &[&str]); 10] = [
-    ("refutation", &[REFUTATION]),
-    ("solver_names", &[SOLVER_NAMES, SOLVER_NAME_REMOVED]),
-    ("deletions", &[DELETIONS]),
-    ("units", &[UNITS]),
-    ("user_names", &[USER_NAMES]),
-    ("texts", &TEXTS),
-    ("text_and_proof", &[TEXT_AND_PROOF]),
-    ("announced_count", &[ANNOUNCED_COUNT]),
-    ("short_list", &[SHORT_LIST]),
-    ("literal_buffer", &[LITERAL_BUFFER, COLLECTION]),
-];
-
 /// Plays a row. None: there is none of this name.
 pub fn play(alloc: Global, name: &str) -> Option<Played> {
-    for (row, scripts) in SCRIPTS.iter() {
-        if *row == name {
-            return Some(all_judged(alloc, scripts));
-        }
-    }
-    play_calls(alloc, name)
-}
-
-/// Plays a row that is no script.
-fn play_calls(alloc: Global, name: &str) -> Option<Played> {
     Some(match name {
+        "refutation" => judged(alloc, REFUTATION),
+        "solver_names" => all_judged(alloc, &[SOLVER_NAMES, SOLVER_NAME_REMOVED]),
+        "deletions" => judged(alloc, DELETIONS),
+        "units" => judged(alloc, UNITS),
+        "user_names" => judged(alloc, USER_NAMES),
+        "texts" => all_judged(alloc, &TEXTS),
+        "text_and_proof" => judged(alloc, TEXT_AND_PROOF),
+        "announced_count" => judged(alloc, ANNOUNCED_COUNT),
+        "short_list" => judged(alloc, SHORT_LIST),
+        "literal_buffer" => all_judged(alloc, &[LITERAL_BUFFER, COLLECTION]),
         "formula" => formulas::add_clauses(alloc),
         "formula_text" => formulas::read_clauses(alloc),
         "large_variables" => formulas::read_large_variables(alloc),

@@ -21,7 +21,7 @@ pub fn all_judged(alloc: Global, scripts: &[&str]) -> Played {
 }
 
 /// Plays a script with a processor and a transcript, each of which lists what it is told.
-fn judged(alloc: Global, script: &str) -> Played {
+pub fn judged(alloc: Global, script: &str) -> Played {
     let list = Box::new(alloc, StepList::new(alloc))?;
     let transcript = Box::new(alloc, TranscriptList::new(alloc))?;
     judged_with(alloc, list, transcript, script)

@@ -4,6 +4,7 @@ use sat_formula::CnfFormula;
 use std::alloc::{AllocError, Global};
 use std::io::ErrorKind;
 use std::process::Abort;
+use std::test::Fail;
 use test_streams::Pieces;
 use varisat_check::{RunFault, read_formula};
 
@@ -51,22 +52,28 @@ const TEXTS: [(&str, &str); 8] = [
     ("1 0\n\n2 3\n", "line 4: unterminated clause"),
 ];
 
-/// A failed read is no end.
-fn fails(rt: &impl Abort, alloc: Global, cnf: Pieces<'_>) -> Result<(), AllocError> {
-    let answer = read_formula(alloc, cnf);
-    assert!(rt; matches!(&answer, Err(RunFault::Formula(DimacsError::Read(_)))));
-    let seen = shown(alloc, answer)?;
-    assert_eq!(rt; seen.as_str(), "error reading formula: broken");
-    Ok(())
-}
-
 /// The texts are read so, at once and byte by byte.
-pub fn formulas(rt: &impl Abort, alloc: Global) -> Result<(), AllocError> {
-    for (cnf, expected) in TEXTS {
+fn all_read(rt: &impl Abort, alloc: Global, rows: &[(&str, &str)]) -> Result<(), AllocError> {
+    for (cnf, expected) in rows {
         for size in [usize::MAX, 1] {
             reads(rt, alloc, Pieces::of_size(cnf.as_bytes(), size), expected)?;
         }
     }
+    Ok(())
+}
+
+#[test]
+fn formulas(rt: HostRuntime) -> Result<(), Fail> {
+    all_read(&rt, rt.alloc(), &TEXTS)?;
+    Ok(())
+}
+
+#[test]
+fn failed_read_is_no_end(rt: HostRuntime) -> Result<(), Fail> {
     let cnf = Pieces::broken(b"1 0\n-1 0\n", ErrorKind::ConnectionReset);
-    fails(rt, alloc, cnf)
+    let answer = read_formula(rt.alloc(), cnf);
+    assert!(rt; matches!(&answer, Err(RunFault::Formula(DimacsError::Read(_)))));
+    let seen = shown(rt.alloc(), answer)?;
+    assert_eq!(rt; seen.as_str(), "error reading formula: broken");
+    Ok(())
 }

@@ -15,8 +15,6 @@ mod lrat;
 #[cfg(test)]
 mod outcomes;
 #[cfg(test)]
-mod rows;
-#[cfg(test)]
 mod runs;
 #[cfg(test)]
 mod streams;

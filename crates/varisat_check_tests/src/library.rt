@@ -2,7 +2,6 @@
 use proof_bytes::ProofStep;
 use sat_formula::Lit;
 use std::alloc::Global;
-use std::process::Abort;
 use std::test::Fail;
 use varisat_checker::hash::ClauseHasher;
 use varisat_checker::internal::SelfChecker;
@@ -22,11 +21,11 @@ fn refutes(alloc: Global, p: Lit, q: Lit) -> Result<bool, CheckerError> {
     Ok(checker.unsat())
 }
 
-pub fn the_example_refutes(rt: &impl Abort, alloc: Global) -> Result<(), Fail> {
+#[test]
+fn the_example_of_the_readme_refutes(rt: HostRuntime) -> Result<(), Fail> {
     let p = Lit::from_dimacs(1).ok_or("no literal")?;
     let q = Lit::from_dimacs(2).ok_or("no literal")?;
-    for (p, q) in [(p, q), (!q, !p)] {
-        assert!(rt; matches!(refutes(alloc, p, q), Ok(true)));
-    }
+    assert!(rt; matches!(refutes(rt.alloc(), p, q), Ok(true)));
+    assert!(rt; matches!(refutes(rt.alloc(), !q, !p), Ok(true)));
     Ok(())
 }

@@ -1,28 +1,26 @@
 //! Runs that a writer of hints writes, and what a checker of hints says of them.
-use crate::four_clauses::{FOUR, INCOMPLETE, WIDTH_1, WIDTH_64};
+use crate::four_clauses::{FIRST_MISSING, FOUR, HASHES, WIDTH_1, proof_of_four};
 use crate::outcomes::{NOT_SHOWN, Outcome, SHOWN, has_outcome};
-use crate::streams::Counting;
 use hint_checker::HintFault;
 use log::sink::Discard;
-use sat_formula::{CnfFormula, read_formula};
+use proof_bytes::{ProofStep, write_step};
+use sat_formula::{CnfFormula, Lit, read_formula};
 use sat_hints::{HintChecker, LratWriter};
 use std::alloc::{AllocError, Global};
 use std::process::Abort;
 use std::test::Fail;
-use test_streams::Pieces;
+use test_streams::{Full, Pieces};
 use varisat_check::{RunFault, Verdict, run_lrat};
 
-/// Which output is full, if one is.
-#[derive(Clone, Copy)]
-enum Full {
-    Neither,
-    Hints,
-    Line,
-}
-
-/// The text of a formula, for how many clauses the writer is, a proof, what is written as hints,
-/// the outcome, what a checker of hints answers to the hints, and which output is full.
-type Row<'a> = (&'a str, u64, &'a [u8], &'a str, Outcome<'a>, bool, Full);
+/// The text of a formula, a proof, what is written, the outcome, and what a checker of hints
+/// answers to the text.
+type Row = (
+    &'static str,
+    &'static [u8],
+    &'static str,
+    Outcome<'static>,
+    bool,
+);
 
 const UNITS: &str = "1 0\n-1 0\n";
 
@@ -42,58 +40,36 @@ const MARKED: [u8; 44] = [
     0xFE, 0xD7, 0x66, 0x7E, 0x08, 0xBD, 0x03, 0x9D, 0x74, 0x9F, 0xC4, 0x0D,
 ];
 
-/// The unit 1, derived from the four clauses with whole hashes, and the input clause 3 after it.
-const LATE_INPUT: [u8; 27] = [
-    0x06, 0x00, 0x01, 0x00, 0x02, 0xAA, 0x90, 0xD4, 0x94, 0xB0, 0xB2, 0xDD, 0xD7, 0xC4, 0x01, 0xC1,
-    0x98, 0x8E, 0x93, 0xC8, 0xEA, 0xFF, 0xF3, 0x66, 0x05, 0x01, 0x04,
-];
-
-const TOO_MANY: &str = "Error in proof processor: more input clauses than announced";
-
-const TOO_LARGE: &str = "Error in proof processor: clause number out of range";
-
-const TOO_LATE: &str = "Error in proof processor: input clause after a derived clause";
-
-const UNWRITTEN: Outcome<'static> = ("", "error writing: full", 1);
-
-#[rattlefmt::skip]
-const ROWS: [Row<'static>; 13] = [
-    (FOUR, 4, &WIDTH_1, LINES, SHOWN, true, Full::Neither),
-    (FOUR, 4, &WIDTH_1_MARKED, LINES, SHOWN, true, Full::Neither),
-    (FOUR, 4, &MARKED, LINES, SHOWN, true, Full::Neither),
-    (FOUR, 4, &WIDTH_64, LINES, SHOWN, true, Full::Neither),
-    (UNITS, 2, &[0x0D], "5 0 1 2 0\n", SHOWN, true, Full::Neither),
-    ("0", 1, &[0x0D], "", SHOWN, false, Full::Neither),
+const RUNS: [Row; 7] = [
+    (FOUR, &WIDTH_1, LINES, SHOWN, true),
+    (FOUR, &WIDTH_1_MARKED, LINES, SHOWN, true),
+    (FOUR, &MARKED, LINES, SHOWN, true),
+    (UNITS, &[0x0D], "5 0 1 2 0\n", SHOWN, true),
+    ("0", &[0x0D], "", SHOWN, false),
     // the conflict is closed before the variable goes
-    (UNITS, 2, &[0x03, 0x00, 0x0D], "5 0 1 2 0\n5 d 1 0\n", SHOWN, true, Full::Neither),
-    ("1 0", 1, &[0x0D], "", NOT_SHOWN, false, Full::Neither),
-    // faults of the writer
-    (UNITS, 1, &[0x0D], "", ("", TOO_MANY, 1), false, Full::Neither),
-    (UNITS, u64::MAX, &[0x0D], "", ("", TOO_LARGE, 1), false, Full::Neither),
-    (FOUR, 9, &LATE_INPUT, "", ("", TOO_LATE, 1), false, Full::Neither),
-    // where there is no room for hints, no line is written
-    (UNITS, 2, &[0x0D], "", UNWRITTEN, false, Full::Hints),
-    // where there is no room for the line, the hints are written
-    (UNITS, 2, &[0x0D], "5 0 1 2 0\n", UNWRITTEN, true, Full::Line),
+    (
+        UNITS,
+        &[0x03, 0x00, 0x0D],
+        "5 0 1 2 0\n5 d 1 0\n",
+        SHOWN,
+        true,
+    ),
+    ("1 0", &[0x0D], "", NOT_SHOWN, false),
 ];
 
-/// A run with its outcome and what is written as hints.
+/// Runs with a writer for so many clauses: the outcome and what is written as hints.
 fn is_written(
     rt: &impl Abort,
     alloc: Global,
-    formula: &CnfFormula,
-    (_, announced, proof, lines, outcome, _, full): &Row<'_>,
-    size: usize,
+    (formula, announced): (&CnfFormula, u64),
+    proof: Pieces<'_>,
+    (lines, outcome): (&str, Outcome<'_>),
 ) -> Result<(), AllocError> {
-    let mut out = Counting::new(alloc, matches!(full, Full::Line));
-    let mut hints = Counting::new(alloc, matches!(full, Full::Hints));
-    let writer = LratWriter::new(alloc, *announced);
-    let proof = Pieces::of_size(proof, size);
-    let answer = run_lrat(
-        &Discard, alloc, formula, writer, proof, &mut out, &mut hints,
-    );
-    assert_eq!(rt; hints.text.as_slice(), lines.as_bytes());
-    has_outcome(rt, alloc, verdict_of(answer), &out.text, *outcome)
+    let (mut out, mut lrat) = (Vec::new(alloc), Vec::new(alloc));
+    let writer = LratWriter::new(alloc, announced);
+    let answer = run_lrat(&Discard, alloc, formula, writer, proof, &mut out, &mut lrat);
+    assert_eq!(rt; lrat.as_slice(), lines.as_bytes());
+    has_outcome(rt, alloc, verdict_of(answer), &out, outcome)
 }
 
 fn verdict_of(answer: Result<(Verdict, LratWriter), RunFault>) -> Result<Verdict, RunFault> {
@@ -117,23 +93,170 @@ fn is_accepted(
 }
 
 /// The proof is read at once and byte by byte.
-fn holds(rt: &impl Abort, alloc: Global, row: &Row<'_>) -> Result<(), Fail> {
-    let formula = read_formula(alloc, row.0.as_bytes())?;
-    is_written(rt, alloc, &formula, row, usize::MAX)?;
-    is_written(rt, alloc, &formula, row, 1)?;
-    is_accepted(rt, alloc, &formula, row.3, row.5)?;
+fn is_cut(
+    rt: &impl Abort,
+    alloc: Global,
+    (formula, announced): (&CnfFormula, u64),
+    proof: &[u8],
+    (lines, outcome): (&str, Outcome<'_>),
+) -> Result<(), AllocError> {
+    for size in [usize::MAX, 1] {
+        let proof = Pieces::of_size(proof, size);
+        is_written(rt, alloc, (formula, announced), proof, (lines, outcome))?;
+    }
     Ok(())
 }
 
-/// The rows, and no beginning of a proof is written.
-pub fn written_runs(rt: &impl Abort, alloc: Global) -> Result<(), Fail> {
-    for row in ROWS {
-        holds(rt, alloc, &row)?;
+fn holds(
+    rt: &impl Abort,
+    alloc: Global,
+    proof: &[u8],
+    (cnf, _, lines, outcome, answer): &Row,
+) -> Result<(), Fail> {
+    let formula = read_formula(alloc, cnf.as_bytes())?;
+    let announced = formula.len() as u64;
+    is_cut(rt, alloc, (&formula, announced), proof, (*lines, *outcome))?;
+    is_accepted(rt, alloc, &formula, lines, *answer)?;
+    Ok(())
+}
+
+fn hold(rt: &impl Abort, alloc: Global, rows: &[Row]) -> Result<(), Fail> {
+    for row in rows {
+        holds(rt, alloc, row.1, row)?;
     }
-    for (len, text) in INCOMPLETE.iter().enumerate() {
-        let proof = &WIDTH_1[..len];
-        let row: Row<'_> = (FOUR, 4, proof, "", ("", *text, 1), false, Full::Neither);
-        holds(rt, alloc, &row)?;
+    Ok(())
+}
+
+#[test]
+fn runs_and_their_lines(rt: HostRuntime) -> Result<(), Fail> {
+    hold(&rt, rt.alloc(), &RUNS)
+}
+
+#[test]
+fn run_with_whole_hashes(rt: HostRuntime) -> Result<(), Fail> {
+    let proof = proof_of_four(rt.alloc())?;
+    holds(&rt, rt.alloc(), &proof, &(FOUR, b"", LINES, SHOWN, true))
+}
+
+/// A derived clause, and an input clause after it.
+fn late_input(alloc: Global) -> Result<Vec<u8>, Fail> {
+    let one = Lit::from_dimacs(1).ok_or("no literal")?;
+    let three = Lit::from_dimacs(3).ok_or("no literal")?;
+    let mut proof = Vec::new(alloc);
+    let derived = ProofStep::AtClause {
+        redundant: false,
+        clause: &[one],
+        propagation_hashes: &HASHES[..2],
+    };
+    write_step(&mut proof, &derived)?;
+    write_step(&mut proof, &ProofStep::AddClause { clause: &[three] })?;
+    Ok(proof)
+}
+
+/// A formula with a writer for so many clauses, where the proof is not accepted: no hints are
+/// written.
+fn is_refused(
+    rt: &impl Abort,
+    alloc: Global,
+    (cnf, announced): (&str, u64),
+    proof: &[u8],
+    text: &str,
+) -> Result<(), Fail> {
+    let formula = read_formula(alloc, cnf.as_bytes())?;
+    is_cut(rt, alloc, (&formula, announced), proof, ("", ("", text, 1)))?;
+    Ok(())
+}
+
+/// A formula, for how many clauses the writer is, a proof, and the text of the fault.
+type Refusal = (&'static str, u64, &'static [u8], &'static str);
+
+const REFUSED: [Refusal; 2] = [
+    (
+        UNITS,
+        1,
+        &[0x0D],
+        "Error in proof processor: more input clauses than announced",
+    ),
+    (
+        UNITS,
+        u64::MAX,
+        &[0x0D],
+        "Error in proof processor: clause number out of range",
+    ),
+];
+
+fn are_refused(rt: &impl Abort, alloc: Global, rows: &[Refusal]) -> Result<(), Fail> {
+    for (cnf, announced, proof, text) in rows {
+        is_refused(rt, alloc, (*cnf, *announced), proof, text)?;
     }
+    Ok(())
+}
+
+#[test]
+fn faults_of_the_writer(rt: HostRuntime) -> Result<(), Fail> {
+    are_refused(&rt, rt.alloc(), &REFUSED)
+}
+
+#[test]
+fn late_input_clause(rt: HostRuntime) -> Result<(), Fail> {
+    let late = late_input(rt.alloc())?;
+    let text = "Error in proof processor: input clause after a derived clause";
+    is_refused(&rt, rt.alloc(), (FOUR, 9), &late, text)
+}
+
+fn are_incomplete(rt: &impl Abort, alloc: Global) -> Result<(), Fail> {
+    for (len, step) in FIRST_MISSING.iter().enumerate() {
+        let text = format!(in alloc; "step {step}: Unexpected end of proof file")?;
+        is_refused(rt, alloc, (FOUR, 4), &WIDTH_1[..len], &text)?;
+    }
+    Ok(())
+}
+
+#[test]
+fn no_beginning_of_a_proof_is_written(rt: HostRuntime) -> Result<(), Fail> {
+    are_incomplete(&rt, rt.alloc())
+}
+
+/// Where there is no room for hints, no line is written.
+fn has_no_room(rt: &impl Abort, alloc: Global, formula: &CnfFormula) {
+    let mut out = Vec::new(alloc);
+    let writer = LratWriter::new(alloc, 2);
+    let end = b"\x0D".as_slice();
+    let answer = run_lrat(
+        &Discard,
+        alloc,
+        formula,
+        writer,
+        end,
+        &mut out,
+        &mut Full::after(0),
+    );
+    assert!(rt; matches!(&answer, Err(RunFault::Write(_))));
+    assert!(rt; out.is_empty());
+}
+
+/// Where there is no room for the line, the hints are written.
+fn has_no_room_for_its_line(rt: &impl Abort, alloc: Global, formula: &CnfFormula) {
+    let mut lrat = Vec::new(alloc);
+    let writer = LratWriter::new(alloc, 2);
+    let end = b"\x0D".as_slice();
+    let answer = run_lrat(
+        &Discard,
+        alloc,
+        formula,
+        writer,
+        end,
+        &mut Full::after(0),
+        &mut lrat,
+    );
+    assert!(rt; matches!(&answer, Err(RunFault::Write(_))));
+    assert_eq!(rt; lrat.as_slice(), b"5 0 1 2 0\n".as_slice());
+}
+
+#[test]
+fn outputs_that_cannot_be_written(rt: HostRuntime) -> Result<(), Fail> {
+    let formula = read_formula(rt.alloc(), UNITS.as_bytes())?;
+    has_no_room(&rt, rt.alloc(), &formula);
+    has_no_room_for_its_line(&rt, rt.alloc(), &formula);
     Ok(())
 }

@@ -1,5 +1,4 @@
 //! What runs over a proof answer and write.
-use checker_parts::error::CheckerError;
 use std::alloc::{AllocError, Global};
 use std::process::Abort;
 use varisat_check::{RunFault, Verdict, exit_status};
@@ -16,15 +15,11 @@ pub const WITH_ONE_ADDED: Outcome<'static> = ("s UNSATISFIABLE WITH 1 ADDED CLAU
 /// The proof was accepted, and shows nothing.
 pub const NOT_SHOWN: Outcome<'static> = ("s NOT SHOWN\n", "", 3);
 
-/// Whether such a text is the text of such a fault: of a failed write, of a proof that ends early,
-/// or of another one.
-fn is_of_kind(answer: &Result<Verdict, RunFault>, text: &str) -> bool {
-    let is_write = text.starts_with("error writing: ");
-    let is_early = text.ends_with(": Unexpected end of proof file");
+/// The text of a fault, and of a verdict none.
+fn fault_text(alloc: Global, answer: Result<Verdict, RunFault>) -> Result<String, AllocError> {
     match answer {
-        Err(RunFault::Write(_)) => is_write,
-        Err(RunFault::Proof(CheckerError::ProofIncomplete { .. })) => is_early,
-        _ => !is_write && !is_early,
+        Ok(_) => Ok(String::new(alloc)),
+        Err(fault) => fault.to_string(alloc),
     }
 }
 
@@ -34,14 +29,11 @@ pub fn has_outcome(
     alloc: Global,
     answer: Result<Verdict, RunFault>,
     written: &[u8],
-    (line, text, status): Outcome<'_>,
+    (line, fault, status): Outcome<'_>,
 ) -> Result<(), AllocError> {
-    assert_eq!(rt; (written, exit_status(&answer)), (line.as_bytes(), status));
-    assert!(rt; is_of_kind(&answer, text), "{text}");
-    let said = match answer {
-        Ok(_) => String::new(alloc),
-        Err(fault) => fault.to_string(alloc)?,
-    };
-    assert_eq!(rt; said.as_str(), text);
+    assert_eq!(rt; written, line.as_bytes());
+    assert_eq!(rt; exit_status(&answer), status);
+    let said = fault_text(alloc, answer)?;
+    assert_eq!(rt; said.as_str(), fault);
     Ok(())
 }
