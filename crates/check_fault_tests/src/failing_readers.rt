@@ -1,135 +1,95 @@
 //! Reads that fail, and reads that are not made.
 use crate::script::agrees;
-use std::alloc::{AllocError, Global};
-use std::process::Abort;
+use std::alloc::Global;
+use std::io;
+use std::io::ErrorKind;
 use std::test::Fail;
 
-const KINDS: [&str; 3] = ["UnexpectedEof", "Interrupted", "Other"];
-
-/// Reads, one of which fails, and the script for each of them. `READ` stands for the number of the
-/// read, and `KIND` for the kind of its fault.
-type Reads = (&'static [&'static str], &'static str);
-
-const FAILING_READS: [Reads; 6] = [
-    // Two opposite units and the end, whose steps end at 3, 6 and 7 bytes: so many steps stand
-    // then. The checker goes on with the number after the failing step's.
-    (
-        &["1", "2", "3"],
-        "\
-failing READ KIND proof 05 01 00 05 01 01 0D
-> IoError 1 KIND
-inputs
-> 0
-proof
-> ProofIncomplete 2
-failing 0 Other proof 05 01 00 05 01 01 0D
-unsat
-> true
-",
-    ),
-    (
-        &["4", "5", "6"],
-        "\
-failing READ KIND proof 05 01 00 05 01 01 0D
-> IoError 2 KIND
-inputs
-> 1
-proof
-> ProofIncomplete 3
-failing 0 Other proof 05 01 00 05 01 01 0D
-unsat
-> true
-",
-    ),
-    (
-        &["7"],
-        "\
-failing READ KIND proof 05 01 00 05 01 01 0D
-> IoError 3 KIND
-inputs
-> 2
-proof
-> ProofIncomplete 4
-failing 0 Other proof 05 01 00 05 01 01 0D
-unsat
-> true
-",
-    ),
-    // Two opposite units, whose clauses end at 4 and 9 bytes: so many clauses stand then. The
-    // checker goes on with the whole text.
-    (
-        &["1", "2", "3", "4"],
-        "\
-failing READ KIND dimacs 1 0|-1 0|
-> Read KIND
-inputs
-> 0
-failing 0 Other dimacs 1 0|-1 0|
-unsat
-> true
-",
-    ),
-    (
-        &["5", "6", "7", "8", "9"],
-        "\
-failing READ KIND dimacs 1 0|-1 0|
-> Read KIND
-inputs
-> 1
-failing 0 Other dimacs 1 0|-1 0|
-unsat
-> true
-",
-    ),
-    (
-        &["10"],
-        "\
-failing READ KIND dimacs 1 0|-1 0|
-> Read KIND
-inputs
-> 2
-failing 0 Other dimacs 1 0|-1 0|
-unsat
-> true
-",
-    ),
+const KINDS: [ErrorKind; 3] = [
+    ErrorKind::UnexpectedEof,
+    ErrorKind::Interrupted,
+    ErrorKind::Other,
 ];
 
-fn script_of(alloc: Global, script: &str, read: &str, kind: &str) -> Result<String, AllocError> {
-    let script = script.replace(alloc, "READ", read)?;
-    script.replace(alloc, "KIND", kind)
+/// Two opposite units and the end, whose steps end at 3, 6 and 7 bytes. One read fails: so many
+/// steps stand then. The checker goes on with the number after the failing step's.
+fn of_proof(alloc: Global, failing: u32, kind: ErrorKind) -> Result<String, Fail> {
+    let (steps, failed, next) = match failing {
+        1..4 => (0u64, 1u64, 2u64),
+        4..7 => (1, 2, 3),
+        _ => (2, 3, 4),
+    };
+    Ok(format!(in alloc;
+        "\
+failing {failing} {kind:?} proof 05 01 00 05 01 01 0D
+> IoError {failed} {kind:?}
+inputs
+> {steps}
+proof
+> ProofIncomplete {next}
+failing 0 Other proof 05 01 00 05 01 01 0D
+unsat
+> true
+"
+    )?)
 }
 
-pub fn failing_reads(rt: &impl Abort, alloc: Global) -> Result<(), Fail> {
-    for (reads, script) in FAILING_READS {
-        for read in reads {
-            for kind in KINDS {
-                agrees(rt, alloc, &script_of(alloc, script, read, kind)?)?;
-            }
+/// Two opposite units, whose clauses end at 4 and 9 bytes. One read fails: so many clauses stand
+/// then. The checker goes on with the whole text.
+fn of_text(alloc: Global, failing: u32, kind: ErrorKind) -> Result<String, Fail> {
+    let clauses = match failing {
+        1..5 => 0u64,
+        5..10 => 1,
+        _ => 2,
+    };
+    Ok(format!(in alloc;
+        "\
+failing {failing} {kind:?} dimacs 1 0|-1 0|
+> Read {kind:?}
+inputs
+> {clauses}
+failing 0 Other dimacs 1 0|-1 0|
+unsat
+> true
+"
+    )?)
+}
+
+#[test]
+fn failing_reads(rt: HostRuntime) -> Result<(), Fail> {
+    for kind in KINDS {
+        for failing in 1..8u32 {
+            agrees(&rt, rt.alloc(), &of_proof(rt.alloc(), failing, kind)?)?;
+        }
+        for failing in 1..11u32 {
+            agrees(&rt, rt.alloc(), &of_text(rt.alloc(), failing, kind)?)?;
         }
     }
     Ok(())
 }
 
 /// The cause stands in the text of the fault.
-pub const FAILED_READS: [&str; 4] = [
-    "\
-says failing 3 UnexpectedEof proof 05 00 0D
-> step 2: Error reading proof file: unexpected end of file
-",
-    "\
-says failing 3 UnexpectedEof dimacs 1 0|
-> error reading formula: unexpected end of file
-",
-    "\
-says failing 3 PermissionDenied proof 05 00 0D
-> step 2: Error reading proof file: permission denied
-",
-    "\
-says failing 3 PermissionDenied dimacs 1 0|
-> error reading formula: permission denied
-",
-];
+#[test]
+fn texts_of_failed_reads(rt: HostRuntime) -> Result<(), Fail> {
+    for kind in [ErrorKind::UnexpectedEof, ErrorKind::PermissionDenied] {
+        let cause = io::Error::from(kind).to_string(rt.alloc())?;
+        let proof = format!(in rt.alloc();
+            "\
+says failing 3 {kind:?} proof 05 00 0D
+> step 2: Error reading proof file: {cause}
+"
+        )?;
+        agrees(&rt, rt.alloc(), &proof)?;
+        let text = format!(in rt.alloc();
+            "\
+says failing 3 {kind:?} dimacs 1 0|
+> error reading formula: {cause}
+"
+        )?;
+        agrees(&rt, rt.alloc(), &text)?;
+    }
+    Ok(())
+}
 
 /// Nothing is read after the end: neither past it, nor once it was accepted, also where it was
 /// handed in as a step.

@@ -2,9 +2,8 @@
 use check_calls::accepted::given;
 use check_calls::calls::{lits, var};
 use checker_parts::error::CheckerError;
-use log::sink::Discard;
 use proof_bytes::ProofStep;
-use sat_formula::Lit;
+use sat_formula::{Lit, Var};
 use std::alloc::Global;
 use std::process::Abort;
 use std::test::Fail;
@@ -81,42 +80,58 @@ fn step_text_len(answer: Result<(), CheckerError>) -> Option<usize> {
     }
 }
 
-/// A refusal shows its proof step, whether it was handed in or read. Refused user names and
-/// assumptions show none.
-pub fn refused_steps(rt: &impl Abort, alloc: Global) -> Result<(), Fail> {
-    let clause = lits(alloc, "1")?;
-    let mut checker = Checker::new(alloc);
-    shows_steps(rt, alloc, &mut checker, &clause)
+/// A refusal shows its proof step, whether it was handed in or read.
+#[test]
+fn refused_steps_are_shown(rt: HostRuntime) -> Result<(), Fail> {
+    let clause = lits(rt.alloc(), "1")?;
+    let mut checker = Checker::new(rt.alloc());
+    shows_refused_step(&rt, rt.alloc(), &mut checker, &clause)
 }
 
-fn shows_steps(
+fn shows_refused_step(
     rt: &impl Abort,
     alloc: Global,
     checker: &mut Checker,
     clause: &[Lit],
 ) -> Result<(), Fail> {
     given(alloc, checker, "1 2")?;
-    let var = var("1")?;
     let step = ProofStep::AtClause {
         redundant: false,
         clause,
         propagation_hashes: &[7],
     };
+    let handed_in = step_text_len(checker.self_check_step(step)).ok_or("accepted")?;
+    assert!(rt; handed_in > 0);
     let bytes = b"\x06\x00\x01\x00\x01\x07".as_slice();
+    let read = step_text_len(checker.check_proof(&log::sink::Discard, bytes));
+    assert_eq!(rt; read.ok_or("accepted")?, handed_in);
+    Ok(())
+}
+
+/// Refused user names and assumptions show none.
+#[test]
+fn refused_names_and_assumptions_are_not_shown(rt: HostRuntime) -> Result<(), Fail> {
+    let (var, assumptions) = (var("1")?, lits(rt.alloc(), "1")?);
+    let mut checker = Checker::new(rt.alloc());
+    shows_no_step(&rt, rt.alloc(), &mut checker, var, &assumptions)
+}
+
+fn shows_no_step(
+    rt: &impl Abort,
+    alloc: Global,
+    checker: &mut Checker,
+    var: Var,
+    assumptions: &[Lit],
+) -> Result<(), Fail> {
+    given(alloc, checker, "1")?;
     let unnamed = ProofStep::UserVarName {
         global: var,
         user: None,
     };
-    let witness = ProofStep::ChangeSamplingMode { var, sample: false };
-    let assumed = ProofStep::Assumptions {
-        assumptions: clause,
-    };
-    let handed_in = step_text_len(checker.self_check_step(step));
-    let read = step_text_len(checker.check_proof(&Discard, bytes));
-    assert!(rt; handed_in > Some(0) && read == handed_in);
-    given(alloc, checker, "1")?;
     assert_eq!(rt; step_text_len(checker.self_check_step(unnamed)), Some(0));
+    let witness = ProofStep::ChangeSamplingMode { var, sample: false };
     assert!(rt; checker.self_check_step(witness).is_ok());
+    let assumed = ProofStep::Assumptions { assumptions };
     assert_eq!(rt; step_text_len(checker.self_check_step(assumed)), Some(0));
     Ok(())
 }

@@ -22,7 +22,6 @@ use example_processors::boxes::{Faulty, NameList, StepList, Tally, TranscriptLis
 use log::sink::Discard;
 use sat_hints::LratWriter;
 use std::alloc::Global;
-use std::fmt::Display;
 use std::io::ErrorKind;
 use std::process::Abort;
 use std::test::Fail;
@@ -101,9 +100,9 @@ fn answer_to(alloc: Global, checker: &mut Checker, line: &str) -> Result<String,
         ("transcript", kind) => add_transcript(alloc, checker, kind),
         ("failing", _) => {
             let text = Text::of(alloc, line)?;
-            answer_to_text(alloc, checker, &text, false)
+            answer_to_text(alloc, checker, &text)
         }
-        ("says", call) => say(alloc, checker, call),
+        ("says", call) => said(alloc, checker, call),
         _ => make(alloc, checker, line, usize::MAX),
     }
 }
@@ -133,6 +132,10 @@ impl Text {
             kind,
         })
     }
+
+    fn cuts(&self) -> Cuts<'_> {
+        Cuts::failing_at(&self.bytes, self.failing, self.kind)
+    }
 }
 
 /// The number of the read that fails, 0 where there is none, the kind of its fault, and the call.
@@ -152,41 +155,40 @@ fn fault_of(line: &str) -> Result<(u32, ErrorKind, &str), Fail> {
     Ok((number.parse::<u32>()?, kind, call))
 }
 
-/// What is answered to a proof or a text, or where it is said the text of the fault.
-fn answer_to_text(
-    alloc: Global,
-    checker: &mut Checker,
-    text: &Text,
-    is_said: bool,
-) -> Result<String, Fail> {
-    let cuts = Cuts::failing_at(&text.bytes, text.failing, text.kind);
-    match (text.is_proof, is_said) {
-        (true, false) => prove(alloc, checker, cuts),
-        (false, false) => read(alloc, checker, cuts),
-        (true, true) => said(alloc, checker.check_proof(&Discard, cuts)),
-        (false, true) => said(alloc, checker.add_dimacs_cnf(&Discard, cuts)),
+fn answer_to_text(alloc: Global, checker: &mut Checker, text: &Text) -> Result<String, Fail> {
+    match text.is_proof {
+        true => prove(alloc, checker, text.cuts()),
+        false => read(alloc, checker, text.cuts()),
     }
 }
 
-/// The text of the fault of an answer.
-fn said<E: Display + Drop>(alloc: Global, answer: Result<(), E>) -> Result<String, Fail> {
-    match answer {
-        Ok(()) => Ok("Ok".to_string(alloc)?),
-        Err(fault) => Ok(fault.to_string(alloc)?),
-    }
-}
-
-/// What is said to a call.
-fn say(alloc: Global, checker: &mut Checker, call: &str) -> Result<String, Fail> {
+/// The text of a call's fault.
+fn said(alloc: Global, checker: &mut Checker, call: &str) -> Result<String, Fail> {
     match first_word(call) {
         ("add", numbers) => {
             let clause = lits(alloc, numbers)?;
-            said(alloc, checker.add_clause(&clause))
+            match checker.add_clause(&clause) {
+                Ok(()) => Ok("Ok".to_string(alloc)?),
+                Err(fault) => Ok(fault.to_string(alloc)?),
+            }
         }
         _ => {
             let text = Text::of(alloc, call)?;
-            answer_to_text(alloc, checker, &text, true)
+            said_of_text(alloc, checker, &text)
         }
+    }
+}
+
+fn said_of_text(alloc: Global, checker: &mut Checker, text: &Text) -> Result<String, Fail> {
+    if text.is_proof {
+        return match checker.check_proof(&Discard, text.cuts()) {
+            Ok(()) => Ok("Ok".to_string(alloc)?),
+            Err(fault) => Ok(fault.to_string(alloc)?),
+        };
+    }
+    match checker.add_dimacs_cnf(&Discard, text.cuts()) {
+        Ok(()) => Ok("Ok".to_string(alloc)?),
+        Err(fault) => Ok(fault.to_string(alloc)?),
     }
 }
 

@@ -1,10 +1,9 @@
 //! All scripts, played.
-use crate::failing_readers::{FAILED_READS, NO_READ_AFTER_THE_END};
+use crate::failing_readers::NO_READ_AFTER_THE_END;
 use crate::fault_texts::TEXTS;
 use crate::faults::{BOXES, FAILED, FAULTS};
 use crate::hints::WRITTEN;
 use crate::script::agrees;
-use crate::{failing_readers, fault_texts};
 use std::alloc::Global;
 use std::process::Abort;
 use std::test::Fail;
@@ -16,27 +15,20 @@ fn all_agree(rt: &impl Abort, alloc: Global, scripts: &[&str]) -> Result<(), Fai
     Ok(())
 }
 
-/// Once the checker has failed each call says so, and the boxes show what they took before.
-fn faults(rt: &impl Abort, alloc: Global) -> Result<(), Fail> {
-    for (calls, shown) in FAULTS {
-        agrees(rt, alloc, &format!(in alloc; "{calls}{FAILED}{shown}")?)?;
-    }
-    Ok(())
-}
-
-/// All of them, and the steps that are shown, in one test: each test function is proved too.
 #[test]
 fn scripts(rt: HostRuntime) -> Result<(), Fail> {
-    for scripts in [
-        FAILED_READS.as_slice(),
-        NO_READ_AFTER_THE_END.as_slice(),
-        TEXTS.as_slice(),
-        BOXES.as_slice(),
-        WRITTEN.as_slice(),
-    ] {
-        all_agree(&rt, rt.alloc(), scripts)?;
+    all_agree(&rt, rt.alloc(), &NO_READ_AFTER_THE_END)?;
+    all_agree(&rt, rt.alloc(), &TEXTS)?;
+    all_agree(&rt, rt.alloc(), &BOXES)?;
+    all_agree(&rt, rt.alloc(), &WRITTEN)
+}
+
+/// Once the checker has failed each call says so, and the boxes show what they took before.
+#[test]
+fn faults(rt: HostRuntime) -> Result<(), Fail> {
+    for (calls, shown) in FAULTS {
+        let script = format!(in rt.alloc(); "{calls}{FAILED}{shown}")?;
+        agrees(&rt, rt.alloc(), &script)?;
     }
-    faults(&rt, rt.alloc())?;
-    failing_readers::failing_reads(&rt, rt.alloc())?;
-    fault_texts::refused_steps(&rt, rt.alloc())
+    Ok(())
 }
