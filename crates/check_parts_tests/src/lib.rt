@@ -4,10 +4,16 @@
 #![tactic(auto)]
 
 #[cfg(test)]
+mod buckets;
+#[cfg(test)]
+mod call;
+#[cfg(test)]
+mod crowds;
+#[cfg(test)]
 mod exhausted;
 #[cfg(test)]
 mod ids;
 #[cfg(test)]
-mod parts;
+mod rows;
 #[cfg(test)]
 mod variables;

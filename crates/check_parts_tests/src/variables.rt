@@ -1,9 +1,10 @@
 //! The calls of the module `variables`, over the parts of a checker.
-ghost use Rattle.std.specs.Prelude.{◌≡◌, length, true};
+ghost use Rattle.std.specs.Prelude.{◌≡◌, length, OnOk};
 
 use check_calls::calls::var;
 use checker_parts::error::{CheckCause, StepFault};
 use sat_formula::Var;
+use std::alloc::Global;
 use std::process::Abort;
 use std::test::Fail;
 use varisat_checker::context::Context;
@@ -11,84 +12,95 @@ use varisat_checker::variables::{
     add_user_mapping, ensure_sampling_var, ensure_var, remove_user_mapping,
 };
 
-#[test]
-fn variables_become_known(rt: HostRuntime) -> Result<(), Fail> {
-    let (first, third) = (var("1")?, var("3")?);
-    let mut ctx = Context::new(rt.alloc());
-    knows_three(&rt, &mut ctx, first, third);
+/// A call over a variable.
+#[derive(Clone, Copy)]
+enum Call {
+    Know,
+    /// Names it as the first one.
+    Name,
+    Hide,
+    Sample,
+}
+
+/// A call, its variable, the answer, how many variables are known then, and whether the variable is
+/// named as the first one. It has no name otherwise.
+type Step = (Call, &'static str, Result<(), StepFault>, usize, bool);
+
+/// Calls over new parts in turn, up to one that is refused.
+const ROWS: [&[Step]; 3] = [
+    // Variables become known.
+    &[
+        (Call::Know, "3", Ok(()), 3, false),
+        (Call::Know, "1", Ok(()), 3, false),
+    ],
+    // Names come and go.
+    &[
+        (Call::Name, "2", Ok(()), 2, true),
+        (Call::Hide, "2", Ok(()), 2, false),
+        (
+            Call::Sample,
+            "2",
+            Err(StepFault::Refused(CheckCause::NotSampling)),
+            2,
+            false,
+        ),
+    ],
+    // New variables are samples.
+    &[(Call::Sample, "4", Ok(()), 4, false)],
+];
+
+fn make(ctx: &mut Context, call: &Call, var: Var, first: Var) -> Result<(), StepFault>
+    requires { length ctx.old.clauses.unit_clauses ≡ length ctx.old.variables }
+    ensures { OnOk result (length ctx.new.clauses.unit_clauses ≡ length ctx.new.variables) }
+{
+    match call {
+        Call::Know => ensure_var(&mut ctx.clauses, &mut ctx.variables, var),
+        Call::Name => add_user_mapping(
+            &mut ctx.clauses,
+            &mut ctx.variables,
+            &mut ctx.processing,
+            var,
+            first,
+        ),
+        Call::Hide => remove_user_mapping(
+            &mut ctx.clauses,
+            &mut ctx.variables,
+            &mut ctx.processing,
+            var,
+        ),
+        Call::Sample => ensure_sampling_var(&mut ctx.clauses, &mut ctx.variables, var),
+    }
+}
+
+fn play(rt: &impl Abort, ctx: &mut Context, steps: &[Step]) -> Result<(), Fail>
+    requires { length ctx.old.clauses.unit_clauses ≡ length ctx.old.variables }
+{
+    let first = var("1")?;
+    for (call, number, expected, count, is_named) in steps {
+        let var = var(number)?;
+        let answer = make(ctx, call, var, first);
+        assert_eq!(rt; answer, *expected, "{number}");
+        assert_eq!(rt;
+            [ctx.variables.len(), ctx.clauses.unit_clauses.len()],
+            [*count, *count]
+        );
+        let name = if *is_named { Some(first) } else { None };
+        assert_eq!(rt; ctx.variables.get(var).user_var, name);
+        if answer.is_err() {
+            return Ok(());
+        }
+    }
     Ok(())
 }
 
-fn knows_three(rt: &impl Abort, ctx: &mut Context, first: Var, third: Var)
-    requires { length ctx.old.clauses.unit_clauses ≡ length ctx.old.variables }
-{
-    let known = ensure_var(&mut ctx.clauses, &mut ctx.variables, third);
-    assert!(rt; known.is_ok());
-    assert_eq!(rt; ctx.variables.len(), 3);
-    assert_eq!(rt; ctx.clauses.unit_clauses.len(), 3);
-    let known = ensure_var(&mut ctx.clauses, &mut ctx.variables, first);
-    assert!(rt; known.is_ok());
-    assert_eq!(rt; ctx.variables.len(), 3);
+fn play_new(rt: &impl Abort, alloc: Global, steps: &[Step]) -> Result<(), Fail> {
+    let mut ctx = Context::new(alloc);
+    play(rt, &mut ctx, steps)
 }
 
-#[test]
-fn names_come_and_go(rt: HostRuntime) -> Result<(), Fail> {
-    let (user, named) = (var("1")?, var("2")?);
-    let mut ctx = Context::new(rt.alloc());
-    named_and_hidden(&rt, &mut ctx, user, named)
-}
-
-fn named_and_hidden(rt: &impl Abort, ctx: &mut Context, user: Var, named: Var) -> Result<(), Fail>
-    requires { length ctx.old.clauses.unit_clauses ≡ length ctx.old.variables }
-{
-    assert!(rt; is_named(ctx, named, user));
-    assert_eq!(rt; ctx.variables.get(named).user_var, Some(user));
-    assert!(rt; is_hidden(ctx, named));
-    assert_eq!(rt; ctx.variables.get(named).user_var, None);
-    let hidden = ensure_sampling_var(&mut ctx.clauses, &mut ctx.variables, named);
-    assert_eq!(rt; hidden, Err(StepFault::Refused(CheckCause::NotSampling)));
+pub fn variables(rt: &impl Abort, alloc: Global) -> Result<(), Fail> {
+    for steps in ROWS {
+        play_new(rt, alloc, steps)?;
+    }
     Ok(())
-}
-
-fn is_named(ctx: &mut Context, var: Var, user: Var) -> bool
-    requires { length ctx.old.clauses.unit_clauses ≡ length ctx.old.variables }
-    ensures { result ≡ true → length ctx.new.clauses.unit_clauses ≡ length ctx.new.variables }
-{
-    let answer = add_user_mapping(
-        &mut ctx.clauses,
-        &mut ctx.variables,
-        &mut ctx.processing,
-        var,
-        user,
-    );
-    answer.is_ok()
-}
-
-fn is_hidden(ctx: &mut Context, var: Var) -> bool
-    requires { length ctx.old.clauses.unit_clauses ≡ length ctx.old.variables }
-    ensures { result ≡ true → length ctx.new.clauses.unit_clauses ≡ length ctx.new.variables }
-{
-    let answer = remove_user_mapping(
-        &mut ctx.clauses,
-        &mut ctx.variables,
-        &mut ctx.processing,
-        var,
-    );
-    answer.is_ok()
-}
-
-#[test]
-fn new_variables_are_samples(rt: HostRuntime) -> Result<(), Fail> {
-    let fourth = var("4")?;
-    let mut ctx = Context::new(rt.alloc());
-    is_sample(&rt, &mut ctx, fourth);
-    Ok(())
-}
-
-fn is_sample(rt: &impl Abort, ctx: &mut Context, fourth: Var)
-    requires { length ctx.old.clauses.unit_clauses ≡ length ctx.old.variables }
-{
-    let known = ensure_sampling_var(&mut ctx.clauses, &mut ctx.variables, fourth);
-    assert!(rt; known.is_ok());
-    assert_eq!(rt; ctx.variables.len(), 4);
 }

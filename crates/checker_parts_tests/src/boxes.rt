@@ -3,14 +3,21 @@ use anyhow::bail;
 use checker_parts::processor::{CheckerData, ProofProcessor, ProofTranscriptProcessor};
 use checker_parts::step::{CheckedProofStep, ProofTranscriptStep, ResolutionPropagations};
 use checker_parts::variables::Variables;
+use std::alloc::Global;
+use std::process::Abort;
 use std::test::Fail;
 
 /// Counts the steps, and answers a fault where there are none left to take.
-#[derive(Drop)]
+#[derive(Clone, Copy)]
 struct Counts {
     count: [u8; 1],
     left: u8,
 }
+
+const ONE_STEP: Counts = Counts {
+    count: [0],
+    left: 1,
+};
 
 impl ProofProcessor for Counts {
     ghost use Rattle.std.specs.Prelude.{⊤};
@@ -62,38 +69,28 @@ impl ProofTranscriptProcessor for Counts {
     }
 }
 
-#[test]
-fn processors(rt: HostRuntime) -> Result<(), Fail> {
-    let alloc = rt.alloc();
+/// One step is told, and the next one is answered by the fault.
+pub fn boxes(rt: &impl Abort, alloc: Global) -> Result<(), Fail> {
     let variables = Variables::new(alloc);
-    let _propagations = ResolutionPropagations {};
-    let step = CheckedProofStep::AddClause { id: 0, clause: &[] };
-    let mut counts: Box<dyn ProofProcessor> = Box::new(
-        alloc,
-        Counts {
-            count: [0],
-            left: 1,
-        },
-    )?;
-    assert!(rt; counts.process_step(&step, CheckerData(&variables)).is_ok());
-    assert_eq!(rt; counts.output(), [1].as_slice());
-    assert!(rt; counts.process_step(&step, CheckerData(&variables)).is_err());
-    assert_eq!(rt; counts.output(), [1].as_slice());
+    let mut processor: Box<dyn ProofProcessor> = Box::new(alloc, ONE_STEP)?;
+    processes(rt, &mut processor, &variables);
+    let mut transcript: Box<dyn ProofTranscriptProcessor> = Box::new(alloc, ONE_STEP)?;
+    transcribes(rt, &mut transcript);
     Ok(())
 }
 
-#[test]
-fn transcripts(rt: HostRuntime) -> Result<(), Fail> {
-    let alloc = rt.alloc();
-    let mut counts: Box<dyn ProofTranscriptProcessor> = Box::new(
-        alloc,
-        Counts {
-            count: [0],
-            left: 1,
-        },
-    )?;
-    assert!(rt; counts.process_step(&ProofTranscriptStep::Unsat).is_ok());
-    assert_eq!(rt; counts.output(), [1].as_slice());
-    assert!(rt; counts.process_step(&ProofTranscriptStep::Unsat).is_err());
-    Ok(())
+fn processes(rt: &impl Abort, counts: &mut Box<dyn ProofProcessor>, variables: &Variables) {
+    let _propagations = ResolutionPropagations {};
+    let step = CheckedProofStep::AddClause { id: 0, clause: &[] };
+    for is_taken in [true, false] {
+        let taken = counts.process_step(&step, CheckerData(variables));
+        assert!(rt; taken.is_ok() == is_taken && counts.output() == [1].as_slice());
+    }
+}
+
+fn transcribes(rt: &impl Abort, counts: &mut Box<dyn ProofTranscriptProcessor>) {
+    for is_taken in [true, false] {
+        let taken = counts.process_step(&ProofTranscriptStep::Unsat);
+        assert!(rt; taken.is_ok() == is_taken && counts.output() == [1].as_slice());
+    }
 }

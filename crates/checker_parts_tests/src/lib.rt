@@ -10,6 +10,8 @@ mod lists;
 #[cfg(test)]
 mod literals;
 #[cfg(test)]
+mod rows;
+#[cfg(test)]
 mod texts;
 #[cfg(test)]
 mod transcripts;

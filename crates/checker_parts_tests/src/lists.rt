@@ -6,6 +6,7 @@ use crate::literals::lits;
 use checker_parts::sorted_lits::{copy_canonical, is_subset};
 use sat_formula::lit::Lit;
 use std::alloc::Global;
+use std::process::Abort;
 use std::test::Fail;
 
 /// These literals in canonical form.
@@ -18,30 +19,55 @@ fn canonical(alloc: Global, numbers: &[i64]) -> Result<Vec<Lit>, Fail>
     Ok(target)
 }
 
-#[test]
-fn canonical_lists(rt: HostRuntime) -> Result<(), Fail> {
-    let alloc = rt.alloc();
-    let mut target = lits(alloc, &[-4])?;
-    assert!(rt; !copy_canonical(&mut target, &lits(alloc, &[3, 1, 3, -2])?)?);
-    assert_eq!(rt; target, lits(alloc, &[1, -2, 3])?);
-    assert!(rt; copy_canonical(&mut target, &lits(alloc, &[2, -1, 1])?)?);
-    assert_eq!(rt; target, lits(alloc, &[1, -1, 2])?);
-    assert!(rt; !copy_canonical(&mut target, &[])?);
-    assert!(rt; target.is_empty());
-    Ok(())
+/// A list, its canonical form, and whether that is a tautology.
+const COPIES: [(&[i64], &[i64], bool); 3] = [
+    (&[3, 1, 3, -2], &[1, -2, 3], false),
+    (&[2, -1, 1], &[1, -1, 2], true),
+    (&[], &[], false),
+];
+
+/// Whether a list is copied so. What stood in the target goes.
+fn is_copied(
+    alloc: Global,
+    target: &mut Vec<Lit>,
+    given: &[i64],
+    wanted: &[i64],
+    is_tautology: bool,
+) -> Result<bool, Fail> {
+    let source = lits(alloc, given)?;
+    let wanted = lits(alloc, wanted)?;
+    let answer = copy_canonical(target, &source)?;
+    Ok(answer == is_tautology && target.as_slice() == wanted.as_slice())
 }
 
-#[test]
-fn subsets(rt: HostRuntime) -> Result<(), Fail> {
-    let alloc = rt.alloc();
-    let none = canonical(alloc, &[])?;
-    let one = canonical(alloc, &[1])?;
-    let two = canonical(alloc, &[1, 2])?;
-    let three = canonical(alloc, &[3])?;
-    assert!(rt; is_subset(&one, &two, true));
-    assert!(rt; !is_subset(&two, &two, true));
-    assert!(rt; is_subset(&two, &two, false));
-    assert!(rt; !is_subset(&none, &none, true));
-    assert!(rt; !is_subset(&three, &two, false));
+/// Two lists, whether the first has to be a proper subset of the second, and whether it is one.
+const SUBSETS: [(&[i64], &[i64], bool, bool); 5] = [
+    (&[1], &[1, 2], true, true),
+    (&[1, 2], &[1, 2], true, false),
+    (&[1, 2], &[1, 2], false, true),
+    (&[], &[], true, false),
+    (&[3], &[1, 2], false, false),
+];
+
+fn is_part(alloc: Global, part: &[i64], whole: &[i64], strict: bool) -> Result<bool, Fail> {
+    let part = canonical(alloc, part)?;
+    let whole = canonical(alloc, whole)?;
+    Ok(is_subset(&part, &whole, strict))
+}
+
+pub fn lists(rt: &impl Abort, alloc: Global) -> Result<(), Fail> {
+    let mut target = lits(alloc, &[-4])?;
+    for (given, wanted, is_tautology) in COPIES {
+        assert!(rt;
+            is_copied(alloc, &mut target, given, wanted, is_tautology)?,
+            "{given:?}"
+        );
+    }
+    for (part, whole, strict, answer) in SUBSETS {
+        assert!(rt;
+            is_part(alloc, part, whole, strict)? == answer,
+            "{part:?} {whole:?}"
+        );
+    }
     Ok(())
 }

@@ -11,20 +11,29 @@ use std::alloc::Global;
 use std::process::Abort;
 use std::test::Fail;
 
-#[test]
-fn clauses(rt: HostRuntime) -> Result<(), Fail> {
-    let mut variables = Variables::new(rt.alloc());
-    let mut transcript = Transcript::new(rt.alloc());
-    tells_clauses(&rt, rt.alloc(), &mut variables, &mut transcript)
+pub fn transcripts(rt: &impl Abort, alloc: Global) -> Result<(), Fail> {
+    let mut variables = Variables::new(alloc);
+    let mut transcript = Transcript::new(alloc);
+    tells(rt, alloc, &mut variables, &mut transcript)
 }
 
-fn tells_clauses(
+fn tells(
     rt: &impl Abort,
     alloc: Global,
     variables: &mut Variables,
     transcript: &mut Transcript,
 ) -> Result<(), Fail> {
+    tells_user_var(rt, variables, transcript)?;
     variables.know(2)?;
+    tells_clauses(rt, alloc, variables, transcript)
+}
+
+fn tells_clauses(
+    rt: &impl Abort,
+    alloc: Global,
+    variables: &Variables,
+    transcript: &mut Transcript,
+) -> Result<(), Fail> {
     let _propagations = ResolutionPropagations {};
     let clause = lits(alloc, &[1, -2])?;
     let step = CheckedProofStep::AddClause {
@@ -46,13 +55,6 @@ fn tells_clauses(
     let told = transcript.transcript_step(&empty, CheckerData(variables))?;
     assert!(rt; matches!(&told, Some(ProofTranscriptStep::Unsat)));
     Ok(())
-}
-
-#[test]
-fn user_vars(rt: HostRuntime) -> Result<(), Fail> {
-    let variables = Variables::new(rt.alloc());
-    let mut transcript = Transcript::new(rt.alloc());
-    tells_user_var(&rt, &variables, &mut transcript)
 }
 
 fn tells_user_var(

@@ -2,52 +2,90 @@
 use crate::literals::var;
 use checker_parts::processor::CheckerData;
 use checker_parts::variables::{LitData, SamplingMode, VarData, Variables};
+use sat_formula::Var;
+use std::alloc::{AllocError, Global};
 use std::process::Abort;
 use std::test::Fail;
 
-#[test]
-fn defaults(rt: HostRuntime) -> Result<(), Fail> {
-    assert_eq!(rt; LitData::default().clause_count, 0);
-    let data = VarData::default();
-    assert!(rt; data.user_var.is_none());
-    assert!(rt; data.sampling_mode == SamplingMode::Sample);
-    Ok(())
+/// A call over the first variable.
+#[derive(Clone, Copy)]
+enum Call {
+    /// Makes so many variables known.
+    Know(usize),
+    /// Names it as the second one.
+    Name,
+    Hide,
+    Witness,
 }
+
+/// A call, and what is seen then: how many variables are known, whether the second one is taken as
+/// a name, the mode of the first, and the indexes of the user variables of both.
+type Row = (
+    Call,
+    usize,
+    bool,
+    SamplingMode,
+    Option<usize>,
+    Option<usize>,
+);
 
 /// A name is given, shows, and goes: then the variable is hidden.
-#[test]
-fn names(rt: HostRuntime) -> Result<(), Fail> {
-    let mut variables = Variables::new(rt.alloc());
-    come_and_go(&rt, &mut variables)
+#[rattlefmt::skip]
+const ROWS: [Row; 6] = [
+    (Call::Know(0), 0, false, SamplingMode::Sample, None, None),
+    (Call::Know(2), 2, false, SamplingMode::Sample, Some(0), Some(1)),
+    (Call::Know(1), 2, false, SamplingMode::Sample, Some(0), Some(1)),
+    (Call::Name, 2, true, SamplingMode::Sample, Some(1), Some(1)),
+    (Call::Hide, 2, false, SamplingMode::Hide, None, Some(1)),
+    (Call::Witness, 2, false, SamplingMode::Witness, None, Some(1)),
+];
+
+/// Makes a call, where it may be made.
+fn make(variables: &mut Variables, call: &Call, one: Var, two: Var) -> Result<(), AllocError> {
+    let is_known = one.index() < variables.len() && two.index() < variables.len();
+    let is_free = variables.get(one).user_var.is_none() && !variables.is_taken(two);
+    match call {
+        Call::Know(count) => variables.know(*count)?,
+        Call::Name if is_known && is_free => variables.set_name(one, two),
+        Call::Hide if is_known => variables.hide(one),
+        Call::Witness if is_known => variables.set_mode(one, SamplingMode::Witness),
+        _ => {}
+    }
+    Ok(())
 }
 
-fn come_and_go(rt: &impl Abort, variables: &mut Variables) -> Result<(), Fail> {
+/// The index of a variable's user variable.
+fn user_of(variables: &Variables, var: Var) -> Option<usize> {
+    match CheckerData(variables).user_from_proof_var(var) {
+        Some(user) => Some(user.index()),
+        None => None,
+    }
+}
+
+fn play(rt: &impl Abort, variables: &mut Variables, rows: &[Row]) -> Result<(), Fail> {
     let (one, two, nine) = (var(0)?, var(1)?, var(8)?);
-    assert!(rt; variables.is_empty());
-    assert!(rt; CheckerData(variables).user_from_proof_var(one).is_none());
-    variables.know(2)?;
-    variables.know(1)?;
-    assert_eq!(rt; variables.len(), 2);
-    assert_eq!(rt; CheckerData(variables).user_from_proof_var(one), Some(one));
-    assert!(rt; !variables.is_taken(two));
-    if variables.len() == 2 && variables.get(one).user_var.is_none() && !variables.is_taken(two) {
-        variables.set_name(one, two);
+    for (call, count, is_taken, mode, first, second) in rows {
+        make(variables, call, one, two)?;
+        assert_eq!(rt; variables.len(), *count);
+        assert!(rt; variables.is_empty() == (*count == 0));
+        assert!(rt; variables.is_taken(two) == *is_taken && !variables.is_taken(nine));
+        assert!(rt; variables.get(one).sampling_mode == *mode);
+        assert_eq!(rt;
+            [
+                user_of(variables, one),
+                user_of(variables, two),
+                user_of(variables, nine)
+            ],
+            [*first, *second, None]
+        );
     }
-    assert!(rt; variables.is_taken(two));
-    assert!(rt; !variables.is_taken(nine));
-    assert_eq!(rt; CheckerData(variables).user_from_proof_var(one), Some(two));
-    assert_eq!(rt; CheckerData(variables).user_from_proof_var(two), Some(two));
-    assert!(rt; CheckerData(variables).user_from_proof_var(nine).is_none());
-    if variables.len() == 2 {
-        variables.hide(one);
-    }
-    assert!(rt; !variables.is_taken(two));
-    assert!(rt; variables.get(one).sampling_mode == SamplingMode::Hide);
-    assert!(rt; CheckerData(variables).user_from_proof_var(one).is_none());
-    if variables.len() == 2 {
-        variables.set_mode(one, SamplingMode::Witness);
-    }
-    assert!(rt; variables.get(one).sampling_mode == SamplingMode::Witness);
-    assert!(rt; CheckerData(variables).user_from_proof_var(one).is_none());
     Ok(())
+}
+
+pub fn variables(rt: &impl Abort, alloc: Global) -> Result<(), Fail> {
+    let data = VarData::default();
+    assert!(rt; LitData::default().clause_count == 0 && data.user_var.is_none());
+    assert!(rt; data.sampling_mode == SamplingMode::Sample);
+    let mut variables = Variables::new(alloc);
+    play(rt, &mut variables, &ROWS)
 }

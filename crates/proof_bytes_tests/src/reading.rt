@@ -4,21 +4,45 @@ use std::alloc::{AllocError, Global};
 use std::io;
 use std::io::{ErrorKind, Read};
 
-/// Gives so many bytes a read, and fails the read of this number, counted from 1.
+/// Gives so many bytes a read, and may fail the read after so many reads.
 #[derive(Drop)]
 pub struct Cuts<'a> {
-    pub rest: &'a [u8],
-    pub size: usize,
-    pub failing: u32,
+    rest: &'a [u8],
+    size: usize,
+    /// How many reads are made before the one that fails; none fails once it is None.
+    before_failing: Option<usize>,
+}
+
+impl Cuts<'_> {
+    /// So many bytes a read.
+    pub fn of_size(text: &[u8], size: usize) -> Cuts<'_> {
+        Cuts {
+            rest: text,
+            size,
+            before_failing: None,
+        }
+    }
+
+    /// One byte a read, and the read after so many fails.
+    pub fn failing_after(text: &[u8], reads: usize) -> Cuts<'_> {
+        Cuts {
+            rest: text,
+            size: 1,
+            before_failing: Some(reads),
+        }
+    }
 }
 
 impl Read for Cuts<'_> {
     fn read(&mut self, buf: &mut [u8]) -> io::Result<usize> {
-        if self.failing == 1 {
-            self.failing = 0;
-            return Err(io::Error::from(ErrorKind::UnexpectedEof));
+        match self.before_failing {
+            Some(0) => {
+                self.before_failing = None;
+                return Err(io::Error::from(ErrorKind::UnexpectedEof));
+            }
+            Some(reads) => self.before_failing = Some(reads.saturating_sub(1)),
+            None => {}
         }
-        self.failing = self.failing.saturating_sub(1);
         let count = self.size.min(buf.len()).min(self.rest.len());
         buf[..count].copy_from_slice(&self.rest[..count]);
         self.rest = &self.rest[count..];
@@ -27,7 +51,7 @@ impl Read for Cuts<'_> {
 }
 
 /// A fault that can be compared.
-#[derive(Clone, Copy, Debug, PartialEq, Eq)]
+#[derive(Clone, Copy, PartialEq, Eq)]
 pub enum Fault {
     End,
     Read(ErrorKind),
@@ -44,37 +68,41 @@ fn seen(fault: ProofFault) -> Fault {
     }
 }
 
-/// The steps of a text, as their bytes in version 1 and their number, the first fault, and the
-/// answer after it.
-#[derive(Drop)]
-pub struct Reading {
-    pub written: Vec<u8>,
-    pub count: u32,
-    pub fault: Option<Fault>,
-    pub then: Option<Fault>,
-}
+/// What is read of a text: how many steps, the first fault, and the answer after it.
+type Reading = (u32, Option<Fault>, Option<Fault>);
 
-/// Reads a text up to its first fault, and a hundred steps at most.
-pub fn read_all<R: Read + Drop>(alloc: Global, inner: R) -> Result<Reading, AllocError> {
-    let mut reader = StepReader::new(alloc, inner);
-    let mut written: Vec<u8> = Vec::new(alloc);
+/// Reads a text up to its first fault, and a hundred steps at most, and writes its steps in
+/// version 1.
+fn read_all(
+    reader: &mut StepReader<Cuts<'_>>,
+    written: &mut Vec<u8>,
+) -> Result<Reading, AllocError> {
     for count in 0..100u32 {
         match reader.next_step() {
-            Ok(step) => write_step(&mut written, &step)?,
+            Ok(step) => write_step(written, &step)?,
             Err(fault) => {
-                return Ok(Reading {
-                    written,
-                    count,
-                    fault: Some(seen(fault)),
-                    then: reader.next_step().err().map(seen),
-                });
+                let then = match reader.next_step() {
+                    Ok(_) => None,
+                    Err(fault) => Some(seen(fault)),
+                };
+                return Ok((count, Some(seen(fault)), then));
             }
         }
     }
-    Ok(Reading {
-        written,
-        count: 100,
-        fault: None,
-        then: None,
-    })
+    Ok((100, None, None))
+}
+
+/// Whether a text gives so many steps, shown as bytes of version 1, then this fault, and then the
+/// end.
+pub fn gives(
+    alloc: Global,
+    text: Cuts<'_>,
+    steps: &[u8],
+    count: u32,
+    fault: Fault,
+) -> Result<bool, AllocError> {
+    let mut reader = StepReader::new(alloc, text);
+    let mut written: Vec<u8> = Vec::new(alloc);
+    let reading = read_all(&mut reader, &mut written)?;
+    Ok(reading == (count, Some(fault), Some(Fault::End)) && written.as_slice() == steps)
 }

@@ -1,52 +1,63 @@
 //! Steps of each kind and numbers of each length, written and read.
-use crate::reading::{Cuts, read_all};
-use proof_bytes::{DeleteClauseProof, ProofStep, ProofWriter, StepReader, WriteFault, write_step};
+use proof_bytes::{
+    ClauseHash, DeleteClauseProof, ProofStep, ProofWriter, StepReader, WriteFault, write_step,
+};
 use sat_formula::{Lit, Var};
+use std::alloc::{AllocError, Global};
+use std::process::Abort;
 use std::test::Fail;
 
-#[test]
-fn numbers(rt: HostRuntime) -> Result<(), Fail> {
-    let table: [(u64, &[u8]); 8] = [
-        (0, b"\x00"),
-        (127, b"\x7F"),
-        (128, b"\x80\x01"),
-        (300, b"\xAC\x02"),
-        ((1 << 28) - 1, b"\xFF\xFF\xFF\x7F"),
-        (1 << 28, b"\x80\x80\x80\x80\x01"),
-        ((1 << 29) - 1, b"\xFF\xFF\xFF\xFF\x01"),
-        (u64::MAX, b"\xFF\xFF\xFF\xFF\xFF\xFF\xFF\xFF\xFF\x01"),
-    ];
-    for (n, bytes) in table {
-        let mut text: Vec<u8> = Vec::new(rt.alloc());
-        text.extend_from_slice(b"\x0C\x00\x01")?;
-        text.extend_from_slice(bytes)?;
-        let mut written: Vec<u8> = Vec::new(rt.alloc());
-        let step = ProofStep::FailedAssumptions {
-            failed_core: &[],
-            propagation_hashes: &[n],
-        };
-        write_step(&mut written, &step)?;
-        assert_eq!(rt; written.as_slice(), text.as_slice());
-        let mut reader = StepReader::new(rt.alloc(), text.as_slice());
-        match reader.next_step() {
-            Ok(
-                ProofStep::FailedAssumptions {
-                    failed_core,
-                    propagation_hashes,
-                },
-            ) => {
-                assert!(rt; failed_core.is_empty());
-                assert_eq!(rt; propagation_hashes, [n].as_slice());
-            }
-            _ => assert!(rt; false),
-        }
+/// Numbers, each as the one hash of a failed core without literals.
+const NUMBERS: [(u64, &[u8]); 8] = [
+    (0, b"\x0C\x00\x01\x00"),
+    (127, b"\x0C\x00\x01\x7F"),
+    (128, b"\x0C\x00\x01\x80\x01"),
+    (300, b"\x0C\x00\x01\xAC\x02"),
+    ((1 << 28) - 1, b"\x0C\x00\x01\xFF\xFF\xFF\x7F"),
+    (1 << 28, b"\x0C\x00\x01\x80\x80\x80\x80\x01"),
+    ((1 << 29) - 1, b"\x0C\x00\x01\xFF\xFF\xFF\xFF\x01"),
+    (
+        u64::MAX,
+        b"\x0C\x00\x01\xFF\xFF\xFF\xFF\xFF\xFF\xFF\xFF\xFF\x01",
+    ),
+];
+
+/// Whether a number is written so.
+fn is_written(alloc: Global, number: u64, bytes: &[u8]) -> Result<bool, AllocError> {
+    let mut written: Vec<u8> = Vec::new(alloc);
+    let step = ProofStep::FailedAssumptions {
+        failed_core: &[],
+        propagation_hashes: &[number],
+    };
+    write_step(&mut written, &step)?;
+    Ok(written.as_slice() == bytes)
+}
+
+/// Whether a number is read so.
+fn is_read(alloc: Global, number: u64, bytes: &[u8]) -> bool {
+    let mut reader = StepReader::new(alloc, bytes);
+    match reader.next_step() {
+        Ok(
+            ProofStep::FailedAssumptions {
+                failed_core,
+                propagation_hashes,
+            },
+        ) => failed_core.is_empty() && propagation_hashes == [number].as_slice(),
+        _ => false,
+    }
+}
+
+pub fn numbers(rt: &impl Abort, alloc: Global) -> Result<(), AllocError> {
+    for (number, bytes) in NUMBERS {
+        assert!(rt; is_written(alloc, number, bytes)?, "{number}");
+        assert!(rt; is_read(alloc, number, bytes), "{number}");
     }
     Ok(())
 }
 
 /// A step of each kind and each form of its fields, a line each.
 #[rattlefmt::skip]
-const KINDS: [u8; 90] = [
+pub const KINDS: [u8; 90] = [
     0x01, 0x00, 0x80, 0x80, 0x80, 0x80, 0x01,
     0x01, 0xFF, 0xFF, 0xFF, 0x7F, 0x00,
     0x02, 0xFF, 0xFF, 0xFF, 0x7F, 0x01,
@@ -67,174 +78,191 @@ const KINDS: [u8; 90] = [
     0x0D,
 ];
 
-#[test]
-fn each_kind(rt: HostRuntime) -> Result<(), Fail> {
-    let a = Var::from_index(0).expect(&rt, "the first variable");
-    let last = Var::from_index(Var::MAX_COUNT - 1).expect(&rt, "the last variable");
-    let (least, greatest) = (a.lit(true), last.lit(false));
-    let mut written: Vec<u8> = Vec::new(rt.alloc());
-    write_step(
-        &mut written,
-        &ProofStep::SolverVarName {
-            global: a,
-            solver: Some(last),
+/// What steps are over: two variables, lists of literals, and a list of units.
+#[derive(Clone, Copy)]
+struct Given<'a> {
+    first: Var,
+    last: Var,
+    one: &'a [Lit],
+    two: &'a [Lit],
+    three: &'a [Lit],
+    units: &'a [(Lit, ClauseHash)],
+}
+
+/// The step of these kinds at a place.
+fn kind_at<'a>(place: usize, given: Given<'a>) -> ProofStep<'a> {
+    match place {
+        0 => ProofStep::SolverVarName {
+            global: given.first,
+            solver: Some(given.last),
         },
-    )?;
-    write_step(
-        &mut written,
-        &ProofStep::SolverVarName {
-            global: last,
+        1 => ProofStep::SolverVarName {
+            global: given.last,
             solver: None,
         },
-    )?;
-    write_step(
-        &mut written,
-        &ProofStep::UserVarName {
-            global: last,
-            user: Some(a),
+        2 => ProofStep::UserVarName {
+            global: given.last,
+            user: Some(given.first),
         },
-    )?;
-    write_step(
-        &mut written,
-        &ProofStep::UserVarName {
-            global: a,
+        3 => ProofStep::UserVarName {
+            global: given.first,
             user: None,
         },
-    )?;
-    write_step(&mut written, &ProofStep::DeleteVar { var: last })?;
-    write_step(
-        &mut written,
-        &ProofStep::ChangeSamplingMode {
-            var: a,
+        4 => ProofStep::DeleteVar { var: given.last },
+        5 => ProofStep::ChangeSamplingMode {
+            var: given.first,
             sample: true,
         },
-    )?;
-    write_step(
-        &mut written,
-        &ProofStep::ChangeSamplingMode {
-            var: a,
+        6 => ProofStep::ChangeSamplingMode {
+            var: given.first,
             sample: false,
         },
-    )?;
-    write_step(
-        &mut written,
-        &ProofStep::AddClause {
-            clause: &[greatest, least, least],
+        7 => ProofStep::AddClause {
+            clause: given.three,
         },
-    )?;
-    write_step(
-        &mut written,
-        &ProofStep::AtClause {
+        8 => ProofStep::AtClause {
             redundant: true,
-            clause: &[least],
+            clause: given.one,
             propagation_hashes: &[300, 0],
         },
-    )?;
-    write_step(
-        &mut written,
-        &ProofStep::DeleteClause {
-            clause: &[least, least],
+        9 => ProofStep::DeleteClause {
+            clause: given.two,
             proof: DeleteClauseProof::Redundant,
         },
-    )?;
-    write_step(
-        &mut written,
-        &ProofStep::DeleteClause {
-            clause: &[least],
+        10 => ProofStep::DeleteClause {
+            clause: given.one,
             proof: DeleteClauseProof::Satisfied,
         },
-    )?;
-    write_step(
-        &mut written,
-        &ProofStep::DeleteClause {
+        11 => ProofStep::DeleteClause {
             clause: &[],
             proof: DeleteClauseProof::Simplified,
         },
-    )?;
-    write_step(
-        &mut written,
-        &ProofStep::UnitClauses {
-            units: &[(least, 128), (greatest, 1)],
+        12 => ProofStep::UnitClauses { units: given.units },
+        13 => ProofStep::ChangeHashBits { bits: u32::MAX },
+        14 => ProofStep::Model {
+            assignment: given.one,
         },
-    )?;
-    write_step(&mut written, &ProofStep::ChangeHashBits { bits: u32::MAX })?;
-    write_step(
-        &mut written,
-        &ProofStep::Model {
-            assignment: &[least],
-        },
-    )?;
-    write_step(&mut written, &ProofStep::Assumptions { assumptions: &[] })?;
-    write_step(
-        &mut written,
-        &ProofStep::FailedAssumptions {
-            failed_core: &[least],
+        15 => ProofStep::Assumptions { assumptions: &[] },
+        16 => ProofStep::FailedAssumptions {
+            failed_core: given.one,
             propagation_hashes: &[7],
         },
-    )?;
-    write_step(&mut written, &ProofStep::End)?;
-    assert_eq!(rt; written.as_slice(), KINDS.as_slice());
-    for size in [usize::MAX, 1] {
-        let inner = Cuts {
-            rest: &KINDS,
-            size,
-            failing: 0,
-        };
-        let all = read_all(rt.alloc(), inner)?;
-        assert_eq!(rt; all.written.as_slice(), KINDS.as_slice());
-        assert_eq!(rt; all.count, 18);
+        _ => ProofStep::End,
+    }
+}
+
+/// Writes the step of each kind.
+fn write_kinds(out: &mut Vec<u8>, given: Given<'_>) -> Result<(), AllocError> {
+    for place in 0..18usize {
+        write_step(out, &kind_at(place, given))?;
     }
     Ok(())
 }
 
-#[test]
-fn writer_of_version_2(rt: HostRuntime) -> Result<(), Fail> {
-    let mut writer = ProofWriter::new();
-    let mut out: Vec<u8> = Vec::new(rt.alloc());
-    let width = ProofStep::ChangeHashBits { bits: 9 };
-    assert!(rt; writer.write(&mut out, &width).is_ok());
-    assert_eq!(rt; out.as_slice(), b"\x00\x02\x09\x09".as_slice());
-    let too_wide = ProofStep::AtClause {
-        redundant: false,
-        clause: &[],
-        propagation_hashes: &[512],
+/// Over the first and the last variable, and the least and the greatest literal. The bytes are read
+/// in the module `texts`.
+pub fn each_kind(rt: &impl Abort, alloc: Global) -> Result<(), Fail> {
+    let first = Var::from_index(0).ok_or("no variable")?;
+    let last = Var::from_index(Var::MAX_COUNT - 1).ok_or("no variable")?;
+    let (least, greatest) = (first.lit(true), last.lit(false));
+    let given = Given {
+        first,
+        last,
+        one: &[least],
+        two: &[least, least],
+        three: &[greatest, least, least],
+        units: &[(least, 128), (greatest, 1)],
     };
-    let refused = writer.write(&mut out, &too_wide);
-    assert!(rt; matches!(refused, Err(WriteFault::HashTooWide)));
-    assert_eq!(rt; out.len(), 4);
-    let widest = ProofStep::AtClause {
-        redundant: false,
-        clause: &[],
-        propagation_hashes: &[511],
-    };
-    assert!(rt; writer.write(&mut out, &widest).is_ok());
-    assert_eq!(rt; &out[4..], b"\x06\x00\x00\x01\xFF\x01".as_slice());
+    let mut written: Vec<u8> = Vec::new(alloc);
+    write_kinds(&mut written, given)?;
+    assert_eq!(rt; written.as_slice(), KINDS.as_slice());
     Ok(())
 }
 
-/// Hashes of 8 bytes and of 1, and a width that is none, in each step that has hashes.
-#[test]
-fn texts_of_a_writer(rt: HostRuntime) -> Result<(), Fail> {
-    let lit = Lit::from_code(2).expect(&rt, "a literal");
+/// Writes a step. False: it has a hash that is too wide.
+fn fits(
+    writer: &mut ProofWriter,
+    out: &mut Vec<u8>,
+    step: &ProofStep<'_>,
+) -> Result<bool, AllocError> {
+    match writer.write(out, step) {
+        Ok(()) => Ok(true),
+        Err(WriteFault::HashTooWide) => Ok(false),
+        Err(WriteFault::OutOfMemory) => Err(AllocError),
+    }
+}
+
+/// The step of a writer at a place, over one literal.
+fn wide_step_at<'a>(place: usize, one: &'a [Lit], units: &'a [(Lit, ClauseHash)]) -> ProofStep<'a> {
+    match place {
+        0 => ProofStep::ChangeHashBits { bits: 9 },
+        1 => ProofStep::AtClause {
+            redundant: false,
+            clause: &[],
+            propagation_hashes: &[512],
+        },
+        2 => ProofStep::AtClause {
+            redundant: false,
+            clause: &[],
+            propagation_hashes: &[511],
+        },
+        3 => ProofStep::UnitClauses { units },
+        4 => ProofStep::ChangeHashBits { bits: 65 },
+        5 => ProofStep::ChangeHashBits { bits: 1 },
+        6 => ProofStep::FailedAssumptions {
+            failed_core: one,
+            propagation_hashes: &[1, 0],
+        },
+        _ => ProofStep::End,
+    }
+}
+
+/// The place of a step of a new writer, whether it fits, and how many bytes of the text are written
+/// then.
+type Row = (usize, bool, usize);
+
+/// Hashes of 2 bytes.
+const TWO_BYTES: [Row; 3] = [(0, true, 4), (1, false, 4), (2, true, 10)];
+
+const TEXT_OF_TWO_BYTES: [u8; 10] = [0x00, 0x02, 0x09, 0x09, 0x06, 0x00, 0x00, 0x01, 0xFF, 0x01];
+
+/// Hashes of 8 bytes and of 1, and a width that is none, in each step that has hashes. It is read
+/// in the module `texts`.
+pub const WRITTEN: [u8; 24] = [
+    0x00, 0x02, 0x08, 0x01, 0x02, 0x2A, 0x08, 0x95, 0x02, 0x93, 0x75, 0xAF, 0xC4, 0x09, 0x41, 0x09,
+    0x01, 0x0C, 0x01, 0x02, 0x02, 0x01, 0x00, 0x0D,
+];
+
+const MANY_WIDTHS: [Row; 5] = [
+    (3, true, 13),
+    (4, true, 15),
+    (5, true, 17),
+    (6, true, 23),
+    (7, true, 24),
+];
+
+fn are_written(
+    rt: &impl Abort,
+    alloc: Global,
+    lit: Lit,
+    rows: &[Row],
+    text: &[u8],
+) -> Result<(), AllocError> {
+    let (one, units) = ([lit], [(lit, 0xC4AF_7593_0295_082A)]);
     let mut writer = ProofWriter::new();
-    let mut out: Vec<u8> = Vec::new(rt.alloc());
-    let units = [(lit, 0xC4AF_7593_0295_082A)];
-    let named = ProofStep::UnitClauses { units: &units };
-    assert!(rt; writer.write(&mut out, &named).is_ok());
-    let no_width = ProofStep::ChangeHashBits { bits: 65 };
-    assert!(rt; writer.write(&mut out, &no_width).is_ok());
-    let width = ProofStep::ChangeHashBits { bits: 1 };
-    assert!(rt; writer.write(&mut out, &width).is_ok());
-    let core = ProofStep::FailedAssumptions {
-        failed_core: &[lit],
-        propagation_hashes: &[1, 0],
-    };
-    assert!(rt; writer.write(&mut out, &core).is_ok());
-    assert!(rt; writer.write(&mut out, &ProofStep::End).is_ok());
-    let text =
-        b"\x00\x02\x08\x01\x02\x2A\x08\x95\x02\x93\x75\xAF\xC4\x09\x41\x09\x01\x0C\x01\x02\x02\x01\x00\x0D";
-    assert_eq!(rt; out.as_slice(), text.as_slice());
-    let all = read_all(rt.alloc(), out.as_slice())?;
-    assert_eq!(rt; all.count, 5);
+    let mut out: Vec<u8> = Vec::new(alloc);
+    for (place, is_taken, len) in rows {
+        let step = wide_step_at(*place, &one, &units);
+        let taken = fits(&mut writer, &mut out, &step)?;
+        assert_eq!(rt; taken, *is_taken);
+        assert_eq!(rt; out.as_slice(), &text[..(*len).min(text.len())]);
+    }
+    Ok(())
+}
+
+pub fn writer_of_version_2(rt: &impl Abort, alloc: Global) -> Result<(), Fail> {
+    let lit = Lit::from_code(2).ok_or("no literal")?;
+    are_written(rt, alloc, lit, &TWO_BYTES, &TEXT_OF_TWO_BYTES)?;
+    are_written(rt, alloc, lit, &MANY_WIDTHS, &WRITTEN)?;
     Ok(())
 }

@@ -15,13 +15,12 @@ const PROOF: &[u8] = b"\x09\x01\x06\x00\x01\x00\x02\x01\x00\x06\x00\x00\x02\x00\
 
 const LINES: &[u8] = b"9 1 0 1 2 0\n10 0 9 3 4 0\n";
 
-#[test]
-fn box_is_handed_back(rt: HostRuntime) -> Result<(), Fail> {
-    let Ok(formula) = read_formula(rt.alloc(), FOUR) else {
-        return Err("the formula is malformed".into());
-    };
-    let writer: Box<dyn ProofProcessor> = Box::new(rt.alloc(), LratWriter::new(rt.alloc(), 4))?;
-    shows_its_lines(&rt, rt.alloc(), &formula, writer)
+pub fn boxed_writer(rt: &impl Abort, alloc: Global) -> Result<(), Fail> {
+    let writer: Box<dyn ProofProcessor> = Box::new(alloc, LratWriter::new(alloc, 4))?;
+    match read_formula(alloc, FOUR) {
+        Ok(formula) => shows_its_lines(rt, alloc, &formula, writer),
+        Err(_) => Err("the formula is malformed".into()),
+    }
 }
 
 fn shows_its_lines(

@@ -7,10 +7,6 @@
 #[cfg(test)]
 mod boxed_writer;
 #[cfg(test)]
-mod buckets;
-#[cfg(test)]
-mod crowds;
-#[cfg(test)]
 mod parts;
 #[cfg(test)]
-mod steps;
+mod rows;

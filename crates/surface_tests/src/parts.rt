@@ -27,43 +27,49 @@ fn value_of(ctx: &Context, lit: Lit) -> Option<(bool, u64)> {
     }
 }
 
-#[test]
-fn values_of_literals(rt: HostRuntime) -> Result<(), Fail> {
-    let mut ctx = Context::new(rt.alloc());
-    has_values(&rt, rt.alloc(), &mut ctx)
+/// Numbers of literals, with their values once [-2] was added.
+const VALUES: [(i64, Option<(bool, u64)>); 4] = [
+    (-2, Some((true, 0))),
+    (2, Some((false, 0))),
+    (1, None),
+    (3, None),
+];
+
+pub fn units(rt: &impl Abort, alloc: Global) -> Result<(), Fail> {
+    let mut ctx = Context::new(alloc);
+    holds_unit(rt, alloc, &mut ctx)
 }
 
-fn has_values(rt: &impl Abort, alloc: Global, ctx: &mut Context) -> Result<(), Fail>
+fn holds_unit(rt: &impl Abort, alloc: Global, ctx: &mut Context) -> Result<(), Fail>
+    requires { ContextInvariant ctx.old }
+{
+    adds_unit(alloc, ctx)?;
+    has_values(rt, ctx)?;
+    stores_once(rt, ctx)
+}
+
+fn adds_unit(alloc: Global, ctx: &mut Context) -> Result<(), Fail>
     requires { ContextInvariant ctx.old }
 {
     let clause = lits(alloc, "-2")?;
-    if add_clause(alloc, ctx, &clause).is_err() {
-        return Err("the clause is refused".into());
+    match add_clause(alloc, ctx, &clause) {
+        Ok(()) => Ok(()),
+        Err(_) => Err("the clause is refused".into()),
     }
-    assert_eq!(rt; value_of(ctx, lit(-2)?), Some((true, 0)));
-    assert_eq!(rt; value_of(ctx, lit(2)?), Some((false, 0)));
-    assert_eq!(rt; value_of(ctx, lit(1)?), None);
-    assert_eq!(rt; value_of(ctx, lit(3)?), None);
+}
+
+fn has_values(rt: &impl Abort, ctx: &Context) -> Result<(), Fail> {
+    for (number, value) in VALUES {
+        assert_eq!(rt; value_of(ctx, lit(number)?), value, "{number}");
+    }
     Ok(())
 }
 
-#[test]
-fn units_are_stored_once(rt: HostRuntime) -> Result<(), Fail> {
-    let mut ctx = Context::new(rt.alloc());
-    stores_once(&rt, rt.alloc(), &mut ctx)
-}
-
-fn stores_once(rt: &impl Abort, alloc: Global, ctx: &mut Context) -> Result<(), Fail>
-    requires { ContextInvariant ctx.old }
-{
-    let clause = lits(alloc, "-2")?;
-    if add_clause(alloc, ctx, &clause).is_err() {
-        return Err("the clause is refused".into());
-    }
+fn stores_once(rt: &impl Abort, ctx: &mut Context) -> Result<(), Fail> {
     let again = store(ctx, lit(-2)?)?;
-    assert!(rt; again == (0, StoreClauseResult::Duplicate));
     // Its negation takes an id, and unsatisfiability is recorded.
     let negation = store(ctx, lit(2)?)?;
+    assert!(rt; again == (0, StoreClauseResult::Duplicate));
     assert!(rt; negation == (1, StoreClauseResult::New));
     assert!(rt; ctx.checker_state.unsat);
     assert_eq!(rt; ctx.clauses.unit_conflict, Some((0, 1)));
@@ -81,11 +87,10 @@ fn store(ctx: &mut Context, unit: Lit) -> Result<(u64, StoreClauseResult), Fail>
     }
 }
 
-#[test]
-fn steps_are_delivered(rt: HostRuntime) -> Result<(), Fail> {
-    let tally: Box<dyn ProofProcessor> = Box::new(rt.alloc(), Tally::new(rt.alloc()))?;
-    let mut ctx = Context::new(rt.alloc());
-    delivers(&rt, rt.alloc(), &mut ctx, tally)
+pub fn delivery(rt: &impl Abort, alloc: Global) -> Result<(), Fail> {
+    let tally: Box<dyn ProofProcessor> = Box::new(alloc, Tally::new(alloc))?;
+    let mut ctx = Context::new(alloc);
+    delivers(rt, alloc, &mut ctx, tally)
 }
 
 fn delivers(

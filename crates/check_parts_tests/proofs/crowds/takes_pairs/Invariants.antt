@@ -1,5 +1,5 @@
 use Rattle.checker_steps.specs.Context.{ContextInvariant}
-use Rattle.surface_tests.proofs.crowds.delete_others.Given as goal
+use Rattle.check_parts_tests.proofs.crowds.takes_pairs.Given as goal
 
 abbrev pub invariant-loop-turn : goal.invariant-loop-turn
 invariant-loop-turn g l = ContextInvariant l.ctx

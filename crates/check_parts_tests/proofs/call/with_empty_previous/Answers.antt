@@ -2,7 +2,7 @@ use Rattle.std.proofs.Common.{ℕ, List, Some, ap}
 use Rattle.sat_rules.specs.Clauses.{is_canonical}
 use Rattle.checker_rules.proofs.Forms.{form-previous}
 use Rattle.clause_store.specs.StateOf.{state_of}
-use Rattle.check_parts_tests.proofs.parts.with_empty_previous.Goals as goal
+use Rattle.check_parts_tests.proofs.call.with_empty_previous.Goals as goal
 
 pub returns : goal.returns
 returns g c =

@@ -9,7 +9,7 @@ use Rattle.clause_store.specs.PartsInvariant.{PartsInvariant}
 use Rattle.clause_store.specs.StateOf.{state_of}
 use Rattle.clause_store.specs.Store.{IsIndexed, IsStore}
 use Rattle.clause_store.specs.View.{stored_list}
-use Rattle.check_parts_tests.proofs.exhausted.with_ids_from.Goals as goal
+use Rattle.check_parts_tests.proofs.rows.parts_at.Goals as goal
 
 form-next : (n : ℕ) → WellFormed (record new_state { next = n })
 form-next n = record {
@@ -49,4 +49,5 @@ kept-next st h cs known n e k =
 pub returns : goal.returns
 returns g c =
     let ctx = c.new-ctx.result in
-    kept-next ctx.checker_state ctx.clause_hasher ctx.clauses ctx.variables c.args.next c.new-ctx.ensures.state c.new-ctx.ensures.kept
+    let k = kept-next ctx.checker_state ctx.clause_hasher ctx.clauses ctx.variables c.args.next c.new-ctx.ensures.state c.new-ctx.ensures.kept in
+    record { form = k.form; store = k.store }
