@@ -21,17 +21,6 @@ const KINDS: [(&[u8], Kind); 11] = [
     (b"0\n", Kind::DratText),
 ];
 
-#[test]
-fn kinds_of_files(rt: HostRuntime) {
-    are_of_kinds(&rt, &KINDS);
-}
-
-fn are_of_kinds(rt: &impl Abort, rows: &[(&[u8], Kind)]) {
-    for (bytes, kind) in rows {
-        assert_eq!(rt; kind_of(bytes), Some(*kind));
-    }
-}
-
 const NO_KIND: [&[u8]; 12] = [
     b"",
     b"\x1F",
@@ -48,15 +37,45 @@ const NO_KIND: [&[u8]; 12] = [
 ];
 
 #[test]
-fn files_of_no_such_kind(rt: HostRuntime) {
-    are_of_no_kind(&rt, &NO_KIND);
-}
-
-fn are_of_no_kind(rt: &impl Abort, rows: &[&[u8]]) {
-    for bytes in rows {
+fn kinds_of_files(rt: HostRuntime) {
+    for (bytes, kind) in KINDS {
+        assert_eq!(rt; kind_of(bytes), Some(kind));
+    }
+    for bytes in NO_KIND {
         assert_eq!(rt; kind_of(bytes), None);
     }
 }
+
+/// A text, the two counts of its header, and the largest variable and the number of clauses.
+const LIES: [(&[u8], [u64; 4]); 12] = [
+    (b"p cnf 1 1\n1 2 0\n", [1, 1, 2, 1]),
+    (b"p cnf 2 2\n1 -2 0\n", [2, 2, 2, 1]),
+    (b"p cnf 2 0\n1 -2 0\n", [2, 0, 2, 1]),
+    (b"p cnf 2 1\n1 -3 0 2 0\n", [2, 1, 3, 2]),
+    (b"p cnf 0 1", [0, 1, 0, 0]),
+    (b"p cnf 9 2\n9\n0 0\n0", [9, 2, 9, 3]),
+    (b"c 7 0\n \tp  cnf 03\t2 \r\n\t1 2 3 0\r\n", [3, 2, 3, 1]),
+    (b"p cnf 2 1\n1 2 0\nc 3 0\n2 0\n", [2, 1, 2, 2]),
+    (b"p cnf 2 2\n1 2 0\n%\n3 0\n0\n", [2, 2, 2, 1]),
+    (b"p cnf 10 1\n010 0 -11 0\n", [10, 1, 11, 2]),
+    (b"p cnf 1 18446744073709551616\n1 0\n", [1, u64::MAX, 1, 1]),
+    (b"p cnf 1 1\n1 -268435456 0", [1, 1, 268_435_456, 1]),
+];
+
+const RIGHT: [&[u8]; 11] = [
+    b"",
+    b"p cnf 0 0",
+    b"p cnf 0 0\n",
+    b"1 2 0\n",
+    b"c p cnf 9 9\n1 2 0\n",
+    b"p cnf 2 1\n1 -2 0\n",
+    // more variables may be said than there are
+    b"p cnf 5 2\n1 -2 0\n0\n",
+    b"c 3 0\np cnf 2 2\nc 4 0\n1\n2 0 -1 0",
+    b"p cnf 2 1\n1 2 0\n%\n3 0\n",
+    b"p cnf 99999999999999999999 1\n268435456 0\n",
+    b"  p cnf 2 1 \n\n\n1 2\nc\n0\n",
+];
 
 /// What is said of the header of a text that is read in parts of so many bytes.
 fn lying_header(text: &[u8], part: usize) -> io::Result<Option<LyingHeader>> {
@@ -79,75 +98,19 @@ fn has_header(rt: &impl Abort, text: &[u8], header: Option<LyingHeader>) -> io::
     Ok(())
 }
 
-/// A text, the two counts of its header, and the largest variable and the number of clauses.
-const LIES: [(&[u8], [u64; 4]); 12] = [
-    (b"p cnf 1 1\n1 2 0\n", [1, 1, 2, 1]),
-    (b"p cnf 2 2\n1 -2 0\n", [2, 2, 2, 1]),
-    (b"p cnf 2 0\n1 -2 0\n", [2, 0, 2, 1]),
-    (b"p cnf 2 1\n1 -3 0 2 0\n", [2, 1, 3, 2]),
-    (b"p cnf 0 1", [0, 1, 0, 0]),
-    (b"p cnf 9 2\n9\n0 0\n0", [9, 2, 9, 3]),
-    (b"c 7 0\n \tp  cnf 03\t2 \r\n\t1 2 3 0\r\n", [3, 2, 3, 1]),
-    (b"p cnf 2 1\n1 2 0\nc 3 0\n2 0\n", [2, 1, 2, 2]),
-    (b"p cnf 2 2\n1 2 0\n%\n3 0\n0\n", [2, 2, 2, 1]),
-    (b"p cnf 10 1\n010 0 -11 0\n", [10, 1, 11, 2]),
-    (b"p cnf 1 18446744073709551616\n1 0\n", [1, u64::MAX, 1, 1]),
-    (b"p cnf 1 1\n1 -268435456 0", [1, 1, 268_435_456, 1]),
-];
-
 #[test]
-fn headers_that_lie(rt: HostRuntime) -> Result<(), Fail> {
-    have_lies(&rt, &LIES)?;
-    Ok(())
-}
-
-/// The two counts of a header, and the largest variable and the number of clauses.
-fn lie_of([variables, clauses, largest, number]: [u64; 4]) -> LyingHeader {
-    let said = Counts { variables, clauses };
-    let counts = Counts {
-        variables: largest,
-        clauses: number,
-    };
-    LyingHeader { said, counts }
-}
-
-fn have_lies(rt: &impl Abort, rows: &[(&[u8], [u64; 4])]) -> io::Result<()> {
-    for (text, counts) in rows {
-        has_header(rt, text, Some(lie_of(*counts)))?;
+fn headers(rt: HostRuntime) -> Result<(), Fail> {
+    for (text, [variables, clauses, largest, number]) in LIES {
+        let said = Counts { variables, clauses };
+        let counts = Counts {
+            variables: largest,
+            clauses: number,
+        };
+        has_header(&rt, text, Some(LyingHeader { said, counts }))?;
     }
-    Ok(())
-}
-
-const RIGHT: [&[u8]; 11] = [
-    b"",
-    b"p cnf 0 0",
-    b"p cnf 0 0\n",
-    b"1 2 0\n",
-    b"c p cnf 9 9\n1 2 0\n",
-    b"p cnf 2 1\n1 -2 0\n",
-    // more variables may be said than there are
-    b"p cnf 5 2\n1 -2 0\n0\n",
-    b"c 3 0\np cnf 2 2\nc 4 0\n1\n2 0 -1 0",
-    b"p cnf 2 1\n1 2 0\n%\n3 0\n",
-    b"p cnf 99999999999999999999 1\n268435456 0\n",
-    b"  p cnf 2 1 \n\n\n1 2\nc\n0\n",
-];
-
-#[test]
-fn headers_that_are_right_or_absent(rt: HostRuntime) -> Result<(), Fail> {
-    have_no_lie(&rt, &RIGHT)?;
-    Ok(())
-}
-
-fn have_no_lie(rt: &impl Abort, rows: &[&[u8]]) -> io::Result<()> {
-    for text in rows {
-        has_header(rt, text, None)?;
+    for text in RIGHT {
+        has_header(&rt, text, None)?;
     }
-    Ok(())
-}
-
-#[test]
-fn text_of_a_lying_header(rt: HostRuntime) -> Result<(), Fail> {
     let lie = lying_header(b"p cnf 1 3\n1 2 0\n", 64)?.ok_or("no lie")?;
     let said = lie.to_string(rt.alloc())?;
     assert_eq!(rt; said.as_str(), "p cnf 1 3, but what was read is p cnf 2 1");

@@ -7,12 +7,14 @@ mod rows;
 
 use crate::texts::line_ends;
 use lrat_checker::{LratChecker, LratFault};
-use sat_formula::{CnfFormula, read_formula};
-use std::alloc::{AllocError, Global};
+use self::redundancy::{GROUPS, LITERALS, REFUTED};
+use self::rows::{EMPTY_CLAUSES, FAR_LITERALS, IDS, LINES_OF_HINTS, PROPAGATION};
+use sat_formula::read_formula;
+use std::alloc::Global;
 use std::io::ErrorKind;
 use std::process::Abort;
 use std::test::Fail;
-use test_streams::Pieces;
+use test_streams::{Pieces, Shown};
 
 /// A formula, and a proof with its answer.
 type Row = (&'static str, &'static str, &'static str);
@@ -33,43 +35,44 @@ const BROKEN: &str = "error reading proof: broken";
 /// How answers of refused lines begin.
 const LINES: [(usize, &str); 3] = [(1, "line 1:"), (2, "line 2:"), (3, "line 3:")];
 
-/// An answer in words.
-fn shown(alloc: Global, answer: Result<bool, LratFault>) -> Result<String, AllocError> {
-    match answer {
-        Ok(true) => "refuted".to_string(alloc),
-        Ok(false) => "accepted".to_string(alloc),
-        Err(fault) => fault.to_string(alloc),
-    }
+/// A new checker of a formula.
+fn new_checker(alloc: Global, formula: &str) -> Result<LratChecker, Fail> {
+    let formula = read_formula(alloc, formula.as_bytes())?;
+    Ok(LratChecker::new(alloc, &formula)?)
 }
 
-/// The answer of a new checker in words.
-fn answer_to(alloc: Global, formula: &CnfFormula, proof: Pieces<'_>) -> Result<String, AllocError> {
-    let mut checker = LratChecker::new(alloc, formula)?;
-    shown(alloc, checker.check(proof))
+/// Shows an answer in words.
+fn show(shown: &mut Shown, answer: Result<bool, LratFault>) {
+    match answer {
+        Ok(true) => shown.words("refuted"),
+        Ok(false) => shown.words("accepted"),
+        Err(fault) => shown.value(&fault),
+    }
 }
 
 fn is_answered(
     rt: &impl Abort,
     alloc: Global,
-    formula: &CnfFormula,
+    checker: &mut LratChecker,
     proof: Pieces<'_>,
     answer: &str,
-) -> Result<(), AllocError> {
-    let seen = answer_to(alloc, formula, proof)?;
-    assert_eq!(rt; seen.as_str(), answer);
-    Ok(())
+) {
+    let mut shown = Shown::new(alloc);
+    show(&mut shown, checker.check(proof));
+    assert_eq!(rt; shown.text(), answer);
 }
 
-/// The proof is answered so, read at once and byte by byte.
-fn is_answered_whole(
+/// The proof is answered so by a new checker.
+fn is_newly_answered(
     rt: &impl Abort,
     alloc: Global,
-    formula: &CnfFormula,
-    proof: &[u8],
+    formula: &str,
+    proof: Pieces<'_>,
     answer: &str,
-) -> Result<(), AllocError> {
-    is_answered(rt, alloc, formula, Pieces::whole(proof), answer)?;
-    is_answered(rt, alloc, formula, Pieces::of_size(proof, 1), answer)
+) -> Result<(), Fail> {
+    let mut checker = new_checker(alloc, formula)?;
+    is_answered(rt, alloc, &mut checker, proof, answer);
+    Ok(())
 }
 
 /// What is answered where so many lines were read to their ends before a read fails.
@@ -82,44 +85,52 @@ fn broken_after<'a>(answer: &'a str, lines: usize) -> &'a str {
     BROKEN
 }
 
+/// The proof is answered so, read at once and byte by byte.
+fn holds_whole(rt: &impl Abort, alloc: Global, (formula, proof, answer): Row) -> Result<(), Fail> {
+    let proof = proof.as_bytes();
+    is_newly_answered(rt, alloc, formula, Pieces::whole(proof), answer)?;
+    is_newly_answered(rt, alloc, formula, Pieces::of_size(proof, 1), answer)
+}
+
 /// Where a read fails, whichever it is, what is answered is that of the lines before it.
-fn is_answered_broken(
-    rt: &impl Abort,
-    alloc: Global,
-    formula: &CnfFormula,
-    proof: &[u8],
-    answer: &str,
-) -> Result<(), AllocError> {
+fn holds_broken(rt: &impl Abort, alloc: Global, (formula, proof, answer): Row) -> Result<(), Fail> {
+    let proof = proof.as_bytes();
     for read in 0..=proof.len() {
         let text = &proof[..read];
         let answer = broken_after(answer, line_ends(text));
         let broken = Pieces::broken(text, ErrorKind::Interrupted);
-        is_answered(rt, alloc, formula, broken, answer)?;
+        is_newly_answered(rt, alloc, formula, broken, answer)?;
     }
     Ok(())
 }
 
-fn holds_whole(rt: &impl Abort, alloc: Global, (formula, proof, answer): &Row) -> Result<(), Fail> {
-    let formula = read_formula(alloc, formula.as_bytes())?;
-    is_answered_whole(rt, alloc, &formula, proof.as_bytes(), answer)?;
+const TABLES: [&[Row]; 7] = [
+    &PROPAGATION,
+    &LINES_OF_HINTS,
+    &FAR_LITERALS,
+    &IDS,
+    &GROUPS,
+    &LITERALS,
+    &REFUTED,
+];
+
+/// The rows of all tables are answered so, also where one of their reads fails.
+#[test]
+fn rows(rt: HostRuntime) -> Result<(), Fail> {
+    for rows in TABLES {
+        for row in rows {
+            holds_whole(&rt, rt.alloc(), *row)?;
+            holds_broken(&rt, rt.alloc(), *row)?;
+        }
+    }
     Ok(())
 }
 
-fn holds_broken(
-    rt: &impl Abort,
-    alloc: Global,
-    (formula, proof, answer): &Row,
-) -> Result<(), Fail> {
-    let formula = read_formula(alloc, formula.as_bytes())?;
-    is_answered_broken(rt, alloc, &formula, proof.as_bytes(), answer)?;
-    Ok(())
-}
-
-/// The rows are answered so, also where one of their reads fails.
-fn hold(rt: &impl Abort, alloc: Global, rows: &[Row]) -> Result<(), Fail> {
-    for row in rows {
-        holds_whole(rt, alloc, row)?;
-        holds_broken(rt, alloc, row)?;
+/// The empty clause of a formula refutes it, whatever the proof.
+#[test]
+fn empty_clauses_of_formulas(rt: HostRuntime) -> Result<(), Fail> {
+    for row in EMPTY_CLAUSES {
+        holds_whole(&rt, rt.alloc(), row)?;
     }
     Ok(())
 }

@@ -1,10 +1,9 @@
 //! Conversions with their bytes and statuses, texts of faults, and reads and writes that fail.
-use lrat_to_proof::{Conversion, ConvertFault, HashWidth, convert, exit_status};
-use std::alloc::{AllocError, Global};
+use lrat_to_proof::{HashWidth, convert, exit_status};
+use std::alloc::Global;
 use std::io::ErrorKind;
 use std::process::Abort;
-use std::test::Fail;
-use test_streams::{Full, Pieces};
+use test_streams::{Ended, Page, Pieces};
 
 /// Four clauses, one against each pair of values of two variables.
 const FOUR: &[u8] = b"1 2 0 1 -2 0 -1 2 0 -1 -2 0";
@@ -171,6 +170,18 @@ const REFUSED: [Refusal; 10] = [
     (b"1 0\n2 x 0", REFUTATION, "formula: line 2: bad number"),
 ];
 
+/// As much of the proof is written as there is room for.
+fn ran(
+    alloc: Global,
+    cnf: Pieces<'_>,
+    proof: Pieces<'_>,
+    width: HashWidth,
+    mut page: Page,
+) -> Ended {
+    let answer = convert(alloc, cnf, proof, width, &mut page);
+    Ended::of(alloc, page, &answer, exit_status(&answer))
+}
+
 /// The exit status and the bytes of the proof are these.
 fn converts(
     rt: &impl Abort,
@@ -180,28 +191,25 @@ fn converts(
     width: HashWidth,
     (status, bytes): (u8, &[u8]),
 ) {
-    let mut out = Vec::new(alloc);
-    let answer = convert(alloc, cnf, proof, width, &mut out);
-    assert_eq!(rt; exit_status(&answer), status);
-    assert_eq!(rt; out.as_slice(), bytes);
+    let ended = ran(alloc, Pieces::whole(cnf), proof, width, Page::endless(alloc));
+    assert_eq!(rt; ended.status(), status);
+    assert_eq!(rt; ended.bytes(), bytes);
 }
 
-fn all_convert(rt: &impl Abort, alloc: Global, rows: &[Row]) {
-    for (cnf, proof, outcome) in rows {
-        converts(
-            rt,
-            alloc,
-            cnf,
-            Pieces::whole(proof),
-            HashWidth::full(),
-            *outcome,
-        );
-    }
-}
-
+/// In the end a proof whose bytes come one by one, and none after the empty clause.
 #[test]
 fn conversions(rt: HostRuntime) {
-    all_convert(&rt, rt.alloc(), &CONVERTED);
+    let full = HashWidth::full();
+    for (cnf, proof, outcome) in CONVERTED {
+        converts(&rt, rt.alloc(), cnf, Pieces::whole(proof), full, outcome);
+    }
+    // The proof of a formula that is refuted is not read.
+    for cnf in REFUTED_FORMULAS {
+        let unread = Pieces::broken(b"", ErrorKind::ConnectionReset);
+        converts(&rt, rt.alloc(), cnf, unread, full, (0, NO_STEP));
+    }
+    let broken = Pieces::broken(REFUTATION, ErrorKind::ConnectionReset);
+    converts(&rt, rt.alloc(), FOUR, broken, full, (0, REFUTED));
 }
 
 #[test]
@@ -212,125 +220,48 @@ fn narrow_hashes(rt: HostRuntime) {
     assert!(rt; HashWidth::from_bits(65).is_none());
     assert_eq!(rt; HashWidth::from_bits(64), Some(HashWidth::full()));
     let proof = Pieces::whole(REFUTATION);
-    converts(
-        &rt,
-        rt.alloc(),
-        FOUR,
-        proof,
-        nine,
-        (0, REFUTED_IN_NINE_BITS),
-    );
+    let outcome = (0, REFUTED_IN_NINE_BITS);
+    converts(&rt, rt.alloc(), FOUR, proof, nine, outcome);
 }
 
-/// The proof of a formula that is refuted is not read.
-fn convert_unread(rt: &impl Abort, alloc: Global, formulas: &[&[u8]]) {
-    for cnf in formulas {
-        let proof = Pieces::broken(b"", ErrorKind::ConnectionReset);
-        converts(rt, alloc, cnf, proof, HashWidth::full(), (0, NO_STEP));
-    }
-}
-
-#[test]
-fn formulas_that_are_refuted_already(rt: HostRuntime) {
-    convert_unread(&rt, rt.alloc(), &REFUTED_FORMULAS);
-}
-
-/// The text of a fault, and of a conversion none.
-fn fault_text(
-    alloc: Global,
-    answer: Result<Conversion, ConvertFault>,
-) -> Result<String, AllocError> {
-    match answer {
-        Ok(_) => Ok(String::new(alloc)),
-        Err(fault) => fault.to_string(alloc),
-    }
-}
-
-/// The fault has this text.
-fn is_refusal(
-    rt: &impl Abort,
-    alloc: Global,
-    answer: Result<Conversion, ConvertFault>,
-    text: &str,
-) -> Result<(), AllocError> {
-    assert_eq!(rt; exit_status(&answer), 1);
-    let said = fault_text(alloc, answer)?;
-    assert_eq!(rt; said.as_str(), text);
-    Ok(())
-}
-
+/// There is no conversion, and the fault has this text.
 fn refuses(
     rt: &impl Abort,
     alloc: Global,
     cnf: Pieces<'_>,
     proof: Pieces<'_>,
+    page: Page,
     text: &str,
-) -> Result<(), AllocError> {
-    let mut out = Vec::new(alloc);
-    let answer = convert(alloc, cnf, proof, HashWidth::full(), &mut out);
-    is_refusal(rt, alloc, answer, text)
+) {
+    let ended = ran(alloc, cnf, proof, HashWidth::full(), page);
+    assert_eq!(rt; (ended.status(), ended.fault()), (1, text));
 }
 
-fn all_refuse(rt: &impl Abort, alloc: Global, rows: &[Refusal]) -> Result<(), AllocError> {
-    for (cnf, proof, text) in rows {
-        refuses(rt, alloc, Pieces::whole(cnf), Pieces::whole(proof), text)?;
+#[test]
+fn refusals(rt: HostRuntime) {
+    for (cnf, proof, text) in REFUSED {
+        let cnf = Pieces::whole(cnf);
+        let proof = Pieces::whole(proof);
+        refuses(&rt, rt.alloc(), cnf, proof, Page::endless(rt.alloc()), text);
     }
-    Ok(())
 }
 
 #[test]
-fn refusals(rt: HostRuntime) -> Result<(), Fail> {
-    all_refuse(&rt, rt.alloc(), &REFUSED)?;
-    Ok(())
-}
-
-#[test]
-fn reads_that_fail(rt: HostRuntime) -> Result<(), Fail> {
+fn reads_and_writes_that_fail(rt: HostRuntime) {
+    let alloc = rt.alloc();
+    let four = Pieces::whole(FOUR);
+    let refutation = Pieces::whole(REFUTATION);
     let formula = Pieces::broken(b"1 0 2 0", ErrorKind::ConnectionReset);
     let text = "formula: error reading formula: broken";
-    refuses(&rt, rt.alloc(), formula, Pieces::whole(REFUTATION), text)?;
+    refuses(&rt, alloc, formula, refutation, Page::endless(alloc), text);
     let proof = Pieces::broken(b"5 1 0 1 2 0\n6 0 5", ErrorKind::ConnectionReset);
     let text = "error reading proof: broken";
-    refuses(&rt, rt.alloc(), Pieces::whole(FOUR), proof, text)?;
-    Ok(())
-}
-
-/// Bytes that come one by one, and none after the empty clause.
-#[test]
-fn no_read_after_the_empty_clause(rt: HostRuntime) {
-    let proof = Pieces::broken(REFUTATION, ErrorKind::ConnectionReset);
-    converts(
-        &rt,
-        rt.alloc(),
-        FOUR,
-        proof,
-        HashWidth::full(),
-        (0, REFUTED),
-    );
-}
-
-/// What is answered where so many bytes can be written.
-fn written(alloc: Global, room: usize) -> Result<Conversion, ConvertFault> {
-    let proof = Pieces::whole(REFUTATION);
-    convert(
-        alloc,
-        FOUR,
-        proof,
-        HashWidth::full(),
-        &mut Full::after(room),
-    )
-}
-
-fn are_unwritten(rt: &impl Abort, alloc: Global) -> Result<(), AllocError> {
+    refuses(&rt, alloc, four, proof, Page::endless(alloc), text);
     for room in 0..REFUTED.len() {
-        is_refusal(rt, alloc, written(alloc, room), "error writing: full")?;
+        let page = Page::of_room(alloc, room);
+        refuses(&rt, alloc, four, refutation, page, "error writing: full");
     }
-    Ok(())
-}
-
-#[test]
-fn writes_that_fail(rt: HostRuntime) -> Result<(), Fail> {
-    are_unwritten(&rt, rt.alloc())?;
-    assert_eq!(rt; exit_status(&written(rt.alloc(), REFUTED.len())), 0);
-    Ok(())
+    let page = Page::of_room(alloc, REFUTED.len());
+    let ended = ran(alloc, four, refutation, HashWidth::full(), page);
+    assert_eq!(rt; ended.status(), 0);
 }

@@ -1,54 +1,64 @@
 //! Formulas that are given clause by clause, and read.
-use super::shown;
+use super::show;
 use lrat_checker::LratFormula;
-use sat_formula::{DimacsFault, DimacsKind, Lit};
+use sat_formula::{DimacsFault, Lit};
+use std::alloc::{AllocError, Global};
+use std::process::Abort;
 use std::test::Fail;
+use test_streams::Shown;
 
 /// The empty clause, by two units.
 const PROOF: &[u8] = b"3 0 1 2 0\n";
 
-#[test]
-fn clauses_one_after_the_other(rt: HostRuntime) -> Result<(), Fail> {
-    let lit = Lit::from_dimacs(1).ok_or("in range")?;
-    let mut formula = LratFormula::new(rt.alloc())?;
-    formula.add_clause(&[lit])?;
-    formula.add_clause(&[!lit])?;
-    let mut checker = formula.checker();
-    assert!(rt; !checker.refuted());
-    assert_eq!(rt;
-        shown(rt.alloc(), checker.check(PROOF))?.as_str(),
-        "refuted"
-    );
-    Ok(())
+/// A formula of these clauses.
+fn given(alloc: Global, clauses: &[&[Lit]]) -> Result<LratFormula, AllocError> {
+    let mut formula = LratFormula::new(alloc)?;
+    for clause in clauses {
+        formula.add_clause(clause)?;
+    }
+    Ok(formula)
 }
 
-#[test]
-fn empty_clause_alone(rt: HostRuntime) -> Result<(), Fail> {
-    let mut formula = LratFormula::new(rt.alloc())?;
-    formula.add_clause(&[])?;
-    assert!(rt; formula.checker().refuted());
-    Ok(())
-}
-
-#[test]
-fn clauses_of_a_text(rt: HostRuntime) -> Result<(), Fail> {
-    let formula = LratFormula::read(rt.alloc(), &b"c\np cnf 1 2\n1 0 -1 0\n"[..])?;
-    let mut checker = formula.checker();
-    assert_eq!(rt;
-        shown(rt.alloc(), checker.check(PROOF))?.as_str(),
-        "refuted"
-    );
-    Ok(())
-}
-
-#[test]
-fn fault_of_a_text(rt: HostRuntime) -> Result<(), Fail> {
-    match LratFormula::read(rt.alloc(), &b"1 0\n\n2 x 0"[..]) {
-        Err(DimacsFault::Malformed { line, kind }) => {
-            assert_eq!(rt; line, 3);
-            assert_eq!(rt; kind, DimacsKind::BadNumber);
+/// Shows whether the formula is refuted by itself, and what is answered to the proof then; or the
+/// fault of its text.
+fn show_formula(shown: &mut Shown, formula: Result<LratFormula, DimacsFault>) {
+    match formula {
+        Ok(formula) => {
+            let mut checker = formula.checker();
+            let refuted = if checker.refuted() { "refuted, " } else { "open, " };
+            shown.words(refuted);
+            show(shown, checker.check(PROOF));
         }
-        _ => assert!(rt; false),
+        Err(fault) => shown.value(&fault),
+    }
+}
+
+fn is_shown(
+    rt: &impl Abort,
+    alloc: Global,
+    formula: Result<LratFormula, DimacsFault>,
+    text: &str,
+) {
+    let mut shown = Shown::new(alloc);
+    show_formula(&mut shown, formula);
+    assert_eq!(rt; shown.text(), text);
+}
+
+const TEXTS: [(&str, &str); 2] = [
+    ("c\np cnf 1 2\n1 0 -1 0\n", "open, refuted"),
+    ("1 0\n\n2 x 0", "line 3: bad number"),
+];
+
+#[test]
+fn formulas(rt: HostRuntime) -> Result<(), Fail> {
+    let lit = Lit::from_dimacs(1).ok_or("in range")?;
+    let units = given(rt.alloc(), &[&[lit], &[!lit]])?;
+    is_shown(&rt, rt.alloc(), Ok(units), "open, refuted");
+    let empty = given(rt.alloc(), &[&[]])?.checker();
+    assert!(rt; empty.refuted());
+    for (text, shown) in TEXTS {
+        let formula = LratFormula::read(rt.alloc(), text.as_bytes());
+        is_shown(&rt, rt.alloc(), formula, shown);
     }
     Ok(())
 }
