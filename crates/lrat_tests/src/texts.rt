@@ -3,11 +3,10 @@ mod long_texts;
 mod rows;
 
 use lrat_text::{Hint, LineReader, LratLine};
-use std::io::Read;
-use test_streams::Shown;
+use test_streams::{Pieces, Shown};
 
 /// Shows each of so many lines and its number, and the text of a fault, to the end.
-fn show<R: Read + Drop>(shown: &mut Shown, reader: &mut LineReader<R>, lines: u32) {
+fn show(shown: &mut Shown, reader: &mut LineReader<Pieces<'_>>, lines: u32) {
     for _ in 0..lines {
         match reader.next_line() {
             Ok(Some(line)) => show_line(shown, line),

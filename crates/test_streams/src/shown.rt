@@ -33,6 +33,11 @@ impl Shown {
         let _ = self.text.push_str(words);
     }
 
+    /// A line of these words.
+    pub fn line(&mut self, words: &str) {
+        let _ = writeln!(self.text, "{words}");
+    }
+
     /// A number after these words.
     pub fn number(&mut self, before: &str, number: u64) {
         let _ = write!(self.text, "{before}{number}");
@@ -46,6 +51,11 @@ impl Shown {
     /// The text of a value, as of a fault.
     pub fn value<D: Display>(&mut self, value: &D) {
         let _ = write!(self.text, "{value}");
+    }
+
+    /// Nothing any more.
+    pub fn clear(&mut self) {
+        self.text.clear();
     }
 
     /// All that was shown.

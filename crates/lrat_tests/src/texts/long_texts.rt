@@ -3,7 +3,7 @@ use super::show;
 use lrat_text::LineReader;
 use std::alloc::Global;
 use std::process::Abort;
-use test_streams::Shown;
+use test_streams::{Pieces, Shown};
 
 /// A long comment, a long run of blanks, and a line with many literals and hints.
 const LONG: [(&str, u32); 9] = [
@@ -42,8 +42,8 @@ fn many_shown(alloc: Global) -> Shown {
 
 fn is_shown(rt: &impl Abort, alloc: Global, text: &Shown, expected: &Shown) {
     let mut shown = Shown::new(alloc);
-    let mut reader = LineReader::new(alloc, text.text().as_bytes());
-    show(&mut shown, &mut reader, 10000);
+    let pieces = Pieces::whole(text.text().as_bytes());
+    show(&mut shown, &mut LineReader::new(alloc, pieces), 10000);
     assert!(rt; shown.text() == expected.text());
 }
 
