@@ -143,7 +143,11 @@ fn runs(rt: HostRuntime) {
 /// A proof with a read that fails after it, how many bytes can be written, and what is answered.
 const FAILING: [(&[u8], usize, Outcome<'static>); 3] = [
     (b"1 0\n", usize::MAX, VERIFIED),
-    (b"1 2 0\n1", usize::MAX, ("", "proof: error reading proof: broken", 1)),
+    (
+        b"1 2 0\n1",
+        usize::MAX,
+        ("", "proof: error reading proof: broken", 1),
+    ),
     (b"1 0\n", 0, ("", "error writing: full", 1)),
 ];
 

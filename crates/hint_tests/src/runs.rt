@@ -58,7 +58,14 @@ fn runs(rt: HostRuntime) {
         for size in [usize::MAX, 1] {
             let cnf = Pieces::of_size(cnf.as_bytes(), size);
             let hints = Pieces::of_size(hints.as_bytes(), size);
-            is_answered(&rt, rt.alloc(), cnf, hints, Page::endless(rt.alloc()), outcome);
+            is_answered(
+                &rt,
+                rt.alloc(),
+                cnf,
+                hints,
+                Page::endless(rt.alloc()),
+                outcome,
+            );
         }
     }
 }

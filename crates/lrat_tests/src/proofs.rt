@@ -5,12 +5,12 @@ mod given;
 mod redundancy;
 mod rows;
 
-use crate::texts::line_ends;
-use lrat_checker::{LratChecker, LratFault};
 use self::redundancy::{GROUPS, LITERALS, REFUTED};
 use self::rows::{EMPTY_CLAUSES, FAR_LITERALS, IDS, LINES_OF_HINTS, PROPAGATION};
-use sat_formula::read_formula;
-use std::alloc::Global;
+use crate::texts::line_ends;
+use lrat_checker::{LratChecker, LratFault};
+use sat_formula::{CnfFormula, read_formula};
+use std::alloc::{AllocError, Global};
 use std::io::ErrorKind;
 use std::process::Abort;
 use std::test::Fail;
@@ -66,11 +66,11 @@ fn is_answered(
 fn is_newly_answered(
     rt: &impl Abort,
     alloc: Global,
-    formula: &str,
+    formula: &CnfFormula,
     proof: Pieces<'_>,
     answer: &str,
-) -> Result<(), Fail> {
-    let mut checker = new_checker(alloc, formula)?;
+) -> Result<(), AllocError> {
+    let mut checker = LratChecker::new(alloc, formula)?;
     is_answered(rt, alloc, &mut checker, proof, answer);
     Ok(())
 }
@@ -85,16 +85,14 @@ fn broken_after<'a>(answer: &'a str, lines: usize) -> &'a str {
     BROKEN
 }
 
-/// The proof is answered so, read at once and byte by byte.
-fn holds_whole(rt: &impl Abort, alloc: Global, (formula, proof, answer): Row) -> Result<(), Fail> {
-    let proof = proof.as_bytes();
-    is_newly_answered(rt, alloc, formula, Pieces::whole(proof), answer)?;
-    is_newly_answered(rt, alloc, formula, Pieces::of_size(proof, 1), answer)
-}
-
 /// Where a read fails, whichever it is, what is answered is that of the lines before it.
-fn holds_broken(rt: &impl Abort, alloc: Global, (formula, proof, answer): Row) -> Result<(), Fail> {
-    let proof = proof.as_bytes();
+fn is_answered_broken(
+    rt: &impl Abort,
+    alloc: Global,
+    formula: &CnfFormula,
+    proof: &[u8],
+    answer: &str,
+) -> Result<(), AllocError> {
     for read in 0..=proof.len() {
         let text = &proof[..read];
         let answer = broken_after(answer, line_ends(text));
@@ -104,33 +102,51 @@ fn holds_broken(rt: &impl Abort, alloc: Global, (formula, proof, answer): Row) -
     Ok(())
 }
 
-const TABLES: [&[Row]; 7] = [
-    &PROPAGATION,
-    &LINES_OF_HINTS,
-    &FAR_LITERALS,
-    &IDS,
-    &GROUPS,
-    &LITERALS,
-    &REFUTED,
-];
+/// The proof is answered so, read at once and byte by byte, and also where one of its reads fails.
+fn holds(rt: &impl Abort, alloc: Global, (formula, proof, answer): Row) -> Result<(), Fail> {
+    let formula = read_formula(alloc, formula.as_bytes())?;
+    let proof = proof.as_bytes();
+    is_newly_answered(rt, alloc, &formula, Pieces::whole(proof), answer)?;
+    is_newly_answered(rt, alloc, &formula, Pieces::of_size(proof, 1), answer)?;
+    is_answered_broken(rt, alloc, &formula, proof, answer)?;
+    Ok(())
+}
 
-/// The rows of all tables are answered so, also where one of their reads fails.
-#[test]
-fn rows(rt: HostRuntime) -> Result<(), Fail> {
-    for rows in TABLES {
-        for row in rows {
-            holds_whole(&rt, rt.alloc(), *row)?;
-            holds_broken(&rt, rt.alloc(), *row)?;
-        }
+fn hold(rt: &impl Abort, alloc: Global, rows: &[Row]) -> Result<(), Fail> {
+    for row in rows {
+        holds(rt, alloc, *row)?;
     }
     Ok(())
+}
+
+#[test]
+fn lines_by_propagation(rt: HostRuntime) -> Result<(), Fail> {
+    hold(&rt, rt.alloc(), &PROPAGATION)?;
+    hold(&rt, rt.alloc(), &LINES_OF_HINTS)
+}
+
+#[test]
+fn literals_and_ids(rt: HostRuntime) -> Result<(), Fail> {
+    hold(&rt, rt.alloc(), &FAR_LITERALS)?;
+    hold(&rt, rt.alloc(), &IDS)
+}
+
+#[test]
+fn redundant_lines(rt: HostRuntime) -> Result<(), Fail> {
+    hold(&rt, rt.alloc(), &GROUPS)?;
+    hold(&rt, rt.alloc(), &LITERALS)?;
+    hold(&rt, rt.alloc(), &REFUTED)
 }
 
 /// The empty clause of a formula refutes it, whatever the proof.
 #[test]
 fn empty_clauses_of_formulas(rt: HostRuntime) -> Result<(), Fail> {
-    for row in EMPTY_CLAUSES {
-        holds_whole(&rt, rt.alloc(), row)?;
+    for (formula, proof, answer) in EMPTY_CLAUSES {
+        for size in [usize::MAX, 1] {
+            let mut checker = new_checker(rt.alloc(), formula)?;
+            let pieces = Pieces::of_size(proof.as_bytes(), size);
+            is_answered(&rt, rt.alloc(), &mut checker, pieces, answer);
+        }
     }
     Ok(())
 }

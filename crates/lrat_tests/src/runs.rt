@@ -88,7 +88,14 @@ fn runs(rt: HostRuntime) {
     for (cnf, proof, outcome) in RUNS {
         let cnf = Pieces::whole(cnf.as_bytes());
         let proof = Pieces::whole(proof.as_bytes());
-        is_answered(&rt, rt.alloc(), cnf, proof, Page::endless(rt.alloc()), outcome);
+        is_answered(
+            &rt,
+            rt.alloc(),
+            cnf,
+            proof,
+            Page::endless(rt.alloc()),
+            outcome,
+        );
     }
 }
 

@@ -16,7 +16,11 @@ fn show_lines(shown: &mut Shown, checker: &mut LratChecker, lines: &[LratLine<'_
             Ok(()) => shown.words("accepted"),
             Err(fault) => shown.value(&fault),
         }
-        let refuted = if checker.refuted() { ", refuted; " } else { "; " };
+        let refuted = if checker.refuted() {
+            ", refuted; "
+        } else {
+            "; "
+        };
         shown.words(refuted);
     }
 }

@@ -25,7 +25,11 @@ fn show_formula(shown: &mut Shown, formula: Result<LratFormula, DimacsFault>) {
     match formula {
         Ok(formula) => {
             let mut checker = formula.checker();
-            let refuted = if checker.refuted() { "refuted, " } else { "open, " };
+            let refuted = if checker.refuted() {
+                "refuted, "
+            } else {
+                "open, "
+            };
             shown.words(refuted);
             show(shown, checker.check(PROOF));
         }
@@ -33,12 +37,7 @@ fn show_formula(shown: &mut Shown, formula: Result<LratFormula, DimacsFault>) {
     }
 }
 
-fn is_shown(
-    rt: &impl Abort,
-    alloc: Global,
-    formula: Result<LratFormula, DimacsFault>,
-    text: &str,
-) {
+fn is_shown(rt: &impl Abort, alloc: Global, formula: Result<LratFormula, DimacsFault>, text: &str) {
     let mut shown = Shown::new(alloc);
     show_formula(&mut shown, formula);
     assert_eq!(rt; shown.text(), text);
