@@ -5,7 +5,6 @@ use frat_text::FratReader;
 use sat_formula::read_formula;
 use std::alloc::Global;
 use std::process::Abort;
-use std::test::Fail;
 use test_streams::Shown;
 
 /// A formula as DIMACS, a proof, and what is told: the lines, or the fault; the clauses of the
@@ -86,8 +85,8 @@ fn show_row(shown: &mut Shown, elaborator: &mut Elaborator, reader: &mut FratRea
     show_proof(shown, elaborator);
 }
 
-fn is_told(rt: &impl Abort, alloc: Global, (formula, proof, told): Row) -> Result<(), Fail> {
-    let formula = read_formula(alloc, formula.as_bytes())?;
+fn is_told(rt: &impl Abort, alloc: Global, (formula, proof, told): Row) {
+    let formula = read_formula(alloc, formula.as_bytes()).expect(rt, "a formula");
     let mut elaborator = Elaborator::new(alloc);
     let mut shown = Shown::new(alloc);
     match add_formula(&mut elaborator, &formula) {
@@ -98,13 +97,11 @@ fn is_told(rt: &impl Abort, alloc: Global, (formula, proof, told): Row) -> Resul
         Err(fault) => shown.value(&fault),
     }
     assert_eq!(rt; shown.text(), told);
-    Ok(())
 }
 
 #[test]
-fn rows(rt: HostRuntime) -> Result<(), Fail> {
+fn rows(rt: HostRuntime) {
     for row in ROWS {
-        is_told(&rt, rt.alloc(), row)?;
+        is_told(&rt, rt.alloc(), row);
     }
-    Ok(())
 }

@@ -5,7 +5,6 @@ use hint_checker::{HintChecker, HintFault};
 use sat_formula::read_formula;
 use std::alloc::Global;
 use std::process::Abort;
-use std::test::Fail;
 use test_streams::Shown;
 
 type Answer = Result<bool, HintFault>;
@@ -135,9 +134,9 @@ const FAULTS: [(HintFault, &str); 6] = [
 ];
 
 /// A new checker of a formula.
-pub fn new_checker(alloc: Global, formula: &str) -> Result<HintChecker, Fail> {
-    let formula = read_formula(alloc, formula.as_bytes())?;
-    Ok(HintChecker::new(alloc, &formula)?)
+pub fn new_checker(rt: &impl Abort, alloc: Global, formula: &str) -> HintChecker {
+    let formula = read_formula(alloc, formula.as_bytes()).expect(rt, "a formula");
+    HintChecker::new(alloc, &formula).expect(rt, "a checker")
 }
 
 /// The texts are answered so, one after the other.
@@ -150,24 +149,22 @@ fn answers(rt: &impl Abort, checker: &mut HintChecker, texts: &[(&str, Answer)])
 const TABLES: [&[Row]; 5] = [&CALLS, &NOTHING, &ADDED, &PARTS, &DELETED];
 
 #[test]
-fn rows(rt: HostRuntime) -> Result<(), Fail> {
+fn rows(rt: HostRuntime) {
     for rows in TABLES {
         for (formula, texts) in rows {
-            let mut checker = new_checker(rt.alloc(), formula)?;
+            let mut checker = new_checker(&rt, rt.alloc(), formula);
             answers(&rt, &mut checker, texts);
         }
     }
-    Ok(())
 }
 
 #[test]
-fn malformed_lines(rt: HostRuntime) -> Result<(), Fail> {
+fn malformed_lines(rt: HostRuntime) {
     for line in MALFORMED {
-        let mut checker = new_checker(rt.alloc(), "")?;
+        let mut checker = new_checker(&rt, rt.alloc(), "");
         let malformed = Err(HintFault::Malformed { line: 1 });
         answers(&rt, &mut checker, &[(line, malformed)]);
     }
-    Ok(())
 }
 
 #[test]

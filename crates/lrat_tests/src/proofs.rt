@@ -10,10 +10,9 @@ use self::rows::{EMPTY_CLAUSES, FAR_LITERALS, IDS, LINES_OF_HINTS, PROPAGATION};
 use crate::texts::line_ends;
 use lrat_checker::{LratChecker, LratFault};
 use sat_formula::{CnfFormula, read_formula};
-use std::alloc::{AllocError, Global};
+use std::alloc::Global;
 use std::io::ErrorKind;
 use std::process::Abort;
-use std::test::Fail;
 use test_streams::{Pieces, Shown};
 
 /// A formula, and a proof with its answer.
@@ -36,9 +35,9 @@ const BROKEN: &str = "error reading proof: broken";
 const LINES: [(usize, &str); 3] = [(1, "line 1:"), (2, "line 2:"), (3, "line 3:")];
 
 /// A new checker of a formula.
-fn new_checker(alloc: Global, formula: &str) -> Result<LratChecker, Fail> {
-    let formula = read_formula(alloc, formula.as_bytes())?;
-    Ok(LratChecker::new(alloc, &formula)?)
+fn new_checker(rt: &impl Abort, alloc: Global, formula: &str) -> LratChecker {
+    let formula = read_formula(alloc, formula.as_bytes()).expect(rt, "a formula");
+    LratChecker::new(alloc, &formula).expect(rt, "a checker")
 }
 
 /// Shows an answer in words.
@@ -69,10 +68,9 @@ fn is_newly_answered(
     formula: &CnfFormula,
     proof: Pieces<'_>,
     answer: &str,
-) -> Result<(), AllocError> {
-    let mut checker = LratChecker::new(alloc, formula)?;
+) {
+    let mut checker = LratChecker::new(alloc, formula).expect(rt, "a checker");
     is_answered(rt, alloc, &mut checker, proof, answer);
-    Ok(())
 }
 
 /// What is answered where so many lines were read to their ends before a read fails.
@@ -92,61 +90,57 @@ fn is_answered_broken(
     formula: &CnfFormula,
     proof: &[u8],
     answer: &str,
-) -> Result<(), AllocError> {
+) {
     for read in 0..=proof.len() {
         let text = &proof[..read];
         let answer = broken_after(answer, line_ends(text));
         let broken = Pieces::broken(text, ErrorKind::Interrupted);
-        is_newly_answered(rt, alloc, formula, broken, answer)?;
+        is_newly_answered(rt, alloc, formula, broken, answer);
     }
-    Ok(())
 }
 
 /// The proof is answered so, read at once and byte by byte, and also where one of its reads fails.
-fn holds(rt: &impl Abort, alloc: Global, (formula, proof, answer): Row) -> Result<(), Fail> {
-    let formula = read_formula(alloc, formula.as_bytes())?;
+fn holds(rt: &impl Abort, alloc: Global, (formula, proof, answer): Row) {
+    let formula = read_formula(alloc, formula.as_bytes()).expect(rt, "a formula");
     let proof = proof.as_bytes();
-    is_newly_answered(rt, alloc, &formula, Pieces::whole(proof), answer)?;
-    is_newly_answered(rt, alloc, &formula, Pieces::of_size(proof, 1), answer)?;
-    is_answered_broken(rt, alloc, &formula, proof, answer)?;
-    Ok(())
+    is_newly_answered(rt, alloc, &formula, Pieces::whole(proof), answer);
+    is_newly_answered(rt, alloc, &formula, Pieces::of_size(proof, 1), answer);
+    is_answered_broken(rt, alloc, &formula, proof, answer);
 }
 
-fn hold(rt: &impl Abort, alloc: Global, rows: &[Row]) -> Result<(), Fail> {
+fn hold(rt: &impl Abort, alloc: Global, rows: &[Row]) {
     for row in rows {
-        holds(rt, alloc, *row)?;
+        holds(rt, alloc, *row);
     }
-    Ok(())
 }
 
 #[test]
-fn lines_by_propagation(rt: HostRuntime) -> Result<(), Fail> {
-    hold(&rt, rt.alloc(), &PROPAGATION)?;
-    hold(&rt, rt.alloc(), &LINES_OF_HINTS)
+fn lines_by_propagation(rt: HostRuntime) {
+    hold(&rt, rt.alloc(), &PROPAGATION);
+    hold(&rt, rt.alloc(), &LINES_OF_HINTS);
 }
 
 #[test]
-fn literals_and_ids(rt: HostRuntime) -> Result<(), Fail> {
-    hold(&rt, rt.alloc(), &FAR_LITERALS)?;
-    hold(&rt, rt.alloc(), &IDS)
+fn literals_and_ids(rt: HostRuntime) {
+    hold(&rt, rt.alloc(), &FAR_LITERALS);
+    hold(&rt, rt.alloc(), &IDS);
 }
 
 #[test]
-fn redundant_lines(rt: HostRuntime) -> Result<(), Fail> {
-    hold(&rt, rt.alloc(), &GROUPS)?;
-    hold(&rt, rt.alloc(), &LITERALS)?;
-    hold(&rt, rt.alloc(), &REFUTED)
+fn redundant_lines(rt: HostRuntime) {
+    hold(&rt, rt.alloc(), &GROUPS);
+    hold(&rt, rt.alloc(), &LITERALS);
+    hold(&rt, rt.alloc(), &REFUTED);
 }
 
 /// The empty clause of a formula refutes it, whatever the proof.
 #[test]
-fn empty_clauses_of_formulas(rt: HostRuntime) -> Result<(), Fail> {
+fn empty_clauses_of_formulas(rt: HostRuntime) {
     for (formula, proof, answer) in EMPTY_CLAUSES {
         for size in [usize::MAX, 1] {
-            let mut checker = new_checker(rt.alloc(), formula)?;
+            let mut checker = new_checker(&rt, rt.alloc(), formula);
             let pieces = Pieces::of_size(proof.as_bytes(), size);
             is_answered(&rt, rt.alloc(), &mut checker, pieces, answer);
         }
     }
-    Ok(())
 }

@@ -4,7 +4,6 @@ use answer_text::{AnswerFault, Literals, read_answer};
 use sat_formula::{CnfFormula, Lit, read_formula};
 use std::alloc::Global;
 use std::process::Abort;
-use std::test::Fail;
 use test_streams::{Pieces, Shown};
 
 /// Shows the literals among the first four variables, or the text of the fault.
@@ -125,11 +124,10 @@ fn show_met(shown: &mut Shown, literals: &Literals, clauses: &CnfFormula) {
 }
 
 #[test]
-fn clauses(rt: HostRuntime) -> Result<(), Fail> {
-    let clauses = read_formula(rt.alloc(), CLAUSES)?;
-    let literals = read_answer(rt.alloc(), b"1 -2 0".as_slice())?;
+fn clauses(rt: HostRuntime) {
+    let clauses = read_formula(rt.alloc(), CLAUSES).expect(&rt, "clauses");
+    let literals = read_answer(rt.alloc(), b"1 -2 0".as_slice()).expect(&rt, "literals");
     let mut shown = Shown::new(rt.alloc());
     show_met(&mut shown, &literals, &clauses);
     assert_eq!(rt; shown.text(), MET);
-    Ok(())
 }

@@ -8,7 +8,6 @@ use sat_formula::Lit;
 use sat_hints::{LratWriter, WriterFault};
 use std::alloc::Global;
 use std::process::Abort;
-use std::test::Fail;
 use test_streams::Shown;
 
 /// What a step says of a clause.
@@ -398,9 +397,10 @@ const IN_A_BOX: [(Kind, u64, &str); 5] = [
 
 fn plays_in_a_box(rt: &impl Abort, alloc: Global, processor: &mut dyn ProofProcessor, one: Lit) {
     let variables = Variables::new(alloc);
+    let clause = [one];
     for (kind, id, text) in IN_A_BOX {
         let mut shown = Shown::new(alloc);
-        let step = step_of(kind, id, &[one], one);
+        let step = step_of(kind, id, &clause, one);
         if let Err(fault) = processor.process_step(&step, CheckerData(&variables)) {
             shown.value(&fault);
         }
@@ -410,10 +410,10 @@ fn plays_in_a_box(rt: &impl Abort, alloc: Global, processor: &mut dyn ProofProce
 }
 
 #[test]
-fn faults_of_a_box(rt: HostRuntime) -> Result<(), Fail> {
-    let one = Lit::from_dimacs(1).ok_or("no literal")?;
+fn faults_of_a_box(rt: HostRuntime) {
+    let one = Lit::from_dimacs(1).expect(&rt, "a literal");
     let writer = LratWriter::new(rt.alloc(), 1);
-    let mut processor: Box<dyn ProofProcessor> = Box::new(rt.alloc(), writer)?;
+    let boxed = Box::new(rt.alloc(), writer);
+    let mut processor: Box<dyn ProofProcessor> = boxed.expect(&rt, "a box");
     plays_in_a_box(&rt, rt.alloc(), &mut *processor, one);
-    Ok(())
 }

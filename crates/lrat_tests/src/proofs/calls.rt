@@ -4,7 +4,6 @@ use lrat_checker::LratChecker;
 use std::alloc::Global;
 use std::io::ErrorKind;
 use std::process::Abort;
-use std::test::Fail;
 use test_streams::{Pieces, Shown};
 
 /// Which call is made with a proof, and whether a read fails at its end.
@@ -132,12 +131,11 @@ const CALLS: [(&str, Calls); 18] = [
 ];
 
 #[test]
-fn calls(rt: HostRuntime) -> Result<(), Fail> {
+fn calls(rt: HostRuntime) {
     for (formula, calls) in CALLS {
-        let mut checker = new_checker(rt.alloc(), formula)?;
+        let mut checker = new_checker(&rt, rt.alloc(), formula);
         answers(&rt, rt.alloc(), &mut checker, calls);
     }
-    Ok(())
 }
 
 /// Checks a text, which is answered so.
@@ -175,10 +173,9 @@ fn comes_again(rt: &impl Abort, alloc: Global, checker: &mut LratChecker) {
 }
 
 #[test]
-fn long_proofs(rt: HostRuntime) -> Result<(), Fail> {
-    let mut four = new_checker(rt.alloc(), FOUR)?;
+fn long_proofs(rt: HostRuntime) {
+    let mut four = new_checker(&rt, rt.alloc(), FOUR);
     deletes_many(&rt, rt.alloc(), &mut four);
-    let mut three = new_checker(rt.alloc(), THREE)?;
+    let mut three = new_checker(&rt, rt.alloc(), THREE);
     comes_again(&rt, rt.alloc(), &mut three);
-    Ok(())
 }

@@ -6,7 +6,6 @@ use sat_formula::Lit;
 use std::alloc::Global;
 use std::fmt::Display;
 use std::process::Abort;
-use std::test::Fail;
 use test_streams::Shown;
 
 /// Shows what is answered to each line, and whether the formula is refuted then.
@@ -47,17 +46,16 @@ const LINES: &str = "accepted; accepted; accepted, refuted; id is taken, refuted
     an earlier line was not accepted, refuted; ";
 
 #[test]
-fn single_lines(rt: HostRuntime) -> Result<(), Fail> {
-    let one = [Lit::from_dimacs(1).ok_or("in range")?];
-    let mut four = new_checker(rt.alloc(), FOUR)?;
-    let mut units = new_checker(rt.alloc(), UNITS)?;
+fn single_lines(rt: HostRuntime) {
+    let one = [Lit::from_dimacs(1).expect(&rt, "in range")];
+    let mut four = new_checker(&rt, rt.alloc(), FOUR);
+    let mut units = new_checker(&rt, rt.alloc(), UNITS);
     let mut shown = Shown::new(rt.alloc());
     show_refutation(&mut shown, &mut four, &one);
     show(&mut shown, units.check(b"3 0 1 2 0\n4 0 1 2".as_slice()));
     shown.words("; ");
     show_lines(&mut shown, &mut units, &[LratLine::Delete { ids: &[] }]);
     assert_eq!(rt; shown.text(), LINES);
-    Ok(())
 }
 
 const CAUSES: [(LratCause, &str); 6] = [

@@ -2,21 +2,20 @@
 use super::show;
 use lrat_checker::LratFormula;
 use sat_formula::{DimacsFault, Lit};
-use std::alloc::{AllocError, Global};
+use std::alloc::Global;
 use std::process::Abort;
-use std::test::Fail;
 use test_streams::Shown;
 
 /// The empty clause, by two units.
 const PROOF: &[u8] = b"3 0 1 2 0\n";
 
 /// A formula of these clauses.
-fn given(alloc: Global, clauses: &[&[Lit]]) -> Result<LratFormula, AllocError> {
-    let mut formula = LratFormula::new(alloc)?;
+fn given(rt: &impl Abort, alloc: Global, clauses: &[&[Lit]]) -> LratFormula {
+    let mut formula = LratFormula::new(alloc).expect(rt, "a formula");
     for clause in clauses {
-        formula.add_clause(clause)?;
+        formula.add_clause(clause).expect(rt, "a clause");
     }
-    Ok(formula)
+    formula
 }
 
 /// Shows whether the formula is refuted by itself, and what is answered to the proof then; or the
@@ -49,15 +48,14 @@ const TEXTS: [(&str, &str); 2] = [
 ];
 
 #[test]
-fn formulas(rt: HostRuntime) -> Result<(), Fail> {
-    let lit = Lit::from_dimacs(1).ok_or("in range")?;
-    let units = given(rt.alloc(), &[&[lit], &[!lit]])?;
+fn formulas(rt: HostRuntime) {
+    let lit = Lit::from_dimacs(1).expect(&rt, "in range");
+    let units = given(&rt, rt.alloc(), &[&[lit], &[!lit]]);
     is_shown(&rt, rt.alloc(), Ok(units), "open, refuted");
-    let empty = given(rt.alloc(), &[&[]])?.checker();
+    let empty = given(&rt, rt.alloc(), &[&[]]).checker();
     assert!(rt; empty.refuted());
     for (text, shown) in TEXTS {
         let formula = LratFormula::read(rt.alloc(), text.as_bytes());
         is_shown(&rt, rt.alloc(), formula, shown);
     }
-    Ok(())
 }
