@@ -89,13 +89,9 @@ fn is_told(rt: &impl Abort, alloc: Global, (formula, proof, told): Row) {
     let formula = read_formula(alloc, formula.as_bytes()).expect(rt, "a formula");
     let mut elaborator = Elaborator::new(alloc);
     let mut shown = Shown::new(alloc);
-    match add_formula(&mut elaborator, &formula) {
-        Ok(()) => {
-            let mut reader = FratReader::new(alloc, proof.as_bytes());
-            show_row(&mut shown, &mut elaborator, &mut reader);
-        }
-        Err(fault) => shown.value(&fault),
-    }
+    add_formula(&mut elaborator, &formula).expect(rt, "clauses");
+    let mut reader = FratReader::new(alloc, proof.as_bytes());
+    show_row(&mut shown, &mut elaborator, &mut reader);
     assert_eq!(rt; shown.text(), told);
 }
 

@@ -50,12 +50,7 @@ fn show_line(shown: &mut Shown, line: LratLine<'_>) {
                 shown.signed(" ", lit.to_dimacs());
             }
             shown.words(" 0");
-            for hint in hints {
-                match *hint {
-                    Hint::Along(id) => shown.number(" ", id),
-                    Hint::Against(id) => shown.number(" -", id),
-                }
-            }
+            show_hints(shown, hints);
         }
         LratLine::Delete { ids } => {
             shown.words("d");
@@ -65,6 +60,15 @@ fn show_line(shown: &mut Shown, line: LratLine<'_>) {
         }
     }
     shown.words("; ");
+}
+
+fn show_hints(shown: &mut Shown, hints: &[Hint]) {
+    for hint in hints {
+        match *hint {
+            Hint::Along(id) => shown.number(" ", id),
+            Hint::Against(id) => shown.number(" -", id),
+        }
+    }
 }
 
 fn show_lines(shown: &mut Shown, elaborator: &mut Elaborator) {
@@ -108,39 +112,33 @@ pub(crate) fn show_proof(shown: &mut Shown, elaborator: &mut Elaborator) {
     }
 }
 
-/// Takes in a row, up to a conflict, and shows how many clauses are added. What comes out of order
-/// is refused, or says nothing: the lines before they are made are none.
-fn take(
-    shown: &mut Shown,
-    elaborator: &mut Elaborator,
-    formula: &CnfFormula,
-    deleted: &CnfFormula,
-    lemmas: &CnfFormula,
-) -> Result<(), ElaborateFault> {
-    add_formula(elaborator, formula)?;
-    shown.words("late clause: ");
-    if let Err(fault) = elaborator.add_clause(&[]) {
-        shown.value(&fault);
+/// Shows what is answered to a clause that comes once the proof has begun.
+fn show_late(shown: &mut Shown, elaborator: &mut Elaborator) {
+    match elaborator.add_clause(&[]) {
+        Ok(()) => shown.words("a late clause is taken; "),
+        Err(fault) => {
+            shown.words("late clause: ");
+            shown.value(&fault);
+        }
     }
-    delete_clauses(elaborator, deleted)?;
-    shown.number("; ", add_lemmas(elaborator, lemmas)?);
-    shown.words(" added: ");
-    show_lines(shown, elaborator);
-    Ok(())
 }
 
-/// Shows all of a row.
+/// Shows all of a row. What comes out of order is refused, or says nothing: the lines before they
+/// are made are none.
 fn show_row(
+    rt: &impl Abort,
     shown: &mut Shown,
     elaborator: &mut Elaborator,
-    formula: &CnfFormula,
-    deleted: &CnfFormula,
-    lemmas: &CnfFormula,
+    (formula, deleted, lemmas): (&CnfFormula, &CnfFormula, &CnfFormula),
 ) {
-    match take(shown, elaborator, formula, deleted, lemmas) {
-        Ok(()) => show_proof(shown, elaborator),
-        Err(fault) => shown.value(&fault),
-    }
+    add_formula(elaborator, formula).expect(rt, "a formula");
+    show_late(shown, elaborator);
+    delete_clauses(elaborator, deleted).expect(rt, "deletions");
+    let count = add_lemmas(elaborator, lemmas).expect(rt, "additions");
+    shown.number("; ", count);
+    shown.words(" added: ");
+    show_lines(shown, elaborator);
+    show_proof(shown, elaborator);
 }
 
 fn is_told(rt: &impl Abort, alloc: Global, (formula, deleted, lemmas, told): Row) {
@@ -148,13 +146,8 @@ fn is_told(rt: &impl Abort, alloc: Global, (formula, deleted, lemmas, told): Row
     let deleted = read_formula(alloc, deleted.as_bytes()).expect(rt, "deletions");
     let lemmas = read_formula(alloc, lemmas.as_bytes()).expect(rt, "additions");
     let mut shown = Shown::new(alloc);
-    show_row(
-        &mut shown,
-        &mut Elaborator::new(alloc),
-        &formula,
-        &deleted,
-        &lemmas,
-    );
+    let parts = (&formula, &deleted, &lemmas);
+    show_row(rt, &mut shown, &mut Elaborator::new(alloc), parts);
     assert_eq!(rt; shown.text(), told);
 }
 

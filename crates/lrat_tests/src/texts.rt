@@ -34,18 +34,22 @@ fn show_line(shown: &mut Shown, line: LratLine<'_>) {
                 shown.signed(" ", lit.to_dimacs());
             }
             shown.words(" 0");
-            for hint in hints {
-                match *hint {
-                    Hint::Along(id) => shown.number(" ", id),
-                    Hint::Against(id) => shown.number(" -", id),
-                }
-            }
+            show_hints(shown, hints);
         }
         LratLine::Delete { ids } => {
             shown.words("d");
             for id in ids {
                 shown.number(" ", *id);
             }
+        }
+    }
+}
+
+fn show_hints(shown: &mut Shown, hints: &[Hint]) {
+    for hint in hints {
+        match *hint {
+            Hint::Along(id) => shown.number(" ", id),
+            Hint::Against(id) => shown.number(" -", id),
         }
     }
 }
