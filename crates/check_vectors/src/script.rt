@@ -106,7 +106,12 @@ fn play_call(alloc: Global, played: &mut Played, line: &str, size: usize) -> Res
 
 fn show_since(script: &mut Shown, before: &Seen, after: &Seen) {
     show_added(script, "> + ", before.steps.text(), after.steps.text());
-    show_added(script, "> ~ ", before.transcript.text(), after.transcript.text());
+    show_added(
+        script,
+        "> ~ ",
+        before.transcript.text(),
+        after.transcript.text(),
+    );
     if after.answer.text() != "Ok" {
         script.words("> ");
         script.line(after.answer.text());

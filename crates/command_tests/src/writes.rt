@@ -91,8 +91,11 @@ const JOINED: [Row; 2] = [
 
 const LINE: &[u8] = b"s VERIFIED UNSAT\n";
 
-const FULL: &[(Call, &[u8], Option<ErrorKind>)] =
-    &[(Call::Write, LINE, Some(ErrorKind::StorageFull))];
+const FULL: &[(Call, &[u8], Option<ErrorKind>)] = &[(
+    Call::Write,
+    LINE,
+    Some(ErrorKind::StorageFull),
+)];
 
 /// Of a writer that takes nothing.
 const UNTAKEN: Row = (

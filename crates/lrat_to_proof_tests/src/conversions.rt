@@ -191,7 +191,13 @@ fn converts(
     width: HashWidth,
     (status, bytes): (u8, &[u8]),
 ) {
-    let ended = ran(alloc, Pieces::whole(cnf), proof, width, Page::endless(alloc));
+    let ended = ran(
+        alloc,
+        Pieces::whole(cnf),
+        proof,
+        width,
+        Page::endless(alloc),
+    );
     assert_eq!(rt; ended.status(), status);
     assert_eq!(rt; ended.bytes(), bytes);
 }

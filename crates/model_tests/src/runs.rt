@@ -110,7 +110,14 @@ fn runs(rt: HostRuntime) {
     for (cnf, literals, outcome) in RUNS {
         let cnf = Pieces::whole(cnf);
         let literals = Pieces::whole(literals);
-        is_answered(&rt, rt.alloc(), cnf, literals, Page::endless(rt.alloc()), outcome);
+        is_answered(
+            &rt,
+            rt.alloc(),
+            cnf,
+            literals,
+            Page::endless(rt.alloc()),
+            outcome,
+        );
     }
 }
 

@@ -97,7 +97,11 @@ fn is_shown(
     show(&mut shown, alloc, &mut DimacsReader::new(alloc, pieces));
     let mut expected = Shown::new(alloc);
     show_expected(&mut expected, answers, read);
-    assert_eq!(rt; shown.text(), expected.text(), "by {size} bytes, {read} read");
+    assert_eq!(rt;
+        shown.text(),
+        expected.text(),
+        "by {size} bytes, {read} read"
+    );
 }
 
 /// The text is answered so at once, in pieces, and where any of its reads fails.

@@ -170,13 +170,7 @@ const WITHOUT_A_LINE: Script = (
     2,
     &[
         (Kind::Add, 0, &[1], "", ""),
-        (
-            Kind::KeepImplied { propagations: &[1] },
-            0,
-            &[1],
-            "",
-            "",
-        ),
+        (Kind::KeepImplied { propagations: &[1] }, 0, &[1], "", ""),
         (Kind::MakeIrredundant, 0, &[1], "", ""),
         (Kind::Model, 0, &[1], "", ""),
         (Kind::Assumptions, 0, &[1], "", ""),

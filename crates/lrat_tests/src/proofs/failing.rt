@@ -39,8 +39,8 @@ fn show_refutation(shown: &mut Shown, checker: &mut LratChecker, one: &[Lit]) {
     show_lines(shown, checker, &[unit, deletion, empty, empty, empty]);
 }
 
-/// What is answered to the lines of a refutation, of which the last one comes three times; to a text
-/// with a fault, whose first line refutes the formula; and to a line after it.
+/// What is answered to the lines of a refutation, of which the last one comes three times; to a
+/// text with a fault, whose first line refutes the formula; and to a line after it.
 const LINES: &str = "accepted; accepted; accepted, refuted; id is taken, refuted; \
     an earlier line was not accepted, refuted; line 2: unfinished line; \
     an earlier line was not accepted, refuted; ";
