@@ -91,20 +91,23 @@ def widths_in_turn():
     return dimacs(chain(50_000)), (width(63) + width(64)) * 100 + END
 
 
-def renamings(clauses):
-    # the unit 1 makes the derived clause true, and the variable that is named stands in no clause
-    apart = clauses + 10
+def renamings(clauses, named):
+    # the unit 1 makes the derived clause true
     passed = derive([1], [])
-    steps = b"".join(solver_name(apart, 1 + place % 100) + passed for place in range(100_000))
+    steps = b"".join(solver_name(named, 1 + place % 100) + passed for place in range(100_000))
     return dimacs([[1]] + [[-i, i + 1] for i in range(2, clauses + 2)]), steps + END
 
 
 def renamings_of_100():
-    return renamings(100)
+    return renamings(100, 110)
 
 
 def renamings_of_1000():
-    return renamings(1_000)
+    return renamings(1_000, 1_010)
+
+
+def renamings_in_one_clause():
+    return renamings(1_000, 2)
 
 
 def two_buckets():
@@ -194,6 +197,7 @@ CASES = {
         widths_in_turn,
         renamings_of_100,
         renamings_of_1000,
+        renamings_in_one_clause,
         two_buckets,
         removals,
         models,

@@ -15,7 +15,8 @@ module _ (old new : List ℕ) (kept : take (length old) new ≡ old) where
   lits_of-kept : (c : ClauseLits) → IsWithin c old → lits_of c new ≡ lits_of c old
   lits_of-kept (Two ls) w = refl
   lits_of-kept (Three ls) w = refl
-  lits_of-kept (Long start len) w =
+  lits_of-kept (Long start after_four) w =
+      let len = after_four + 4 in
       let n : length old ≡ start + (length old - start) = omega (arith, w) in
       let cut = ap (drop start) (cc) ∙ drop-take start (length old - start) new in
       sym (ap (take len) cut ∙ take-take len (length old - start) (drop start new) (omega (arith, w)))

@@ -19,7 +19,7 @@ use Rattle.clause_store.specs.declared.clauses.buckets.Bucket.{Bucket}
 use Rattle.clause_store.specs.declared.clauses.Clause.{Clause}
 use Rattle.clause_store.specs.declared.clauses.Clauses.{Clauses}
 use Rattle.clause_store.specs.declared.hash.ClauseHasher.{ClauseHasher}
-use Rattle.clause_store.specs.Buckets.{Buckets, bucket_items, clauses_of}
+use Rattle.clause_store.specs.Buckets.{AreWithin, Buckets, bucket_items, clauses_of}
 use Rattle.clause_store.specs.Lits.{IsWithin}
 use Rattle.clause_store.specs.StateOf.{hash_of}
 use Rattle.clause_store.specs.Store.{IsIndexed}
@@ -45,6 +45,18 @@ module _ (buffer : List ℕ) (m : Buckets) where
 
   pub found_all : IsUnique nat_eq m → All (λ e. get nat_eq m e.0 ≡ Some e.1) m.entries
   found_all unique i d l = hash_map_get_place nat_eq_equiv m i _ _ unique (slice_get-get_or m.entries i d l)
+
+  -- they lie in the buffer
+  entries_within : AreWithin buffer m → (es : List (ℕ × Bucket)) → All (λ e. get nat_eq m e.0 ≡ Some e.1) es → All (λ c. IsWithin c.lits buffer) (flat_map clauses_of (values_of es))
+  entries_within within [] found = All-nil (λ c. IsWithin c.lits buffer)
+  entries_within within (e ∷ es) found =
+      let P : Clause → Type 0 = λ c. IsWithin c.lits buffer in
+      All-append P _ _
+      (subst (λ o. All P (bucket_items o)) (found 0 e (omega arith)) (within e.0))
+      (entries_within within es (λ k d l. found (suc k) d (omega arith)))
+
+  pub all_within : IsUnique nat_eq m → AreWithin buffer m → All (λ c. IsWithin c.lits buffer) (flat_map clauses_of (values m))
+  all_within unique within = entries_within within _ (found_all unique)
 
 ids_rise-by : (all : List Clause) → IsNonDecreasingBy (λ c. c.id) all → IsNonDecreasing (map (λ c. c.id) all)
 ids_rise-by [] up i j d le l = absurd (omega arith)
@@ -83,16 +95,8 @@ module _ (h : ClauseHasher) (cs : Clauses) (es : List Stored) (f : IsIndexed h c
       ids-same (x ∷ xs) = cc (ids-same xs)
 
   -- they lie in the buffer
-  all_within : (xs : List (ℕ × Bucket)) → All (λ e. get nat_eq cs.buckets e.0 ≡ Some e.1) xs → All (λ c. IsWithin c.lits cs.literal_buffer.items) (flat_map clauses_of (values_of xs))
-  all_within [] found = All-nil (λ c. IsWithin c.lits cs.literal_buffer.items)
-  all_within (e ∷ xs) found =
-      let P : Clause → Type 0 = λ c. IsWithin c.lits cs.literal_buffer.items in
-      All-append P _ _
-      (subst (λ o. All P (bucket_items o)) (found 0 e (omega arith)) (f.within e.0))
-      (all_within xs (λ k d l. found (suc k) d (omega arith)))
-
   pub walked_within : All (λ c. IsWithin c.lits cs.literal_buffer.items) (flat_map clauses_of (values cs.buckets))
-  walked_within = all_within _ (found_all cs.literal_buffer.items cs.buckets unique)
+  walked_within = all_within cs.literal_buffer.items cs.buckets unique f.within
 
   pub gathered_within : (all : List Clause) → IsPermutation (flat_map clauses_of (values cs.buckets)) all → All (λ c. IsWithin c.lits cs.literal_buffer.items) all
   gathered_within all p = All-permutation (λ c. IsWithin c.lits cs.literal_buffer.items) _ all p walked_within

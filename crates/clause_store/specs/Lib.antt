@@ -11,6 +11,7 @@ pub mod Idle
 pub mod PartsInvariant
 pub mod Lits
 pub mod Lowered
+pub mod Moved
 pub mod Names
 pub mod NewParts
 pub mod Quiet

@@ -41,7 +41,7 @@ pub fn run_check<F: Read + Drop, H: Read + Drop, W: Write>(
         Ok(formula) => formula,
         Err(fault) => return Err(RunFault::Formula(fault)),
     };
-    let verdict = match check_hints(alloc, &formula, hints) {
+    let verdict = match check_hints(alloc, formula, hints) {
         Ok(verdict) => verdict,
         Err(fault) => return Err(fault),
     };
@@ -54,15 +54,17 @@ pub fn run_check<F: Read + Drop, H: Read + Drop, W: Write>(
 /// Checks a text of hints over a formula, as it is read.
 fn check_hints<H: Read + Drop>(
     alloc: Global,
-    formula: &CnfFormula,
+    formula: CnfFormula,
     hints: H,
 ) -> Result<Verdict, RunFault>
-    ensures { ChecksHints (H.remaining hints) formula.now result }
+    ensures { ChecksHints (H.remaining hints) formula result }
 {
-    let mut checker = match HintChecker::new(alloc, formula) {
+    let mut checker = match HintChecker::new(alloc, &formula) {
         Ok(checker) => checker,
         Err(fault) => return Err(RunFault::Hints(fault)),
     };
+    // The checker has clauses of its own.
+    drop(formula);
     match checker.check_reader(hints) {
         Ok(refuted) => Ok(Verdict::of(refuted)),
         Err(HintTextFault::Refused(fault)) => Err(RunFault::Hints(fault)),

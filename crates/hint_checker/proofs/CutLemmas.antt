@@ -1,7 +1,6 @@
 -- The first word of a line, by the place of its first blank.
-use Rattle.std.proofs.Common.{◌≡◌, ℕ, zero, suc, ◌-◌, ◌<◌, ◌≤◌, true, false, List, [], ◌∷◌, length, get_or, take, drop, refl, sym, ap, ◌∙◌, arith, length-drop}
-use Rattle.std.proofs.lemmas.List.{take_all}
-use Rattle.std.specs.Prelude.{filter, ◌==◌}
+use Rattle.std.proofs.Common.{◌≡◌, ℕ, zero, suc, ◌<◌, ◌≤◌, true, false, List, [], ◌∷◌, length, get_or, take, drop, refl, sym, ap, arith}
+use Rattle.std.specs.Prelude.{filter}
 use Rattle.std.specs.List.{slice_split}
 use Rattle.sat_formula.specs.Bytes.{is_blank}
 use Rattle.sat_formula.specs.Lines.{has_bytes, words_of}

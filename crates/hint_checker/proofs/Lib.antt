@@ -4,10 +4,11 @@ pub mod LineLemmas
 pub mod MarkLemmas
 pub mod NumberLemmas
 pub mod OneAnswer
+pub mod PackLemmas
 pub mod Parts
+pub mod PlaceLemmas
 pub mod Places
 pub mod ShortLemmas
-pub mod SpanLemmas
 pub mod StreamLemmas
 pub mod ValueLemmas
 pub mod Words

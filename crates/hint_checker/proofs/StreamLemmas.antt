@@ -1,6 +1,6 @@
 -- The lines of a reader's text, taken some at a time.
 --     Passed h old new n k      from old to new n whole lines were taken, are accepted after h and lead to k
-use Rattle.std.proofs.Common.{◌≡◌, ℕ, suc, ◌+◌, ◌≤◌, Bool, true, false, List, [], ◌∷◌, ◌++◌, length, Option, Some, None, Ok, refl, sym, ap, ◌∙◌, inl, inr, subst, arith, append_assoc, append-nil, length-append}
+use Rattle.std.proofs.Common.{◌≡◌, ℕ, ◌+◌, Bool, true, false, List, [], ◌∷◌, ◌++◌, length, Option, Some, None, Ok, refl, sym, ap, ◌∙◌, inl, inr, arith, append_assoc, append-nil, length-append}
 use Rattle.std.specs.Io.KnownBytes.{Consumes, IsAtEnd}
 use Rattle.std.specs.List.{onto_first}
 use Rattle.std.proofs.KnownBytes.{Consumes-nil, Consumes-trans, Consumes-whole}
@@ -13,7 +13,7 @@ use Rattle.sat_formula.specs.Bytes.{is_lf}
 use Rattle.sat_formula.specs.declared.source.Source.{Source}
 use Rattle.sat_formula.specs.Lines.{lines_of}
 use Rattle.sat_formula.proofs.Lines.{slice_split-front}
-use Rattle.hint_checker.specs.Checked.{Accepts, IsRefusal, Refuses, in_line, joined, refusal, said_all}
+use Rattle.hint_checker.specs.Checked.{Accepts, IsRefusal, Refuses, in_line, joined, said_all}
 use Rattle.hint_checker.specs.Streams.{GivesText, IsCutOff, IsOpen, TakesLines}
 use Rattle.hint_checker.specs.Text as text
 use Rattle.hint_checker.specs.Text.{Said, in_front, said_by}

@@ -5,9 +5,9 @@ pub mod Lines
 pub mod Marks
 pub mod Near
 pub mod OneAnswer
+pub mod Places
 pub mod ReadLine
 pub mod Room
-pub mod Spans
 pub mod Streams
 pub mod Text
 pub mod Unit

@@ -201,7 +201,7 @@ fn check_line(
         None => Ok(()),
         Some(HintLine::Addition { id }) => held.add(values, id, &row.clause, &row.ids),
         Some(HintLine::Deletion { .. }) => {
-            held.remove(&row.ids)?;
+            held.remove(&row.ids);
             Ok(())
         }
     }

@@ -1,7 +1,7 @@
 //! The clauses under their ids.
-ghost use Rattle.std.specs.Prelude.{◌≡◌, ◌==◌, ◌+◌, ◌*◌, ◌≤◌, ◌^◌, ℕ, None, Some, if◌then◌else◌, length, IfOk, OnOk};
+ghost use Rattle.std.specs.Prelude.{◌≡◌, ◌==◌, ◌+◌, ◌*◌, ◌≤◌, ◌^◌, ◌&&◌, ℕ, None, Some, if◌then◌else◌, length, IfOk, OnOk};
 ghost use Rattle.std.specs.Option.{option_copied};
-ghost use Rattle.hint_checker.specs.Near.{far_clause, gets_place, spare_places};
+ghost use Rattle.hint_checker.specs.Near.{far_clause, gets_place, has_room, spare_places};
 
 use crate::near::NearClauses;
 use sat_formula::lit::Lit;
@@ -14,8 +14,8 @@ const SPARE_PLACES: u64 = 1 << 12;
 /// Ids from here on are far.
 const NEAR_IDS: u64 = 1 << 40;
 
-/// The clauses under their ids. Near ids have places in turn; ids that are far above the number of
-/// clauses that were stored stand in a map.
+/// The clauses under their ids. Near ids rise and have places in turn; ids that are far above the
+/// number of clauses that were stored stand in a map.
 #[derive(Drop)]
 pub(crate) struct Clauses {
     alloc: Global,
@@ -23,8 +23,8 @@ pub(crate) struct Clauses {
     far: HashMap<u64, Vec<Lit>>,
     /// How many clauses were stored so far.
     stored: u64,
-    ghost few: { length near.spans.items ≤ 4 * (stored + spare_places) + 4 },
-    ghost small: { length near.spans.items ≤ 2 ^ 40 },
+    ghost few: { length near.places.items ≤ 4 * (stored + spare_places) + 4 },
+    ghost small: { length near.places.items ≤ 2 ^ 40 },
 }
 
 impl Clauses {
@@ -68,17 +68,38 @@ impl Clauses {
         ensures { OnOk result ((k : ℕ) → clause_of self.new k
             ≡ (if k == id then Some clause.now else clause_of self.old k)) }
     {
-        if self.is_near(id) {
-            self.near.put(id, clause)?;
-        } else {
-            self.far.insert(id, Vec::from_slice(self.alloc, clause)?)?;
+        if !self.put_near(id, clause)? {
+            self.put_far(id, clause)?;
         }
         self.stored = self.stored.saturating_add(1);
         Ok(())
     }
 
-    /// Whether a clause under this id gets a place: there are at most four for each clause that was
-    /// stored.
+    /// Puts a clause in a place, where there is one for it, and answers whether there is.
+    fn put_near(&mut self, id: u64, clause: &[Lit]) -> Result<bool, AllocError>
+        ensures near { IfOk result (λ put. put ≡ (gets_place self.old.stored id
+            && has_room self.old.near id (length clause.now))) }
+        ensures ok { IfOk result (λ put. (k : ℕ) → clause_of self.new k
+            ≡ (if put && (k == id) then Some clause.now else clause_of self.old k)) }
+    {
+        if !self.is_near(id) {
+            return Ok(false);
+        }
+        self.near.put(id, clause)
+    }
+
+    /// Puts a clause in the map.
+    fn put_far(&mut self, id: u64, clause: &[Lit]) -> Result<(), AllocError>
+        ensures { OnOk result ((k : ℕ) → clause_of self.new k
+            ≡ (if k == id then Some clause.now else clause_of self.old k)) }
+    {
+        self.near.remove(id);
+        self.far.insert(id, Vec::from_slice(self.alloc, clause)?)?;
+        Ok(())
+    }
+
+    /// Whether a clause under this id may have a place: there are at most four for each clause that
+    /// was stored.
     fn is_near(&self, id: u64) -> bool
         ensures { result ≡ gets_place self.now.stored id }
     {
@@ -94,10 +115,10 @@ impl Clauses {
         self.far.remove(&id);
     }
 
-    /// Takes the room back that clauses had which were removed, once it is more than half.
-    pub(crate) fn collect_garbage(&mut self) -> Result<(), AllocError>
+    /// Takes the room back that clauses had which were removed, once it is a quarter.
+    pub(crate) fn collect_garbage(&mut self)
         ensures { (k : ℕ) → clause_of self.new k ≡ clause_of self.old k }
     {
-        self.near.collect_garbage(self.alloc)
+        self.near.collect_garbage();
     }
 }

@@ -4,6 +4,7 @@
 mod checker;
 mod clauses;
 mod fault;
+mod growth;
 pub mod laws;
 mod line;
 mod lines;
@@ -12,7 +13,6 @@ mod marks;
 mod near;
 mod room;
 mod short;
-mod span;
 mod stream;
 mod values;
 mod word;

@@ -125,14 +125,14 @@ impl Listing {
     }
 
     /// Removes the clauses of these ids, where they are there.
-    pub(crate) fn remove(&mut self, ids: &[u64]) -> Result<(), AllocError>
-        ensures { OnOk result (held_by self.new ≡ record (held_by self.old)
-            { machine = drop_ids ids.now (held_by self.old).machine }) }
+    pub(crate) fn remove(&mut self, ids: &[u64])
+        ensures { held_by self.new ≡ record (held_by self.old)
+            { machine = drop_ids ids.now (held_by self.old).machine } }
     {
         for id in ids {
             self.remove_one(*id);
         }
-        self.collect_garbage()
+        self.collect_garbage();
     }
 
     fn remove_one(&mut self, id: u64)
@@ -143,9 +143,9 @@ impl Listing {
     }
 
     /// Takes room back; what is held stays.
-    fn collect_garbage(&mut self) -> Result<(), AllocError>
+    fn collect_garbage(&mut self)
         ensures { held_by self.new ≡ held_by self.old }
     {
-        self.clauses.collect_garbage()
+        self.clauses.collect_garbage();
     }
 }

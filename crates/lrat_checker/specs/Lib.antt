@@ -3,7 +3,7 @@ pub mod Marks
 pub mod FarCounts
 pub mod Counts
 pub mod Values
-pub mod Spans
+pub mod Places
 pub mod Near
 pub mod Far
 pub mod Causes

@@ -61,6 +61,6 @@ IsAnswer formula lines line (Refused cause) = (store : List Item) →
 IsAnswer formula lines line OutOfMemory = Unit {0}
 IsAnswer formula lines line Failed = ⊥
 
--- the buffer of literals has at most twice those of the clauses, or one more for each place of an id
+-- the buffer of literals has at most a third more than the clauses take, each its literals and its length, or at most one more for each place of an id
 abbrev pub HoldsLittle : LratChecker → Type 0
 HoldsLittle c = IsTight c.clauses.near

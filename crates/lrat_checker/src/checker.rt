@@ -219,7 +219,7 @@ impl LratChecker {
                 Ok(())
             }
             LratLine::Delete { ids } => {
-                self.clauses.remove(ids)?;
+                self.clauses.remove(ids);
                 Ok(())
             }
         }

@@ -4,7 +4,7 @@ ghost use Rattle.std.specs.Option.{option_copied};
 ghost use Rattle.std.specs.HashMap.{get};
 ghost use Rattle.lrat_rules.specs.Tables.{drop_all, drop_one, empty_table, put};
 ghost use Rattle.lrat_checker.specs.Far.{far_clause};
-ghost use Rattle.lrat_checker.specs.Near.{IsTight, gets_place, near_clause, spare_places};
+ghost use Rattle.lrat_checker.specs.Near.{IsTight, gets_place, has_room, near_clause, spare_places};
 
 use crate::counts::LitCounts;
 use crate::near::NearClauses;
@@ -18,8 +18,8 @@ const SPARE_PLACES: u64 = 1 << 12;
 /// Ids from here on are far.
 const NEAR_IDS: u64 = 1 << 40;
 
-/// The clauses by their ids. Small ids have places in turn; ids that are far above the number of
-/// clauses that were stored stand in a map.
+/// The clauses by their ids. Small ids that rise have places in turn; ids that are not greater than
+/// those, or far above the number of clauses that were stored, stand in a map.
 #[derive(Drop)]
 pub(crate) struct Clauses {
     alloc: Global,
@@ -30,7 +30,7 @@ pub(crate) struct Clauses {
     counts: LitCounts,
     ghost apart: { (id : ℕ)
         → (is_some (near_clause near id) && is_some (get nat_eq far id)) ≡ false },
-    ghost few: { length near.spans.items ≤ 4 * (stored + spare_places) + 4 },
+    ghost few: { length near.places.items ≤ 4 * (stored + spare_places) + 4 },
 }
 
 impl Clauses {
@@ -107,38 +107,39 @@ impl Clauses {
             ≡ (if k == id then Some clause.now else (table_of self.old).named k)) }
         ensures counts { self.new.counts ≡ self.old.counts }
         ensures stored { self.new.stored ≡ self.old.stored }
-        ensures near { gets_place self.old.stored id ≡ true → self.new.far ≡ self.old.far }
-        ensures far { gets_place self.old.stored id ≡ false → self.new.near ≡ self.old.near }
+        ensures near { gets_place self.old.stored id ≡ true
+            → has_room self.old.near id (length clause.now) ≡ true
+            → self.new.far ≡ self.old.far }
+        ensures far { (gets_place self.old.stored id
+            && has_room self.old.near id (length clause.now)) ≡ false
+            → self.new.near ≡ self.old.near }
         ensures tight { IsTight self.old.near → IsTight self.new.near }
     {
-        if self.is_near(id) {
-            self.near.put(id, clause)?;
+        if self.is_near(id) && self.near.put(id, clause)? {
             return Ok(());
         }
         self.far.insert(id, Vec::from_slice(self.alloc, clause)?)?;
         Ok(())
     }
 
-    /// Whether a new clause under this id gets a place: there are at most four for each clause that
-    /// was stored.
+    /// Whether a new clause under this id may have a place: there are at most four for each clause
+    /// that was stored.
     fn is_near(&self, id: u64) -> bool
         ensures { result ≡ gets_place self.now.stored id }
     {
         id < NEAR_IDS && id / 4 <= self.stored.saturating_add(SPARE_PLACES)
     }
 
-    /// Removes the clauses of these ids, where they are there. After an error the clauses are of no
-    /// use.
-    pub(crate) fn remove(&mut self, ids: &[u64]) -> Result<(), AllocError>
-        ensures table { OnOk result (table_of self.new ≡ drop_all ids.now (table_of self.old)) }
-        ensures tight { OnOk result (IsTight self.new.near) }
+    /// Removes the clauses of these ids, where they are there.
+    pub(crate) fn remove(&mut self, ids: &[u64])
+        ensures table { table_of self.new ≡ drop_all ids.now (table_of self.old) }
+        ensures tight { IsTight self.new.near }
         ensures stored { self.new.stored ≡ self.old.stored }
     {
         for id in ids {
             self.remove_one(*id);
         }
-        self.near.collect_garbage(self.alloc)?;
-        Ok(())
+        self.near.collect_garbage();
     }
 
     fn remove_one(&mut self, id: u64)

@@ -1,20 +1,17 @@
 //! Collecting the garbage of the literal buffer.
-ghost use Rattle.std.specs.Prelude.{◌≡◌, ◌+◌, ◌<◌, ◌≤◌, ◌*◌, ℕ, All, IfOk, OnOk, length, map, take};
+ghost use Rattle.std.specs.Prelude.{◌≡◌, ◌+◌, ◌<◌, ◌≤◌, ◌++◌, ◌*◌, ◌^◌, ℕ, List, true, All, IfOk, OnOk, length, map};
 ghost use Rattle.checker_rules.specs.LiveLiterals.{live_literals};
-ghost use Rattle.clause_store.specs.Buckets.{AreWithin, clauses_at, clauses_of};
+ghost use Rattle.clause_store.specs.Buckets.{AreWithin, clauses_of};
 ghost use Rattle.clause_store.specs.Crowds.{standing};
 ghost use Rattle.clause_store.specs.Edits.{KeepsRest};
-ghost use Rattle.clause_store.specs.Lits.{IsWithin, lits_of};
+ghost use Rattle.clause_store.specs.Lits.{IsWithin};
+ghost use Rattle.clause_store.specs.Moved.{all_in_buffer, all_moved_to, all_used, walked};
 ghost use Rattle.clause_store.specs.Store.{IsIndexed};
-ghost use Rattle.clause_store.specs.View.{stored_at, stored_in, stored_list, stored_of};
+ghost use Rattle.clause_store.specs.View.{stored_in, stored_list, stored_of};
 
 use crate::clauses::buckets::{Bucket, Buckets};
-use crate::clauses::crowd::Crowd;
-use crate::clauses::lits::ClauseLits;
-use crate::clauses::rebuild::room_for;
 use crate::clauses::{Clause, Clauses};
 use crate::hash::ClauseHasher;
-use proof_bytes::hash::ClauseHash;
 use sat_formula::lit::Lit;
 use std::alloc::{AllocError, Global};
 
@@ -47,97 +44,117 @@ fn collect(alloc: Global, hasher: &ClauseHasher, clauses: &mut Clauses) -> Resul
     ensures rest { OnOk result (KeepsRest clauses.old clauses.new) }
     ensures counts { OnOk result (clauses.new.lit_counts ≡ clauses.old.lit_counts) }
 {
-    let (buckets, buffer) = move_buckets(alloc, clauses)?;
-    clauses.buckets = buckets;
+    let buffer = copy_lits(alloc, clauses)?;
+    move_buckets(&mut clauses.buckets);
     clauses.literal_buffer = buffer;
     clauses.garbage_size = 0;
     Ok(())
 }
 
-/// Buckets of these clauses, with their literals in a new buffer.
-fn move_buckets(alloc: Global, clauses: &Clauses) -> Result<(Buckets, Vec<Lit>), AllocError>
+/// The literals that the clauses have in the buffer, one bucket's after the other's.
+fn copy_lits(alloc: Global, clauses: &Clauses) -> Result<Vec<Lit>, AllocError>
     requires { (h : ClauseHasher) × IsIndexed h clauses.now (stored_list clauses.now) }
-    ensures same { IfOk result (λ moved. (k : ℕ)
-        → stored_in moved.1.items moved.0 k ≡ stored_at clauses.now k) }
-    ensures within { IfOk result (λ moved. AreWithin moved.1.items moved.0) }
-    ensures used { IfOk result (λ moved. length moved.1.items
+    ensures copied { IfOk result (λ new. new.items
+        ≡ all_in_buffer clauses.now.literal_buffer.items (walked clauses.now.buckets)) }
+    ensures used { IfOk result (λ new. length new.items
         ≡ live_literals (stored_list clauses.now)) }
+    ensures count { IfOk result (λ new. length new.items
+        ≡ all_used (walked clauses.now.buckets)) }
 {
     let buffer = clauses.literal_buffer.as_slice();
-    let mut moved = room_for(alloc, clauses.buckets.len())?;
     // more than half of the buffer is garbage
     let mut new = Vec::with_capacity(alloc, buffer.len() / 2)?;
-    for (hash, bucket) in &clauses.buckets {
-        let bucket = move_bucket(alloc, bucket, buffer, &mut new)?;
-        put_bucket(&mut moved, *hash, bucket)?;
+    for bucket in clauses.buckets.values() {
+        copy_bucket(bucket, buffer, &mut new)?;
     }
-    Ok((moved, new))
+    Ok(new)
 }
 
-/// A bucket's clauses, with their literals in the new buffer, after those that it has.
-fn move_bucket(
-    alloc: Global,
-    bucket: &Bucket,
-    buffer: &[Lit],
-    new: &mut Vec<Lit>,
-) -> Result<Bucket, AllocError>
-    requires within { All (λ c. IsWithin c.lits buffer.now) (clauses_of bucket.now) }
-    requires long { All (λ c. 1 < length (lits_of c.lits buffer.now)) (clauses_of bucket.now) }
-    ensures same { IfOk result (λ moved. map (stored_of new.new.items) (clauses_of moved)
-        ≡ map (stored_of buffer.now) (clauses_of bucket.now)) }
-    ensures within { IfOk result (λ moved. All (λ c. IsWithin c.lits new.new.items)
-        (clauses_of moved)) }
-    ensures kept { OnOk result (take (length new.old.items) new.new.items ≡ new.old.items) }
+/// Puts the literals that a bucket's clauses have in the buffer after those of the new one.
+fn copy_bucket(bucket: &Bucket, buffer: &[Lit], new: &mut Vec<Lit>) -> Result<(), AllocError>
+    requires { All (λ c. IsWithin c.lits buffer.now) (clauses_of bucket.now) }
+    ensures copied { OnOk result (new.new.items ≡ new.old.items ++
+        all_in_buffer buffer.now (clauses_of bucket.now)) }
     ensures used { OnOk result (length new.new.items ≡ length new.old.items +
         live_literals (map (stored_of buffer.now) (clauses_of bucket.now))) }
 {
     match bucket {
-        Bucket::One(clause) => {
-            let lits = ClauseLits::new(clause.lits.slice(buffer), new)?;
-            Ok(Bucket::One(Clause { lits, ..*clause }))
-        }
-        Bucket::Many(crowd) => {
-            let moved = move_places(alloc, &crowd.places, buffer, new)?;
-            Ok(Bucket::Many(Box::new(alloc, moved)?))
-        }
+        Bucket::One(clause) => clause.lits.copy_to(buffer, new),
+        Bucket::Many(crowd) => copy_places(&crowd.places, buffer, new),
     }
 }
 
-/// The same for the clauses of a crowd, which close up.
-fn move_places(
-    alloc: Global,
+/// The same for the clauses of a crowd.
+fn copy_places(
     places: &[Option<Clause>],
     buffer: &[Lit],
     new: &mut Vec<Lit>,
-) -> Result<Crowd, AllocError>
-    requires within { All (λ c. IsWithin c.lits buffer.now) (standing places.now) }
-    requires long { All (λ c. 1 < length (lits_of c.lits buffer.now)) (standing places.now) }
-    ensures same { IfOk result (λ moved. map (stored_of new.new.items)
-        (standing moved.places.items) ≡ map (stored_of buffer.now) (standing places.now)) }
-    ensures within { IfOk result (λ moved. All (λ c. IsWithin c.lits new.new.items)
-        (standing moved.places.items)) }
-    ensures kept { OnOk result (take (length new.old.items) new.new.items ≡ new.old.items) }
+) -> Result<(), AllocError>
+    requires { All (λ c. IsWithin c.lits buffer.now) (standing places.now) }
+    ensures copied { OnOk result (new.new.items ≡ new.old.items ++
+        all_in_buffer buffer.now (standing places.now)) }
     ensures used { OnOk result (length new.new.items ≡ length new.old.items +
         live_literals (map (stored_of buffer.now) (standing places.now))) }
 {
-    let mut moved = Crowd::new(alloc);
     for place in places {
         let Some(clause) = place else {
             continue;
         };
-        let old = clause.lits.slice(buffer);
-        let lits = ClauseLits::new(old, new)?;
-        moved.push(Clause { lits, ..*clause }, old)?;
+        clause.lits.copy_to(buffer, new)?;
     }
-    Ok(moved)
+    Ok(())
 }
 
-/// Puts the bucket of a hash in its place.
-fn put_bucket(buckets: &mut Buckets, hash: ClauseHash, bucket: Bucket) -> Result<(), AllocError>
-    ensures here { OnOk result (clauses_at buckets.new hash ≡ clauses_of bucket) }
-    ensures others { OnOk result ((k : ℕ) → (k ≡ hash → ⊥)
-        → clauses_at buckets.new k ≡ clauses_at buckets.old k) }
+/// The clauses have the literals that `copy_lits` copies where it puts them.
+fn move_buckets(buckets: &mut Buckets)
+    requires { all_used (walked buckets.old) < 2 ^ 64 }
+    ensures same { (buffer : List ℕ) (k : ℕ) → AreWithin buffer buckets.old
+        → stored_in (all_in_buffer buffer (walked buckets.old)) buckets.new k
+        ≡ stored_in buffer buckets.old k }
+    ensures within { (buffer : List ℕ) → AreWithin buffer buckets.old
+        → AreWithin (all_in_buffer buffer (walked buckets.old)) buckets.new }
 {
-    buckets.insert(hash, bucket)?;
-    Ok(())
+    let mut at = 0;
+    buckets.retain(
+        move |_hash, bucket|
+            requires { at + all_used (clauses_of bucket.now) < 2 ^ 64 }
+            ensures stays { result ≡ true }
+            ensures moved { clauses_of bucket.exit.now
+                ≡ all_moved_to at.entry (clauses_of bucket.entry.now) }
+            ensures end { at.exit ≡ at.entry + all_used (clauses_of bucket.entry.now) }
+        {
+            at = move_bucket(bucket, at);
+            true
+        },
+    );
+}
+
+/// The literals that a bucket's clauses have in the buffer stand in another from `at` on. It
+/// answers where they end there.
+fn move_bucket(bucket: &mut Bucket, at: usize) -> usize
+    requires { at + all_used (clauses_of bucket.old) < 2 ^ 64 }
+    ensures moved { clauses_of bucket.new ≡ all_moved_to at (clauses_of bucket.old) }
+    ensures end { result ≡ at + all_used (clauses_of bucket.old) }
+{
+    match bucket {
+        Bucket::One(clause) => clause.lits.move_to(at),
+        Bucket::Many(crowd) => move_places(&mut crowd.places, at),
+    }
+}
+
+/// The same for the clauses of a crowd, which stay in their places.
+fn move_places(places: &mut [Option<Clause>], first: usize) -> usize
+    requires { first + all_used (standing places.old) < 2 ^ 64 }
+    ensures moved { standing places.new ≡ all_moved_to first (standing places.old) }
+    ensures end { result ≡ first + all_used (standing places.old) }
+{
+    let mut at = first;
+    for i in 0..places.len() {
+        let Some(mut clause) = places[i] else {
+            continue;
+        };
+        at = clause.lits.move_to(at);
+        places[i] = Some(clause);
+    }
+    at
 }

@@ -1,5 +1,7 @@
 //! What the values of its literals make of a clause.
-ghost use Rattle.std.specs.Prelude.{◌≡◌};
+ghost use Rattle.std.specs.Prelude.{◌≡◌, ◌<◌, ◌∷◌, false, length};
+ghost use Rattle.std.specs.List.{list_all};
+ghost use Rattle.sat_rules.specs.Clauses.{negate, var_of};
 ghost use Rattle.clause_store.specs.Rup.{status_of, true_lits};
 ghost use Rattle.clause_store.specs.Units.{AreKnown};
 
@@ -18,24 +20,47 @@ pub enum ClauseStatus {
 }
 
 /// Looks at each literal once, and no further than a true or a second free one.
+///
+/// Most literals that a check looks at are false. They are passed over by one comparison each, in a
+/// loop that does nothing else.
 pub fn clause_status(units: &Units, lits: &[Lit]) -> ClauseStatus
     requires { AreKnown units.now lits.now }
     ensures { result ≡ status_of (true_lits units.now) lits.now }
 {
-    let mut status = ClauseStatus::Falsified;
-    for lit in lits {
-        // Most literals that a check looks at are false, and are passed over by one comparison.
-        if units.is_known_false(*lit) {
-            continue;
+    let mut rest = lits;
+    while let Some((lit, others)) = rest.split_first() {
+        if !units.is_known_false(*lit) {
+            return status_with(units, *lit, others);
         }
-        match units.known_lit_value(*lit) {
-            Some(true) => return ClauseStatus::Idle,
-            Some(false) => {}
-            None => match status {
-                ClauseStatus::Falsified => status = ClauseStatus::Unit(*lit),
-                _ => return ClauseStatus::Idle,
-            },
+        rest = others;
+    }
+    ClauseStatus::Falsified
+}
+
+/// What follows from a clause of a literal that is not false, and others.
+#[inline(always)]
+fn status_with(units: &Units, lit: Lit, others: &[Lit]) -> ClauseStatus
+    requires known { var_of lit < length units.now }
+    requires others_known { AreKnown units.now others.now }
+    requires not_false { true_lits units.now (negate lit) ≡ false }
+    ensures { result ≡ status_of (true_lits units.now) (lit ∷ others.now) }
+{
+    if units.known_lit_value(lit).is_some() || !are_false(units, others) {
+        return ClauseStatus::Idle;
+    }
+    ClauseStatus::Unit(lit)
+}
+
+/// Whether all literals are false.
+#[inline(always)]
+fn are_false(units: &Units, lits: &[Lit]) -> bool
+    requires { AreKnown units.now lits.now }
+    ensures { result ≡ list_all (λ m. true_lits units.now (negate m)) lits.now }
+{
+    for lit in lits {
+        if !units.is_known_false(*lit) {
+            return false;
         }
     }
-    status
+    true
 }

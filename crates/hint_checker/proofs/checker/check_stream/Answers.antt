@@ -1,4 +1,4 @@
-use Rattle.std.proofs.Common.{rules, ◌≡◌, ◌+◌, ◌≤◌, length, Ok, subst, sym, ap, ◌∙◌, arith}
+use Rattle.std.proofs.Common.{◌≡◌, ◌+◌, length, Ok, subst, sym, ap, ◌∙◌, arith}
 use Rattle.sat_formula.specs.Lines.{lines_of}
 use Rattle.hint_checker.specs.Held.{held_by}
 use Rattle.hint_checker.specs.Streams.{unread_text}

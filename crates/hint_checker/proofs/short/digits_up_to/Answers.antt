@@ -1,4 +1,4 @@
-use Rattle.std.proofs.Common.{◌≡◌, ◌*◌, ◌<◌, ◌^◌, true, sym, ◌∙◌, arith}
+use Rattle.std.proofs.Common.{sym, ◌∙◌, arith}
 use Rattle.std.specs.Prelude.{slice_index}
 use Rattle.hint_checker.proofs.ShortLemmas.{digit_fits_after, digits_more, small_more}
 use Rattle.hint_checker.proofs.short.digits_up_to.Goals as goal

@@ -1,4 +1,4 @@
-use Rattle.std.proofs.Common.{◌-◌, ◌<◌, ◌≤◌, ◌^◌, length}
+use Rattle.std.proofs.Common.{◌-◌, ◌<◌, ◌^◌}
 use Rattle.hint_checker.specs.Words.{HasDigits}
 use Rattle.hint_checker.proofs.short.digits_up_to.Given as goal
 

@@ -1,4 +1,3 @@
-use Rattle.std.proofs.Common.{sym, ◌∙◌}
 use Rattle.hint_checker.proofs.ShortLemmas.{short_negative, short_plain}
 use Rattle.hint_checker.proofs.short.short_clause_word.Goals as goal
 

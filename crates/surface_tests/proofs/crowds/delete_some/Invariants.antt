@@ -2,4 +2,4 @@ use Rattle.checker_steps.specs.Context.{ContextInvariant}
 use Rattle.surface_tests.proofs.crowds.delete_some.Given as goal
 
 abbrev pub invariant-loop-turn : goal.invariant-loop-turn
-invariant-loop-turn l = ContextInvariant l.ctx
+invariant-loop-turn g l = ContextInvariant l.ctx

@@ -1,46 +1,77 @@
-use Rattle.std.proofs.Common.{◌≡◌, ◌<◌, ◌≤◌, ◌+◌, ◌++◌, ◌∷◌, [], Some, None, get_or, length, map, take, append-nil, sym, ap, ◌∙◌, subst, arith}
-use Rattle.checker_rules.specs.LiveLiterals.{live_literals, live_of}
+use Rattle.std.proofs.Common.{◌≡◌, ◌∷◌, ◌+◌, ◌++◌, ◌<◌, [], ℕ, List, Option, Some, None, append-nil, length, take, drop, get_or, sym, ap, ◌∙◌, arith}
+use Rattle.std.proofs.lemmas.List.{drop-set-lt, drop_more, length-set, take-append-drop, take_all, take_more_set}
+use Rattle.clause_store.specs.declared.clauses.Clause.{Clause}
 use Rattle.clause_store.specs.Crowds.{standing}
-use Rattle.clause_store.specs.Lits.{IsWithin, lits_of}
-use Rattle.clause_store.specs.View.{stored_of}
-use Rattle.clause_store.proofs.CrowdLemmas.{All-stands, place-here, place-is, standing-more}
-use Rattle.clause_store.proofs.MoveLemmas.{kept-further, moved-same, moved-used, moved-within}
+use Rattle.clause_store.specs.Lits.{buffer_used, moved_to}
+use Rattle.clause_store.specs.Moved.{all_moved_to, all_used}
+use Rattle.clause_store.proofs.CrowdLemmas.{place-here, standing-append, standing-drop, standing-more}
+use Rattle.clause_store.proofs.MoveLemmas.{all_moved_to-append, all_used-append}
 use Rattle.clause_store.proofs.clauses.collect.move_places.Goals as goal
 
-pub slice-old-requires : goal.slice-old-requires
-slice-old-requires c =
-    let ps = c.args.places.now in let i = c.loop-place.place-index in let d = c.in-Some.clause in let less = c.loop-place-test.true in
-    All-stands (λ e. IsWithin e.lits c.args.buffer.now) ps i d c.requires.within less (place-is ps i _ (Some d) less (sym c.place-item.is ∙ c.in-Some.is))
+-- the same place in the same list, read from its rest
+same-place : (ps qs : List (Option Clause)) (i : ℕ) (p : Option Clause) → drop i ps ≡ drop i qs → length ps ≡ length qs → i < length ps →
+    p ≡ get_or ps i p → (p ≡ get_or qs i p) × (drop (i + 1) ps ≡ drop (i + 1) qs)
+same-place ps qs i p rest many less is =
+    let both : get_or ps i p ∷ drop (i + 1) ps ≡ get_or qs i p ∷ drop (i + 1) qs =
+    sym (drop_more ps i p less) ∙ rest ∙ drop_more qs i p (omega arith) in
+    (is ∙ cc, cc)
 
-pub loop-place-preserved-in_default : goal.loop-place-preserved-in_default
-loop-place-preserved-in_default c =
-    let b = c.args.buffer.now in let ps = c.args.places.now in let i = c.loop-place.place-index in let less = c.loop-place-test.true in let v = c.loop-place.invariant in
-    let free : standing (take i ps) ≡ standing (take (i + 1) ps) =
-    sym (standing-more ps i None less (place-here ps i _ None less (sym c.place-item.is ∙ c.in_default.is)) ∙ append-nil _) in
+-- the literals of the clause that is read still have room
+room : (ps : List (Option Clause)) (i : ℕ) (d : Clause) → i < length ps → Some d ≡ get_or ps i (Some d) →
+    (n : ℕ) × (all_used (standing ps) ≡ all_used (standing (take i ps)) + (buffer_used d.lits + n))
+room ps i d less is =
+    let before = standing (take i ps) in let after = standing (drop (i + 1) ps) in
+    let all : standing ps ≡ before ++ d ∷ after =
+    ap standing (sym (take-append-drop i ps)) ∙ standing-append (take i ps) (drop i ps) ∙ ap (λ cs. before ++ cs) (standing-drop ps i (Some d) less is) in
+    (all_used after, ap all_used all ∙ all_used-append before (d ∷ after))
+
+pub move_to-at-requires : goal.move_to-at-requires
+move_to-at-requires c =
+    let ps = c.args.places.now in let l = c.loop-i in let v = l.invariant in let d = c.in-Some.clause in
+    let here = same-place l.places ps l.i (Some d) v.rest v.many (omega (arith, v.many, c.loop-i-test.true)) (place-here l.places l.i _ (Some d) (omega (arith, v.many, c.loop-i-test.true)) c.in-Some.is) in
+    let r = room ps l.i d c.loop-i-test.true here.0 in
+    omega (arith, r.1, v.end, c.requires)
+
+pub loop-i-preserved : goal.loop-i-preserved
+loop-i-preserved c =
+    let ps = c.args.places.now in let l = c.loop-i in let v = l.invariant in let d = c.in-Some.clause in let i = l.i in
+    let less : i < length l.places = omega (arith, v.many, c.loop-i-test.true) in
+    let here = same-place l.places ps i (Some d) v.rest v.many less (place-here l.places i _ (Some d) less c.in-Some.is) in
+    let e : Clause = record d { lits = c.move_to-at.new.self } in
+    let is : e ≡ record d { lits = moved_to (c.args.first + all_used (standing (take i ps))) d.lits } =
+    ap (λ ls. record d { lits = ls }) (c.move_to-at.ensures.moved ∙ ap (λ n. moved_to n d.lits) v.end) in
+    let more : standing (take (i + 1) ps) ≡ standing (take i ps) ++ d ∷ [] = standing-more ps i (Some d) c.loop-i-test.true here.0 in
     record {
-      same = v.same ∙ ap (λ cs. map (stored_of b) cs) free;
-      within = v.within;
-      kept = v.kept;
-      used = v.used ∙ ap (λ cs. length c.args.new.now.items + live_literals (map (stored_of b) cs)) free;
+      moved = ap standing (take_more_set l.places i (Some e) less) ∙ standing-append (take i l.places) (Some e ∷ [])
+          ∙ ap (λ cs. cs ++ e ∷ []) v.moved ∙ ap (λ x. all_moved_to c.args.first (standing (take i ps)) ++ x ∷ []) is
+          ∙ sym (all_moved_to-append c.args.first (standing (take i ps)) (d ∷ []))
+          ∙ ap (all_moved_to c.args.first) (sym more);
+      rest = drop-set-lt (i + 1) l.places i (Some e) (omega arith) ∙ here.1;
+      many = length-set l.places i (Some e) ∙ v.many;
+      end = let used = ap all_used more ∙ all_used-append (standing (take i ps)) (d ∷ []) in omega (arith, used, v.end, c.move_to-at.ensures.end);
     }
 
-pub loop-place-preserved : goal.loop-place-preserved
-loop-place-preserved c =
-    let b = c.args.buffer.now in let ps = c.args.places.now in let i = c.loop-place.place-index in let d = c.in-Some.clause in let less = c.loop-place-test.true in
-    let is : get_or ps i c.place-item.result ≡ Some d = sym c.place-item.is ∙ c.in-Some.is in
-    let old = c.loop-place.new.items in let new = c.new.new.buffer.items in
-    let done = standing (take i ps) in let more = standing (take (i + 1) ps) in let moved = standing c.loop-place.moved.places.items in
-    let e = c.in_ok-lits.ensures in let ls = c.in_ok-lits.lits in let v = c.loop-place.invariant in
-    let next : more ≡ done ++ d ∷ [] = standing-more ps i (Some d) less (place-here ps i _ (Some d) less is) in
-    let read : c.slice-old.result.now ≡ lits_of d.lits b = cc (c.slice-old.ensures) in
-    let lits : lits_of ls new ≡ lits_of d.lits b = e.ok ∙ read in
-    let longer : length old ≤ length new = omega (arith, e.buffer) in
-    let long : 1 < length c.slice-old.result.now =
-    subst (λ ms. 1 < length ms) (sym read) (All-stands (λ f. 1 < length (lits_of f.lits b)) ps i d c.requires.long less (place-is ps i _ (Some d) less is)) in
-    let grown : length new ≡ length old + live_of (lits_of d.lits b) = cc (e.buffer, e.used long, read) in
+pub loop-i-preserved-in_default : goal.loop-i-preserved-in_default
+loop-i-preserved-in_default c =
+    let ps = c.args.places.now in let l = c.loop-i in let v = l.invariant in let i = l.i in
+    let less : i < length l.places = omega (arith, v.many, c.loop-i-test.true) in
+    let read = place-here l.places i _ None less c.in_default.is in
+    let here = same-place l.places ps i None v.rest v.many less read in
+    let old : standing (take (i + 1) l.places) ≡ standing (take i l.places) = standing-more l.places i None less read ∙ append-nil _ in
+    let new : standing (take (i + 1) ps) ≡ standing (take i ps) = standing-more ps i None c.loop-i-test.true here.0 ∙ append-nil _ in
     record {
-      same = cc (c.in_ok-push.ensures, moved-same b old new done more moved d ls next e.kept lits v.within v.same);
-      within = rw c.in_ok-push.ensures (moved-within b old new done more moved d ls next e.kept lits v.within longer e.within);
-      kept = kept-further _ old new v.kept e.kept;
-      used = moved-used b old new done more moved d ls next e.kept lits _ grown v.used;
+      moved = old ∙ v.moved ∙ ap (all_moved_to c.args.first) (sym new);
+      rest = here.1;
+      many = v.many;
+      end = v.end ∙ ap (λ cs. c.args.first + all_used cs) (sym new);
     }
+
+pub returns-clause-moved : goal.returns-clause-moved
+returns-clause-moved c =
+    let ps = c.args.places.now in let l = c.loop-i in let v = l.invariant in
+    ap standing (sym (take_all l.i l.places (omega (arith, v.many)))) ∙ v.moved ∙ ap (λ qs. all_moved_to c.args.first (standing qs)) (take_all l.i ps (omega arith))
+
+pub returns-clause-end : goal.returns-clause-end
+returns-clause-end c =
+    let ps = c.args.places.now in let l = c.loop-i in
+    l.invariant.end ∙ ap (λ qs. c.args.first + all_used (standing qs)) (take_all l.i ps (omega arith))

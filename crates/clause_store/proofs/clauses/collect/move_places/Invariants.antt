@@ -1,14 +1,12 @@
-use Rattle.std.proofs.Common.{◌≡◌, ◌+◌, All, length, map, take}
-use Rattle.checker_rules.specs.LiveLiterals.{live_literals}
+use Rattle.std.proofs.Common.{◌≡◌, ◌+◌, drop, length, take}
 use Rattle.clause_store.specs.Crowds.{standing}
-use Rattle.clause_store.specs.Lits.{IsWithin}
-use Rattle.clause_store.specs.View.{stored_of}
+use Rattle.clause_store.specs.Moved.{all_moved_to, all_used}
 use Rattle.clause_store.proofs.clauses.collect.move_places.Given as goal
 
-abbrev pub invariant-loop-place : goal.invariant-loop-place
-invariant-loop-place l = record {
-  same : map (stored_of l.new.items) (standing l.moved.places.items) ≡ map (stored_of l.buffer) (standing (take l.place-index l.places));
-  within : All (λ c. IsWithin c.lits l.new.items) (standing l.moved.places.items);
-  kept : take (length l.initial.new.items) l.new.items ≡ l.initial.new.items;
-  used : length l.new.items ≡ length l.initial.new.items + live_literals (map (stored_of l.buffer) (standing (take l.place-index l.places)));
+abbrev pub invariant-loop-i : goal.invariant-loop-i
+invariant-loop-i l = record {
+  moved : standing (take l.i l.places) ≡ all_moved_to l.first (standing (take l.i l.initial.places));
+  rest : drop l.i l.places ≡ drop l.i l.initial.places;
+  many : length l.places ≡ length l.initial.places;
+  end : l.at ≡ l.first + all_used (standing (take l.i l.initial.places));
 }

@@ -1,4 +1,4 @@
-use Rattle.std.proofs.Common.{sym, ap, ◌∙◌, Some}
+use Rattle.std.proofs.Common.{sym, ◌∙◌}
 use Rattle.hint_checker.proofs.ShortLemmas.{short_number}
 use Rattle.hint_checker.proofs.word.Words.next_value.Goals as goal
 

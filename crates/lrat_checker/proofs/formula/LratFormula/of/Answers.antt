@@ -1,4 +1,4 @@
-use Rattle.std.proofs.Common.{◌≡◌, [], ◌∷◌, ◌++◌, sym, ap, ◌∙◌, append-nil, append_assoc, subst}
+use Rattle.std.proofs.Common.{[], ◌∷◌, ◌++◌, sym, ap, ◌∙◌, append-nil, append_assoc, subst}
 use Rattle.lrat_checker.specs.Standing.{HoldsFormula}
 use Rattle.lrat_checker.proofs.formula.LratFormula.of.Goals as goal
 

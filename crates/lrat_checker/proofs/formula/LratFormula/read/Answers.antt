@@ -1,4 +1,4 @@
-use Rattle.std.proofs.Common.{◌≡◌, [], ◌∷◌, ◌++◌, sym, ◌∙◌, subst}
+use Rattle.std.proofs.Common.{[], ◌∷◌, ◌++◌, sym, ◌∙◌, subst}
 use Rattle.std.proofs.lemmas.Result.{err_from_is_err_and}
 use Rattle.sat_formula.proofs.Whole.{HasGiven-more, BeginsWith-given, IsOutcome-ended, FailsAfter-given, outcome_left-new}
 use Rattle.lrat_checker.specs.Standing.{HoldsFormula}
