@@ -90,7 +90,7 @@ fn lying_header(rt: &impl Abort, text: &[u8], part: usize) -> Option<LyingHeader
 
 fn has_header(rt: &impl Abort, text: &[u8], header: Option<LyingHeader>) {
     for part in [1, 2, 3, 64] {
-        assert_eq!(rt; lying_header(rt, text, part), header);
+        assert_eq!(rt; lying_header(rt, text, part), header, "{text:?}");
     }
 }
 

@@ -122,9 +122,15 @@ fn call_disk(disk: &mut Disk, call: Call, bytes: &[u8]) -> Option<ErrorKind> {
 
 fn holds(rt: &impl Abort, mut disk: Disk, (calls, bytes, flushes): Row) {
     for (call, bytes, fault) in calls {
-        assert_eq!(rt; call_disk(&mut disk, *call, bytes), *fault);
+        assert_eq!(rt; call_disk(&mut disk, *call, bytes), *fault, "{bytes:?}");
     }
-    assert_eq!(rt; (disk.bytes.as_slice(), disk.flushes), (bytes, flushes));
+    let room = disk.room;
+    let most = disk.most;
+    assert_eq!(rt;
+        (disk.bytes.as_slice(), disk.flushes),
+        (bytes, flushes),
+        "{room} bytes, {most} a write"
+    );
 }
 
 #[test]

@@ -92,7 +92,7 @@ fn is_told(rt: &impl Abort, alloc: Global, (formula, proof, told): Row) {
     add_formula(&mut elaborator, &formula).expect(rt, "clauses");
     let mut reader = FratReader::new(alloc, proof.as_bytes());
     show_row(&mut shown, &mut elaborator, &mut reader);
-    assert_eq!(rt; shown.text(), told);
+    assert_eq!(rt; shown.text(), told, "{proof}");
 }
 
 #[test]

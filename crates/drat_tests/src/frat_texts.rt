@@ -155,16 +155,18 @@ const TELLING: [(&[u8], bool); 10] = [
     (b"", false),
 ];
 
-fn is_shown(rt: &impl Abort, alloc: Global, proof: Pieces<'_>, expected: &str) {
+/// What is shown of these bytes as they are read.
+fn is_shown(rt: &impl Abort, alloc: Global, bytes: &[u8], proof: Pieces<'_>, expected: &str) {
     let mut shown = Shown::new(alloc);
     show(&mut shown, &mut FratReader::new(alloc, proof));
-    assert_eq!(rt; shown.text(), expected);
+    assert_eq!(rt; shown.text(), expected, "{bytes:?}");
 }
 
 fn hold(rt: &impl Abort, alloc: Global, rows: &[Row]) {
     for (bytes, expected) in rows {
         for size in [1, 2, 3, 100] {
-            is_shown(rt, alloc, Pieces::of_size(bytes, size), expected);
+            let proof = Pieces::of_size(bytes, size);
+            is_shown(rt, alloc, bytes, proof, expected);
         }
     }
 }
@@ -176,7 +178,7 @@ fn frat_steps(rt: HostRuntime) {
     hold(&rt, rt.alloc(), &BINARY);
     for (bytes, failing, expected) in &BROKEN {
         let proof = Pieces::failing_at(bytes, 1, *failing);
-        is_shown(&rt, rt.alloc(), proof, expected);
+        is_shown(&rt, rt.alloc(), bytes, proof, expected);
     }
 }
 
@@ -185,7 +187,7 @@ fn are_told_apart(rt: &impl Abort, alloc: Global, rows: &[(&[u8], bool)]) {
         for size in [1, 100] {
             let mut proof = Bytes::new(alloc, Pieces::of_size(bytes, size));
             let told = is_frat(&mut proof).unwrap_or(!*expected);
-            assert_eq!(rt; told, *expected);
+            assert_eq!(rt; told, *expected, "{bytes:?}");
         }
     }
 }

@@ -115,7 +115,7 @@ pub(crate) fn show_proof(shown: &mut Shown, elaborator: &mut Elaborator) {
 /// Shows what is answered to a clause that comes once the proof has begun.
 fn show_late(shown: &mut Shown, elaborator: &mut Elaborator) {
     match elaborator.add_clause(&[]) {
-        Ok(()) => shown.words("a late clause is taken; "),
+        Ok(()) => shown.words("a late clause is taken"),
         Err(fault) => {
             shown.words("late clause: ");
             shown.value(&fault);

@@ -104,24 +104,26 @@ const WITH_IDS: [Row; 11] = [
     ),
 ];
 
-/// As much of the line is written as there is room for.
+/// What is answered to the proof of these bytes as they are read. As much of the line is written as
+/// there is room for.
 fn is_answered(
     rt: &impl Abort,
     alloc: Global,
-    (cnf, proof): (Pieces<'_>, Pieces<'_>),
+    (cnf, bytes, outcome): Row,
+    proof: Pieces<'_>,
     format: ProofFormat,
-    mut page: Page,
-    outcome: Outcome<'_>,
+    room: usize,
 ) {
+    let cnf = Pieces::whole(cnf);
+    let mut page = Page::of_room(alloc, room);
     let answer = run_check(&Discard, alloc, cnf, proof, format, &mut page);
     let ended = Ended::of(alloc, page, &answer, exit_status(&answer));
-    assert_eq!(rt; ended.outcome(), outcome);
+    assert_eq!(rt; ended.outcome(), outcome, "{bytes:?}");
 }
 
 fn are_answered(rt: &impl Abort, alloc: Global, rows: &[Row], format: ProofFormat) {
-    for (cnf, proof, outcome) in rows {
-        let texts = (Pieces::whole(cnf), Pieces::whole(proof));
-        is_answered(rt, alloc, texts, format, Page::endless(alloc), *outcome);
+    for row in rows {
+        is_answered(rt, alloc, *row, Pieces::whole(row.1), format, usize::MAX);
     }
 }
 
@@ -140,23 +142,25 @@ fn runs(rt: HostRuntime) {
     are_answered(&rt, rt.alloc(), &AS_DRAT, ProofFormat::Drat);
 }
 
-/// A proof with a read that fails after it, how many bytes can be written, and what is answered.
-const FAILING: [(&[u8], usize, Outcome<'static>); 3] = [
-    (b"1 0\n", usize::MAX, VERIFIED),
+/// A formula, a proof with a read that fails after it and what is answered, and how many bytes can be
+/// written.
+const FAILING: [(Row, usize); 3] = [
+    ((FOUR, b"1 0\n", VERIFIED), usize::MAX),
     (
-        b"1 2 0\n1",
+        (
+            FOUR,
+            b"1 2 0\n1",
+            ("", "proof: error reading proof: broken", 1),
+        ),
         usize::MAX,
-        ("", "proof: error reading proof: broken", 1),
     ),
-    (b"1 0\n", 0, ("", "error writing: full", 1)),
+    ((FOUR, b"1 0\n", ("", "error writing: full", 1)), 0),
 ];
 
 #[test]
 fn reads_and_writes_that_fail(rt: HostRuntime) {
-    for (proof, room, outcome) in FAILING {
-        let proof = Pieces::broken(proof, ErrorKind::ConnectionReset);
-        let texts = (Pieces::whole(FOUR), proof);
-        let page = Page::of_room(rt.alloc(), room);
-        is_answered(&rt, rt.alloc(), texts, ProofFormat::Told, page, outcome);
+    for (row, room) in FAILING {
+        let proof = Pieces::broken(row.1, ErrorKind::ConnectionReset);
+        is_answered(&rt, rt.alloc(), row, proof, ProofFormat::Told, room);
     }
 }

@@ -85,16 +85,18 @@ const BROKEN: [BrokenRow; 4] = [
     ),
 ];
 
-fn is_shown(rt: &impl Abort, alloc: Global, proof: Pieces<'_>, expected: &str) {
+/// What is shown of these bytes as they are read.
+fn is_shown(rt: &impl Abort, alloc: Global, bytes: &[u8], proof: Pieces<'_>, expected: &str) {
     let mut shown = Shown::new(alloc);
     show(&mut shown, &mut DratReader::new(alloc, proof));
-    assert_eq!(rt; shown.text(), expected);
+    assert_eq!(rt; shown.text(), expected, "{bytes:?}");
 }
 
 fn hold(rt: &impl Abort, alloc: Global, rows: &[Row]) {
     for (bytes, expected) in rows {
         for size in [1, 2, 3, 100] {
-            is_shown(rt, alloc, Pieces::of_size(bytes, size), expected);
+            let proof = Pieces::of_size(bytes, size);
+            is_shown(rt, alloc, bytes, proof, expected);
         }
     }
 }
@@ -106,6 +108,6 @@ fn steps(rt: HostRuntime) {
     hold(&rt, rt.alloc(), &BINARY);
     for (bytes, failing, expected) in &BROKEN {
         let proof = Pieces::failing_at(bytes, 1, *failing);
-        is_shown(&rt, rt.alloc(), proof, expected);
+        is_shown(&rt, rt.alloc(), bytes, proof, expected);
     }
 }

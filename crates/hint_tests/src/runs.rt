@@ -37,18 +37,19 @@ const RUNS: [Row; 9] = [
     ("1 2", "5 0 1 2 0", ("", "line 1: unterminated clause", 1)),
 ];
 
-/// As much of the line is written as there is room for.
+/// What is run is named so. As much of the line is written as there is room for.
 fn is_answered(
     rt: &impl Abort,
     alloc: Global,
-    cnf: Pieces<'_>,
-    hints: Pieces<'_>,
-    mut page: Page,
+    name: &str,
+    (cnf, hints): (Pieces<'_>, Pieces<'_>),
+    room: usize,
     outcome: Outcome<'_>,
 ) {
+    let mut page = Page::of_room(alloc, room);
     let answer = run_check(alloc, cnf, hints, &mut page);
     let ended = Ended::of(alloc, page, &answer, exit_status(&answer));
-    assert_eq!(rt; ended.outcome(), outcome);
+    assert_eq!(rt; ended.outcome(), outcome, "{name}");
 }
 
 /// The rows are answered so, read at once and byte by byte.
@@ -57,15 +58,8 @@ fn runs(rt: HostRuntime) {
     for (cnf, hints, outcome) in RUNS {
         for size in [usize::MAX, 1] {
             let cnf = Pieces::of_size(cnf.as_bytes(), size);
-            let hints = Pieces::of_size(hints.as_bytes(), size);
-            is_answered(
-                &rt,
-                rt.alloc(),
-                cnf,
-                hints,
-                Page::endless(rt.alloc()),
-                outcome,
-            );
+            let texts = (cnf, Pieces::of_size(hints.as_bytes(), size));
+            is_answered(&rt, rt.alloc(), hints, texts, usize::MAX, outcome);
         }
     }
 }
@@ -80,13 +74,13 @@ fn reads_and_writes_that_fail(rt: HostRuntime) {
     let hints = Pieces::whole(HINTS);
     let broken = Pieces::broken(UNITS.as_bytes(), ErrorKind::ConnectionReset);
     let outcome = ("", "error reading formula: broken", 1);
-    is_answered(&rt, alloc, broken, hints, Page::endless(alloc), outcome);
+    is_answered(&rt, alloc, "formula", (broken, hints), usize::MAX, outcome);
     let broken = Pieces::broken(HINTS, ErrorKind::ConnectionReset);
     let outcome = ("", "error reading hints: broken", 1);
-    is_answered(&rt, alloc, units, broken, Page::endless(alloc), outcome);
+    is_answered(&rt, alloc, "hints", (units, broken), usize::MAX, outcome);
     let broken = Pieces::broken(HINTS, ErrorKind::OutOfMemory);
     let outcome = ("", "out of memory", 1);
-    is_answered(&rt, alloc, units, broken, Page::endless(alloc), outcome);
+    is_answered(&rt, alloc, "memory", (units, broken), usize::MAX, outcome);
     let outcome = ("", "error writing: full", 1);
-    is_answered(&rt, alloc, units, hints, Page::of_room(alloc, 0), outcome);
+    is_answered(&rt, alloc, "line", (units, hints), 0, outcome);
 }

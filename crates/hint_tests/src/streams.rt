@@ -17,15 +17,15 @@ fn show<E: Display>(shown: &mut Shown, answer: &Result<bool, E>) {
     }
 }
 
-/// What a new checker of the two clauses answers, and what it answers to an empty text then: after
-/// a fault no text is checked.
-fn is_told(rt: &impl Abort, alloc: Global, text: Pieces<'_>, expected: &str) {
+/// What a new checker of the two clauses answers to a text, which is named so, and what it answers
+/// to an empty text then: after a fault no text is checked.
+fn is_told(rt: &impl Abort, alloc: Global, name: &str, text: Pieces<'_>, expected: &str) {
     let mut checker = new_checker(rt, alloc, UNITS);
     let mut shown = Shown::new(alloc);
     show(&mut shown, &checker.check_reader(text));
     shown.words(", then ");
     show(&mut shown, &checker.check(b""));
-    assert_eq!(rt; shown.text(), expected);
+    assert_eq!(rt; shown.text(), expected, "{name}");
 }
 
 /// A line that stands there 9000 times, and a last one: lines of eight bytes, the last of which
@@ -50,7 +50,7 @@ fn long_texts(rt: HostRuntime) {
     for (line, last, expected) in LONG {
         let text = Shown::of_parts(rt.alloc(), &[(line, 9000), (last, 1)]);
         let pieces = Pieces::whole(text.text().as_bytes());
-        is_told(&rt, rt.alloc(), pieces, expected);
+        is_told(&rt, rt.alloc(), line, pieces, expected);
     }
 }
 
@@ -58,12 +58,12 @@ const UNREAD: &str = "error reading hints: broken, then line 0: malformed line";
 
 /// A line that is refused is told though a read after it fails; one that was not read to its end is
 /// not judged.
-const BROKEN: [(&[u8], &str); 4] = [
-    (b"", UNREAD),
-    (b"3 0 1 2 0", UNREAD),
-    (b"3 1 0 1 0\nx", UNREAD),
+const BROKEN: [(&str, &str); 4] = [
+    ("", UNREAD),
+    ("3 0 1 2 0", UNREAD),
+    ("3 1 0 1 0\nx", UNREAD),
     (
-        b"x\n",
+        "x\n",
         "line 1: malformed line, then line 0: malformed line",
     ),
 ];
@@ -71,7 +71,7 @@ const BROKEN: [(&[u8], &str); 4] = [
 #[test]
 fn reads_that_fail(rt: HostRuntime) {
     for (text, expected) in BROKEN {
-        let pieces = Pieces::broken(text, ErrorKind::ConnectionReset);
-        is_told(&rt, rt.alloc(), pieces, expected);
+        let pieces = Pieces::broken(text.as_bytes(), ErrorKind::ConnectionReset);
+        is_told(&rt, rt.alloc(), text, pieces, expected);
     }
 }

@@ -49,24 +49,25 @@ fn show(shown: &mut Shown, answer: Result<bool, LratFault>) {
     }
 }
 
+/// The proof of this text is answered so.
 fn is_answered(
     rt: &impl Abort,
     alloc: Global,
     checker: &mut LratChecker,
-    proof: Pieces<'_>,
+    (text, proof): (&str, Pieces<'_>),
     answer: &str,
 ) {
     let mut shown = Shown::new(alloc);
     show(&mut shown, checker.check(proof));
-    assert_eq!(rt; shown.text(), answer);
+    assert_eq!(rt; shown.text(), answer, "{text}");
 }
 
-/// The proof is answered so by a new checker.
+/// The proof of this text is answered so by a new checker.
 fn is_newly_answered(
     rt: &impl Abort,
     alloc: Global,
     formula: &CnfFormula,
-    proof: Pieces<'_>,
+    proof: (&str, Pieces<'_>),
     answer: &str,
 ) {
     let mut checker = LratChecker::new(alloc, formula).expect(rt, "a checker");
@@ -88,23 +89,24 @@ fn is_answered_broken(
     rt: &impl Abort,
     alloc: Global,
     formula: &CnfFormula,
-    proof: &[u8],
+    proof: &str,
     answer: &str,
 ) {
     for read in 0..=proof.len() {
-        let text = &proof[..read];
+        let text = &proof.as_bytes()[..read];
         let answer = broken_after(answer, line_ends(text));
         let broken = Pieces::broken(text, ErrorKind::Interrupted);
-        is_newly_answered(rt, alloc, formula, broken, answer);
+        is_newly_answered(rt, alloc, formula, (proof, broken), answer);
     }
 }
 
 /// The proof is answered so, read at once and byte by byte, and also where one of its reads fails.
 fn holds(rt: &impl Abort, alloc: Global, (formula, proof, answer): Row) {
     let formula = read_formula(alloc, formula.as_bytes()).expect(rt, "a formula");
-    let proof = proof.as_bytes();
-    is_newly_answered(rt, alloc, &formula, Pieces::whole(proof), answer);
-    is_newly_answered(rt, alloc, &formula, Pieces::of_size(proof, 1), answer);
+    for size in [usize::MAX, 1] {
+        let pieces = Pieces::of_size(proof.as_bytes(), size);
+        is_newly_answered(rt, alloc, &formula, (proof, pieces), answer);
+    }
     is_answered_broken(rt, alloc, &formula, proof, answer);
 }
 
@@ -140,7 +142,7 @@ fn empty_clauses_of_formulas(rt: HostRuntime) {
         for size in [usize::MAX, 1] {
             let mut checker = new_checker(&rt, rt.alloc(), formula);
             let pieces = Pieces::of_size(proof.as_bytes(), size);
-            is_answered(&rt, rt.alloc(), &mut checker, pieces, answer);
+            is_answered(&rt, rt.alloc(), &mut checker, (proof, pieces), answer);
         }
     }
 }

@@ -69,33 +69,27 @@ const RUNS: [Row; 17] = [
     ("0", "", VERIFIED),
 ];
 
-/// As much of the line is written as there is room for.
+/// What is run is named so. As much of the line is written as there is room for.
 fn is_answered(
     rt: &impl Abort,
     alloc: Global,
-    cnf: Pieces<'_>,
-    proof: Pieces<'_>,
-    mut page: Page,
+    name: &str,
+    (cnf, proof): (Pieces<'_>, Pieces<'_>),
+    room: usize,
     outcome: Outcome<'_>,
 ) {
+    let mut page = Page::of_room(alloc, room);
     let answer = run_check(alloc, cnf, proof, &mut page);
     let ended = Ended::of(alloc, page, &answer, exit_status(&answer));
-    assert_eq!(rt; ended.outcome(), outcome);
+    assert_eq!(rt; ended.outcome(), outcome, "{name}");
 }
 
 #[test]
 fn runs(rt: HostRuntime) {
     for (cnf, proof, outcome) in RUNS {
         let cnf = Pieces::whole(cnf.as_bytes());
-        let proof = Pieces::whole(proof.as_bytes());
-        is_answered(
-            &rt,
-            rt.alloc(),
-            cnf,
-            proof,
-            Page::endless(rt.alloc()),
-            outcome,
-        );
+        let texts = (cnf, Pieces::whole(proof.as_bytes()));
+        is_answered(&rt, rt.alloc(), proof, texts, usize::MAX, outcome);
     }
 }
 
@@ -103,13 +97,13 @@ fn runs(rt: HostRuntime) {
 fn reads_and_writes_that_fail(rt: HostRuntime) {
     let alloc = rt.alloc();
     let four = Pieces::whole(FOUR.as_bytes());
-    let formula = Pieces::broken(b"1 0 -1 0", ErrorKind::ConnectionReset);
+    let broken = Pieces::broken(b"1 0 -1 0", ErrorKind::ConnectionReset);
     let outcome = ("", "formula: error reading formula: broken", 1);
-    is_answered(&rt, alloc, formula, four, Page::endless(alloc), outcome);
-    let proof = Pieces::broken(b"5 1 0 1 2 0\n6 0 5", ErrorKind::ConnectionReset);
+    is_answered(&rt, alloc, "formula", (broken, four), usize::MAX, outcome);
+    let broken = Pieces::broken(b"5 1 0 1 2 0\n6 0 5", ErrorKind::ConnectionReset);
     let outcome = ("", "proof: error reading proof: broken", 1);
-    is_answered(&rt, alloc, four, proof, Page::endless(alloc), outcome);
+    is_answered(&rt, alloc, "proof", (four, broken), usize::MAX, outcome);
     let proof = Pieces::whole(b"5 1 0 1 2 0\n6 0 5 3 4 0\n");
     let outcome = ("", "error writing: full", 1);
-    is_answered(&rt, alloc, four, proof, Page::of_room(alloc, 0), outcome);
+    is_answered(&rt, alloc, "line", (four, proof), 0, outcome);
 }

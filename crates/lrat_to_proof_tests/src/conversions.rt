@@ -176,30 +176,24 @@ fn ran(
     cnf: Pieces<'_>,
     proof: Pieces<'_>,
     width: HashWidth,
-    mut page: Page,
+    room: usize,
 ) -> Ended {
+    let mut page = Page::of_room(alloc, room);
     let answer = convert(alloc, cnf, proof, width, &mut page);
     Ended::of(alloc, page, &answer, exit_status(&answer))
 }
 
-/// The exit status and the bytes of the proof are these.
+/// The exit status and the bytes of the proof are these. The formula and the proof are named so.
 fn converts(
     rt: &impl Abort,
     alloc: Global,
-    cnf: &[u8],
-    proof: Pieces<'_>,
+    name: &[u8],
+    (cnf, proof): (&[u8], Pieces<'_>),
     width: HashWidth,
-    (status, bytes): (u8, &[u8]),
+    outcome: (u8, &[u8]),
 ) {
-    let ended = ran(
-        alloc,
-        Pieces::whole(cnf),
-        proof,
-        width,
-        Page::endless(alloc),
-    );
-    assert_eq!(rt; ended.status(), status);
-    assert_eq!(rt; ended.bytes(), bytes);
+    let ended = ran(alloc, Pieces::whole(cnf), proof, width, usize::MAX);
+    assert_eq!(rt; (ended.status(), ended.bytes()), outcome, "{name:?}");
 }
 
 /// In the end a proof whose bytes come one by one, and none after the empty clause.
@@ -207,15 +201,17 @@ fn converts(
 fn conversions(rt: HostRuntime) {
     let full = HashWidth::full();
     for (cnf, proof, outcome) in CONVERTED {
-        converts(&rt, rt.alloc(), cnf, Pieces::whole(proof), full, outcome);
+        let texts = (cnf, Pieces::whole(proof));
+        converts(&rt, rt.alloc(), proof, texts, full, outcome);
     }
     // The proof of a formula that is refuted is not read.
     for cnf in REFUTED_FORMULAS {
         let unread = Pieces::broken(b"", ErrorKind::ConnectionReset);
-        converts(&rt, rt.alloc(), cnf, unread, full, (0, NO_STEP));
+        converts(&rt, rt.alloc(), cnf, (cnf, unread), full, (0, NO_STEP));
     }
     let broken = Pieces::broken(REFUTATION, ErrorKind::ConnectionReset);
-    converts(&rt, rt.alloc(), FOUR, broken, full, (0, REFUTED));
+    let outcome = (0, REFUTED);
+    converts(&rt, rt.alloc(), b"broken", (FOUR, broken), full, outcome);
 }
 
 #[test]
@@ -225,30 +221,29 @@ fn narrow_hashes(rt: HostRuntime) {
     assert!(rt; HashWidth::from_bits(0).is_none());
     assert!(rt; HashWidth::from_bits(65).is_none());
     assert_eq!(rt; HashWidth::from_bits(64), Some(HashWidth::full()));
-    let proof = Pieces::whole(REFUTATION);
+    let texts = (FOUR, Pieces::whole(REFUTATION));
     let outcome = (0, REFUTED_IN_NINE_BITS);
-    converts(&rt, rt.alloc(), FOUR, proof, nine, outcome);
+    converts(&rt, rt.alloc(), b"nine", texts, nine, outcome);
 }
 
-/// There is no conversion, and the fault has this text.
+/// There is no conversion, and the fault has this text. The formula and the proof are named so.
 fn refuses(
     rt: &impl Abort,
     alloc: Global,
-    cnf: Pieces<'_>,
-    proof: Pieces<'_>,
-    page: Page,
+    name: &[u8],
+    (cnf, proof): (Pieces<'_>, Pieces<'_>),
+    room: usize,
     text: &str,
 ) {
-    let ended = ran(alloc, cnf, proof, HashWidth::full(), page);
-    assert_eq!(rt; (ended.status(), ended.fault()), (1, text));
+    let ended = ran(alloc, cnf, proof, HashWidth::full(), room);
+    assert_eq!(rt; (ended.status(), ended.fault()), (1, text), "{name:?}");
 }
 
 #[test]
 fn refusals(rt: HostRuntime) {
     for (cnf, proof, text) in REFUSED {
-        let cnf = Pieces::whole(cnf);
-        let proof = Pieces::whole(proof);
-        refuses(&rt, rt.alloc(), cnf, proof, Page::endless(rt.alloc()), text);
+        let texts = (Pieces::whole(cnf), Pieces::whole(proof));
+        refuses(&rt, rt.alloc(), proof, texts, usize::MAX, text);
     }
 }
 
@@ -258,16 +253,17 @@ fn reads_and_writes_that_fail(rt: HostRuntime) {
     let four = Pieces::whole(FOUR);
     let refutation = Pieces::whole(REFUTATION);
     let formula = Pieces::broken(b"1 0 2 0", ErrorKind::ConnectionReset);
+    let texts = (formula, refutation);
     let text = "formula: error reading formula: broken";
-    refuses(&rt, alloc, formula, refutation, Page::endless(alloc), text);
+    refuses(&rt, alloc, b"formula", texts, usize::MAX, text);
     let proof = Pieces::broken(b"5 1 0 1 2 0\n6 0 5", ErrorKind::ConnectionReset);
     let text = "error reading proof: broken";
-    refuses(&rt, alloc, four, proof, Page::endless(alloc), text);
+    refuses(&rt, alloc, b"proof", (four, proof), usize::MAX, text);
+    let texts = (four, refutation);
     for room in 0..REFUTED.len() {
-        let page = Page::of_room(alloc, room);
-        refuses(&rt, alloc, four, refutation, page, "error writing: full");
+        let text = "error writing: full";
+        refuses(&rt, alloc, &REFUTED[..room], texts, room, text);
     }
-    let page = Page::of_room(alloc, REFUTED.len());
-    let ended = ran(alloc, four, refutation, HashWidth::full(), page);
+    let ended = ran(alloc, four, refutation, HashWidth::full(), REFUTED.len());
     assert_eq!(rt; ended.status(), 0);
 }

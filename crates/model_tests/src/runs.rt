@@ -90,34 +90,31 @@ fn unmet_clause(answer: &Result<Verdict, RunFault>) -> u64 {
     }
 }
 
-/// As much of the line is written as there is room for.
+/// What is answered to literals, which are named so. As much of the line is written as there is room
+/// for.
 fn is_answered(
     rt: &impl Abort,
     alloc: Global,
-    cnf: Pieces<'_>,
-    literals: Pieces<'_>,
-    mut page: Page,
+    name: &[u8],
+    (cnf, literals): (Pieces<'_>, Pieces<'_>),
+    room: usize,
     (line, fault, unmet, status): Outcome,
 ) {
+    let mut page = Page::of_room(alloc, room);
     let answer = run_check(alloc, cnf, literals, &mut page);
-    assert_eq!(rt; unmet_clause(&answer), unmet);
     let ended = Ended::of(alloc, page, &answer, exit_status(&answer));
-    assert_eq!(rt; ended.outcome(), (line, fault, status));
+    assert_eq!(rt;
+        (ended.outcome(), unmet_clause(&answer)),
+        ((line, fault, status), unmet),
+        "{name:?}"
+    );
 }
 
 #[test]
 fn runs(rt: HostRuntime) {
     for (cnf, literals, outcome) in RUNS {
-        let cnf = Pieces::whole(cnf);
-        let literals = Pieces::whole(literals);
-        is_answered(
-            &rt,
-            rt.alloc(),
-            cnf,
-            literals,
-            Page::endless(rt.alloc()),
-            outcome,
-        );
+        let texts = (Pieces::whole(cnf), Pieces::whole(literals));
+        is_answered(&rt, rt.alloc(), literals, texts, usize::MAX, outcome);
     }
 }
 
@@ -130,12 +127,12 @@ fn reads_and_writes_that_fail(rt: HostRuntime) {
     let literals = Pieces::whole(ANSWER);
     let broken = Pieces::broken(ANSWER, ErrorKind::ConnectionReset);
     let outcome = ("", "answer: error reading answer: broken", 0, 1);
-    is_answered(&rt, alloc, cnf, broken, Page::endless(alloc), outcome);
+    is_answered(&rt, alloc, ANSWER, (cnf, broken), usize::MAX, outcome);
     let broken = Pieces::broken(THREE, ErrorKind::ConnectionReset);
     let outcome = ("", "formula: error reading formula: broken", 0, 1);
-    is_answered(&rt, alloc, broken, literals, Page::endless(alloc), outcome);
+    is_answered(&rt, alloc, ANSWER, (broken, literals), usize::MAX, outcome);
     let outcome = ("", "error writing: full", 0, 1);
-    is_answered(&rt, alloc, cnf, literals, Page::of_room(alloc, 0), outcome);
+    is_answered(&rt, alloc, ANSWER, (cnf, literals), 0, outcome);
 }
 
 /// A formula, the number of a clause, and the line on which it ends.
@@ -153,7 +150,7 @@ const LINES: [LineRow; 5] = [
 fn lines_of_clauses(rt: HostRuntime) {
     for (cnf, number, line) in LINES {
         let found = line_of_clause(rt.alloc(), Pieces::whole(cnf), number);
-        assert_eq!(rt; found, Ok(line));
+        assert_eq!(rt; found, Ok(line), "{cnf:?}");
     }
     let broken = Pieces::broken(THREE, ErrorKind::ConnectionReset);
     assert_eq!(rt; line_of_clause(rt.alloc(), broken, 4), Err(NoByte::Read));

@@ -4,10 +4,11 @@ use std::alloc::Global;
 use std::process::Abort;
 use test_streams::{Pieces, Shown};
 
-/// Shows each clause by its numbers, the text of a fault and how many literals it left, to the end.
-fn show(shown: &mut Shown, alloc: Global, reader: &mut DimacsReader<Pieces<'_>>) {
+/// Shows each of so many clauses by its numbers, the text of a fault and how many literals it left,
+/// to the end.
+fn show(shown: &mut Shown, alloc: Global, reader: &mut DimacsReader<Pieces<'_>>, calls: u32) {
     let mut lits: Vec<Lit> = Vec::new(alloc);
-    for _ in 0..100u32 {
+    for _ in 0..calls {
         match reader.next_clause(&mut lits) {
             Ok(true) => show_clause(shown, &lits),
             Ok(false) => {
@@ -94,7 +95,12 @@ fn is_shown(
 ) {
     let pieces = Pieces::failing_at(text, size, read.saturating_add(1));
     let mut shown = Shown::new(alloc);
-    show(&mut shown, alloc, &mut DimacsReader::new(alloc, pieces));
+    show(
+        &mut shown,
+        alloc,
+        &mut DimacsReader::new(alloc, pieces),
+        100,
+    );
     let mut expected = Shown::new(alloc);
     show_expected(&mut expected, answers, read);
     assert_eq!(rt;
@@ -137,7 +143,7 @@ const LONG_SHOWN: [(&str, u32); 3] = [
     ("]line 2: bad number, 0 kept, end", 1),
 ];
 
-/// What is counted has the variable 12, and the clause before the fault.
+/// What is counted has the variable 12, and the clause before the fault, from that clause on.
 #[test]
 fn long_texts(rt: HostRuntime) {
     let text = Shown::of_parts(rt.alloc(), &LONG);
@@ -145,7 +151,9 @@ fn long_texts(rt: HostRuntime) {
     let pieces = Pieces::whole(text.text().as_bytes());
     let mut reader = DimacsReader::new(rt.alloc(), pieces);
     let mut shown = Shown::new(rt.alloc());
-    show(&mut shown, rt.alloc(), &mut reader);
+    show(&mut shown, rt.alloc(), &mut reader, 1);
+    assert_eq!(rt; (reader.var_count(), reader.clause_count()), (12, 1));
+    show(&mut shown, rt.alloc(), &mut reader, 99);
     assert!(rt; shown.text() == expected.text());
     assert_eq!(rt; (reader.var_count(), reader.clause_count()), (12, 1));
 }

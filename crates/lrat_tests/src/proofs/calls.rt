@@ -34,7 +34,11 @@ fn answers(rt: &impl Abort, alloc: Global, checker: &mut LratChecker, calls: Cal
     for (call, proof, answer, refuted) in calls {
         let mut shown = Shown::new(alloc);
         show_call(&mut shown, checker, *call, proof.as_bytes());
-        assert_eq!(rt; (shown.text(), checker.refuted()), (*answer, *refuted));
+        assert_eq!(rt;
+            (shown.text(), checker.refuted()),
+            (*answer, *refuted),
+            "{proof}"
+        );
     }
 }
 
@@ -140,7 +144,8 @@ fn calls(rt: HostRuntime) {
 
 /// Checks a text, which is answered so.
 fn checks(rt: &impl Abort, alloc: Global, checker: &mut LratChecker, text: &str, answer: &str) {
-    is_answered(rt, alloc, checker, Pieces::whole(text.as_bytes()), answer);
+    let proof = (text, Pieces::whole(text.as_bytes()));
+    is_answered(rt, alloc, checker, proof, answer);
 }
 
 /// Clauses are added and deleted again, more than the checker first has room for: of two clauses

@@ -40,18 +40,19 @@ fn many_shown(alloc: Global) -> Shown {
     shown
 }
 
-fn is_shown(rt: &impl Abort, alloc: Global, text: &Shown, expected: &Shown) {
+fn is_shown(rt: &impl Abort, alloc: Global, name: &str, text: &Shown, expected: &Shown) {
     let mut shown = Shown::new(alloc);
     let pieces = Pieces::whole(text.text().as_bytes());
     show(&mut shown, &mut LineReader::new(alloc, pieces), 10000);
-    assert!(rt; shown.text() == expected.text());
+    assert!(rt; shown.text() == expected.text(), "{name}");
 }
 
 #[test]
 fn long_texts(rt: HostRuntime) {
     let text = Shown::of_parts(rt.alloc(), &LONG);
     let expected = Shown::of_parts(rt.alloc(), &LONG_SHOWN);
-    is_shown(&rt, rt.alloc(), &text, &expected);
+    is_shown(&rt, rt.alloc(), "a long line", &text, &expected);
     let text = Shown::of_parts(rt.alloc(), &MANY);
-    is_shown(&rt, rt.alloc(), &text, &many_shown(rt.alloc()));
+    let expected = many_shown(rt.alloc());
+    is_shown(&rt, rt.alloc(), "many lines", &text, &expected);
 }

@@ -175,29 +175,31 @@ fn show_expected(shown: &mut Shown, answers: &[(usize, &str)], lines: usize) {
     shown.words("end");
 }
 
-/// The answers are these, up to those of so many lines.
+/// The answers to this text are these, up to those of so many lines.
 fn is_answered(
     rt: &impl Abort,
     alloc: Global,
+    (text, pieces): (&[u8], Pieces<'_>),
     answers: &[(usize, &str)],
-    text: Pieces<'_>,
     lines: usize,
 ) {
     let mut shown = Shown::new(alloc);
-    show(&mut shown, &mut LineReader::new(alloc, text), 10);
+    show(&mut shown, &mut LineReader::new(alloc, pieces), 10);
     let mut expected = Shown::new(alloc);
     show_expected(&mut expected, answers, lines);
-    assert_eq!(rt; shown.text(), expected.text());
+    assert_eq!(rt; shown.text(), expected.text(), "{text:?}");
 }
 
 /// The row is answered so read at once and in pieces, and where any of its reads fails.
 fn holds(rt: &impl Abort, alloc: Global, (text, answers): Row) {
     for size in [usize::MAX, 1, 2] {
-        is_answered(rt, alloc, answers, Pieces::of_size(text, size), usize::MAX);
+        let pieces = Pieces::of_size(text, size);
+        is_answered(rt, alloc, (text, pieces), answers, usize::MAX);
     }
     for read in 0..=text.len() {
         let broken = Pieces::failing_at(text, 1, read.saturating_add(1));
-        is_answered(rt, alloc, answers, broken, line_ends(&text[..read]));
+        let lines = line_ends(&text[..read]);
+        is_answered(rt, alloc, (text, broken), answers, lines);
     }
 }
 
