@@ -34,10 +34,11 @@ enum Kind {
 /// which is none where it is accepted; and the line that is written of it.
 type Row = (Kind, u64, &'static [i64], &'static str, &'static str);
 
-/// How many input clauses are announced, and what is told then.
-type Script = (u64, &'static [Row]);
+/// What is shown, how many input clauses are announced, and what is told then.
+type Script = (&'static str, u64, &'static [Row]);
 
 const REFUTATION: Script = (
+    "a refutation",
     4,
     &[
         (Kind::Add, 0, &[1, 2], "", ""),
@@ -65,8 +66,8 @@ const REFUTATION: Script = (
     ],
 );
 
-/// Repeated clauses have numbers.
 const REPEATED: Script = (
+    "repeated clauses have numbers",
     3,
     &[
         (Kind::Add, 0, &[1, 2], "", ""),
@@ -82,8 +83,8 @@ const REPEATED: Script = (
     ],
 );
 
-/// Tautologies have numbers.
 const TAUTOLOGIES: Script = (
+    "tautologies have numbers",
     2,
     &[
         (Kind::Add, 0, &[1, 2], "", ""),
@@ -101,6 +102,7 @@ const TAUTOLOGIES: Script = (
 );
 
 const LATE_INPUT: Script = (
+    "input clauses come first",
     2,
     &[
         (Kind::Add, 0, &[1], "", ""),
@@ -122,6 +124,7 @@ const LATE_INPUT: Script = (
 );
 
 const ONE_MORE_THAN_ANNOUNCED: Script = (
+    "no more input clauses than announced",
     1,
     &[
         (Kind::Add, 0, &[1], "", ""),
@@ -129,8 +132,8 @@ const ONE_MORE_THAN_ANNOUNCED: Script = (
     ],
 );
 
-/// Deletions repeat the last number.
 const DELETION: Script = (
+    "a deletion repeats the last number",
     2,
     &[
         (Kind::Add, 0, &[1], "", ""),
@@ -149,6 +152,7 @@ const DELETION: Script = (
 );
 
 const DELETION_OF_A_UNIT: Script = (
+    "a deletion of a unit repeats it too",
     2,
     &[
         (Kind::Add, 0, &[1], "", ""),
@@ -167,6 +171,7 @@ const DELETION_OF_A_UNIT: Script = (
 );
 
 const WITHOUT_A_LINE: Script = (
+    "steps without a line",
     2,
     &[
         (Kind::Add, 0, &[1], "", ""),
@@ -189,8 +194,9 @@ const WITHOUT_A_LINE: Script = (
 
 const OUT_OF_RANGE: &str = "clause number out of range";
 
-/// Numbers stay below 2^64: none is left, or one.
+/// Numbers stay below 2^64.
 const NO_NUMBER: Script = (
+    "no number is left",
     u64::MAX,
     &[
         (Kind::Derive { propagations: &[] }, 0, &[], OUT_OF_RANGE, ""),
@@ -199,6 +205,7 @@ const NO_NUMBER: Script = (
 );
 
 const ONE_NUMBER: Script = (
+    "one number is left",
     0,
     &[
         (
@@ -242,12 +249,13 @@ const SCRIPTS: [Script; 10] = [
 ];
 
 /// The literals of these numbers.
-fn lits(alloc: Global, numbers: &[i64]) -> Result<Vec<Lit>, WriterFault> {
+fn lits(rt: &impl Abort, alloc: Global, numbers: &[i64]) -> Vec<Lit> {
     let mut lits = Vec::new(alloc);
     for number in numbers {
-        lits.push(Lit::from_dimacs(*number).ok_or(WriterFault::NumberOutOfRange)?)?;
+        let lit = Lit::from_dimacs(*number).expect(rt, "a literal");
+        lits.push(lit).expect(rt, "room");
     }
-    Ok(lits)
+    lits
 }
 
 /// The step of a clause. One on a single literal is on this one, or on its variable.
@@ -317,31 +325,23 @@ fn step_of<'a>(kind: Kind, id: u64, clause: &'a [Lit], one: Lit) -> CheckedProof
     }
 }
 
-/// Tells a step.
-fn tell(
-    alloc: Global,
-    writer: &mut LratWriter,
-    kind: Kind,
-    id: u64,
-    numbers: &[i64],
-) -> Result<(), WriterFault> {
-    let one = Lit::from_dimacs(1).ok_or(WriterFault::NumberOutOfRange)?;
-    let clause = lits(alloc, numbers)?;
-    writer.write_step(&step_of(kind, id, &clause, one))
-}
-
 /// Each step of a script is answered so, and the lines are these after each.
-fn plays(rt: &impl Abort, alloc: Global, (announced, rows): Script) {
+fn plays(rt: &impl Abort, alloc: Global, (name, announced, rows): Script) {
+    let one = Lit::from_dimacs(1).expect(rt, "a literal");
     let mut writer = LratWriter::new(alloc, announced);
     let mut written = Shown::new(alloc);
     for (kind, id, numbers, fault, line) in rows {
+        let clause = lits(rt, alloc, numbers);
         let mut shown = Shown::new(alloc);
-        if let Err(answer) = tell(alloc, &mut writer, *kind, *id, numbers) {
+        if let Err(answer) = writer.write_step(&step_of(*kind, *id, &clause, one)) {
             shown.value(&answer);
         }
-        assert_eq!(rt; shown.text(), *fault);
         written.words(line);
-        assert_eq!(rt; writer.output(), written.text().as_bytes());
+        assert_eq!(rt;
+            (shown.text(), writer.output()),
+            (*fault, written.text().as_bytes()),
+            "{name}, {id}"
+        );
     }
 }
 
@@ -398,7 +398,7 @@ fn plays_in_a_box(rt: &impl Abort, alloc: Global, processor: &mut dyn ProofProce
         if let Err(fault) = processor.process_step(&step, CheckerData(&variables)) {
             shown.value(&fault);
         }
-        assert_eq!(rt; shown.text(), text);
+        assert_eq!(rt; shown.text(), text, "{id}");
     }
     assert_eq!(rt; processor.output(), b"3 1 0 1 0\n".as_slice());
 }
