@@ -62,10 +62,7 @@ const BROKEN: [(&str, &str); 4] = [
     ("", UNREAD),
     ("3 0 1 2 0", UNREAD),
     ("3 1 0 1 0\nx", UNREAD),
-    (
-        "x\n",
-        "line 1: malformed line, then line 0: malformed line",
-    ),
+    ("x\n", "line 1: malformed line, then line 0: malformed line"),
 ];
 
 #[test]
