@@ -3,7 +3,6 @@ use std::alloc::Global;
 use std::io;
 use std::io::{BufWriter, ErrorKind, Write};
 use std::process::Abort;
-use std::test::Fail;
 use whole_writes::{append_whole, write_whole};
 
 /// Takes up to so many bytes a write, every other time after it was interrupted, and none past its
@@ -149,10 +148,10 @@ fn writes(rt: HostRuntime) {
 }
 
 #[test]
-fn buffers_are_emptied(rt: HostRuntime) -> Result<(), Fail> {
-    let mut out = BufWriter::new(rt.alloc(), Vec::new(rt.alloc()))?;
+fn buffers_are_emptied(rt: HostRuntime) {
+    let buffered = BufWriter::new(rt.alloc(), Vec::new(rt.alloc()));
+    let mut out = buffered.expect(&rt, "a buffer");
     empties_its_buffer(&rt, &mut out);
-    Ok(())
 }
 
 fn empties_its_buffer(rt: &impl Abort, out: &mut BufWriter<Vec<u8>>) {
