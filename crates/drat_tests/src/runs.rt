@@ -142,8 +142,8 @@ fn runs(rt: HostRuntime) {
     are_answered(&rt, rt.alloc(), &AS_DRAT, ProofFormat::Drat);
 }
 
-/// A formula, a proof with a read that fails after it and what is answered, and how many bytes can be
-/// written.
+/// A formula, a proof with a read that fails after it and what is answered, and how many bytes can
+/// be written.
 const FAILING: [(Row, usize); 3] = [
     ((FOUR, b"1 0\n", VERIFIED), usize::MAX),
     (

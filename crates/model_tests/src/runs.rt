@@ -90,8 +90,8 @@ fn unmet_clause(answer: &Result<Verdict, RunFault>) -> u64 {
     }
 }
 
-/// What is answered to literals, which are named so. As much of the line is written as there is room
-/// for.
+/// What is answered to literals, which are named so. As much of the line is written as there is
+/// room for.
 fn is_answered(
     rt: &impl Abort,
     alloc: Global,
