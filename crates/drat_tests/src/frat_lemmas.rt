@@ -95,9 +95,13 @@ fn is_told(rt: &impl Abort, alloc: Global, (formula, proof, told): Row) {
     assert_eq!(rt; shown.text(), told, "{proof}");
 }
 
+fn are_told(rt: &impl Abort, alloc: Global, rows: &[Row]) {
+    for row in rows {
+        is_told(rt, alloc, *row);
+    }
+}
+
 #[test]
 fn rows(rt: HostRuntime) {
-    for row in ROWS {
-        is_told(&rt, rt.alloc(), row);
-    }
+    are_told(&rt, rt.alloc(), &ROWS);
 }

@@ -227,9 +227,13 @@ const ROWS: [Row; 7] = [
     EMPTY,
 ];
 
+fn are_told(rt: &impl Abort, alloc: Global, rows: &[Row]) {
+    for row in rows {
+        is_told(rt, alloc, *row);
+    }
+}
+
 #[test]
 fn proofs(rt: HostRuntime) {
-    for row in ROWS {
-        is_told(&rt, rt.alloc(), row);
-    }
+    are_told(&rt, rt.alloc(), &ROWS);
 }

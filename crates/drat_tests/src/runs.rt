@@ -157,10 +157,14 @@ const FAILING: [(Row, usize); 3] = [
     ((FOUR, b"1 0\n", ("", "error writing: full", 1)), 0),
 ];
 
+fn are_answered_broken(rt: &impl Abort, alloc: Global, rows: &[(Row, usize)]) {
+    for (row, room) in rows {
+        let proof = Pieces::broken(row.1, ErrorKind::ConnectionReset);
+        is_answered(rt, alloc, *row, proof, ProofFormat::Told, *room);
+    }
+}
+
 #[test]
 fn reads_and_writes_that_fail(rt: HostRuntime) {
-    for (row, room) in FAILING {
-        let proof = Pieces::broken(row.1, ErrorKind::ConnectionReset);
-        is_answered(&rt, rt.alloc(), row, proof, ProofFormat::Told, room);
-    }
+    are_answered_broken(&rt, rt.alloc(), &FAILING);
 }

@@ -150,8 +150,8 @@ const TABLES: [&[Row]; 5] = [&CALLS, &NOTHING, &ADDED, &PARTS, &DELETED];
 
 #[test]
 fn rows(rt: HostRuntime) {
-    for rows in TABLES {
-        for (formula, texts) in rows {
+    for rows in &TABLES {
+        for (formula, texts) in *rows {
             let mut checker = new_checker(&rt, rt.alloc(), formula);
             answers(&rt, &mut checker, texts);
         }
@@ -160,18 +160,18 @@ fn rows(rt: HostRuntime) {
 
 #[test]
 fn malformed_lines(rt: HostRuntime) {
-    for line in MALFORMED {
+    for line in &MALFORMED {
         let mut checker = new_checker(&rt, rt.alloc(), "");
         let malformed = Err(HintFault::Malformed { line: 1 });
-        answers(&rt, &mut checker, &[(line, malformed)]);
+        answers(&rt, &mut checker, &[(*line, malformed)]);
     }
 }
 
 #[test]
 fn texts_of_faults(rt: HostRuntime) {
-    for (fault, text) in FAULTS {
+    for (fault, text) in &FAULTS {
         let mut shown = Shown::new(rt.alloc());
-        shown.value(&fault);
-        assert_eq!(rt; shown.text(), text);
+        shown.value(fault);
+        assert_eq!(rt; shown.text(), *text);
     }
 }

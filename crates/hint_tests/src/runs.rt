@@ -55,11 +55,11 @@ fn is_answered(
 /// The rows are answered so, read at once and byte by byte.
 #[test]
 fn runs(rt: HostRuntime) {
-    for (cnf, hints, outcome) in RUNS {
+    for (cnf, hints, outcome) in &RUNS {
         for size in [usize::MAX, 1] {
             let cnf = Pieces::of_size(cnf.as_bytes(), size);
             let texts = (cnf, Pieces::of_size(hints.as_bytes(), size));
-            is_answered(&rt, rt.alloc(), hints, texts, usize::MAX, outcome);
+            is_answered(&rt, rt.alloc(), hints, texts, usize::MAX, *outcome);
         }
     }
 }

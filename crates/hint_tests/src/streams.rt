@@ -47,8 +47,8 @@ const LONG: [(&str, &str, &str); 4] = [
 
 #[test]
 fn long_texts(rt: HostRuntime) {
-    for (line, last, expected) in LONG {
-        let text = Shown::of_parts(rt.alloc(), &[(line, 9000), (last, 1)]);
+    for (line, last, expected) in &LONG {
+        let text = Shown::of_parts(rt.alloc(), &[(*line, 9000), (*last, 1)]);
         let pieces = Pieces::whole(text.text().as_bytes());
         is_told(&rt, rt.alloc(), line, pieces, expected);
     }
@@ -67,7 +67,7 @@ const BROKEN: [(&str, &str); 4] = [
 
 #[test]
 fn reads_that_fail(rt: HostRuntime) {
-    for (text, expected) in BROKEN {
+    for (text, expected) in &BROKEN {
         let pieces = Pieces::broken(text.as_bytes(), ErrorKind::ConnectionReset);
         is_told(&rt, rt.alloc(), text, pieces, expected);
     }

@@ -86,10 +86,10 @@ fn is_answered(
 
 #[test]
 fn runs(rt: HostRuntime) {
-    for (cnf, proof, outcome) in RUNS {
+    for (cnf, proof, outcome) in &RUNS {
         let cnf = Pieces::whole(cnf.as_bytes());
         let texts = (cnf, Pieces::whole(proof.as_bytes()));
-        is_answered(&rt, rt.alloc(), proof, texts, usize::MAX, outcome);
+        is_answered(&rt, rt.alloc(), proof, texts, usize::MAX, *outcome);
     }
 }
 

@@ -190,22 +190,37 @@ fn converts(
     assert_eq!(rt; (ended.status(), ended.bytes()), outcome, "{name:?}");
 }
 
+fn all_convert(rt: &impl Abort, alloc: Global, rows: &[Row]) {
+    for (cnf, proof, outcome) in rows {
+        let texts = (*cnf, Pieces::whole(proof));
+        converts(rt, alloc, proof, texts, HashWidth::full(), *outcome);
+    }
+}
+
+/// The proof of a formula that is refuted is not read.
+fn convert_unread(rt: &impl Abort, alloc: Global, formulas: &[&[u8]]) {
+    for cnf in formulas {
+        let texts = (*cnf, Pieces::broken(b"", ErrorKind::ConnectionReset));
+        converts(rt, alloc, cnf, texts, HashWidth::full(), (0, NO_STEP));
+    }
+}
+
 /// In the end a proof whose bytes come one by one, and none after the empty clause.
 #[test]
 fn conversions(rt: HostRuntime) {
-    let full = HashWidth::full();
-    for (cnf, proof, outcome) in CONVERTED {
-        let texts = (cnf, Pieces::whole(proof));
-        converts(&rt, rt.alloc(), proof, texts, full, outcome);
-    }
-    // The proof of a formula that is refuted is not read.
-    for cnf in REFUTED_FORMULAS {
-        let unread = Pieces::broken(b"", ErrorKind::ConnectionReset);
-        converts(&rt, rt.alloc(), cnf, (cnf, unread), full, (0, NO_STEP));
-    }
+    all_convert(&rt, rt.alloc(), &CONVERTED);
+    convert_unread(&rt, rt.alloc(), &REFUTED_FORMULAS);
     let broken = Pieces::broken(REFUTATION, ErrorKind::ConnectionReset);
+    let texts = (FOUR, broken);
     let outcome = (0, REFUTED);
-    converts(&rt, rt.alloc(), b"broken", (FOUR, broken), full, outcome);
+    converts(
+        &rt,
+        rt.alloc(),
+        b"broken",
+        texts,
+        HashWidth::full(),
+        outcome,
+    );
 }
 
 #[test]
@@ -233,12 +248,16 @@ fn refuses(
     assert_eq!(rt; (ended.status(), ended.fault()), (1, text), "{name:?}");
 }
 
+fn all_refuse(rt: &impl Abort, alloc: Global, rows: &[Refusal]) {
+    for (cnf, proof, text) in rows {
+        let texts = (Pieces::whole(cnf), Pieces::whole(proof));
+        refuses(rt, alloc, proof, texts, usize::MAX, text);
+    }
+}
+
 #[test]
 fn refusals(rt: HostRuntime) {
-    for (cnf, proof, text) in REFUSED {
-        let texts = (Pieces::whole(cnf), Pieces::whole(proof));
-        refuses(&rt, rt.alloc(), proof, texts, usize::MAX, text);
-    }
+    all_refuse(&rt, rt.alloc(), &REFUSED);
 }
 
 #[test]

@@ -345,11 +345,15 @@ fn plays(rt: &impl Abort, alloc: Global, (name, announced, rows): Script) {
     }
 }
 
+fn play_all(rt: &impl Abort, alloc: Global, scripts: &[Script]) {
+    for script in scripts {
+        plays(rt, alloc, *script);
+    }
+}
+
 #[test]
 fn scripts(rt: HostRuntime) {
-    for script in SCRIPTS {
-        plays(&rt, rt.alloc(), script);
-    }
+    play_all(&rt, rt.alloc(), &SCRIPTS);
 }
 
 const FAULTS: [(WriterFault, &str); 4] = [
@@ -377,7 +381,9 @@ fn texts_of_faults(rt: HostRuntime) {
 }
 
 /// Of a clause of one literal: each step, and the text of its fault.
-const IN_A_BOX: [(Kind, u64, &str); 5] = [
+type BoxRow = (Kind, u64, &'static str);
+
+const IN_A_BOX: [BoxRow; 5] = [
     (Kind::Add, 0, ""),
     (Kind::Add, 1, "more input clauses than announced"),
     (
@@ -389,16 +395,22 @@ const IN_A_BOX: [(Kind, u64, &str); 5] = [
     (Kind::Add, 2, "input clause after a derived clause"),
 ];
 
-fn plays_in_a_box(rt: &impl Abort, alloc: Global, processor: &mut dyn ProofProcessor, one: Lit) {
+fn plays_in_a_box(
+    rt: &impl Abort,
+    alloc: Global,
+    processor: &mut dyn ProofProcessor,
+    one: Lit,
+    rows: &[BoxRow],
+) {
     let variables = Variables::new(alloc);
     let clause = [one];
-    for (kind, id, text) in IN_A_BOX {
+    for (kind, id, text) in rows {
         let mut shown = Shown::new(alloc);
-        let step = step_of(kind, id, &clause, one);
+        let step = step_of(*kind, *id, &clause, one);
         if let Err(fault) = processor.process_step(&step, CheckerData(&variables)) {
             shown.value(&fault);
         }
-        assert_eq!(rt; shown.text(), text, "{id}");
+        assert_eq!(rt; shown.text(), *text, "{id}");
     }
     assert_eq!(rt; processor.output(), b"3 1 0 1 0\n".as_slice());
 }
@@ -409,5 +421,5 @@ fn faults_of_a_box(rt: HostRuntime) {
     let writer = LratWriter::new(rt.alloc(), 1);
     let boxed = Box::new(rt.alloc(), writer);
     let mut processor: Box<dyn ProofProcessor> = boxed.expect(&rt, "a box");
-    plays_in_a_box(&rt, rt.alloc(), &mut *processor, one);
+    plays_in_a_box(&rt, rt.alloc(), &mut *processor, one, &IN_A_BOX);
 }
