@@ -20,165 +20,100 @@ use sat_formula::CnfFormula;
 use std::alloc::Global;
 use std::process::Abort;
 use std::test::Fail;
-use test_streams::Shown;
 use varisat_checker::Checker;
 
 /// Plays a script with large reads and with reads of one byte: all that is seen stands in it, and
 /// nothing else.
 pub fn agrees(rt: &impl Abort, alloc: Global, script: &str) -> Result<(), Fail> {
     for size in [usize::MAX, 1] {
-        let mut played = Played::nothing(alloc);
-        play(alloc, &mut played, script, size)?;
-        assert_eq!(rt; played.script.text(), script);
+        let seen = played(alloc, script, size)?;
+        assert_eq!(rt; seen.as_str(), script);
     }
     Ok(())
 }
 
-/// A script, with what is seen of its calls in place of what it expects.
-#[derive(Drop)]
-struct Played {
-    script: Shown,
-    /// The calls of the checker.
-    calls: Shown,
-    /// What was seen of them.
-    seen: Seen,
-}
-
-impl Played {
-    fn nothing(alloc: Global) -> Played {
-        Played {
-            script: Shown::new(alloc),
-            calls: Shown::new(alloc),
-            seen: Seen::nothing(alloc),
+/// The script, with what is seen of its calls in place of what it expects.
+fn played(alloc: Global, script: &str, size: usize) -> Result<String, Fail> {
+    let mut seen = String::new(alloc);
+    let mut calls = String::new(alloc);
+    let mut before = Seen::nothing(alloc);
+    for line in script.lines() {
+        if line.starts_with('>') {
+            continue;
+        }
+        writeln!(seen, "{line}")?;
+        if line == "new" || line == "bare" {
+            calls.clear();
+            before = Seen::nothing(alloc);
+        }
+        if !line.starts_with('#') && !line.is_empty() {
+            writeln!(calls, "{line}")?;
+            let after = Seen::of(alloc, &calls, size)?;
+            if first_word(line).0 != "given" {
+                after.write_since(&before, &mut seen)?;
+            }
+            before = after;
         }
     }
+    Ok(seen)
 }
 
 /// What is seen of a list of calls.
 #[derive(Drop)]
 struct Seen {
     /// The answer to the last one.
-    answer: Shown,
+    answer: String,
     /// The lists of a processor and of a transcript.
-    steps: Shown,
-    transcript: Shown,
+    steps: String,
+    transcript: String,
 }
 
 impl Seen {
     fn nothing(alloc: Global) -> Seen {
         Seen {
-            answer: Shown::new(alloc),
-            steps: Shown::new(alloc),
-            transcript: Shown::new(alloc),
+            answer: String::new(alloc),
+            steps: String::new(alloc),
+            transcript: String::new(alloc),
         }
     }
-}
 
-fn play(alloc: Global, played: &mut Played, script: &str, size: usize) -> Result<(), Fail> {
-    for line in script.lines() {
-        if line.starts_with('>') {
-            continue;
+    /// Makes the calls of these lines of a new checker.
+    fn of(alloc: Global, calls: &str, size: usize) -> Result<Seen, Fail> {
+        let mut checker = Checker::new(alloc);
+        let answer = last_answer(alloc, &mut checker, calls, size)?;
+        let (processors, transcripts) = checker.into_processors();
+        let steps = steps_listed(alloc, &processors)?;
+        let transcript = transcript_listed(alloc, &transcripts)?;
+        Ok(Seen {
+            answer,
+            steps,
+            transcript,
+        })
+    }
+
+    /// Writes what is seen of the last call, by what was seen before it.
+    fn write_since(&self, before: &Seen, out: &mut String) -> Result<(), Fail> {
+        write_added(out, '+', &before.steps, &self.steps)?;
+        write_added(out, '~', &before.transcript, &self.transcript)?;
+        if self.answer.as_str() != "Ok" {
+            writeln!(out, "> {}", self.answer)?;
         }
-        played.script.line(line);
-        if line == "new" || line == "bare" {
-            played.calls.clear();
-            played.seen = Seen::nothing(alloc);
-        }
-        if !line.starts_with('#') && !line.is_empty() {
-            played.calls.line(line);
-            play_call(alloc, played, line, size)?;
-        }
-    }
-    Ok(())
-}
-
-/// Makes the calls of a new checker, and shows what is seen of the last one, by what was seen
-/// before it.
-fn play_call(alloc: Global, played: &mut Played, line: &str, size: usize) -> Result<(), Fail> {
-    let mut seen = Seen::nothing(alloc);
-    see(alloc, &mut seen, played.calls.text(), size)?;
-    if first_word(line).0 != "given" {
-        show_since(&mut played.script, &played.seen, &seen);
-    }
-    played.seen = seen;
-    Ok(())
-}
-
-fn show_since(script: &mut Shown, before: &Seen, after: &Seen) {
-    show_added(script, "> + ", before.steps.text(), after.steps.text());
-    show_added(
-        script,
-        "> ~ ",
-        before.transcript.text(),
-        after.transcript.text(),
-    );
-    if after.answer.text() != "Ok" {
-        script.words("> ");
-        script.line(after.answer.text());
+        Ok(())
     }
 }
 
-/// Shows the lines of a list that are new.
-fn show_added(script: &mut Shown, mark: &str, before: &str, after: &str) {
-    match after.strip_prefix(before) {
-        Some(added) => {
-            for line in added.lines() {
-                script.words(mark);
-                script.line(line);
-            }
-        }
-        None => script.line("a list is no longer what it was"),
-    }
-}
-
-/// Makes the calls of these lines of a new checker.
-fn see(alloc: Global, seen: &mut Seen, calls: &str, size: usize) -> Result<(), Fail> {
-    let mut checker = Checker::new(alloc);
-    call(alloc, &mut checker, calls, size, &mut seen.answer)?;
-    let (processors, transcripts) = checker.into_processors();
-    match processors.as_slice() {
-        [] => {}
-        [list, _, tally] => show_list(&mut seen.steps, list.output(), tally.output()),
-        _ => seen.steps.words("not these processors"),
-    }
-    match transcripts.as_slice() {
-        [] => {}
-        [list, tally] => show_list(&mut seen.transcript, list.output(), tally.output()),
-        _ => seen.transcript.words("not these transcripts"),
-    }
-    Ok(())
-}
-
-/// Shows the text of a list, which has so many lines as another box has strokes.
-fn show_list(shown: &mut Shown, list: &[u8], strokes: &[u8]) {
-    match str::from_utf8(list) {
-        Ok(text) if text.lines().count() == strokes.len() => shown.words(text),
-        _ => shown.words("not as many steps as another box took"),
-    }
-}
-
-/// Makes the calls of these lines, and shows the answer to the last one.
-fn call(
+/// Makes the calls of these lines, and gives the answer to the last one.
+fn last_answer(
     alloc: Global,
     checker: &mut Checker,
     calls: &str,
     size: usize,
-    answer: &mut Shown,
-) -> Result<(), Fail> {
-    for line in calls.lines() {
-        answer.clear();
-        match first_word(line) {
-            ("new", _) => {
-                register_boxes(alloc, checker)?;
-                answer.words("Ok");
-            }
-            ("bare", _) => answer.words("Ok"),
-            ("given", numbers) => given(alloc, checker, numbers)?,
-            ("formula", clauses) => add_formula(alloc, checker, clauses, answer)?,
-            _ => answer.words(make(alloc, checker, line, size)?.as_str()),
-        }
+) -> Result<String, Fail> {
+    let mut answer = String::new(alloc);
+    for call in calls.lines() {
+        answer = answer_to(alloc, checker, call, size)?;
     }
-    Ok(())
+    Ok(answer)
 }
 
 /// Registers three processors and two transcripts.
@@ -190,21 +125,77 @@ fn register_boxes(alloc: Global, checker: &mut Checker) -> Result<(), Fail> {
     register_transcript(checker, Box::new(alloc, Tally::new(alloc))?)
 }
 
-fn add_formula(
+fn steps_listed(alloc: Global, processors: &[Box<dyn ProofProcessor>]) -> Result<String, Fail> {
+    match processors {
+        [] => Ok(String::new(alloc)),
+        [list, _, tally] => Ok(counted(list.output(), tally.output())?.to_string(alloc)?),
+        _ => Err("not these processors".into()),
+    }
+}
+
+fn transcript_listed(
     alloc: Global,
-    checker: &mut Checker,
-    clauses: &str,
-    shown: &mut Shown,
-) -> Result<(), Fail> {
-    let formula = formula(alloc, clauses)?;
-    match checker.add_formula(&formula) {
-        Ok(()) => {
-            shown.number("", formula.len() as u64);
-            shown.number(" ", formula.var_count() as u64);
-        }
-        Err(fault) => shown.words(answer(alloc, Err(fault))?.as_str()),
+    transcripts: &[Box<dyn ProofTranscriptProcessor>],
+) -> Result<String, Fail> {
+    match transcripts {
+        [] => Ok(String::new(alloc)),
+        [list, tally] => Ok(counted(list.output(), tally.output())?.to_string(alloc)?),
+        _ => Err("not these transcripts".into()),
+    }
+}
+
+/// Writes the lines of a list that are new.
+fn write_added(out: &mut String, mark: char, before: &str, after: &str) -> Result<(), Fail> {
+    let added = after
+        .strip_prefix(before)
+        .ok_or("a list is no longer what it was")?;
+    for line in added.lines() {
+        writeln!(out, "> {mark} {line}")?;
     }
     Ok(())
+}
+
+/// The text of a list, which has so many lines as another box has strokes.
+fn counted<'a>(list: &'a [u8], strokes: &[u8]) -> Result<&'a str, Fail> {
+    let Ok(text) = str::from_utf8(list) else {
+        return Err("no text".into());
+    };
+    if text.lines().count() != strokes.len() {
+        return Err("not as many steps as another box took".into());
+    }
+    Ok(text)
+}
+
+/// Does what a line says.
+fn answer_to(
+    alloc: Global,
+    checker: &mut Checker,
+    line: &str,
+    size: usize,
+) -> Result<String, Fail> {
+    match first_word(line) {
+        ("new", _) => {
+            register_boxes(alloc, checker)?;
+            Ok("Ok".to_string(alloc)?)
+        }
+        ("bare", _) => Ok("Ok".to_string(alloc)?),
+        ("given", numbers) => {
+            given(alloc, checker, numbers)?;
+            Ok(String::new(alloc))
+        }
+        ("formula", clauses) => {
+            let formula = formula(alloc, clauses)?;
+            add_formula(alloc, checker, &formula)
+        }
+        _ => make(alloc, checker, line, size),
+    }
+}
+
+fn add_formula(alloc: Global, checker: &mut Checker, formula: &CnfFormula) -> Result<String, Fail> {
+    match checker.add_formula(formula) {
+        Ok(()) => Ok(format!(in alloc; "{} {}", formula.len(), formula.var_count())?),
+        Err(fault) => Ok(answer(alloc, Err(fault))?),
+    }
 }
 
 /// The formula of these clauses, each of which ends with a bar.
