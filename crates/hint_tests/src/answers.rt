@@ -146,34 +146,25 @@ fn answers(rt: &impl Abort, checker: &mut HintChecker, texts: &[(&str, Answer)])
     }
 }
 
-/// New checkers answer so.
-fn hold(rt: &impl Abort, alloc: Global, rows: &[Row]) {
-    for (formula, texts) in rows {
-        let mut checker = new_checker(rt, alloc, formula);
-        answers(rt, &mut checker, texts);
-    }
-}
+const TABLES: [&[Row]; 5] = [&CALLS, &NOTHING, &ADDED, &PARTS, &DELETED];
 
 #[test]
 fn rows(rt: HostRuntime) {
-    hold(&rt, rt.alloc(), &CALLS);
-    hold(&rt, rt.alloc(), &NOTHING);
-    hold(&rt, rt.alloc(), &ADDED);
-    hold(&rt, rt.alloc(), &PARTS);
-    hold(&rt, rt.alloc(), &DELETED);
-}
-
-fn are_malformed(rt: &impl Abort, alloc: Global, lines: &[&str]) {
-    for line in lines {
-        let mut checker = new_checker(rt, alloc, "");
-        let malformed = Err(HintFault::Malformed { line: 1 });
-        answers(rt, &mut checker, &[(*line, malformed)]);
+    for rows in &TABLES {
+        for (formula, texts) in *rows {
+            let mut checker = new_checker(&rt, rt.alloc(), formula);
+            answers(&rt, &mut checker, texts);
+        }
     }
 }
 
 #[test]
 fn malformed_lines(rt: HostRuntime) {
-    are_malformed(&rt, rt.alloc(), &MALFORMED);
+    for line in &MALFORMED {
+        let mut checker = new_checker(&rt, rt.alloc(), "");
+        let malformed = Err(HintFault::Malformed { line: 1 });
+        answers(&rt, &mut checker, &[(*line, malformed)]);
+    }
 }
 
 #[test]

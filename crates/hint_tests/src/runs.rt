@@ -53,19 +53,15 @@ fn is_answered(
 }
 
 /// The rows are answered so, read at once and byte by byte.
-fn are_answered(rt: &impl Abort, alloc: Global, rows: &[Row]) {
-    for (cnf, hints, outcome) in rows {
+#[test]
+fn runs(rt: HostRuntime) {
+    for (cnf, hints, outcome) in &RUNS {
         for size in [usize::MAX, 1] {
             let cnf = Pieces::of_size(cnf.as_bytes(), size);
             let texts = (cnf, Pieces::of_size(hints.as_bytes(), size));
-            is_answered(rt, alloc, hints, texts, usize::MAX, *outcome);
+            is_answered(&rt, rt.alloc(), hints, texts, usize::MAX, *outcome);
         }
     }
-}
-
-#[test]
-fn runs(rt: HostRuntime) {
-    are_answered(&rt, rt.alloc(), &RUNS);
 }
 
 const HINTS: &[u8] = b"5 0 1 2 0\n";

@@ -84,17 +84,13 @@ fn is_answered(
     assert_eq!(rt; ended.outcome(), outcome, "{name}");
 }
 
-fn are_answered(rt: &impl Abort, alloc: Global, rows: &[Row]) {
-    for (cnf, proof, outcome) in rows {
-        let cnf = Pieces::whole(cnf.as_bytes());
-        let texts = (cnf, Pieces::whole(proof.as_bytes()));
-        is_answered(rt, alloc, proof, texts, usize::MAX, *outcome);
-    }
-}
-
 #[test]
 fn runs(rt: HostRuntime) {
-    are_answered(&rt, rt.alloc(), &RUNS);
+    for (cnf, proof, outcome) in RUNS {
+        let cnf = Pieces::whole(cnf.as_bytes());
+        let texts = (cnf, Pieces::whole(proof.as_bytes()));
+        is_answered(&rt, rt.alloc(), proof, texts, usize::MAX, outcome);
+    }
 }
 
 #[test]

@@ -110,16 +110,12 @@ fn is_answered(
     );
 }
 
-fn are_answered(rt: &impl Abort, alloc: Global, rows: &[Row]) {
-    for (cnf, literals, outcome) in rows {
-        let texts = (Pieces::whole(cnf), Pieces::whole(literals));
-        is_answered(rt, alloc, literals, texts, usize::MAX, *outcome);
-    }
-}
-
 #[test]
 fn runs(rt: HostRuntime) {
-    are_answered(&rt, rt.alloc(), &RUNS);
+    for (cnf, literals, outcome) in RUNS {
+        let texts = (Pieces::whole(cnf), Pieces::whole(literals));
+        is_answered(&rt, rt.alloc(), literals, texts, usize::MAX, outcome);
+    }
 }
 
 const ANSWER: &[u8] = b"1 -2 3 0";
