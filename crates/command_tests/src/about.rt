@@ -1,6 +1,5 @@
 //! What a program says of itself.
 use command::{About, Entry};
-use std::test::Fail;
 
 const ONE: Entry<'static> = Entry {
     name: "ONE",
@@ -28,8 +27,8 @@ const WHOLE: About<'static> = About {
 };
 
 #[test]
-fn text_about_a_program(rt: HostRuntime) -> Result<(), Fail> {
-    let text = format!(in rt.alloc(); "{}", WHOLE)?;
+fn text_about_a_program(rt: HostRuntime) {
+    let text = format!(in rt.alloc(); "{}", WHOLE).expect(&rt, "a text");
     assert_eq!(rt;
         text.as_str(),
         "usage: mine ONE [--two N]\n\nDoes it.\n\n\
@@ -51,5 +50,4 @@ fn text_about_a_program(rt: HostRuntime) -> Result<(), Fail> {
         \x20 does it thrice:\n\
         \x20     mine a --two 3\n"
     );
-    Ok(())
 }

@@ -1,9 +1,7 @@
 //! Files by their first bytes, which are those that other programs write, and headers by the rules.
 use command::{CountingReader, Counts, Kind, LyingHeader, kind_of};
-use std::io;
 use std::io::Read;
 use std::process::Abort;
-use std::test::Fail;
 
 const KINDS: [(&[u8], Kind); 11] = [
     (b"\x1F\x8B\x08\x00", Kind::Gzip),
@@ -21,17 +19,6 @@ const KINDS: [(&[u8], Kind); 11] = [
     (b"0\n", Kind::DratText),
 ];
 
-#[test]
-fn kinds_of_files(rt: HostRuntime) {
-    are_of_kinds(&rt, &KINDS);
-}
-
-fn are_of_kinds(rt: &impl Abort, rows: &[(&[u8], Kind)]) {
-    for (bytes, kind) in rows {
-        assert_eq!(rt; kind_of(bytes), Some(*kind));
-    }
-}
-
 const NO_KIND: [&[u8]; 12] = [
     b"",
     b"\x1F",
@@ -48,35 +35,13 @@ const NO_KIND: [&[u8]; 12] = [
 ];
 
 #[test]
-fn files_of_no_such_kind(rt: HostRuntime) {
-    are_of_no_kind(&rt, &NO_KIND);
-}
-
-fn are_of_no_kind(rt: &impl Abort, rows: &[&[u8]]) {
-    for bytes in rows {
+fn kinds_of_files(rt: HostRuntime) {
+    for (bytes, kind) in KINDS {
+        assert_eq!(rt; kind_of(bytes), Some(kind));
+    }
+    for bytes in NO_KIND {
         assert_eq!(rt; kind_of(bytes), None);
     }
-}
-
-/// What is said of the header of a text that is read in parts of so many bytes.
-fn lying_header(text: &[u8], part: usize) -> io::Result<Option<LyingHeader>> {
-    let mut reader = CountingReader::new(text);
-    let mut buffer = [0; 64];
-    let room = part.min(64);
-    for _ in 0..=text.len() {
-        if reader.read(&mut buffer[..room])? == 0 {
-            break;
-        }
-    }
-    Ok(reader.lying_header())
-}
-
-fn has_header(rt: &impl Abort, text: &[u8], header: Option<LyingHeader>) -> io::Result<()> {
-    for part in [1, 2, 3, 64] {
-        let found = lying_header(text, part)?;
-        assert_eq!(rt; found, header);
-    }
-    Ok(())
 }
 
 /// A text, the two counts of its header, and the largest variable and the number of clauses.
@@ -95,29 +60,6 @@ const LIES: [(&[u8], [u64; 4]); 12] = [
     (b"p cnf 1 1\n1 -268435456 0", [1, 1, 268_435_456, 1]),
 ];
 
-#[test]
-fn headers_that_lie(rt: HostRuntime) -> Result<(), Fail> {
-    have_lies(&rt, &LIES)?;
-    Ok(())
-}
-
-/// The two counts of a header, and the largest variable and the number of clauses.
-fn lie_of([variables, clauses, largest, number]: [u64; 4]) -> LyingHeader {
-    let said = Counts { variables, clauses };
-    let counts = Counts {
-        variables: largest,
-        clauses: number,
-    };
-    LyingHeader { said, counts }
-}
-
-fn have_lies(rt: &impl Abort, rows: &[(&[u8], [u64; 4])]) -> io::Result<()> {
-    for (text, counts) in rows {
-        has_header(rt, text, Some(lie_of(*counts)))?;
-    }
-    Ok(())
-}
-
 const RIGHT: [&[u8]; 11] = [
     b"",
     b"p cnf 0 0",
@@ -133,23 +75,43 @@ const RIGHT: [&[u8]; 11] = [
     b"  p cnf 2 1 \n\n\n1 2\nc\n0\n",
 ];
 
-#[test]
-fn headers_that_are_right_or_absent(rt: HostRuntime) -> Result<(), Fail> {
-    have_no_lie(&rt, &RIGHT)?;
-    Ok(())
-}
-
-fn have_no_lie(rt: &impl Abort, rows: &[&[u8]]) -> io::Result<()> {
-    for text in rows {
-        has_header(rt, text, None)?;
+/// What is said of the header of a text that is read in parts of so many bytes.
+fn lying_header(rt: &impl Abort, text: &[u8], part: usize) -> Option<LyingHeader> {
+    let mut reader = CountingReader::new(text);
+    let mut buffer = [0; 64];
+    let room = part.min(64);
+    for _ in 0..=text.len() {
+        if reader.read(&mut buffer[..room]).expect(rt, "a read") == 0 {
+            break;
+        }
     }
-    Ok(())
+    reader.lying_header()
+}
+
+fn has_header(rt: &impl Abort, text: &[u8], header: Option<LyingHeader>) {
+    for part in [1, 2, 3, 64] {
+        assert_eq!(rt; lying_header(rt, text, part), header, "{text:?}");
+    }
 }
 
 #[test]
-fn text_of_a_lying_header(rt: HostRuntime) -> Result<(), Fail> {
-    let lie = lying_header(b"p cnf 1 3\n1 2 0\n", 64)?.ok_or("no lie")?;
-    let said = lie.to_string(rt.alloc())?;
+fn headers(rt: HostRuntime) {
+    for (text, [variables, clauses, largest, number]) in LIES {
+        let said = Counts { variables, clauses };
+        let counts = Counts {
+            variables: largest,
+            clauses: number,
+        };
+        has_header(&rt, text, Some(LyingHeader { said, counts }));
+    }
+    for text in RIGHT {
+        has_header(&rt, text, None);
+    }
+}
+
+#[test]
+fn text_of_a_lying_header(rt: HostRuntime) {
+    let lie = lying_header(&rt, b"p cnf 1 3\n1 2 0\n", 64).expect(&rt, "a lie");
+    let said = lie.to_string(rt.alloc()).expect(&rt, "a text");
     assert_eq!(rt; said.as_str(), "p cnf 1 3, but what was read is p cnf 2 1");
-    Ok(())
 }

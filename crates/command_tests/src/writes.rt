@@ -3,7 +3,6 @@ use std::alloc::Global;
 use std::io;
 use std::io::{BufWriter, ErrorKind, Write};
 use std::process::Abort;
-use std::test::Fail;
 use whole_writes::{append_whole, write_whole};
 
 /// Takes up to so many bytes a write, every other time after it was interrupted, and none past its
@@ -19,13 +18,13 @@ struct Disk {
 }
 
 impl Disk {
-    fn new(alloc: Global, room: usize, most: usize) -> Disk {
+    fn new(alloc: Global, room: usize, most: usize, flush_fails: bool) -> Disk {
         Disk {
             bytes: Vec::new(alloc),
             room,
             most,
             interrupted: false,
-            flush_fails: false,
+            flush_fails,
             flushes: 0,
         }
     }
@@ -63,67 +62,96 @@ fn kind_of(answer: io::Result<()>) -> Option<ErrorKind> {
     }
 }
 
-#[test]
-fn parts_are_joined(rt: HostRuntime) {
-    for most in [1, 2, 3, 7, 8, 100] {
-        joins_parts(&rt, &mut Disk::new(rt.alloc(), 1000, most));
-    }
+#[derive(Clone, Copy)]
+enum Call {
+    Append,
+    Write,
 }
 
-fn joins_parts(rt: &impl Abort, disk: &mut Disk) {
-    assert_eq!(rt; kind_of(append_whole(disk, b"one two ")), None);
-    assert_eq!(rt; disk.flushes, 0);
-    assert_eq!(rt; kind_of(write_whole(disk, b"three")), None);
-    assert_eq!(rt; kind_of(write_whole(disk, b"")), None);
-    assert_eq!(rt; disk.bytes.as_slice(), b"one two three".as_slice());
-    assert_eq!(rt; disk.flushes, 2);
-}
+/// Calls with their faults, and what was written and flushed in the end.
+type Row = (
+    &'static [(Call, &'static [u8], Option<ErrorKind>)],
+    &'static [u8],
+    usize,
+);
+
+const JOINED: [Row; 2] = [
+    (&[(Call::Append, b"one two ", None)], b"one two ", 0),
+    (
+        &[
+            (Call::Append, b"one two ", None),
+            (Call::Write, b"three", None),
+            (Call::Write, b"", None),
+        ],
+        b"one two three",
+        2,
+    ),
+];
 
 const LINE: &[u8] = b"s VERIFIED UNSAT\n";
 
-#[test]
-fn full_disks_hold_a_beginning(rt: HostRuntime) {
-    for room in 0..LINE.len() {
-        holds_a_beginning(&rt, &mut Disk::new(rt.alloc(), room, 5), &LINE[..room]);
+const FULL: &[(Call, &[u8], Option<ErrorKind>)] = &[(
+    Call::Write,
+    LINE,
+    Some(ErrorKind::StorageFull),
+)];
+
+/// Of a writer that takes nothing.
+const UNTAKEN: Row = (
+    &[
+        (Call::Write, b"x", Some(ErrorKind::WriteZero)),
+        (Call::Write, b"", None),
+    ],
+    b"",
+    1,
+);
+
+const UNFLUSHED: Row = (
+    &[(Call::Write, b"line", Some(ErrorKind::BrokenPipe))],
+    b"line",
+    1,
+);
+
+fn call_disk(disk: &mut Disk, call: Call, bytes: &[u8]) -> Option<ErrorKind> {
+    match call {
+        Call::Append => kind_of(append_whole(disk, bytes)),
+        Call::Write => kind_of(write_whole(disk, bytes)),
     }
 }
 
-fn holds_a_beginning(rt: &impl Abort, disk: &mut Disk, beginning: &[u8]) {
-    let fault = kind_of(write_whole(disk, LINE));
-    assert_eq!(rt; fault, Some(ErrorKind::StorageFull));
-    assert_eq!(rt; disk.bytes.as_slice(), beginning);
-    assert_eq!(rt; disk.flushes, 0);
+fn holds(rt: &impl Abort, mut disk: Disk, (calls, bytes, flushes): Row) {
+    for (call, bytes, fault) in calls {
+        assert_eq!(rt; call_disk(&mut disk, *call, bytes), *fault, "{bytes:?}");
+    }
+    let room = disk.room;
+    let most = disk.most;
+    assert_eq!(rt;
+        (disk.bytes.as_slice(), disk.flushes),
+        (bytes, flushes),
+        "{room} bytes, {most} a write"
+    );
 }
 
 #[test]
-fn writers_that_take_nothing(rt: HostRuntime) {
-    takes_nothing(&rt, &mut Disk::new(rt.alloc(), 1000, 0));
-}
-
-fn takes_nothing(rt: &impl Abort, disk: &mut Disk) {
-    let fault = kind_of(write_whole(disk, b"x"));
-    assert_eq!(rt; fault, Some(ErrorKind::WriteZero));
-    assert_eq!(rt; kind_of(write_whole(disk, b"")), None);
-}
-
-#[test]
-fn flushes_that_fail(rt: HostRuntime) {
-    let mut disk = Disk::new(rt.alloc(), 1000, 2);
-    disk.flush_fails = true;
-    does_not_flush(&rt, &mut disk);
-}
-
-fn does_not_flush(rt: &impl Abort, disk: &mut Disk) {
-    let fault = kind_of(write_whole(disk, b"line"));
-    assert_eq!(rt; fault, Some(ErrorKind::BrokenPipe));
-    assert_eq!(rt; disk.bytes.as_slice(), b"line".as_slice());
+fn writes(rt: HostRuntime) {
+    for most in [1, 2, 3, 7, 8, 100] {
+        for row in JOINED {
+            holds(&rt, Disk::new(rt.alloc(), 1000, most, false), row);
+        }
+    }
+    for room in 0..LINE.len() {
+        let disk = Disk::new(rt.alloc(), room, 5, false);
+        holds(&rt, disk, (FULL, &LINE[..room], 0));
+    }
+    holds(&rt, Disk::new(rt.alloc(), 1000, 0, false), UNTAKEN);
+    holds(&rt, Disk::new(rt.alloc(), 1000, 2, true), UNFLUSHED);
 }
 
 #[test]
-fn buffers_are_emptied(rt: HostRuntime) -> Result<(), Fail> {
-    let mut out = BufWriter::new(rt.alloc(), Vec::new(rt.alloc()))?;
+fn buffers_are_emptied(rt: HostRuntime) {
+    let buffered = BufWriter::new(rt.alloc(), Vec::new(rt.alloc()));
+    let mut out = buffered.expect(&rt, "a buffer");
     empties_its_buffer(&rt, &mut out);
-    Ok(())
 }
 
 fn empties_its_buffer(rt: &impl Abort, out: &mut BufWriter<Vec<u8>>) {

@@ -1,11 +1,11 @@
 //! Small FRAT proofs, as rows: what is told of each.
-use crate::lemmas::{add_formula, tell_proof};
-use drat_elaborate::{ElaborateFault, Elaborator};
+use crate::lemmas::{add_formula, show_proof};
+use drat_elaborate::Elaborator;
 use frat_text::FratReader;
 use sat_formula::read_formula;
 use std::alloc::Global;
 use std::process::Abort;
-use std::test::Fail;
+use test_streams::Shown;
 
 /// A formula as DIMACS, a proof, and what is told: the lines, or the fault; the clauses of the
 /// formula that are used; the deletions that met none, or only reasons.
@@ -61,51 +61,47 @@ const ROWS: [Row; 7] = [
     ),
 ];
 
-/// Takes in the steps of a proof, up to a conflict. The answer is the fault of a step.
-fn take_steps(
-    elaborator: &mut Elaborator,
-    alloc: Global,
-    proof: &str,
-) -> Result<Option<ElaborateFault>, Fail> {
-    let mut reader = FratReader::new(alloc, proof.as_bytes());
+/// Takes in the steps of a proof, up to a conflict, and shows what is elaborated, or the fault of a
+/// step.
+fn show_row(shown: &mut Shown, elaborator: &mut Elaborator, reader: &mut FratReader<&[u8]>) {
     for _ in 0..20u32 {
         if elaborator.is_refuted() {
             break;
         }
-        let Some(step) = reader.next_step()? else {
-            break;
-        };
-        if let Err(fault) = elaborator.take_frat_step(step) {
-            return Ok(Some(fault));
+        match reader.next_step() {
+            Ok(Some(step)) => {
+                if let Err(fault) = elaborator.take_frat_step(step) {
+                    shown.value(&fault);
+                    return;
+                }
+            }
+            Ok(None) => break,
+            Err(fault) => {
+                shown.value(&fault);
+                return;
+            }
         }
     }
-    Ok(None)
+    show_proof(shown, elaborator);
 }
 
-/// Tells all of a row, or the fault of a step.
-fn tell(text: &mut String, alloc: Global, formula: &str, proof: &str) -> Result<(), Fail> {
-    let formula = read_formula(alloc, formula.as_bytes())?;
+fn is_told(rt: &impl Abort, alloc: Global, (formula, proof, told): Row) {
+    let formula = read_formula(alloc, formula.as_bytes()).expect(rt, "a formula");
     let mut elaborator = Elaborator::new(alloc);
-    add_formula(&mut elaborator, &formula)?;
-    if let Some(fault) = take_steps(&mut elaborator, alloc, proof)? {
-        write!(text, "{fault}")?;
-        return Ok(());
-    }
-    tell_proof(text, &mut elaborator)
+    let mut shown = Shown::new(alloc);
+    add_formula(&mut elaborator, &formula).expect(rt, "clauses");
+    let mut reader = FratReader::new(alloc, proof.as_bytes());
+    show_row(&mut shown, &mut elaborator, &mut reader);
+    assert_eq!(rt; shown.text(), told, "{proof}");
 }
 
-fn check(rt: &impl Abort, alloc: Global, row: &Row) -> Result<(), Fail> {
-    let (formula, proof, told) = *row;
-    let mut text = String::new(alloc);
-    tell(&mut text, alloc, formula, proof)?;
-    assert_eq!(rt; text.as_str(), told);
-    Ok(())
+fn are_told(rt: &impl Abort, alloc: Global, rows: &[Row]) {
+    for row in rows {
+        is_told(rt, alloc, *row);
+    }
 }
 
 #[test]
-fn rows(rt: HostRuntime) -> Result<(), Fail> {
-    for row in &ROWS {
-        check(&rt, rt.alloc(), row)?;
-    }
-    Ok(())
+fn rows(rt: HostRuntime) {
+    are_told(&rt, rt.alloc(), &ROWS);
 }

@@ -3,82 +3,57 @@
 use drat_text::bytes::Bytes;
 use frat_text::{FratAction, FratHint, FratReader, FratStep, Renaming, is_frat};
 use sat_formula::Lit;
-use std::alloc::{AllocError, Global};
+use std::alloc::Global;
 use std::process::Abort;
-use std::test::Fail;
-use test_streams::Pieces;
+use test_streams::{Pieces, Shown};
 
-fn write_clause(
-    action: FratAction,
-    id: u64,
-    lits: &[Lit],
-    all: &mut String,
-) -> Result<(), AllocError> {
+fn show_clause(shown: &mut Shown, action: FratAction, id: u64, lits: &[Lit]) {
     let word = match action {
-        FratAction::Original => "original",
-        FratAction::Add => "add",
-        FratAction::Delete => "delete",
-        FratAction::Final => "final",
+        FratAction::Original => "original ",
+        FratAction::Add => "add ",
+        FratAction::Delete => "delete ",
+        FratAction::Final => "final ",
     };
-    write!(all, "{word} {id}:")?;
+    shown.number(word, id);
+    shown.words(":");
     for lit in lits {
-        write!(all, " {}", lit.to_dimacs())?;
+        shown.signed(" ", lit.to_dimacs());
     }
-    write!(all, "; ")
 }
 
-fn write_hints(hints: &[FratHint], all: &mut String) -> Result<(), AllocError> {
-    write!(all, "hints")?;
-    for hint in hints {
-        let sign = if hint.is_negative { "-" } else { "" };
-        write!(all, " {sign}{}", hint.id)?;
-    }
-    write!(all, "; ")
-}
-
-fn write_renamings(renamings: &[Renaming], all: &mut String) -> Result<(), AllocError> {
-    write!(all, "renames")?;
-    for renaming in renamings {
-        write!(all, " {}>{}", renaming.from, renaming.to)?;
-    }
-    write!(all, "; ")
-}
-
-fn write_step(step: FratStep<'_>, all: &mut String) -> Result<(), AllocError> {
+fn show_step(shown: &mut Shown, step: FratStep<'_>) {
     match step {
-        FratStep::Clause { action, id, lits } => write_clause(action, id, lits, all),
-        FratStep::Hints(hints) => write_hints(hints, all),
-        FratStep::Renames(renamings) => write_renamings(renamings, all),
+        FratStep::Clause { action, id, lits } => show_clause(shown, action, id, lits),
+        FratStep::Hints(hints) => {
+            shown.words("hints");
+            for hint in hints {
+                let before = if hint.is_negative { " -" } else { " " };
+                shown.number(before, hint.id);
+            }
+        }
+        FratStep::Renames(renamings) => {
+            shown.words("renames");
+            for renaming in renamings {
+                shown.number(" ", renaming.from);
+                shown.number(">", renaming.to);
+            }
+        }
     }
 }
 
-/// Each step, and the end or the text of a fault.
-fn shown(alloc: Global, proof: Pieces<'_>) -> Result<String, AllocError> {
-    let mut all = String::new(alloc);
-    show_all(&mut all, &mut FratReader::new(alloc, proof))?;
-    Ok(all)
-}
-
-fn show_all(all: &mut String, reader: &mut FratReader<Pieces<'_>>) -> Result<(), AllocError> {
+/// Shows each step, and the end or the text of a fault.
+fn show(shown: &mut Shown, reader: &mut FratReader<Pieces<'_>>) {
     for _ in 0..20u32 {
-        if !show_next(all, reader)? {
-            break;
+        match reader.next_step() {
+            Ok(Some(step)) => show_step(shown, step),
+            Ok(None) => {
+                shown.words("end");
+                break;
+            }
+            Err(fault) => shown.value(&fault),
         }
+        shown.words("; ");
     }
-    Ok(())
-}
-
-/// Shows a step, or the text of a fault. Answers whether it was not the end.
-fn show_next(all: &mut String, reader: &mut FratReader<Pieces<'_>>) -> Result<bool, AllocError> {
-    match reader.next_step() {
-        Ok(Some(step)) => write_step(step, all)?,
-        Ok(None) => {
-            write!(all, "end")?;
-            return Ok(false);
-        }
-        Err(fault) => write!(all, "{fault}; ")?,
-    }
-    Ok(true)
 }
 
 type Row = (&'static [u8], &'static str);
@@ -150,33 +125,6 @@ const BINARY: [Row; 10] = [
     (b"o\x01\x00a\x82", "original 1:; step 2: unfinished; end"),
 ];
 
-fn is_shown(
-    rt: &impl Abort,
-    alloc: Global,
-    proof: Pieces<'_>,
-    expected: &str,
-) -> Result<(), AllocError> {
-    let seen = shown(alloc, proof)?;
-    assert_eq!(rt; seen.as_str(), expected);
-    Ok(())
-}
-
-fn hold(rt: &impl Abort, alloc: Global, rows: &[Row]) -> Result<(), AllocError> {
-    for (bytes, expected) in rows {
-        for size in [1, 2, 3, 100] {
-            is_shown(rt, alloc, Pieces::of_size(bytes, size), expected)?;
-        }
-    }
-    Ok(())
-}
-
-#[test]
-fn frat_steps(rt: HostRuntime) -> Result<(), Fail> {
-    hold(&rt, rt.alloc(), &TEXT)?;
-    hold(&rt, rt.alloc(), &BINARY)?;
-    Ok(())
-}
-
 /// A proof, and the number of the read that fails.
 type BrokenRow = (&'static [u8], usize, &'static str);
 
@@ -194,20 +142,6 @@ const BROKEN: [BrokenRow; 3] = [
     ),
 ];
 
-/// By one byte a read.
-fn hold_broken(rt: &impl Abort, alloc: Global, rows: &[BrokenRow]) -> Result<(), AllocError> {
-    for (bytes, failing, expected) in rows {
-        is_shown(rt, alloc, Pieces::failing_at(bytes, 1, *failing), expected)?;
-    }
-    Ok(())
-}
-
-#[test]
-fn frat_reads_that_fail(rt: HostRuntime) -> Result<(), Fail> {
-    hold_broken(&rt, rt.alloc(), &BROKEN)?;
-    Ok(())
-}
-
 const TELLING: [(&[u8], bool); 10] = [
     (b"o 1 1 0\n", true),
     (b"o\x01\x02\x00", true),
@@ -221,18 +155,48 @@ const TELLING: [(&[u8], bool); 10] = [
     (b"", false),
 ];
 
-fn are_told_apart(rt: &impl Abort, alloc: Global, rows: &[(&[u8], bool)]) -> Result<(), Fail> {
+/// What is shown of these bytes as they are read.
+fn is_shown(rt: &impl Abort, alloc: Global, bytes: &[u8], proof: Pieces<'_>, expected: &str) {
+    let mut shown = Shown::new(alloc);
+    show(&mut shown, &mut FratReader::new(alloc, proof));
+    assert_eq!(rt; shown.text(), expected, "{bytes:?}");
+}
+
+fn hold(rt: &impl Abort, alloc: Global, rows: &[Row]) {
     for (bytes, expected) in rows {
-        for size in [1, 100] {
-            let mut proof = Bytes::new(alloc, Pieces::of_size(bytes, size));
-            let told = is_frat(&mut proof)?;
-            assert_eq!(rt; told, *expected);
+        for size in [1, 2, 3, 100] {
+            let proof = Pieces::of_size(bytes, size);
+            is_shown(rt, alloc, bytes, proof, expected);
         }
     }
-    Ok(())
+}
+
+/// By one byte a read.
+fn hold_broken(rt: &impl Abort, alloc: Global, rows: &[BrokenRow]) {
+    for (bytes, failing, expected) in rows {
+        let proof = Pieces::failing_at(bytes, 1, *failing);
+        is_shown(rt, alloc, bytes, proof, expected);
+    }
 }
 
 #[test]
-fn frat_and_drat(rt: HostRuntime) -> Result<(), Fail> {
-    are_told_apart(&rt, rt.alloc(), &TELLING)
+fn frat_steps(rt: HostRuntime) {
+    hold(&rt, rt.alloc(), &TEXT);
+    hold(&rt, rt.alloc(), &BINARY);
+    hold_broken(&rt, rt.alloc(), &BROKEN);
+}
+
+fn are_told_apart(rt: &impl Abort, alloc: Global, rows: &[(&[u8], bool)]) {
+    for (bytes, expected) in rows {
+        for size in [1, 100] {
+            let mut proof = Bytes::new(alloc, Pieces::of_size(bytes, size));
+            let told = is_frat(&mut proof).unwrap_or(!*expected);
+            assert_eq!(rt; told, *expected, "{bytes:?}");
+        }
+    }
+}
+
+#[test]
+fn frat_and_drat(rt: HostRuntime) {
+    are_told_apart(&rt, rt.alloc(), &TELLING);
 }

@@ -1,10 +1,10 @@
 //! Small proofs, as rows: what is told of each.
 use drat_elaborate::{ElaborateFault, Elaborator};
 use lrat_text::{Hint, LratLine};
-use sat_formula::{CnfFormula, Lit, read_formula};
-use std::alloc::{AllocError, Global};
+use sat_formula::{CnfFormula, read_formula};
+use std::alloc::Global;
 use std::process::Abort;
-use std::test::Fail;
+use test_streams::Shown;
 
 /// A formula and the steps of a proof, as DIMACS: the clauses that it deletes, and then those that
 /// it adds. What is told: how many additions are taken before a conflict; the lines, or the fault;
@@ -41,131 +41,114 @@ fn add_lemmas(elaborator: &mut Elaborator, lemmas: &CnfFormula) -> Result<u64, E
     Ok(count)
 }
 
-/// Tells a line, as LRAT text without a last 0.
-fn tell_line(text: &mut String, line: LratLine<'_>) -> Result<(), AllocError> {
+/// Shows a line, as LRAT text without a last 0.
+fn show_line(shown: &mut Shown, line: LratLine<'_>) {
     match line {
         LratLine::Add { id, clause, hints } => {
-            write!(text, "{id} ")?;
-            tell_clause(text, clause)?;
-            tell_hints(text, hints)?;
+            shown.number("", id);
+            for lit in clause {
+                shown.signed(" ", lit.to_dimacs());
+            }
+            shown.words(" 0");
+            show_hints(shown, hints);
         }
         LratLine::Delete { ids } => {
-            write!(text, "d")?;
-            tell_ids(text, ids)?;
+            shown.words("d");
+            for id in ids {
+                shown.number(" ", *id);
+            }
         }
     }
-    write!(text, "; ")
+    shown.words("; ");
 }
 
-fn tell_clause(text: &mut String, clause: &[Lit]) -> Result<(), AllocError> {
-    for lit in clause {
-        let number = lit.to_dimacs();
-        write!(text, "{number} ")?;
-    }
-    write!(text, "0")
-}
-
-fn tell_hints(text: &mut String, hints: &[Hint]) -> Result<(), AllocError> {
+fn show_hints(shown: &mut Shown, hints: &[Hint]) {
     for hint in hints {
-        let (sign, id) = match *hint {
-            Hint::Along(id) => ("", id),
-            Hint::Against(id) => ("-", id),
-        };
-        write!(text, " {sign}{id}")?;
-    }
-    Ok(())
-}
-
-fn tell_ids(text: &mut String, ids: &[u64]) -> Result<(), AllocError> {
-    for id in ids {
-        write!(text, " {id}")?;
-    }
-    Ok(())
-}
-
-fn tell_lines(text: &mut String, elaborator: &mut Elaborator) -> Result<(), Fail> {
-    for _ in 0..20 {
-        match elaborator.next_line()? {
-            Some(line) => tell_line(text, line)?,
-            None => break,
+        match *hint {
+            Hint::Along(id) => shown.number(" ", id),
+            Hint::Against(id) => shown.number(" -", id),
         }
     }
-    Ok(())
 }
 
-/// Tells the ids of the clauses that are used, and the deletions that were passed over.
-fn tell_use(text: &mut String, elaborator: &Elaborator) -> Result<(), AllocError> {
-    write!(text, "used")?;
+fn show_lines(shown: &mut Shown, elaborator: &mut Elaborator) {
+    for _ in 0..20 {
+        match elaborator.next_line() {
+            Ok(Some(line)) => show_line(shown, line),
+            Ok(None) => break,
+            Err(fault) => shown.value(&fault),
+        }
+    }
+}
+
+/// Shows the ids of the clauses that are used, and the deletions that were passed over.
+fn show_use(shown: &mut Shown, elaborator: &Elaborator) {
+    shown.words("used");
     for index in 0..20 {
         if elaborator.is_used(index) {
-            let id = index + 1;
-            write!(text, " {id}")?;
+            shown.number(" ", index as u64 + 1);
         }
     }
-    let missing = elaborator.missing_deletions();
-    let kept = elaborator.kept_reasons();
-    write!(text, "; {missing} missing, {kept} kept")
+    shown.number("; ", elaborator.missing_deletions());
+    shown.number(" missing, ", elaborator.kept_reasons());
+    shown.words(" kept");
 }
 
-/// Tells what is elaborated.
-pub(crate) fn tell_proof(text: &mut String, elaborator: &mut Elaborator) -> Result<(), Fail> {
-    match elaborate(elaborator) {
-        Ok(()) => {
-            tell_lines(text, elaborator)?;
-            tell_use(text, elaborator)?;
-        }
-        Err(fault) => write!(text, "{fault}")?,
-    }
-    Ok(())
-}
-
-/// Goes over all steps, two in a call.
-fn elaborate(elaborator: &mut Elaborator) -> Result<(), ElaborateFault> {
+/// Shows what is elaborated, two steps in a call.
+pub(crate) fn show_proof(shown: &mut Shown, elaborator: &mut Elaborator) {
     for _ in 0..20 {
-        if elaborator.elaborate(2)? {
-            break;
+        match elaborator.elaborate(2) {
+            Ok(false) => {}
+            Ok(true) => {
+                show_lines(shown, elaborator);
+                show_use(shown, elaborator);
+                break;
+            }
+            Err(fault) => {
+                shown.value(&fault);
+                break;
+            }
         }
     }
-    Ok(())
 }
 
-/// Tells all of a row. What comes out of order is refused, or says nothing: the lines before they
+/// Shows what is answered to a clause that comes once the proof has begun.
+fn show_late(shown: &mut Shown, elaborator: &mut Elaborator) {
+    match elaborator.add_clause(&[]) {
+        Ok(()) => shown.words("a late clause is taken"),
+        Err(fault) => {
+            shown.words("late clause: ");
+            shown.value(&fault);
+        }
+    }
+}
+
+/// Shows all of a row. What comes out of order is refused, or says nothing: the lines before they
 /// are made are none.
-fn tell(
-    text: &mut String,
+fn show_row(
+    rt: &impl Abort,
+    shown: &mut Shown,
     elaborator: &mut Elaborator,
     (formula, deleted, lemmas): (&CnfFormula, &CnfFormula, &CnfFormula),
-) -> Result<(), Fail> {
-    add_formula(elaborator, formula)?;
-    match elaborator.add_clause(&[]) {
-        Ok(()) => write!(text, "a late clause is taken; ")?,
-        Err(fault) => write!(text, "late clause: {fault}; ")?,
-    }
-    delete_clauses(elaborator, deleted)?;
-    let count = add_lemmas(elaborator, lemmas)?;
-    write!(text, "{count} added: ")?;
-    tell_lines(text, elaborator)?;
-    tell_proof(text, elaborator)
+) {
+    add_formula(elaborator, formula).expect(rt, "a formula");
+    show_late(shown, elaborator);
+    delete_clauses(elaborator, deleted).expect(rt, "deletions");
+    let count = add_lemmas(elaborator, lemmas).expect(rt, "additions");
+    shown.number("; ", count);
+    shown.words(" added: ");
+    show_lines(shown, elaborator);
+    show_proof(shown, elaborator);
 }
 
-/// What is told of a row. The elaborator, which has many parts, stands in this function alone.
-fn told_of(alloc: Global, parts: (&CnfFormula, &CnfFormula, &CnfFormula)) -> Result<String, Fail> {
-    let mut text = String::new(alloc);
-    tell(&mut text, &mut Elaborator::new(alloc), parts)?;
-    Ok(text)
-}
-
-fn is_told(
-    rt: &impl Abort,
-    alloc: Global,
-    (formula, deleted, lemmas, told): Row,
-) -> Result<(), Fail> {
-    let formula = read_formula(alloc, formula.as_bytes())?;
-    let deleted = read_formula(alloc, deleted.as_bytes())?;
-    let lemmas = read_formula(alloc, lemmas.as_bytes())?;
-    let text = told_of(alloc, (&formula, &deleted, &lemmas))?;
-    assert_eq!(rt; text.as_str(), told);
-    Ok(())
+fn is_told(rt: &impl Abort, alloc: Global, (formula, deleted, lemmas, told): Row) {
+    let formula = read_formula(alloc, formula.as_bytes()).expect(rt, "a formula");
+    let deleted = read_formula(alloc, deleted.as_bytes()).expect(rt, "deletions");
+    let lemmas = read_formula(alloc, lemmas.as_bytes()).expect(rt, "additions");
+    let mut shown = Shown::new(alloc);
+    let parts = (&formula, &deleted, &lemmas);
+    show_row(rt, &mut shown, &mut Elaborator::new(alloc), parts);
+    assert_eq!(rt; shown.text(), told);
 }
 
 /// Four clauses on two variables, and one that is not needed. The deletion meets none.
@@ -234,23 +217,23 @@ const EMPTY: Row = (
     "late clause: internal error; 0 added: d 1 3; 4 0 2; used 2; 0 missing, 0 kept",
 );
 
-fn are_told(rt: &impl Abort, alloc: Global, rows: &[Row]) -> Result<(), Fail> {
+const ROWS: [Row; 7] = [
+    BY_PROPAGATION,
+    FAR,
+    REDUNDANT,
+    UNFOUNDED,
+    OPEN,
+    REASON,
+    EMPTY,
+];
+
+fn are_told(rt: &impl Abort, alloc: Global, rows: &[Row]) {
     for row in rows {
-        is_told(rt, alloc, *row)?;
+        is_told(rt, alloc, *row);
     }
-    Ok(())
 }
 
 #[test]
-fn proofs(rt: HostRuntime) -> Result<(), Fail> {
-    let rows = [
-        BY_PROPAGATION,
-        FAR,
-        REDUNDANT,
-        UNFOUNDED,
-        OPEN,
-        REASON,
-        EMPTY,
-    ];
-    are_told(&rt, rt.alloc(), &rows)
+fn proofs(rt: HostRuntime) {
+    are_told(&rt, rt.alloc(), &ROWS);
 }

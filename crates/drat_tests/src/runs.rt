@@ -1,33 +1,29 @@
 //! Runs with their verdicts, lines and statuses, texts of faults, and reads and writes that fail.
-use drat_check::{ProofFormat, RunFault, Verdict, exit_status, run_check};
+use drat_check::{ProofFormat, exit_status, run_check};
 use log::sink::Discard;
-use std::alloc::{AllocError, Global};
+use std::alloc::Global;
 use std::io::ErrorKind;
 use std::process::Abort;
-use std::test::Fail;
-use test_streams::{Full, Pieces};
+use test_streams::{Ended, Outcome, Page, Pieces};
 
 /// Four clauses, one against each pair of values of two variables.
 const FOUR: &[u8] = b"1 2 0 1 -2 0 -1 2 0 -1 -2 0";
 
-/// What a run writes, the text of its fault, and its exit status.
-type Outcome = (&'static str, &'static str, u8);
+const VERIFIED: Outcome<'static> = ("s VERIFIED UNSAT\n", "", 0);
 
-const VERIFIED: Outcome = ("s VERIFIED UNSAT\n", "", 0);
-
-const NOT_VERIFIED: Outcome = ("s NOT VERIFIED\n", "", 3);
+const NOT_VERIFIED: Outcome<'static> = ("s NOT VERIFIED\n", "", 3);
 
 /// The second step is needed, and is not right.
-const UNFOUNDED: Outcome = (
+const UNFOUNDED: Outcome<'static> = (
     "",
     "proof: step 2: clause neither follows nor is redundant by its first literal",
     1,
 );
 
 /// A formula and a proof with what is answered.
-type Row = (&'static [u8], &'static [u8], Outcome);
+type Row = (&'static [u8], &'static [u8], Outcome<'static>);
 
-const RUNS: [Row; 18] = [
+const RUNS: [Row; 19] = [
     (FOUR, b"1 0\n0\n", VERIFIED),
     (FOUR, b"1 0\nd 1 2 0\n0", VERIFIED),
     (FOUR, b"c a comment\n-2 0\n", VERIFIED),
@@ -57,65 +53,9 @@ const RUNS: [Row; 18] = [
     (b"1 0 -1 0", b"", VERIFIED),
     (b"", b"", NOT_VERIFIED),
     (b"1 x 0", b"0", ("", "formula: line 1: bad number", 1)),
+    // its first step adds a clause, so it is DRAT
+    (FOUR, b"a 5 1 0\n", ("", "proof: step 1: unfinished", 1)),
 ];
-
-/// The text of a fault, and of a verdict none.
-fn fault_text(alloc: Global, answer: Result<Verdict, RunFault>) -> Result<String, AllocError> {
-    match answer {
-        Ok(_) => Ok(String::new(alloc)),
-        Err(fault) => fault.to_string(alloc),
-    }
-}
-
-fn has_outcome(
-    rt: &impl Abort,
-    alloc: Global,
-    answer: Result<Verdict, RunFault>,
-    written: &[u8],
-    (line, fault, status): Outcome,
-) -> Result<(), AllocError> {
-    assert_eq!(rt; written, line.as_bytes());
-    assert_eq!(rt; exit_status(&answer), status);
-    let said = fault_text(alloc, answer)?;
-    assert_eq!(rt; said.as_str(), fault);
-    Ok(())
-}
-
-fn is_answered(
-    rt: &impl Abort,
-    alloc: Global,
-    (cnf, proof): (Pieces<'_>, Pieces<'_>),
-    format: ProofFormat,
-    outcome: Outcome,
-) -> Result<(), AllocError> {
-    let mut out = Vec::new(alloc);
-    let answer = run_check(&Discard, alloc, cnf, proof, format, &mut out);
-    has_outcome(rt, alloc, answer, &out, outcome)
-}
-
-fn is_row(
-    rt: &impl Abort,
-    alloc: Global,
-    (cnf, proof, outcome): Row,
-    format: ProofFormat,
-) -> Result<(), AllocError> {
-    let texts = (Pieces::whole(cnf), Pieces::whole(proof));
-    is_answered(rt, alloc, texts, format, outcome)
-}
-
-/// The proofs tell their format.
-fn are_rows(rt: &impl Abort, alloc: Global, rows: &[Row]) -> Result<(), AllocError> {
-    for row in rows {
-        is_row(rt, alloc, *row, ProofFormat::Told)?;
-    }
-    Ok(())
-}
-
-#[test]
-fn runs(rt: HostRuntime) -> Result<(), Fail> {
-    are_rows(&rt, rt.alloc(), &RUNS)?;
-    Ok(())
-}
 
 /// The four clauses have the ids 1 to 4.
 const WITH_IDS: [Row; 11] = [
@@ -164,54 +104,67 @@ const WITH_IDS: [Row; 11] = [
     ),
 ];
 
-#[test]
-fn proofs_with_ids(rt: HostRuntime) -> Result<(), Fail> {
-    are_rows(&rt, rt.alloc(), &WITH_IDS)?;
-    Ok(())
+/// What is answered to the proof of these bytes as they are read. As much of the line is written as
+/// there is room for.
+fn is_answered(
+    rt: &impl Abort,
+    alloc: Global,
+    (cnf, bytes, outcome): Row,
+    proof: Pieces<'_>,
+    format: ProofFormat,
+    room: usize,
+) {
+    let cnf = Pieces::whole(cnf);
+    let mut page = Page::of_room(alloc, room);
+    let answer = run_check(&Discard, alloc, cnf, proof, format, &mut page);
+    let ended = Ended::of(alloc, page, &answer, exit_status(&answer));
+    assert_eq!(rt; ended.outcome(), outcome, "{bytes:?}");
 }
 
-/// A proof whose first step adds a clause is DRAT, and one of numbers alone is no FRAT.
+fn are_answered(rt: &impl Abort, alloc: Global, rows: &[Row], format: ProofFormat) {
+    for row in rows {
+        is_answered(rt, alloc, *row, Pieces::whole(row.1), format, usize::MAX);
+    }
+}
+
+const AS_FRAT: [Row; 2] = [
+    (FOUR, b"a 5 1 0\n", VERIFIED),
+    (FOUR, b"1 0\n", ("", "proof: step 1: malformed", 1)),
+];
+
+const AS_DRAT: [Row; 1] = [(FOUR, b"o 1 1 2 0\n", ("", "proof: step 1: malformed", 1))];
+
 #[test]
-fn formats_that_are_given(rt: HostRuntime) -> Result<(), Fail> {
-    let alloc = rt.alloc();
-    let addition: &[u8] = b"a 5 1 0\n";
-    is_row(&rt, alloc, (FOUR, addition, VERIFIED), ProofFormat::Frat)?;
-    let unfinished = ("", "proof: step 1: unfinished", 1);
-    is_row(&rt, alloc, (FOUR, addition, unfinished), ProofFormat::Told)?;
-    let malformed = ("", "proof: step 1: malformed", 1);
-    is_row(&rt, alloc, (FOUR, b"1 0\n", malformed), ProofFormat::Frat)?;
-    is_row(
-        &rt,
-        alloc,
-        (FOUR, b"o 1 1 2 0\n", malformed),
-        ProofFormat::Drat,
-    )?;
-    Ok(())
+fn runs(rt: HostRuntime) {
+    are_answered(&rt, rt.alloc(), &RUNS, ProofFormat::Told);
+    are_answered(&rt, rt.alloc(), &WITH_IDS, ProofFormat::Told);
+    are_answered(&rt, rt.alloc(), &AS_FRAT, ProofFormat::Frat);
+    are_answered(&rt, rt.alloc(), &AS_DRAT, ProofFormat::Drat);
+}
+
+/// A formula, a proof with a read that fails after it and what is answered, and how many bytes can
+/// be written.
+const FAILING: [(Row, usize); 3] = [
+    ((FOUR, b"1 0\n", VERIFIED), usize::MAX),
+    (
+        (
+            FOUR,
+            b"1 2 0\n1",
+            ("", "proof: error reading proof: broken", 1),
+        ),
+        usize::MAX,
+    ),
+    ((FOUR, b"1 0\n", ("", "error writing: full", 1)), 0),
+];
+
+fn are_answered_broken(rt: &impl Abort, alloc: Global, rows: &[(Row, usize)]) {
+    for (row, room) in rows {
+        let proof = Pieces::broken(row.1, ErrorKind::ConnectionReset);
+        is_answered(rt, alloc, *row, proof, ProofFormat::Told, *room);
+    }
 }
 
 #[test]
-fn reads_that_fail(rt: HostRuntime) -> Result<(), Fail> {
-    let four = Pieces::whole(FOUR);
-    let proof = Pieces::broken(b"1 0\n", ErrorKind::ConnectionReset);
-    is_answered(&rt, rt.alloc(), (four, proof), ProofFormat::Told, VERIFIED)?;
-    let proof = Pieces::broken(b"1 2 0\n1", ErrorKind::ConnectionReset);
-    let outcome = ("", "proof: error reading proof: broken", 1);
-    is_answered(&rt, rt.alloc(), (four, proof), ProofFormat::Told, outcome)?;
-    Ok(())
-}
-
-#[test]
-fn line_that_cannot_be_written(rt: HostRuntime) -> Result<(), Fail> {
-    let proof = Pieces::whole(b"1 0\n");
-    let mut out = Full::after(0);
-    let answer = run_check(
-        &Discard,
-        rt.alloc(),
-        FOUR,
-        proof,
-        ProofFormat::Told,
-        &mut out,
-    );
-    has_outcome(&rt, rt.alloc(), answer, &[], ("", "error writing: full", 1))?;
-    Ok(())
+fn reads_and_writes_that_fail(rt: HostRuntime) {
+    are_answered_broken(&rt, rt.alloc(), &FAILING);
 }

@@ -1,48 +1,34 @@
 //! Rows of proofs over readers of any cut, and reads that fail.
 use drat_text::{DratReader, DratStep};
 use sat_formula::Lit;
-use std::alloc::{AllocError, Global};
-use std::io::Read;
+use std::alloc::Global;
 use std::process::Abort;
-use std::test::Fail;
-use test_streams::Pieces;
+use test_streams::{Pieces, Shown};
 
-/// Each step, as `add` or `delete` with its literals, and the end or the text of a fault.
-fn shown(alloc: Global, proof: Pieces<'_>) -> Result<String, AllocError> {
-    let mut all = String::new(alloc);
-    show_all(&mut all, &mut DratReader::new(alloc, proof))?;
-    Ok(all)
-}
-
-fn show_all(all: &mut String, reader: &mut DratReader<Pieces<'_>>) -> Result<(), AllocError> {
+/// Shows each step, as `add` or `delete` with its literals, and the end or the text of a fault.
+fn show(shown: &mut Shown, reader: &mut DratReader<Pieces<'_>>) {
     for _ in 0..20u32 {
-        if !show_next(all, reader)? {
-            break;
+        match reader.next_step() {
+            Ok(Some(DratStep::Add(lits))) => show_step(shown, "add", lits),
+            Ok(Some(DratStep::Delete(lits))) => show_step(shown, "delete", lits),
+            Ok(None) => {
+                shown.words("end");
+                break;
+            }
+            Err(fault) => {
+                shown.value(&fault);
+                shown.words("; ");
+            }
         }
     }
-    Ok(())
 }
 
-/// Shows a step, or the text of a fault. Answers whether it was not the end.
-fn show_next(all: &mut String, reader: &mut DratReader<Pieces<'_>>) -> Result<bool, AllocError> {
-    match reader.next_step() {
-        Ok(Some(DratStep::Add(lits))) => show_step(all, "add", lits)?,
-        Ok(Some(DratStep::Delete(lits))) => show_step(all, "delete", lits)?,
-        Ok(None) => {
-            write!(all, "end")?;
-            return Ok(false);
-        }
-        Err(fault) => write!(all, "{fault}; ")?,
-    }
-    Ok(true)
-}
-
-fn show_step(all: &mut String, kind: &str, lits: &[Lit]) -> Result<(), AllocError> {
-    write!(all, "{kind}")?;
+fn show_step(shown: &mut Shown, kind: &str, lits: &[Lit]) {
+    shown.words(kind);
     for lit in lits {
-        write!(all, " {}", lit.to_dimacs())?;
+        shown.signed(" ", lit.to_dimacs());
     }
-    write!(all, "; ")
+    shown.words("; ");
 }
 
 type Row = (&'static [u8], &'static str);
@@ -99,43 +85,33 @@ const BROKEN: [BrokenRow; 4] = [
     ),
 ];
 
-fn is_shown(
-    rt: &impl Abort,
-    alloc: Global,
-    proof: Pieces<'_>,
-    expected: &str,
-) -> Result<(), AllocError> {
-    let seen = shown(alloc, proof)?;
-    assert_eq!(rt; seen.as_str(), expected);
-    Ok(())
+/// What is shown of these bytes as they are read.
+fn is_shown(rt: &impl Abort, alloc: Global, bytes: &[u8], proof: Pieces<'_>, expected: &str) {
+    let mut shown = Shown::new(alloc);
+    show(&mut shown, &mut DratReader::new(alloc, proof));
+    assert_eq!(rt; shown.text(), expected, "{bytes:?}");
 }
 
-fn hold(rt: &impl Abort, alloc: Global, rows: &[Row]) -> Result<(), AllocError> {
+fn hold(rt: &impl Abort, alloc: Global, rows: &[Row]) {
     for (bytes, expected) in rows {
         for size in [1, 2, 3, 100] {
-            is_shown(rt, alloc, Pieces::of_size(bytes, size), expected)?;
+            let proof = Pieces::of_size(bytes, size);
+            is_shown(rt, alloc, bytes, proof, expected);
         }
     }
-    Ok(())
-}
-
-#[test]
-fn steps(rt: HostRuntime) -> Result<(), Fail> {
-    hold(&rt, rt.alloc(), &TEXT)?;
-    hold(&rt, rt.alloc(), &BINARY)?;
-    Ok(())
 }
 
 /// By one byte a read.
-fn hold_broken(rt: &impl Abort, alloc: Global, rows: &[BrokenRow]) -> Result<(), AllocError> {
+fn hold_broken(rt: &impl Abort, alloc: Global, rows: &[BrokenRow]) {
     for (bytes, failing, expected) in rows {
-        is_shown(rt, alloc, Pieces::failing_at(bytes, 1, *failing), expected)?;
+        let proof = Pieces::failing_at(bytes, 1, *failing);
+        is_shown(rt, alloc, bytes, proof, expected);
     }
-    Ok(())
 }
 
 #[test]
-fn reads_that_fail(rt: HostRuntime) -> Result<(), Fail> {
-    hold_broken(&rt, rt.alloc(), &BROKEN)?;
-    Ok(())
+fn steps(rt: HostRuntime) {
+    hold(&rt, rt.alloc(), &TEXT);
+    hold(&rt, rt.alloc(), &BINARY);
+    hold_broken(&rt, rt.alloc(), &BROKEN);
 }

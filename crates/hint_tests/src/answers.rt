@@ -1,9 +1,11 @@
 //! Answers to texts, from the rules read by hand.
+use crate::lines::{ADDED, DELETED, NOTHING, PARTS};
+use crate::malformed_lines::MALFORMED;
 use hint_checker::{HintChecker, HintFault};
-use sat_formula::{CnfFormula, read_formula};
-use std::alloc::{AllocError, Global};
+use sat_formula::read_formula;
+use std::alloc::Global;
 use std::process::Abort;
-use std::test::Fail;
+use test_streams::Shown;
 
 type Answer = Result<bool, HintFault>;
 
@@ -110,38 +112,6 @@ const CALLS: [Row; 26] = [
     ),
 ];
 
-/// The texts of each row are answered so.
-pub fn are_answered(rt: &impl Abort, alloc: Global, rows: &[Row]) -> Result<(), Fail> {
-    for (formula, texts) in rows {
-        let formula = read_formula(alloc, formula.as_bytes())?;
-        new_answers(rt, alloc, &formula, texts)?;
-    }
-    Ok(())
-}
-
-/// A new checker answers so.
-fn new_answers(
-    rt: &impl Abort,
-    alloc: Global,
-    formula: &CnfFormula,
-    texts: &[(&str, Answer)],
-) -> Result<(), HintFault> {
-    let mut checker = HintChecker::new(alloc, formula)?;
-    answers(rt, &mut checker, texts);
-    Ok(())
-}
-
-fn answers(rt: &impl Abort, checker: &mut HintChecker, texts: &[(&str, Answer)]) {
-    for (text, answer) in texts {
-        assert_eq!(rt; checker.check(text.as_bytes()), *answer, "{text}");
-    }
-}
-
-#[test]
-fn calls(rt: HostRuntime) -> Result<(), Fail> {
-    are_answered(&rt, rt.alloc(), &CALLS)
-}
-
 const FAULTS: [(HintFault, &str); 6] = [
     (HintFault::Malformed { line: 3 }, "line 3: malformed line"),
     (
@@ -163,20 +133,45 @@ const FAULTS: [(HintFault, &str); 6] = [
     (HintFault::OutOfMemory, "out of memory"),
 ];
 
-fn have_texts(
-    rt: &impl Abort,
-    alloc: Global,
-    rows: &[(HintFault, &str)],
-) -> Result<(), AllocError> {
-    for (fault, text) in rows {
-        let said = fault.to_string(alloc)?;
-        assert_eq!(rt; said.as_str(), *text);
+/// A new checker of a formula.
+pub fn new_checker(rt: &impl Abort, alloc: Global, formula: &str) -> HintChecker {
+    let formula = read_formula(alloc, formula.as_bytes()).expect(rt, "a formula");
+    HintChecker::new(alloc, &formula).expect(rt, "a checker")
+}
+
+/// The texts are answered so, one after the other.
+fn answers(rt: &impl Abort, checker: &mut HintChecker, texts: &[(&str, Answer)]) {
+    for (text, answer) in texts {
+        assert_eq!(rt; checker.check(text.as_bytes()), *answer, "{text}");
     }
-    Ok(())
+}
+
+const TABLES: [&[Row]; 5] = [&CALLS, &NOTHING, &ADDED, &PARTS, &DELETED];
+
+#[test]
+fn rows(rt: HostRuntime) {
+    for rows in &TABLES {
+        for (formula, texts) in *rows {
+            let mut checker = new_checker(&rt, rt.alloc(), formula);
+            answers(&rt, &mut checker, texts);
+        }
+    }
 }
 
 #[test]
-fn texts_of_faults(rt: HostRuntime) -> Result<(), Fail> {
-    have_texts(&rt, rt.alloc(), &FAULTS)?;
-    Ok(())
+fn malformed_lines(rt: HostRuntime) {
+    for line in &MALFORMED {
+        let mut checker = new_checker(&rt, rt.alloc(), "");
+        let malformed = Err(HintFault::Malformed { line: 1 });
+        answers(&rt, &mut checker, &[(*line, malformed)]);
+    }
+}
+
+#[test]
+fn texts_of_faults(rt: HostRuntime) {
+    for (fault, text) in &FAULTS {
+        let mut shown = Shown::new(rt.alloc());
+        shown.value(fault);
+        assert_eq!(rt; shown.text(), *text);
+    }
 }

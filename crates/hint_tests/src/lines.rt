@@ -1,14 +1,13 @@
 //! What lines of text say, by what is answered to them and to lines after them: which clause has
 //! which id, and which clauses are gone.
-use crate::answers::{Row, are_answered};
+use crate::answers::Row;
 use hint_checker::HintFault;
-use std::test::Fail;
 
 /// Two opposite units: with ids 1 and 2 there, and none used since, line 3 refutes them.
 const UNITS: &str = "1 0 -1 0";
 
 /// Lines that say nothing: what comes next is answered as if it came first.
-const NOTHING: [Row; 5] = [
+pub const NOTHING: [Row; 5] = [
     (UNITS, &[("", Ok(false)), ("3 0 1 2 0", Ok(true))]),
     (UNITS, &[(" \t\r", Ok(false)), ("3 0 1 2 0", Ok(true))]),
     (UNITS, &[("c", Ok(false)), ("3 0 1 2 0", Ok(true))]),
@@ -24,7 +23,7 @@ const LEADING: &str = "5 0 5 0 1 -2 3 0 1 -2 -3 0";
 
 /// The clause 1 -2 under the id 9: it is falsified where both of its literals are false, and not
 /// where one of them may be true.
-const ADDED: [Row; 12] = [
+pub const ADDED: [Row; 12] = [
     (
         LEADING,
         &[("9 1 -2 0 3 4 0", Ok(false)), ("10 1 -2 0 9 0", Ok(false))],
@@ -109,7 +108,7 @@ const ADDED: [Row; 12] = [
 ];
 
 /// Lines whose literals and hints show in what they are refused for, or in the ids after them.
-const PARTS: [Row; 13] = [
+pub const PARTS: [Row; 13] = [
     // a clause and hints may be empty
     ("", &[("1 0 0", Err(HintFault::NoConflict { line: 1 }))]),
     (
@@ -175,7 +174,7 @@ const PARTS: [Row; 13] = [
 const FIVE: &str = "1 0 -1 0 2 0 -2 0 3 0";
 
 /// Lines that delete: these clauses are gone, others are not, and the first number says nothing.
-const DELETED: [Row; 13] = [
+pub const DELETED: [Row; 13] = [
     (UNITS, &[("7 d 0", Ok(false)), ("3 0 1 2 0", Ok(true))]),
     (
         FIVE,
@@ -245,11 +244,3 @@ const DELETED: [Row; 13] = [
     ),
     (UNITS, &[("0 d 0", Ok(false)), ("3 0 1 2 0", Ok(true))]),
 ];
-
-#[test]
-fn lines(rt: HostRuntime) -> Result<(), Fail> {
-    are_answered(&rt, rt.alloc(), &NOTHING)?;
-    are_answered(&rt, rt.alloc(), &ADDED)?;
-    are_answered(&rt, rt.alloc(), &PARTS)?;
-    are_answered(&rt, rt.alloc(), &DELETED)
-}

@@ -1,112 +1,74 @@
 //! Texts of readers: more bytes than are read at once, and reads that fail.
-use hint_checker::{HintChecker, HintFault, HintTextFault};
-use sat_formula::{CnfFormula, read_formula};
-use std::alloc::{AllocError, Global};
-use std::io::{ErrorKind, Read};
+use crate::answers::new_checker;
+use std::alloc::Global;
+use std::fmt::Display;
+use std::io::ErrorKind;
 use std::process::Abort;
-use std::test::Fail;
-use test_streams::Pieces;
+use test_streams::{Pieces, Shown};
 
-const UNITS: &[u8] = b"1 0 -1 0";
+const UNITS: &str = "1 0 -1 0";
 
-/// What is answered to a text: whether it refutes, which line is malformed, or that a read failed.
-#[derive(Clone, Copy, PartialEq)]
-enum Told {
-    Refuted(bool),
-    Malformed(u64),
-    Unread,
-    Other,
-}
-
-fn answer_told(answer: &Result<bool, HintTextFault>) -> Told {
+/// Shows whether a text refutes, or the text of a fault.
+fn show<E: Display>(shown: &mut Shown, answer: &Result<bool, E>) {
     match answer {
-        Ok(refuted) => Told::Refuted(*refuted),
-        Err(HintTextFault::Refused(HintFault::Malformed { line })) => Told::Malformed(*line),
-        Err(HintTextFault::Read(_)) => Told::Unread,
-        Err(_) => Told::Other,
+        Ok(true) => shown.words("refuted"),
+        Ok(false) => shown.words("open"),
+        Err(fault) => shown.value(fault),
     }
 }
 
-/// What a new checker of the two clauses answers.
-fn told_of_new<R: Read + Drop>(
-    alloc: Global,
-    formula: &CnfFormula,
-    text: R,
-) -> Result<Told, HintFault> {
-    let mut checker = HintChecker::new(alloc, formula)?;
-    Ok(answer_told(&checker.check_reader(text)))
+/// What a new checker of the two clauses answers to a text, which is named so, and what it answers
+/// to an empty text then: after a fault no text is checked.
+fn is_told(rt: &impl Abort, alloc: Global, name: &str, text: Pieces<'_>, expected: &str) {
+    let mut checker = new_checker(rt, alloc, UNITS);
+    let mut shown = Shown::new(alloc);
+    show(&mut shown, &checker.check_reader(text));
+    shown.words(", then ");
+    show(&mut shown, &checker.check(b""));
+    assert_eq!(rt; shown.text(), expected, "{name}");
 }
 
-/// So many lines, and a last one.
-fn long_text(alloc: Global, line: &str, last: &str) -> Result<String, AllocError> {
-    let mut text = String::new(alloc);
-    for _ in 0..9000u32 {
-        write!(&mut text, "{line}")?;
-    }
-    write!(&mut text, "{last}")?;
-    Ok(text)
-}
-
-fn is_told(
-    rt: &impl Abort,
-    alloc: Global,
-    formula: &CnfFormula,
-    (line, last): (&str, &str),
-    expected: Told,
-) -> Result<(), Fail> {
-    let text = long_text(alloc, line, last)?;
-    let seen = told_of_new(alloc, formula, text.as_str().as_bytes())?;
-    assert!(rt; seen == expected, "{line}{last}");
-    Ok(())
-}
-
-/// Lines of eight bytes, the last of which ends with the bytes that are read at once, and of nine,
-/// where one goes on.
-const LONG: [(&str, &str, Told); 4] = [
-    ("5 d 9 0\n", "3 0 1 2 0", Told::Refuted(true)),
-    ("5 d 9 0\n", "3 0 1 2 0 1\n", Told::Malformed(9001)),
-    ("5 d 99 0\n", "3 0 1 2 0", Told::Refuted(true)),
-    ("5 d 99 0\n", "3 0 1 2 0 1\n", Told::Malformed(9001)),
+/// A line that stands there 9000 times, and a last one: lines of eight bytes, the last of which
+/// ends with the bytes that are read at once, and of nine, where one goes on.
+const LONG: [(&str, &str, &str); 4] = [
+    ("5 d 9 0\n", "3 0 1 2 0", "refuted, then refuted"),
+    (
+        "5 d 9 0\n",
+        "3 0 1 2 0 1\n",
+        "line 9001: malformed line, then line 0: malformed line",
+    ),
+    ("5 d 99 0\n", "3 0 1 2 0", "refuted, then refuted"),
+    (
+        "5 d 99 0\n",
+        "3 0 1 2 0 1\n",
+        "line 9001: malformed line, then line 0: malformed line",
+    ),
 ];
 
 #[test]
-fn long_texts(rt: HostRuntime) -> Result<(), Fail> {
-    let formula = read_formula(rt.alloc(), UNITS)?;
-    for (line, last, expected) in LONG {
-        is_told(&rt, rt.alloc(), &formula, (line, last), expected)?;
+fn long_texts(rt: HostRuntime) {
+    for (line, last, expected) in &LONG {
+        let text = Shown::of_parts(rt.alloc(), &[(*line, 9000), (*last, 1)]);
+        let pieces = Pieces::whole(text.text().as_bytes());
+        is_told(&rt, rt.alloc(), line, pieces, expected);
     }
-    Ok(())
 }
+
+const UNREAD: &str = "error reading hints: broken, then line 0: malformed line";
 
 /// A line that is refused is told though a read after it fails; one that was not read to its end is
 /// not judged.
-const BROKEN: [(&[u8], Told); 4] = [
-    (b"", Told::Unread),
-    (b"3 0 1 2 0", Told::Unread),
-    (b"3 1 0 1 0\nx", Told::Unread),
-    (b"x\n", Told::Malformed(1)),
+const BROKEN: [(&str, &str); 4] = [
+    ("", UNREAD),
+    ("3 0 1 2 0", UNREAD),
+    ("3 1 0 1 0\nx", UNREAD),
+    ("x\n", "line 1: malformed line, then line 0: malformed line"),
 ];
 
-/// After a fault no text is checked.
-fn is_told_of_broken(
-    rt: &impl Abort,
-    alloc: Global,
-    formula: &CnfFormula,
-    text: &[u8],
-    expected: Told,
-) -> Result<(), HintFault> {
-    let mut checker = HintChecker::new(alloc, formula)?;
-    let seen = answer_told(&checker.check_reader(Pieces::broken(text, ErrorKind::ConnectionReset)));
-    assert!(rt; seen == expected, "{text:?}");
-    assert_eq!(rt; checker.check(b""), Err(HintFault::Malformed { line: 0 }));
-    Ok(())
-}
-
 #[test]
-fn reads_that_fail(rt: HostRuntime) -> Result<(), Fail> {
-    let formula = read_formula(rt.alloc(), UNITS)?;
-    for (text, expected) in BROKEN {
-        is_told_of_broken(&rt, rt.alloc(), &formula, text, expected)?;
+fn reads_that_fail(rt: HostRuntime) {
+    for (text, expected) in &BROKEN {
+        let pieces = Pieces::broken(text.as_bytes(), ErrorKind::ConnectionReset);
+        is_told(&rt, rt.alloc(), text, pieces, expected);
     }
-    Ok(())
 }

@@ -5,14 +5,15 @@ mod given;
 mod redundancy;
 mod rows;
 
+use self::redundancy::{GROUPS, LITERALS, REFUTED};
+use self::rows::{EMPTY_CLAUSES, FAR_LITERALS, IDS, LINES_OF_HINTS, PROPAGATION};
 use crate::texts::line_ends;
 use lrat_checker::{LratChecker, LratFault};
 use sat_formula::{CnfFormula, read_formula};
-use std::alloc::{AllocError, Global};
+use std::alloc::Global;
 use std::io::ErrorKind;
 use std::process::Abort;
-use std::test::Fail;
-use test_streams::Pieces;
+use test_streams::{Pieces, Shown};
 
 /// A formula, and a proof with its answer.
 type Row = (&'static str, &'static str, &'static str);
@@ -33,43 +34,44 @@ const BROKEN: &str = "error reading proof: broken";
 /// How answers of refused lines begin.
 const LINES: [(usize, &str); 3] = [(1, "line 1:"), (2, "line 2:"), (3, "line 3:")];
 
-/// An answer in words.
-fn shown(alloc: Global, answer: Result<bool, LratFault>) -> Result<String, AllocError> {
+/// A new checker of a formula.
+fn new_checker(rt: &impl Abort, alloc: Global, formula: &str) -> LratChecker {
+    let formula = read_formula(alloc, formula.as_bytes()).expect(rt, "a formula");
+    LratChecker::new(alloc, &formula).expect(rt, "a checker")
+}
+
+/// Shows an answer in words.
+fn show(shown: &mut Shown, answer: Result<bool, LratFault>) {
     match answer {
-        Ok(true) => "refuted".to_string(alloc),
-        Ok(false) => "accepted".to_string(alloc),
-        Err(fault) => fault.to_string(alloc),
+        Ok(true) => shown.words("refuted"),
+        Ok(false) => shown.words("accepted"),
+        Err(fault) => shown.value(&fault),
     }
 }
 
-/// The answer of a new checker in words.
-fn answer_to(alloc: Global, formula: &CnfFormula, proof: Pieces<'_>) -> Result<String, AllocError> {
-    let mut checker = LratChecker::new(alloc, formula)?;
-    shown(alloc, checker.check(proof))
-}
-
+/// The proof of this text is answered so.
 fn is_answered(
     rt: &impl Abort,
     alloc: Global,
-    formula: &CnfFormula,
-    proof: Pieces<'_>,
+    checker: &mut LratChecker,
+    (text, proof): (&str, Pieces<'_>),
     answer: &str,
-) -> Result<(), AllocError> {
-    let seen = answer_to(alloc, formula, proof)?;
-    assert_eq!(rt; seen.as_str(), answer);
-    Ok(())
+) {
+    let mut shown = Shown::new(alloc);
+    show(&mut shown, checker.check(proof));
+    assert_eq!(rt; shown.text(), answer, "{text}");
 }
 
-/// The proof is answered so, read at once and byte by byte.
-fn is_answered_whole(
+/// The proof of this text is answered so by a new checker.
+fn is_newly_answered(
     rt: &impl Abort,
     alloc: Global,
     formula: &CnfFormula,
-    proof: &[u8],
+    proof: (&str, Pieces<'_>),
     answer: &str,
-) -> Result<(), AllocError> {
-    is_answered(rt, alloc, formula, Pieces::whole(proof), answer)?;
-    is_answered(rt, alloc, formula, Pieces::of_size(proof, 1), answer)
+) {
+    let mut checker = LratChecker::new(alloc, formula).expect(rt, "a checker");
+    is_answered(rt, alloc, &mut checker, proof, answer);
 }
 
 /// What is answered where so many lines were read to their ends before a read fails.
@@ -87,39 +89,60 @@ fn is_answered_broken(
     rt: &impl Abort,
     alloc: Global,
     formula: &CnfFormula,
-    proof: &[u8],
+    proof: &str,
     answer: &str,
-) -> Result<(), AllocError> {
+) {
     for read in 0..=proof.len() {
-        let text = &proof[..read];
+        let text = &proof.as_bytes()[..read];
         let answer = broken_after(answer, line_ends(text));
         let broken = Pieces::broken(text, ErrorKind::Interrupted);
-        is_answered(rt, alloc, formula, broken, answer)?;
+        is_newly_answered(rt, alloc, formula, (proof, broken), answer);
     }
-    Ok(())
 }
 
-fn holds_whole(rt: &impl Abort, alloc: Global, (formula, proof, answer): &Row) -> Result<(), Fail> {
-    let formula = read_formula(alloc, formula.as_bytes())?;
-    is_answered_whole(rt, alloc, &formula, proof.as_bytes(), answer)?;
-    Ok(())
+/// The proof is answered so, read at once and byte by byte, and also where one of its reads fails.
+fn holds(rt: &impl Abort, alloc: Global, (formula, proof, answer): Row) {
+    let formula = read_formula(alloc, formula.as_bytes()).expect(rt, "a formula");
+    for size in [usize::MAX, 1] {
+        let pieces = Pieces::of_size(proof.as_bytes(), size);
+        is_newly_answered(rt, alloc, &formula, (proof, pieces), answer);
+    }
+    is_answered_broken(rt, alloc, &formula, proof, answer);
 }
 
-fn holds_broken(
-    rt: &impl Abort,
-    alloc: Global,
-    (formula, proof, answer): &Row,
-) -> Result<(), Fail> {
-    let formula = read_formula(alloc, formula.as_bytes())?;
-    is_answered_broken(rt, alloc, &formula, proof.as_bytes(), answer)?;
-    Ok(())
-}
-
-/// The rows are answered so, also where one of their reads fails.
-fn hold(rt: &impl Abort, alloc: Global, rows: &[Row]) -> Result<(), Fail> {
+fn hold(rt: &impl Abort, alloc: Global, rows: &[Row]) {
     for row in rows {
-        holds_whole(rt, alloc, row)?;
-        holds_broken(rt, alloc, row)?;
+        holds(rt, alloc, *row);
     }
-    Ok(())
+}
+
+#[test]
+fn lines_by_propagation(rt: HostRuntime) {
+    hold(&rt, rt.alloc(), &PROPAGATION);
+    hold(&rt, rt.alloc(), &LINES_OF_HINTS);
+}
+
+#[test]
+fn literals_and_ids(rt: HostRuntime) {
+    hold(&rt, rt.alloc(), &FAR_LITERALS);
+    hold(&rt, rt.alloc(), &IDS);
+}
+
+#[test]
+fn redundant_lines(rt: HostRuntime) {
+    hold(&rt, rt.alloc(), &GROUPS);
+    hold(&rt, rt.alloc(), &LITERALS);
+    hold(&rt, rt.alloc(), &REFUTED);
+}
+
+/// The empty clause of a formula refutes it, whatever the proof.
+#[test]
+fn empty_clauses_of_formulas(rt: HostRuntime) {
+    for (formula, proof, answer) in EMPTY_CLAUSES {
+        for size in [usize::MAX, 1] {
+            let mut checker = new_checker(&rt, rt.alloc(), formula);
+            let pieces = Pieces::of_size(proof.as_bytes(), size);
+            is_answered(&rt, rt.alloc(), &mut checker, (proof, pieces), answer);
+        }
+    }
 }

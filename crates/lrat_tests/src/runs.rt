@@ -1,23 +1,19 @@
 //! Runs with their verdicts, lines and statuses, texts of faults, and reads and writes that fail.
-use lrat_check::{RunFault, Verdict, exit_status, run_check};
-use std::alloc::{AllocError, Global};
+use lrat_check::{exit_status, run_check};
+use std::alloc::Global;
 use std::io::ErrorKind;
 use std::process::Abort;
-use std::test::Fail;
-use test_streams::{Full, Pieces};
+use test_streams::{Ended, Outcome, Page, Pieces};
 
 /// Four clauses, one against each pair of values of two variables.
 const FOUR: &str = "1 2 0 1 -2 0 -1 2 0 -1 -2 0";
 
-/// What a run writes, the text of its fault, and its exit status.
-type Outcome = (&'static str, &'static str, u8);
+const VERIFIED: Outcome<'static> = ("s VERIFIED UNSAT\n", "", 0);
 
-const VERIFIED: Outcome = ("s VERIFIED UNSAT\n", "", 0);
-
-const NOT_VERIFIED: Outcome = ("s NOT VERIFIED\n", "", 3);
+const NOT_VERIFIED: Outcome<'static> = ("s NOT VERIFIED\n", "", 3);
 
 /// A formula and a proof with what is answered.
-type Row = (&'static str, &'static str, Outcome);
+type Row = (&'static str, &'static str, Outcome<'static>);
 
 const RUNS: [Row; 17] = [
     (FOUR, "5 1 0 1 2 0\n6 0 5 3 4 0\n", VERIFIED),
@@ -73,71 +69,41 @@ const RUNS: [Row; 17] = [
     ("0", "", VERIFIED),
 ];
 
-/// The text of a fault, and of a verdict none.
-fn fault_text(alloc: Global, answer: Result<Verdict, RunFault>) -> Result<String, AllocError> {
-    match answer {
-        Ok(_) => Ok(String::new(alloc)),
-        Err(fault) => fault.to_string(alloc),
-    }
-}
-
-fn has_outcome(
-    rt: &impl Abort,
-    alloc: Global,
-    answer: Result<Verdict, RunFault>,
-    written: &[u8],
-    (line, fault, status): Outcome,
-) -> Result<(), AllocError> {
-    assert_eq!(rt; written, line.as_bytes());
-    assert_eq!(rt; exit_status(&answer), status);
-    let said = fault_text(alloc, answer)?;
-    assert_eq!(rt; said.as_str(), fault);
-    Ok(())
-}
-
+/// What is run is named so. As much of the line is written as there is room for.
 fn is_answered(
     rt: &impl Abort,
     alloc: Global,
-    cnf: Pieces<'_>,
-    proof: Pieces<'_>,
-    outcome: Outcome,
-) -> Result<(), AllocError> {
-    let mut out = Vec::new(alloc);
-    let answer = run_check(alloc, cnf, proof, &mut out);
-    has_outcome(rt, alloc, answer, &out, outcome)
+    name: &str,
+    (cnf, proof): (Pieces<'_>, Pieces<'_>),
+    room: usize,
+    outcome: Outcome<'_>,
+) {
+    let mut page = Page::of_room(alloc, room);
+    let answer = run_check(alloc, cnf, proof, &mut page);
+    let ended = Ended::of(alloc, page, &answer, exit_status(&answer));
+    assert_eq!(rt; ended.outcome(), outcome, "{name}");
 }
 
-fn are_answered(rt: &impl Abort, alloc: Global, rows: &[Row]) -> Result<(), AllocError> {
-    for (cnf, proof, outcome) in rows {
+#[test]
+fn runs(rt: HostRuntime) {
+    for (cnf, proof, outcome) in RUNS {
         let cnf = Pieces::whole(cnf.as_bytes());
-        let proof = Pieces::whole(proof.as_bytes());
-        is_answered(rt, alloc, cnf, proof, *outcome)?;
+        let texts = (cnf, Pieces::whole(proof.as_bytes()));
+        is_answered(&rt, rt.alloc(), proof, texts, usize::MAX, outcome);
     }
-    Ok(())
 }
 
 #[test]
-fn runs(rt: HostRuntime) -> Result<(), Fail> {
-    are_answered(&rt, rt.alloc(), &RUNS)?;
-    Ok(())
-}
-
-#[test]
-fn reads_that_fail(rt: HostRuntime) -> Result<(), Fail> {
+fn reads_and_writes_that_fail(rt: HostRuntime) {
+    let alloc = rt.alloc();
     let four = Pieces::whole(FOUR.as_bytes());
-    let formula = Pieces::broken(b"1 0 -1 0", ErrorKind::ConnectionReset);
+    let broken = Pieces::broken(b"1 0 -1 0", ErrorKind::ConnectionReset);
     let outcome = ("", "formula: error reading formula: broken", 1);
-    is_answered(&rt, rt.alloc(), formula, four, outcome)?;
-    let proof = Pieces::broken(b"5 1 0 1 2 0\n6 0 5", ErrorKind::ConnectionReset);
+    is_answered(&rt, alloc, "formula", (broken, four), usize::MAX, outcome);
+    let broken = Pieces::broken(b"5 1 0 1 2 0\n6 0 5", ErrorKind::ConnectionReset);
     let outcome = ("", "proof: error reading proof: broken", 1);
-    is_answered(&rt, rt.alloc(), four, proof, outcome)?;
-    Ok(())
-}
-
-#[test]
-fn line_that_cannot_be_written(rt: HostRuntime) -> Result<(), Fail> {
+    is_answered(&rt, alloc, "proof", (four, broken), usize::MAX, outcome);
     let proof = Pieces::whole(b"5 1 0 1 2 0\n6 0 5 3 4 0\n");
-    let answer = run_check(rt.alloc(), FOUR.as_bytes(), proof, &mut Full::after(0));
-    has_outcome(&rt, rt.alloc(), answer, &[], ("", "error writing: full", 1))?;
-    Ok(())
+    let outcome = ("", "error writing: full", 1);
+    is_answered(&rt, alloc, "line", (four, proof), 0, outcome);
 }

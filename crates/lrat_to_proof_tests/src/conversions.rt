@@ -1,10 +1,9 @@
 //! Conversions with their bytes and statuses, texts of faults, and reads and writes that fail.
-use lrat_to_proof::{Conversion, ConvertFault, HashWidth, convert, exit_status};
-use std::alloc::{AllocError, Global};
+use lrat_to_proof::{HashWidth, convert, exit_status};
+use std::alloc::Global;
 use std::io::ErrorKind;
 use std::process::Abort;
-use std::test::Fail;
-use test_streams::{Full, Pieces};
+use test_streams::{Ended, Page, Pieces};
 
 /// Four clauses, one against each pair of values of two variables.
 const FOUR: &[u8] = b"1 2 0 1 -2 0 -1 2 0 -1 -2 0";
@@ -171,37 +170,57 @@ const REFUSED: [Refusal; 10] = [
     (b"1 0\n2 x 0", REFUTATION, "formula: line 2: bad number"),
 ];
 
-/// The exit status and the bytes of the proof are these.
+/// As much of the proof is written as there is room for.
+fn ran(alloc: Global, cnf: Pieces<'_>, proof: Pieces<'_>, width: HashWidth, room: usize) -> Ended {
+    let mut page = Page::of_room(alloc, room);
+    let answer = convert(alloc, cnf, proof, width, &mut page);
+    Ended::of(alloc, page, &answer, exit_status(&answer))
+}
+
+/// The exit status and the bytes of the proof are these. The formula and the proof are named so.
 fn converts(
     rt: &impl Abort,
     alloc: Global,
-    cnf: &[u8],
-    proof: Pieces<'_>,
+    name: &[u8],
+    (cnf, proof): (&[u8], Pieces<'_>),
     width: HashWidth,
-    (status, bytes): (u8, &[u8]),
+    outcome: (u8, &[u8]),
 ) {
-    let mut out = Vec::new(alloc);
-    let answer = convert(alloc, cnf, proof, width, &mut out);
-    assert_eq!(rt; exit_status(&answer), status);
-    assert_eq!(rt; out.as_slice(), bytes);
+    let ended = ran(alloc, Pieces::whole(cnf), proof, width, usize::MAX);
+    assert_eq!(rt; (ended.status(), ended.bytes()), outcome, "{name:?}");
 }
 
 fn all_convert(rt: &impl Abort, alloc: Global, rows: &[Row]) {
     for (cnf, proof, outcome) in rows {
-        converts(
-            rt,
-            alloc,
-            cnf,
-            Pieces::whole(proof),
-            HashWidth::full(),
-            *outcome,
-        );
+        let texts = (*cnf, Pieces::whole(proof));
+        converts(rt, alloc, proof, texts, HashWidth::full(), *outcome);
     }
 }
 
+/// The proof of a formula that is refuted is not read.
+fn convert_unread(rt: &impl Abort, alloc: Global, formulas: &[&[u8]]) {
+    for cnf in formulas {
+        let texts = (*cnf, Pieces::broken(b"", ErrorKind::ConnectionReset));
+        converts(rt, alloc, cnf, texts, HashWidth::full(), (0, NO_STEP));
+    }
+}
+
+/// In the end a proof whose bytes come one by one, and none after the empty clause.
 #[test]
 fn conversions(rt: HostRuntime) {
     all_convert(&rt, rt.alloc(), &CONVERTED);
+    convert_unread(&rt, rt.alloc(), &REFUTED_FORMULAS);
+    let broken = Pieces::broken(REFUTATION, ErrorKind::ConnectionReset);
+    let texts = (FOUR, broken);
+    let outcome = (0, REFUTED);
+    converts(
+        &rt,
+        rt.alloc(),
+        b"broken",
+        texts,
+        HashWidth::full(),
+        outcome,
+    );
 }
 
 #[test]
@@ -211,126 +230,53 @@ fn narrow_hashes(rt: HostRuntime) {
     assert!(rt; HashWidth::from_bits(0).is_none());
     assert!(rt; HashWidth::from_bits(65).is_none());
     assert_eq!(rt; HashWidth::from_bits(64), Some(HashWidth::full()));
-    let proof = Pieces::whole(REFUTATION);
-    converts(
-        &rt,
-        rt.alloc(),
-        FOUR,
-        proof,
-        nine,
-        (0, REFUTED_IN_NINE_BITS),
-    );
+    let texts = (FOUR, Pieces::whole(REFUTATION));
+    let outcome = (0, REFUTED_IN_NINE_BITS);
+    converts(&rt, rt.alloc(), b"nine", texts, nine, outcome);
 }
 
-/// The proof of a formula that is refuted is not read.
-fn convert_unread(rt: &impl Abort, alloc: Global, formulas: &[&[u8]]) {
-    for cnf in formulas {
-        let proof = Pieces::broken(b"", ErrorKind::ConnectionReset);
-        converts(rt, alloc, cnf, proof, HashWidth::full(), (0, NO_STEP));
-    }
-}
-
-#[test]
-fn formulas_that_are_refuted_already(rt: HostRuntime) {
-    convert_unread(&rt, rt.alloc(), &REFUTED_FORMULAS);
-}
-
-/// The text of a fault, and of a conversion none.
-fn fault_text(
-    alloc: Global,
-    answer: Result<Conversion, ConvertFault>,
-) -> Result<String, AllocError> {
-    match answer {
-        Ok(_) => Ok(String::new(alloc)),
-        Err(fault) => fault.to_string(alloc),
-    }
-}
-
-/// The fault has this text.
-fn is_refusal(
-    rt: &impl Abort,
-    alloc: Global,
-    answer: Result<Conversion, ConvertFault>,
-    text: &str,
-) -> Result<(), AllocError> {
-    assert_eq!(rt; exit_status(&answer), 1);
-    let said = fault_text(alloc, answer)?;
-    assert_eq!(rt; said.as_str(), text);
-    Ok(())
-}
-
+/// There is no conversion, and the fault has this text. The formula and the proof are named so.
 fn refuses(
     rt: &impl Abort,
     alloc: Global,
-    cnf: Pieces<'_>,
-    proof: Pieces<'_>,
+    name: &[u8],
+    (cnf, proof): (Pieces<'_>, Pieces<'_>),
+    room: usize,
     text: &str,
-) -> Result<(), AllocError> {
-    let mut out = Vec::new(alloc);
-    let answer = convert(alloc, cnf, proof, HashWidth::full(), &mut out);
-    is_refusal(rt, alloc, answer, text)
+) {
+    let ended = ran(alloc, cnf, proof, HashWidth::full(), room);
+    assert_eq!(rt; (ended.status(), ended.fault()), (1, text), "{name:?}");
 }
 
-fn all_refuse(rt: &impl Abort, alloc: Global, rows: &[Refusal]) -> Result<(), AllocError> {
+fn all_refuse(rt: &impl Abort, alloc: Global, rows: &[Refusal]) {
     for (cnf, proof, text) in rows {
-        refuses(rt, alloc, Pieces::whole(cnf), Pieces::whole(proof), text)?;
+        let texts = (Pieces::whole(cnf), Pieces::whole(proof));
+        refuses(rt, alloc, proof, texts, usize::MAX, text);
     }
-    Ok(())
 }
 
 #[test]
-fn refusals(rt: HostRuntime) -> Result<(), Fail> {
-    all_refuse(&rt, rt.alloc(), &REFUSED)?;
-    Ok(())
+fn refusals(rt: HostRuntime) {
+    all_refuse(&rt, rt.alloc(), &REFUSED);
 }
 
 #[test]
-fn reads_that_fail(rt: HostRuntime) -> Result<(), Fail> {
+fn reads_and_writes_that_fail(rt: HostRuntime) {
+    let alloc = rt.alloc();
+    let four = Pieces::whole(FOUR);
+    let refutation = Pieces::whole(REFUTATION);
     let formula = Pieces::broken(b"1 0 2 0", ErrorKind::ConnectionReset);
+    let texts = (formula, refutation);
     let text = "formula: error reading formula: broken";
-    refuses(&rt, rt.alloc(), formula, Pieces::whole(REFUTATION), text)?;
+    refuses(&rt, alloc, b"formula", texts, usize::MAX, text);
     let proof = Pieces::broken(b"5 1 0 1 2 0\n6 0 5", ErrorKind::ConnectionReset);
     let text = "error reading proof: broken";
-    refuses(&rt, rt.alloc(), Pieces::whole(FOUR), proof, text)?;
-    Ok(())
-}
-
-/// Bytes that come one by one, and none after the empty clause.
-#[test]
-fn no_read_after_the_empty_clause(rt: HostRuntime) {
-    let proof = Pieces::broken(REFUTATION, ErrorKind::ConnectionReset);
-    converts(
-        &rt,
-        rt.alloc(),
-        FOUR,
-        proof,
-        HashWidth::full(),
-        (0, REFUTED),
-    );
-}
-
-/// What is answered where so many bytes can be written.
-fn written(alloc: Global, room: usize) -> Result<Conversion, ConvertFault> {
-    let proof = Pieces::whole(REFUTATION);
-    convert(
-        alloc,
-        FOUR,
-        proof,
-        HashWidth::full(),
-        &mut Full::after(room),
-    )
-}
-
-fn are_unwritten(rt: &impl Abort, alloc: Global) -> Result<(), AllocError> {
+    refuses(&rt, alloc, b"proof", (four, proof), usize::MAX, text);
+    let texts = (four, refutation);
     for room in 0..REFUTED.len() {
-        is_refusal(rt, alloc, written(alloc, room), "error writing: full")?;
+        let text = "error writing: full";
+        refuses(&rt, alloc, &REFUTED[..room], texts, room, text);
     }
-    Ok(())
-}
-
-#[test]
-fn writes_that_fail(rt: HostRuntime) -> Result<(), Fail> {
-    are_unwritten(&rt, rt.alloc())?;
-    assert_eq!(rt; exit_status(&written(rt.alloc(), REFUTED.len())), 0);
-    Ok(())
+    let ended = ran(alloc, four, refutation, HashWidth::full(), REFUTED.len());
+    assert_eq!(rt; ended.status(), 0);
 }

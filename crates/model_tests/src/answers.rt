@@ -1,28 +1,24 @@
 //! What no clause says of answers: rows over readers of any cut, reads that fail, and texts of
 //! faults.
-use answer_text::{Literals, read_answer};
+use answer_text::{AnswerFault, Literals, read_answer};
 use sat_formula::{CnfFormula, Lit, read_formula};
-use std::alloc::{AllocError, Global};
+use std::alloc::Global;
 use std::process::Abort;
-use std::test::Fail;
-use test_streams::Pieces;
+use test_streams::{Pieces, Shown};
 
-/// The literals among the first four variables, or the text of the fault.
-fn shown(alloc: Global, answer: Pieces<'_>) -> Result<String, AllocError> {
-    match read_answer(alloc, answer) {
-        Ok(literals) => listed(alloc, &literals),
-        Err(fault) => fault.to_string(alloc),
-    }
-}
-
-fn listed(alloc: Global, literals: &Literals) -> Result<String, AllocError> {
-    let mut all = String::new(alloc);
-    for number in [1i64, -1, 2, -2, 3, -3, 4, -4] {
-        if has(literals, number) {
-            write!(all, "{number} ")?;
+/// Shows the literals among the first four variables, or the text of the fault.
+fn show(shown: &mut Shown, answer: Result<Literals, AnswerFault>) {
+    match answer {
+        Ok(literals) => {
+            for number in [1i64, -1, 2, -2, 3, -3, 4, -4] {
+                if has(&literals, number) {
+                    shown.signed("", number);
+                    shown.words(" ");
+                }
+            }
         }
+        Err(fault) => shown.value(&fault),
     }
-    Ok(all)
 }
 
 fn has(literals: &Literals, number: i64) -> bool {
@@ -86,45 +82,30 @@ const BROKEN: [BrokenRow; 3] = [
     (b"", 1, "error reading answer: broken"),
 ];
 
-fn is_shown(
-    rt: &impl Abort,
-    alloc: Global,
-    answer: Pieces<'_>,
-    text: &str,
-) -> Result<(), AllocError> {
-    let seen = shown(alloc, answer)?;
-    assert_eq!(rt; seen.as_str(), text);
-    Ok(())
+/// What is shown of these bytes as they are read.
+fn is_shown(rt: &impl Abort, alloc: Global, bytes: &[u8], answer: Pieces<'_>, text: &str) {
+    let mut shown = Shown::new(alloc);
+    show(&mut shown, read_answer(alloc, answer));
+    assert_eq!(rt; shown.text(), text, "{bytes:?}");
 }
 
-fn hold(rt: &impl Abort, alloc: Global, rows: &[Row]) -> Result<(), AllocError> {
+fn hold(rt: &impl Abort, alloc: Global, rows: &[Row]) {
     for (bytes, text) in rows {
         for size in [1, 2, 7, 4096] {
-            is_shown(rt, alloc, Pieces::of_size(bytes, size), text)?;
+            is_shown(rt, alloc, bytes, Pieces::of_size(bytes, size), text);
         }
     }
-    Ok(())
 }
 
+/// Where a read fails it is by six bytes a read.
 #[test]
-fn answers(rt: HostRuntime) -> Result<(), Fail> {
-    hold(&rt, rt.alloc(), &LISTS)?;
-    hold(&rt, rt.alloc(), &FAULTS)?;
-    Ok(())
-}
-
-/// By six bytes a read.
-fn hold_broken(rt: &impl Abort, alloc: Global, rows: &[BrokenRow]) -> Result<(), AllocError> {
-    for (bytes, failing, text) in rows {
-        is_shown(rt, alloc, Pieces::failing_at(bytes, 6, *failing), text)?;
+fn answers(rt: HostRuntime) {
+    hold(&rt, rt.alloc(), &LISTS);
+    hold(&rt, rt.alloc(), &FAULTS);
+    for (bytes, failing, text) in BROKEN {
+        let answer = Pieces::failing_at(bytes, 6, failing);
+        is_shown(&rt, rt.alloc(), bytes, answer, text);
     }
-    Ok(())
-}
-
-#[test]
-fn reads_that_fail(rt: HostRuntime) -> Result<(), Fail> {
-    hold_broken(&rt, rt.alloc(), &BROKEN)?;
-    Ok(())
 }
 
 const CLAUSES: &[u8] = b"1 0 -1 0 2 -2 0 3 2 0 0";
@@ -132,28 +113,22 @@ const CLAUSES: &[u8] = b"1 0 -1 0 2 -2 0 3 2 0 0";
 /// Which of the clauses the literals 1 -2 meet.
 const MET: &str = "yes no yes no no ";
 
-fn write_met(
-    all: &mut String,
-    literals: &Literals,
-    clauses: &CnfFormula,
-) -> Result<(), AllocError> {
+fn show_met(shown: &mut Shown, literals: &Literals, clauses: &CnfFormula) {
     for clause in clauses {
         let met = if literals.meets(clause) {
             "yes "
         } else {
             "no "
         };
-        write!(all, "{met}")?;
+        shown.words(met);
     }
-    Ok(())
 }
 
 #[test]
-fn clauses(rt: HostRuntime) -> Result<(), Fail> {
-    let clauses = read_formula(rt.alloc(), CLAUSES)?;
-    let literals = read_answer(rt.alloc(), b"1 -2 0".as_slice())?;
-    let mut all = String::new(rt.alloc());
-    write_met(&mut all, &literals, &clauses)?;
-    assert_eq!(rt; all.as_str(), MET);
-    Ok(())
+fn clauses(rt: HostRuntime) {
+    let clauses = read_formula(rt.alloc(), CLAUSES).expect(&rt, "clauses");
+    let literals = read_answer(rt.alloc(), b"1 -2 0".as_slice()).expect(&rt, "literals");
+    let mut shown = Shown::new(rt.alloc());
+    show_met(&mut shown, &literals, &clauses);
+    assert_eq!(rt; shown.text(), MET);
 }

@@ -2,11 +2,10 @@
 //! lines of clauses.
 use model_check::{RunFault, Verdict, exit_status, line_of_clause, run_check};
 use sat_formula::source::NoByte;
-use std::alloc::{AllocError, Global};
+use std::alloc::Global;
 use std::io::ErrorKind;
 use std::process::Abort;
-use std::test::Fail;
-use test_streams::{Full, Pieces};
+use test_streams::{Ended, Page, Pieces};
 
 /// What a run writes, the text of its fault, the clause that is not met, and its exit status.
 type Outcome = (&'static str, &'static str, u64, u8);
@@ -91,85 +90,49 @@ fn unmet_clause(answer: &Result<Verdict, RunFault>) -> u64 {
     }
 }
 
-/// The text of a fault, and of a verdict none.
-fn fault_text(alloc: Global, answer: Result<Verdict, RunFault>) -> Result<String, AllocError> {
-    match answer {
-        Ok(_) => Ok(String::new(alloc)),
-        Err(fault) => fault.to_string(alloc),
-    }
-}
-
-fn has_outcome(
-    rt: &impl Abort,
-    alloc: Global,
-    answer: Result<Verdict, RunFault>,
-    written: &[u8],
-    (line, fault, unmet, status): Outcome,
-) -> Result<(), AllocError> {
-    assert_eq!(rt; written, line.as_bytes());
-    assert_eq!(rt; exit_status(&answer), status);
-    assert_eq!(rt; unmet_clause(&answer), unmet);
-    let said = fault_text(alloc, answer)?;
-    assert_eq!(rt; said.as_str(), fault);
-    Ok(())
-}
-
+/// What is answered to literals, which are named so. As much of the line is written as there is
+/// room for.
 fn is_answered(
     rt: &impl Abort,
     alloc: Global,
-    cnf: Pieces<'_>,
-    literals: Pieces<'_>,
-    outcome: Outcome,
-) -> Result<(), AllocError> {
-    let mut out = Vec::new(alloc);
-    let answer = run_check(alloc, cnf, literals, &mut out);
-    has_outcome(rt, alloc, answer, &out, outcome)
-}
-
-fn are_answered(rt: &impl Abort, alloc: Global, rows: &[Row]) -> Result<(), AllocError> {
-    for (cnf, literals, outcome) in rows {
-        is_answered(
-            rt,
-            alloc,
-            Pieces::whole(cnf),
-            Pieces::whole(literals),
-            *outcome,
-        )?;
-    }
-    Ok(())
+    name: &[u8],
+    (cnf, literals): (Pieces<'_>, Pieces<'_>),
+    room: usize,
+    (line, fault, unmet, status): Outcome,
+) {
+    let mut page = Page::of_room(alloc, room);
+    let answer = run_check(alloc, cnf, literals, &mut page);
+    let ended = Ended::of(alloc, page, &answer, exit_status(&answer));
+    assert_eq!(rt;
+        (ended.outcome(), unmet_clause(&answer)),
+        ((line, fault, status), unmet),
+        "{name:?}"
+    );
 }
 
 #[test]
-fn runs(rt: HostRuntime) -> Result<(), Fail> {
-    are_answered(&rt, rt.alloc(), &RUNS)?;
-    Ok(())
+fn runs(rt: HostRuntime) {
+    for (cnf, literals, outcome) in RUNS {
+        let texts = (Pieces::whole(cnf), Pieces::whole(literals));
+        is_answered(&rt, rt.alloc(), literals, texts, usize::MAX, outcome);
+    }
 }
 
 const ANSWER: &[u8] = b"1 -2 3 0";
 
 #[test]
-fn reads_that_fail(rt: HostRuntime) -> Result<(), Fail> {
+fn reads_and_writes_that_fail(rt: HostRuntime) {
+    let alloc = rt.alloc();
+    let cnf = Pieces::whole(THREE);
+    let literals = Pieces::whole(ANSWER);
     let broken = Pieces::broken(ANSWER, ErrorKind::ConnectionReset);
     let outcome = ("", "answer: error reading answer: broken", 0, 1);
-    is_answered(&rt, rt.alloc(), Pieces::whole(THREE), broken, outcome)?;
+    is_answered(&rt, alloc, ANSWER, (cnf, broken), usize::MAX, outcome);
     let broken = Pieces::broken(THREE, ErrorKind::ConnectionReset);
     let outcome = ("", "formula: error reading formula: broken", 0, 1);
-    is_answered(&rt, rt.alloc(), broken, Pieces::whole(ANSWER), outcome)?;
-    Ok(())
-}
-
-#[test]
-fn line_that_cannot_be_written(rt: HostRuntime) -> Result<(), Fail> {
-    let literals = Pieces::whole(ANSWER);
-    let answer = run_check(rt.alloc(), THREE, literals, &mut Full::after(0));
-    has_outcome(
-        &rt,
-        rt.alloc(),
-        answer,
-        &[],
-        ("", "error writing: full", 0, 1),
-    )?;
-    Ok(())
+    is_answered(&rt, alloc, ANSWER, (broken, literals), usize::MAX, outcome);
+    let outcome = ("", "error writing: full", 0, 1);
+    is_answered(&rt, alloc, ANSWER, (cnf, literals), 0, outcome);
 }
 
 /// A formula, the number of a clause, and the line on which it ends.
@@ -183,17 +146,12 @@ const LINES: [LineRow; 5] = [
     (b"1 0 10\n00", 2, Some(2)),
 ];
 
-fn have_lines(rt: &impl Abort, alloc: Global, rows: &[LineRow]) {
-    for (cnf, number, line) in rows {
-        let found = line_of_clause(alloc, Pieces::whole(cnf), *number);
-        assert_eq!(rt; found, Ok(*line));
-    }
-}
-
 #[test]
-fn lines_of_clauses(rt: HostRuntime) -> Result<(), Fail> {
-    have_lines(&rt, rt.alloc(), &LINES);
+fn lines_of_clauses(rt: HostRuntime) {
+    for (cnf, number, line) in LINES {
+        let found = line_of_clause(rt.alloc(), Pieces::whole(cnf), number);
+        assert_eq!(rt; found, Ok(line), "{cnf:?}");
+    }
     let broken = Pieces::broken(THREE, ErrorKind::ConnectionReset);
     assert_eq!(rt; line_of_clause(rt.alloc(), broken, 4), Err(NoByte::Read));
-    Ok(())
 }

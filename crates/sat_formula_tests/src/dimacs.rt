@@ -1,45 +1,36 @@
 //! Worked texts over readers of any cut, and reads that fail.
-use sat_formula::{DimacsFault, DimacsReader, Lit};
+use sat_formula::{DimacsReader, Lit};
 use std::alloc::Global;
-use std::io::Read;
 use std::process::Abort;
-use std::test::Fail;
-use test_streams::Pieces;
+use test_streams::{Pieces, Shown};
 
-/// Each clause by its numbers, the text of a fault and how many literals it left, to the end.
-fn shown<R: Read + Drop>(alloc: Global, inner: R) -> Result<String, Fail> {
-    let mut reader = DimacsReader::new(alloc, inner);
-    all_shown(alloc, &mut reader)
-}
-
-fn all_shown<R: Read + Drop>(alloc: Global, reader: &mut DimacsReader<R>) -> Result<String, Fail> {
+/// Shows each of so many clauses by its numbers, the text of a fault and how many literals it left,
+/// to the end.
+fn show(shown: &mut Shown, alloc: Global, reader: &mut DimacsReader<Pieces<'_>>, calls: u32) {
     let mut lits: Vec<Lit> = Vec::new(alloc);
-    let mut all = String::new(alloc);
-    for _ in 0..100u32 {
-        let answer = reader.next_clause(&mut lits);
-        let ended = matches!(&answer, Ok(false));
-        show(&mut all, answer, &lits)?;
-        if ended {
-            break;
+    for _ in 0..calls {
+        match reader.next_clause(&mut lits) {
+            Ok(true) => show_clause(shown, &lits),
+            Ok(false) => {
+                shown.words("end");
+                break;
+            }
+            Err(fault) => {
+                shown.value(&fault);
+                shown.number(", ", lits.len() as u64);
+                shown.words(" kept, ");
+            }
         }
     }
-    Ok(all)
 }
 
-fn show(all: &mut String, answer: Result<bool, DimacsFault>, lits: &[Lit]) -> Result<(), Fail> {
-    match answer {
-        Ok(true) => show_clause(all, lits),
-        Ok(false) => Ok(write!(all, "end")?),
-        Err(fault) => Ok(write!(all, "{fault}, {} kept, ", lits.len())?),
-    }
-}
-
-fn show_clause(all: &mut String, lits: &[Lit]) -> Result<(), Fail> {
-    write!(all, "[")?;
+fn show_clause(shown: &mut Shown, lits: &[Lit]) {
+    shown.words("[");
     for lit in lits {
-        write!(all, "{} ", lit.to_dimacs())?;
+        shown.signed("", lit.to_dimacs());
+        shown.words(" ");
     }
-    Ok(write!(all, "]")?)
+    shown.words("]");
 }
 
 /// Texts with their answers, each beside the number of bytes with which it is known; one more than
@@ -81,42 +72,16 @@ const EXAMPLES: [(&[u8], &[(usize, &str)]); 16] = [
     ),
 ];
 
-/// What is answered where so many bytes are read and the next read fails.
-fn expected(alloc: Global, answers: &[(usize, &str)], read: usize) -> Result<String, Fail> {
-    let mut all = String::new(alloc);
+/// Shows what is answered where so many bytes are read and the next read fails.
+fn show_expected(shown: &mut Shown, answers: &[(usize, &str)], read: usize) {
     for (at, answer) in answers {
         if *at > read {
-            write!(all, "error reading formula: broken, 0 kept, ")?;
+            shown.words("error reading formula: broken, 0 kept, ");
             break;
         }
-        write!(all, "{answer}")?;
+        shown.words(answer);
     }
-    write!(all, "end")?;
-    Ok(all)
-}
-
-#[test]
-fn examples(rt: HostRuntime) -> Result<(), Fail> {
-    for (text, answers) in EXAMPLES {
-        is_answered(&rt, rt.alloc(), text, answers)?;
-    }
-    Ok(())
-}
-
-/// The text is answered so at once, in pieces, and where any of its reads fails.
-fn is_answered(
-    rt: &impl Abort,
-    alloc: Global,
-    text: &[u8],
-    answers: &[(usize, &str)],
-) -> Result<(), Fail> {
-    for size in [usize::MAX, 1, 2, 3] {
-        is_shown(rt, alloc, text, answers, size, usize::MAX)?;
-    }
-    for read in 0..=text.len() {
-        is_shown(rt, alloc, text, answers, 1, read)?;
-    }
-    Ok(())
+    shown.words("end");
 }
 
 /// So many bytes a read, of which the one after so many fails.
@@ -127,56 +92,68 @@ fn is_shown(
     answers: &[(usize, &str)],
     size: usize,
     read: usize,
-) -> Result<(), Fail> {
+) {
     let pieces = Pieces::failing_at(text, size, read.saturating_add(1));
-    let seen = shown(alloc, pieces)?;
-    let wanted = expected(alloc, answers, read)?;
-    assert_eq!(rt; seen, wanted, "by {size} bytes, {read} read");
-    Ok(())
+    let mut shown = Shown::new(alloc);
+    show(
+        &mut shown,
+        alloc,
+        &mut DimacsReader::new(alloc, pieces),
+        100,
+    );
+    let mut expected = Shown::new(alloc);
+    show_expected(&mut expected, answers, read);
+    assert_eq!(rt;
+        shown.text(),
+        expected.text(),
+        "by {size} bytes, {read} read"
+    );
 }
 
-/// A clause over more than one buffer, a long comment and a long run of blanks.
-fn long_text(alloc: Global) -> Result<String, Fail> {
-    let comment = "7".repeat(alloc, 40000)?;
-    let blanks = " ".repeat(alloc, 40000)?;
-    let clause = "-12 ".repeat(alloc, 20000)?;
-    Ok(format!(in alloc; "c{comment}\n{blanks}{clause}0 x\n")?)
+/// The text is answered so at once, in pieces, and where any of its reads fails.
+fn is_answered(rt: &impl Abort, alloc: Global, text: &[u8], answers: &[(usize, &str)]) {
+    for size in [usize::MAX, 1, 2, 3] {
+        is_shown(rt, alloc, text, answers, size, usize::MAX);
+    }
+    for read in 0..=text.len() {
+        is_shown(rt, alloc, text, answers, 1, read);
+    }
 }
 
 #[test]
-fn long_texts(rt: HostRuntime) -> Result<(), Fail> {
-    let text = long_text(rt.alloc())?;
-    let mut reader = DimacsReader::new(rt.alloc(), text.as_bytes());
-    reads_long_clause(&rt, rt.alloc(), &mut reader)
+fn examples(rt: HostRuntime) {
+    for (text, answers) in EXAMPLES {
+        is_answered(&rt, rt.alloc(), text, answers);
+    }
 }
 
-fn reads_long_clause(
-    rt: &impl Abort,
-    alloc: Global,
-    reader: &mut DimacsReader<&[u8]>,
-) -> Result<(), Fail> {
-    let mut lits: Vec<Lit> = Vec::new(alloc);
-    let first = reader.next_clause(&mut lits);
-    let of_first = lits.len();
-    let all_alike = lits.iter().all(|lit| lit.to_dimacs() == -12);
-    let (vars, clauses) = (reader.var_count(), reader.clause_count());
-    let second = reader.next_clause(&mut lits);
-    let third = reader.next_clause(&mut lits);
-    let seen = [
-        ("a clause", matches!(&first, Ok(true))),
-        ("its length", of_first == 20000),
-        ("its literals", all_alike),
-        ("variables", vars == 12),
-        ("clauses", clauses == 1),
-        (
-            "a fault",
-            matches!(&second, Err(DimacsFault::Malformed { line: 2, kind: _ })),
-        ),
-        ("the end", matches!(&third, Ok(false))),
-        ("clauses at the end", reader.clause_count() == 1),
-    ];
-    for (what, holds) in seen {
-        assert!(rt; holds, "{what}");
-    }
-    Ok(())
+/// A clause over more than one buffer, a long comment and a long run of blanks.
+const LONG: [(&str, u32); 6] = [
+    ("c", 1),
+    ("7", 40000),
+    ("\n", 1),
+    (" ", 40000),
+    ("-12 ", 20000),
+    ("0 x\n", 1),
+];
+
+const LONG_SHOWN: [(&str, u32); 3] = [
+    ("[", 1),
+    ("-12 ", 20000),
+    ("]line 2: bad number, 0 kept, end", 1),
+];
+
+/// What is counted has the variable 12, and the clause before the fault, from that clause on.
+#[test]
+fn long_texts(rt: HostRuntime) {
+    let text = Shown::of_parts(rt.alloc(), &LONG);
+    let expected = Shown::of_parts(rt.alloc(), &LONG_SHOWN);
+    let pieces = Pieces::whole(text.text().as_bytes());
+    let mut reader = DimacsReader::new(rt.alloc(), pieces);
+    let mut shown = Shown::new(rt.alloc());
+    show(&mut shown, rt.alloc(), &mut reader, 1);
+    assert_eq!(rt; (reader.var_count(), reader.clause_count()), (12, 1));
+    show(&mut shown, rt.alloc(), &mut reader, 99);
+    assert!(rt; shown.text() == expected.text());
+    assert_eq!(rt; (reader.var_count(), reader.clause_count()), (12, 1));
 }

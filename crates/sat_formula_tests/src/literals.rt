@@ -2,18 +2,16 @@
 use sat_formula::{Lit, Var};
 use std::collections::HashSet;
 use std::process::Abort;
-use std::test::Fail;
 
 #[test]
-fn literals(rt: HostRuntime) -> Result<(), Fail> {
-    let largest = Var::from_index(Var::max_count() - 1).ok_or("in range")?;
-    let lit = Lit::from_dimacs(-3).ok_or("in range")?;
+fn literals(rt: HostRuntime) {
+    let largest = Var::from_index(Var::max_count() - 1).expect(&rt, "in range");
+    let lit = Lit::from_dimacs(-3).expect(&rt, "in range");
     hold(&rt, &at_the_ends(largest));
     hold(&rt, &of_one(lit, largest));
     let mut set: HashSet<Lit> = HashSet::new(rt.alloc());
-    set.insert(lit)?;
+    set.insert(lit).expect(&rt, "a place");
     hold(&rt, &[set.contains(&lit), !set.contains(&!lit)]);
-    Ok(())
 }
 
 /// Each of these holds.

@@ -2,15 +2,13 @@
 use sat_formula::source::{NoByte, Source};
 use std::io::ErrorKind;
 use std::process::Abort;
-use std::test::Fail;
 
 #[test]
-fn limited_sources(rt: HostRuntime) -> Result<(), Fail> {
+fn limited_sources(rt: HostRuntime) {
     let mut limited = Source::limited(rt.alloc(), b"abcd".as_slice(), 3);
     ends_at_its_limit(&rt, &mut limited);
     let mut whole = Source::new(rt.alloc(), b"a".as_slice());
     ends_with_its_bytes(&rt, &mut whole);
-    Ok(())
 }
 
 fn ends_at_its_limit(rt: &impl Abort, source: &mut Source<&[u8]>) {

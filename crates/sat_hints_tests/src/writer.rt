@@ -4,233 +4,317 @@ use checker_parts::step::{
     CheckedProofStep, CheckedSamplingMode, CheckedUserVar, ResolutionPropagations,
 };
 use checker_parts::variables::Variables;
-use sat_formula::{Lit, Var};
+use sat_formula::Lit;
 use sat_hints::{LratWriter, WriterFault};
 use std::alloc::Global;
 use std::process::Abort;
-use std::test::Fail;
+use test_streams::Shown;
 
-/// What a step answers.
-type Answer = Result<(), WriterFault>;
+/// What a step says of a clause.
+#[derive(Clone, Copy)]
+enum Kind {
+    Add,
+    Repeat { same_as_id: u64 },
+    Tautology,
+    Derive { propagations: &'static [u64] },
+    DeriveRedundant { propagations: &'static [u64] },
+    Delete,
+    DeleteImplied { propagations: &'static [u64] },
+    KeepImplied { propagations: &'static [u64] },
+    DeleteUnit,
+    MakeIrredundant,
+    Model,
+    Assumptions,
+    FailedAssumptions { propagations: &'static [u64] },
+    LoseName,
+    GetName,
+}
+
+/// A step with its id, which may say nothing, and the numbers of its clause; the text of its fault,
+/// which is none where it is accepted; and the line that is written of it.
+type Row = (Kind, u64, &'static [i64], &'static str, &'static str);
+
+/// What is shown, how many input clauses are announced, and what is told then.
+type Script = (&'static str, u64, &'static [Row]);
+
+const REFUTATION: Script = (
+    "a refutation",
+    4,
+    &[
+        (Kind::Add, 0, &[1, 2], "", ""),
+        (Kind::Add, 1, &[1, -2], "", ""),
+        (Kind::Add, 2, &[-1, 2], "", ""),
+        (Kind::Add, 3, &[-1, -2], "", ""),
+        (
+            Kind::Derive {
+                propagations: &[0, 1],
+            },
+            4,
+            &[1],
+            "",
+            "9 1 0 1 2 0\n",
+        ),
+        (
+            Kind::Derive {
+                propagations: &[4, 2, 3],
+            },
+            5,
+            &[],
+            "",
+            "10 0 9 3 4 0\n",
+        ),
+    ],
+);
+
+const REPEATED: Script = (
+    "repeated clauses have numbers",
+    3,
+    &[
+        (Kind::Add, 0, &[1, 2], "", ""),
+        (Kind::Repeat { same_as_id: 0 }, 1, &[1, 2], "", ""),
+        (Kind::Add, 2, &[1], "", ""),
+        (
+            Kind::DeleteImplied { propagations: &[2] },
+            0,
+            &[1, 2],
+            "",
+            "3 d 1 0\n",
+        ),
+    ],
+);
+
+const TAUTOLOGIES: Script = (
+    "tautologies have numbers",
+    2,
+    &[
+        (Kind::Add, 0, &[1, 2], "", ""),
+        (Kind::Tautology, 1, &[2, -2], "", ""),
+        (
+            Kind::Derive {
+                propagations: &[1, 2],
+            },
+            2,
+            &[-1, 2],
+            "",
+            "5 -1 2 0 2 5 0\n",
+        ),
+    ],
+);
+
+const LATE_INPUT: Script = (
+    "input clauses come first",
+    2,
+    &[
+        (Kind::Add, 0, &[1], "", ""),
+        (
+            Kind::DeriveRedundant { propagations: &[0] },
+            1,
+            &[1, 2],
+            "",
+            "4 1 2 0 1 0\n",
+        ),
+        (
+            Kind::Add,
+            2,
+            &[3],
+            "input clause after a derived clause",
+            "",
+        ),
+    ],
+);
+
+const ONE_MORE_THAN_ANNOUNCED: Script = (
+    "no more input clauses than announced",
+    1,
+    &[
+        (Kind::Add, 0, &[1], "", ""),
+        (Kind::Add, 1, &[-1], "more input clauses than announced", ""),
+    ],
+);
+
+const DELETION: Script = (
+    "a deletion repeats the last number",
+    2,
+    &[
+        (Kind::Add, 0, &[1], "", ""),
+        (Kind::Add, 1, &[-1], "", ""),
+        (
+            Kind::Derive {
+                propagations: &[0, 1],
+            },
+            2,
+            &[],
+            "",
+            "5 0 1 2 0\n",
+        ),
+        (Kind::Delete, 0, &[1], "", "5 d 1 0\n"),
+    ],
+);
+
+const DELETION_OF_A_UNIT: Script = (
+    "a deletion of a unit repeats it too",
+    2,
+    &[
+        (Kind::Add, 0, &[1], "", ""),
+        (Kind::Add, 1, &[-1], "", ""),
+        (
+            Kind::Derive {
+                propagations: &[0, 1],
+            },
+            2,
+            &[],
+            "",
+            "5 0 1 2 0\n",
+        ),
+        (Kind::DeleteUnit, 0, &[1], "", "5 d 1 0\n"),
+    ],
+);
+
+const WITHOUT_A_LINE: Script = (
+    "steps without a line",
+    2,
+    &[
+        (Kind::Add, 0, &[1], "", ""),
+        (Kind::KeepImplied { propagations: &[1] }, 0, &[1], "", ""),
+        (Kind::MakeIrredundant, 0, &[1], "", ""),
+        (Kind::Model, 0, &[1], "", ""),
+        (Kind::Assumptions, 0, &[1], "", ""),
+        (
+            Kind::FailedAssumptions { propagations: &[0] },
+            0,
+            &[1],
+            "",
+            "",
+        ),
+        (Kind::LoseName, 0, &[1], "", ""),
+        (Kind::GetName, 0, &[1], "", ""),
+        (Kind::Add, 1, &[2], "", ""),
+    ],
+);
+
+const OUT_OF_RANGE: &str = "clause number out of range";
+
+/// Numbers stay below 2^64.
+const NO_NUMBER: Script = (
+    "no number is left",
+    u64::MAX,
+    &[
+        (Kind::Derive { propagations: &[] }, 0, &[], OUT_OF_RANGE, ""),
+        (Kind::Add, u64::MAX, &[], OUT_OF_RANGE, ""),
+    ],
+);
+
+const ONE_NUMBER: Script = (
+    "one number is left",
+    0,
+    &[
+        (
+            Kind::Derive { propagations: &[] },
+            u64::MAX - 1,
+            &[],
+            "",
+            "18446744073709551615 0 0\n",
+        ),
+        (
+            Kind::Derive { propagations: &[] },
+            u64::MAX,
+            &[],
+            OUT_OF_RANGE,
+            "",
+        ),
+        (
+            Kind::Derive {
+                propagations: &[1, u64::MAX],
+            },
+            0,
+            &[],
+            OUT_OF_RANGE,
+            "",
+        ),
+        (Kind::Delete, u64::MAX, &[], OUT_OF_RANGE, ""),
+    ],
+);
+
+const SCRIPTS: [Script; 10] = [
+    REFUTATION,
+    REPEATED,
+    TAUTOLOGIES,
+    LATE_INPUT,
+    ONE_MORE_THAN_ANNOUNCED,
+    DELETION,
+    DELETION_OF_A_UNIT,
+    WITHOUT_A_LINE,
+    NO_NUMBER,
+    ONE_NUMBER,
+];
 
 /// The literals of these numbers.
-fn lits(alloc: Global, numbers: &[i64]) -> Result<Vec<Lit>, Fail> {
+fn lits(rt: &impl Abort, alloc: Global, numbers: &[i64]) -> Vec<Lit> {
     let mut lits = Vec::new(alloc);
     for number in numbers {
-        lits.push(Lit::from_dimacs(*number).ok_or("no literal")?)?;
+        let lit = Lit::from_dimacs(*number).expect(rt, "a literal");
+        lits.push(lit).expect(rt, "room");
     }
-    Ok(lits)
+    lits
 }
 
-/// Tells an input clause. A function that makes a step has to name the type behind the references
-/// of steps.
-fn add(alloc: Global, writer: &mut LratWriter, id: u64, numbers: &[i64]) -> Result<Answer, Fail> {
-    let _propagations = ResolutionPropagations {};
-    let clause = &lits(alloc, numbers)?;
-    Ok(writer.write_step(&CheckedProofStep::AddClause { id, clause }))
-}
-
-/// Tells a derived clause.
-fn derive(
-    alloc: Global,
-    writer: &mut LratWriter,
-    id: u64,
-    numbers: &[i64],
-    propagations: &[u64],
-) -> Result<Answer, Fail> {
-    let _propagations = ResolutionPropagations {};
-    let clause = &lits(alloc, numbers)?;
-    Ok(writer.write_step(&CheckedProofStep::AtClause {
-        id,
-        redundant: false,
-        clause,
-        propagations,
-    }))
-}
-
-/// Tells these input clauses, under the ids from 0 on.
-fn tell(
-    rt: &impl Abort,
-    alloc: Global,
-    writer: &mut LratWriter,
-    clauses: &[&[i64]],
-) -> Result<(), Fail> {
-    for (id, numbers) in clauses.iter().enumerate() {
-        assert_eq!(rt; add(alloc, writer, id as u64, numbers)?, Ok(()));
-    }
-    wrote(rt, writer, "");
-    Ok(())
-}
-
-/// The text is this.
-fn wrote(rt: &impl Abort, writer: &LratWriter, text: &str) {
-    assert_eq!(rt; writer.output(), text.as_bytes());
-}
-
-#[test]
-fn a_refutation(rt: HostRuntime) -> Result<(), Fail> {
-    let mut writer = LratWriter::new(rt.alloc(), 4);
-    refutes(&rt, rt.alloc(), &mut writer)
-}
-
-fn refutes(rt: &impl Abort, alloc: Global, writer: &mut LratWriter) -> Result<(), Fail> {
-    let clauses: [&[i64]; 4] = [&[1, 2], &[1, -2], &[-1, 2], &[-1, -2]];
-    tell(rt, alloc, writer, &clauses)?;
-    assert_eq!(rt; derive(alloc, writer, 4, &[1], &[0, 1])?, Ok(()));
-    wrote(rt, writer, "9 1 0 1 2 0\n");
-    assert_eq!(rt; derive(alloc, writer, 5, &[], &[4, 2, 3])?, Ok(()));
-    wrote(rt, writer, "9 1 0 1 2 0\n10 0 9 3 4 0\n");
-    Ok(())
-}
-
-#[test]
-fn repeated_clauses_have_numbers(rt: HostRuntime) -> Result<(), Fail> {
-    let mut writer = LratWriter::new(rt.alloc(), 3);
-    counts_repeated(&rt, rt.alloc(), &mut writer)
-}
-
-fn counts_repeated(rt: &impl Abort, alloc: Global, writer: &mut LratWriter) -> Result<(), Fail> {
-    let _propagations = ResolutionPropagations {};
-    tell(rt, alloc, writer, &[&[1, 2]])?;
-    let clause = &lits(alloc, &[1, 2])?;
-    let repeated = CheckedProofStep::DuplicatedClause {
-        id: 1,
-        same_as_id: 0,
-        clause,
-    };
-    assert_eq!(rt; writer.write_step(&repeated), Ok(()));
-    assert_eq!(rt; add(alloc, writer, 2, &[1])?, Ok(()));
-    let deletion = CheckedProofStep::DeleteAtClause {
-        id: 0,
-        keep_as_redundant: false,
-        clause,
-        propagations: &[2],
-    };
-    assert_eq!(rt; writer.write_step(&deletion), Ok(()));
-    wrote(rt, writer, "3 d 1 0\n");
-    Ok(())
-}
-
-#[test]
-fn tautologies_have_numbers(rt: HostRuntime) -> Result<(), Fail> {
-    let mut writer = LratWriter::new(rt.alloc(), 2);
-    counts_tautologies(&rt, rt.alloc(), &mut writer)
-}
-
-fn counts_tautologies(rt: &impl Abort, alloc: Global, writer: &mut LratWriter) -> Result<(), Fail> {
-    let _propagations = ResolutionPropagations {};
-    tell(rt, alloc, writer, &[&[1, 2]])?;
-    let clause = &lits(alloc, &[2, -2])?;
-    let tautology = CheckedProofStep::TautologicalClause { id: 1, clause };
-    assert_eq!(rt; writer.write_step(&tautology), Ok(()));
-    assert_eq!(rt; derive(alloc, writer, 2, &[-1, 2], &[1, 2])?, Ok(()));
-    wrote(rt, writer, "5 -1 2 0 2 5 0\n");
-    Ok(())
-}
-
-#[test]
-fn input_clauses_come_first(rt: HostRuntime) -> Result<(), Fail> {
-    let mut writer = LratWriter::new(rt.alloc(), 2);
-    refuses_late_input(&rt, rt.alloc(), &mut writer)
-}
-
-fn refuses_late_input(rt: &impl Abort, alloc: Global, writer: &mut LratWriter) -> Result<(), Fail> {
-    let _propagations = ResolutionPropagations {};
-    tell(rt, alloc, writer, &[&[1]])?;
-    let clause = &lits(alloc, &[1, 2])?;
-    let redundant = CheckedProofStep::AtClause {
-        id: 1,
-        redundant: true,
-        clause,
-        propagations: &[0],
-    };
-    assert_eq!(rt; writer.write_step(&redundant), Ok(()));
-    wrote(rt, writer, "4 1 2 0 1 0\n");
-    assert_eq!(rt;
-        add(alloc, writer, 2, &[3])?,
-        Err(WriterFault::InputAfterDerived)
-    );
-    wrote(rt, writer, "4 1 2 0 1 0\n");
-    Ok(())
-}
-
-#[test]
-fn no_more_input_clauses_than_announced(rt: HostRuntime) -> Result<(), Fail> {
-    let mut writer = LratWriter::new(rt.alloc(), 1);
-    refuses_one_more(&rt, rt.alloc(), &mut writer)
-}
-
-fn refuses_one_more(rt: &impl Abort, alloc: Global, writer: &mut LratWriter) -> Result<(), Fail> {
-    tell(rt, alloc, writer, &[&[1]])?;
-    assert_eq!(rt;
-        add(alloc, writer, 1, &[-1])?,
-        Err(WriterFault::TooManyInputs)
-    );
-    wrote(rt, writer, "");
-    Ok(())
-}
-
-#[test]
-fn deletions_repeat_the_last_number(rt: HostRuntime) -> Result<(), Fail> {
-    let alloc = rt.alloc();
-    let clause = &lits(alloc, &[1])?;
-    let steps = [
-        CheckedProofStep::DeleteClause { id: 0, clause },
-        CheckedProofStep::DeleteRatClause {
-            id: 0,
+/// The step of a clause. One on a single literal is on this one, or on its variable.
+fn step_of<'a>(kind: Kind, id: u64, clause: &'a [Lit], one: Lit) -> CheckedProofStep<'a> {
+    let var = one.var();
+    match kind {
+        Kind::Add => CheckedProofStep::AddClause { id, clause },
+        Kind::Repeat { same_as_id } => CheckedProofStep::DuplicatedClause {
+            id,
+            same_as_id,
+            clause,
+        },
+        Kind::Tautology => CheckedProofStep::TautologicalClause { id, clause },
+        Kind::Derive { propagations } => CheckedProofStep::AtClause {
+            id,
+            redundant: false,
+            clause,
+            propagations,
+        },
+        Kind::DeriveRedundant { propagations } => CheckedProofStep::AtClause {
+            id,
+            redundant: true,
+            clause,
+            propagations,
+        },
+        Kind::Delete => CheckedProofStep::DeleteClause { id, clause },
+        Kind::DeleteImplied { propagations } => CheckedProofStep::DeleteAtClause {
+            id,
             keep_as_redundant: false,
             clause,
-            pivot: Lit::from_dimacs(1).ok_or("no literal")?,
-            propagations: &ResolutionPropagations {},
+            propagations,
         },
-    ];
-    for step in &steps {
-        let mut writer = LratWriter::new(alloc, 2);
-        repeats_number(&rt, alloc, &mut writer, step)?;
-    }
-    Ok(())
-}
-
-fn repeats_number(
-    rt: &impl Abort,
-    alloc: Global,
-    writer: &mut LratWriter,
-    step: &CheckedProofStep<'_>,
-) -> Result<(), Fail> {
-    tell(rt, alloc, writer, &[&[1], &[-1]])?;
-    assert_eq!(rt; derive(alloc, writer, 2, &[], &[0, 1])?, Ok(()));
-    wrote(rt, writer, "5 0 1 2 0\n");
-    assert_eq!(rt; writer.write_step(step), Ok(()));
-    wrote(rt, writer, "5 0 1 2 0\n5 d 1 0\n");
-    Ok(())
-}
-
-#[test]
-fn steps_without_a_line(rt: HostRuntime) -> Result<(), Fail> {
-    let alloc = rt.alloc();
-    let clause = &lits(alloc, &[1])?;
-    let var = Var::from_index(0).ok_or("no variable")?;
-    let steps = [
-        CheckedProofStep::DeleteAtClause {
-            id: 0,
+        Kind::KeepImplied { propagations } => CheckedProofStep::DeleteAtClause {
+            id,
             keep_as_redundant: true,
             clause,
-            propagations: &[1],
+            propagations,
         },
-        CheckedProofStep::MakeIrredundant { id: 0, clause },
-        CheckedProofStep::Model { assignment: clause },
-        CheckedProofStep::Assumptions {
+        Kind::DeleteUnit => CheckedProofStep::DeleteRatClause {
+            id,
+            keep_as_redundant: false,
+            clause,
+            pivot: one,
+            propagations: &ResolutionPropagations {},
+        },
+        Kind::MakeIrredundant => CheckedProofStep::MakeIrredundant { id, clause },
+        Kind::Model => CheckedProofStep::Model { assignment: clause },
+        Kind::Assumptions => CheckedProofStep::Assumptions {
             assumptions: clause,
         },
-        CheckedProofStep::FailedAssumptions {
+        Kind::FailedAssumptions { propagations } => CheckedProofStep::FailedAssumptions {
             failed_core: clause,
-            propagations: &[0],
+            propagations,
         },
-        CheckedProofStep::UserVar {
+        Kind::LoseName => CheckedProofStep::UserVar {
             var,
             user_var: None,
         },
-        CheckedProofStep::UserVar {
+        Kind::GetName => CheckedProofStep::UserVar {
             var,
             user_var: Some(CheckedUserVar {
                 user_var: var,
@@ -238,115 +322,104 @@ fn steps_without_a_line(rt: HostRuntime) -> Result<(), Fail> {
                 new_var: true,
             }),
         },
-    ];
-    let mut writer = LratWriter::new(alloc, 2);
-    writes_nothing(&rt, alloc, &mut writer, &steps)
+    }
 }
 
-fn writes_nothing(
+/// Each step of a script is answered so, and the lines are these after each.
+fn plays(rt: &impl Abort, alloc: Global, (name, announced, rows): Script) {
+    let one = Lit::from_dimacs(1).expect(rt, "a literal");
+    let mut writer = LratWriter::new(alloc, announced);
+    let mut written = Shown::new(alloc);
+    for (kind, id, numbers, fault, line) in rows {
+        let clause = lits(rt, alloc, numbers);
+        let mut shown = Shown::new(alloc);
+        if let Err(answer) = writer.write_step(&step_of(*kind, *id, &clause, one)) {
+            shown.value(&answer);
+        }
+        written.words(line);
+        assert_eq!(rt;
+            (shown.text(), writer.output()),
+            (*fault, written.text().as_bytes()),
+            "{name}, {id}"
+        );
+    }
+}
+
+fn play_all(rt: &impl Abort, alloc: Global, scripts: &[Script]) {
+    for script in scripts {
+        plays(rt, alloc, *script);
+    }
+}
+
+#[test]
+fn scripts(rt: HostRuntime) {
+    play_all(&rt, rt.alloc(), &SCRIPTS);
+}
+
+const FAULTS: [(WriterFault, &str); 4] = [
+    (
+        WriterFault::InputAfterDerived,
+        "input clause after a derived clause",
+    ),
+    (
+        WriterFault::TooManyInputs,
+        "more input clauses than announced",
+    ),
+    (WriterFault::NumberOutOfRange, "clause number out of range"),
+    (WriterFault::OutOfMemory, "out of memory"),
+];
+
+#[test]
+fn texts_of_faults(rt: HostRuntime) {
+    for (fault, text) in FAULTS {
+        let mut shown = Shown::new(rt.alloc());
+        shown.value(&fault);
+        let mut boxed = Shown::new(rt.alloc());
+        boxed.value(&anyhow::Error::from(fault));
+        assert_eq!(rt; (shown.text(), boxed.text()), (text, text));
+    }
+}
+
+/// Of a clause of one literal: each step, and the text of its fault.
+type BoxRow = (Kind, u64, &'static str);
+
+const IN_A_BOX: [BoxRow; 5] = [
+    (Kind::Add, 0, ""),
+    (Kind::Add, 1, "more input clauses than announced"),
+    (
+        Kind::Derive { propagations: &[0] },
+        u64::MAX,
+        "clause number out of range",
+    ),
+    (Kind::Derive { propagations: &[0] }, 1, ""),
+    (Kind::Add, 2, "input clause after a derived clause"),
+];
+
+fn plays_in_a_box(
     rt: &impl Abort,
     alloc: Global,
-    writer: &mut LratWriter,
-    steps: &[CheckedProofStep<'_>],
-) -> Result<(), Fail> {
-    tell(rt, alloc, writer, &[&[1]])?;
-    for step in steps {
-        assert_eq!(rt; writer.write_step(step), Ok(()));
-        wrote(rt, writer, "");
-    }
-    assert_eq!(rt; add(alloc, writer, 1, &[2])?, Ok(()));
-    Ok(())
-}
-
-const OUT_OF_RANGE: Answer = Err(WriterFault::NumberOutOfRange);
-
-#[test]
-fn numbers_stay_below_two_to_the_64(rt: HostRuntime) -> Result<(), Fail> {
-    let mut writer = LratWriter::new(rt.alloc(), u64::MAX);
-    has_no_number(&rt, rt.alloc(), &mut writer)?;
-    let mut writer = LratWriter::new(rt.alloc(), 0);
-    has_one_number(&rt, rt.alloc(), &mut writer)
-}
-
-fn has_no_number(rt: &impl Abort, alloc: Global, writer: &mut LratWriter) -> Result<(), Fail> {
-    assert_eq!(rt; derive(alloc, writer, 0, &[], &[])?, OUT_OF_RANGE);
-    assert_eq!(rt; add(alloc, writer, u64::MAX, &[])?, OUT_OF_RANGE);
-    wrote(rt, writer, "");
-    Ok(())
-}
-
-fn has_one_number(rt: &impl Abort, alloc: Global, writer: &mut LratWriter) -> Result<(), Fail> {
-    let _propagations = ResolutionPropagations {};
-    let text = "18446744073709551615 0 0\n";
-    assert_eq!(rt; derive(alloc, writer, u64::MAX - 1, &[], &[])?, Ok(()));
-    wrote(rt, writer, text);
-    assert_eq!(rt; derive(alloc, writer, u64::MAX, &[], &[])?, OUT_OF_RANGE);
-    assert_eq!(rt;
-        derive(alloc, writer, 0, &[], &[1, u64::MAX])?,
-        OUT_OF_RANGE
-    );
-    let deletion = CheckedProofStep::DeleteClause {
-        id: u64::MAX,
-        clause: &[],
-    };
-    assert_eq!(rt; writer.write_step(&deletion), OUT_OF_RANGE);
-    wrote(rt, writer, text);
-    Ok(())
-}
-
-#[test]
-fn texts_of_faults(rt: HostRuntime) -> Result<(), Fail> {
-    let alloc = rt.alloc();
-    let rows = [
-        (
-            WriterFault::InputAfterDerived,
-            "input clause after a derived clause",
-        ),
-        (
-            WriterFault::TooManyInputs,
-            "more input clauses than announced",
-        ),
-        (WriterFault::NumberOutOfRange, "clause number out of range"),
-        (WriterFault::OutOfMemory, "out of memory"),
-    ];
-    for (fault, text) in rows {
-        assert_eq!(rt; fault.to_string(alloc)?.as_str(), text);
-        assert_eq!(rt; anyhow::Error::from(fault).to_string(alloc)?.as_str(), text);
-    }
-    Ok(())
-}
-
-#[test]
-fn faults_of_a_box(rt: HostRuntime) -> Result<(), Fail> {
-    let alloc = rt.alloc();
-    let mut processor: Box<dyn ProofProcessor> = Box::new(alloc, LratWriter::new(alloc, 1))?;
+    processor: &mut dyn ProofProcessor,
+    one: Lit,
+    rows: &[BoxRow],
+) {
     let variables = Variables::new(alloc);
-    let clause = &lits(alloc, &[1])?;
-    let derived = |id: u64| CheckedProofStep::AtClause {
-        id,
-        redundant: false,
-        clause,
-        propagations: &[0],
-    };
-    let rows = [
-        (CheckedProofStep::AddClause { id: 0, clause }, ""),
-        (
-            CheckedProofStep::AddClause { id: 1, clause },
-            "more input clauses than announced",
-        ),
-        (derived(u64::MAX), "clause number out of range"),
-        (derived(1), ""),
-        (
-            CheckedProofStep::AddClause { id: 2, clause },
-            "input clause after a derived clause",
-        ),
-    ];
-    for (step, text) in &rows {
-        match processor.process_step(step, CheckerData(&variables)) {
-            Ok(()) => assert_eq!(rt; "", *text),
-            Err(fault) => assert_eq!(rt; fault.to_string(alloc)?.as_str(), *text),
+    let clause = [one];
+    for (kind, id, text) in rows {
+        let mut shown = Shown::new(alloc);
+        let step = step_of(*kind, *id, &clause, one);
+        if let Err(fault) = processor.process_step(&step, CheckerData(&variables)) {
+            shown.value(&fault);
         }
+        assert_eq!(rt; shown.text(), *text, "{id}");
     }
     assert_eq!(rt; processor.output(), b"3 1 0 1 0\n".as_slice());
-    Ok(())
+}
+
+#[test]
+fn faults_of_a_box(rt: HostRuntime) {
+    let one = Lit::from_dimacs(1).expect(&rt, "a literal");
+    let writer = LratWriter::new(rt.alloc(), 1);
+    let boxed = Box::new(rt.alloc(), writer);
+    let mut processor: Box<dyn ProofProcessor> = boxed.expect(&rt, "a box");
+    plays_in_a_box(&rt, rt.alloc(), &mut *processor, one, &IN_A_BOX);
 }

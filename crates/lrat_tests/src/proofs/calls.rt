@@ -1,12 +1,10 @@
 //! Calls on one checker, one after the other.
-use super::{BROKEN, FOUR, THREE, UNITS, shown};
+use super::{BROKEN, FOUR, THREE, UNITS, is_answered, new_checker, show};
 use lrat_checker::LratChecker;
-use sat_formula::{CnfFormula, read_formula};
-use std::alloc::{AllocError, Global};
+use std::alloc::Global;
 use std::io::ErrorKind;
 use std::process::Abort;
-use std::test::Fail;
-use test_streams::Pieces;
+use test_streams::{Pieces, Shown};
 
 /// Which call is made with a proof, and whether a read fails at its end.
 #[derive(Clone, Copy)]
@@ -20,13 +18,8 @@ enum Call {
 /// A call with a proof, what it answers, and whether the formula is refuted then.
 type Calls = &'static [(Call, &'static str, &'static str, bool)];
 
-/// The answer in words.
-fn called(
-    alloc: Global,
-    checker: &mut LratChecker,
-    call: Call,
-    proof: &[u8],
-) -> Result<String, AllocError> {
+/// Shows the answer in words.
+fn show_call(shown: &mut Shown, checker: &mut LratChecker, call: Call, proof: &[u8]) {
     let broken = Pieces::broken(proof, ErrorKind::Interrupted);
     let answer = match call {
         Call::Check => checker.check(proof),
@@ -34,40 +27,19 @@ fn called(
         Call::CheckBroken => checker.check(broken),
         Call::RefuteBroken => checker.refute(broken),
     };
-    shown(alloc, answer)
+    show(shown, answer);
 }
 
-fn answers(
-    rt: &impl Abort,
-    alloc: Global,
-    checker: &mut LratChecker,
-    calls: Calls,
-) -> Result<(), AllocError> {
+fn answers(rt: &impl Abort, alloc: Global, checker: &mut LratChecker, calls: Calls) {
     for (call, proof, answer, refuted) in calls {
-        let seen = called(alloc, checker, *call, proof.as_bytes())?;
-        assert_eq!(rt; seen.as_str(), *answer);
-        assert_eq!(rt; checker.refuted(), *refuted);
+        let mut shown = Shown::new(alloc);
+        show_call(&mut shown, checker, *call, proof.as_bytes());
+        assert_eq!(rt;
+            (shown.text(), checker.refuted()),
+            (*answer, *refuted),
+            "{proof}"
+        );
     }
-    Ok(())
-}
-
-/// A new checker answers so.
-fn new_answers(
-    rt: &impl Abort,
-    alloc: Global,
-    formula: &CnfFormula,
-    calls: Calls,
-) -> Result<(), AllocError> {
-    let mut checker = LratChecker::new(alloc, formula)?;
-    answers(rt, alloc, &mut checker, calls)
-}
-
-fn hold(rt: &impl Abort, alloc: Global, rows: &[(&str, Calls)]) -> Result<(), Fail> {
-    for (formula, calls) in rows {
-        let formula = read_formula(alloc, formula.as_bytes())?;
-        new_answers(rt, alloc, &formula, calls)?;
-    }
-    Ok(())
 }
 
 /// A formula, and what is called of a new checker with it.
@@ -163,83 +135,52 @@ const CALLS: [(&str, Calls); 18] = [
 ];
 
 #[test]
-fn calls(rt: HostRuntime) -> Result<(), Fail> {
-    hold(&rt, rt.alloc(), &CALLS)
+fn calls(rt: HostRuntime) {
+    for (formula, calls) in CALLS {
+        let mut checker = new_checker(&rt, rt.alloc(), formula);
+        answers(&rt, rt.alloc(), &mut checker, calls);
+    }
 }
 
 /// Checks a text, which is answered so.
-fn checks(
-    rt: &impl Abort,
-    alloc: Global,
-    checker: &mut LratChecker,
-    text: &str,
-    answer: &str,
-) -> Result<(), AllocError> {
-    let seen = shown(alloc, checker.check(text.as_bytes()))?;
-    assert_eq!(rt; seen.as_str(), answer);
-    Ok(())
+fn checks(rt: &impl Abort, alloc: Global, checker: &mut LratChecker, text: &str, answer: &str) {
+    let proof = (text, Pieces::whole(text.as_bytes()));
+    is_answered(rt, alloc, checker, proof, answer);
 }
 
-/// Clauses are added and deleted again, more than the checker first has room for.
-#[test]
-fn many_deletions(rt: HostRuntime) -> Result<(), Fail> {
-    let formula = read_formula(rt.alloc(), FOUR.as_bytes())?;
-    deletes_many(
-        &rt,
-        rt.alloc(),
-        &mut LratChecker::new(rt.alloc(), &formula)?,
-    )?;
-    Ok(())
-}
-
-fn deletes_many(
-    rt: &impl Abort,
-    alloc: Global,
-    checker: &mut LratChecker,
-) -> Result<(), AllocError> {
+/// Clauses are added and deleted again, more than the checker first has room for: of two clauses
+/// the first goes at once.
+fn deletes_many(rt: &impl Abort, alloc: Global, checker: &mut LratChecker) {
     for round in 0..500u64 {
-        let text = added_and_deleted(alloc, 5 + 2 * round, 6 + 2 * round)?;
-        checks(rt, alloc, checker, &text, "accepted")?;
+        let mut text = Shown::new(alloc);
+        text.number("", 5 + 2 * round);
+        text.number(" 1 0 1 2 0\n", 6 + 2 * round);
+        text.number(" 1 2 3 4 5 6 0 ", 5 + 2 * round);
+        text.number(" 0\n1 d ", 5 + 2 * round);
+        text.words(" 0\n");
+        checks(rt, alloc, checker, text.text(), "accepted");
     }
     let answer = "line 1: clause of a hint is not unit";
-    checks(rt, alloc, checker, "5 0 1004 0\n", answer)
-}
-
-/// Adds two clauses, and deletes the first.
-fn added_and_deleted(alloc: Global, id: u64, next: u64) -> Result<String, AllocError> {
-    format!(in alloc; "{id} 1 0 1 2 0\n{next} 1 2 3 4 5 6 0 {id} 0\n1 d {id} 0\n")
+    checks(rt, alloc, checker, "5 0 1004 0\n", answer);
 }
 
 /// An id far above the number of clauses is no longer far when it comes again.
-#[test]
-fn ids_that_were_far(rt: HostRuntime) -> Result<(), Fail> {
-    let mut text = String::new(rt.alloc());
-    write_clauses(&mut text)?;
-    let formula = read_formula(rt.alloc(), THREE.as_bytes())?;
-    comes_again(
-        &rt,
-        rt.alloc(),
-        &mut LratChecker::new(rt.alloc(), &formula)?,
-        &text,
-    )?;
-    Ok(())
-}
-
-fn write_clauses(text: &mut String) -> Result<(), AllocError> {
-    writeln!(text, "20000 2 0 2 3 0")?;
+fn comes_again(rt: &impl Abort, alloc: Global, checker: &mut LratChecker) {
+    let mut text = Shown::new(alloc);
+    text.words("20000 2 0 2 3 0\n");
     for id in 4..1200u64 {
-        writeln!(text, "{id} 2 9 0 20000 0")?;
+        text.number("", id);
+        text.words(" 2 9 0 20000 0\n");
     }
-    Ok(())
+    checks(rt, alloc, checker, text.text(), "accepted");
+    let again = "7 d 20000 0\n20000 2 7 0 2 3 0\n1200 2 7 8 0 20000 0\n20000 2 0 2 3 0\n";
+    checks(rt, alloc, checker, again, "line 4: id is taken");
 }
 
-fn comes_again(
-    rt: &impl Abort,
-    alloc: Global,
-    checker: &mut LratChecker,
-    text: &str,
-) -> Result<(), AllocError> {
-    checks(rt, alloc, checker, text, "accepted")?;
-    let again = "7 d 20000 0\n20000 2 7 0 2 3 0\n1200 2 7 8 0 20000 0\n20000 2 0 2 3 0\n";
-    checks(rt, alloc, checker, again, "line 4: id is taken")
+#[test]
+fn long_proofs(rt: HostRuntime) {
+    let mut four = new_checker(&rt, rt.alloc(), FOUR);
+    deletes_many(&rt, rt.alloc(), &mut four);
+    let mut three = new_checker(&rt, rt.alloc(), THREE);
+    comes_again(&rt, rt.alloc(), &mut three);
 }

@@ -1,32 +1,30 @@
 //! Texts of faults, and lines that are no text.
-use super::{FOUR, UNITS};
+use super::{FOUR, UNITS, new_checker, show};
 use lrat_checker::{LineFault, LratCause, LratChecker};
 use lrat_text::{Hint, LratLine};
-use sat_formula::{Lit, read_formula};
-use std::alloc::{AllocError, Global};
+use sat_formula::Lit;
+use std::alloc::Global;
+use std::fmt::Display;
 use std::process::Abort;
-use std::test::Fail;
+use test_streams::Shown;
 
-/// A line, and what is answered to it.
-type Row<'a> = (LratLine<'a>, Result<(), LineFault>);
-
-/// The lines are answered so, and the formula is refuted then.
-fn takes_lines(rt: &impl Abort, checker: &mut LratChecker, rows: &[Row<'_>]) {
-    for (line, answer) in rows {
-        assert_eq!(rt; checker.check_line(*line), *answer);
+/// Shows what is answered to each line, and whether the formula is refuted then.
+fn show_lines(shown: &mut Shown, checker: &mut LratChecker, lines: &[LratLine<'_>]) {
+    for line in lines {
+        match checker.check_line(*line) {
+            Ok(()) => shown.words("accepted"),
+            Err(fault) => shown.value(&fault),
+        }
+        let refuted = if checker.refuted() {
+            ", refuted; "
+        } else {
+            "; "
+        };
+        shown.words(refuted);
     }
-    assert!(rt; checker.refuted());
 }
 
-#[test]
-fn single_lines(rt: HostRuntime) -> Result<(), Fail> {
-    let one = [Lit::from_dimacs(1).ok_or("in range")?];
-    let formula = read_formula(rt.alloc(), FOUR.as_bytes())?;
-    refutes_by_lines(&rt, &mut LratChecker::new(rt.alloc(), &formula)?, &one);
-    Ok(())
-}
-
-fn refutes_by_lines(rt: &impl Abort, checker: &mut LratChecker, one: &[Lit]) {
+fn show_refutation(shown: &mut Shown, checker: &mut LratChecker, one: &[Lit]) {
     let unit = LratLine::Add {
         id: 5,
         clause: one,
@@ -38,32 +36,26 @@ fn refutes_by_lines(rt: &impl Abort, checker: &mut LratChecker, one: &[Lit]) {
         clause: &[],
         hints: &[Hint::Along(5), Hint::Along(3), Hint::Along(4)],
     };
-    takes_lines(
-        rt,
-        checker,
-        &[(unit, Ok(())), (deletion, Ok(())), (empty, Ok(()))],
-    );
-    let taken = Err(LineFault::Refused(LratCause::IdTaken));
-    takes_lines(
-        rt,
-        checker,
-        &[(empty, taken), (empty, Err(LineFault::Failed))],
-    );
+    show_lines(shown, checker, &[unit, deletion, empty, empty, empty]);
 }
 
-/// A line after a text with a fault, whose first line refuted the formula.
+/// What is answered to the lines of a refutation, of which the last one comes three times; to a
+/// text with a fault, whose first line refutes the formula; and to a line after it.
+const LINES: &str = "accepted; accepted; accepted, refuted; id is taken, refuted; \
+    an earlier line was not accepted, refuted; line 2: unfinished line; \
+    an earlier line was not accepted, refuted; ";
+
 #[test]
-fn line_after_a_fault(rt: HostRuntime) -> Result<(), Fail> {
-    let formula = read_formula(rt.alloc(), UNITS.as_bytes())?;
-    takes_no_line(&rt, &mut LratChecker::new(rt.alloc(), &formula)?);
-    Ok(())
-}
-
-fn takes_no_line(rt: &impl Abort, checker: &mut LratChecker) {
-    let answer = checker.check(b"3 0 1 2 0\n4 0 1 2".as_slice());
-    assert!(rt; answer.is_err());
-    let deletion = LratLine::Delete { ids: &[] };
-    takes_lines(rt, checker, &[(deletion, Err(LineFault::Failed))]);
+fn single_lines(rt: HostRuntime) {
+    let one = [Lit::from_dimacs(1).expect(&rt, "in range")];
+    let mut four = new_checker(&rt, rt.alloc(), FOUR);
+    let mut units = new_checker(&rt, rt.alloc(), UNITS);
+    let mut shown = Shown::new(rt.alloc());
+    show_refutation(&mut shown, &mut four, &one);
+    show(&mut shown, units.check(b"3 0 1 2 0\n4 0 1 2".as_slice()));
+    shown.words("; ");
+    show_lines(&mut shown, &mut units, &[LratLine::Delete { ids: &[] }]);
+    assert_eq!(rt; shown.text(), LINES);
 }
 
 const CAUSES: [(LratCause, &str); 6] = [
@@ -81,47 +73,24 @@ const CAUSES: [(LratCause, &str); 6] = [
     ),
 ];
 
-fn has_text(
-    rt: &impl Abort,
-    alloc: Global,
-    fault: LineFault,
-    text: &str,
-) -> Result<(), AllocError> {
-    let said = fault.to_string(alloc)?;
-    assert_eq!(rt; said.as_str(), text);
-    Ok(())
-}
+const FAULTS: [(LineFault, &str); 2] = [
+    (LineFault::OutOfMemory, "out of memory"),
+    (LineFault::Failed, "an earlier line was not accepted"),
+];
 
-fn cause_has_text(
-    rt: &impl Abort,
-    alloc: Global,
-    cause: LratCause,
-    text: &str,
-) -> Result<(), AllocError> {
-    let said = cause.to_string(alloc)?;
-    assert_eq!(rt; said.as_str(), text);
-    has_text(rt, alloc, LineFault::Refused(cause), text)
-}
-
-fn have_texts(
-    rt: &impl Abort,
-    alloc: Global,
-    rows: &[(LratCause, &str)],
-) -> Result<(), AllocError> {
-    for (cause, text) in rows {
-        cause_has_text(rt, alloc, *cause, text)?;
-    }
-    has_text(rt, alloc, LineFault::OutOfMemory, "out of memory")?;
-    has_text(
-        rt,
-        alloc,
-        LineFault::Failed,
-        "an earlier line was not accepted",
-    )
+fn has_text<D: Display>(rt: &impl Abort, alloc: Global, value: &D, text: &str) {
+    let mut shown = Shown::new(alloc);
+    shown.value(value);
+    assert_eq!(rt; shown.text(), text);
 }
 
 #[test]
-fn texts_of_faults(rt: HostRuntime) -> Result<(), Fail> {
-    have_texts(&rt, rt.alloc(), &CAUSES)?;
-    Ok(())
+fn texts_of_faults(rt: HostRuntime) {
+    for (cause, text) in CAUSES {
+        has_text(&rt, rt.alloc(), &cause, text);
+        has_text(&rt, rt.alloc(), &LineFault::Refused(cause), text);
+    }
+    for (fault, text) in FAULTS {
+        has_text(&rt, rt.alloc(), &fault, text);
+    }
 }

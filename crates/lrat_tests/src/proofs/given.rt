@@ -1,54 +1,61 @@
 //! Formulas that are given clause by clause, and read.
-use super::shown;
+use super::show;
 use lrat_checker::LratFormula;
-use sat_formula::{DimacsFault, DimacsKind, Lit};
-use std::test::Fail;
+use sat_formula::{DimacsFault, Lit};
+use std::alloc::Global;
+use std::process::Abort;
+use test_streams::Shown;
 
 /// The empty clause, by two units.
 const PROOF: &[u8] = b"3 0 1 2 0\n";
 
-#[test]
-fn clauses_one_after_the_other(rt: HostRuntime) -> Result<(), Fail> {
-    let lit = Lit::from_dimacs(1).ok_or("in range")?;
-    let mut formula = LratFormula::new(rt.alloc())?;
-    formula.add_clause(&[lit])?;
-    formula.add_clause(&[!lit])?;
-    let mut checker = formula.checker();
-    assert!(rt; !checker.refuted());
-    assert_eq!(rt;
-        shown(rt.alloc(), checker.check(PROOF))?.as_str(),
-        "refuted"
-    );
-    Ok(())
-}
-
-#[test]
-fn empty_clause_alone(rt: HostRuntime) -> Result<(), Fail> {
-    let mut formula = LratFormula::new(rt.alloc())?;
-    formula.add_clause(&[])?;
-    assert!(rt; formula.checker().refuted());
-    Ok(())
-}
-
-#[test]
-fn clauses_of_a_text(rt: HostRuntime) -> Result<(), Fail> {
-    let formula = LratFormula::read(rt.alloc(), &b"c\np cnf 1 2\n1 0 -1 0\n"[..])?;
-    let mut checker = formula.checker();
-    assert_eq!(rt;
-        shown(rt.alloc(), checker.check(PROOF))?.as_str(),
-        "refuted"
-    );
-    Ok(())
-}
-
-#[test]
-fn fault_of_a_text(rt: HostRuntime) -> Result<(), Fail> {
-    match LratFormula::read(rt.alloc(), &b"1 0\n\n2 x 0"[..]) {
-        Err(DimacsFault::Malformed { line, kind }) => {
-            assert_eq!(rt; line, 3);
-            assert_eq!(rt; kind, DimacsKind::BadNumber);
-        }
-        _ => assert!(rt; false),
+/// A formula of these clauses.
+fn given(rt: &impl Abort, alloc: Global, clauses: &[&[Lit]]) -> LratFormula {
+    let mut formula = LratFormula::new(alloc).expect(rt, "a formula");
+    for clause in clauses {
+        formula.add_clause(clause).expect(rt, "a clause");
     }
-    Ok(())
+    formula
+}
+
+/// Shows whether the formula is refuted by itself, and what is answered to the proof then; or the
+/// fault of its text.
+fn show_formula(shown: &mut Shown, formula: Result<LratFormula, DimacsFault>) {
+    match formula {
+        Ok(formula) => {
+            let mut checker = formula.checker();
+            let refuted = if checker.refuted() {
+                "refuted, "
+            } else {
+                "open, "
+            };
+            shown.words(refuted);
+            show(shown, checker.check(PROOF));
+        }
+        Err(fault) => shown.value(&fault),
+    }
+}
+
+fn is_shown(rt: &impl Abort, alloc: Global, formula: Result<LratFormula, DimacsFault>, text: &str) {
+    let mut shown = Shown::new(alloc);
+    show_formula(&mut shown, formula);
+    assert_eq!(rt; shown.text(), text);
+}
+
+const TEXTS: [(&str, &str); 2] = [
+    ("c\np cnf 1 2\n1 0 -1 0\n", "open, refuted"),
+    ("1 0\n\n2 x 0", "line 3: bad number"),
+];
+
+#[test]
+fn formulas(rt: HostRuntime) {
+    let lit = Lit::from_dimacs(1).expect(&rt, "in range");
+    let units = given(&rt, rt.alloc(), &[&[lit], &[!lit]]);
+    is_shown(&rt, rt.alloc(), Ok(units), "open, refuted");
+    let empty = given(&rt, rt.alloc(), &[&[]]).checker();
+    assert!(rt; empty.refuted());
+    for (text, shown) in TEXTS {
+        let formula = LratFormula::read(rt.alloc(), text.as_bytes());
+        is_shown(&rt, rt.alloc(), formula, shown);
+    }
 }

@@ -1,8 +1,7 @@
 //! Lines that add redundant clauses.
-use super::{BOTH, FOUR, Row, THREE, hold};
-use std::test::Fail;
+use super::{BOTH, FOUR, Row, THREE};
 
-const GROUPS: [Row; 19] = [
+pub const GROUPS: [Row; 19] = [
     // no clause holds the negation of the first literal
     (THREE, "4 2 0 2 0", "accepted"),
     (THREE, "4 1 0 -1 2 3 0", "accepted"),
@@ -77,7 +76,7 @@ const GROUPS: [Row; 19] = [
     ),
 ];
 
-const LITERALS: [Row; 9] = [
+pub const LITERALS: [Row; 9] = [
     (THREE, "4 1 1 0 -1 2 3 0", "accepted"),
     // the negation goes wherever it stands
     (
@@ -116,7 +115,7 @@ const LITERALS: [Row; 9] = [
     ),
 ];
 
-const REFUTED: [Row; 3] = [
+pub const REFUTED: [Row; 3] = [
     (
         FOUR,
         "5 3 1 0 0\n6 -3 -1 0 -5 0\n7 1 0 1 2 0\n8 0 7 3 4 0\n",
@@ -134,18 +133,3 @@ const REFUTED: [Row; 3] = [
         "accepted",
     ),
 ];
-
-#[test]
-fn groups(rt: HostRuntime) -> Result<(), Fail> {
-    hold(&rt, rt.alloc(), &GROUPS)
-}
-
-#[test]
-fn literals_of_groups(rt: HostRuntime) -> Result<(), Fail> {
-    hold(&rt, rt.alloc(), &LITERALS)
-}
-
-#[test]
-fn groups_in_proofs(rt: HostRuntime) -> Result<(), Fail> {
-    hold(&rt, rt.alloc(), &REFUTED)
-}

@@ -1,10 +1,7 @@
 //! Lines that add clauses by propagation, deletions and ids.
-use super::{BOTH, FOUR, Row, THREE, UNITS, hold, holds_whole};
-use std::alloc::Global;
-use std::process::Abort;
-use std::test::Fail;
+use super::{BOTH, FOUR, Row, THREE, UNITS};
 
-const PROPAGATION: [Row; 18] = [
+pub const PROPAGATION: [Row; 18] = [
     (UNITS, "", "accepted"),
     (UNITS, "3 0 1 2 0", "refuted"),
     (UNITS, "3 0 2 1 0\n", "refuted"),
@@ -47,7 +44,7 @@ const PROPAGATION: [Row; 18] = [
 
 /// What a checker of lines of hints would refuse too, or would not: ids need not rise, and hints
 /// may go on after the conflict.
-const LINES_OF_HINTS: [Row; 9] = [
+pub const LINES_OF_HINTS: [Row; 9] = [
     (FOUR, "9 1 0 1 2 0\n10 0 9 3 4 0\n", "refuted"),
     (UNITS, "5 0 1 2 0", "refuted"),
     (UNITS, "5 1 0 1 0", "accepted"),
@@ -66,7 +63,7 @@ const LINES_OF_HINTS: [Row; 9] = [
 /// 2^28 is the greatest number of a variable, and its literals have no places.
 const PAIRS: &str = "1 268435456 0 1 -268435456 0 -1 268435456 0 -1 -268435456 0";
 
-const FAR_LITERALS: [Row; 9] = [
+pub const FAR_LITERALS: [Row; 9] = [
     (UNITS, "3 268435456 0 1 2 0\n4 0 1 2 0", "refuted"),
     (PAIRS, "5 268435456 0 1 3 0\n6 0 5 2 4 0\n", "refuted"),
     (PAIRS, "5 -268435456 0 2 4 0\n6 0 5 1 3 0\n", "refuted"),
@@ -97,7 +94,7 @@ const FAR_LITERALS: [Row; 9] = [
     ),
 ];
 
-const IDS: [Row; 15] = [
+pub const IDS: [Row; 15] = [
     (THREE, "3 2 0 2 3 0", "line 1: id is taken"),
     // ids may leave gaps, and need not rise
     (
@@ -147,40 +144,8 @@ const IDS: [Row; 15] = [
 ];
 
 /// The empty clause of a formula refutes it, whatever the proof.
-const EMPTY_CLAUSES: [Row; 3] = [
+pub const EMPTY_CLAUSES: [Row; 3] = [
     ("0", "", "refuted"),
     ("0", "2 0 1 0", "refuted"),
     (BOTH, "", "accepted"),
 ];
-
-#[test]
-fn lines_by_propagation(rt: HostRuntime) -> Result<(), Fail> {
-    hold(&rt, rt.alloc(), &PROPAGATION)
-}
-
-#[test]
-fn lines_of_hints(rt: HostRuntime) -> Result<(), Fail> {
-    hold(&rt, rt.alloc(), &LINES_OF_HINTS)
-}
-
-#[test]
-fn far_literals(rt: HostRuntime) -> Result<(), Fail> {
-    hold(&rt, rt.alloc(), &FAR_LITERALS)
-}
-
-#[test]
-fn ids_of_lines(rt: HostRuntime) -> Result<(), Fail> {
-    hold(&rt, rt.alloc(), &IDS)
-}
-
-#[test]
-fn empty_clauses_of_formulas(rt: HostRuntime) -> Result<(), Fail> {
-    hold_whole(&rt, rt.alloc(), &EMPTY_CLAUSES)
-}
-
-fn hold_whole(rt: &impl Abort, alloc: Global, rows: &[Row]) -> Result<(), Fail> {
-    for row in rows {
-        holds_whole(rt, alloc, row)?;
-    }
-    Ok(())
-}

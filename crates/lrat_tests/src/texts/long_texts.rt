@@ -1,61 +1,58 @@
 //! Lines over more than one buffer.
-use lrat_text::{LineReader, LratLine, LratTextFault};
-use std::alloc::{AllocError, Global};
+use super::show;
+use lrat_text::LineReader;
+use std::alloc::Global;
 use std::process::Abort;
-use std::test::Fail;
-
-/// The id of an added clause, and how many literals and hints it has.
-fn lengths(answer: Result<Option<LratLine<'_>>, LratTextFault>) -> Option<(u64, usize, usize)> {
-    match answer {
-        Ok(Some(LratLine::Add { id, clause, hints })) => Some((id, clause.len(), hints.len())),
-        _ => None,
-    }
-}
+use test_streams::{Pieces, Shown};
 
 /// A long comment, a long run of blanks, and a line with many literals and hints.
-fn long_text(alloc: Global) -> Result<String, AllocError> {
-    let comment = "7".repeat(alloc, 40000)?;
-    let blanks = " ".repeat(alloc, 40000)?;
-    let clause = "-12 ".repeat(alloc, 20000)?;
-    let hints = "123456 ".repeat(alloc, 20000)?;
-    format!(in alloc; "c{comment}\n{blanks}9 {clause}0 {hints}0\n10 x")
-}
+const LONG: [(&str, u32); 9] = [
+    ("c", 1),
+    ("7", 40000),
+    ("\n", 1),
+    (" ", 40000),
+    ("9 ", 1),
+    ("-12 ", 20000),
+    ("0 ", 1),
+    ("123456 ", 20000),
+    ("0\n10 x", 1),
+];
 
-#[test]
-fn long_lines(rt: HostRuntime) -> Result<(), Fail> {
-    let text = long_text(rt.alloc())?;
-    has_a_long_line(&rt, &mut LineReader::new(rt.alloc(), text.as_bytes()));
-    Ok(())
-}
-
-fn has_a_long_line(rt: &impl Abort, reader: &mut LineReader<&[u8]>) {
-    assert_eq!(rt; lengths(reader.next_line()), Some((9, 20000, 20000)));
-    assert_eq!(rt; reader.line(), 2);
-    assert!(rt; reader.next_line().is_err());
-    assert_eq!(rt; reader.line(), 3);
-    assert!(rt; matches!(reader.next_line(), Ok(None)));
-}
+const LONG_SHOWN: [(&str, u32); 5] = [
+    ("9 ", 1),
+    ("-12 ", 20000),
+    ("0 ", 1),
+    ("123456 ", 20000),
+    ("0 @2\nline 3: malformed line\nend", 1),
+];
 
 /// As many short lines as fill the buffer some times: their ends stand at its border too.
-#[test]
-fn many_lines(rt: HostRuntime) -> Result<(), Fail> {
-    let text = "12 1 -2 0 3 0\n".repeat(rt.alloc(), 9000)?;
-    has_many_lines(&rt, &mut LineReader::new(rt.alloc(), text.as_bytes()));
-    Ok(())
-}
+const MANY: [(&str, u32); 1] = [("12 1 -2 0 3 0\n", 9000)];
 
-fn has_many_lines(rt: &impl Abort, reader: &mut LineReader<&[u8]>) {
-    assert_eq!(rt; other_line(reader), None);
-    assert!(rt; matches!(reader.next_line(), Ok(None)));
-}
-
-/// The number of the first of 9000 lines that is another one, or has another number.
-fn other_line(reader: &mut LineReader<&[u8]>) -> Option<u64> {
+/// What is shown of them.
+fn many_shown(alloc: Global) -> Shown {
+    let mut shown = Shown::new(alloc);
     for line in 1..9001u64 {
-        let found = lengths(reader.next_line());
-        if found != Some((12, 2, 1)) || reader.line() != line {
-            return Some(line);
-        }
+        shown.number("12 1 -2 0 3 0 @", line);
+        shown.words("\n");
     }
-    None
+    shown.words("end");
+    shown
+}
+
+fn is_shown(rt: &impl Abort, alloc: Global, name: &str, text: &Shown, expected: &Shown) {
+    let mut shown = Shown::new(alloc);
+    let pieces = Pieces::whole(text.text().as_bytes());
+    show(&mut shown, &mut LineReader::new(alloc, pieces), 10000);
+    assert!(rt; shown.text() == expected.text(), "{name}");
+}
+
+#[test]
+fn long_texts(rt: HostRuntime) {
+    let text = Shown::of_parts(rt.alloc(), &LONG);
+    let expected = Shown::of_parts(rt.alloc(), &LONG_SHOWN);
+    is_shown(&rt, rt.alloc(), "a long line", &text, &expected);
+    let text = Shown::of_parts(rt.alloc(), &MANY);
+    let expected = many_shown(rt.alloc());
+    is_shown(&rt, rt.alloc(), "many lines", &text, &expected);
 }

@@ -1,9 +1,9 @@
 //! Texts with their answers, each beside the number of the line that gives it.
-use super::{line_ends, shown};
-use std::alloc::{AllocError, Global};
+use super::{line_ends, show};
+use lrat_text::LineReader;
+use std::alloc::Global;
 use std::process::Abort;
-use std::test::Fail;
-use test_streams::Pieces;
+use test_streams::{Pieces, Shown};
 
 type Row = (&'static [u8], &'static [(usize, &'static str)]);
 
@@ -150,107 +150,75 @@ const OTHER_WORDS: [Row; 14] = [
     (b"a\x08\x02\x00\x02\x00", &[(1, "malformed line")]),
 ];
 
-/// What is answered where so many lines were read to their LF and the next read fails.
-fn expected(alloc: Global, answers: &[(usize, &str)], lines: usize) -> Result<String, AllocError> {
-    let mut all = String::new(alloc);
-    let ended = write_answers(&mut all, answers, lines)?;
-    if !ended && lines < usize::MAX {
-        writeln!(all, "error reading proof: broken")?;
-    }
-    write!(all, "end")?;
-    Ok(all)
-}
-
-/// Writes the answers up to this line. Answers whether the last one is a fault.
-fn write_answers(
-    all: &mut String,
-    answers: &[(usize, &str)],
-    lines: usize,
-) -> Result<bool, AllocError> {
+/// Shows what is answered where so many lines were read to their LF and the next read fails.
+fn show_expected(shown: &mut Shown, answers: &[(usize, &str)], lines: usize) {
+    let mut is_broken = lines < usize::MAX;
     for (line, answer) in answers {
         if *line > lines {
-            return Ok(false);
+            break;
         }
         if !answer.ends_with("0") {
-            writeln!(all, "line {line}: {answer}")?;
-            return Ok(true);
+            shown.number("line ", *line as u64);
+            shown.words(": ");
+            shown.words(answer);
+            shown.words("\n");
+            is_broken = false;
+            break;
         }
-        writeln!(all, "{answer} @{line}")?;
+        shown.words(answer);
+        shown.number(" @", *line as u64);
+        shown.words("\n");
     }
-    Ok(false)
+    if is_broken {
+        shown.words("error reading proof: broken\n");
+    }
+    shown.words("end");
 }
 
-/// The rows are answered so read at once and in pieces, and where any of their reads fails.
-fn hold(rt: &impl Abort, alloc: Global, rows: &[Row]) -> Result<(), Fail> {
-    for (text, answers) in rows {
-        for size in [usize::MAX, 1, 2] {
-            is_answered(rt, alloc, answers, Pieces::of_size(text, size), usize::MAX)?;
-        }
-        for read in 0..=text.len() {
-            let lines = line_ends(&text[..read]);
-            let failing = read.saturating_add(1);
-            is_answered(
-                rt,
-                alloc,
-                answers,
-                Pieces::failing_at(text, 1, failing),
-                lines,
-            )?;
-        }
-    }
-    Ok(())
-}
-
-/// The answers are these, up to those of so many lines.
+/// The answers to this text are these, up to those of so many lines.
 fn is_answered(
     rt: &impl Abort,
     alloc: Global,
+    (text, pieces): (&[u8], Pieces<'_>),
     answers: &[(usize, &str)],
-    text: Pieces<'_>,
     lines: usize,
-) -> Result<(), Fail> {
-    let seen = shown(alloc, text)?;
-    let wanted = expected(alloc, answers, lines)?;
-    assert_eq!(rt; seen.as_str(), wanted.as_str());
-    Ok(())
+) {
+    let mut shown = Shown::new(alloc);
+    show(&mut shown, &mut LineReader::new(alloc, pieces), 10);
+    let mut expected = Shown::new(alloc);
+    show_expected(&mut expected, answers, lines);
+    assert_eq!(rt; shown.text(), expected.text(), "{text:?}");
 }
 
-#[test]
-fn passed_over(rt: HostRuntime) -> Result<(), Fail> {
-    hold(&rt, rt.alloc(), &PASSED_OVER)
+/// The row is answered so read at once and in pieces, and where any of its reads fails.
+fn holds(rt: &impl Abort, alloc: Global, (text, answers): Row) {
+    for size in [usize::MAX, 1, 2] {
+        let pieces = Pieces::of_size(text, size);
+        is_answered(rt, alloc, (text, pieces), answers, usize::MAX);
+    }
+    for read in 0..=text.len() {
+        let broken = Pieces::failing_at(text, 1, read.saturating_add(1));
+        let lines = line_ends(&text[..read]);
+        is_answered(rt, alloc, (text, broken), answers, lines);
+    }
 }
 
-#[test]
-fn lines(rt: HostRuntime) -> Result<(), Fail> {
-    hold(&rt, rt.alloc(), &LINES)
-}
+const TABLES: [&[Row]; 8] = [
+    &PASSED_OVER,
+    &LINES,
+    &BLANKS_AND_ZEROS,
+    &LARGEST_NUMBERS,
+    &ZEROS_THAT_ARE_MISSING,
+    &WORDS_AFTER_THE_LAST_ZERO,
+    &SIGNS,
+    &OTHER_WORDS,
+];
 
 #[test]
-fn blanks_and_zeros(rt: HostRuntime) -> Result<(), Fail> {
-    hold(&rt, rt.alloc(), &BLANKS_AND_ZEROS)
-}
-
-#[test]
-fn largest_numbers(rt: HostRuntime) -> Result<(), Fail> {
-    hold(&rt, rt.alloc(), &LARGEST_NUMBERS)
-}
-
-#[test]
-fn zeros_that_are_missing(rt: HostRuntime) -> Result<(), Fail> {
-    hold(&rt, rt.alloc(), &ZEROS_THAT_ARE_MISSING)
-}
-
-#[test]
-fn words_after_the_last_zero(rt: HostRuntime) -> Result<(), Fail> {
-    hold(&rt, rt.alloc(), &WORDS_AFTER_THE_LAST_ZERO)
-}
-
-#[test]
-fn signs(rt: HostRuntime) -> Result<(), Fail> {
-    hold(&rt, rt.alloc(), &SIGNS)
-}
-
-#[test]
-fn other_words(rt: HostRuntime) -> Result<(), Fail> {
-    hold(&rt, rt.alloc(), &OTHER_WORDS)
+fn rows(rt: HostRuntime) {
+    for rows in TABLES {
+        for row in rows {
+            holds(&rt, rt.alloc(), *row);
+        }
+    }
 }
