@@ -5,7 +5,7 @@ use crate::buckets::{ONE_BIT, SOLVER_NAMES};
 use crate::call::{Call, Seen, make};
 use crate::exhausted::{CLOSING, LAST_ID, LAST_STEP_NUMBER, LAST_STEP_READ, NOTHING_READ};
 use crate::ids::{DERIVED_THAT_STANDS, INPUTS, UNENTAILED};
-use crate::{crowds, ids, variables};
+use crate::{crowds, ids, parts, variables};
 use std::alloc::Global;
 use std::process::Abort;
 use std::test::Fail;
@@ -81,6 +81,8 @@ fn play_all(rt: &impl Abort, alloc: Global, rows: &[Row]) -> Result<(), Fail> {
 fn rows(rt: HostRuntime) -> Result<(), Fail> {
     play_all(&rt, rt.alloc(), &ROWS)?;
     ids::hashes(&rt, rt.alloc())?;
+    parts::units(&rt, rt.alloc())?;
+    parts::delivery(&rt, rt.alloc())?;
     variables::variables(&rt, rt.alloc())?;
     crowds::crowds(&rt, rt.alloc())
 }

@@ -1,5 +1,6 @@
 //! What no clause says: rows of proofs over readers of any cut, reads that fail, and which proofs
 //! count as FRAT.
+use crate::cuts::{BrokenRow, Format, Row, hold, hold_broken};
 use drat_text::bytes::Bytes;
 use frat_text::{FratAction, FratHint, FratReader, FratStep, Renaming, is_frat};
 use sat_formula::Lit;
@@ -42,7 +43,7 @@ fn show_step(shown: &mut Shown, step: FratStep<'_>) {
 }
 
 /// Shows each step, and the end or the text of a fault.
-fn show(shown: &mut Shown, reader: &mut FratReader<Pieces<'_>>) {
+pub fn show(shown: &mut Shown, reader: &mut FratReader<Pieces<'_>>) {
     for _ in 0..20u32 {
         match reader.next_step() {
             Ok(Some(step)) => show_step(shown, step),
@@ -55,8 +56,6 @@ fn show(shown: &mut Shown, reader: &mut FratReader<Pieces<'_>>) {
         shown.words("; ");
     }
 }
-
-type Row = (&'static [u8], &'static str);
 
 const TEXT: [Row; 21] = [
     (b"", "end"),
@@ -125,9 +124,6 @@ const BINARY: [Row; 10] = [
     (b"o\x01\x00a\x82", "original 1:; step 2: unfinished; end"),
 ];
 
-/// A proof, and the number of the read that fails.
-type BrokenRow = (&'static [u8], usize, &'static str);
-
 const BROKEN: [BrokenRow; 3] = [
     (b"o 1 1 0\na 2 2 0\n", 1, "error reading proof: broken; end"),
     (
@@ -155,35 +151,11 @@ const TELLING: [(&[u8], bool); 10] = [
     (b"", false),
 ];
 
-/// What is shown of these bytes as they are read.
-fn is_shown(rt: &impl Abort, alloc: Global, bytes: &[u8], proof: Pieces<'_>, expected: &str) {
-    let mut shown = Shown::new(alloc);
-    show(&mut shown, &mut FratReader::new(alloc, proof));
-    assert_eq!(rt; shown.text(), expected, "{bytes:?}");
-}
-
-fn hold(rt: &impl Abort, alloc: Global, rows: &[Row]) {
-    for (bytes, expected) in rows {
-        for size in [1, 2, 3, 100] {
-            let proof = Pieces::of_size(bytes, size);
-            is_shown(rt, alloc, bytes, proof, expected);
-        }
-    }
-}
-
-/// By one byte a read.
-fn hold_broken(rt: &impl Abort, alloc: Global, rows: &[BrokenRow]) {
-    for (bytes, failing, expected) in rows {
-        let proof = Pieces::failing_at(bytes, 1, *failing);
-        is_shown(rt, alloc, bytes, proof, expected);
-    }
-}
-
 #[test]
 fn frat_steps(rt: HostRuntime) {
-    hold(&rt, rt.alloc(), &TEXT);
-    hold(&rt, rt.alloc(), &BINARY);
-    hold_broken(&rt, rt.alloc(), &BROKEN);
+    hold(&rt, rt.alloc(), Format::Frat, &TEXT);
+    hold(&rt, rt.alloc(), Format::Frat, &BINARY);
+    hold_broken(&rt, rt.alloc(), Format::Frat, &BROKEN);
 }
 
 fn are_told_apart(rt: &impl Abort, alloc: Global, rows: &[(&[u8], bool)]) {

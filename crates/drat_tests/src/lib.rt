@@ -6,6 +6,8 @@
 #![tactic(auto)]
 
 #[cfg(test)]
+mod cuts;
+#[cfg(test)]
 mod frat_lemmas;
 #[cfg(test)]
 mod frat_texts;

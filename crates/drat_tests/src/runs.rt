@@ -4,103 +4,120 @@ use log::sink::Discard;
 use std::alloc::Global;
 use std::io::ErrorKind;
 use std::process::Abort;
-use test_streams::{Ended, Outcome, Page, Pieces};
+use test_streams::{Ended, Page, Pieces};
 
 /// Four clauses, one against each pair of values of two variables.
 const FOUR: &[u8] = b"1 2 0 1 -2 0 -1 2 0 -1 -2 0";
 
-const VERIFIED: Outcome<'static> = ("s VERIFIED UNSAT\n", "", 0);
+const VERIFIED: &str = "s VERIFIED UNSAT\n";
 
-const NOT_VERIFIED: Outcome<'static> = ("s NOT VERIFIED\n", "", 3);
+const NOT_VERIFIED: &str = "s NOT VERIFIED\n";
 
 /// The second step is needed, and is not right.
-const UNFOUNDED: Outcome<'static> = (
-    "",
-    "proof: step 2: clause neither follows nor is redundant by its first literal",
-    1,
-);
+const UNFOUNDED: &str =
+    "proof: step 2: clause neither follows nor is redundant by its first literal";
 
-/// A formula and a proof with what is answered.
-type Row = (&'static [u8], &'static [u8], Outcome<'static>);
+/// A formula and a proof; what is written, the text of the fault, and the exit status.
+type Row = (&'static [u8], &'static [u8], &'static str, &'static str, u8);
 
 const RUNS: [Row; 19] = [
-    (FOUR, b"1 0\n0\n", VERIFIED),
-    (FOUR, b"1 0\nd 1 2 0\n0", VERIFIED),
-    (FOUR, b"c a comment\n-2 0\n", VERIFIED),
-    (FOUR, b"", NOT_VERIFIED),
-    (FOUR, b"d 1 2 0\n1 0\n", UNFOUNDED),
-    (FOUR, b"1 2 -1 0\n", NOT_VERIFIED),
-    (FOUR, b"1 x 0\n", ("", "proof: step 1: malformed", 1)),
-    (FOUR, b"1 2 0\n2 -1", ("", "proof: step 2: unfinished", 1)),
+    (FOUR, b"1 0\n0\n", VERIFIED, "", 0),
+    (FOUR, b"1 0\nd 1 2 0\n0", VERIFIED, "", 0),
+    (FOUR, b"c a comment\n-2 0\n", VERIFIED, "", 0),
+    (FOUR, b"", NOT_VERIFIED, "", 3),
+    (FOUR, b"d 1 2 0\n1 0\n", "", UNFOUNDED, 1),
+    (FOUR, b"1 2 -1 0\n", NOT_VERIFIED, "", 3),
+    (FOUR, b"1 x 0\n", "", "proof: step 1: malformed", 1),
+    (FOUR, b"1 2 0\n2 -1", "", "proof: step 2: unfinished", 1),
     (
         FOUR,
         b"268435457 0\n",
-        ("", "proof: step 1: number too large", 1),
+        "",
+        "proof: step 1: number too large",
+        1,
     ),
     // binary: a byte before the literals, `a` or `d`, then 2 v + sign for each, then 0
-    (FOUR, b"a\x02\0a\0", VERIFIED),
-    (FOUR, b"d\x02\x04\0a\x02\0", UNFOUNDED),
+    (FOUR, b"a\x02\0a\0", VERIFIED, "", 0),
+    (FOUR, b"d\x02\x04\0a\x02\0", "", UNFOUNDED, 1),
     (
         FOUR,
         b"a\x02\x04\0a\x01\0",
-        ("", "proof: step 2: malformed", 1),
+        "",
+        "proof: step 2: malformed",
+        1,
     ),
     // a clause with a variable of its own is redundant by it; one that cuts is not
-    (FOUR, b"3 1 0 -3 -1 0 1 0 0", VERIFIED),
-    (b"1 2 0 -1 -2 0", b"1 0 2 0 0", UNFOUNDED),
+    (FOUR, b"3 1 0 -3 -1 0 1 0 0", VERIFIED, "", 0),
+    (b"1 2 0 -1 -2 0", b"1 0 2 0 0", "", UNFOUNDED, 1),
     // formulas that need no step, have no clause, or can't be read
-    (b"0", b"", VERIFIED),
-    (b"1 0 -1 0", b"", VERIFIED),
-    (b"", b"", NOT_VERIFIED),
-    (b"1 x 0", b"0", ("", "formula: line 1: bad number", 1)),
+    (b"0", b"", VERIFIED, "", 0),
+    (b"1 0 -1 0", b"", VERIFIED, "", 0),
+    (b"", b"", NOT_VERIFIED, "", 3),
+    (b"1 x 0", b"0", "", "formula: line 1: bad number", 1),
     // its first step adds a clause, so it is DRAT
-    (FOUR, b"a 5 1 0\n", ("", "proof: step 1: unfinished", 1)),
+    (FOUR, b"a 5 1 0\n", "", "proof: step 1: unfinished", 1),
 ];
 
 /// The four clauses have the ids 1 to 4.
 const WITH_IDS: [Row; 11] = [
-    (FOUR, b"o 1 1 2 0 o 2 -2 1 0 a 5 1 0", VERIFIED),
+    (FOUR, b"o 1 1 2 0 o 2 -2 1 0 a 5 1 0", VERIFIED, "", 0),
     (
         FOUR,
         b"o 3 1 2 0\no 9 1 -2 0\na 5 1 0 l 3 9 0\na 6 0 l 5 0\n",
         VERIFIED,
+        "",
+        0,
     ),
     (
         FOUR,
         b"o 3 1 2 0\na 5 1 0 l 3 7 -2 0\na 6 0\nf 6 0\n",
         VERIFIED,
+        "",
+        0,
     ),
-    (FOUR, b"c x .\no 1 1 2 0\nd 2 0\na 5 1 0\n", VERIFIED),
-    (FOUR, b"o 1 2 1 0\nr 1 7 0\nd 1 0\na 5 1 0\n", VERIFIED),
+    (FOUR, b"c x .\no 1 1 2 0\nd 2 0\na 5 1 0\n", VERIFIED, "", 0),
+    (
+        FOUR,
+        b"o 1 2 1 0\nr 1 7 0\nd 1 0\na 5 1 0\n",
+        VERIFIED,
+        "",
+        0,
+    ),
     (
         FOUR,
         b"o 1 1 2 0\nr 1 7 0\nd 7 0\na 5 1 0\n",
-        (
-            "",
-            "proof: step 4: clause neither follows nor is redundant by its first literal",
-            1,
-        ),
+        "",
+        "proof: step 4: clause neither follows nor is redundant by its first literal",
+        1,
     ),
-    (FOUR, b"o 1 1 2 0\n", NOT_VERIFIED),
+    (FOUR, b"o 1 1 2 0\n", NOT_VERIFIED, "", 3),
     (
         FOUR,
         b"o 1 1 2 0\no 2 1 2 0\n",
-        ("", "proof: step 2: clause is not in the formula", 1),
+        "",
+        "proof: step 2: clause is not in the formula",
+        1,
     ),
     (
         FOUR,
         b"o 1 1 2 0\na 5 x 0",
-        ("", "proof: step 2: malformed", 1),
+        "",
+        "proof: step 2: malformed",
+        1,
     ),
-    (FOUR, b"o\x01\x02\x04\0a\x05\x02\0l\x02\x04\0", VERIFIED),
+    (
+        FOUR,
+        b"o\x01\x02\x04\0a\x05\x02\0l\x02\x04\0",
+        VERIFIED,
+        "",
+        0,
+    ),
     (
         FOUR,
         b"o\x01\x02\x04\0d\x01\0a\x05\x02\0",
-        (
-            "",
-            "proof: step 3: clause neither follows nor is redundant by its first literal",
-            1,
-        ),
+        "",
+        "proof: step 3: clause neither follows nor is redundant by its first literal",
+        1,
     ),
 ];
 
@@ -109,7 +126,7 @@ const WITH_IDS: [Row; 11] = [
 fn is_answered(
     rt: &impl Abort,
     alloc: Global,
-    (cnf, bytes, outcome): Row,
+    (cnf, bytes, written, fault, status): Row,
     proof: Pieces<'_>,
     format: ProofFormat,
     room: usize,
@@ -118,7 +135,7 @@ fn is_answered(
     let mut page = Page::of_room(alloc, room);
     let answer = run_check(&Discard, alloc, cnf, proof, format, &mut page);
     let ended = Ended::of(alloc, page, &answer, exit_status(&answer));
-    assert_eq!(rt; ended.outcome(), outcome, "{bytes:?}");
+    assert_eq!(rt; ended.outcome(), (written, fault, status), "{bytes:?}");
 }
 
 fn are_answered(rt: &impl Abort, alloc: Global, rows: &[Row], format: ProofFormat) {
@@ -128,11 +145,11 @@ fn are_answered(rt: &impl Abort, alloc: Global, rows: &[Row], format: ProofForma
 }
 
 const AS_FRAT: [Row; 2] = [
-    (FOUR, b"a 5 1 0\n", VERIFIED),
-    (FOUR, b"1 0\n", ("", "proof: step 1: malformed", 1)),
+    (FOUR, b"a 5 1 0\n", VERIFIED, "", 0),
+    (FOUR, b"1 0\n", "", "proof: step 1: malformed", 1),
 ];
 
-const AS_DRAT: [Row; 1] = [(FOUR, b"o 1 1 2 0\n", ("", "proof: step 1: malformed", 1))];
+const AS_DRAT: [Row; 1] = [(FOUR, b"o 1 1 2 0\n", "", "proof: step 1: malformed", 1)];
 
 #[test]
 fn runs(rt: HostRuntime) {
@@ -142,29 +159,30 @@ fn runs(rt: HostRuntime) {
     are_answered(&rt, rt.alloc(), &AS_DRAT, ProofFormat::Drat);
 }
 
-/// A formula, a proof with a read that fails after it and what is answered, and how many bytes can
-/// be written.
-const FAILING: [(Row, usize); 3] = [
-    ((FOUR, b"1 0\n", VERIFIED), usize::MAX),
+/// A read after the proof fails.
+const BROKEN: [Row; 2] = [
+    (FOUR, b"1 0\n", VERIFIED, "", 0),
     (
-        (
-            FOUR,
-            b"1 2 0\n1",
-            ("", "proof: error reading proof: broken", 1),
-        ),
-        usize::MAX,
+        FOUR,
+        b"1 2 0\n1",
+        "",
+        "proof: error reading proof: broken",
+        1,
     ),
-    ((FOUR, b"1 0\n", ("", "error writing: full", 1)), 0),
 ];
 
-fn are_answered_broken(rt: &impl Abort, alloc: Global, rows: &[(Row, usize)]) {
-    for (row, room) in rows {
+/// Nothing can be written either.
+const UNWRITTEN: [Row; 1] = [(FOUR, b"1 0\n", "", "error writing: full", 1)];
+
+fn are_answered_broken(rt: &impl Abort, alloc: Global, rows: &[Row], room: usize) {
+    for row in rows {
         let proof = Pieces::broken(row.1, ErrorKind::ConnectionReset);
-        is_answered(rt, alloc, *row, proof, ProofFormat::Told, *room);
+        is_answered(rt, alloc, *row, proof, ProofFormat::Told, room);
     }
 }
 
 #[test]
 fn reads_and_writes_that_fail(rt: HostRuntime) {
-    are_answered_broken(&rt, rt.alloc(), &FAILING);
+    are_answered_broken(&rt, rt.alloc(), &BROKEN, usize::MAX);
+    are_answered_broken(&rt, rt.alloc(), &UNWRITTEN, 0);
 }

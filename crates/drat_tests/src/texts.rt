@@ -1,12 +1,11 @@
-//! Rows of proofs over readers of any cut, and reads that fail.
+//! The steps of DRAT proofs.
+use crate::cuts::{BrokenRow, Format, Row, hold, hold_broken};
 use drat_text::{DratReader, DratStep};
 use sat_formula::Lit;
-use std::alloc::Global;
-use std::process::Abort;
 use test_streams::{Pieces, Shown};
 
 /// Shows each step, as `add` or `delete` with its literals, and the end or the text of a fault.
-fn show(shown: &mut Shown, reader: &mut DratReader<Pieces<'_>>) {
+pub fn show(shown: &mut Shown, reader: &mut DratReader<Pieces<'_>>) {
     for _ in 0..20u32 {
         match reader.next_step() {
             Ok(Some(DratStep::Add(lits))) => show_step(shown, "add", lits),
@@ -30,8 +29,6 @@ fn show_step(shown: &mut Shown, kind: &str, lits: &[Lit]) {
     }
     shown.words("; ");
 }
-
-type Row = (&'static [u8], &'static str);
 
 const TEXT: [Row; 14] = [
     (b"", "end"),
@@ -71,9 +68,6 @@ const BINARY: [Row; 9] = [
     (b"a\x02\x00d\x82", "add 1; step 2: unfinished; end"),
 ];
 
-/// A proof, and the number of the read that fails.
-type BrokenRow = (&'static [u8], usize, &'static str);
-
 const BROKEN: [BrokenRow; 4] = [
     (b"1 0\n2 0\n", 1, "error reading proof: broken; end"),
     (b"1 0\n2 0\n", 8, "add 1; error reading proof: broken; end"),
@@ -85,33 +79,9 @@ const BROKEN: [BrokenRow; 4] = [
     ),
 ];
 
-/// What is shown of these bytes as they are read.
-fn is_shown(rt: &impl Abort, alloc: Global, bytes: &[u8], proof: Pieces<'_>, expected: &str) {
-    let mut shown = Shown::new(alloc);
-    show(&mut shown, &mut DratReader::new(alloc, proof));
-    assert_eq!(rt; shown.text(), expected, "{bytes:?}");
-}
-
-fn hold(rt: &impl Abort, alloc: Global, rows: &[Row]) {
-    for (bytes, expected) in rows {
-        for size in [1, 2, 3, 100] {
-            let proof = Pieces::of_size(bytes, size);
-            is_shown(rt, alloc, bytes, proof, expected);
-        }
-    }
-}
-
-/// By one byte a read.
-fn hold_broken(rt: &impl Abort, alloc: Global, rows: &[BrokenRow]) {
-    for (bytes, failing, expected) in rows {
-        let proof = Pieces::failing_at(bytes, 1, *failing);
-        is_shown(rt, alloc, bytes, proof, expected);
-    }
-}
-
 #[test]
 fn steps(rt: HostRuntime) {
-    hold(&rt, rt.alloc(), &TEXT);
-    hold(&rt, rt.alloc(), &BINARY);
-    hold_broken(&rt, rt.alloc(), &BROKEN);
+    hold(&rt, rt.alloc(), Format::Drat, &TEXT);
+    hold(&rt, rt.alloc(), Format::Drat, &BINARY);
+    hold_broken(&rt, rt.alloc(), Format::Drat, &BROKEN);
 }

@@ -1,5 +1,6 @@
-//! What no clause of `hint_checker` and `hint_check` says, as tests: lines and texts with their
-//! answers, texts of readers, runs with what they write, and reads and writes that fail.
+//! What no clause of `hint_checker`, `hint_check` and `sat_hints` says, as tests: lines and texts
+//! with their answers, texts of readers, runs with what they write, reads and writes that fail, and
+//! the lines that are written of worked steps.
 //!
 //! They stand apart so that no library is proved a second time with them.
 #![tactic(auto)]
@@ -13,4 +14,8 @@ mod malformed_lines;
 #[cfg(test)]
 mod runs;
 #[cfg(test)]
+mod steps;
+#[cfg(test)]
 mod streams;
+#[cfg(test)]
+mod writer;

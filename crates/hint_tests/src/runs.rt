@@ -10,31 +10,35 @@ const FOUR: &str = "1 2 0 1 -2 0 -1 2 0 -1 -2 0";
 
 const UNITS: &str = "1 0\n-1 0\n";
 
-const VERIFIED: Outcome<'static> = ("s VERIFIED UNSAT\n", "", 0);
+const VERIFIED: &str = "s VERIFIED UNSAT\n";
 
-const NOT_VERIFIED: Outcome<'static> = ("s NOT VERIFIED\n", "", 3);
+const NOT_VERIFIED: &str = "s NOT VERIFIED\n";
 
-/// A formula and hints with what is answered.
-type Row = (&'static str, &'static str, Outcome<'static>);
+/// A formula and hints; what is written, the text of the fault, and the exit status.
+type Row = (&'static str, &'static str, &'static str, &'static str, u8);
 
 const RUNS: [Row; 9] = [
-    (FOUR, "9 1 0 1 2 0\n10 0 9 3 4 0\n", VERIFIED),
-    (UNITS, "5 0 1 2 0\n", VERIFIED),
-    (UNITS, "5 0 1 2 0\n5 d 1 0\n", VERIFIED),
-    (UNITS, "5 1 0 1 0", NOT_VERIFIED),
-    ("0", "", NOT_VERIFIED),
+    (FOUR, "9 1 0 1 2 0\n10 0 9 3 4 0\n", VERIFIED, "", 0),
+    (UNITS, "5 0 1 2 0\n", VERIFIED, "", 0),
+    (UNITS, "5 0 1 2 0\n5 d 1 0\n", VERIFIED, "", 0),
+    (UNITS, "5 1 0 1 0", NOT_VERIFIED, "", 3),
+    ("0", "", NOT_VERIFIED, "", 3),
     (
         UNITS,
         "5 0 1 0",
-        ("", "line 1: hints end without a conflict", 1),
+        "",
+        "line 1: hints end without a conflict",
+        1,
     ),
     (
         UNITS,
         "5 1 0 1 0\n5 d 5 0\n5 0 1 2 0\n",
-        ("", "line 3: id is not greater than those before", 1),
+        "",
+        "line 3: id is not greater than those before",
+        1,
     ),
-    (UNITS, "x", ("", "line 1: malformed line", 1)),
-    ("1 2", "5 0 1 2 0", ("", "line 1: unterminated clause", 1)),
+    (UNITS, "x", "", "line 1: malformed line", 1),
+    ("1 2", "5 0 1 2 0", "", "line 1: unterminated clause", 1),
 ];
 
 /// What is run is named so. As much of the line is written as there is room for.
@@ -55,11 +59,12 @@ fn is_answered(
 /// The rows are answered so, read at once and byte by byte.
 #[test]
 fn runs(rt: HostRuntime) {
-    for (cnf, hints, outcome) in &RUNS {
+    for (cnf, hints, written, fault, status) in RUNS {
         for size in [usize::MAX, 1] {
             let cnf = Pieces::of_size(cnf.as_bytes(), size);
             let texts = (cnf, Pieces::of_size(hints.as_bytes(), size));
-            is_answered(&rt, rt.alloc(), hints, texts, usize::MAX, *outcome);
+            let outcome = (written, fault, status);
+            is_answered(&rt, rt.alloc(), hints, texts, usize::MAX, outcome);
         }
     }
 }

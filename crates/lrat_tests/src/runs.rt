@@ -8,65 +8,81 @@ use test_streams::{Ended, Outcome, Page, Pieces};
 /// Four clauses, one against each pair of values of two variables.
 const FOUR: &str = "1 2 0 1 -2 0 -1 2 0 -1 -2 0";
 
-const VERIFIED: Outcome<'static> = ("s VERIFIED UNSAT\n", "", 0);
+const VERIFIED: &str = "s VERIFIED UNSAT\n";
 
-const NOT_VERIFIED: Outcome<'static> = ("s NOT VERIFIED\n", "", 3);
+const NOT_VERIFIED: &str = "s NOT VERIFIED\n";
 
-/// A formula and a proof with what is answered.
-type Row = (&'static str, &'static str, Outcome<'static>);
+/// A formula and a proof; what is written, the text of the fault, and the exit status.
+type Row = (&'static str, &'static str, &'static str, &'static str, u8);
 
 const RUNS: [Row; 17] = [
-    (FOUR, "5 1 0 1 2 0\n6 0 5 3 4 0\n", VERIFIED),
-    (FOUR, "5 1 0 1 2 0\n5 d 1 2 0\n6 0 5 3 4 0", VERIFIED),
+    (FOUR, "5 1 0 1 2 0\n6 0 5 3 4 0\n", VERIFIED, "", 0),
+    (FOUR, "5 1 0 1 2 0\n5 d 1 2 0\n6 0 5 3 4 0", VERIFIED, "", 0),
     (
         FOUR,
         "c new variable\n5 3 1 0 0\n6 -3 -1 0 -5 0\n7 1 0 1 2 0\n8 0 7 3 4 0\n",
         VERIFIED,
+        "",
+        0,
     ),
-    (FOUR, "5 1 0 1 2 0\n6 0 5 3 4 0\n7 x", VERIFIED),
-    (FOUR, "", NOT_VERIFIED),
-    (FOUR, "5 1 0 1 2 0\n", NOT_VERIFIED),
+    (FOUR, "5 1 0 1 2 0\n6 0 5 3 4 0\n7 x", VERIFIED, "", 0),
+    (FOUR, "", NOT_VERIFIED, "", 3),
+    (FOUR, "5 1 0 1 2 0\n", NOT_VERIFIED, "", 3),
     (
         FOUR,
         "5 1 0 1 2 0\n6 0 5 3 0\n",
-        ("", "proof: line 2: hints end without a conflict", 1),
+        "",
+        "proof: line 2: hints end without a conflict",
+        1,
     ),
     (
         FOUR,
         "5 0 1 3 4 0\n",
-        ("", "proof: line 1: clause of a hint is not unit", 1),
+        "",
+        "proof: line 1: clause of a hint is not unit",
+        1,
     ),
     (
         FOUR,
         "\n\n1 1 0 1 2 0\n",
-        ("", "proof: line 3: id is taken", 1),
+        "",
+        "proof: line 3: id is taken",
+        1,
     ),
     (
         FOUR,
         "5 d 1 0\n5 1 0 1 2 0\n",
-        ("", "proof: line 2: no clause has the id of a hint", 1),
+        "",
+        "proof: line 2: no clause has the id of a hint",
+        1,
     ),
     (
         FOUR,
         "5 1 0 1 2\n6 0 5 3 4 0\n",
-        ("", "proof: line 1: malformed line", 1),
+        "",
+        "proof: line 1: malformed line",
+        1,
     ),
     (
         FOUR,
         "5 1 0 1 2 0\n6 0 5 3 4",
-        ("", "proof: line 2: unfinished line", 1),
+        "",
+        "proof: line 2: unfinished line",
+        1,
     ),
     // formulas that can't be read
-    ("1 0\n2 x 0", "x", ("", "formula: line 2: bad number", 1)),
-    ("1 2", "x", ("", "formula: line 1: unterminated clause", 1)),
+    ("1 0\n2 x 0", "x", "", "formula: line 2: bad number", 1),
+    ("1 2", "x", "", "formula: line 1: unterminated clause", 1),
     (
         "268435457 0",
         "x",
-        ("", "formula: line 1: variable too large", 1),
+        "",
+        "formula: line 1: variable too large",
+        1,
     ),
     // the empty clause of a formula
-    ("0", "2 0 1 0", VERIFIED),
-    ("0", "", VERIFIED),
+    ("0", "2 0 1 0", VERIFIED, "", 0),
+    ("0", "", VERIFIED, "", 0),
 ];
 
 /// What is run is named so. As much of the line is written as there is room for.
@@ -86,9 +102,10 @@ fn is_answered(
 
 #[test]
 fn runs(rt: HostRuntime) {
-    for (cnf, proof, outcome) in RUNS {
+    for (cnf, proof, written, fault, status) in RUNS {
         let cnf = Pieces::whole(cnf.as_bytes());
         let texts = (cnf, Pieces::whole(proof.as_bytes()));
+        let outcome = (written, fault, status);
         is_answered(&rt, rt.alloc(), proof, texts, usize::MAX, outcome);
     }
 }

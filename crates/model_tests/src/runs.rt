@@ -10,75 +10,110 @@ use test_streams::{Ended, Page, Pieces};
 /// What a run writes, the text of its fault, the clause that is not met, and its exit status.
 type Outcome = (&'static str, &'static str, u64, u8);
 
-const VERIFIED: Outcome = ("s VERIFIED SAT\n", "", 0, 0);
+const VERIFIED: &str = "s VERIFIED SAT\n";
 
-const FIRST_UNMET: Outcome = ("s NOT VERIFIED\n", "", 1, 3);
-
-const SECOND_UNMET: Outcome = ("s NOT VERIFIED\n", "", 2, 3);
-
-const THIRD_UNMET: Outcome = ("s NOT VERIFIED\n", "", 3, 3);
+const NOT_VERIFIED: &str = "s NOT VERIFIED\n";
 
 /// 1 or 2, not 1 or 3, not 2 or not 3.
 const THREE: &[u8] = b"p cnf 3 3\n1 2 0\n-1 3 0\n-2 -3 0\n";
 
-/// A formula and an answer with what is said of it.
-type Row = (&'static [u8], &'static [u8], Outcome);
+/// A formula and an answer; what is written, the text of the fault, the clause that is not met, and
+/// the exit status.
+type Row = (
+    &'static [u8],
+    &'static [u8],
+    &'static str,
+    &'static str,
+    u64,
+    u8,
+);
 
 const RUNS: [Row; 21] = [
-    (THREE, b"s SATISFIABLE\nv 1 -2 3 0\n", VERIFIED),
-    (THREE, b"c\ns SATISFIABLE\nv -1 2\nv -3 0\nc\n", VERIFIED),
-    (THREE, b"1 -2 3 0", VERIFIED),
-    (THREE, b"3 1 -2 4 0", VERIFIED),
-    (THREE, b"1 2 3 0", THIRD_UNMET),
-    (THREE, b"1 -2 -3 0", SECOND_UNMET),
-    (THREE, b"-1 -2 3 0", FIRST_UNMET),
-    (THREE, b"0", FIRST_UNMET),
-    (THREE, b"1 3 0", THIRD_UNMET),
+    (THREE, b"s SATISFIABLE\nv 1 -2 3 0\n", VERIFIED, "", 0, 0),
+    (
+        THREE,
+        b"c\ns SATISFIABLE\nv -1 2\nv -3 0\nc\n",
+        VERIFIED,
+        "",
+        0,
+        0,
+    ),
+    (THREE, b"1 -2 3 0", VERIFIED, "", 0, 0),
+    (THREE, b"3 1 -2 4 0", VERIFIED, "", 0, 0),
+    (THREE, b"1 2 3 0", NOT_VERIFIED, "", 3, 3),
+    (THREE, b"1 -2 -3 0", NOT_VERIFIED, "", 2, 3),
+    (THREE, b"-1 -2 3 0", NOT_VERIFIED, "", 1, 3),
+    (THREE, b"0", NOT_VERIFIED, "", 1, 3),
+    (THREE, b"1 3 0", NOT_VERIFIED, "", 3, 3),
     (
         THREE,
         b"1 -1 2 3 0",
-        ("", "answer: line 1: both signs of a variable", 0, 1),
+        "",
+        "answer: line 1: both signs of a variable",
+        0,
+        1,
     ),
     (
         THREE,
         b"s UNSATISFIABLE\n",
-        ("", "answer: line 1: the answer is UNSATISFIABLE", 0, 1),
+        "",
+        "answer: line 1: the answer is UNSATISFIABLE",
+        0,
+        1,
     ),
     (
         THREE,
         b"c\ns UNKNOWN\n",
-        ("", "answer: line 2: the answer is UNKNOWN", 0, 1),
+        "",
+        "answer: line 2: the answer is UNKNOWN",
+        0,
+        1,
     ),
     (
         THREE,
         b"s SATISFIABLE\nv 1 -2 3",
-        ("", "answer: line 2: the answer ends early", 0, 1),
+        "",
+        "answer: line 2: the answer ends early",
+        0,
+        1,
     ),
     (
         THREE,
         b"v 1 -2 3 0\n",
-        ("", "answer: line 2: no status line", 0, 1),
+        "",
+        "answer: line 2: no status line",
+        0,
+        1,
     ),
     (
         THREE,
         b"1 -2 3 0\n1",
-        ("", "answer: line 2: a number after the last one", 0, 1),
+        "",
+        "answer: line 2: a number after the last one",
+        0,
+        1,
     ),
     // an empty clause is met by nothing, and no clause is met by anything; a formula is read to its
     // end
-    (b"", b"0", VERIFIED),
-    (b"0", b"1 0", FIRST_UNMET),
-    (b"1 0 0 2 0", b"1 2 0", SECOND_UNMET),
-    (b"1 -1 0", b"2 0", FIRST_UNMET),
+    (b"", b"0", VERIFIED, "", 0, 0),
+    (b"0", b"1 0", NOT_VERIFIED, "", 1, 3),
+    (b"1 0 0 2 0", b"1 2 0", NOT_VERIFIED, "", 2, 3),
+    (b"1 -1 0", b"2 0", NOT_VERIFIED, "", 1, 3),
     (
         b"1 0\n2 x 0",
         b"-1 0",
-        ("", "formula: line 2: bad number", 0, 1),
+        "",
+        "formula: line 2: bad number",
+        0,
+        1,
     ),
     (
         b"1 0 2",
         b"1 2 0",
-        ("", "formula: line 1: unterminated clause", 0, 1),
+        "",
+        "formula: line 1: unterminated clause",
+        0,
+        1,
     ),
 ];
 
@@ -112,8 +147,9 @@ fn is_answered(
 
 #[test]
 fn runs(rt: HostRuntime) {
-    for (cnf, literals, outcome) in RUNS {
+    for (cnf, literals, written, fault, unmet, status) in RUNS {
         let texts = (Pieces::whole(cnf), Pieces::whole(literals));
+        let outcome = (written, fault, unmet, status);
         is_answered(&rt, rt.alloc(), literals, texts, usize::MAX, outcome);
     }
 }

@@ -1,9 +1,11 @@
 //! What no clause of `varisat_check` says, as tests: runs with what they write, texts of faults,
-//! and readers and writers that fail.
+//! readers and writers that fail, and a writer of hints in a box.
 //!
 //! They stand apart so that the library is not proved a second time with them.
 #![tactic(auto)]
 
+#[cfg(test)]
+mod boxed_writer;
 #[cfg(test)]
 mod formula;
 #[cfg(test)]

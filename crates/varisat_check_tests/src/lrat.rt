@@ -25,7 +25,7 @@ type Row = (
 const UNITS: &str = "1 0\n-1 0\n";
 
 /// What is written of the four clauses and a proof of theirs.
-const LINES: &str = "9 1 0 1 2 0\n10 0 9 3 4 0\n";
+pub const LINES: &str = "9 1 0 1 2 0\n10 0 9 3 4 0\n";
 
 /// The mark of version 2, and then the bytes at width 1, which are the same in both versions.
 const WIDTH_1_MARKED: [u8; 18] = [

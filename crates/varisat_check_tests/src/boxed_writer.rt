@@ -1,4 +1,6 @@
 //! A run whose writer of hints is a box, which is handed back.
+use crate::four_clauses::{FOUR, WIDTH_1};
+use crate::lrat::LINES;
 use checker_parts::processor::ProofProcessor;
 use log::sink::Discard;
 use sat_formula::{CnfFormula, read_formula};
@@ -8,17 +10,11 @@ use std::process::Abort;
 use std::test::Fail;
 use varisat_check::{Verdict, run_lrat};
 
-const FOUR: &[u8] = b"1 2 0 1 -2 0 -1 2 0 -1 -2 0";
-
-/// With hashes of one bit, [1] and then [].
-const PROOF: &[u8] = b"\x09\x01\x06\x00\x01\x00\x02\x01\x00\x06\x00\x00\x02\x00\x01\x0D";
-
-const LINES: &[u8] = b"9 1 0 1 2 0\n10 0 9 3 4 0\n";
-
-pub fn boxed_writer(rt: &impl Abort, alloc: Global) -> Result<(), Fail> {
-    let writer: Box<dyn ProofProcessor> = Box::new(alloc, LratWriter::new(alloc, 4))?;
-    match read_formula(alloc, FOUR) {
-        Ok(formula) => shows_its_lines(rt, alloc, &formula, writer),
+#[test]
+fn boxed_writer(rt: HostRuntime) -> Result<(), Fail> {
+    let writer: Box<dyn ProofProcessor> = Box::new(rt.alloc(), LratWriter::new(rt.alloc(), 4))?;
+    match read_formula(rt.alloc(), FOUR.as_bytes()) {
+        Ok(formula) => shows_its_lines(&rt, rt.alloc(), &formula, writer),
         Err(_) => Err("the formula is malformed".into()),
     }
 }
@@ -30,13 +26,14 @@ fn shows_its_lines(
     writer: Box<dyn ProofProcessor>,
 ) -> Result<(), Fail> {
     let (mut out, mut lrat) = (Vec::new(alloc), Vec::new(alloc));
-    match run_lrat(&Discard, alloc, formula, writer, PROOF, &mut out, &mut lrat) {
+    let proof = WIDTH_1.as_slice();
+    match run_lrat(&Discard, alloc, formula, writer, proof, &mut out, &mut lrat) {
         Ok((verdict, writer)) => {
             assert_eq!(rt; verdict, Verdict::Unsatisfiable);
-            assert_eq!(rt; writer.output(), LINES);
+            assert_eq!(rt; writer.output(), LINES.as_bytes());
         }
         Err(_) => return Err("the proof is refused".into()),
     }
-    assert_eq!(rt; lrat.as_slice(), LINES);
+    assert_eq!(rt; lrat.as_slice(), LINES.as_bytes());
     Ok(())
 }

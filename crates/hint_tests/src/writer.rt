@@ -1,34 +1,12 @@
 //! The lines of worked steps, what is refused, and the texts of faults.
+use crate::steps::{Kind, step_of};
 use checker_parts::processor::{CheckerData, ProofProcessor};
-use checker_parts::step::{
-    CheckedProofStep, CheckedSamplingMode, CheckedUserVar, ResolutionPropagations,
-};
 use checker_parts::variables::Variables;
 use sat_formula::Lit;
 use sat_hints::{LratWriter, WriterFault};
 use std::alloc::Global;
 use std::process::Abort;
 use test_streams::Shown;
-
-/// What a step says of a clause.
-#[derive(Clone, Copy)]
-enum Kind {
-    Add,
-    Repeat { same_as_id: u64 },
-    Tautology,
-    Derive { propagations: &'static [u64] },
-    DeriveRedundant { propagations: &'static [u64] },
-    Delete,
-    DeleteImplied { propagations: &'static [u64] },
-    KeepImplied { propagations: &'static [u64] },
-    DeleteUnit,
-    MakeIrredundant,
-    Model,
-    Assumptions,
-    FailedAssumptions { propagations: &'static [u64] },
-    LoseName,
-    GetName,
-}
 
 /// A step with its id, which may say nothing, and the numbers of its clause; the text of its fault,
 /// which is none where it is accepted; and the line that is written of it.
@@ -256,73 +234,6 @@ fn lits(rt: &impl Abort, alloc: Global, numbers: &[i64]) -> Vec<Lit> {
         lits.push(lit).expect(rt, "room");
     }
     lits
-}
-
-/// The step of a clause. One on a single literal is on this one, or on its variable.
-fn step_of<'a>(kind: Kind, id: u64, clause: &'a [Lit], one: Lit) -> CheckedProofStep<'a> {
-    let var = one.var();
-    match kind {
-        Kind::Add => CheckedProofStep::AddClause { id, clause },
-        Kind::Repeat { same_as_id } => CheckedProofStep::DuplicatedClause {
-            id,
-            same_as_id,
-            clause,
-        },
-        Kind::Tautology => CheckedProofStep::TautologicalClause { id, clause },
-        Kind::Derive { propagations } => CheckedProofStep::AtClause {
-            id,
-            redundant: false,
-            clause,
-            propagations,
-        },
-        Kind::DeriveRedundant { propagations } => CheckedProofStep::AtClause {
-            id,
-            redundant: true,
-            clause,
-            propagations,
-        },
-        Kind::Delete => CheckedProofStep::DeleteClause { id, clause },
-        Kind::DeleteImplied { propagations } => CheckedProofStep::DeleteAtClause {
-            id,
-            keep_as_redundant: false,
-            clause,
-            propagations,
-        },
-        Kind::KeepImplied { propagations } => CheckedProofStep::DeleteAtClause {
-            id,
-            keep_as_redundant: true,
-            clause,
-            propagations,
-        },
-        Kind::DeleteUnit => CheckedProofStep::DeleteRatClause {
-            id,
-            keep_as_redundant: false,
-            clause,
-            pivot: one,
-            propagations: &ResolutionPropagations {},
-        },
-        Kind::MakeIrredundant => CheckedProofStep::MakeIrredundant { id, clause },
-        Kind::Model => CheckedProofStep::Model { assignment: clause },
-        Kind::Assumptions => CheckedProofStep::Assumptions {
-            assumptions: clause,
-        },
-        Kind::FailedAssumptions { propagations } => CheckedProofStep::FailedAssumptions {
-            failed_core: clause,
-            propagations,
-        },
-        Kind::LoseName => CheckedProofStep::UserVar {
-            var,
-            user_var: None,
-        },
-        Kind::GetName => CheckedProofStep::UserVar {
-            var,
-            user_var: Some(CheckedUserVar {
-                user_var: var,
-                sampling_mode: CheckedSamplingMode::Sample,
-                new_var: true,
-            }),
-        },
-    }
 }
 
 /// Each step of a script is answered so, and the lines are these after each.

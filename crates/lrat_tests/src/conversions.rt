@@ -57,74 +57,69 @@ const DERIVED_AGAIN: &[u8] = b"\x00\x02\
     \x06\x01\x02\x00\x02\x02\x43\x64\xE1\x1E\xB1\xC5\x51\x82\x54\xE0\x2B\x99\x48\x5C\x99\x21\
     \x0D";
 
-/// A formula and a proof, and the exit status with the bytes that are written.
-type Row = (&'static [u8], &'static [u8], (u8, &'static [u8]));
+/// A formula and a proof, the exit status, and the bytes that are written.
+type Row = (&'static [u8], &'static [u8], u8, &'static [u8]);
 
 /// The same, after a clause that is not needed: clauses of the formula stay, and so does a unit.
 /// Nothing is read after the empty clause.
 const WITH_DELETIONS: Row = (
     FOUR,
     b"5 1 0 1 2 0\n5 d 1 2 0\n6 2 0 5 3 0\n7 0 5 6 4 0\nx",
-    (
-        0,
-        b"\x00\x02\
-        \x06\x01\x01\x00\x02\
-        \x2A\x08\x95\x02\x93\x75\xAF\xC4\x41\x8C\x63\x82\x54\xFF\xE7\x66\
-        \x06\x01\x01\x02\x01\x15\x8C\x4B\x83\x5A\xFE\xD7\x66\
-        \x06\x01\x00\x01\x7E\x08\xBD\x03\x9D\x74\x9F\xC4\
-        \x0D",
-    ),
+    0,
+    b"\x00\x02\
+    \x06\x01\x01\x00\x02\
+    \x2A\x08\x95\x02\x93\x75\xAF\xC4\x41\x8C\x63\x82\x54\xFF\xE7\x66\
+    \x06\x01\x01\x02\x01\x15\x8C\x4B\x83\x5A\xFE\xD7\x66\
+    \x06\x01\x00\x01\x7E\x08\xBD\x03\x9D\x74\x9F\xC4\
+    \x0D",
 );
 
 /// Two opposite units refute the formula without the empty clause.
 const OPPOSITE_UNITS: Row = (
     FOUR,
     b"5 1 0 1 2 0\n6 -1 0 3 4 0\nx",
-    (
-        0,
-        b"\x00\x02\
-        \x06\x01\x01\x00\x02\
-        \x2A\x08\x95\x02\x93\x75\xAF\xC4\x41\x8C\x63\x82\x54\xFF\xE7\x66\
-        \x06\x01\x01\x01\x02\
-        \x15\x8C\x4B\x83\x5A\xFE\xD7\x66\x7E\x08\xBD\x03\x9D\x74\x9F\xC4\
-        \x0D",
-    ),
+    0,
+    b"\x00\x02\
+    \x06\x01\x01\x00\x02\
+    \x2A\x08\x95\x02\x93\x75\xAF\xC4\x41\x8C\x63\x82\x54\xFF\xE7\x66\
+    \x06\x01\x01\x01\x02\
+    \x15\x8C\x4B\x83\x5A\xFE\xD7\x66\x7E\x08\xBD\x03\x9D\x74\x9F\xC4\
+    \x0D",
 );
 
 const CONVERTED: [Row; 11] = [
-    (FOUR, REFUTATION, (0, REFUTED)),
+    (FOUR, REFUTATION, 0, REFUTED),
     WITH_DELETIONS,
     OPPOSITE_UNITS,
-    (TWO, b"", (3, NO_STEP)),
-    (TWO, b"3 2 1 0 1 2 0\n", (3, DERIVED)),
+    (TWO, b"", 3, NO_STEP),
+    (TWO, b"3 2 1 0 1 2 0\n", 3, DERIVED),
     // repeated literals count once
-    (TWO, b"3 1 2 1 0 1 2 0\n", (3, DERIVED)),
+    (TWO, b"3 1 2 1 0 1 2 0\n", 3, DERIVED),
     // clauses of the formula stay, and ids without a clause are passed over
     (
         TWO,
         b"3 2 1 0 1 2 0\n3 d 2 3 9 3 0\n",
-        (3, DERIVED_AND_DELETED),
+        3,
+        DERIVED_AND_DELETED,
     ),
     // of two copies each goes by itself
     (
         TWO,
         b"3 2 1 0 1 2 0\n4 1 2 0 1 2 0\n4 d 3 0\n4 d 4 0\n",
-        (3, DERIVED_TWICE),
+        3,
+        DERIVED_TWICE,
     ),
     // an id is free once its clause has gone
     (
         TWO,
         b"3 2 1 0 1 2 0\n3 d 3 0\n3 2 1 0 1 2 0\n",
-        (3, DERIVED_AGAIN),
+        3,
+        DERIVED_AGAIN,
     ),
     // a tautology has no step, and no hint names it
-    (
-        TWO,
-        b"3 1 -1 0 0\n4 2 1 0 3 1 2 3 0\n4 d 3 0\n",
-        (3, DERIVED),
-    ),
+    (TWO, b"3 1 -1 0 0\n4 2 1 0 3 1 2 3 0\n4 d 3 0\n", 3, DERIVED),
     // lines that say nothing
-    (TWO, b"c x\n\n3 2 1 0 1 2 0", (3, DERIVED)),
+    (TWO, b"c x\n\n3 2 1 0 1 2 0", 3, DERIVED),
 ];
 
 /// Formulas that are refuted already.
@@ -184,16 +179,21 @@ fn converts(
     name: &[u8],
     (cnf, proof): (&[u8], Pieces<'_>),
     width: HashWidth,
-    outcome: (u8, &[u8]),
+    status: u8,
+    bytes: &[u8],
 ) {
     let ended = ran(alloc, Pieces::whole(cnf), proof, width, usize::MAX);
-    assert_eq!(rt; (ended.status(), ended.bytes()), outcome, "{name:?}");
+    assert_eq!(rt;
+        (ended.status(), ended.bytes()),
+        (status, bytes),
+        "{name:?}"
+    );
 }
 
 fn all_convert(rt: &impl Abort, alloc: Global, rows: &[Row]) {
-    for (cnf, proof, outcome) in rows {
+    for (cnf, proof, status, bytes) in rows {
         let texts = (*cnf, Pieces::whole(proof));
-        converts(rt, alloc, proof, texts, HashWidth::full(), *outcome);
+        converts(rt, alloc, proof, texts, HashWidth::full(), *status, bytes);
     }
 }
 
@@ -201,7 +201,7 @@ fn all_convert(rt: &impl Abort, alloc: Global, rows: &[Row]) {
 fn convert_unread(rt: &impl Abort, alloc: Global, formulas: &[&[u8]]) {
     for cnf in formulas {
         let texts = (*cnf, Pieces::broken(b"", ErrorKind::ConnectionReset));
-        converts(rt, alloc, cnf, texts, HashWidth::full(), (0, NO_STEP));
+        converts(rt, alloc, cnf, texts, HashWidth::full(), 0, NO_STEP);
     }
 }
 
@@ -212,15 +212,8 @@ fn conversions(rt: HostRuntime) {
     convert_unread(&rt, rt.alloc(), &REFUTED_FORMULAS);
     let broken = Pieces::broken(REFUTATION, ErrorKind::ConnectionReset);
     let texts = (FOUR, broken);
-    let outcome = (0, REFUTED);
-    converts(
-        &rt,
-        rt.alloc(),
-        b"broken",
-        texts,
-        HashWidth::full(),
-        outcome,
-    );
+    let width = HashWidth::full();
+    converts(&rt, rt.alloc(), b"broken", texts, width, 0, REFUTED);
 }
 
 #[test]
@@ -231,8 +224,8 @@ fn narrow_hashes(rt: HostRuntime) {
     assert!(rt; HashWidth::from_bits(65).is_none());
     assert_eq!(rt; HashWidth::from_bits(64), Some(HashWidth::full()));
     let texts = (FOUR, Pieces::whole(REFUTATION));
-    let outcome = (0, REFUTED_IN_NINE_BITS);
-    converts(&rt, rt.alloc(), b"nine", texts, nine, outcome);
+    let alloc = rt.alloc();
+    converts(&rt, alloc, b"nine", texts, nine, 0, REFUTED_IN_NINE_BITS);
 }
 
 /// There is no conversion, and the fault has this text. The formula and the proof are named so.

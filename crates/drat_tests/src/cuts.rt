@@ -1,0 +1,53 @@
+//! Rows of proofs over readers of any cut, and reads that fail.
+use crate::{frat_texts, texts};
+use drat_text::DratReader;
+use frat_text::FratReader;
+use std::alloc::Global;
+use std::process::Abort;
+use test_streams::{Pieces, Shown};
+
+#[derive(Clone, Copy)]
+pub enum Format {
+    Drat,
+    Frat,
+}
+
+/// A proof, and what is shown of it.
+pub type Row = (&'static [u8], &'static str);
+
+/// A proof, and the number of the read that fails.
+pub type BrokenRow = (&'static [u8], usize, &'static str);
+
+/// What is shown of these bytes as they are read.
+fn is_shown(
+    rt: &impl Abort,
+    alloc: Global,
+    format: Format,
+    bytes: &[u8],
+    proof: Pieces<'_>,
+    expected: &str,
+) {
+    let mut shown = Shown::new(alloc);
+    match format {
+        Format::Drat => texts::show(&mut shown, &mut DratReader::new(alloc, proof)),
+        Format::Frat => frat_texts::show(&mut shown, &mut FratReader::new(alloc, proof)),
+    }
+    assert_eq!(rt; shown.text(), expected, "{bytes:?}");
+}
+
+pub fn hold(rt: &impl Abort, alloc: Global, format: Format, rows: &[Row]) {
+    for (bytes, expected) in rows {
+        for size in [1, 2, 3, 100] {
+            let proof = Pieces::of_size(bytes, size);
+            is_shown(rt, alloc, format, bytes, proof, expected);
+        }
+    }
+}
+
+/// By one byte a read.
+pub fn hold_broken(rt: &impl Abort, alloc: Global, format: Format, rows: &[BrokenRow]) {
+    for (bytes, failing, expected) in rows {
+        let proof = Pieces::failing_at(bytes, 1, *failing);
+        is_shown(rt, alloc, format, bytes, proof, expected);
+    }
+}

@@ -1,0 +1,92 @@
+//! Steps over a clause, as a checker tells of them.
+use checker_parts::step::{
+    CheckedProofStep, CheckedSamplingMode, CheckedUserVar, ResolutionPropagations,
+};
+use sat_formula::Lit;
+
+/// What a step says of a clause.
+#[derive(Clone, Copy)]
+pub enum Kind {
+    Add,
+    Repeat { same_as_id: u64 },
+    Tautology,
+    Derive { propagations: &'static [u64] },
+    DeriveRedundant { propagations: &'static [u64] },
+    Delete,
+    DeleteImplied { propagations: &'static [u64] },
+    KeepImplied { propagations: &'static [u64] },
+    DeleteUnit,
+    MakeIrredundant,
+    Model,
+    Assumptions,
+    FailedAssumptions { propagations: &'static [u64] },
+    LoseName,
+    GetName,
+}
+
+/// The step of a clause. One on a single literal is on this one, or on its variable.
+pub fn step_of<'a>(kind: Kind, id: u64, clause: &'a [Lit], one: Lit) -> CheckedProofStep<'a> {
+    let var = one.var();
+    match kind {
+        Kind::Add => CheckedProofStep::AddClause { id, clause },
+        Kind::Repeat { same_as_id } => CheckedProofStep::DuplicatedClause {
+            id,
+            same_as_id,
+            clause,
+        },
+        Kind::Tautology => CheckedProofStep::TautologicalClause { id, clause },
+        Kind::Derive { propagations } => CheckedProofStep::AtClause {
+            id,
+            redundant: false,
+            clause,
+            propagations,
+        },
+        Kind::DeriveRedundant { propagations } => CheckedProofStep::AtClause {
+            id,
+            redundant: true,
+            clause,
+            propagations,
+        },
+        Kind::Delete => CheckedProofStep::DeleteClause { id, clause },
+        Kind::DeleteImplied { propagations } => CheckedProofStep::DeleteAtClause {
+            id,
+            keep_as_redundant: false,
+            clause,
+            propagations,
+        },
+        Kind::KeepImplied { propagations } => CheckedProofStep::DeleteAtClause {
+            id,
+            keep_as_redundant: true,
+            clause,
+            propagations,
+        },
+        Kind::DeleteUnit => CheckedProofStep::DeleteRatClause {
+            id,
+            keep_as_redundant: false,
+            clause,
+            pivot: one,
+            propagations: &ResolutionPropagations {},
+        },
+        Kind::MakeIrredundant => CheckedProofStep::MakeIrredundant { id, clause },
+        Kind::Model => CheckedProofStep::Model { assignment: clause },
+        Kind::Assumptions => CheckedProofStep::Assumptions {
+            assumptions: clause,
+        },
+        Kind::FailedAssumptions { propagations } => CheckedProofStep::FailedAssumptions {
+            failed_core: clause,
+            propagations,
+        },
+        Kind::LoseName => CheckedProofStep::UserVar {
+            var,
+            user_var: None,
+        },
+        Kind::GetName => CheckedProofStep::UserVar {
+            var,
+            user_var: Some(CheckedUserVar {
+                user_var: var,
+                sampling_mode: CheckedSamplingMode::Sample,
+                new_var: true,
+            }),
+        },
+    }
+}
