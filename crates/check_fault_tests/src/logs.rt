@@ -79,7 +79,7 @@ const PROGRESS: [Proofs<'static>; 5] = [
 
 #[test]
 fn progress_is_told(rt: HostRuntime) -> Result<(), Fail> {
-    for proofs in PROGRESS {
+    for proofs in &PROGRESS {
         assert!(rt; tell_progress(rt.alloc(), proofs)?, "{proofs:?}");
     }
     Ok(())

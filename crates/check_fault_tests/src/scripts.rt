@@ -26,7 +26,7 @@ fn scripts(rt: HostRuntime) -> Result<(), Fail> {
 /// Once the checker has failed each call says so, and the boxes show what they took before.
 #[test]
 fn faults(rt: HostRuntime) -> Result<(), Fail> {
-    for (calls, shown) in FAULTS {
+    for (calls, shown) in &FAULTS {
         let script = format!(in rt.alloc(); "{calls}{FAILED}{shown}")?;
         agrees(&rt, rt.alloc(), &script)?;
     }

@@ -82,7 +82,7 @@ fn has_hash(alloc: Global, clause: &str, name: &str) -> Result<bool, Fail> {
 }
 
 pub fn hashes(rt: &impl Abort, alloc: Global) -> Result<(), Fail> {
-    for (clause, name) in HASHES {
+    for (clause, name) in &HASHES {
         assert!(rt; has_hash(alloc, clause, name)?, "{name}");
     }
     Ok(())

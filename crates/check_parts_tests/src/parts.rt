@@ -59,8 +59,8 @@ fn adds_unit(alloc: Global, ctx: &mut Context) -> Result<(), Fail>
 }
 
 fn has_values(rt: &impl Abort, ctx: &Context) -> Result<(), Fail> {
-    for (number, value) in VALUES {
-        assert_eq!(rt; value_of(ctx, lit(number)?), value, "{number}");
+    for (number, value) in &VALUES {
+        assert_eq!(rt; value_of(ctx, lit(*number)?), *value, "{number}");
     }
     Ok(())
 }

@@ -99,7 +99,7 @@ fn play_new(rt: &impl Abort, alloc: Global, steps: &[Step]) -> Result<(), Fail> 
 }
 
 pub fn variables(rt: &impl Abort, alloc: Global) -> Result<(), Fail> {
-    for steps in ROWS {
+    for steps in &ROWS {
         play_new(rt, alloc, steps)?;
     }
     Ok(())

@@ -49,7 +49,7 @@ const SCRIPTS: [&str; 28] = [
 
 #[test]
 fn scripts(rt: HostRuntime) -> Result<(), Fail> {
-    for script in SCRIPTS {
+    for script in &SCRIPTS {
         agrees(&rt, rt.alloc(), script)?;
     }
     Ok(())

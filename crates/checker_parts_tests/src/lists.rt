@@ -57,15 +57,15 @@ fn is_part(alloc: Global, part: &[i64], whole: &[i64], strict: bool) -> Result<b
 
 pub fn lists(rt: &impl Abort, alloc: Global) -> Result<(), Fail> {
     let mut target = lits(alloc, &[-4])?;
-    for (given, wanted, is_tautology) in COPIES {
+    for (given, wanted, is_tautology) in &COPIES {
         assert!(rt;
-            is_copied(alloc, &mut target, given, wanted, is_tautology)?,
+            is_copied(alloc, &mut target, given, wanted, *is_tautology)?,
             "{given:?}"
         );
     }
-    for (part, whole, strict, answer) in SUBSETS {
+    for (part, whole, strict, answer) in &SUBSETS {
         assert!(rt;
-            is_part(alloc, part, whole, strict)? == answer,
+            is_part(alloc, part, whole, *strict)? == *answer,
             "{part:?} {whole:?}"
         );
     }

@@ -3,11 +3,12 @@ use anyhow::anyhow;
 use checker_parts::error::{CheckCause, CheckerError, DimacsError};
 use proof_bytes::MalformedStep;
 use sat_formula::DimacsKind;
-use std::alloc::{AllocError, Global};
+use std::alloc::Global;
 use std::fmt::Display;
 use std::io;
 use std::io::ErrorKind;
 use std::process::Abort;
+use test_streams::Shown;
 
 /// Causes with their texts.
 const CAUSES: [(CheckCause, &str); 29] = [
@@ -102,25 +103,18 @@ fn refused(alloc: Global, msg: CheckCause) -> CheckerError {
 }
 
 /// The text of an error is this, after such a beginning.
-fn says<E: Display>(
-    rt: &impl Abort,
-    alloc: Global,
-    error: &E,
-    beginning: &str,
-    text: &str,
-) -> Result<(), AllocError> {
-    let seen = error.to_string(alloc)?;
-    assert_eq!(rt; seen.as_str().strip_prefix(beginning), Some(text));
-    Ok(())
+fn says<E: Display>(rt: &impl Abort, alloc: Global, error: &E, beginning: &str, text: &str) {
+    let mut shown = Shown::new(alloc);
+    shown.value(error);
+    assert_eq!(rt; shown.text().strip_prefix(beginning), Some(text));
 }
 
 /// A cause has its text, and that stands in the text of a refused step.
-pub fn causes(rt: &impl Abort, alloc: Global) -> Result<(), AllocError> {
-    for (cause, text) in CAUSES {
-        says(rt, alloc, &cause, "", text)?;
-        says(rt, alloc, &refused(alloc, cause), REFUSED, text)?;
+pub fn causes(rt: &impl Abort, alloc: Global) {
+    for (cause, text) in &CAUSES {
+        says(rt, alloc, cause, "", text);
+        says(rt, alloc, &refused(alloc, *cause), REFUSED, text);
     }
-    Ok(())
 }
 
 /// The texts of the checker's other errors, in the order of `error_at`.
@@ -164,24 +158,22 @@ const KINDS: [(DimacsKind, &str); 5] = [
     ),
 ];
 
-pub fn errors(rt: &impl Abort, alloc: Global) -> Result<(), AllocError> {
+pub fn errors(rt: &impl Abort, alloc: Global) {
     for (place, text) in ERRORS.iter().enumerate() {
-        says(rt, alloc, &error_at(place), "", text)?;
-        says(rt, alloc, &DimacsError::Checker(error_at(place)), "", text)?;
+        says(rt, alloc, &error_at(place), "", text);
+        says(rt, alloc, &DimacsError::Checker(error_at(place)), "", text);
     }
-    for (kind, text) in KINDS {
-        says(
-            rt,
-            alloc,
-            &DimacsError::Malformed { line: 4, kind },
-            "",
-            text,
-        )?;
+    for (kind, text) in &KINDS {
+        let malformed = DimacsError::Malformed {
+            line: 4,
+            kind: *kind,
+        };
+        says(rt, alloc, &malformed, "", text);
     }
     let unread = DimacsError::Read(io::Error::from(ErrorKind::UnexpectedEof));
     let text = "error reading formula: unexpected end of file";
-    says(rt, alloc, &unread, "", text)?;
+    says(rt, alloc, &unread, "", text);
     let refused = DimacsError::Checker(refused(alloc, CheckCause::NotSampling));
     let text = "variable is not a sampling variable";
-    says(rt, alloc, &refused, REFUSED, text)
+    says(rt, alloc, &refused, REFUSED, text);
 }

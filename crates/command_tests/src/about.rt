@@ -1,5 +1,6 @@
 //! What a program says of itself.
 use command::{About, Entry};
+use test_streams::Shown;
 
 const ONE: Entry<'static> = Entry {
     name: "ONE",
@@ -28,9 +29,10 @@ const WHOLE: About<'static> = About {
 
 #[test]
 fn text_about_a_program(rt: HostRuntime) {
-    let text = format!(in rt.alloc(); "{}", WHOLE).expect(&rt, "a text");
+    let mut shown = Shown::new(rt.alloc());
+    shown.value(&WHOLE);
     assert_eq!(rt;
-        text.as_str(),
+        shown.text(),
         "usage: mine ONE [--two N]\n\nDoes it.\n\n\
          operands:\n\
         \x20 ONE           the first\n\n\

@@ -2,6 +2,7 @@
 use command::{CountingReader, Counts, Kind, LyingHeader, kind_of};
 use std::io::Read;
 use std::process::Abort;
+use test_streams::Shown;
 
 const KINDS: [(&[u8], Kind); 11] = [
     (b"\x1F\x8B\x08\x00", Kind::Gzip),
@@ -36,10 +37,10 @@ const NO_KIND: [&[u8]; 12] = [
 
 #[test]
 fn kinds_of_files(rt: HostRuntime) {
-    for (bytes, kind) in KINDS {
-        assert_eq!(rt; kind_of(bytes), Some(kind));
+    for (bytes, kind) in &KINDS {
+        assert_eq!(rt; kind_of(bytes), Some(*kind));
     }
-    for bytes in NO_KIND {
+    for bytes in &NO_KIND {
         assert_eq!(rt; kind_of(bytes), None);
     }
 }
@@ -96,15 +97,18 @@ fn has_header(rt: &impl Abort, text: &[u8], header: Option<LyingHeader>) {
 
 #[test]
 fn headers(rt: HostRuntime) {
-    for (text, [variables, clauses, largest, number]) in LIES {
-        let said = Counts { variables, clauses };
+    for (text, [variables, clauses, largest, number]) in &LIES {
+        let said = Counts {
+            variables: *variables,
+            clauses: *clauses,
+        };
         let counts = Counts {
-            variables: largest,
-            clauses: number,
+            variables: *largest,
+            clauses: *number,
         };
         has_header(&rt, text, Some(LyingHeader { said, counts }));
     }
-    for text in RIGHT {
+    for text in &RIGHT {
         has_header(&rt, text, None);
     }
 }
@@ -112,6 +116,7 @@ fn headers(rt: HostRuntime) {
 #[test]
 fn text_of_a_lying_header(rt: HostRuntime) {
     let lie = lying_header(&rt, b"p cnf 1 3\n1 2 0\n", 64).expect(&rt, "a lie");
-    let said = lie.to_string(rt.alloc()).expect(&rt, "a text");
-    assert_eq!(rt; said.as_str(), "p cnf 1 3, but what was read is p cnf 2 1");
+    let mut shown = Shown::new(rt.alloc());
+    shown.value(&lie);
+    assert_eq!(rt; shown.text(), "p cnf 1 3, but what was read is p cnf 2 1");
 }

@@ -148,14 +148,18 @@ fn answers(rt: &impl Abort, checker: &mut HintChecker, texts: &[(&str, Answer)])
 
 const TABLES: [&[Row]; 5] = [&CALLS, &NOTHING, &ADDED, &PARTS, &DELETED];
 
-#[test]
-fn rows(rt: HostRuntime) {
-    for rows in &TABLES {
+fn are_answered(rt: &impl Abort, alloc: Global, tables: &[&[Row]]) {
+    for rows in tables {
         for (formula, texts) in *rows {
-            let mut checker = new_checker(&rt, rt.alloc(), formula);
-            answers(&rt, &mut checker, texts);
+            let mut checker = new_checker(rt, alloc, formula);
+            answers(rt, &mut checker, texts);
         }
     }
+}
+
+#[test]
+fn rows(rt: HostRuntime) {
+    are_answered(&rt, rt.alloc(), &TABLES);
 }
 
 #[test]

@@ -57,16 +57,20 @@ fn is_answered(
 }
 
 /// The rows are answered so, read at once and byte by byte.
-#[test]
-fn runs(rt: HostRuntime) {
-    for (cnf, hints, written, fault, status) in RUNS {
+fn are_answered(rt: &impl Abort, alloc: Global, rows: &[Row]) {
+    for (cnf, hints, written, fault, status) in rows {
         for size in [usize::MAX, 1] {
             let cnf = Pieces::of_size(cnf.as_bytes(), size);
             let texts = (cnf, Pieces::of_size(hints.as_bytes(), size));
-            let outcome = (written, fault, status);
-            is_answered(&rt, rt.alloc(), hints, texts, usize::MAX, outcome);
+            let outcome = (*written, *fault, *status);
+            is_answered(rt, alloc, hints, texts, usize::MAX, outcome);
         }
     }
+}
+
+#[test]
+fn runs(rt: HostRuntime) {
+    are_answered(&rt, rt.alloc(), &RUNS);
 }
 
 const HINTS: &[u8] = b"5 0 1 2 0\n";

@@ -76,8 +76,8 @@ fn is_newly_answered(
 
 /// What is answered where so many lines were read to their ends before a read fails.
 fn broken_after<'a>(answer: &'a str, lines: usize) -> &'a str {
-    for (line, begins) in LINES {
-        if line <= lines && answer.starts_with(begins) {
+    for (line, begins) in &LINES {
+        if *line <= lines && answer.starts_with(begins) {
             return answer;
         }
     }
@@ -138,7 +138,7 @@ fn redundant_lines(rt: HostRuntime) {
 /// The empty clause of a formula refutes it, whatever the proof.
 #[test]
 fn empty_clauses_of_formulas(rt: HostRuntime) {
-    for (formula, proof, answer) in EMPTY_CLAUSES {
+    for (formula, proof, answer) in &EMPTY_CLAUSES {
         for size in [usize::MAX, 1] {
             let mut checker = new_checker(&rt, rt.alloc(), formula);
             let pieces = Pieces::of_size(proof.as_bytes(), size);

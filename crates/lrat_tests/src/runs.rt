@@ -100,14 +100,18 @@ fn is_answered(
     assert_eq!(rt; ended.outcome(), outcome, "{name}");
 }
 
-#[test]
-fn runs(rt: HostRuntime) {
-    for (cnf, proof, written, fault, status) in RUNS {
+fn are_answered(rt: &impl Abort, alloc: Global, rows: &[Row]) {
+    for (cnf, proof, written, fault, status) in rows {
         let cnf = Pieces::whole(cnf.as_bytes());
         let texts = (cnf, Pieces::whole(proof.as_bytes()));
-        let outcome = (written, fault, status);
-        is_answered(&rt, rt.alloc(), proof, texts, usize::MAX, outcome);
+        let outcome = (*written, *fault, *status);
+        is_answered(rt, alloc, proof, texts, usize::MAX, outcome);
     }
+}
+
+#[test]
+fn runs(rt: HostRuntime) {
+    are_answered(&rt, rt.alloc(), &RUNS);
 }
 
 #[test]

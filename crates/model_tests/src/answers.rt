@@ -102,8 +102,8 @@ fn hold(rt: &impl Abort, alloc: Global, rows: &[Row]) {
 fn answers(rt: HostRuntime) {
     hold(&rt, rt.alloc(), &LISTS);
     hold(&rt, rt.alloc(), &FAULTS);
-    for (bytes, failing, text) in BROKEN {
-        let answer = Pieces::failing_at(bytes, 6, failing);
+    for (bytes, failing, text) in &BROKEN {
+        let answer = Pieces::failing_at(bytes, 6, *failing);
         is_shown(&rt, rt.alloc(), bytes, answer, text);
     }
 }

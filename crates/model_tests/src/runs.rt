@@ -145,13 +145,17 @@ fn is_answered(
     );
 }
 
+fn are_answered(rt: &impl Abort, alloc: Global, rows: &[Row]) {
+    for (cnf, literals, written, fault, unmet, status) in rows {
+        let texts = (Pieces::whole(cnf), Pieces::whole(literals));
+        let outcome = (*written, *fault, *unmet, *status);
+        is_answered(rt, alloc, literals, texts, usize::MAX, outcome);
+    }
+}
+
 #[test]
 fn runs(rt: HostRuntime) {
-    for (cnf, literals, written, fault, unmet, status) in RUNS {
-        let texts = (Pieces::whole(cnf), Pieces::whole(literals));
-        let outcome = (written, fault, unmet, status);
-        is_answered(&rt, rt.alloc(), literals, texts, usize::MAX, outcome);
-    }
+    are_answered(&rt, rt.alloc(), &RUNS);
 }
 
 const ANSWER: &[u8] = b"1 -2 3 0";
@@ -184,9 +188,9 @@ const LINES: [LineRow; 5] = [
 
 #[test]
 fn lines_of_clauses(rt: HostRuntime) {
-    for (cnf, number, line) in LINES {
-        let found = line_of_clause(rt.alloc(), Pieces::whole(cnf), number);
-        assert_eq!(rt; found, Ok(line), "{cnf:?}");
+    for (cnf, number, line) in &LINES {
+        let found = line_of_clause(rt.alloc(), Pieces::whole(cnf), *number);
+        assert_eq!(rt; found, Ok(*line), "{cnf:?}");
     }
     let broken = Pieces::broken(THREE, ErrorKind::ConnectionReset);
     assert_eq!(rt; line_of_clause(rt.alloc(), broken, 4), Err(NoByte::Read));

@@ -1,7 +1,8 @@
 //! Texts of faults.
 use proof_bytes::MalformedStep;
-use std::alloc::{AllocError, Global};
+use std::alloc::Global;
 use std::process::Abort;
+use test_streams::Shown;
 
 const TEXTS: [(MalformedStep, &str); 3] = [
     (MalformedStep::UnknownTag, "unknown step tag"),
@@ -9,10 +10,10 @@ const TEXTS: [(MalformedStep, &str); 3] = [
     (MalformedStep::OutOfRange, "value out of range"),
 ];
 
-pub fn have_texts(rt: &impl Abort, alloc: Global) -> Result<(), AllocError> {
-    for (kind, text) in TEXTS {
-        let seen = kind.to_string(alloc)?;
-        assert_eq!(rt; seen.as_str(), text);
+pub fn have_texts(rt: &impl Abort, alloc: Global) {
+    for (kind, text) in &TEXTS {
+        let mut shown = Shown::new(alloc);
+        shown.value(kind);
+        assert_eq!(rt; shown.text(), *text);
     }
-    Ok(())
 }

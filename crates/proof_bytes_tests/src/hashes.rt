@@ -13,11 +13,11 @@ const HASHES: [(usize, u64); 5] = [
 ];
 
 pub fn are_hashed(rt: &impl Abort) {
-    for (code, hash) in HASHES {
-        assert_eq!(rt; lit_code_hash(code), hash);
-        match Lit::from_code(code) {
-            Some(lit) => assert_eq!(rt; lit_hash(lit), hash),
-            None => assert_eq!(rt; code, 1 << 29),
+    for (code, hash) in &HASHES {
+        assert_eq!(rt; lit_code_hash(*code), *hash);
+        match Lit::from_code(*code) {
+            Some(lit) => assert_eq!(rt; lit_hash(lit), *hash),
+            None => assert_eq!(rt; *code, 1 << 29),
         }
     }
 }

@@ -34,8 +34,8 @@ const ANSWERS: [Answer; 2] = [
 /// Checks both answers, and finds the line of the clause that one of them does not meet.
 pub fn check_answers(alloc: Global) -> Played {
     let mut memory = find_line(alloc)?;
-    for answer in ANSWERS {
-        memory = memory.and(check(alloc, answer)?);
+    for answer in &ANSWERS {
+        memory = memory.and(check(alloc, *answer)?);
     }
     Ok(memory)
 }

@@ -165,8 +165,8 @@ const TEXTS: [Text; 5] = [
 /// The texts byte by byte, with each read failing in turn that is made of them.
 pub fn fail_reads_of_texts(alloc: Global) -> Played {
     let mut memory = Memory::Ample;
-    for text in TEXTS {
-        memory = memory.and(fail_reads_of(alloc, text)?);
+    for text in &TEXTS {
+        memory = memory.and(fail_reads_of(alloc, *text)?);
     }
     Ok(memory)
 }

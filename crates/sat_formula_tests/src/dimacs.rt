@@ -122,7 +122,7 @@ fn is_answered(rt: &impl Abort, alloc: Global, text: &[u8], answers: &[(usize, &
 
 #[test]
 fn examples(rt: HostRuntime) {
-    for (text, answers) in EXAMPLES {
+    for (text, answers) in &EXAMPLES {
         is_answered(&rt, rt.alloc(), text, answers);
     }
 }

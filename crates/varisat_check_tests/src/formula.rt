@@ -1,43 +1,36 @@
 //! Formulas that are read whole, and texts that are not.
 use checker_parts::error::DimacsError;
 use sat_formula::CnfFormula;
-use std::alloc::{AllocError, Global};
+use std::alloc::Global;
 use std::io::ErrorKind;
 use std::process::Abort;
-use std::test::Fail;
-use test_streams::Pieces;
+use test_streams::{Pieces, Shown};
 use varisat_check::{RunFault, read_formula};
 
-/// Each clause by its numbers.
-fn listed(alloc: Global, formula: &CnfFormula) -> Result<String, AllocError> {
-    let mut all = String::new(alloc);
+/// Shows each clause by its numbers.
+fn list(shown: &mut Shown, formula: &CnfFormula) {
     for clause in formula {
-        write!(all, "[")?;
+        shown.words("[");
         for lit in clause.iter() {
-            write!(all, "{} ", lit.to_dimacs())?;
+            shown.signed("", lit.to_dimacs());
+            shown.words(" ");
         }
-        write!(all, "]")?;
+        shown.words("]");
     }
-    Ok(all)
 }
 
-/// Each clause by its numbers, or the text of the fault.
-fn shown(alloc: Global, answer: Result<CnfFormula, RunFault>) -> Result<String, AllocError> {
+/// Shows each clause by its numbers, or the text of the fault.
+fn show(shown: &mut Shown, answer: Result<CnfFormula, RunFault>) {
     match answer {
-        Ok(formula) => listed(alloc, &formula),
-        Err(fault) => fault.to_string(alloc),
+        Ok(formula) => list(shown, &formula),
+        Err(fault) => shown.value(&fault),
     }
 }
 
-fn reads(
-    rt: &impl Abort,
-    alloc: Global,
-    cnf: Pieces<'_>,
-    expected: &str,
-) -> Result<(), AllocError> {
-    let seen = shown(alloc, read_formula(alloc, cnf))?;
-    assert_eq!(rt; seen.as_str(), expected);
-    Ok(())
+fn reads(rt: &impl Abort, alloc: Global, cnf: Pieces<'_>, expected: &str) {
+    let mut shown = Shown::new(alloc);
+    show(&mut shown, read_formula(alloc, cnf));
+    assert_eq!(rt; shown.text(), expected);
 }
 
 const TEXTS: [(&str, &str); 8] = [
@@ -53,27 +46,25 @@ const TEXTS: [(&str, &str); 8] = [
 ];
 
 /// The texts are read so, at once and byte by byte.
-fn all_read(rt: &impl Abort, alloc: Global, rows: &[(&str, &str)]) -> Result<(), AllocError> {
+fn all_read(rt: &impl Abort, alloc: Global, rows: &[(&str, &str)]) {
     for (cnf, expected) in rows {
         for size in [usize::MAX, 1] {
-            reads(rt, alloc, Pieces::of_size(cnf.as_bytes(), size), expected)?;
+            reads(rt, alloc, Pieces::of_size(cnf.as_bytes(), size), expected);
         }
     }
-    Ok(())
 }
 
 #[test]
-fn formulas(rt: HostRuntime) -> Result<(), Fail> {
-    all_read(&rt, rt.alloc(), &TEXTS)?;
-    Ok(())
+fn formulas(rt: HostRuntime) {
+    all_read(&rt, rt.alloc(), &TEXTS);
 }
 
 #[test]
-fn failed_read_is_no_end(rt: HostRuntime) -> Result<(), Fail> {
+fn failed_read_is_no_end(rt: HostRuntime) {
     let cnf = Pieces::broken(b"1 0\n-1 0\n", ErrorKind::ConnectionReset);
     let answer = read_formula(rt.alloc(), cnf);
     assert!(rt; matches!(&answer, Err(RunFault::Formula(DimacsError::Read(_)))));
-    let seen = shown(rt.alloc(), answer)?;
-    assert_eq!(rt; seen.as_str(), "error reading formula: broken");
-    Ok(())
+    let mut shown = Shown::new(rt.alloc());
+    show(&mut shown, answer);
+    assert_eq!(rt; shown.text(), "error reading formula: broken");
 }

@@ -20,8 +20,15 @@ pub const WIDTH_1: [u8; 16] = [
     0x09, 0x01, 0x06, 0x00, 0x01, 0x00, 0x02, 0x01, 0x00, 0x06, 0x00, 0x00, 0x02, 0x00, 0x01, 0x0D,
 ];
 
-/// By the number of bytes that stand of it, the step at which it is incomplete.
-pub const FIRST_MISSING: [u64; 16] = [1, 1, 2, 2, 2, 2, 2, 2, 2, 3, 3, 3, 3, 3, 3, 4];
+/// The step at which it is incomplete where so many of its bytes stand.
+pub fn first_missing(len: usize) -> u64 {
+    match len {
+        0..2 => 1,
+        2..9 => 2,
+        9..15 => 3,
+        _ => 4,
+    }
+}
 
 /// A proof from the four clauses with whole hashes: first the unit 1, and then the empty clause.
 pub fn proof_of_four(alloc: Global) -> Result<Vec<u8>, Fail> {

@@ -1,12 +1,11 @@
 //! Runs that a writer of hints writes, and what a checker of hints says of them.
-use crate::four_clauses::{FIRST_MISSING, FOUR, HASHES, WIDTH_1, proof_of_four};
-use crate::outcomes::{NOT_SHOWN, Outcome, SHOWN, has_outcome};
-use hint_checker::HintFault;
+use crate::four_clauses::{FOUR, HASHES, WIDTH_1, proof_of_four};
+use crate::outcomes::{NOT_SHOWN, Outcome, SHOWN, has_outcome, incomplete};
 use log::sink::Discard;
 use proof_bytes::{ProofStep, write_step};
 use sat_formula::{CnfFormula, Lit, read_formula};
 use sat_hints::{HintChecker, LratWriter};
-use std::alloc::{AllocError, Global};
+use std::alloc::Global;
 use std::process::Abort;
 use std::test::Fail;
 use test_streams::{Full, Pieces};
@@ -64,12 +63,12 @@ fn is_written(
     (formula, announced): (&CnfFormula, u64),
     proof: Pieces<'_>,
     (lines, outcome): (&str, Outcome<'_>),
-) -> Result<(), AllocError> {
+) {
     let (mut out, mut lrat) = (Vec::new(alloc), Vec::new(alloc));
     let writer = LratWriter::new(alloc, announced);
     let answer = run_lrat(&Discard, alloc, formula, writer, proof, &mut out, &mut lrat);
     assert_eq!(rt; lrat.as_slice(), lines.as_bytes());
-    has_outcome(rt, alloc, verdict_of(answer), &out, outcome)
+    has_outcome(rt, alloc, verdict_of(answer), &out, outcome);
 }
 
 fn verdict_of(answer: Result<(Verdict, LratWriter), RunFault>) -> Result<Verdict, RunFault> {
@@ -80,16 +79,9 @@ fn verdict_of(answer: Result<(Verdict, LratWriter), RunFault>) -> Result<Verdict
 }
 
 /// A checker of hints answers so.
-fn is_accepted(
-    rt: &impl Abort,
-    alloc: Global,
-    formula: &CnfFormula,
-    lines: &str,
-    answer: bool,
-) -> Result<(), HintFault> {
-    let mut checker = HintChecker::new(alloc, formula)?;
+fn is_accepted(rt: &impl Abort, alloc: Global, formula: &CnfFormula, lines: &str, answer: bool) {
+    let mut checker = HintChecker::new(alloc, formula).expect(rt, "a checker");
     assert_eq!(rt; checker.check(lines.as_bytes()), Ok(answer));
-    Ok(())
 }
 
 /// The proof is read at once and byte by byte.
@@ -99,43 +91,36 @@ fn is_cut(
     (formula, announced): (&CnfFormula, u64),
     proof: &[u8],
     (lines, outcome): (&str, Outcome<'_>),
-) -> Result<(), AllocError> {
+) {
     for size in [usize::MAX, 1] {
         let proof = Pieces::of_size(proof, size);
-        is_written(rt, alloc, (formula, announced), proof, (lines, outcome))?;
+        is_written(rt, alloc, (formula, announced), proof, (lines, outcome));
     }
-    Ok(())
 }
 
-fn holds(
-    rt: &impl Abort,
-    alloc: Global,
-    proof: &[u8],
-    (cnf, _, lines, outcome, answer): &Row,
-) -> Result<(), Fail> {
-    let formula = read_formula(alloc, cnf.as_bytes())?;
+fn holds(rt: &impl Abort, alloc: Global, proof: &[u8], (cnf, _, lines, outcome, answer): &Row) {
+    let formula = read_formula(alloc, cnf.as_bytes()).expect(rt, "a formula");
     let announced = formula.len() as u64;
-    is_cut(rt, alloc, (&formula, announced), proof, (*lines, *outcome))?;
-    is_accepted(rt, alloc, &formula, lines, *answer)?;
-    Ok(())
+    is_cut(rt, alloc, (&formula, announced), proof, (*lines, *outcome));
+    is_accepted(rt, alloc, &formula, lines, *answer);
 }
 
-fn hold(rt: &impl Abort, alloc: Global, rows: &[Row]) -> Result<(), Fail> {
+fn hold(rt: &impl Abort, alloc: Global, rows: &[Row]) {
     for row in rows {
-        holds(rt, alloc, row.1, row)?;
+        holds(rt, alloc, row.1, row);
     }
-    Ok(())
 }
 
 #[test]
-fn runs_and_their_lines(rt: HostRuntime) -> Result<(), Fail> {
-    hold(&rt, rt.alloc(), &RUNS)
+fn runs_and_their_lines(rt: HostRuntime) {
+    hold(&rt, rt.alloc(), &RUNS);
 }
 
 #[test]
 fn run_with_whole_hashes(rt: HostRuntime) -> Result<(), Fail> {
     let proof = proof_of_four(rt.alloc())?;
-    holds(&rt, rt.alloc(), &proof, &(FOUR, b"", LINES, SHOWN, true))
+    holds(&rt, rt.alloc(), &proof, &(FOUR, b"", LINES, SHOWN, true));
+    Ok(())
 }
 
 /// A derived clause, and an input clause after it.
@@ -161,10 +146,9 @@ fn is_refused(
     (cnf, announced): (&str, u64),
     proof: &[u8],
     text: &str,
-) -> Result<(), Fail> {
-    let formula = read_formula(alloc, cnf.as_bytes())?;
-    is_cut(rt, alloc, (&formula, announced), proof, ("", ("", text, 1)))?;
-    Ok(())
+) {
+    let formula = read_formula(alloc, cnf.as_bytes()).expect(rt, "a formula");
+    is_cut(rt, alloc, (&formula, announced), proof, ("", ("", text, 1)));
 }
 
 /// A formula, for how many clauses the writer is, a proof, and the text of the fault.
@@ -185,36 +169,31 @@ const REFUSED: [Refusal; 2] = [
     ),
 ];
 
-fn are_refused(rt: &impl Abort, alloc: Global, rows: &[Refusal]) -> Result<(), Fail> {
+fn are_refused(rt: &impl Abort, alloc: Global, rows: &[Refusal]) {
     for (cnf, announced, proof, text) in rows {
-        is_refused(rt, alloc, (*cnf, *announced), proof, text)?;
+        is_refused(rt, alloc, (*cnf, *announced), proof, text);
     }
-    Ok(())
 }
 
 #[test]
-fn faults_of_the_writer(rt: HostRuntime) -> Result<(), Fail> {
-    are_refused(&rt, rt.alloc(), &REFUSED)
+fn faults_of_the_writer(rt: HostRuntime) {
+    are_refused(&rt, rt.alloc(), &REFUSED);
 }
 
 #[test]
 fn late_input_clause(rt: HostRuntime) -> Result<(), Fail> {
     let late = late_input(rt.alloc())?;
     let text = "Error in proof processor: input clause after a derived clause";
-    is_refused(&rt, rt.alloc(), (FOUR, 9), &late, text)
-}
-
-fn are_incomplete(rt: &impl Abort, alloc: Global) -> Result<(), Fail> {
-    for (len, step) in FIRST_MISSING.iter().enumerate() {
-        let text = format!(in alloc; "step {step}: Unexpected end of proof file")?;
-        is_refused(rt, alloc, (FOUR, 4), &WIDTH_1[..len], &text)?;
-    }
+    is_refused(&rt, rt.alloc(), (FOUR, 9), &late, text);
     Ok(())
 }
 
 #[test]
-fn no_beginning_of_a_proof_is_written(rt: HostRuntime) -> Result<(), Fail> {
-    are_incomplete(&rt, rt.alloc())
+fn no_beginning_of_a_proof_is_written(rt: HostRuntime) {
+    for len in 0..WIDTH_1.len() {
+        let text = incomplete(rt.alloc(), len);
+        is_refused(&rt, rt.alloc(), (FOUR, 4), &WIDTH_1[..len], text.text());
+    }
 }
 
 /// Where there is no room for hints, no line is written.
@@ -254,9 +233,8 @@ fn has_no_room_for_its_line(rt: &impl Abort, alloc: Global, formula: &CnfFormula
 }
 
 #[test]
-fn outputs_that_cannot_be_written(rt: HostRuntime) -> Result<(), Fail> {
-    let formula = read_formula(rt.alloc(), UNITS.as_bytes())?;
+fn outputs_that_cannot_be_written(rt: HostRuntime) {
+    let formula = read_formula(rt.alloc(), UNITS.as_bytes()).expect(&rt, "a formula");
     has_no_room(&rt, rt.alloc(), &formula);
     has_no_room_for_its_line(&rt, rt.alloc(), &formula);
-    Ok(())
 }

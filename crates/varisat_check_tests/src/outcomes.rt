@@ -1,6 +1,8 @@
 //! What runs over a proof answer and write.
-use std::alloc::{AllocError, Global};
+use crate::four_clauses::first_missing;
+use std::alloc::Global;
 use std::process::Abort;
+use test_streams::Shown;
 use varisat_check::{RunFault, Verdict, exit_status};
 
 /// What a run writes, the text of its fault, and its exit status.
@@ -15,14 +17,6 @@ pub const WITH_ONE_ADDED: Outcome<'static> = ("s UNSATISFIABLE WITH 1 ADDED CLAU
 /// The proof was accepted, and shows nothing.
 pub const NOT_SHOWN: Outcome<'static> = ("s NOT SHOWN\n", "", 3);
 
-/// The text of a fault, and of a verdict none.
-fn fault_text(alloc: Global, answer: Result<Verdict, RunFault>) -> Result<String, AllocError> {
-    match answer {
-        Ok(_) => Ok(String::new(alloc)),
-        Err(fault) => fault.to_string(alloc),
-    }
-}
-
 /// What was written, the exit status and the text of the fault are those of the outcome.
 pub fn has_outcome(
     rt: &impl Abort,
@@ -30,10 +24,20 @@ pub fn has_outcome(
     answer: Result<Verdict, RunFault>,
     written: &[u8],
     (line, fault, status): Outcome<'_>,
-) -> Result<(), AllocError> {
+) {
     assert_eq!(rt; written, line.as_bytes());
     assert_eq!(rt; exit_status(&answer), status);
-    let said = fault_text(alloc, answer)?;
-    assert_eq!(rt; said.as_str(), fault);
-    Ok(())
+    let mut said = Shown::new(alloc);
+    if let Err(it) = answer {
+        said.value(&it);
+    }
+    assert_eq!(rt; said.text(), fault);
+}
+
+/// The text of the fault where so many bytes of the proof at width 1 stand.
+pub fn incomplete(alloc: Global, len: usize) -> Shown {
+    let mut text = Shown::new(alloc);
+    text.number("step ", first_missing(len));
+    text.words(": Unexpected end of proof file");
+    text
 }

@@ -1,12 +1,12 @@
 //! Runs with their verdicts, lines and statuses, texts of faults, and readers and writers that
 //! fail.
-use crate::four_clauses::{FIRST_MISSING, FOUR, WIDTH_1, proof_of_four};
-use crate::outcomes::{NOT_SHOWN, Outcome, SHOWN, WITH_ONE_ADDED, has_outcome};
+use crate::four_clauses::{FOUR, WIDTH_1, proof_of_four};
+use crate::outcomes::{NOT_SHOWN, Outcome, SHOWN, WITH_ONE_ADDED, has_outcome, incomplete};
 use crate::streams::Counting;
 use checker_parts::error::CheckerError;
 use log::sink::Discard;
 use sat_formula::{CnfFormula, read_formula};
-use std::alloc::{AllocError, Global};
+use std::alloc::Global;
 use std::io::ErrorKind;
 use std::process::Abort;
 use std::test::Fail;
@@ -54,29 +54,22 @@ fn is_answered(
     cnf: Pieces<'_>,
     proof: Pieces<'_>,
     outcome: Outcome<'_>,
-) -> Result<(), AllocError> {
+) {
     let mut out = Vec::new(alloc);
     let answer = run_check(&Discard, alloc, cnf, proof, &mut out);
-    has_outcome(rt, alloc, answer, &out, outcome)
+    has_outcome(rt, alloc, answer, &out, outcome);
 }
 
-fn are_answered(rt: &impl Abort, alloc: Global, rows: &[Row]) -> Result<(), AllocError> {
+fn are_answered(rt: &impl Abort, alloc: Global, rows: &[Row]) {
     for (cnf, proof, outcome) in rows {
-        is_answered(
-            rt,
-            alloc,
-            Pieces::whole(cnf),
-            Pieces::whole(proof),
-            *outcome,
-        )?;
+        let (cnf, proof) = (Pieces::whole(cnf), Pieces::whole(proof));
+        is_answered(rt, alloc, cnf, proof, *outcome);
     }
-    Ok(())
 }
 
 #[test]
-fn runs(rt: HostRuntime) -> Result<(), Fail> {
-    are_answered(&rt, rt.alloc(), &RUNS)?;
-    Ok(())
+fn runs(rt: HostRuntime) {
+    are_answered(&rt, rt.alloc(), &RUNS);
 }
 
 /// A formula, and the proofs over it in turn.
@@ -95,14 +88,9 @@ const PROOFS_IN_TURN: [Proofs; 5] = [
 ];
 
 /// A new checker with this formula, and then one proof after the other.
-fn prove(
-    rt: &impl Abort,
-    alloc: Global,
-    formula: &CnfFormula,
-    proofs: &[(&[u8], Outcome<'_>)],
-) -> Result<(), AllocError> {
+fn prove(rt: &impl Abort, alloc: Global, formula: &CnfFormula, proofs: &[(&[u8], Outcome<'_>)]) {
     let mut checker = Checker::new(alloc);
-    prove_with(rt, alloc, &mut checker, formula, proofs)
+    prove_with(rt, alloc, &mut checker, formula, proofs);
 }
 
 fn prove_with(
@@ -111,85 +99,65 @@ fn prove_with(
     checker: &mut Checker,
     formula: &CnfFormula,
     proofs: &[(&[u8], Outcome<'_>)],
-) -> Result<(), AllocError> {
+) {
     assert!(rt; checker.add_formula(formula).is_ok());
     for (proof, outcome) in proofs {
         let mut out = Vec::new(alloc);
         let answer = run_proof(&Discard, checker, *proof, &mut out);
-        has_outcome(rt, alloc, answer, &out, *outcome)?;
+        has_outcome(rt, alloc, answer, &out, *outcome);
     }
-    Ok(())
 }
 
-fn prove_all(rt: &impl Abort, alloc: Global, rows: &[Proofs]) -> Result<(), Fail> {
+fn prove_all(rt: &impl Abort, alloc: Global, rows: &[Proofs]) {
     for (cnf, proofs) in rows {
-        let formula = read_formula(alloc, cnf.as_bytes())?;
-        prove(rt, alloc, &formula, proofs)?;
+        let formula = read_formula(alloc, cnf.as_bytes()).expect(rt, "a formula");
+        prove(rt, alloc, &formula, proofs);
     }
-    Ok(())
 }
 
 #[test]
-fn proofs_on_a_new_checker(rt: HostRuntime) -> Result<(), Fail> {
-    prove_all(&rt, rt.alloc(), &PROOFS_IN_TURN)
+fn proofs_on_a_new_checker(rt: HostRuntime) {
+    prove_all(&rt, rt.alloc(), &PROOFS_IN_TURN);
 }
 
 /// A proof from the four clauses, read at once and byte by byte.
-fn is_cut(
-    rt: &impl Abort,
-    alloc: Global,
-    proof: &[u8],
-    outcome: Outcome<'_>,
-) -> Result<(), AllocError> {
-    let cnf = FOUR.as_bytes();
-    is_answered(rt, alloc, Pieces::whole(cnf), Pieces::whole(proof), outcome)?;
-    is_answered(
-        rt,
-        alloc,
-        Pieces::of_size(cnf, 1),
-        Pieces::of_size(proof, 1),
-        outcome,
-    )
+fn is_cut(rt: &impl Abort, alloc: Global, proof: &[u8], outcome: Outcome<'_>) {
+    for size in [usize::MAX, 1] {
+        let cnf = Pieces::of_size(FOUR.as_bytes(), size);
+        is_answered(rt, alloc, cnf, Pieces::of_size(proof, size), outcome);
+    }
 }
 
 #[test]
 fn four_clauses_however_cut(rt: HostRuntime) -> Result<(), Fail> {
     let proof = proof_of_four(rt.alloc())?;
-    is_cut(&rt, rt.alloc(), &proof, SHOWN)?;
-    is_cut(&rt, rt.alloc(), &WIDTH_1, SHOWN)?;
+    is_cut(&rt, rt.alloc(), &proof, SHOWN);
+    is_cut(&rt, rt.alloc(), &WIDTH_1, SHOWN);
     Ok(())
 }
 
-fn are_incomplete(rt: &impl Abort, alloc: Global) -> Result<(), AllocError> {
-    for (len, step) in FIRST_MISSING.iter().enumerate() {
-        let text = format!(in alloc; "step {step}: Unexpected end of proof file")?;
-        is_cut(rt, alloc, &WIDTH_1[..len], ("", &text, 1))?;
+#[test]
+fn no_beginning_of_a_proof_will_do(rt: HostRuntime) {
+    for len in 0..WIDTH_1.len() {
+        let text = incomplete(rt.alloc(), len);
+        is_cut(&rt, rt.alloc(), &WIDTH_1[..len], ("", text.text(), 1));
     }
-    Ok(())
 }
 
 #[test]
-fn no_beginning_of_a_proof_will_do(rt: HostRuntime) -> Result<(), Fail> {
-    are_incomplete(&rt, rt.alloc())?;
-    Ok(())
-}
-
-#[test]
-fn reads_that_fail(rt: HostRuntime) -> Result<(), Fail> {
+fn reads_that_fail(rt: HostRuntime) {
     let cnf = Pieces::broken(UNITS, ErrorKind::ConnectionReset);
     let outcome = ("", "error reading formula: broken", 1);
-    is_answered(&rt, rt.alloc(), cnf, Pieces::whole(END), outcome)?;
+    is_answered(&rt, rt.alloc(), cnf, Pieces::whole(END), outcome);
     let proof = Pieces::broken(b"\x05\x00", ErrorKind::ConnectionReset);
     let outcome = ("", "step 2: Error reading proof file: broken", 1);
-    is_answered(&rt, rt.alloc(), Pieces::whole(UNITS), proof, outcome)?;
-    Ok(())
+    is_answered(&rt, rt.alloc(), Pieces::whole(UNITS), proof, outcome);
 }
 
 #[test]
-fn lines_that_cannot_be_written(rt: HostRuntime) -> Result<(), Fail> {
+fn lines_that_cannot_be_written(rt: HostRuntime) {
     let answer = run_check(&Discard, rt.alloc(), UNITS, END, &mut Full::after(0));
-    has_outcome(&rt, rt.alloc(), answer, &[], ("", "error writing: full", 1))?;
-    Ok(())
+    has_outcome(&rt, rt.alloc(), answer, &[], ("", "error writing: full", 1));
 }
 
 /// So that no part of a line stands where the next write fails.

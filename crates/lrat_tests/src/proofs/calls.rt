@@ -134,12 +134,16 @@ const CALLS: [(&str, Calls); 18] = [
     ),
 ];
 
+fn are_answered(rt: &impl Abort, alloc: Global, rows: &[(&str, Calls)]) {
+    for (formula, calls) in rows {
+        let mut checker = new_checker(rt, alloc, formula);
+        answers(rt, alloc, &mut checker, calls);
+    }
+}
+
 #[test]
 fn calls(rt: HostRuntime) {
-    for (formula, calls) in CALLS {
-        let mut checker = new_checker(&rt, rt.alloc(), formula);
-        answers(&rt, rt.alloc(), &mut checker, calls);
-    }
+    are_answered(&rt, rt.alloc(), &CALLS);
 }
 
 /// Checks a text, which is answered so.

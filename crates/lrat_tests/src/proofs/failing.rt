@@ -86,11 +86,11 @@ fn has_text<D: Display>(rt: &impl Abort, alloc: Global, value: &D, text: &str) {
 
 #[test]
 fn texts_of_faults(rt: HostRuntime) {
-    for (cause, text) in CAUSES {
-        has_text(&rt, rt.alloc(), &cause, text);
-        has_text(&rt, rt.alloc(), &LineFault::Refused(cause), text);
+    for (cause, text) in &CAUSES {
+        has_text(&rt, rt.alloc(), cause, text);
+        has_text(&rt, rt.alloc(), &LineFault::Refused(*cause), text);
     }
-    for (fault, text) in FAULTS {
-        has_text(&rt, rt.alloc(), &fault, text);
+    for (fault, text) in &FAULTS {
+        has_text(&rt, rt.alloc(), fault, text);
     }
 }

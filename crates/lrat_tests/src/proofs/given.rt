@@ -54,7 +54,7 @@ fn formulas(rt: HostRuntime) {
     is_shown(&rt, rt.alloc(), Ok(units), "open, refuted");
     let empty = given(&rt, rt.alloc(), &[&[]]).checker();
     assert!(rt; empty.refuted());
-    for (text, shown) in TEXTS {
+    for (text, shown) in &TEXTS {
         let formula = LratFormula::read(rt.alloc(), text.as_bytes());
         is_shown(&rt, rt.alloc(), formula, shown);
     }

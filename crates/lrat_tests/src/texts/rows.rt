@@ -214,11 +214,15 @@ const TABLES: [&[Row]; 8] = [
     &OTHER_WORDS,
 ];
 
-#[test]
-fn rows(rt: HostRuntime) {
-    for rows in TABLES {
-        for row in rows {
-            holds(&rt, rt.alloc(), *row);
+fn hold(rt: &impl Abort, alloc: Global, tables: &[&[Row]]) {
+    for rows in tables {
+        for row in *rows {
+            holds(rt, alloc, *row);
         }
     }
+}
+
+#[test]
+fn rows(rt: HostRuntime) {
+    hold(&rt, rt.alloc(), &TABLES);
 }
