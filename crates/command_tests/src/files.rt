@@ -97,14 +97,12 @@ fn has_header(rt: &impl Abort, text: &[u8], header: Option<LyingHeader>) {
 
 #[test]
 fn headers(rt: HostRuntime) {
-    for (text, [variables, clauses, largest, number]) in &LIES {
-        let said = Counts {
-            variables: *variables,
-            clauses: *clauses,
-        };
+    for (text, numbers) in &LIES {
+        let [variables, clauses, largest, number] = *numbers;
+        let said = Counts { variables, clauses };
         let counts = Counts {
-            variables: *largest,
-            clauses: *number,
+            variables: largest,
+            clauses: number,
         };
         has_header(&rt, text, Some(LyingHeader { said, counts }));
     }
