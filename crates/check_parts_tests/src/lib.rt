@@ -1,5 +1,5 @@
-//! Calls over the parts of a checker as tests, by the paths of their modules: what is recorded after
-//! them, and that calls of the store reach their Ok.
+//! Calls over the parts of a checker as tests, by the paths of their modules: what is recorded
+//! after them, and that calls of the store reach their Ok.
 //!
 //! They go over several crates, and stand apart so that nothing is proved a second time with them.
 #![tactic(auto)]
