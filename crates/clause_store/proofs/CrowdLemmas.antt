@@ -1,7 +1,7 @@
 -- Clauses at their places.
-use Rattle.std.proofs.Common.{◌≡◌, ℕ, zero, suc, ◌+◌, ◌<◌, List, [], ◌∷◌, ◌++◌, length, get_or, take, drop, set, Option, Some, None, All, is_some, ltb, lt-ltb, refl, sym, ap, ◌∙◌, subst, arith}
+use Rattle.std.proofs.Common.{◌≡◌, ℕ, zero, suc, ◌+◌, ◌<◌, List, [], ◌∷◌, ◌++◌, length, get_or, take, drop, set, Option, Some, None, All, is_some, ltb, lt-ltb, refl, sym, true, ap, ◌∙◌, subst, arith}
 use Rattle.std.specs.List.{filter, list_any}
-use Rattle.std.proofs.lemmas.List.{drop_more, get_or_default, take_more}
+use Rattle.std.proofs.lemmas.List.{drop_more, get_or_default, take_more, length-set}
 use Rattle.std.proofs.lemmas.List.Elements.{filter_map-append}
 use Rattle.clause_store.specs.declared.clauses.Clause.{Clause}
 use Rattle.clause_store.specs.Crowds.{standing}
@@ -63,11 +63,32 @@ module _ (d : Clause) where
   standing-left (None ∷ ps) (suc i) w h = standing-left ps i (omega (arith, w)) h
   standing-left (Some c ∷ ps) (suc i) w h = cc (standing-left ps i (omega (arith, w)) h)
 
+  -- how many clauses there are then
+  pub set-counts : (e : Clause) (ps : List (Option Clause)) (i : ℕ) → i < length ps → get_or ps i None ≡ Some d → length (standing (set ps i (Some e))) ≡ length (standing ps)
+  set-counts e ps i w h = ap length (standing-set e ps i w h) ∙ length-set (standing ps) (rank ps i) e
+
+  pub left-counts : (ps : List (Option Clause)) (i : ℕ) → i < length ps → get_or ps i None ≡ Some d → suc (length (standing (set ps i None))) ≡ length (standing ps)
+  left-counts [] i w h = absurd (omega arith)
+  left-counts (None ∷ ps) zero w h = cc
+  left-counts (Some c ∷ ps) zero w h = refl
+  left-counts (None ∷ ps) (suc i) w h = left-counts ps i (omega (arith, w)) h
+  left-counts (Some c ∷ ps) (suc i) w h = ap suc (left-counts ps i (omega (arith, w)) h)
+
+-- a place that is not free has a clause
+pub taken : (p : Option Clause) → is_some p ≡ true → (d : Clause) × (p ≡ Some d)
+taken None h = absurd cc
+taken (Some d) h = (d, refl)
+
 -- the places that are not free
 pub standing-close : (ps : List (Option Clause)) → standing (filter is_some ps) ≡ standing ps
 standing-close [] = refl
 standing-close (None ∷ ps) = standing-close ps
 standing-close (Some c ∷ ps) = cc (standing-close ps)
+
+pub close-counts : (ps : List (Option Clause)) → length (filter is_some ps) ≡ length (standing ps)
+close-counts [] = refl
+close-counts (None ∷ ps) = close-counts ps
+close-counts (Some c ∷ ps) = ap suc (close-counts ps)
 
 -- whether there are clauses
 pub standing-some : (ps : List (Option Clause)) → list_any is_some ps ≡ ltb 0 (length (standing ps))

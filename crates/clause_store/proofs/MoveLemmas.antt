@@ -1,5 +1,5 @@
 -- Clauses moved to another buffer.
-use Rattle.std.proofs.Common.{◌≡◌, ℕ, ◌+◌, Bool, true, false, cond, nat_eq, List, [], ◌∷◌, ◌++◌, append-nil, append_assoc, length, take, drop, map, Some, All, refl, sym, ap, ◌∙◌, subst, arith}
+use Rattle.std.proofs.Common.{◌≡◌, ℕ, ◌+◌, Bool, true, false, cond, nat_eq, List, [], ◌∷◌, ◌++◌, append-nil, append_assoc, length, take, drop, map, Some, All, refl, suc, sym, ap, ◌∙◌, subst, arith}
 use Rattle.std.specs.List.{FoldsTo, flat_map, sum_by}
 use Rattle.std.specs.List.Sorted.{IsPermutation}
 use Rattle.std.specs.Map.{lookup, values_of}
@@ -50,6 +50,10 @@ All-second P (x ∷ xs) ys all = All-second P xs ys (All-tail P x (xs ++ ys) all
 pub all_used-append : (cs ds : List Clause) → all_used (cs ++ ds) ≡ all_used cs + all_used ds
 all_used-append [] ds = omega arith
 all_used-append (c ∷ cs) ds = let rest = all_used-append cs ds in omega arith
+
+pub all_moved_to-length : (at : ℕ) (cs : List Clause) → length (all_moved_to at cs) ≡ length cs
+all_moved_to-length at [] = refl
+all_moved_to-length at (c ∷ cs) = ap suc (all_moved_to-length (at + buffer_used c.lits) cs)
 
 pub all_moved_to-append : (at : ℕ) (cs ds : List Clause) → all_moved_to at (cs ++ ds) ≡ all_moved_to at cs ++ all_moved_to (at + all_used cs) ds
 all_moved_to-append at [] ds = ap (λ n. all_moved_to n ds) (omega arith)

@@ -10,6 +10,7 @@ pub mod crowd;
 pub mod delete;
 pub mod lits;
 pub mod lower;
+pub mod places;
 pub mod rebuild;
 pub mod store;
 pub mod units;

@@ -145,6 +145,7 @@ fn move_bucket(bucket: &mut Bucket, at: usize) -> usize
 /// The same for the clauses of a crowd, which stay in their places.
 fn move_places(places: &mut [Option<Clause>], first: usize) -> usize
     requires { first + all_used (standing places.old) < 2 ^ 64 }
+    ensures places { length places.new ≡ length places.old }
     ensures moved { standing places.new ≡ all_moved_to first (standing places.old) }
     ensures end { result ≡ first + all_used (standing places.old) }
 {

@@ -1,18 +1,13 @@
 //! Several clauses of one hash.
-ghost use Rattle.std.specs.Prelude.{◌≡◌, ◌<◌, ◌≤◌, ◌++◌, ◌∷◌, [], All, IfErr, IfNone, IfOk, IfSome, None, OnErr, OnOk, false, is_some, length, map, nat_lt, slice_set, true};
-ghost use Rattle.std.specs.List.{list_all, list_any};
-ghost use Rattle.checker_rules.specs.Store.{count_limit, count_of as count_in, is_stored, raise as raise_in_list};
-ghost use Rattle.checker_rules.specs.WellFormed.{are_apart};
-ghost use Rattle.clause_store.specs.Crowds.{IsPlaced, standing};
-ghost use Rattle.clause_store.specs.Found.{found_in};
+ghost use Rattle.std.specs.Prelude.{◌≡◌, ◌+◌, ◌*◌, ◌≤◌, All, length};
+ghost use Rattle.std.specs.BTreeMap.{btree_map_len};
+ghost use Rattle.clause_store.specs.Crowds.{standing};
 ghost use Rattle.clause_store.specs.Lits.{IsWithin};
-ghost use Rattle.clause_store.specs.Lowered.{IsLoweredIn, IsMissing};
-ghost use Rattle.clause_store.specs.Store.{is_whole};
-ghost use Rattle.clause_store.specs.View.{stored_of};
 
 use crate::clauses::Clause;
-use crate::clauses::buckets::{CountExhausted, copies_of, has_lits, raise};
+use crate::clauses::buckets::{CountExhausted, copies_of, raise};
 use crate::clauses::lower::{Left, Missing, left_of, lower};
+use crate::clauses::places::{clause_at, search};
 use sat_formula::lit::Lit;
 use std::alloc::{AllocError, Global};
 use std::collections::BTreeMap;
@@ -22,8 +17,8 @@ const FEW_PLACES: usize = 16;
 
 /// Several clauses of one hash, by rising ids.
 ///
-/// A clause that goes leaves its place free, so that none after it has to move. The others close up
-/// once more than half of the places are free.
+/// A clause that goes leaves its place free, so that none after it has to move. At most half of the
+/// places are free: once more would be, the others close up.
 #[derive(Drop)]
 pub struct Crowd {
     alloc: Global,
@@ -35,62 +30,9 @@ pub struct Crowd {
     /// Nothing rests on it: what is found there is compared, and what is not is looked for in all
     /// places.
     noted: BTreeMap<Vec<Lit>, usize>,
-}
-
-/// Whether a clause stands in one of the places.
-pub fn some_stands(places: &[Option<Clause>]) -> bool
-    ensures { result ≡ nat_lt 0 (length (standing places.now)) }
-{
-    is_some_taken(places)
-}
-
-/// Whether one of the places is not free.
-fn is_some_taken(places: &[Option<Clause>]) -> bool
-    ensures { result ≡ list_any is_some places.now }
-{
-    places.iter().any(|place| place.is_some())
-}
-
-/// The place of the clause with these literals, and the clause. It looks in one place after the
-/// other.
-fn search(places: &[Option<Clause>], buffer: &[Lit], lits: &[Lit]) -> Option<(usize, Clause)>
-    requires { All (λ c. IsWithin c.lits buffer.now) (standing places.now) }
-    ensures placed { IfSome result (λ p. IsPlaced buffer.now lits.now places.now p.0 p.1) }
-    ensures missing { IfNone result (is_stored lits.now
-        (map (stored_of buffer.now) (standing places.now)) ≡ false) }
-{
-    for at in 0..places.len() {
-        let Some(clause) = places[at] else {
-            continue;
-        };
-        if has_lits(&clause, buffer, lits) {
-            return Some((at, clause));
-        }
-    }
-    None
-}
-
-/// The clause of a place, where it has these literals, and the place.
-fn clause_at(
-    places: &[Option<Clause>],
-    at: usize,
-    buffer: &[Lit],
-    lits: &[Lit],
-) -> Option<(usize, Clause)>
-    requires { All (λ c. IsWithin c.lits buffer.now) (standing places.now) }
-    ensures { IfSome result (λ p. IsPlaced buffer.now lits.now places.now p.0 p.1) }
-{
-    if at >= places.len() {
-        return None;
-    }
-    let Some(clause) = places[at] else {
-        return None;
-    };
-    if has_lits(&clause, buffer, lits) {
-        Some((at, clause))
-    } else {
-        None
-    }
+    ghost counted: { free + length (standing places.items) ≡ length places.items },
+    ghost half: { 2 * free ≤ length places.items },
+    ghost few_notes: { btree_map_len noted ≤ length places.items },
 }
 
 /// A copy of the literals.
@@ -106,9 +48,26 @@ fn note(
     noted: &mut BTreeMap<Vec<Lit>, usize>,
     lits: &[Lit],
     at: usize,
-) -> Result<(), AllocError> {
+) -> Result<(), AllocError>
+    ensures { btree_map_len noted.new ≤ btree_map_len noted.old + 1 }
+{
     noted.insert(copy_of(alloc, lits)?, at)?;
     Ok(())
+}
+
+/// The same, where clauses are noted.
+fn note_next(
+    alloc: Global,
+    noted: &mut BTreeMap<Vec<Lit>, usize>,
+    lits: &[Lit],
+    at: usize,
+) -> Result<(), AllocError>
+    ensures { btree_map_len noted.new ≤ btree_map_len noted.old + 1 }
+{
+    if noted.is_empty() {
+        return Ok(());
+    }
+    note(alloc, noted, lits, at)
 }
 
 /// Notes where each clause stands.
@@ -119,6 +78,7 @@ fn note_all(
     buffer: &[Lit],
 ) -> Result<(), AllocError>
     requires { All (λ c. IsWithin c.lits buffer.now) (standing places.now) }
+    ensures { btree_map_len noted.new ≤ btree_map_len noted.old + length places.now }
 {
     for at in 0..places.len() {
         let Some(clause) = places[at] else {
@@ -130,6 +90,16 @@ fn note_all(
 }
 
 impl Crowd {
+    ghost use Rattle.std.specs.Prelude.{◌<◌, ◌++◌, ◌∷◌, [], IfErr, IfNone, IfOk, IfSome, None, OnErr, OnOk, false, is_some, map, slice_index_or, slice_set, true};
+    ghost use Rattle.std.specs.List.{list_all};
+    ghost use Rattle.checker_rules.specs.Store.{count_limit, count_of as count_in, is_stored, raise as raise_in_list};
+    ghost use Rattle.checker_rules.specs.WellFormed.{are_apart};
+    ghost use Rattle.clause_store.specs.Crowds.{IsPlaced};
+    ghost use Rattle.clause_store.specs.Found.{found_in};
+    ghost use Rattle.clause_store.specs.Lowered.{IsLoweredIn, IsMissing};
+    ghost use Rattle.clause_store.specs.Store.{is_whole};
+    ghost use Rattle.clause_store.specs.View.{stored_of};
+
     /// No clause.
     pub fn new(alloc: Global) -> Crowd
         ensures { result.places.items ≡ [] }
@@ -157,10 +127,9 @@ impl Crowd {
         ensures { OnOk result (standing self.new.places.items
             ≡ standing self.old.places.items ++ clause ∷ []) }
     {
-        if !self.noted.is_empty() {
-            note(self.alloc, &mut self.noted, lits, self.places.len())?;
-        }
+        let at = self.places.len();
         self.places.push(Some(clause))?;
+        note_next(self.alloc, &mut self.noted, lits, at)?;
         Ok(())
     }
 
@@ -272,26 +241,21 @@ impl Crowd {
         }
     }
 
-    /// The clause with these literals leaves its place.
+    /// The clause with these literals leaves its place. The others close up once more than half of
+    /// the places are free; what was noted is wrong then.
     fn leave(&mut self, at: usize, lits: &[Lit])
-        requires { at < length self.old.places.items }
+        requires within { at < length self.old.places.items }
+        requires taken { is_some (slice_index_or self.old.places.items at None) ≡ true }
         ensures { standing self.new.places.items
             ≡ standing (slice_set self.old.places.items at None) }
     {
         self.noted.remove(lits);
         self.places[at] = None;
-        self.free = self.free.saturating_add(1);
+        self.free += 1;
         if self.free > self.places.len() / 2 {
-            self.close_up();
+            self.places.retain(|place| place.is_some());
+            self.free = 0;
+            self.noted.clear();
         }
-    }
-
-    /// No place is free any more. What was noted is wrong then.
-    fn close_up(&mut self)
-        ensures { standing self.new.places.items ≡ standing self.old.places.items }
-    {
-        self.places.retain(|place| place.is_some());
-        self.free = 0;
-        self.noted.clear();
     }
 }

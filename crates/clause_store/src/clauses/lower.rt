@@ -1,5 +1,6 @@
 //! Taking copies of clauses away.
-ghost use Rattle.std.specs.Prelude.{◌≡◌, ◌<◌, ◌∷◌, [], ℕ, All, IfErr, IfOk, OnErr, if◌then◌else◌, map, true};
+ghost use Rattle.std.specs.Prelude.{◌≡◌, ◌<◌, ◌∷◌, [], ℕ, All, IfErr, IfOk, None, OnErr, OnOk, if◌then◌else◌, map, nat_eq, true};
+ghost use Rattle.std.specs.HashMap.{get};
 ghost use Rattle.std.specs.List.{list_all};
 ghost use Rattle.std.specs.Option.{SomeIff};
 ghost use Rattle.checker_rules.specs.WellFormed.{are_apart};
@@ -112,6 +113,7 @@ fn lower_in(
         ≡ true }
     ensures lowered { IfOk result (λ p. IsLoweredIn buffer.now redundant lits.now
         (clauses_of bucket.old) (if p.1 then [] else clauses_of bucket.new) p.0) }
+    ensures empty { IfOk result (λ p. clauses_of bucket.new ≡ [] → p.1 ≡ true) }
     ensures missing { IfErr result (IsMissing redundant lits.now
         (map (stored_of buffer.now) (clauses_of bucket.old))) }
     ensures unchanged { OnErr result (clauses_of bucket.new ≡ clauses_of bucket.old) }
@@ -142,6 +144,8 @@ pub fn lower_clause(
     requires whole { list_all is_whole (stored_in buffer.now buckets.old hash) ≡ true }
     ensures lowered { IfOk result (IsLowered buffer.now hash redundant lits.now buckets.old
         buckets.new) }
+    ensures empty { OnOk result (clauses_at buckets.new hash ≡ []
+        → get nat_eq buckets.new hash ≡ None) }
     ensures missing { IfErr result (IsMissing redundant lits.now
         (stored_in buffer.now buckets.old hash)) }
     ensures unchanged { OnErr result ((k : ℕ)

@@ -14,7 +14,7 @@ ghost use Rattle.clause_store.specs.Units.{AreKnown, IsGiven, unit_at};
 
 use crate::clauses::Clause;
 use crate::clauses::buckets::{Bucket, Buckets};
-use crate::clauses::crowd::some_stands;
+use crate::clauses::places::some_stands;
 use crate::clauses::units::Units;
 use crate::rup::Answer;
 use crate::rup::idle::{IdleBuckets, LONG_BUCKET};

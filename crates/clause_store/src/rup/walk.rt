@@ -13,7 +13,7 @@ ghost use Rattle.clause_store.specs.View.{stored_in, stored_of};
 
 use crate::clauses::Clause;
 use crate::clauses::buckets::{Bucket, Buckets};
-use crate::clauses::crowd::some_stands;
+use crate::clauses::places::some_stands;
 use crate::clauses::units::{UnitClause, UnitId, Units};
 use crate::rup::Answer;
 use crate::rup::idle::LONG_BUCKET;

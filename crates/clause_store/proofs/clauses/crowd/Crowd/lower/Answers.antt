@@ -1,8 +1,10 @@
-use Rattle.std.proofs.Common.{◌≡◌, ◌∙◌, true, false, arith}
+use Rattle.std.proofs.Common.{◌≡◌, ◌∙◌, Some, length, set, subst, sym, true, false, arith}
+use Rattle.std.proofs.lemmas.List.{length-set}
 use Rattle.clause_store.specs.Buckets.{copies_of}
+use Rattle.clause_store.specs.Crowds.{IsPlaced, standing}
 use Rattle.clause_store.specs.Lits.{IsWithin}
 use Rattle.clause_store.specs.Lowered.{is_gone, left_of}
-use Rattle.clause_store.proofs.CrowdLemmas.{All-stands}
+use Rattle.clause_store.proofs.CrowdLemmas.{All-stands, set-counts}
 use Rattle.clause_store.proofs.PlacedLemmas.{lowered-goes, lowered-stays, lowered-within, placed-count, placed-stored}
 use Rattle.clause_store.proofs.clauses.crowd.Crowd.lower.Goals as goal
 
@@ -31,3 +33,12 @@ returns-else-is_gone-clause-lowered c =
     let inside : IsWithin less.lits b = rw c.in-Some-lower.ensures.1 (lowered-within b c.args.redundant d (All-stands (λ e. IsWithin e.lits b) ps i d c.requires.within p.within p.here)) in
     rw (c.find.ensures.same, c.left_of-left.ensures)
     (lowered-stays b ls ps i d p c.requires.apart c.args.redundant less c.in-Some-lower.ensures.1 c.in-Some-lower.ensures.0 c.requires.within c.requires.whole kept inside)
+
+pub invariant_of-self : goal.invariant_of-self
+invariant_of-self c =
+    let x = c.find.new.self in let ps = x.places.items in let i = c.in-Some.at in
+    let p = subst (λ v. IsPlaced c.args.buffer.now c.args.lits.now v.items i c.in-Some.clause) (sym c.find.ensures.same) c.in-Some.ensures.placed in
+    let e = c.in-Some-lower.less in
+    let same : length (set ps i (Some e)) ≡ length ps = length-set ps i (Some e) in
+    let clauses : length (standing (set ps i (Some e))) ≡ length (standing ps) = set-counts c.in-Some.clause e ps i p.within p.here in
+    record { counted = omega (arith, same, clauses, x.counted); half = omega (arith, same, x.half); few_notes = omega (arith, same, x.few_notes) }

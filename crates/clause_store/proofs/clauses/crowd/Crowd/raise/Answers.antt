@@ -1,10 +1,11 @@
-use Rattle.std.proofs.Common.{◌<◌, ◌≤◌, map, sym, ap, ◌∙◌, subst, arith}
+use Rattle.std.proofs.Common.{◌≡◌, ◌<◌, ◌≤◌, Some, length, set, map, sym, ap, ◌∙◌, subst, arith}
+use Rattle.std.proofs.lemmas.List.{length-set}
 use Rattle.checker_rules.specs.Store.{count_limit}
-use Rattle.clause_store.specs.Crowds.{standing}
+use Rattle.clause_store.specs.Crowds.{IsPlaced, standing}
 use Rattle.clause_store.specs.Lits.{IsWithin}
 use Rattle.clause_store.specs.View.{stored_of}
 use Rattle.clause_store.proofs.BucketLemmas.{count_limit-some}
-use Rattle.clause_store.proofs.CrowdLemmas.{All-stands}
+use Rattle.clause_store.proofs.CrowdLemmas.{All-stands, set-counts}
 use Rattle.clause_store.proofs.FoundLemmas.{count_of-absent, found_in-absent, raise-absent}
 use Rattle.clause_store.proofs.PlacedLemmas.{placed-count, placed-found, placed-raised, placed-within, raised-within}
 use Rattle.clause_store.proofs.clauses.crowd.Crowd.raise.Goals as goal
@@ -47,3 +48,12 @@ returns-in-Some-raise-clause-room c =
 pub returns-in-None-clause-exhausted : goal.returns-in-None-clause-exhausted
 returns-in-None-clause-exhausted c =
     subst (λ n. count_limit ≤ n) (sym (placed-count c.args.buffer.now c.args.lits.now c.args.self.now.places.items c.in-Some.at c.in-Some.clause c.in-Some.ensures.placed c.requires.apart c.args.redundant)) (omega (arith, c.in-None.ensures))
+
+pub invariant_of-self : goal.invariant_of-self
+invariant_of-self c =
+    let x = c.find.new.self in let ps = x.places.items in let i = c.in-Some.at in
+    let p = subst (λ v. IsPlaced c.args.buffer.now c.args.lits.now v.items i c.in-Some.clause) (sym c.find.ensures.same) c.in-Some.ensures.placed in
+    let e = c.in-Some-raise.more in
+    let same : length (set ps i (Some e)) ≡ length ps = length-set ps i (Some e) in
+    let clauses : length (standing (set ps i (Some e))) ≡ length (standing ps) = set-counts c.in-Some.clause e ps i p.within p.here in
+    record { counted = omega (arith, same, clauses, x.counted); half = omega (arith, same, x.half); few_notes = omega (arith, same, x.few_notes) }

@@ -1,7 +1,7 @@
 use Rattle.std.proofs.Common.{Some, arith}
 use Rattle.clause_store.specs.Lits.{IsWithin}
 use Rattle.clause_store.proofs.CrowdLemmas.{All-stands, place-is}
-use Rattle.clause_store.proofs.clauses.crowd.clause_at.Goals as goal
+use Rattle.clause_store.proofs.clauses.places.clause_at.Goals as goal
 
 pub has_lits-requires : goal.has_lits-requires
 has_lits-requires c =
