@@ -12,6 +12,9 @@ use Rattle.sat_formula.specs.declared.word.Header.{Header}
 use Rattle.sat_formula.specs.declared.word.Header.TheVariants as headers
 use Rattle.sat_formula.specs.Bytes.{is_lf, is_blank, is_digit}
 use Rattle.sat_formula.specs.Outcome.{Ending, Outcome, Faulty, finish, next_line, with_clause}
+use Rattle.sat_formula.specs.declared.past.Past.{Past}
+use Rattle.sat_formula.specs.Counts.{no_counts, counts_after}
+use Rattle.sat_formula.specs.Past.{nothing_past, past_after, with_header}
 use Rattle.sat_formula.specs.Words.{begun_by, number_after, token_of, header_after, is_whole}
 use Rattle.sat_formula.specs.Text.{State, At, Place, Start, Between, Comment, InHeader, InNumber, After, Goes, Gives, Stops, step, header_ends, number_ends, number_last, at_end, outcome_at, start}
 use Rattle.sat_formula.specs.Lines.{has_bytes, words_of, value_from, value_of, judged, token_of_word, all_pass, is_digits, is_header, LineKind, EmptyLine, CommentLine}
@@ -190,7 +193,7 @@ abbrev rest_of_line : Place → ℕ → Bool → List ℕ → List ℕ → (Bool
 rest_of_line Start line seen begun bytes next = line_by line seen begun bytes next
 rest_of_line Between line seen begun bytes next = tokens_from line begun (words_of bytes) (next true)
 rest_of_line Comment line seen begun bytes next = next seen begun
-rest_of_line (InHeader h) line seen begun bytes next = header_then line seen (is_whole (fold header_after h bytes)) (next true begun)
+rest_of_line (InHeader h counts) line seen begun bytes next = header_then line seen (is_whole (fold header_after h bytes)) (next true begun)
 rest_of_line (InNumber n) line seen begun bytes next =
     token_then line begun (token_of (fold number_after n (front is_blank bytes))) (λ still. tokens_from line still (filter has_bytes (others is_blank bytes)) (next true))
 
@@ -202,33 +205,33 @@ abbrev IsFit : Place → Bool → Type 0
 IsFit Start seen = Unit {0}
 IsFit Between seen = seen ≡ true
 IsFit Comment seen = Unit {0}
-IsFit (InHeader h) seen = Unit {0}
+IsFit (InHeader h counts) seen = Unit {0}
 IsFit (InNumber n) seen = Unit {0}
 
 -- what one byte of a text leads to
 abbrev then_at : List ℕ → After → Outcome
 then_at bytes (Goes t) = outcome_at t bytes
 then_at bytes (Gives clause t) = with_clause clause (outcome_at t bytes)
-then_at bytes (Stops e) = ([], e)
+then_at bytes (Stops past e) = ([], e)
 
 outcome_at-cons : (s : State) (b : ℕ) (bytes : List ℕ) (a : After) → step s b ≡ a → outcome_at s (b ∷ bytes) ≡ then_at bytes a
 unfolding outcome_at
 outcome_at-cons s b bytes a e = ap (then_at bytes) e
 
 -- a number that ends, with what follows it
-number_ends-then : (t : Token) (line : ℕ) (begun : List ℕ) (after : ℕ) (place : Place) (bytes : List ℕ) (next : List ℕ → Outcome) →
-    ((still : List ℕ) → outcome_at (At after true still place) bytes ≡ next still)
-    → then_at bytes (number_ends line begun t after place) ≡ token_then line begun t next
-number_ends-then tokens.Zero line begun after place bytes next h = ap (with_clause begun) (h [])
-number_ends-then (tokens.Literal code) line begun after place bytes next h = h (begun ++ code ∷ [])
-number_ends-then (tokens.Wrong kind) line begun after place bytes next h = refl
+number_ends-then : (t : Token) (line : ℕ) (past : Past) (begun : List ℕ) (after : ℕ) (place : Place) (bytes : List ℕ) (next : List ℕ → Outcome) →
+    ((now : Past) → now.seen ≡ true → (still : List ℕ) → outcome_at (At after now still place) bytes ≡ next still)
+    → then_at bytes (number_ends line past begun t after place) ≡ token_then line begun t next
+number_ends-then tokens.Zero line past begun after place bytes next h = ap (with_clause begun) (h (past_after past tokens.Zero line) refl [])
+number_ends-then (tokens.Literal code) line past begun after place bytes next h = h (past_after past (tokens.Literal code) line) refl (begun ++ code ∷ [])
+number_ends-then (tokens.Wrong kind) line past begun after place bytes next h = refl
 
 -- a header that ends
-header_ends-then : (line : ℕ) (seen whole : Bool) (begun : List ℕ) (bytes : List ℕ) (next : Outcome) → outcome_at (At (next_line line) true begun Start) bytes ≡ next
-    → then_at bytes (cond seen (Stops (Faulty line LateHeader)) (cond whole (Goes (At (next_line line) true begun Start)) (Stops (Faulty line BadHeader)))) ≡ header_then line seen whole next
-header_ends-then line true whole begun bytes next h = refl
-header_ends-then line false true begun bytes next h = h
-header_ends-then line false false begun bytes next h = refl
+header_ends-then : (line : ℕ) (past now : Past) (seen whole : Bool) (begun : List ℕ) (bytes : List ℕ) (next : Outcome) → outcome_at (At (next_line line) now begun Start) bytes ≡ next
+    → then_at bytes (cond seen (Stops past (Faulty line LateHeader)) (cond whole (Goes (At (next_line line) now begun Start)) (Stops past (Faulty line BadHeader)))) ≡ header_then line seen whole next
+header_ends-then line past now true whole begun bytes next h = refl
+header_ends-then line past now false true begun bytes next h = h
+header_ends-then line past now false false begun bytes next h = refl
 
 -- ---- the end of the input
 
@@ -248,13 +251,13 @@ header_last-then line true whole begun = refl
 header_last-then line false true begun = refl
 header_last-then line false false begun = refl
 
-at_end-rest : (p : Place) (line : ℕ) (seen : Bool) (begun : List ℕ) → at_end (At line seen begun p) ≡ rest_of_line p line seen begun [] (λ now still. ([], finish line still))
+at_end-rest : (p : Place) (line : ℕ) (past : Past) (begun : List ℕ) → at_end (At line past begun p) ≡ rest_of_line p line past.seen begun [] (λ now still. ([], finish line still))
 unfolding tokens_from
-at_end-rest Start line seen begun = refl
-at_end-rest Between line seen begun = refl
-at_end-rest Comment line seen begun = refl
-at_end-rest (InHeader h) line seen begun = header_last-then line seen (is_whole h) begun
-at_end-rest (InNumber n) line seen begun = number_last-then line begun (token_of n)
+at_end-rest Start line past begun = refl
+at_end-rest Between line past begun = refl
+at_end-rest Comment line past begun = refl
+at_end-rest (InHeader h counts) line past begun = header_last-then line past.seen (is_whole h) begun
+at_end-rest (InNumber n) line past begun = number_last-then line begun (token_of n)
 
 -- ---- a blank, and the first byte of a word
 
@@ -290,28 +293,29 @@ word-then line begun b bytes next e = rw (number-fold b (front is_blank bytes), 
 
 -- from each place in a line the machine gives what the rest of the line and the lines after it say
 abbrev Agrees : List ℕ → Type 0
-Agrees bytes = (p : Place) (line : ℕ) (seen : Bool) (begun : List ℕ) → IsFit p seen
-    → outcome_at (At line seen begun p) bytes ≡ rest_of_line p line seen begun (front is_lf bytes) (λ now still. lines_from line now still (others is_lf bytes))
+Agrees bytes = (p : Place) (line : ℕ) (past : Past) (begun : List ℕ) → IsFit p past.seen
+    → outcome_at (At line past begun p) bytes ≡ rest_of_line p line past.seen begun (front is_lf bytes) (λ now still. lines_from line now still (others is_lf bytes))
 
 module _ (bytes : List ℕ) (later : Agrees bytes) (line : ℕ) where
-  next_lines : (seen : Bool) (begun : List ℕ) → outcome_at (At (next_line line) seen begun Start) bytes ≡ lines_from line seen begun (slice_split is_lf bytes)
+  next_lines : (past : Past) (begun : List ℕ) → outcome_at (At (next_line line) past begun Start) bytes ≡ lines_from line past.seen begun (slice_split is_lf bytes)
   unfolding lines_from
-  next_lines seen begun = later Start (next_line line) seen begun tt ∙ rw (slice_split-front is_lf bytes) refl
+  next_lines past begun = later Start (next_line line) past begun tt ∙ rw (slice_split-front is_lf bytes) refl
 
-  at_lf : (p : Place) (seen : Bool) (begun : List ℕ) → IsFit p seen →
-      outcome_at (At line seen begun p) (10 ∷ bytes) ≡
-      rest_of_line p line seen begun [] (λ now still. lines_from line now still (slice_split is_lf bytes))
+  at_lf : (p : Place) (past : Past) (begun : List ℕ) → IsFit p past.seen →
+      outcome_at (At line past begun p) (10 ∷ bytes) ≡
+      rest_of_line p line past.seen begun [] (λ now still. lines_from line now still (slice_split is_lf bytes))
   unfolding tokens_from
-  at_lf Start seen begun fit = outcome_at-cons (At line seen begun Start) 10 bytes (Goes (At (next_line line) seen begun Start)) refl ∙ next_lines seen begun
-  at_lf Between seen begun fit =
-      outcome_at-cons (At line seen begun Between) 10 bytes (Goes (At (next_line line) seen begun Start)) refl ∙ next_lines seen begun ∙ ap
+  at_lf Start past begun fit = outcome_at-cons (At line past begun Start) 10 bytes (Goes (At (next_line line) past begun Start)) refl ∙ next_lines past begun
+  at_lf Between past begun fit =
+      outcome_at-cons (At line past begun Between) 10 bytes (Goes (At (next_line line) past begun Start)) refl ∙ next_lines past begun ∙ ap
       (λ now. lines_from line now begun (slice_split is_lf bytes)) fit
-  at_lf Comment seen begun fit = outcome_at-cons (At line seen begun Comment) 10 bytes (Goes (At (next_line line) seen begun Start)) refl ∙ next_lines seen begun
-  at_lf (InHeader h) seen begun fit =
-      outcome_at-cons (At line seen begun (InHeader h)) 10 bytes (header_ends line seen begun h) refl ∙ header_ends-then line seen (is_whole h) begun bytes _ (next_lines true begun)
-  at_lf (InNumber n) seen begun fit =
-      outcome_at-cons (At line seen begun (InNumber n)) 10 bytes (number_ends line begun (token_of n) (next_line line) Start) refl
-      ∙ number_ends-then (token_of n) line begun (next_line line) Start bytes _ (λ still. next_lines true still)
+  at_lf Comment past begun fit = outcome_at-cons (At line past begun Comment) 10 bytes (Goes (At (next_line line) past begun Start)) refl ∙ next_lines past begun
+  at_lf (InHeader h counts) past begun fit =
+      outcome_at-cons (At line past begun (InHeader h counts)) 10 bytes (header_ends line past begun h counts) refl
+      ∙ header_ends-then line past (with_header past counts) past.seen (is_whole h) begun bytes _ (next_lines (with_header past counts) begun)
+  at_lf (InNumber n) past begun fit =
+      outcome_at-cons (At line past begun (InNumber n)) 10 bytes (number_ends line past begun (token_of n) (next_line line) Start) refl
+      ∙ number_ends-then (token_of n) line past begun (next_line line) Start bytes _ (λ now is still. next_lines now still ∙ ap (λ k. lines_from line k still (slice_split is_lf bytes)) is)
 
   abbrev next : Bool → List ℕ → Outcome
   next now still = lines_from line now still (others is_lf bytes)
@@ -320,58 +324,58 @@ module _ (bytes : List ℕ) (later : Agrees bytes) (line : ℕ) where
   l = front is_lf bytes
 
   module _ (b : ℕ) (n : b ≡ 10 → ⊥) where
-    at_first : (seen : Bool) (begun : List ℕ) → is_blank b ≡ false → outcome_at (At line seen begun Start) (b ∷ bytes) ≡ line_by line seen begun (b ∷ l) next
-    at_first seen begun e =
-        let Goal : ℕ → Type 0 = λ k. outcome_at (At line seen begun Start) (k ∷ bytes) ≡ line_by line seen begun (k ∷ l) next in
+    at_first : (past : Past) (begun : List ℕ) → is_blank b ≡ false → outcome_at (At line past begun Start) (b ∷ bytes) ≡ line_by line past.seen begun (b ∷ l) next
+    at_first past begun e =
+        let Goal : ℕ → Type 0 = λ k. outcome_at (At line past begun Start) (k ∷ bytes) ≡ line_by line past.seen begun (k ∷ l) next in
         elim (cases_eq b 99) [
-          | inl q ↦ subst Goal (sym q) (outcome_at-cons (At line seen begun Start) 99 bytes (Goes (At line seen begun Comment)) refl ∙ later Comment line seen begun tt)
+          | inl q ↦ subst Goal (sym q) (outcome_at-cons (At line past begun Start) 99 bytes (Goes (At line past begun Comment)) refl ∙ later Comment line past begun tt)
           | inr c ↦ elim (cases_eq b 37) [
-            | inl q ↦ subst Goal (sym q) (outcome_at-cons (At line seen begun Start) 37 bytes (Stops (finish line begun)) refl)
+            | inl q ↦ subst Goal (sym q) (outcome_at-cons (At line past begun Start) 37 bytes (Stops past (finish line begun)) refl)
             | inr mark ↦ elim (cases_eq b 112) [
-              | inl q ↦ subst Goal (sym q) (outcome_at-cons (At line seen begun Start) 112 bytes (Goes (At line seen begun (InHeader headers.P))) refl ∙ later (InHeader headers.P) line seen begun tt
-                  ∙ ap (λ right. header_then line seen right (next true begun)) (header_of_line l))
-              | inr p ↦ outcome_at-cons (At line seen begun Start) b bytes (Goes (At line seen begun (InNumber (begun_by b)))) (word_number b line seen begun false n e (λ f. (c, mark, p)))
-                  ∙ later (InNumber (begun_by b)) line seen begun tt ∙ word-then line begun b l (next true) e
-                  ∙ ap (λ k. line_then k line seen begun (b ∷ l) next) (sym (kind_of_tokens b l e c mark p))
+              | inl q ↦ subst Goal (sym q) (outcome_at-cons (At line past begun Start) 112 bytes (Goes (At line past begun (InHeader headers.P no_counts))) refl ∙ later (InHeader headers.P no_counts) line past begun tt
+                  ∙ ap (λ right. header_then line past.seen right (next true begun)) (header_of_line l))
+              | inr p ↦ outcome_at-cons (At line past begun Start) b bytes (Goes (At line past begun (InNumber (begun_by b)))) (word_number b line past begun false n e (λ f. (c, mark, p)))
+                  ∙ later (InNumber (begun_by b)) line past begun tt ∙ word-then line begun b l (next true) e
+                  ∙ ap (λ k. line_then k line past.seen begun (b ∷ l) next) (sym (kind_of_tokens b l e c mark p))
             ]
           ]
         ]
 
-    at_byte : (p : Place) (seen : Bool) (begun : List ℕ) → IsFit p seen → outcome_at (At line seen begun p) (b ∷ bytes) ≡ rest_of_line p line seen begun (b ∷ l) next
-    at_byte Start seen begun fit = elim (true_or_false (is_blank b)) [
-      | inl e ↦ outcome_at-cons (At line seen begun Start) b bytes (Goes (At line seen begun Start))
-          (word_blank b line seen begun false n e) ∙ later Start line seen begun tt ∙ line_by-blank line seen begun b l next e
-      | inr e ↦ at_first seen begun e
+    at_byte : (p : Place) (past : Past) (begun : List ℕ) → IsFit p past.seen → outcome_at (At line past begun p) (b ∷ bytes) ≡ rest_of_line p line past.seen begun (b ∷ l) next
+    at_byte Start past begun fit = elim (true_or_false (is_blank b)) [
+      | inl e ↦ outcome_at-cons (At line past begun Start) b bytes (Goes (At line past begun Start))
+          (word_blank b line past begun false n e) ∙ later Start line past begun tt ∙ line_by-blank line past.seen begun b l next e
+      | inr e ↦ at_first past begun e
     ]
-    at_byte Between seen begun fit = elim (true_or_false (is_blank b)) [
-      | inl e ↦ outcome_at-cons (At line seen begun Between) b bytes (Goes (At line seen begun Between)) (word_blank b line seen begun true n e) ∙ later Between line seen begun fit
+    at_byte Between past begun fit = elim (true_or_false (is_blank b)) [
+      | inl e ↦ outcome_at-cons (At line past begun Between) b bytes (Goes (At line past begun Between)) (word_blank b line past begun true n e) ∙ later Between line past begun fit
           ∙ ap (λ (ws : List (List ℕ)). tokens_from line begun ws (next true)) (sym (words_of-blank b l e))
-      | inr e ↦ outcome_at-cons (At line seen begun Between) b bytes (Goes (At line seen begun (InNumber (begun_by b))))
-          (word_number b line seen begun true n e (λ f. absurd cc)) ∙ later (InNumber (begun_by b)) line seen begun tt
+      | inr e ↦ outcome_at-cons (At line past begun Between) b bytes (Goes (At line past begun (InNumber (begun_by b))))
+          (word_number b line past begun true n e (λ f. absurd cc)) ∙ later (InNumber (begun_by b)) line past begun tt
           ∙ word-then line begun b l (next true) e
     ]
-    at_byte Comment seen begun fit = outcome_at-cons (At line seen begun Comment) b bytes (Goes (At line seen begun Comment)) (rw (ne_eqb b 10 n) refl) ∙ later Comment line seen begun tt
-    at_byte (InHeader h) seen begun fit =
-        outcome_at-cons (At line seen begun (InHeader h)) b bytes (Goes (At line seen begun (InHeader (header_after h b))))
-        (rw (ne_eqb b 10 n) refl) ∙ later (InHeader (header_after h b)) line seen begun tt
-    at_byte (InNumber m) seen begun fit = elim (true_or_false (is_blank b)) [
-      | inl e ↦ outcome_at-cons (At line seen begun (InNumber m)) b bytes (number_ends line begun (token_of m) line Between) (number_blank b line seen begun m n e)
-          ∙ number_ends-then (token_of m) line begun line Between bytes _ (λ still. later Between line true still refl) ∙ rw e refl
-      | inr e ↦ outcome_at-cons (At line seen begun (InNumber m)) b bytes (Goes (At line seen begun (InNumber (number_after m b))))
-          (number_goes b line seen begun m n e) ∙ later (InNumber (number_after m b)) line seen begun tt ∙ rw e refl
+    at_byte Comment past begun fit = outcome_at-cons (At line past begun Comment) b bytes (Goes (At line past begun Comment)) (rw (ne_eqb b 10 n) refl) ∙ later Comment line past begun tt
+    at_byte (InHeader h counts) past begun fit =
+        outcome_at-cons (At line past begun (InHeader h counts)) b bytes (Goes (At line past begun (InHeader (header_after h b) (counts_after (header_after h b) counts b))))
+        (rw (ne_eqb b 10 n) refl) ∙ later (InHeader (header_after h b) (counts_after (header_after h b) counts b)) line past begun tt
+    at_byte (InNumber m) past begun fit = elim (true_or_false (is_blank b)) [
+      | inl e ↦ outcome_at-cons (At line past begun (InNumber m)) b bytes (number_ends line past begun (token_of m) line Between) (number_blank b line past begun m n e)
+          ∙ number_ends-then (token_of m) line past begun line Between bytes _ (λ now is still. later Between line now still is) ∙ rw e refl
+      | inr e ↦ outcome_at-cons (At line past begun (InNumber m)) b bytes (Goes (At line past begun (InNumber (number_after m b))))
+          (number_goes b line past begun m n e) ∙ later (InNumber (number_after m b)) line past begun tt ∙ rw e refl
     ]
 
 agrees : (bytes : List ℕ) → Agrees bytes
 unfolding outcome_at lines_from
-agrees [] p line seen begun fit = at_end-rest p line seen begun
-agrees (b ∷ bytes) p line seen begun fit =
+agrees [] p line past begun fit = at_end-rest p line past begun
+agrees (b ∷ bytes) p line past begun fit =
     elim (cases_eq b 10) [
-      | inl q ↦ subst (λ (k : ℕ). outcome_at (At line seen begun p) (k ∷ bytes) ≡
-          rest_of_line p line seen begun (front is_lf (k ∷ bytes)) (λ now still. lines_from line now still (others is_lf (k ∷ bytes)))) (sym q)
-          (at_lf bytes (agrees bytes) line p seen begun fit)
-      | inr n ↦ rw (ne_eqb b 10 n) (at_byte bytes (agrees bytes) line b n p seen begun fit)
+      | inl q ↦ subst (λ (k : ℕ). outcome_at (At line past begun p) (k ∷ bytes) ≡
+          rest_of_line p line past.seen begun (front is_lf (k ∷ bytes)) (λ now still. lines_from line now still (others is_lf (k ∷ bytes)))) (sym q)
+          (at_lf bytes (agrees bytes) line p past begun fit)
+      | inr n ↦ rw (ne_eqb b 10 n) (at_byte bytes (agrees bytes) line b n p past begun fit)
     ]
 
 pub bytes_are_lines : (text : List ℕ) → outcome_at start text ≡ outcome_of text
 unfolding lines_from
-bytes_are_lines text = agrees text Start 1 false [] tt ∙ rw (slice_split-front is_lf text) refl
+bytes_are_lines text = agrees text Start 1 nothing_past [] tt ∙ rw (slice_split-front is_lf text) refl

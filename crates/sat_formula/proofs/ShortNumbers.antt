@@ -8,6 +8,7 @@ use Rattle.std.specs.Prelude.{◌==◌, ◌||◌, slice_index, min, IsTrue, if�
 use Rattle.std.specs.Io.KnownBytes.{Consumes}
 use Rattle.sat_formula.specs.declared.word.Number.{Number}
 use Rattle.sat_formula.specs.declared.word.Number.TheVariants.{Sign, Digits, Bad}
+use Rattle.sat_formula.specs.declared.past.Past.{Past}
 use Rattle.sat_formula.specs.Bytes.{is_blank, is_digit}
 use Rattle.sat_formula.specs.Words.{begun_by, number_after}
 use Rattle.sat_formula.specs.Text.{State, At, InNumber, Goes, next_at}
@@ -56,12 +57,12 @@ digit_then negative v x e small =
     let same : min v (2 ^ 28 + 1) ≡ v = omega (arith, small) in
     ap (λ t. cond t (Digits negative (min v (2 ^ 28 + 1) * 10 + (x - 48))) Bad) e ∙ ap (λ m. Digits negative (m * 10 + (x - 48))) same
 
-module _ (line : ℕ) (seen : Bool) (begun : List ℕ) where
+module _ (line : ℕ) (past : Past) (begun : List ℕ) where
   abbrev within : Number → State
-  within n = At line seen begun (InNumber n)
+  within n = At line past begun (InNumber n)
 
   digit_read : (x : ℕ) (n m : Number) (more : List ℕ) → is_digit x ≡ true → number_after n x ≡ m → next_at (within n) (x ∷ more) ≡ next_at (within m) more
-  digit_read x n m more e p = step_goes (within n) (within m) x more (number_runs x line seen begun n (no_end x e) ∙ ap (λ k. Goes (within k)) p)
+  digit_read x n m more e p = step_goes (within n) (within m) x more (number_runs x line past begun n (no_end x e) ∙ ap (λ k. Goes (within k)) p)
 
   -- before its first digit a number is like one of the value 0
   first_read : (x : ℕ) (negative : Bool) (more : List ℕ) → is_digit x ≡ true → next_at (within (Digits negative (x - 48))) more ≡ next_at (within (Digits negative 0)) (x ∷ more)
@@ -69,16 +70,16 @@ module _ (line : ℕ) (seen : Bool) (begun : List ℕ) where
       let none : x - 48 ≡ 0 * 10 + (x - 48) = omega arith in
       ap (λ v. next_at (within (Digits negative v)) more) none ∙ sym (digit_read x (Digits negative 0) (Digits negative (0 * 10 + (x - 48))) more e (digit_then negative 0 x e (omega arith)))
 
-  plain_begins : (x : ℕ) (in_line : Bool) (more : List ℕ) → is_digit x ≡ true → next_at (At line seen begun (place_of in_line)) (x ∷ more) ≡ next_at (within (Digits false 0)) (x ∷ more)
+  plain_begins : (x : ℕ) (in_line : Bool) (more : List ℕ) → is_digit x ≡ true → next_at (At line past begun (place_of in_line)) (x ∷ more) ≡ next_at (within (Digits false 0)) (x ∷ more)
   plain_begins x in_line more e =
-      step_goes (At line seen begun (place_of in_line)) (within (begun_by x)) x more
-      (word_number x line seen begun in_line (not_at x 10 e refl) (no_blank x e) (λ f. (not_at x 99 e refl, not_at x 37 e refl, not_at x 112 e refl)))
+      step_goes (At line past begun (place_of in_line)) (within (begun_by x)) x more
+      (word_number x line past begun in_line (not_at x 10 e refl) (no_blank x e) (λ f. (not_at x 99 e refl, not_at x 37 e refl, not_at x 112 e refl)))
       ∙ ap (λ n. next_at (within n) more) (begun_by-digit x e) ∙ first_read x false more e
 
-  negative_begins : (x : ℕ) (in_line : Bool) (more : List ℕ) → is_digit x ≡ true → next_at (At line seen begun (place_of in_line)) (45 ∷ x ∷ more) ≡ next_at (within (Digits true 0)) (x ∷ more)
+  negative_begins : (x : ℕ) (in_line : Bool) (more : List ℕ) → is_digit x ≡ true → next_at (At line past begun (place_of in_line)) (45 ∷ x ∷ more) ≡ next_at (within (Digits true 0)) (x ∷ more)
   negative_begins x in_line more e =
-      step_goes (At line seen begun (place_of in_line)) (within Sign) 45 (x ∷ more)
-      (word_number 45 line seen begun in_line (λ z. absurd cc) refl (λ f. (λ z. absurd cc, λ z. absurd cc, λ z. absurd cc)))
+      step_goes (At line past begun (place_of in_line)) (within Sign) 45 (x ∷ more)
+      (word_number 45 line past begun in_line (λ z. absurd cc) refl (λ f. (λ z. absurd cc, λ z. absurd cc, λ z. absurd cc)))
       ∙ digit_read x Sign (Digits true (x - 48)) more e (sign_then x e) ∙ first_read x true more e
 
 -- ---- digits in front
@@ -93,17 +94,17 @@ pub digit_fits_after : (n v x : ℕ) → n < 9 → v < 10 ^ n → is_digit x ≡
 digit_fits_after n v x few small e = omega (arith, small, digit_small x e, power n few)
 
 pub digits_none : (bytes : List ℕ) → HasDigits bytes 0 0
-digits_none bytes = record { small = omega arith; digits = λ k lt. absurd (omega (arith, lt)); reads = λ line seen begun negative more. refl }
+digits_none bytes = record { small = omega arith; digits = λ k lt. absurd (omega (arith, lt)); reads = λ line past begun negative more. refl }
 
 pub digits_more : (bytes : List ℕ) (n v : ℕ) → HasDigits bytes n v → n < length bytes → n < 9 → is_digit (slice_index bytes n) ≡ true →
     HasDigits bytes (n + 1) (v * 10 + (slice_index bytes n - 48))
 digits_more bytes n v h lt few e = record {
   small = let small = h.small in omega (arith, small, digit_small (slice_index bytes n) e, pow-suc 10 n, ap (λ m. 10 ^ m) (suc-is n));
   digits = λ k below. at_or_before k (k == n) refl below;
-  reads = λ line seen begun negative more.
+  reads = λ line past begun negative more.
       let small = h.small in
-      ap (next_at (At line seen begun (InNumber (Digits negative 0)))) (one_more more) ∙ h.reads line seen begun negative (slice_index bytes n ∷ more) ∙
-      digit_read line seen begun (slice_index bytes n) (Digits negative v) (Digits negative (v * 10 + (slice_index bytes n - 48))) more e
+      ap (next_at (At line past begun (InNumber (Digits negative 0)))) (one_more more) ∙ h.reads line past begun negative (slice_index bytes n ∷ more) ∙
+      digit_read line past begun (slice_index bytes n) (Digits negative v) (Digits negative (v * 10 + (slice_index bytes n - 48))) more e
       (digit_then negative v (slice_index bytes n) e (omega (arith, small, power n few)));
 }
   where
@@ -122,7 +123,7 @@ plain_short bytes zero v end h lt some at ends = absurd (some refl)
 plain_short [] (suc n) v end h lt some at ends = absurd (omega (arith, lt))
 plain_short (x ∷ bytes) (suc n) v end h lt some at ends = record {
   within = lt;
-  reads = λ line seen begun in_line more. plain_begins line seen begun x in_line (take n bytes ++ more) (h.digits 0 (omega arith)) ∙ h.reads line seen begun false more;
+  reads = λ line past begun in_line more. plain_begins line past begun x in_line (take n bytes ++ more) (h.digits 0 (omega arith)) ∙ h.reads line past begun false more;
   ended = at;
   ends = ends;
 }
@@ -133,7 +134,7 @@ negative_short bytes zero v end h lt some at ends = absurd (some refl)
 negative_short [] (suc n) v end h lt some at ends = absurd (omega (arith, lt))
 negative_short (x ∷ bytes) (suc n) v end h lt some at ends = record {
   within = omega (arith, lt);
-  reads = λ line seen begun in_line more. negative_begins line seen begun x in_line (take n bytes ++ more) (h.digits 0 (omega arith)) ∙ h.reads line seen begun true more;
+  reads = λ line past begun in_line more. negative_begins line past begun x in_line (take n bytes ++ more) (h.digits 0 (omega arith)) ∙ h.reads line past begun true more;
   ended = at;
   ends = ends;
 }
@@ -159,13 +160,13 @@ short bytes negative sign n v end p is many few some h at ends =
     signed bytes negative n v (sign + n) end p many few some (subst (λ k. HasDigits (take (length bytes - k) (drop k bytes)) n v) is h) (ap (λ k. k + n) is) at ends
 
 -- the bytes that a short number and its end take lead to its end
-pub short_leads : {a b : Known} (ahead front : List ℕ) (number : Number) (len end : ℕ) (line : ℕ) (seen : Bool) (begun : List ℕ) (in_line : Bool) →
+pub short_leads : {a b : Known} (ahead front : List ℕ) (number : Number) (len end : ℕ) (line : ℕ) (past : Past) (begun : List ℕ) (in_line : Bool) →
     front ≡ ahead → Consumes a b (take (len + 1) ahead) → IsShortNumber front number len end →
-    Leads a b (next_at (At line seen begun (place_of in_line))) (λ more. next_at (At line seen begun (InNumber number)) (end ∷ more))
-short_leads ahead front number len end line seen begun in_line same taken h = record {
+    Leads a b (next_at (At line past begun (place_of in_line))) (λ more. next_at (At line past begun (InNumber number)) (end ∷ more))
+short_leads ahead front number len end line past begun in_line same taken h = record {
   taken = take (len + 1) front;
   consumed = rw same taken;
   same = λ more.
-      ap (next_at (At line seen begun (place_of in_line))) (ap (λ (l : List ℕ). l ++ more) (take_more front len 0 h.within) ∙ append_assoc (take len front) (get_or front len 0 ∷ []) more) ∙
-      h.reads line seen begun in_line (get_or front len 0 ∷ more) ∙ ap (λ x. next_at (At line seen begun (InNumber number)) (x ∷ more)) h.ended;
+      ap (next_at (At line past begun (place_of in_line))) (ap (λ (l : List ℕ). l ++ more) (take_more front len 0 h.within) ∙ append_assoc (take len front) (get_or front len 0 ∷ []) more) ∙
+      h.reads line past begun in_line (get_or front len 0 ∷ more) ∙ ap (λ x. next_at (At line past begun (InNumber number)) (x ∷ more)) h.ended;
 }

@@ -1,7 +1,8 @@
 -- Worked texts, by computing what their lines say.
 use Rattle.std.proofs.Common.{refl}
-use Rattle.sat_formula.specs.LineLaws.{WorkedTexts}
+use Rattle.sat_formula.specs.LineLaws.{WorkedNotes, WorkedTexts}
 use Rattle.sat_formula.specs.Lines.{tokens_from, lines_from}
+use Rattle.sat_formula.specs.Notes.{notes_at}
 
 pub worked_texts : WorkedTexts
 unfolding tokens_from lines_from
@@ -23,4 +24,23 @@ worked_texts = record {
   comment_after_clause = refl;
   header_without_lf = refl;
   header_after_empty_clause = refl;
+}
+
+pub worked_notes : WorkedNotes
+unfolding notes_at
+worked_notes = record {
+  lines = refl;
+  no_lines = refl;
+  two_on_a_line = refl;
+  over_lines = refl;
+  comments = refl;
+  empty_clauses = refl;
+  after_the_end_mark = refl;
+  header = refl;
+  header_without_lf = refl;
+  no_header = refl;
+  short_header = refl;
+  second_header = refl;
+  header_after_clause = refl;
+  large_count = refl;
 }

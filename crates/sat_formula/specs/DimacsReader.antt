@@ -1,6 +1,7 @@
 -- A reader of clauses: what it has left, and what a call answers.
 use Rattle.std.specs.Prelude.{ℕ, ◌+◌, ◌-◌, ◌^◌, min, Bool, true, false, List, [], Option, Result, Ok, Err}
 use Rattle.sat_formula.specs.declared.fault.DimacsFault.{DimacsFault}
+use Rattle.sat_formula.specs.declared.counts.Counts.{Counts}
 use Rattle.sat_formula.specs.declared.dimacs.DimacsReader.{DimacsReader}
 use Rattle.sat_formula.specs.Source.{unread}
 use Rattle.sat_formula.specs.Text.{State, next_at}
@@ -29,6 +30,18 @@ vars_given r = r.var_count
 -- how many clauses it gave
 abbrev pub clauses_given : {R : Type 0} → DimacsReader R → ℕ
 clauses_given r = r.clause_count
+
+-- the line on which the last of them ends; 0 where there is none
+abbrev pub line_given : {R : Type 0} → DimacsReader R → ℕ
+line_given r = r.text.past.clause_line
+
+-- the counts of the header, once it was read
+abbrev pub header_given : {R : Type 0} → DimacsReader R → Option Counts
+header_given r = r.text.past.header
+
+-- the variables and the clauses that it gave
+abbrev pub counts_given : {R : Type 0} → DimacsReader R → Counts
+counts_given r = record { variables = r.var_count; clauses = r.clause_count }
 
 -- the next clause, the end or the fault of the text that was not taken
 abbrev pub IsNext : {R : Type 0} → (R → Option (List ℕ)) → DimacsReader R → DimacsReader R →

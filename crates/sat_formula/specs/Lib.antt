@@ -5,6 +5,8 @@ pub mod Tokens
 pub mod Outcome
 pub mod Lines
 pub mod Words
+pub mod Counts
+pub mod Past
 pub mod Text
 pub mod Source
 pub mod Stop
@@ -13,5 +15,7 @@ pub mod Reading
 pub mod ShortNumbers
 pub mod DimacsReader
 pub mod Whole
+pub mod Notes
+pub mod Noting
 pub mod LineLaws
 pub mod Refuted

@@ -1,7 +1,7 @@
 //! Laws of variables, literals and DIMACS text.
 ghost use Rattle.std.specs.Prelude.{◌≡◌, ◌==◌, ◌<◌, ℕ, pos, neg_ℤ, true, false, Some, IsTrue};
 ghost use Rattle.std.specs.Ordering.{nat_cmp};
-ghost use Rattle.sat_formula.specs.LineLaws.{BytesAreLines, WorkedTexts};
+ghost use Rattle.sat_formula.specs.LineLaws.{BytesAreLines, WorkedNotes, WorkedTexts};
 ghost use Rattle.sat_formula.specs.Vars.{index_of, indexes_of, dimacs_lit, lit_code};
 ghost use Rattle.sat_formula.specs.declared.lit.Var.{Var};
 
@@ -76,4 +76,9 @@ pub fn bytes_are_lines()
 /// What some texts say.
 pub fn worked_texts()
     ensures { WorkedTexts }
+{}
+
+/// The lines of their clauses, and their headers.
+pub fn worked_notes()
+    ensures { WorkedNotes }
 {}
