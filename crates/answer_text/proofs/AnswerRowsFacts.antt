@@ -36,5 +36,13 @@ answer_rows = record {
   no_end_cut = refl;
   no_list = refl;
   empty = refl;
+  first_line = refl;
+  first_line_of_none = refl;
+  second_line = refl;
+  first_line_and_status = refl;
+  first_line_goes_on = refl;
+  unknown_after_a_status = refl;
+  large_after_the_end = refl;
+  v_alone = refl;
   no_status = refl;
 }

@@ -4,15 +4,19 @@
 --     is_met, all_met      some literal of the clause is in the set; of each clause
 --     listed lits      the set of these literals
 --     IsConsistent s      no two literals of the set are opposite
-use Rattle.std.specs.Prelude.{◌≡◌, ℕ, nat_eq, Bool, true, List}
+use Rattle.std.specs.Prelude.{◌≡◌, ℕ, nat_eq, ◌||◌, Bool, true, false, List, slice_index_or}
 use Rattle.std.specs.HashSet.{contains}
 use Rattle.std.specs.List.{list_any, list_all}
 use Rattle.sat_rules.specs.Clauses.{has, negate}
 use Rattle.answer_text.specs.declared.literals.Literals.{Literals}
 
--- the literal of this code is listed
+-- the literal of this code is listed: it is marked, or among those that are not
 abbrev pub has_lit : Literals → ℕ → Bool
-has_lit table lit = contains nat_eq table.codes lit
+has_lit table lit = slice_index_or table.marks.items lit false || contains nat_eq table.far lit
+
+-- a literal more is listed
+abbrev pub Adds : Literals → Literals → ℕ → Type 0
+Adds old new lit = (other : ℕ) → has_lit new other ≡ (nat_eq other lit || has_lit old other)
 
 -- the set of these literals
 abbrev pub listed : List ℕ → ℕ → Bool

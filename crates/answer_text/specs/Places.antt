@@ -1,12 +1,12 @@
--- The grammar of an answer, a byte after the other. A line is a comment (`c`), a status (`s` and a word), or has numbers,
--- after a `v` or not. A number is the literals' end (0) or a literal.
+-- The grammar of an answer, a byte after the other. A line is a comment (`c`), a status (`s` and a word, or on the first line
+-- `SAT` or `UNSAT`), or has numbers, after a `v` or not. A number is the literals' end (0) or a literal.
 use Rattle.std.specs.Prelude.{ℕ, ◌+◌, ◌-◌, Bool, true, false, ◌&&◌, List, length, slice_index, codes, Option, Some, None, Result, Ok, Err, nat_lt, ◌==◌, if◌then◌else◌}
 use Rattle.sat_formula.specs.Bytes.{letter_c, minus_sign, digit_zero, is_blank, is_digit, is_lf}
 use Rattle.sat_formula.specs.Outcome as dimacs
 use Rattle.answer_text.specs.declared.fault.AnswerKind.{AnswerKind}
 use Rattle.answer_text.specs.declared.fault.AnswerKind.TheVariants as kinds
 use Rattle.answer_text.specs.declared.spot.Status.{Status}
-use Rattle.answer_text.specs.declared.spot.Status.TheVariants.{Satisfiable, Unsatisfiable, Unknown}
+use Rattle.answer_text.specs.declared.spot.Status.TheVariants.{Satisfiable, Unsatisfiable, Unknown, Sat, Unsat}
 use Rattle.answer_text.specs.declared.spot.Place.{Place}
 use Rattle.answer_text.specs.declared.spot.Place.TheVariants.{LineStart, Comment, AfterS, BeforeWord, Word, AfterV, Between, Sign, Digits}
 use Rattle.answer_text.specs.declared.spot.Spot.{Spot}
@@ -33,6 +33,8 @@ abbrev pub word_of : Status → List ℕ
 word_of Satisfiable = codes "SATISFIABLE"
 word_of Unsatisfiable = codes "UNSATISFIABLE"
 word_of Unknown = codes "UNKNOWN"
+word_of Sat = codes "SAT"
+word_of Unsat = codes "UNSAT"
 
 -- the byte is the next one of the word, of which so many were read
 abbrev pub is_spelled : Status → ℕ → ℕ → Bool
@@ -44,13 +46,21 @@ abbrev pub turns : Status → ℕ → ℕ → Bool
 turns Satisfiable read b = false
 turns Unsatisfiable read b = read == 2 && (b == 75)
 turns Unknown read b = false
+turns Sat read b = false
+turns Unsat read b = false
+
+-- the formula is satisfiable, says a word that was read up to a blank or an LF
+abbrev pub satisfiable_read : Spot → ℕ → After
+satisfiable_read s b =
+    if s.told then Stops kinds.SecondStatus
+    else (if is_lf b then Goes (next_line (record s { told = true })) else Goes s)
 
 -- a word was read, up to a blank or an LF
 abbrev pub status_read : Spot → Status → ℕ → After
-status_read s Satisfiable b =
-    if s.told then Stops kinds.SecondStatus
-    else (if is_lf b then Goes (next_line (record s { told = true })) else Goes s)
+status_read s Satisfiable b = satisfiable_read s b
+status_read s Sat b = satisfiable_read s b
 status_read s Unsatisfiable b = Stops kinds.Unsatisfiable
+status_read s Unsat b = Stops kinds.Unsatisfiable
 status_read s Unknown b = Stops kinds.Unknown
 
 -- a byte in a word or after it
@@ -99,12 +109,18 @@ between s b =
     if is_space b then Goes (passed s b)
     else (if b == minus_sign then Goes (moved s Sign) else first_digit s false b)
 
--- the first byte of a line: `c`, `s`, `v`, or of a line of numbers
+-- the first byte of the first line may be of `SAT` or `UNSAT`; else it is of a line of numbers
+abbrev pub text_start : Spot → ℕ → After
+text_start s b =
+    if (s.line == 1) && (b == 83) then Goes (moved s (Word Sat 1))
+    else (if (s.line == 1) && (b == 85) then Goes (moved s (Word Unsat 1)) else between s b)
+
+-- the first byte of a line: `c`, `s`, `v`, or another one
 abbrev pub line_start : Spot → ℕ → After
 line_start s b =
     if b == letter_c then Goes (moved s Comment)
     else (if b == 115 then Goes (moved s AfterS)
-    else (if b == 118 then Goes (record s { place = AfterV; marked = true }) else between s b))
+    else (if b == 118 then Goes (record s { place = AfterV; marked = true }) else text_start s b))
 
 -- one byte, at each place
 abbrev pub after_at : Place → Spot → ℕ → After

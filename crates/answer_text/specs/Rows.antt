@@ -34,4 +34,12 @@ pub record AnswerRows : Type 0 where
   pub no_end_cut : outcome_of (codes "s SATISFIABLE\nv 1 2") ≡ Faulty 2 Unfinished
   pub no_list : outcome_of (codes "s SATISFIABLE\n") ≡ Faulty 2 Unfinished
   pub empty : outcome_of [] ≡ Faulty 1 Unfinished
+  pub first_line : outcome_of (codes "SAT\n1 -2 0\n") ≡ Lists (0 ∷ 3 ∷ [])
+  pub first_line_of_none : outcome_of (codes "UNSAT\n") ≡ Faulty 1 Unsatisfiable
+  pub second_line : outcome_of (codes "c\nSAT\n1 0\n") ≡ Faulty 2 Malformed
+  pub first_line_and_status : outcome_of (codes "SAT\ns SATISFIABLE\n1 0\n") ≡ Faulty 2 SecondStatus
+  pub first_line_goes_on : outcome_of (codes "SATISFIABLE\n1 0\n") ≡ Faulty 1 Malformed
+  pub unknown_after_a_status : outcome_of (codes "s SATISFIABLE\ns UNKNOWN\n") ≡ Faulty 2 Unknown
+  pub large_after_the_end : outcome_of (codes "1 0\n268435457 ") ≡ Faulty 2 NumberTooLarge
+  pub v_alone : outcome_of (codes "s SATISFIABLE\nv\nv 1 0\n") ≡ Lists (0 ∷ [])
   pub no_status : outcome_of (codes "v 1 0\n") ≡ Faulty 2 NoStatus

@@ -1,8 +1,9 @@
 //! Why an answer is not taken.
 ghost use Rattle.answer_text.specs.declared.fault.AnswerFault.TheVariants as faults;
 
-use std::alloc::AllocFailed;
+use std::alloc::AllocError;
 use std::io;
+use std::io::ErrorKind;
 use thiserror::Error;
 
 /// What is wrong with an answer.
@@ -30,7 +31,7 @@ pub enum AnswerKind {
     #[error("both signs of a variable")]
     BothSigns,
     /// The text ends before the 0 that ends the literals.
-    #[error("the answer ends early")]
+    #[error("the answer ends before its last 0")]
     Unfinished,
     /// The literals stand in `v` lines, and there is no `s SATISFIABLE`.
     #[error("no status line")]
@@ -51,12 +52,31 @@ pub enum AnswerFault {
     OutOfMemory,
 }
 
-impl<T: Drop> From<AllocFailed<T>> for AnswerFault {
+impl From<AllocError> for AnswerFault {
     ghost use Rattle.std.specs.Prelude.{◌≡◌};
 
     ghost from_gives = { λ _ fault. fault ≡ faults.OutOfMemory };
 
-    fn from(_e: AllocFailed<T>) -> AnswerFault {
+    fn from(_e: AllocError) -> AnswerFault {
         AnswerFault::OutOfMemory
+    }
+}
+
+impl AnswerFault {
+    ghost use Rattle.std.specs.Prelude.{◌≡◌, ◌≢◌};
+    ghost use Rattle.std.specs.IoError.{error_kind};
+
+    /// The fault of an answer whose bytes could not be read before it: no memory for them, by the
+    /// error's kind, or a failed read.
+    pub fn of_error(error: io::Error) -> AnswerFault
+        ensures memory { error_kind error ≡ ErrorKind.OutOfMemory
+            → result ≡ AnswerFault.OutOfMemory }
+        ensures read { error_kind error ≢ ErrorKind.OutOfMemory
+            → result ≡ AnswerFault.Read error }
+    {
+        match error.kind() {
+            ErrorKind::OutOfMemory => AnswerFault::OutOfMemory,
+            _ => AnswerFault::Read(error),
+        }
     }
 }

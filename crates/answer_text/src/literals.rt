@@ -1,35 +1,78 @@
 //! Lists of literals, as sets.
-ghost use Rattle.std.specs.Prelude.{◌≡◌, ℕ, List, [], ◌∷◌, ◌++◌, OnOk};
-ghost use Rattle.answer_text.specs.Literals.{HasThe, has_lit, is_met};
+ghost use Rattle.std.specs.Prelude.{◌≡◌, ℕ, nat_eq, List, [], ◌∷◌, ◌++◌, false, OnOk};
+ghost use Rattle.std.specs.HashSet.{contains};
 
 use sat_formula::Lit;
-use std::alloc::{AllocFailed, Global};
+use std::alloc::{AllocError, Global};
 use std::collections::HashSet;
 
-/// The literals that an answer lists. Memory is taken for each of them, whatever its number.
+/// For each literal listed so many marks are made at most.
+const MARKS_EACH: usize = 16;
+
+/// The literals that an answer lists.
+///
+/// Of most answers each literal is marked by its code. A literal of a large variable in a short
+/// answer stands in a set, so that the memory is that of the literals listed, whatever their
+/// numbers.
 #[derive(Drop)]
 pub struct Literals {
-    /// By their codes.
-    codes: HashSet<usize>,
+    /// By the code, whether the literal is listed. Of others `far` tells.
+    marks: Vec<bool>,
+    /// The codes of literals that are not marked.
+    far: HashSet<usize>,
+    has_far: bool,
+    /// Codes below it may be marked.
+    most: usize,
+    ghost near: { has_far ≡ false → (code : ℕ) → contains nat_eq far code ≡ false },
 }
 
 impl Literals {
+    ghost use Rattle.answer_text.specs.Literals.{Adds, HasThe, has_lit, is_met};
+
     /// None. It takes no memory yet.
     pub(crate) fn new(alloc: Global) -> Literals
         ensures { HasThe [] result }
     {
         Literals {
-            codes: HashSet::new(alloc),
+            marks: Vec::new(alloc),
+            far: HashSet::new(alloc),
+            has_far: false,
+            most: 0,
         }
     }
 
     /// Adds a literal.
-    pub(crate) fn add(&mut self, lit: Lit) -> Result<(), AllocFailed<usize>>
+    pub(crate) fn add(&mut self, lit: Lit) -> Result<(), AllocError>
         ensures { OnOk result ((lits : List ℕ) → HasThe lits self.old
             → HasThe (lits ++ lit ∷ []) self.new) }
     {
-        self.codes.insert(lit.code())?;
+        self.most = self.most.saturating_add(MARKS_EACH);
+        if lit.code() < self.most {
+            self.mark(lit)
+        } else {
+            self.put_far(lit)
+        }
+    }
+
+    fn mark(&mut self, lit: Lit) -> Result<(), AllocError>
+        ensures { OnOk result (Adds self.old self.new lit) }
+    {
+        let code = lit.code();
+        if code >= self.marks.len() {
+            self.marks.resize(code + 1, false)?;
+        }
+        self.marks[code] = true;
         Ok(())
+    }
+
+    fn put_far(&mut self, lit: Lit) -> Result<(), AllocError>
+        ensures { OnOk result (Adds self.old self.new lit) }
+    {
+        self.has_far = true;
+        match self.far.insert(lit.code()) {
+            Ok(_) => Ok(()),
+            Err(_) => Err(AllocError),
+        }
     }
 
     /// Whether the literal is listed.
@@ -37,7 +80,11 @@ impl Literals {
     pub fn contains(&self, lit: Lit) -> bool
         ensures { result ≡ has_lit self.now lit }
     {
-        self.codes.contains(&lit.code())
+        let code = lit.code();
+        if code < self.marks.len() && self.marks[code] {
+            return true;
+        }
+        self.has_far && self.far.contains(&code)
     }
 
     /// Whether a literal of the clause is listed.

@@ -1,6 +1,6 @@
 //! Where the reading of an answer stands, and what a byte does there.
 ghost use Rattle.std.specs.Prelude.{◌≡◌, ◌≤◌, length};
-ghost use Rattle.answer_text.specs.Places.{after, before_word, between, first_digit, in_digits, in_word, is_spelled, line_start, moved, next_line, number_read, passed, start, status_read, turns, word_of};
+ghost use Rattle.answer_text.specs.Places.{after, before_word, between, first_digit, in_digits, in_word, is_spelled, line_start, moved, next_line, number_read, passed, satisfiable_read, start, status_read, text_start, turns, word_of};
 
 use crate::fault::AnswerKind;
 use crate::number::{is_blank, is_digit, is_space, lit_said, with_digit};
@@ -12,6 +12,10 @@ pub(crate) enum Status {
     Satisfiable,
     Unsatisfiable,
     Unknown,
+    /// `SAT`, as the first line.
+    Sat,
+    /// `UNSAT`, as the first line.
+    Unsat,
 }
 
 /// A place in a line.
@@ -63,6 +67,8 @@ impl Status {
             Status::Satisfiable => b"SATISFIABLE",
             Status::Unsatisfiable => b"UNSATISFIABLE",
             Status::Unknown => b"UNKNOWN",
+            Status::Sat => b"SAT",
+            Status::Unsat => b"UNSAT",
         }
     }
 }
@@ -141,7 +147,20 @@ impl Spot {
                 marked: true,
                 ..self
             }),
-            _ => self.between(byte),
+            _ => self.text_start(byte),
+        }
+    }
+
+    /// At a byte that begins no other line.
+    fn text_start(self, byte: u8) -> After
+        ensures { result ≡ text_start self byte }
+    {
+        if self.line == 1 && byte == b'S' {
+            After::Goes(self.moved(Place::Word(Status::Sat, 1)))
+        } else if self.line == 1 && byte == b'U' {
+            After::Goes(self.moved(Place::Word(Status::Unsat, 1)))
+        } else {
+            self.between(byte)
         }
     }
 
@@ -178,14 +197,22 @@ impl Spot {
         ensures { result ≡ status_read self status byte }
     {
         match status {
-            Status::Satisfiable if self.told => After::Stops(AnswerKind::SecondStatus),
-            Status::Satisfiable if byte == b'\n' => {
-                let told = Spot { told: true, ..self };
-                After::Goes(told.next_line())
-            }
-            Status::Satisfiable => After::Goes(self),
-            Status::Unsatisfiable => After::Stops(AnswerKind::Unsatisfiable),
+            Status::Satisfiable | Status::Sat => self.satisfiable_read(byte),
+            Status::Unsatisfiable | Status::Unsat => After::Stops(AnswerKind::Unsatisfiable),
             Status::Unknown => After::Stops(AnswerKind::Unknown),
+        }
+    }
+
+    fn satisfiable_read(self, byte: u8) -> After
+        ensures { result ≡ satisfiable_read self byte }
+    {
+        if self.told {
+            After::Stops(AnswerKind::SecondStatus)
+        } else if byte == b'\n' {
+            let told = Spot { told: true, ..self };
+            After::Goes(told.next_line())
+        } else {
+            After::Goes(self)
         }
     }
 
@@ -254,6 +281,6 @@ fn turns(status: Status, read: usize, byte: u8) -> bool
 {
     match status {
         Status::Unsatisfiable => read == 2 && byte == b'K',
-        Status::Satisfiable | Status::Unknown => false,
+        Status::Satisfiable | Status::Unknown | Status::Sat | Status::Unsat => false,
     }
 }

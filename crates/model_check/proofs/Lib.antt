@@ -1,4 +1,2 @@
-pub mod LineRowsFacts
 pub mod ModelLemmas
-pub mod SeekingRuns
 pub mod VerdictLemmas

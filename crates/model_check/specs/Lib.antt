@@ -1,5 +1,4 @@
-pub mod ClauseLines
-pub mod LineRows
 pub mod Models
 pub mod Runs
 pub mod Verdicts
+pub mod Wholeness

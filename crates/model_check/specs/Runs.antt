@@ -3,7 +3,7 @@
 --     IsRefusedRun r      the answer or the formula was refused
 --     IsUnwritten r      the verdict's line was not written whole
 --     BeginsLine cnf answer old new      what was written then
-use Rattle.std.specs.Prelude.{ℕ, List, Option, Result, Ok, Err}
+use Rattle.std.specs.Prelude.{ℕ, List, Option, Some, None, Result, Ok, Err}
 use Rattle.std.specs.Option.{option_map}
 use Rattle.sat_formula.specs.declared.fault.DimacsFault.{DimacsFault}
 use Rattle.sat_formula.specs.Lines as dimacs
@@ -13,16 +13,18 @@ use Rattle.answer_text.specs.Answers.{Lists}
 use Rattle.answer_text.specs.Literals.{IsConsistent, listed}
 use Rattle.answer_text.specs.Reading.{IsOutcome, FailsBy}
 use Rattle.model_check.specs.Verdicts.{IsJudged, shown_line}
+use Rattle.model_check.specs.declared.whole.CutFormula.{CutFormula}
 use Rattle.model_check.specs.declared.fault.RunFault.{RunFault}
-use Rattle.model_check.specs.declared.fault.RunFault.TheVariants.{Answer, Formula, Write}
+use Rattle.model_check.specs.declared.fault.RunFault.TheVariants.{Answer, Formula, Cut, Write}
 use Rattle.model_check.specs.declared.verdict.Verdict.{Verdict}
 
--- the answer lists these literals, of which no two are opposite, and the verdict is that on them and the formula
-pub record IsShown (cnf answer : Option (List ℕ)) (verdict : Verdict) : Type 0 where
+-- the answer lists these literals, of which no two are opposite, the verdict is that on them and the formula, and this is missing of it
+pub record IsShown (cnf answer : Option (List ℕ)) (verdict : Verdict) (cut : Option CutFormula) :
+    Type 0 where
   pub lits : List ℕ
   pub lists : IsOutcome answer (Lists lits)
   pub apart : IsConsistent (listed lits)
-  pub judged : IsJudged (option_map dimacs.outcome_of cnf) (listed lits) verdict
+  pub judged : IsJudged cnf (listed lits) verdict cut
 
 -- the answer lists these literals, and the formula has this fault after these clauses
 pub record IsAnswered (cnf answer : Option (List ℕ)) (fault : DimacsFault) : Type 0 where
@@ -31,18 +33,20 @@ pub record IsAnswered (cnf answer : Option (List ℕ)) (fault : DimacsFault) : T
   pub clauses : List (List ℕ)
   pub fails : FailsAfter (option_map dimacs.outcome_of cnf) clauses fault
 
--- the run over both texts: the fault of the answer, then that of the formula, then the verdict, written or not
+-- the run over both texts: the fault of the answer, then that of the formula, then what is missing of it, then the verdict, written or not
 abbrev pub IsCheckRun : Option (List ℕ) → Option (List ℕ) → Result Verdict RunFault → Type 0
-IsCheckRun cnf answer (Ok verdict) = IsShown cnf answer verdict
+IsCheckRun cnf answer (Ok verdict) = IsShown cnf answer verdict None
 IsCheckRun cnf answer (Err (Answer fault)) = FailsBy answer fault
 IsCheckRun cnf answer (Err (Formula fault)) = IsAnswered cnf answer fault
-IsCheckRun cnf answer (Err (Write cause)) = (verdict : Verdict) × IsShown cnf answer verdict
+IsCheckRun cnf answer (Err (Cut cut)) = (verdict : Verdict) × IsShown cnf answer verdict (Some cut)
+IsCheckRun cnf answer (Err (Write cause)) = (verdict : Verdict) × IsShown cnf answer verdict None
 
 -- the answer or the formula was refused
 abbrev pub IsRefusedRun : Result Verdict RunFault → Type 0
 IsRefusedRun (Ok verdict) = ⊥
 IsRefusedRun (Err (Answer fault)) = Unit {0}
 IsRefusedRun (Err (Formula fault)) = Unit {0}
+IsRefusedRun (Err (Cut cut)) = Unit {0}
 IsRefusedRun (Err (Write cause)) = ⊥
 
 -- the verdict stands, and its line was not written whole
@@ -50,10 +54,11 @@ abbrev pub IsUnwritten : Result Verdict RunFault → Type 0
 IsUnwritten (Ok verdict) = ⊥
 IsUnwritten (Err (Answer fault)) = ⊥
 IsUnwritten (Err (Formula fault)) = ⊥
+IsUnwritten (Err (Cut cut)) = ⊥
 IsUnwritten (Err (Write cause)) = Unit {0}
 
 -- an output grew by a beginning of the line of the verdict on the two texts
 pub record BeginsLine (cnf answer old new : Option (List ℕ)) : Type 0 where
   pub verdict : Verdict
-  pub shown : IsShown cnf answer verdict
+  pub shown : IsShown cnf answer verdict None
   pub begins : AppendsBeginning old new (shown_line verdict)

@@ -7,19 +7,28 @@ ghost use Rattle.answer_text.specs.Literals.{has_lit};
 ghost use Rattle.model_check.specs.Verdicts.{IsJudged, IsVerdict};
 
 use crate::verdict::Verdict;
+use crate::whole::{CutFormula, cut_of};
 use answer_text::Literals;
 use sat_formula::{DimacsFault, DimacsReader, Lit};
 use std::alloc::Global;
 use std::io::Read;
+
+/// What was found of a formula that was read to its end.
+#[derive(Clone, Copy)]
+pub(crate) struct Judged {
+    pub(crate) verdict: Verdict,
+    /// What it lacks.
+    pub(crate) cut: Option<CutFormula>,
+}
 
 /// Reads a formula whole, a clause at a time, and tells whether each has one of the literals.
 pub(crate) fn judge<F: Read + Drop>(
     alloc: Global,
     cnf: F,
     literals: &Literals,
-) -> Result<Verdict, DimacsFault>
-    ensures whole { IfOk result
-        (IsJudged (option_map outcome_of (F.remaining cnf)) (has_lit literals.now)) }
+) -> Result<Judged, DimacsFault>
+    ensures whole { IfOk result (λ judged.
+        IsJudged (F.remaining cnf) (has_lit literals.now) judged.verdict judged.cut) }
     ensures fault { IfErr result (λ fault. (clauses : List (List ℕ))
         × FailsAfter (option_map outcome_of (F.remaining cnf)) clauses fault) }
 {
@@ -29,20 +38,34 @@ pub(crate) fn judge<F: Read + Drop>(
     let mut count = 0u64;
     'clauses: while reader.next_clause(&mut clause)? {
         count += 1;
-        verdict = after_clause(verdict, literals, &clause, count);
+        verdict = after_clause(verdict, literals, &clause, count, reader.clause_line());
     }
-    Ok(verdict)
+    Ok(Judged {
+        verdict,
+        cut: cut_of(reader.header(), count),
+    })
 }
 
-/// The verdict with one clause more, which has this number.
-fn after_clause(verdict: Verdict, literals: &Literals, clause: &[Lit], number: u64) -> Verdict
-    ensures { (clauses : List (List ℕ)) → IsVerdict (has_lit literals.now) clauses verdict
-        → number ≡ length clauses + 1
-        → IsVerdict (has_lit literals.now) (clauses ++ clause.now ∷ []) result }
+/// The verdict with one clause more, which has this number and ends on this line.
+fn after_clause(
+    verdict: Verdict,
+    literals: &Literals,
+    clause: &[Lit],
+    number: u64,
+    line: u64,
+) -> Verdict
+    ensures { (clauses : List (List ℕ)) → (lines : List ℕ)
+        → IsVerdict (has_lit literals.now) clauses lines verdict
+        → number ≡ length clauses + 1 → number ≡ length lines + 1
+        → IsVerdict (has_lit literals.now) (clauses ++ clause.now ∷ []) (lines ++ line ∷ [])
+        result }
 {
     match verdict {
         Verdict::NotVerified { .. } => verdict,
         Verdict::Verified if literals.meets(clause) => Verdict::Verified,
-        Verdict::Verified => Verdict::NotVerified { clause: number },
+        Verdict::Verified => Verdict::NotVerified {
+            clause: number,
+            line,
+        },
     }
 }

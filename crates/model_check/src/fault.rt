@@ -1,4 +1,5 @@
 //! Why a run comes to no verdict.
+use crate::whole::CutFormula;
 use answer_text::AnswerFault;
 use sat_formula::DimacsFault;
 use std::io;
@@ -13,6 +14,9 @@ pub enum RunFault {
     /// The formula was not read whole.
     #[error("formula: {0}")]
     Formula(DimacsFault),
+    /// The formula was read to its end, and is not whole.
+    #[error("formula: {0}")]
+    Cut(CutFormula),
     /// The verdict stands, and its line could not be written.
     #[error("error writing: {0}")]
     Write(io::Error),

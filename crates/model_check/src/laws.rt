@@ -1,7 +1,6 @@
 //! Laws of literals and formulas.
 ghost use Rattle.std.specs.Prelude.{◌≡◌, ℕ, List, true};
 ghost use Rattle.answer_text.specs.Literals.{IsConsistent, all_met, listed};
-ghost use Rattle.model_check.specs.LineRows.{LineRows};
 ghost use Rattle.model_check.specs.Models.{IsModel};
 
 /// Literals of which no two are opposite, and one of which stands in each clause, are a model of
@@ -9,9 +8,4 @@ ghost use Rattle.model_check.specs.Models.{IsModel};
 pub fn met_clauses_are_satisfied()
     ensures { (lits : List ℕ) (clauses : List (List ℕ)) → IsConsistent (listed lits)
         → all_met (listed lits) clauses ≡ true → IsModel lits clauses }
-{}
-
-/// The lines of some clauses.
-pub fn line_rows()
-    ensures { LineRows }
 {}

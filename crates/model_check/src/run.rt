@@ -17,9 +17,10 @@ use std::io::{Read, Write};
 /// line.
 ///
 /// The formula is read whole, also after a clause that has no literal of the answer. Nothing is
-/// written where one of the two can't be read, or where the answer is none that the formula is
-/// satisfiable. Where the verdict's line can't be written whole, the verdict stood, and a beginning
-/// of the line is written.
+/// written where one of the two can't be read, where the answer is none that the formula is
+/// satisfiable, or where the formula has fewer clauses than its header says, or neither a header
+/// nor a clause. Where the verdict's line can't be written whole, the verdict stood, and a
+/// beginning of the line is written.
 pub fn run_check<F: Read + Drop, P: Read + Drop, W: Write>(
     alloc: Global,
     cnf: F,
@@ -39,9 +40,13 @@ pub fn run_check<F: Read + Drop, P: Read + Drop, W: Write>(
         Ok(literals) => literals,
         Err(fault) => return Err(RunFault::Answer(fault)),
     };
-    let verdict = match judge(alloc, cnf, &literals) {
-        Ok(verdict) => verdict,
+    let judged = match judge(alloc, cnf, &literals) {
+        Ok(judged) => judged,
         Err(fault) => return Err(RunFault::Formula(fault)),
+    };
+    let verdict = match judged.cut {
+        Some(cut) => return Err(RunFault::Cut(cut)),
+        None => judged.verdict,
     };
     match write_line(out, verdict) {
         Ok(()) => Ok(verdict),

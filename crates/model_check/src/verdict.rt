@@ -13,8 +13,9 @@ use whole_writes::write_whole;
 pub enum Verdict {
     /// One of them stands in each clause.
     Verified,
-    /// None of them stands in this clause, the first such one; clauses count from 1.
-    NotVerified { clause: u64 },
+    /// None of them stands in this clause, the first such one, which ends on this line; both count
+    /// from 1.
+    NotVerified { clause: u64, line: u64 },
 }
 
 impl Verdict {

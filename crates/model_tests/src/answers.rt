@@ -30,7 +30,7 @@ fn has(literals: &Literals, number: i64) -> bool {
 
 type Row = (&'static [u8], &'static str);
 
-const LISTS: [Row; 10] = [
+const LISTS: [Row; 13] = [
     (b"s SATISFIABLE\nv 1 -2 0\n", "1 -2 "),
     (b"c x\ns SATISFIABLE\nv 1\nc\nv 2 0\nc 3\n", "1 2 "),
     (b"v -1 0\ns SATISFIABLE", "-1 "),
@@ -39,11 +39,14 @@ const LISTS: [Row; 10] = [
     (b"s SATISFIABLE\n1 0", "1 "),
     (b"s  SATISFIABLE \r\nv\t1 0\r\n\r\n", "1 "),
     (b"1 1 0", "1 "),
-    (b"c", "line 1: the answer ends early"),
+    (b"SAT\n1 -2 0\n", "1 -2 "),
+    (b"SAT \r\nv 3 0", "3 "),
+    (b"s SATISFIABLE\nv\nv 1 0\n", "1 "),
+    (b"c", "line 1: the answer ends before its last 0"),
     (b"v\nv 1\n0\ns SATISFIABLE\n", "1 "),
 ];
 
-const FAULTS: [Row; 20] = [
+const FAULTS: [Row; 25] = [
     (b"1\n268435457 0", "line 2: number too large"),
     (
         b"c\ns UNSATISFIABLE\n",
@@ -60,15 +63,23 @@ const FAULTS: [Row; 20] = [
     (b"s UNKNOWNS", "line 1: malformed"),
     (b"sSATISFIABLE\n1 0", "line 1: malformed"),
     (b"s SATISFIABLE\nv1 0", "line 2: malformed"),
-    (b"SAT\n1 0", "line 1: malformed"),
+    (b"SATS\n1 0", "line 1: malformed"),
+    (b"c\nSAT\n1 0", "line 2: malformed"),
+    (b"UNSAT\n", "line 1: the answer is UNSATISFIABLE"),
+    (b"SAT\ns SATISFIABLE\n1 0", "line 2: a second status line"),
+    (b"s UNKNOWN\ns UNKNOWN\n", "line 1: the answer is UNKNOWN"),
+    (b"1 0 268435457 ", "line 1: number too large"),
     (b"1 x 0", "line 1: malformed"),
     (b"1x 0", "line 1: malformed"),
     (b"1 -0", "line 1: malformed"),
     (b"1 -\n0", "line 1: malformed"),
     (b"1 0\n2 0", "line 2: a number after the last one"),
     (b"1 -2\n2 0", "line 2: both signs of a variable"),
-    (b"s SATISFIABLE\nv 1 2\n", "line 3: the answer ends early"),
-    (b"", "line 1: the answer ends early"),
+    (
+        b"s SATISFIABLE\nv 1 2\n",
+        "line 3: the answer ends before its last 0",
+    ),
+    (b"", "line 1: the answer ends before its last 0"),
     (b"v 1 0\n", "line 2: no status line"),
 ];
 

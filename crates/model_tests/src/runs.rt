@@ -1,7 +1,6 @@
-//! Runs with their verdicts, lines and statuses, texts of faults, reads and writes that fail, and
-//! lines of clauses.
-use model_check::{RunFault, Verdict, exit_status, line_of_clause, run_check};
-use sat_formula::source::NoByte;
+//! Runs with their verdicts, lines and statuses, texts of faults, formulas that are not whole, and
+//! reads and writes that fail.
+use model_check::{RunFault, Verdict, exit_status, run_check};
 use std::alloc::Global;
 use std::io::ErrorKind;
 use std::process::Abort;
@@ -73,7 +72,7 @@ const RUNS: [Row; 21] = [
         THREE,
         b"s SATISFIABLE\nv 1 -2 3",
         "",
-        "answer: line 2: the answer ends early",
+        "answer: line 2: the answer ends before its last 0",
         0,
         1,
     ),
@@ -95,7 +94,7 @@ const RUNS: [Row; 21] = [
     ),
     // an empty clause is met by nothing, and no clause is met by anything; a formula is read to its
     // end
-    (b"", b"0", VERIFIED, "", 0, 0),
+    (b"p cnf 0 0", b"0", VERIFIED, "", 0, 0),
     (b"0", b"1 0", NOT_VERIFIED, "", 1, 3),
     (b"1 0 0 2 0", b"1 2 0", NOT_VERIFIED, "", 2, 3),
     (b"1 -1 0", b"2 0", NOT_VERIFIED, "", 1, 3),
@@ -120,7 +119,7 @@ const RUNS: [Row; 21] = [
 /// The clause that is not met, counted from 1.
 fn unmet_clause(answer: &Result<Verdict, RunFault>) -> u64 {
     match answer {
-        Ok(Verdict::NotVerified { clause }) => *clause,
+        Ok(Verdict::NotVerified { clause, .. }) => *clause,
         _ => 0,
     }
 }
@@ -175,23 +174,102 @@ fn reads_and_writes_that_fail(rt: HostRuntime) {
     is_answered(&rt, alloc, ANSWER, (cnf, literals), 0, outcome);
 }
 
-/// A formula, the number of a clause, and the line on which it ends.
-type LineRow = (&'static [u8], u64, Option<u64>);
+/// A formula of which no clause is met, the first one of its clauses that is not, and its line.
+type LineRow = (&'static [u8], &'static [u8], u64, u64);
 
-const LINES: [LineRow; 5] = [
-    (THREE, 1, Some(2)),
-    (THREE, 3, Some(4)),
-    (THREE, 4, None),
-    (b"c 0\n1\n 2 0 -1", 1, Some(3)),
-    (b"1 0 10\n00", 2, Some(2)),
+const LINES: [LineRow; 7] = [
+    (THREE, b"0", 1, 2),
+    (THREE, b"1 2 3 0", 3, 4),
+    (b"c 0\n1\n 2 0 -1 0", b"3 0", 1, 3),
+    (b"1 0 10\n00", b"1 0", 2, 2),
+    (b"1 0 -1 0\n2 0", b"1 0", 2, 1),
+    (b"1 0\n\n-1\nc 0\n0 2 0", b"1 0", 2, 5),
+    (b"p cnf 9 3\n0 1 0 0", b"1 0", 1, 2),
 ];
 
 #[test]
 fn lines_of_clauses(rt: HostRuntime) {
-    for (cnf, number, line) in &LINES {
-        let found = line_of_clause(rt.alloc(), Pieces::whole(cnf), *number);
-        assert_eq!(rt; found, Ok(*line), "{cnf:?}");
+    let alloc = rt.alloc();
+    for (cnf, literals, clause, line) in &LINES {
+        let mut page = Page::of_room(alloc, usize::MAX);
+        let answer = run_check(
+            alloc,
+            Pieces::whole(cnf),
+            Pieces::whole(literals),
+            &mut page,
+        );
+        let found = match answer {
+            Ok(Verdict::NotVerified { clause, line }) => (clause, line),
+            _ => (0, 0),
+        };
+        assert_eq!(rt; found, (*clause, *line), "{cnf:?}");
     }
-    let broken = Pieces::broken(THREE, ErrorKind::ConnectionReset);
-    assert_eq!(rt; line_of_clause(rt.alloc(), broken, 4), Err(NoByte::Read));
+}
+
+/// Formulas of which something is missing, or nothing; the literal 1 satisfies what is there.
+const CUT: [Row; 10] = [
+    (
+        b"",
+        b"1 0",
+        "",
+        "formula: it has neither a header nor a clause",
+        0,
+        1,
+    ),
+    (
+        b"c 1 0\n\n",
+        b"1 0",
+        "",
+        "formula: it has neither a header nor a clause",
+        0,
+        1,
+    ),
+    (
+        b"%\n1 0\n",
+        b"1 0",
+        "",
+        "formula: it has neither a header nor a clause",
+        0,
+        1,
+    ),
+    (
+        b"p cnf 1 2\n1 0\n",
+        b"1 0",
+        "",
+        "formula: it ends after 1 of 2 clauses",
+        0,
+        1,
+    ),
+    (
+        b"p cnf 1 2\n-1 0\n",
+        b"1 0",
+        "",
+        "formula: it ends after 1 of 2 clauses",
+        0,
+        1,
+    ),
+    (
+        b"p cnf 1 1",
+        b"1 0",
+        "",
+        "formula: it ends after 0 of 1 clauses",
+        0,
+        1,
+    ),
+    (
+        b"p cnf 1 2\n1 0\n%\n1 0\n",
+        b"1 0",
+        "",
+        "formula: it ends after 1 of 2 clauses",
+        0,
+        1,
+    ),
+    (b"p cnf 0 0", b"1 0", VERIFIED, "", 0, 0),
+    (b"p cnf 1 1\n1 0 1 0", b"1 0", VERIFIED, "", 0, 0),
+    (b"1 0", b"1 0", VERIFIED, "", 0, 0),
+];
+
+#[test]
+fn formulas_that_are_cut(rt: HostRuntime) {
+    are_answered(&rt, rt.alloc(), &CUT);
 }

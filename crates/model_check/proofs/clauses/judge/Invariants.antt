@@ -1,16 +1,18 @@
 use Rattle.std.proofs.Common.{◌≡◌, ℕ, ◌+◌, ◌-◌, ◌^◌, ◌≤◌, List, length}
 use Rattle.sat_formula.specs.DimacsReader.{bytes_left}
+use Rattle.sat_formula.specs.Noting.{HasNoted}
 use Rattle.sat_formula.specs.Whole.{HasGiven}
 use Rattle.answer_text.specs.Literals.{has_lit}
 use Rattle.model_check.specs.Verdicts.{IsVerdict}
 use Rattle.model_check.proofs.clauses.judge.Given as goal
 
--- some clauses were given, and the verdict is that on them
+-- some clauses were given, which end on these lines, and the verdict is that on them
 abbrev pub invariant-clauses : goal.invariant-clauses
 invariant-clauses g l = record {
   room : l.count + bytes_left l.reader ≤ 2 ^ 64 - 1;
-  so_far : (clauses : List (List ℕ)) × HasGiven g.F.Read.remaining l.initial.reader clauses l.reader
-      × IsVerdict (has_lit l.literals) clauses l.verdict × (l.count ≡ length clauses);
+  so_far : (clauses : List (List ℕ)) × (lines : List ℕ) × HasGiven g.F.Read.remaining l.initial.reader clauses l.reader
+      × HasNoted g.F.Read.remaining l.initial.reader lines l.reader
+      × IsVerdict (has_lit l.literals) clauses lines l.verdict × (l.count ≡ length clauses) × (l.count ≡ length lines);
 }
 
 abbrev pub decreases-clauses : goal.decreases-clauses

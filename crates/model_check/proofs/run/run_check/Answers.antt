@@ -1,25 +1,28 @@
-use Rattle.std.proofs.Common.{◌≡◌, subst}
+use Rattle.std.proofs.Common.{◌≡◌, subst, None}
 use Rattle.model_check.specs.declared.verdict.Verdict.TheVariants.{Verified}
 use Rattle.model_check.specs.Runs.{IsShown}
 use Rattle.model_check.proofs.VerdictLemmas.{satisfied, shown}
 use Rattle.model_check.proofs.run.run_check.Goals as goal
 
+pub returns-in-Some-clause-run : goal.returns-in-Some-clause-run
+returns-in-Some-clause-run g c = (c.in-Ok-judge.judged.verdict, shown _ _ c.in-Ok.literals _ _ _ c.in-Some.is c.in-Ok.ensures.lists c.in-Ok-judge.ensures.whole)
+
 pub returns-in-Ok-write_line-clause-run : goal.returns-in-Ok-write_line-clause-run
-returns-in-Ok-write_line-clause-run g c = shown _ _ c.in-Ok.literals c.in-Ok-judge.verdict c.in-Ok.ensures.lists c.in-Ok-judge.ensures.whole
+returns-in-Ok-write_line-clause-run g c = shown _ _ c.in-Ok.literals c.in-Ok-judge.judged.verdict _ _ c.in-None.is c.in-Ok.ensures.lists c.in-Ok-judge.ensures.whole
 
 pub returns-in-Ok-write_line-clause-satisfies : goal.returns-in-Ok-write_line-clause-satisfies
 returns-in-Ok-write_line-clause-satisfies g c = λ text said of_cnf of_answer verified.
-    let is : c.in-Ok-judge.verdict ≡ Verified = cc in
+    let is : c.in-Ok-judge.judged.verdict ≡ Verified = cc in
     satisfied _ _ text said of_cnf of_answer
-    (subst (λ v. IsShown (g.F.Read.remaining c.args.cnf) (g.P.Read.remaining c.args.answer) v) is
-    (shown _ _ c.in-Ok.literals c.in-Ok-judge.verdict c.in-Ok.ensures.lists c.in-Ok-judge.ensures.whole))
+    (subst (λ v. IsShown (g.F.Read.remaining c.args.cnf) (g.P.Read.remaining c.args.answer) v None) is
+    (shown _ _ c.in-Ok.literals c.in-Ok-judge.judged.verdict _ _ c.in-None.is c.in-Ok.ensures.lists c.in-Ok-judge.ensures.whole))
 
 pub returns-clause-run : goal.returns-clause-run
-returns-clause-run g c = (c.in-Ok-judge.verdict, shown _ _ c.in-Ok.literals c.in-Ok-judge.verdict c.in-Ok.ensures.lists c.in-Ok-judge.ensures.whole)
+returns-clause-run g c = (c.in-Ok-judge.judged.verdict, shown _ _ c.in-Ok.literals c.in-Ok-judge.judged.verdict _ _ c.in-None.is c.in-Ok.ensures.lists c.in-Ok-judge.ensures.whole)
 
 pub returns-clause-unwritten : goal.returns-clause-unwritten
 returns-clause-unwritten g c = λ unwritten. record {
-  verdict = c.in-Ok-judge.verdict;
-  shown = shown _ _ c.in-Ok.literals c.in-Ok-judge.verdict c.in-Ok.ensures.lists c.in-Ok-judge.ensures.whole;
+  verdict = c.in-Ok-judge.judged.verdict;
+  shown = shown _ _ c.in-Ok.literals c.in-Ok-judge.judged.verdict _ _ c.in-None.is c.in-Ok.ensures.lists c.in-Ok-judge.ensures.whole;
   begins = c.in-Err-write_line.ensures.beginning;
 }
