@@ -1,6 +1,6 @@
 #!/usr/bin/env bash
-# Runs the programs with outputs that are inputs, with standard input and output, with headers that say something else than the formula,
-# and with a full disk as output.
+# Runs the programs with outputs that are inputs, with standard input of each kind and with standard output, with headers that say
+# something else than the formula, and with a full disk as output.
 #
 # The programs must be built: `rt ci` does it, or `rt run` in their folders.
 set -euo pipefail
@@ -78,25 +78,165 @@ for way in from piped; do
   wants 0 's UNSATISFIABLE' '' "$way" p "$check" f -
 done
 
-# standard output in place of the third file: the line of a verdict comes after the lines of hints, and the bytes of a proof can
-# be checked as they come
-"$check" f p hints > out
-converted() {
-  "$convert" f l - | "$check" f -
+# standard input is descriptor 0, from where it stands: a file that was read in part, a pipe whose writer is done, a socket, and a
+# file that the program itself could not open
+printf 'p cnf 1 2\n1 0\n-1 0\n' > units
+printf '3 0 1 2 0\n' > ends
+cut_off() {
+  (dd bs=1 count=14 of=/dev/null status=none && "$@") < units
 }
-appended() {
-  echo before > both
-  "$check" f p - >> both
-  cat both
+mkfifo done
+left() {
+  local status=0
+  cat "$1" > done &
+  exec 5< done
+  wait
+  timeout 20 "${@:2}" <&5 || status=$?
+  exec 5<&-
+  return "$status"
 }
-wants 0 "$(cat hints)"$'\ns UNSATISFIABLE' '' "$check" f p -
-wants 0 $'before\n'"$(cat hints)"$'\ns UNSATISFIABLE' '' appended
-wants 0 's UNSATISFIABLE' '' converted
-wants 1 '' 'error writing: No space left on device (os error 28)' full "$convert" f l -
-if [[ -e - ]]; then
-  echo 'WRONG a file of the name -'
+socket() {
+  python3 -c '
+import socket, subprocess, sys
+one, other = socket.socketpair()
+one.sendall(open(sys.argv[1], "rb").read())
+one.shutdown(socket.SHUT_WR)
+sys.exit(subprocess.run(sys.argv[2:], stdin=other, timeout=20).returncode)' "$@"
+}
+chmod 755 .
+foreign() {
+  local status=0
+  install -m 600 "$1" mine
+  install -m 755 "$2" program
+  python3 -c '
+import os, sys
+os.dup2(os.open("mine", os.O_RDONLY), 0)
+os.chmod("mine", 0)
+if os.geteuid() == 0:
+    os.setgroups([])
+    os.setuid(65534)
+try:
+    open("mine")
+except PermissionError:
+    os.execv(sys.argv[1], sys.argv[1:])
+sys.exit("the file can be opened")' ./program "${@:3}" || status=$?
+  rm -f mine
+  return "$status"
+}
+unknown=$'line 1: no clause has the id of a hint\nin ends'
+wants 0 's VERIFIED UNSAT' '' from units "$lrat_check" - ends
+wants 1 '' "proof: $unknown" cut_off "$lrat_check" - ends
+wants 0 's VERIFIED UNSAT' '' from units "$hint_check" - ends
+wants 1 '' "$unknown" cut_off "$hint_check" - ends
+for way in left socket foreign; do
+  wants 0 's VERIFIED UNSAT' '' "$way" l "$lrat_check" f -
+  wants 0 's VERIFIED UNSAT' '' "$way" f "$lrat_check" - l
+  wants 0 's UNSATISFIABLE' '' "$way" p "$check" f -
+done
+
+# where descriptor 0 is closed, no file that is opened takes its place; and it is read once
+closed() {
+  "$@" <&-
+}
+no_input=$'cannot open -\nBad file descriptor (os error 9)'
+twice='- stands twice: only one file can be standard input'
+for program in "$lrat_check" "$hint_check" "$drat_check" "$model_check" "$check"; do
+  wants 2 '' "$no_input" closed "$program" - l
+  wants 2 '' "$no_input" closed "$program" f -
+  wants 2 '' "$twice" from f "$program" - -
+done
+wants 2 '' "$no_input" closed "$convert" f - never
+wants 2 '' "$twice" from f "$convert" - - never
+wants 0 's VERIFIED UNSAT' '' closed "$lrat_check" f l
+# an output that is standard input's file
+for output in f ./f; do
+  wants 2 '' "cannot open $output"$'\n'"the output is a file that is read" from f "$check" - p "$output"
+  wants 2 '' "cannot open $output"$'\n'"the output is a file that is read" from f "$convert" - l "$output"
+done
+if [[ -e never ]]; then
+  echo 'WRONG a file is made where nothing can be read'
   wrong=1
 fi
+
+# an output is no file that standard output or standard error goes to, by its name, by another path or by a link; a pipe may be one.
+# Here the two are `out` and `err`.
+ln -sf out soft_out
+ln -f out hard_out
+sed '/ d /d;s/^[0-9]* //;s/^0 .*/0/;s/ 0 .*/ 0/' "$top/tests/data/par10.lrat" > d
+# refuses NAME WHY: no program writes a file of this name, and those that have two make neither
+refuses() {
+  local errors="cannot open $1"$'\n'$2
+  wants 2 '' "$errors" "$check" f p "$1"
+  wants 2 '' "$errors" "$convert" f l "$1"
+  wants 2 '' "$errors" "$drat_check" f d --lrat "$1"
+  wants 2 '' "$errors" "$drat_check" f d --core "$1"
+  wants 2 '' "$errors" "$drat_check" f d --lrat "$1" --core never
+  wants 2 '' "$errors" "$drat_check" f d --core "$1" --lrat never
+}
+for output in out ./out "$PWD/out" soft_out hard_out /dev/stdout; do
+  refuses "$output" 'the output is the file of standard output'
+done
+refuses err 'the output is the file of standard error'
+refuses - '- stands for standard input, and nothing is written to that'
+for output in f ./f d; do
+  wants 2 '' "cannot open $output"$'\n'"the output is a file that is read" "$drat_check" f d --lrat never --core "$output"
+done
+if [[ -e - || -e never ]]; then
+  echo 'WRONG a file is made where an output is refused'
+  wrong=1
+fi
+converted() {
+  "$convert" f l /dev/stdout | "$check" f -
+}
+wants 0 's UNSATISFIABLE' '' converted
+wants 1 '' 'error writing: No space left on device (os error 28)' full "$convert" f l /dev/stdout
+# what was asked for and can't be written
+for program in "$check" "$hint_check" "$lrat_check" "$convert" "$drat_check" "$model_check"; do
+  for option in --help --version; do
+    wants 1 '' 'error writing: No space left on device (os error 28)' full "$program" "$option"
+  done
+done
+
+# each file is the one that its name says: of two that are read and two that are written none is taken for another, and they are
+# opened before anything is made
+"$drat_check" f d --lrat lines --core kept > out
+if [[ $(cat out) != 's VERIFIED UNSAT' ]] || ! grep -q '^p cnf' kept || grep -q '^p cnf' lines; then
+  echo 'WRONG the lines and the core'
+  wrong=1
+fi
+wants 0 's VERIFIED UNSAT' '' "$lrat_check" f lines
+for output in '--lrat never' '--core never' '--lrat never --core never.too'; do
+  read -r -a words <<< "$output"
+  wants 2 '' $'cannot open absent\nNo such file or directory (os error 2)' "$drat_check" f absent "${words[@]}"
+  wants 2 '' $'cannot open absent\nNo such file or directory (os error 2)' "$drat_check" absent d "${words[@]}"
+done
+wants 2 '' $'cannot open absent\nNo such file or directory (os error 2)' "$check" f absent never
+wants 2 '' $'cannot open absent\nNo such file or directory (os error 2)' "$convert" f absent never
+if [[ -e never || -e never.too ]]; then
+  echo 'WRONG a file is made where a file that is read is absent'
+  wrong=1
+fi
+
+# names that were exchanged are asked about, where a file begins as the other one should
+order='arguments in the wrong order?'
+printf 'a\x02\x00' > binary
+printf '1 0\nd 1 0\n0\n' > deletes
+begins=$'units begins as a formula\n'$order
+wants 1 '' $'proof: line 1: malformed line\n'"$begins" "$lrat_check" ends units
+wants 1 '' $'line 1: malformed line\n'"$begins" "$hint_check" ends units
+wants 1 '' $'proof: line 1: malformed line\n'"$begins" "$convert" ends units new
+wants 1 '' $'proof: step 1: malformed\n'"$begins" "$drat_check" ends units
+wants 1 '' $'answer: line 1: malformed\n'"$begins" "$model_check" ends units
+wants 1 '' $'formula: line 2: bad number\nin deletes\n'"$order" "$drat_check" deletes units
+wants 1 '' $'formula: line 1: bad number\nbinary begins as binary LRAT or binary DRAT\n'"$order" "$drat_check" binary ends
+wants 1 '' $'formula: line 2: bad number\nin deletes' "$drat_check" deletes ends
+
+# a word that is no text
+for word in $'f\xff' $'\xc3'; do
+  shown=$(printf '%s' "$word" | sed 's/\xff/\\xff/;s/\xc3/\\xc3/')
+  wants 2 '' "word 2 of the call is not UTF-8: $shown"$'\ninvalid data\nusage: lrat_check CNF LRAT\nlrat_check --help says more' \
+    "$lrat_check" l "$word"
+done
 
 # a header that says something else than what was read is told of on standard error, after all else, and changes nothing
 
@@ -111,8 +251,6 @@ lies() {
   warning="warning: the header of $place is p cnf $said, but what was read is p cnf $read"
 }
 
-# the added clauses of the proof alone
-sed '/ d /d;s/^[0-9]* //;s/^0 .*/0/;s/ 0 .*/ 0/' "$top/tests/data/par10.lrat" > d
 for said in '27 74' '28 73' '28 75' '0 0' '99 1'; do
   retold "p cnf $said"
   lies "$said" '28 74' f.told
@@ -145,7 +283,7 @@ wants 1 '' $'proof: line 1: malformed line\nin x\n'"$warning" "$lrat_check" f.to
 echo x >> f.told
 wants 1 '' $'formula: line 77: bad number\nin f.told' "$lrat_check" f.told l
 
-# the same of a formula with an answer; a clause that is not met has a line where the formula is a file, and else a number alone
+# the same of a formula with an answer; a clause that is not met is named with its line, wherever the formula comes from
 printf 's SATISFIABLE\nv 1 2 0\n' > a
 echo '1 -2 0' > b
 mkfifo pipe
@@ -156,21 +294,35 @@ through_pipe() {
   wait
   return "$status"
 }
-for said in '1 2' '2 1' '2 3' '9 0'; do
+for said in '1 2' '2 1' '9 0'; do
   printf 'c\np cnf %s\n1 -2 0 2\n-1 0\n' "$said" > f.told
-  unmet='clause 2 has no literal of the answer'
+  unmet='formula: line 4: clause 2 has no literal of the answer'
   lies "$said" '2 2' f.told
   wants 0 's VERIFIED SAT' "$warning" "$model_check" f.told a
-  wants 3 's NOT VERIFIED' "formula: line 4: $unmet"$'\n'"$warning" "$model_check" f.told b
+  wants 3 's NOT VERIFIED' "$unmet"$'\n'"$warning" "$model_check" f.told b
   wants 1 '' $'answer: line 1: malformed\nin x' "$model_check" f.told x
   lies "$said" '2 2' pipe
-  wants 3 's NOT VERIFIED' "formula: $unmet"$'\n'"$warning" through_pipe "$model_check" pipe b
+  wants 3 's NOT VERIFIED' "$unmet"$'\n'"$warning" through_pipe "$model_check" pipe b
   lies "$said" '2 2' 'standard input'
   for way in from piped; do
     wants 0 's VERIFIED SAT' "$warning" "$way" f.told "$model_check" - a
-    wants 3 's NOT VERIFIED' "formula: $unmet"$'\n'"$warning" "$way" f.told "$model_check" - b
+    wants 3 's NOT VERIFIED' "$unmet"$'\n'"$warning" "$way" f.told "$model_check" - b
   done
 done
+# a formula that has fewer clauses than its header says, or neither a header nor a clause, has no verdict
+cut='formula: it ends after 2 of 3 clauses'
+printf 'c\np cnf 2 3\n1 -2 0 2\n-1 0\n' > f.told
+for answer in a b; do
+  wants 1 '' "$cut"$'\nin f.told' "$model_check" f.told "$answer"
+  for way in from piped; do
+    wants 1 '' "$cut"$'\nin standard input' "$way" f.told "$model_check" - "$answer"
+  done
+done
+wants 1 '' $'formula: it has neither a header nor a clause\nin nothing' "$model_check" nothing a
+printf 'p cnf 0 0\n' > f.told
+wants 0 's VERIFIED SAT' '' "$model_check" f.told a
+printf '1 0\n' > f.told
+wants 0 's VERIFIED SAT' '' "$model_check" f.told a
 printf 'p cnf 2 1\n1 2 0\n' > f.told
 for way in from piped; do
   wants 0 's VERIFIED SAT' '' "$way" a "$model_check" f.told -

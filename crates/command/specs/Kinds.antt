@@ -1,9 +1,9 @@
 -- What the first bytes of a file say that it is.
---     kind_by bytes      a compressed file, a binary proof or DRAT text;  or none of these
-use Rattle.std.specs.Prelude.{ℕ, Bool, true, false, ◌&&◌, ◌||◌, ◌==◌, nat_le, if◌then◌else◌, List, [], ◌∷◌, Option, Some, None}
+--     kind_by bytes      a compressed file, a binary proof, a formula or DRAT text;  or none of these
+use Rattle.std.specs.Prelude.{ℕ, Bool, true, false, ◌&&◌, ◌||◌, ◌==◌, not, nat_le, if◌then◌else◌, List, [], ◌∷◌, Option, Some, None}
 use Rattle.std.specs.List.{list_any, starts_with}
 use Rattle.command.specs.declared.kind.Kind.{Kind}
-use Rattle.command.specs.declared.kind.Kind.TheVariants.{Gzip, Xz, Zstd, Bzip2, BinaryProof, DratText}
+use Rattle.command.specs.declared.kind.Kind.TheVariants.{Gzip, Xz, Zstd, Bzip2, BinaryProof, Formula, DratText}
 use Rattle.command.specs.declared.kind.Word.{Word}
 use Rattle.command.specs.declared.kind.Word.TheVariants.{Nothing, Zero, Number}
 
@@ -36,6 +36,14 @@ ends_at_zero Number (byte ∷ bytes) =
 abbrev pub is_drat_text : List ℕ → Bool
 is_drat_text bytes = begins bytes (100 ∷ 32 ∷ []) || ends_at_zero Nothing bytes
 
+-- `p cnf` behind comments, which begin with `c` and end with an LF; and whether one goes on here
+abbrev pub is_formula : Bool → List ℕ → Bool
+is_formula in_comment [] = false
+is_formula true (byte ∷ bytes) = is_formula (not (byte == 10)) bytes
+is_formula false (byte ∷ bytes) =
+    if byte == 99 then is_formula true bytes
+    else begins (byte ∷ bytes) (112 ∷ 32 ∷ 99 ∷ 110 ∷ 102 ∷ [])
+
 -- of the marks of compressed files the first that is met counts
 abbrev pub kind_by : List ℕ → Option Kind
 kind_by bytes =
@@ -44,5 +52,6 @@ kind_by bytes =
     else if begins bytes (40 ∷ 181 ∷ 47 ∷ 253 ∷ []) then Some Zstd
     else if begins bytes (66 ∷ 90 ∷ 104 ∷ []) then Some Bzip2
     else if is_binary_proof bytes then Some BinaryProof
+    else if is_formula false bytes then Some Formula
     else if is_drat_text bytes then Some DratText
     else None

@@ -1,2 +1,5 @@
+pub mod Calls
 pub mod Headers
+pub mod Inputs
 pub mod Kinds
+pub mod Held

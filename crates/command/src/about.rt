@@ -1,4 +1,7 @@
 //! What a program says of itself.
+ghost use Rattle.std.specs.Prelude.{◌≡◌, ◌<◌, option_map};
+ghost use Rattle.command.specs.Calls.{before, behind, has_value};
+
 use std::fmt;
 use std::fmt::{Display, Formatter};
 
@@ -9,7 +12,37 @@ pub struct Entry<'a> {
     pub text: &'a str,
 }
 
-/// What `--help` says of a program. Its man page and its completions are made from that.
+impl<'a> Entry<'a> {
+    /// Of an option's name, the flag: a value's name may stand behind it.
+    pub(crate) fn flag(&self) -> &'a str
+        ensures { result.now ≡ before 32 self.now.name.now }
+    {
+        cut_at(self.name, ' ').0
+    }
+
+    /// Whether an option takes a value.
+    pub(crate) fn has_value(&self) -> bool
+        ensures { result ≡ has_value self.now.name.now }
+    {
+        cut_at(self.name, ' ').1.is_some()
+    }
+}
+
+/// What stands before a character of ASCII, and if it is there, what stands behind the first one.
+#[tactic(auto, using(std::proofs::lemmas::Str::Pattern::split_once_first))]
+pub(crate) fn cut_at(text: &str, mark: char) -> (&str, Option<&str>)
+    requires { mark < 128 }
+    ensures before { result.0.now ≡ before mark text.now }
+    ensures behind { option_map (λ rest. rest.now) result.1 ≡ behind mark text.now }
+{
+    match text.split_once(mark) {
+        Some((front, rest)) => (front, Some(rest)),
+        None => (text, None),
+    }
+}
+
+/// What `--help` says of a program, and how the words of its call are read. Its man page and its
+/// completions are made from that.
 #[derive(Clone, Copy)]
 pub struct About<'a> {
     /// Its name, and what may stand behind it.
@@ -30,17 +63,18 @@ pub struct About<'a> {
     pub examples: &'a [Entry<'a>],
 }
 
+pub(crate) const HELP: Entry<'static> = Entry {
+    name: "--help",
+    text: "says how the program is called",
+};
+
+pub(crate) const VERSION: Entry<'static> = Entry {
+    name: "--version",
+    text: "says of which version it is",
+};
+
 /// The options of all programs.
-const COMMON_OPTIONS: [Entry<'static>; 2] = [
-    Entry {
-        name: "--help",
-        text: "says how the program is called",
-    },
-    Entry {
-        name: "--version",
-        text: "says of which version it is",
-    },
-];
+const COMMON_OPTIONS: [Entry<'static>; 2] = [HELP, VERSION];
 
 const FAILED_STATUS: Entry<'static> = Entry {
     name: "1",
@@ -79,7 +113,12 @@ impl Display for About<'_> {
     }
 }
 
-impl About<'_> {
+impl<'a> About<'a> {
+    /// The program's name.
+    pub(crate) fn program(&self) -> &'a str {
+        cut_at(self.call, ' ').0
+    }
+
     fn write_statuses<F: fmt::Write>(&self, f: &mut Formatter<F>) -> fmt::Result {
         let verified = Entry {
             name: "0",

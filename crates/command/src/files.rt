@@ -1,43 +1,101 @@
-//! Files by their names.
-ghost use Rattle.std.specs.Prelude.{◌≡◌, ◌⊎◌, ◌↔◌, IfSome, IsNone, IsTrue, codes};
+//! Files by their names: which one is opened, read, made or refused. What a clause can't say of a
+//! handle is believed by reading this file.
+ghost use Rattle.std.specs.Prelude.{◌≡◌, ◌⊎◌, ◌↔◌, IfOk, IfSome, IsNone, IsSome, IsTrue, codes};
+ghost use Rattle.command.specs.Inputs.{IsOpenedBy, is_standard_input};
 
 use crate::header::CountingReader;
-use crate::kind::{Kind, kind_of};
-use std::fs::File;
-use std::io::Read;
+use std::fmt::Display;
+use std::fs::{File, Metadata};
+use std::io::{Read, Stdin};
+use std::os::fd::AsFd;
 use std::os::unix::fs::MetadataExt;
 use std::{fs, io};
 
-/// How many bytes of a file are looked at, where it could not be read as what it should be.
-const HEAD: usize = 256;
+/// The name that stands for standard input.
+const STANDARD_INPUT: &str = "-";
 
-/// A file that is open for reading, and the name that it was opened by.
+/// What is read: a file that was opened by its name, or descriptor 0, from where it stands.
+#[derive(Drop)]
+pub enum Source {
+    File(File),
+    StandardInput(Stdin),
+}
+
+impl Read for Source {
+    fn read(&mut self, buf: &mut [u8]) -> io::Result<usize> {
+        match self {
+            Source::File(file) => file.read(buf),
+            Source::StandardInput(stdin) => stdin.read(buf),
+        }
+    }
+}
+
+impl Source {
+    /// What the system tells of it. Of standard input that is asked by a name of the system.
+    pub(crate) fn metadata(&self, rt: &HostRuntime) -> io::Result<Metadata> {
+        match self {
+            Source::File(file) => file.metadata(),
+            Source::StandardInput(_) => fs::metadata(rt, "/proc/self/fd/0"),
+        }
+    }
+}
+
+/// What is open for reading, and the name that it was opened by.
 #[derive(Drop)]
 pub struct Input<'a> {
     pub name: &'a str,
-    pub file: File,
+    pub file: Source,
 }
 
-/// Opens a file for reading; the name `-` stands for standard input.
-///
-/// Where it can't be opened, a line on standard error says so, and a second one why.
-pub fn open_input<'a>(rt: &HostRuntime, name: &'a str) -> Option<Input<'a>>
-    ensures { IfSome result (λ input. input.name.now ≡ name.now) }
+/// Opens a file, or takes descriptor 0, if it is open.
+fn open_source(rt: &HostRuntime, name: &str) -> io::Result<Source>
+    ensures { IfOk result (λ source. IsTrue (is_standard_input source) ↔ (name.now ≡ codes "-")) }
 {
-    let path = if name == "-" { "/dev/stdin" } else { name };
-    match File::open(rt, path) {
+    if name != STANDARD_INPUT {
+        return Ok(Source::File(File::open(rt, name)?));
+    }
+    let stdin = rt.stdin();
+    let _open = stdin.as_fd().try_clone_to_owned()?;
+    Ok(Source::StandardInput(stdin))
+}
+
+/// Opens two files for reading; the name `-` stands for standard input, and can be one of them.
+///
+/// Where one can't be opened, a line on standard error says so, and a second one why.
+pub fn open_inputs<'a>(
+    rt: &HostRuntime,
+    first: &'a str,
+    second: &'a str,
+) -> Option<(Input<'a>, Input<'a>)>
+    ensures first { IfSome result (λ inputs. IsOpenedBy first.now inputs.0) }
+    ensures second { IfSome result (λ inputs. IsOpenedBy second.now inputs.1) }
+    ensures once { first.now ≡ codes "-" → second.now ≡ codes "-" → IsNone result }
+{
+    if second != STANDARD_INPUT {
+        let first = open_input(rt, first)?;
+        return Some((first, open_input(rt, second)?));
+    }
+    if first == STANDARD_INPUT {
+        let _ = eprintln!(rt; "- stands twice: only one file can be standard input");
+        return None;
+    }
+    // Descriptor 0 is looked at first: were it closed, the next file that is opened would be it.
+    let second = open_input(rt, second)?;
+    Some((open_input(rt, first)?, second))
+}
+
+fn open_input<'a>(rt: &HostRuntime, name: &'a str) -> Option<Input<'a>>
+    ensures { IfSome result (IsOpenedBy name.now) }
+{
+    match open_source(rt, name) {
         Ok(file) => Some(Input { name, file }),
-        Err(fault) => {
-            say_unopened(rt, name, &fault);
-            None
-        }
+        Err(fault) => refuse(rt, name, fault),
     }
 }
 
 /// Makes a file for writing, or empties the one that is there.
 ///
-/// A file that is one of the inputs is refused, and left as it is: one of the same name, and where
-/// the system tells it, one that is the same by another name. Where it can't be opened, a line on
+/// Refused, and left as it is, is what `refusal_of` says. Where it can't be opened, a line on
 /// standard error says so, and a second one why.
 pub fn create_output(
     rt: &HostRuntime,
@@ -45,34 +103,82 @@ pub fn create_output(
     first: &Input<'_>,
     second: &Input<'_>,
 ) -> Option<File>
+    ensures dash { name.now ≡ codes "-" → IsNone result }
     ensures named { (name.now ≡ first.now.name.now) ⊎ (name.now ≡ second.now.name.now)
         → IsNone result }
 {
-    if is_named(name, first, second) || is_input(rt, name, first) || is_input(rt, name, second) {
-        let _ = eprintln!(rt; "cannot open {name}");
-        let _ = eprintln!(rt; "the output is a file that is read");
-        return None;
-    }
-    match File::create(rt, name) {
-        Ok(file) => Some(file),
-        Err(fault) => {
-            say_unopened(rt, name, &fault);
-            None
-        }
+    match refusal_of(rt, name, first, second) {
+        Some(why) => refuse(rt, name, why),
+        None => create(rt, name),
     }
 }
 
-/// Whether one of two inputs was opened by this name.
-pub(crate) fn is_named(name: &str, first: &Input<'_>, second: &Input<'_>) -> bool
-    ensures { IsTrue result
-        ↔ ((name.now ≡ first.now.name.now) ⊎ (name.now ≡ second.now.name.now)) }
+/// Makes two files for writing, or empties those that are there.
+///
+/// Where one of them is refused, or they are one file, both are left as they are. Only where two
+/// names lead to one file that is not there yet, it is made, and left empty. Where one can't be
+/// opened, a line on standard error says so, and a second one why.
+pub fn create_two_outputs(
+    rt: &HostRuntime,
+    one: &str,
+    other: &str,
+    first: &Input<'_>,
+    second: &Input<'_>,
+) -> Option<(File, File)>
+    ensures same { one.now ≡ other.now → IsNone result }
+    ensures dash { (one.now ≡ codes "-") ⊎ (other.now ≡ codes "-") → IsNone result }
+    ensures one { (one.now ≡ first.now.name.now) ⊎ (one.now ≡ second.now.name.now)
+        → IsNone result }
+    ensures other { (other.now ≡ first.now.name.now) ⊎ (other.now ≡ second.now.name.now)
+        → IsNone result }
 {
-    name == first.name || name == second.name
+    if one == other || is_one_file(&fs::metadata(rt, one), &fs::metadata(rt, other)) {
+        return refuse(rt, other, "both outputs are one file");
+    }
+    if let Some(why) = refusal_of(rt, one, first, second) {
+        return refuse(rt, one, why);
+    }
+    if let Some(why) = refusal_of(rt, other, first, second) {
+        return refuse(rt, other, why);
+    }
+    let made = create(rt, one)?;
+    if is_one_file(&fs::metadata(rt, other), &made.metadata()) {
+        return refuse(rt, other, "both outputs are one file");
+    }
+    Some((made, create(rt, other)?))
 }
 
-/// Whether a name leads to the regular file that is open.
-pub(crate) fn is_input(rt: &HostRuntime, name: &str, input: &Input<'_>) -> bool {
-    match (fs::metadata(rt, name), input.file.metadata()) {
+/// Why a name may not be written: it is `-`, one of the inputs has it, or where the system tells
+/// it, it leads to the regular file of an input, of standard output or of standard error.
+fn refusal_of(
+    rt: &HostRuntime,
+    name: &str,
+    first: &Input<'_>,
+    second: &Input<'_>,
+) -> Option<&'static str>
+    ensures dash { name.now ≡ codes "-" → IsSome result }
+    ensures named { (name.now ≡ first.now.name.now) ⊎ (name.now ≡ second.now.name.now)
+        → IsSome result }
+{
+    let there = fs::metadata(rt, name);
+    let is_read = is_one_file(&there, &first.file.metadata(rt))
+        || is_one_file(&there, &second.file.metadata(rt));
+    if name == STANDARD_INPUT {
+        Some("- stands for standard input, and nothing is written to that")
+    } else if name == first.name || name == second.name || is_read {
+        Some("the output is a file that is read")
+    } else if is_one_file(&there, &fs::metadata(rt, "/proc/self/fd/1")) {
+        Some("the output is the file of standard output")
+    } else if is_one_file(&there, &fs::metadata(rt, "/proc/self/fd/2")) {
+        Some("the output is the file of standard error")
+    } else {
+        None
+    }
+}
+
+/// Whether both are told, and are of one regular file.
+fn is_one_file(one: &io::Result<Metadata>, other: &io::Result<Metadata>) -> bool {
+    match (one, other) {
         (Ok(one), Ok(other)) => {
             one.is_file() && one.dev() == other.dev() && one.ino() == other.ino()
         }
@@ -80,58 +186,11 @@ pub(crate) fn is_input(rt: &HostRuntime, name: &str, input: &Input<'_>) -> bool 
     }
 }
 
-/// Warns on standard error where the header of a formula that was read whole says something else
-/// than what was read.
-pub fn warn_of_header<R: Read>(rt: &HostRuntime, name: &str, cnf: &CountingReader<R>) {
-    if let Some(header) = cnf.lying_header() {
-        let place = if name == "-" { "standard input" } else { name };
-        let _ = eprintln!(rt; "warning: the header of {place} is {header}");
+fn create(rt: &HostRuntime, name: &str) -> Option<File> {
+    match File::create(rt, name) {
+        Ok(file) => Some(file),
+        Err(fault) => refuse(rt, name, fault),
     }
-}
-
-/// Says on standard error, after a fault of a formula, which file it is.
-///
-/// Where it is a regular file that begins as one of a kind that is not read, that is said of it.
-pub fn say_formula(rt: &HostRuntime, name: &str) {
-    match kind_of_file(rt, name) {
-        Some(Kind::DratText) => say_place(rt, name, None),
-        kind => say_place(rt, name, kind),
-    }
-}
-
-/// Says on standard error, after a fault of a proof, which file it is.
-///
-/// Where it is a regular file that begins as one of a kind that is not read, that is said of it.
-pub fn say_proof(rt: &HostRuntime, name: &str) {
-    say_place(rt, name, kind_of_file(rt, name));
-}
-
-/// Says on standard error, after a fault of a DRAT proof, which file it is.
-///
-/// Where it is a regular file that begins as a compressed one, that is said of it.
-pub fn say_drat_proof(rt: &HostRuntime, name: &str) {
-    match kind_of_file(rt, name) {
-        Some(Kind::DratText | Kind::BinaryProof) => say_place(rt, name, None),
-        kind => say_place(rt, name, kind),
-    }
-}
-
-fn say_place(rt: &HostRuntime, name: &str, kind: Option<Kind>) {
-    let _ = match kind {
-        Some(kind) => {
-            let kind = kind.name();
-            eprintln!(rt; "{name} begins as {kind}")
-        }
-        None if name == "-" => eprintln!(rt; "in standard input"),
-        None => eprintln!(rt; "in {name}"),
-    };
-}
-
-/// What the first bytes of a regular file say that it is. It is opened again for it.
-fn kind_of_file(rt: &HostRuntime, name: &str) -> Option<Kind> {
-    let mut head = [0; HEAD];
-    let count = open_again(rt, name)?.read(&mut head).ok()?;
-    kind_of(&head[..count])
 }
 
 /// Opens a file once more that was read. None: it is standard input or no regular file, and its
@@ -145,8 +204,20 @@ pub fn open_again(rt: &HostRuntime, name: &str) -> Option<File>
     File::open(rt, name).ok()
 }
 
+/// Warns on standard error where the header of a formula that was read whole says something else
+/// than what was read.
+pub fn warn_of_header<R: Read>(rt: &HostRuntime, name: &str, cnf: &CountingReader<R>) {
+    if let Some(header) = cnf.lying_header() {
+        let place = if name == "-" { "standard input" } else { name };
+        let _ = eprintln!(rt; "warning: the header of {place} is {header}");
+    }
+}
+
 /// Says that a file can't be opened, and on a second line why.
-fn say_unopened(rt: &HostRuntime, name: &str, fault: &io::Error) {
+fn refuse<T, D: Display + Drop>(rt: &HostRuntime, name: &str, why: D) -> Option<T>
+    ensures { IsNone result }
+{
     let _ = eprintln!(rt; "cannot open {name}");
-    let _ = eprintln!(rt; "{fault}");
+    let _ = eprintln!(rt; "{why}");
+    None
 }

@@ -1,6 +1,6 @@
 //! What the first bytes of a file say that it is.
 ghost use Rattle.std.specs.Prelude.{◌≡◌, ◌&&◌, ◌||◌};
-ghost use Rattle.command.specs.Kinds.{is_binary_proof, is_drat_text, kind_by, ends_at_zero};
+ghost use Rattle.command.specs.Kinds.{is_binary_proof, is_drat_text, is_formula, kind_by, ends_at_zero};
 
 /// A kind of file that a program is given by mistake.
 #[derive(Clone, Copy, Debug, PartialEq, Eq)]
@@ -11,6 +11,8 @@ pub enum Kind {
     Bzip2,
     /// A step of binary LRAT or of binary DRAT, and a byte 0 as no text has one.
     BinaryProof,
+    /// The header of a formula, behind comments.
+    Formula,
     /// A line of DRAT text: a deletion, or numbers whose only 0 ends the line.
     DratText,
 }
@@ -24,6 +26,7 @@ impl Kind {
             Kind::Zstd => "a zstd file",
             Kind::Bzip2 => "a bzip2 file",
             Kind::BinaryProof => "binary LRAT or binary DRAT",
+            Kind::Formula => "a formula",
             Kind::DratText => "DRAT text",
         }
     }
@@ -45,6 +48,8 @@ pub fn kind_of(bytes: &[u8]) -> Option<Kind>
         Some(Kind::Bzip2)
     } else if is_binary_proof(bytes) {
         Some(Kind::BinaryProof)
+    } else if is_formula(bytes, false) {
+        Some(Kind::Formula)
     } else if is_drat_text(bytes) {
         Some(Kind::DratText)
     } else {
@@ -56,6 +61,23 @@ fn is_binary_proof(bytes: &[u8]) -> bool
     ensures { result ≡ is_binary_proof bytes.now }
 {
     (bytes.starts_with(b"a") || bytes.starts_with(b"d")) && bytes.contains(&0)
+}
+
+/// Whether a header comes behind comments.
+fn is_formula(bytes: &[u8], in_comment: bool) -> bool
+    ensures { result ≡ is_formula in_comment bytes.now }
+{
+    let mut in_comment = in_comment;
+    for (place, byte) in bytes.iter().enumerate() {
+        if in_comment {
+            in_comment = *byte != b'\n';
+        } else if *byte == b'c' {
+            in_comment = true;
+        } else {
+            return bytes[place..].starts_with(b"p cnf");
+        }
+    }
+    false
 }
 
 fn is_drat_text(bytes: &[u8]) -> bool

@@ -2,18 +2,23 @@
 #![tactic(auto)]
 
 mod about;
+mod begin;
+mod call;
 mod files;
 mod header;
+mod held;
 mod kind;
-mod outputs;
+mod places;
 mod status;
 
 pub use about::{About, Entry};
+pub use begin::{misused, start, unnamed};
+pub use call::{Call, Misuse, Setting, read_words};
 pub use files::{
-    Input, create_output, open_again, open_input, say_drat_proof, say_formula, say_proof,
-    warn_of_header,
+    Input, Source, create_output, create_two_outputs, open_again, open_inputs, warn_of_header,
 };
 pub use header::{CountingReader, Counts, LyingHeader};
+pub use held::{HeldBytes, hold_input};
 pub use kind::{Kind, kind_of};
-pub use outputs::create_two_outputs;
-pub use status::{NOT_RUN, help, refuse, usage, version};
+pub use places::{say_answer, say_drat_proof, say_formula, say_proof};
+pub use status::{FAILED, NOT_RUN};

@@ -1,8 +1,11 @@
-//! Calls that can't be run.
-ghost use Rattle.std.specs.Prelude.{◌≡◌};
+//! Exit statuses, and what ends a call with one.
+ghost use Rattle.std.specs.Prelude.{◌≡◌, ◌⊎◌, if◌then◌else◌, is_ok};
 
 use crate::about::About;
-use std::fmt::Display;
+use std::io;
+
+/// The exit status of a call that failed.
+pub const FAILED: u8 = 1;
 
 /// The exit status of a call that can't be run.
 pub const NOT_RUN: u8 = 2;
@@ -11,34 +14,31 @@ pub const NOT_RUN: u8 = 2;
 /// has.
 const VERSION: &str = "0.3.0 (varisat-checker 0.2.2)";
 
-/// Says on standard error why a call can't be run, and gives its exit status.
-pub fn refuse<D: Display + Drop>(rt: &HostRuntime, why: D) -> u8
-    ensures { result ≡ NOT_RUN }
-{
-    let _ = eprintln!(rt; "{why}");
-    NOT_RUN
-}
-
-/// Says on standard error how a program is called, and gives the exit status.
-pub fn usage(rt: &HostRuntime, call: &str) -> u8
-    ensures { result ≡ NOT_RUN }
-{
-    let _ = eprintln!(rt; "usage: {call}");
-    NOT_RUN
-}
-
-/// Says on standard output what a program is: that was asked for, so the status is 0.
+/// Says on standard output what a program is. That was asked for, so the status is 0, or 1 if it
+/// can't be written.
 pub fn help(rt: &HostRuntime, about: &About<'_>) -> u8
-    ensures { result ≡ 0 }
+    ensures { (result ≡ 0) ⊎ (result ≡ FAILED) }
 {
-    let _ = print!(rt; "{about}");
-    0
+    status_of(rt, print!(rt; "{about}"))
 }
 
-/// Says on standard output of which version a program of this name is: the status is 0.
+/// Says on standard output of which version a program of this name is: the status is 0, or 1 if
+/// that can't be written.
 pub fn version(rt: &HostRuntime, name: &str) -> u8
-    ensures { result ≡ 0 }
+    ensures { (result ≡ 0) ⊎ (result ≡ FAILED) }
 {
-    let _ = println!(rt; "{name} {VERSION}");
-    0
+    status_of(rt, println!(rt; "{name} {VERSION}"))
+}
+
+/// The status of a call that only writes. A fault is said on standard error.
+fn status_of(rt: &HostRuntime, written: io::Result<()>) -> u8
+    ensures { result ≡ (if is_ok written then 0 else FAILED) }
+{
+    match written {
+        Ok(()) => 0,
+        Err(fault) => {
+            let _ = eprintln!(rt; "error writing: {fault}");
+            FAILED
+        }
+    }
 }

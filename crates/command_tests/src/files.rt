@@ -4,7 +4,7 @@ use std::io::Read;
 use std::process::Abort;
 use test_streams::Shown;
 
-const KINDS: [(&[u8], Kind); 11] = [
+const KINDS: [(&[u8], Kind); 14] = [
     (b"\x1F\x8B\x08\x00", Kind::Gzip),
     (b"\xFD7zXZ\x00\x00\x04", Kind::Xz),
     (b"\x28\xB5\x2F\xFD\x24\x0C", Kind::Zstd),
@@ -18,15 +18,21 @@ const KINDS: [(&[u8], Kind); 11] = [
     (b"1 0\nd 1 2 0\n0\n", Kind::DratText),
     (b"-1 20 0\n", Kind::DratText),
     (b"0\n", Kind::DratText),
+    (b"p cnf 2 4\n", Kind::Formula),
+    (b"c\nc p cnf 1 1\np cnf 2 4\n", Kind::Formula),
+    (b"cp cnf 2 4\nccc\np cnf", Kind::Formula),
 ];
 
-const NO_KIND: [&[u8]; 12] = [
+const NO_KIND: [&[u8]; 15] = [
     b"",
     b"\x1F",
     b"\xFD7zX",
     b"BZ",
-    b"p cnf 2 4\n",
+    b"p cn",
+    b"p  cnf 2 4\n",
     b"c comment\n",
+    b"c p cnf 2 4",
+    b"c\n\np cnf 2 4\n",
     b"5 1 0 1 2 0\n",
     b"5 d 1 0\n",
     b"5 0 0\n",

@@ -1,10 +1,9 @@
 //! What the program says of itself.
-use crate::CALL;
 use command::{About, Entry};
 
 /// What `--help` says.
 pub const ABOUT: About<'static> = About {
-    call: CALL,
+    call: "drat_check CNF PROOF [--drat] [--frat] [--lrat FILE] [--core FILE]",
     does: "Checks a DRAT or FRAT proof, text or binary, against a formula, and says in one line what it shows.",
     operands: &[
         Entry {
@@ -50,7 +49,7 @@ pub const ABOUT: About<'static> = About {
             text: "checks a proof",
         },
         Entry {
-            name: "solver formula.cnf | drat_check formula.cnf -",
+            name: "cadical -q formula.cnf - | drat_check formula.cnf -",
             text: "checks a proof as the solver writes it",
         },
         Entry {

@@ -9,51 +9,51 @@ mod about;
 
 use crate::about::ABOUT;
 use command::{
-    CountingReader, NOT_RUN, help, open_input, refuse, say_formula, say_proof, usage, version,
+    Call, CountingReader, NOT_RUN, hold_input, open_inputs, say_formula, say_proof, start, unnamed,
     warn_of_header,
 };
 use hint_check::{RunFault, Verdict, exit_status, run_check};
+use sat_formula::DimacsFault;
+use std::io;
 use std::process::ExitCode;
-use std::{env, io};
-
-/// How the program is called.
-const CALL: &str = "hint_check CNF LRAT";
 
 fn main(rt: HostRuntime) -> ExitCode {
     ExitCode::from(status_of_call(&rt))
 }
 
 fn status_of_call(rt: &HostRuntime) -> u8 {
-    let mut words = match env::args(rt) {
-        Ok(words) => words.skip(1),
-        Err(fault) => return refuse(rt, fault),
-    };
-    let Some(first) = words.next() else {
-        return usage(rt, CALL);
-    };
-    match (first.as_str(), words.next(), words.next()) {
-        ("--example", None, _) => check_example(rt),
-        ("--help", None, _) => help(rt, &ABOUT),
-        ("--version", None, _) => version(rt, "hint_check"),
-        (cnf, Some(lrat), None) => check_files(rt, cnf, lrat.as_str()),
-        _ => usage(rt, CALL),
+    match start(rt, &ABOUT) {
+        Ok(call) => run(rt, &call),
+        Err(status) => status,
     }
 }
 
-/// Both files are opened before anything is read.
+fn run(rt: &HostRuntime, call: &Call<'_>) -> u8 {
+    if call.has("--example") {
+        return check_example(rt);
+    }
+    match call.operands.as_slice() {
+        [cnf, lrat] => check_files(rt, cnf.as_str(), lrat.as_str()),
+        operands => unnamed(rt, &ABOUT, operands.len()),
+    }
+}
+
+/// Both files are opened before anything is read. The formula is read whole, and let go once its
+/// clauses are taken.
 fn check_files(rt: &HostRuntime, cnf_name: &str, lrat_name: &str) -> u8 {
-    let Some(cnf) = open_input(rt, cnf_name) else {
+    let Some((cnf, lrat)) = open_inputs(rt, cnf_name, lrat_name) else {
         return NOT_RUN;
     };
-    let Some(lrat) = open_input(rt, lrat_name) else {
-        return NOT_RUN;
+    let cnf = match hold_input(rt, cnf) {
+        Ok(held) => held,
+        Err(fault) => return say_unread(rt, cnf_name, lrat_name, fault),
     };
-    let mut cnf = CountingReader::new(cnf.file);
+    let mut cnf = CountingReader::new(cnf);
     let outcome = run_check(rt.alloc(), &mut cnf, lrat.file, &mut io::writer(rt));
     let status = report(rt, &outcome);
     match outcome {
         Err(RunFault::Formula(_)) => {
-            say_formula(rt, cnf_name);
+            say_formula(rt, cnf_name, lrat_name);
             return status;
         }
         Err(RunFault::Read(_) | RunFault::Hints(_)) => say_proof(rt, lrat_name),
@@ -69,6 +69,13 @@ fn check_example(rt: &HostRuntime) -> u8 {
     let lrat = "3 0 1 2 0\n".as_bytes();
     let outcome = run_check(rt.alloc(), cnf, lrat, &mut io::writer(rt));
     report(rt, &outcome)
+}
+
+/// Says why the formula could not be read, and gives the exit status.
+fn say_unread(rt: &HostRuntime, cnf_name: &str, lrat_name: &str, fault: io::Error) -> u8 {
+    let status = report(rt, &Err(RunFault::Formula(DimacsFault::of_error(fault))));
+    say_formula(rt, cnf_name, lrat_name);
+    status
 }
 
 /// Says why there is no verdict, and gives the exit status.

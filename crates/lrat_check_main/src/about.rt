@@ -1,10 +1,9 @@
 //! What the program says of itself.
-use crate::CALL;
 use command::{About, Entry};
 
 /// What `--help` says.
 pub const ABOUT: About<'static> = About {
-    call: CALL,
+    call: "lrat_check CNF LRAT",
     does: "Checks an LRAT proof against a formula, and says in one line what it shows.",
     operands: &[
         Entry {

@@ -10,13 +10,14 @@ mod about;
 
 use crate::about::ABOUT;
 use command::{
-    CountingReader, NOT_RUN, help, open_input, refuse, say_formula, say_proof, usage, version,
+    Call, CountingReader, NOT_RUN, hold_input, open_inputs, say_formula, say_proof, start, unnamed,
     warn_of_header,
 };
 use lrat_check::{RunFault, Verdict, exit_status, run_check};
 use progress::{LoggedLines, logged};
+use sat_formula::DimacsFault;
+use std::io;
 use std::process::ExitCode;
-use std::{env, io};
 
 /// Four clauses, one against each pair of values of two variables.
 const EXAMPLE_FORMULA: &[u8] = b"p cnf 2 4\n1 2 0\n1 -2 0\n-1 2 0\n-1 -2 0\n";
@@ -24,46 +25,45 @@ const EXAMPLE_FORMULA: &[u8] = b"p cnf 2 4\n1 2 0\n1 -2 0\n-1 2 0\n-1 -2 0\n";
 /// 1 follows from the first two clauses, and with it the others are against each other.
 const EXAMPLE_PROOF: &[u8] = b"5 1 0 1 2 0\n5 d 1 2 0\n6 0 5 3 4 0\n";
 
-/// How the program is called.
-const CALL: &str = "lrat_check CNF LRAT";
-
 fn main(rt: HostRuntime) -> ExitCode {
     ExitCode::from(status_of_call(&rt))
 }
 
 fn status_of_call(rt: &HostRuntime) -> u8 {
-    let mut words = match env::args(rt) {
-        Ok(words) => words.skip(1),
-        Err(fault) => return refuse(rt, fault),
-    };
-    let Some(first) = words.next() else {
-        return usage(rt, CALL);
-    };
-    match (first.as_str(), words.next(), words.next()) {
-        ("--example", None, _) => check_example(rt),
-        ("--help", None, _) => help(rt, &ABOUT),
-        ("--version", None, _) => version(rt, "lrat_check"),
-        (cnf, Some(proof), None) => check_files(rt, cnf, proof.as_str()),
-        _ => usage(rt, CALL),
+    match start(rt, &ABOUT) {
+        Ok(call) => run(rt, &call),
+        Err(status) => status,
     }
 }
 
-/// Both files are opened before anything is read.
+fn run(rt: &HostRuntime, call: &Call<'_>) -> u8 {
+    if call.has("--example") {
+        return check_example(rt);
+    }
+    match call.operands.as_slice() {
+        [cnf, proof] => check_files(rt, cnf.as_str(), proof.as_str()),
+        operands => unnamed(rt, &ABOUT, operands.len()),
+    }
+}
+
+/// Both files are opened before anything is read. The formula is read whole, and let go once its
+/// clauses are taken.
 fn check_files(rt: &HostRuntime, cnf_name: &str, proof_name: &str) -> u8 {
-    let Some(cnf) = open_input(rt, cnf_name) else {
+    let Some((cnf, proof)) = open_inputs(rt, cnf_name, proof_name) else {
         return NOT_RUN;
     };
-    let Some(proof) = open_input(rt, proof_name) else {
-        return NOT_RUN;
+    let cnf = match hold_input(rt, cnf) {
+        Ok(held) => held,
+        Err(fault) => return say_unread(rt, cnf_name, proof_name, fault),
     };
-    let mut cnf = CountingReader::new(cnf.file);
+    let mut cnf = CountingReader::new(cnf);
     let log = logged(rt);
     let proof = LoggedLines::new(&log, proof.file);
     let outcome = run_check(rt.alloc(), &mut cnf, proof, &mut io::writer(rt));
     let status = report(rt, &outcome);
     match outcome {
         Err(RunFault::Formula(_)) => {
-            say_formula(rt, cnf_name);
+            say_formula(rt, cnf_name, proof_name);
             return status;
         }
         Err(RunFault::Proof(_)) => say_proof(rt, proof_name),
@@ -81,6 +81,13 @@ fn check_example(rt: &HostRuntime) -> u8 {
         &mut io::writer(rt),
     );
     report(rt, &outcome)
+}
+
+/// Says why the formula could not be read, and gives the exit status.
+fn say_unread(rt: &HostRuntime, cnf_name: &str, proof_name: &str, fault: io::Error) -> u8 {
+    let status = report(rt, &Err(RunFault::Formula(DimacsFault::of_error(fault))));
+    say_formula(rt, cnf_name, proof_name);
+    status
 }
 
 /// Says why there is no verdict, and gives the exit status.

@@ -1,10 +1,9 @@
 //! What the program says of itself.
-use crate::CALL;
 use command::{About, Entry};
 
 /// What `--help` says.
 pub const ABOUT: About<'static> = About {
-    call: CALL,
+    call: "lrat_to_proof CNF LRAT PROOF [--width N]",
     does: "Writes an LRAT proof of a formula as proof bytes, which varisat_check takes. It judges nothing.",
     operands: &[
         Entry {
@@ -17,7 +16,7 @@ pub const ABOUT: About<'static> = About {
         },
         Entry {
             name: "PROOF",
-            text: "the file that is written; - stands for standard output",
+            text: "the file that is written",
         },
     ],
     options: &[Entry {
@@ -33,7 +32,7 @@ pub const ABOUT: About<'static> = About {
             text: "writes the bytes of a proof",
         },
         Entry {
-            name: "lrat_to_proof formula.cnf proof.lrat - | varisat_check formula.cnf -",
+            name: "lrat_to_proof formula.cnf proof.lrat /dev/stdout | varisat_check formula.cnf -",
             text: "has an LRAT proof checked by varisat_check",
         },
     ],

@@ -1,64 +1,50 @@
 //! The command `lrat_to_proof CNF LRAT PROOF [--width N]`: writes an LRAT proof of a formula as
 //! proof bytes, which `varisat_check` takes.
 //!
-//! `--help` says how the program is called, and `--version` of which version it is. The name `-`
-//! stands for standard input, and as the third one for standard output.
+//! `--help` says how the program is called, and `--version` of which version it is. The name `-` of
+//! a file that is read stands for standard input.
 #![tactic(auto)]
 
 mod about;
 
 use crate::about::ABOUT;
 use command::{
-    CountingReader, Input, NOT_RUN, create_output, help, open_input, refuse, say_formula,
-    say_proof, usage, version, warn_of_header,
+    Call, CountingReader, Input, NOT_RUN, Source, create_output, misused, open_inputs, say_formula,
+    say_proof, start, unnamed, warn_of_header,
 };
 use lrat_to_proof::{Conversion, ConvertFault, HashWidth, convert, exit_status};
 use std::fs::File;
-use std::io::{BufWriter, Write};
+use std::io::BufWriter;
 use std::process::ExitCode;
-use std::{env, io};
-
-/// How the program is called.
-const CALL: &str = "lrat_to_proof CNF LRAT PROOF [--width N]";
 
 fn main(rt: HostRuntime) -> ExitCode {
     ExitCode::from(status_of_call(&rt))
 }
 
 fn status_of_call(rt: &HostRuntime) -> u8 {
-    let mut words = match env::args(rt) {
-        Ok(words) => words.skip(1),
-        Err(fault) => return refuse(rt, fault),
-    };
-    let Some(cnf) = words.next() else {
-        return usage(rt, CALL);
-    };
-    let (Some(lrat), Some(proof)) = (words.next(), words.next()) else {
-        return match cnf.as_str() {
-            "--help" => help(rt, &ABOUT),
-            "--version" => version(rt, "lrat_to_proof"),
-            _ => usage(rt, CALL),
-        };
-    };
-    let width = match (words.next(), words.next(), words.next()) {
-        (None, _, _) => Some(HashWidth::full()),
-        (Some(option), Some(bits), None) => width_of(option.as_str(), bits.as_str()),
-        _ => None,
-    };
-    match width {
-        Some(width) => convert_files(rt, cnf.as_str(), lrat.as_str(), proof.as_str(), width),
-        None => usage(rt, CALL),
+    match start(rt, &ABOUT) {
+        Ok(call) => run(rt, &call),
+        Err(status) => status,
     }
 }
 
-/// The width that `--width N` sets, where the words say one.
-fn width_of(option: &str, bits: &str) -> Option<HashWidth> {
-    if option != "--width" {
-        return None;
+fn run(rt: &HostRuntime, call: &Call<'_>) -> u8 {
+    let Some(width) = width_of(call) else {
+        return misused(rt, &ABOUT, "--width takes a number from 1 to 64");
+    };
+    match call.operands.as_slice() {
+        [cnf, lrat, proof] => {
+            convert_files(rt, cnf.as_str(), lrat.as_str(), proof.as_str(), width)
+        }
+        operands => unnamed(rt, &ABOUT, operands.len()),
     }
-    match bits.parse::<u32>() {
-        Ok(bits) => HashWidth::from_bits(bits),
-        Err(_) => None,
+}
+
+/// The width that `--width N` sets. None: it is none that a hash can have.
+fn width_of(call: &Call<'_>) -> Option<HashWidth> {
+    match call.value("--width") {
+        None => Some(HashWidth::full()),
+        Some(bits) => HashWidth::from_bits(bits.parse::<u32>().ok()?),
     }
 }
 
@@ -71,26 +57,20 @@ fn convert_files(
     proof_name: &str,
     width: HashWidth,
 ) -> u8 {
-    let Some(cnf) = open_input(rt, cnf_name) else {
+    let Some((cnf, lrat)) = open_inputs(rt, cnf_name, lrat_name) else {
         return NOT_RUN;
     };
-    let Some(lrat) = open_input(rt, lrat_name) else {
-        return NOT_RUN;
-    };
-    if proof_name == "-" {
-        return convert_to(rt, cnf, lrat, io::writer(rt), width);
-    }
     match create_output(rt, proof_name, &cnf, &lrat) {
         Some(proof) => convert_to(rt, cnf, lrat, proof, width),
         None => NOT_RUN,
     }
 }
 
-fn convert_to<W: Write + Drop>(
+fn convert_to(
     rt: &HostRuntime,
     cnf: Input<'_>,
     lrat: Input<'_>,
-    proof: W,
+    proof: File,
     width: HashWidth,
 ) -> u8 {
     let (cnf_name, lrat_name) = (cnf.name, lrat.name);
@@ -99,7 +79,7 @@ fn convert_to<W: Write + Drop>(
     let status = report(rt, &outcome);
     match outcome {
         Err(ConvertFault::Formula(_)) => {
-            say_formula(rt, cnf_name);
+            say_formula(rt, cnf_name, lrat_name);
             return status;
         }
         Err(ConvertFault::Read(_) | ConvertFault::Unread { .. } | ConvertFault::Refused { .. }) =>
@@ -110,11 +90,11 @@ fn convert_to<W: Write + Drop>(
     status
 }
 
-fn write_proof<W: Write + Drop>(
+fn write_proof(
     rt: &HostRuntime,
-    cnf: &mut CountingReader<File>,
-    lrat: File,
-    proof: W,
+    cnf: &mut CountingReader<Source>,
+    lrat: Source,
+    proof: File,
     width: HashWidth,
 ) -> Result<Conversion, ConvertFault> {
     match BufWriter::new(rt.alloc(), proof) {

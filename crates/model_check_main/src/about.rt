@@ -1,10 +1,9 @@
 //! What the program says of itself.
-use crate::CALL;
 use command::{About, Entry};
 
 /// What `--help` says.
 pub const ABOUT: About<'static> = About {
-    call: CALL,
+    call: "model_check CNF ANSWER",
     does: "Checks that the literals of a solver's answer satisfy a formula, and says it in one line.",
     operands: &[
         Entry {

@@ -1,10 +1,9 @@
 //! What the program says of itself.
-use crate::CALL;
 use command::{About, Entry};
 
 /// What `--help` says.
 pub const ABOUT: About<'static> = About {
-    call: CALL,
+    call: "varisat_check CNF PROOF [LRAT]",
     does: "Checks a proof in this project's bytes against a formula, and says in one line what it shows. \
         Without arguments it checks a small fixed example.",
     operands: &[
@@ -18,8 +17,7 @@ pub const ABOUT: About<'static> = About {
         },
         Entry {
             name: "LRAT",
-            text: "a file that the checked steps are written to, as lines of hints; - stands for \
-                standard output",
+            text: "a file that the checked steps are written to, as lines of hints",
         },
     ],
     options: &[],

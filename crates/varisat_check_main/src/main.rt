@@ -3,8 +3,8 @@
 //!
 //! With a third file the checked steps are written to it as lines of hints.
 //! Without arguments it checks a small fixed example; `--help` says how the program is called, and
-//! `--version` of which version it is. The name `-` stands for standard input, and as the third one
-//! for standard output.
+//! `--version` of which version it is. The name `-` of a file that is read stands for standard
+//! input.
 //! What `RUST_LOG` asks for, as `RUST_LOG=info`, is logged to standard error; else nothing is.
 #![tactic(auto)]
 
@@ -12,21 +12,17 @@ mod about;
 
 use crate::about::ABOUT;
 use command::{
-    CountingReader, Input, NOT_RUN, create_output, help, open_input, refuse, say_formula,
-    say_proof, usage, version, warn_of_header,
+    Call, CountingReader, HeldBytes, Input, NOT_RUN, Source, create_output, hold_input,
+    open_inputs, say_formula, say_proof, start, unnamed, warn_of_header,
 };
 use progress::logged;
-use sat_formula::Lit;
+use sat_formula::{DimacsFault, Lit};
 use sat_hints::LratWriter;
 use std::fs::File;
-use std::io::Write;
+use std::io;
 use std::process::ExitCode;
-use std::{env, io};
 use varisat_check::{RunFault, Verdict, exit_status, read_formula, run_check, run_lrat, run_proof};
 use varisat_checker::Checker;
-
-/// How the program is called.
-const CALL: &str = "varisat_check CNF PROOF [LRAT]";
 
 /// A proof of one step, which ends it.
 const END_ALONE: [u8; 1] = [0x0D];
@@ -36,33 +32,32 @@ fn main(rt: HostRuntime) -> ExitCode {
 }
 
 fn status_of_call(rt: &HostRuntime) -> u8 {
-    let mut words = match env::args(rt) {
-        Ok(words) => words.skip(1),
-        Err(fault) => return refuse(rt, fault),
-    };
-    let Some(first) = words.next() else {
-        return check_example(rt);
-    };
-    match (first.as_str(), words.next(), words.next(), words.next()) {
-        ("--help", None, _, _) => help(rt, &ABOUT),
-        ("--version", None, _, _) => version(rt, "varisat_check"),
-        (cnf, Some(proof), None, _) => check_files(rt, cnf, proof.as_str()),
-        (cnf, Some(proof), Some(lrat), None) => {
-            write_hints(rt, cnf, proof.as_str(), lrat.as_str())
-        }
-        _ => usage(rt, CALL),
+    match start(rt, &ABOUT) {
+        Ok(call) => run(rt, &call),
+        Err(status) => status,
     }
 }
 
-/// Both files are opened before anything is read.
+fn run(rt: &HostRuntime, call: &Call<'_>) -> u8 {
+    match call.operands.as_slice() {
+        [] => check_example(rt),
+        [cnf, proof] => check_files(rt, cnf.as_str(), proof.as_str()),
+        [cnf, proof, lrat] => write_hints(rt, cnf.as_str(), proof.as_str(), lrat.as_str()),
+        operands => unnamed(rt, &ABOUT, operands.len()),
+    }
+}
+
+/// Both files are opened before anything is read. The formula is read whole, and let go once its
+/// clauses are taken.
 fn check_files(rt: &HostRuntime, cnf_name: &str, proof_name: &str) -> u8 {
-    let Some(cnf) = open_input(rt, cnf_name) else {
+    let Some((cnf, proof)) = open_inputs(rt, cnf_name, proof_name) else {
         return NOT_RUN;
     };
-    let Some(proof) = open_input(rt, proof_name) else {
-        return NOT_RUN;
+    let cnf = match hold_input(rt, cnf) {
+        Ok(held) => held,
+        Err(fault) => return say_unread(rt, cnf_name, proof_name, fault),
     };
-    let mut cnf = CountingReader::new(cnf.file);
+    let mut cnf = CountingReader::new(cnf);
     let log = logged(rt);
     let outcome = run_check(&log, rt.alloc(), &mut cnf, proof.file, &mut io::writer(rt));
     report_files(rt, &outcome, cnf_name, &cnf, proof_name)
@@ -71,38 +66,31 @@ fn check_files(rt: &HostRuntime, cnf_name: &str, proof_name: &str) -> u8 {
 /// The third file is made once both others are open, and before anything is read. It is neither of
 /// them.
 fn write_hints(rt: &HostRuntime, cnf_name: &str, proof_name: &str, lrat_name: &str) -> u8 {
-    let Some(cnf) = open_input(rt, cnf_name) else {
+    let Some((cnf, proof)) = open_inputs(rt, cnf_name, proof_name) else {
         return NOT_RUN;
     };
-    let Some(proof) = open_input(rt, proof_name) else {
-        return NOT_RUN;
-    };
-    if lrat_name == "-" {
-        return write_hints_to(rt, cnf, proof, &mut io::writer(rt));
-    }
     match create_output(rt, lrat_name, &cnf, &proof) {
         Some(mut lrat) => write_hints_to(rt, cnf, proof, &mut lrat),
         None => NOT_RUN,
     }
 }
 
-fn write_hints_to<W: Write>(
-    rt: &HostRuntime,
-    cnf: Input<'_>,
-    proof: Input<'_>,
-    lrat: &mut W,
-) -> u8 {
+fn write_hints_to(rt: &HostRuntime, cnf: Input<'_>, proof: Input<'_>, lrat: &mut File) -> u8 {
     let (cnf_name, proof_name) = (cnf.name, proof.name);
-    let mut cnf = CountingReader::new(cnf.file);
+    let cnf = match hold_input(rt, cnf) {
+        Ok(held) => held,
+        Err(fault) => return say_unread(rt, cnf_name, proof_name, fault),
+    };
+    let mut cnf = CountingReader::new(cnf);
     let outcome = hints_of(rt, &mut cnf, proof.file, lrat);
     report_files(rt, &outcome, cnf_name, &cnf, proof_name)
 }
 
-fn hints_of<W: Write>(
+fn hints_of(
     rt: &HostRuntime,
-    cnf: &mut CountingReader<File>,
-    proof: File,
-    lrat: &mut W,
+    cnf: &mut CountingReader<HeldBytes>,
+    proof: Source,
+    lrat: &mut File,
 ) -> Result<Verdict, RunFault> {
     let formula = read_formula(rt.alloc(), cnf)?;
     let writer = LratWriter::new(rt.alloc(), formula.len() as u64);
@@ -138,19 +126,27 @@ fn report_files(
     rt: &HostRuntime,
     outcome: &Result<Verdict, RunFault>,
     cnf_name: &str,
-    cnf: &CountingReader<File>,
+    cnf: &CountingReader<HeldBytes>,
     proof_name: &str,
 ) -> u8 {
     let status = report(rt, outcome);
     match outcome {
         Err(RunFault::Formula(_)) => {
-            say_formula(rt, cnf_name);
+            say_formula(rt, cnf_name, proof_name);
             return status;
         }
         Err(RunFault::Proof(_)) => say_proof(rt, proof_name),
         Err(RunFault::Write(_)) | Ok(_) => {}
     }
     warn_of_header(rt, cnf_name, cnf);
+    status
+}
+
+/// Says why the formula could not be read, and gives the exit status.
+fn say_unread(rt: &HostRuntime, cnf_name: &str, proof_name: &str, fault: io::Error) -> u8 {
+    let fault = DimacsFault::of_error(fault).into();
+    let status = report(rt, &Err(RunFault::Formula(fault)));
+    say_formula(rt, cnf_name, proof_name);
     status
 }
 

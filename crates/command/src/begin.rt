@@ -1,0 +1,85 @@
+//! How a program begins: with the words of its call.
+ghost use Rattle.std.specs.Prelude.{◌≡◌};
+
+use crate::about::About;
+use crate::call::{Call, read_words};
+use crate::status::{NOT_RUN, help, version};
+use std::env::{Env, FillError};
+use std::fmt::Display;
+use std::{env, str};
+
+/// How many bytes of a word are looked at, where one of a call is no text.
+const WORD_LENGTH: usize = 4096;
+
+/// Reads the words of a call, as the program says them of itself.
+///
+/// An Err is the exit status of a call that ends here: `--help` and `--version` are answered, and
+/// of words that can't be read a line on standard error says which one is wrong.
+pub fn start<'a>(rt: &HostRuntime, about: &'a About<'a>) -> Result<Call<'a>, u8> {
+    let mut words = match env::args(rt) {
+        Ok(words) => words,
+        Err(fault) => {
+            say_unreadable(rt);
+            return Err(misused(rt, about, fault));
+        }
+    };
+    let _program = words.next();
+    let call = match read_words(rt.alloc(), about.options, about.operands.len(), words) {
+        Ok(call) => call,
+        Err(misuse) => return Err(misused(rt, about, misuse)),
+    };
+    if call.has("--help") {
+        return Err(help(rt, about));
+    }
+    if call.has("--version") {
+        return Err(version(rt, about.program()));
+    }
+    if call.has("--example") && !call.is_one_word() {
+        return Err(misused(rt, about, "--example stands alone"));
+    }
+    Ok(call)
+}
+
+/// Says on standard error why a call can't be run, and how the program is called.
+pub fn misused<D: Display + Drop>(rt: &HostRuntime, about: &About<'_>, why: D) -> u8
+    ensures { result ≡ NOT_RUN }
+{
+    let (call, program) = (about.call, about.program());
+    let _ = eprintln!(rt; "{why}");
+    let _ = eprintln!(rt; "usage: {call}");
+    let _ = eprintln!(rt; "{program} --help says more");
+    NOT_RUN
+}
+
+/// Says on standard error which file is not named, where so many are, and how the program is
+/// called.
+pub fn unnamed(rt: &HostRuntime, about: &About<'_>, count: usize) -> u8
+    ensures { result ≡ NOT_RUN }
+{
+    match about.operands.get(count) {
+        Some(operand) => {
+            let name = operand.name;
+            misused(rt, about, format_args!("no file is named for {name}"))
+        }
+        None => misused(rt, about, "a file too many"),
+    }
+}
+
+/// Says on standard error which words of the call are no text.
+fn say_unreadable(rt: &HostRuntime) {
+    let mut word = [0; WORD_LENGTH];
+    for place in 1..usize::MAX {
+        match rt.arg(place, &mut word) {
+            Ok(count) => say_no_text(rt, place, &word[..count]),
+            Err(FillError::TooLong) => {}
+            Err(FillError::NotPresent) => return,
+        }
+    }
+}
+
+fn say_no_text(rt: &HostRuntime, place: usize, word: &[u8]) {
+    if str::from_utf8(word).is_err() {
+        let word = word.escape_ascii();
+        let _ = eprintln!(rt; "word {place} of the call is not UTF-8: {word}");
+    }
+}

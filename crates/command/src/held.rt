@@ -1,0 +1,80 @@
+//! Files that are read whole.
+ghost use Rattle.std.specs.Prelude.{◌≡◌, ◌≤◌, vec_len, IfOk, IfSome, Some};
+ghost use Rattle.std.specs.Io.{ReadsAtMost};
+ghost use Rattle.std.specs.Io.KnownBytes.{ReadConsumes};
+
+use crate::files::Input;
+use std::alloc::Global;
+use std::io;
+use std::io::Read;
+
+/// Bytes that a reader gave, and that are given again. Once the last one is given they are let go.
+#[derive(Drop)]
+pub struct HeldBytes {
+    alloc: Global,
+    bytes: Vec<u8>,
+    /// So many of them were given.
+    given: usize,
+    ghost within: { given ≤ vec_len bytes },
+}
+
+impl HeldBytes {
+    ghost use Rattle.command.specs.Held.{held_in};
+
+    /// Reads all bytes of a reader. Where no more come than are expected, memory is taken for no
+    /// more.
+    ///
+    /// An error of the kind `OutOfMemory` says that there was no memory for them; any other one is
+    /// that of a read.
+    pub fn of_reader<R: Read + Drop>(
+        alloc: Global,
+        from: R,
+        expected: usize,
+    ) -> io::Result<HeldBytes>
+        ensures { IfOk result (λ held. IfSome (R.remaining from) (λ bytes. held_in held ≡ bytes)) }
+    {
+        let mut from = from;
+        let mut bytes = Vec::new(alloc);
+        if bytes.reserve_exact(expected).is_err() {
+            return Err(io::Error::from(io::ErrorKind::OutOfMemory));
+        }
+        from.read_to_end(&mut bytes)?;
+        Ok(HeldBytes {
+            alloc,
+            bytes,
+            given: 0,
+        })
+    }
+}
+
+/// Reads a file whole that is open. Of a regular one the memory taken is that of its length.
+pub fn hold_input(rt: &HostRuntime, input: Input<'_>) -> io::Result<HeldBytes> {
+    let expected = match input.file.metadata(rt) {
+        // One byte more, so that the end is found without growing.
+        Ok(data) if data.is_file() => (data.len() as usize).saturating_add(1),
+        _ => 0,
+    };
+    HeldBytes::of_reader(rt.alloc(), input.file, expected)
+}
+
+impl Read for HeldBytes {
+    ghost use Rattle.std.specs.Prelude.{Some};
+    ghost use Rattle.command.specs.Held.{held_in};
+
+    ghost remaining = { λ held. Some (held_in held) };
+
+    fn read(&mut self, buf: &mut [u8]) -> io::Result<usize>
+        ensures bound { ReadsAtMost result buf.new }
+        ensures bytes { ReadConsumes (Some (held_in self.old)) (Some (held_in self.new)) result
+            buf.new }
+    {
+        let mut rest = &self.bytes.as_slice()[self.given..];
+        let count = rest.read(buf)?;
+        self.given += count;
+        if self.given == self.bytes.len() {
+            self.bytes = Vec::new(self.alloc);
+            self.given = 0;
+        }
+        Ok(count)
+    }
+}
