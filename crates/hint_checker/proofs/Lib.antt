@@ -1,14 +1,7 @@
+pub mod Agreement
 pub mod CheckLemmas
-pub mod CutLemmas
-pub mod LineLemmas
-pub mod MarkLemmas
-pub mod NumberLemmas
 pub mod OneAnswer
-pub mod PackLemmas
+pub mod OutcomeLemmas
 pub mod Parts
-pub mod PlaceLemmas
-pub mod Places
-pub mod ShortLemmas
 pub mod StreamLemmas
 pub mod ValueLemmas
-pub mod Words

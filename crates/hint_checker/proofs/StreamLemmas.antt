@@ -1,153 +1,32 @@
--- The lines of a reader's text, taken some at a time.
---     Passed h old new n k      from old to new n whole lines were taken, are accepted after h and lead to k
-use Rattle.std.proofs.Common.{◌≡◌, ℕ, ◌+◌, Bool, true, false, List, [], ◌∷◌, ◌++◌, length, Option, Some, None, Ok, refl, sym, ap, ◌∙◌, inl, inr, arith, append_assoc, append-nil, length-append}
-use Rattle.std.specs.Io.KnownBytes.{Consumes, IsAtEnd}
-use Rattle.std.specs.List.{onto_first}
+-- The lines of a reader's text in turn.
+--     SoFar      the lines that were read so far, all of them accepted
+use Rattle.std.proofs.Common.{◌≡◌, ℕ, suc, ◌+◌, ◌-◌, ◌^◌, ◌<◌, ◌≤◌, Bool, true, false, List, [], ◌∷◌, ◌++◌, length, Option, Some, None, Result, Ok, Err, refl, sym, ap, ◌∙◌, subst, arith, append_assoc, append-nil}
+use Rattle.std.specs.Io.KnownBytes.{Consumes}
 use Rattle.std.proofs.KnownBytes.{Consumes-nil, Consumes-trans, Consumes-whole}
-use Rattle.std.proofs.lemmas.Bool.{cases_Bool}
-use Rattle.std.proofs.lemmas.List.Splits.{slice_split-cons_no, slice_split-cons_yes}
-use Rattle.std.proofs.lemmas.Option.{none-some}
-use Rattle.sat_rules.specs.HintLines.{Follows, HintLine, Listed}
-use Rattle.sat_rules.proofs.HintLineFacts.{some-same}
-use Rattle.sat_formula.specs.Bytes.{is_lf}
-use Rattle.sat_formula.specs.declared.source.Source.{Source}
+use Rattle.sat_rules.specs.HintLines.{Listed}
 use Rattle.sat_formula.specs.Lines.{lines_of}
-use Rattle.sat_formula.proofs.Lines.{slice_split-front}
-use Rattle.hint_checker.specs.Checked.{Accepts, IsRefusal, Refuses, in_line, joined, said_all}
-use Rattle.hint_checker.specs.Streams.{GivesText, IsCutOff, IsOpen, TakesLines}
-use Rattle.hint_checker.specs.Text as text
-use Rattle.hint_checker.specs.Text.{Said, in_front, said_by}
+use Rattle.lrat_rules.specs.Lines.{Line}
+use Rattle.lrat_text.specs.NextLine.{Gives, bytes_left, has_ended, line_number, room_left, view}
+use Rattle.lrat_text.specs.Taking.{Breaks, Follows, Leads}
+use Rattle.lrat_text.specs.Texts.{Ended, Ending, Faulty, Outcome, outcome_after, outcome_of, with_line}
+use Rattle.lrat_text.specs.declared.fault.LineKind.{LineKind}
+use Rattle.lrat_text.specs.declared.fault.LratTextFault.{LratTextFault}
+use Rattle.lrat_text.specs.declared.fault.LratTextFault.TheVariants as reads
+use Rattle.lrat_text.specs.declared.line.LratLine.{LratLine}
+use Rattle.lrat_text.specs.declared.reader.LineReader.{LineReader}
+use Rattle.lrat_text.proofs.LineLemmas.{ends_on, leads_on}
+use Rattle.hint_checker.specs.Checked.{Accepts, IsCause, IsRefusal, Refuses, after_said, in_line, refusal}
+use Rattle.hint_checker.specs.Given.{as_hints, of_text}
+use Rattle.hint_checker.specs.Streams.{GivesText, IsCutOff, IsTextRefusal}
+use Rattle.hint_checker.specs.declared.fault.HintTextFault.TheVariants.{Refused}
 use Rattle.hint_checker.specs.declared.fault.LineFault.{LineFault}
 use Rattle.hint_checker.specs.declared.fault.LineFault.TheVariants as causes
-use Rattle.hint_checker.proofs.CheckLemmas.{follows_join}
+use Rattle.hint_checker.proofs.OutcomeLemmas.{Run, Stops, all_accepted, numbered-exact, run_more, stopped_at}
 
 abbrev Known : Type 0
 Known = Option (List ℕ)
 
--- ---- lines of two texts
-
-onto_join : (x : ℕ) (xs ys : List ℕ) → onto_first x (lines_of xs ++ lines_of ys) ≡ onto_first x (lines_of xs) ++ lines_of ys
-onto_join x xs ys =
-    let front = slice_split-front is_lf xs in
-    ap (λ (ls : List (List ℕ)). onto_first x (ls ++ lines_of ys)) front ∙ ap (λ (ls : List (List ℕ)). onto_first x ls ++ lines_of ys) (sym front)
-
--- an LF ends the lines before it
-pub lines_join : (xs ys : List ℕ) → lines_of (xs ++ 10 ∷ ys) ≡ lines_of xs ++ lines_of ys
-lines_join [] ys = refl
-lines_join (x ∷ xs) ys = elim (cases_Bool (is_lf x)) [
-  | inl e ↦ slice_split-cons_yes is_lf x (xs ++ 10 ∷ ys) e ∙ ap (λ (ls : List (List ℕ)). [] ∷ ls) (lines_join xs ys)
-      ∙ ap (λ (ls : List (List ℕ)). ls ++ lines_of ys) (sym (slice_split-cons_yes is_lf x xs e))
-  | inr e ↦ slice_split-cons_no is_lf x (xs ++ 10 ∷ ys) e ∙ ap (onto_first x) (lines_join xs ys) ∙ onto_join x xs ys
-      ∙ ap (λ (ls : List (List ℕ)). ls ++ lines_of ys) (sym (slice_split-cons_no is_lf x xs e))
-]
-
--- what lines after lines say
-pub said_join : (ls ms : List (List ℕ)) (xs ys : List HintLine) → said_all ls ≡ Some xs → said_all ms ≡ Some ys → said_all (ls ++ ms) ≡ Some (xs ++ ys)
-said_join [] ms xs ys e f = f ∙ ap (λ zs. Some (zs ++ ys)) (some-same [] xs e)
-said_join (l ∷ ls) ms xs ys e f = go (said_join ls ms) (said_by l) (said_all ls) refl e
-  where
-    Rest : Type 0
-    Rest = (zs ws : List HintLine) → said_all ls ≡ Some zs → said_all ms ≡ Some ws → said_all (ls ++ ms) ≡ Some (zs ++ ws)
-
-    one : Rest → (x : HintLine) (o : Option (List HintLine)) → said_all ls ≡ o → in_front x o ≡ Some xs → in_front x (said_all (ls ++ ms)) ≡ Some (xs ++ ys)
-    one rest x None a h = absurd (none-some xs h)
-    one rest x (Some zs) a h = ap (in_front x) (rest zs ys a f) ∙ ap (λ ws. Some (ws ++ ys)) (some-same (x ∷ zs) xs h)
-
-    go : Rest → (s : Said) (o : Option (List HintLine)) → said_all ls ≡ o → joined s (said_all ls) ≡ Some xs → joined s (said_all (ls ++ ms)) ≡ Some (xs ++ ys)
-    go rest text.Nothing o a h = rest xs ys h f
-    go rest (text.Line x) o a h = one rest x o a (ap (in_front x) (sym a) ∙ h)
-    go rest text.Malformed o a h = absurd (none-some xs h)
-
--- ---- the loop over what is taken
-
-pub record Passed (h : Listed) (old new : Known) (n : ℕ) (k : Listed) : Type 0 where
-  pub taken : List ℕ
-  pub consumed : Consumes old new taken
-  pub before : List (List ℕ)
-  pub cut : (more : List ℕ) → lines_of (taken ++ more) ≡ before ++ lines_of more
-  pub count : n ≡ length before
-  pub lines : List HintLine
-  pub said : said_all before ≡ Some lines
-  pub follow : Follows h lines k
-
-pub passed_start : (h : Listed) (old : Known) → Passed h old old 0 h
-passed_start h old = record { taken = []; consumed = Consumes-nil old; before = []; cut = λ more. refl; count = refl; lines = []; said = refl; follow = refl }
-
--- whole lines more
-pub passed_on : (h k j : Listed) (old now new : Known) (n : ℕ) (bytes : List ℕ) → Passed h old now n k → Accepts k bytes j → Consumes now new (bytes ++ 10 ∷ []) →
-    Passed h old new (n + length (lines_of bytes)) j
-passed_on h k j old now new n bytes p a consumed = record {
-  taken = p.taken ++ (bytes ++ 10 ∷ []);
-  consumed = Consumes-trans old now new p.taken (bytes ++ 10 ∷ []) p.consumed consumed;
-  before = p.before ++ lines_of bytes;
-  cut = λ more.
-      ap lines_of (append_assoc p.taken (bytes ++ 10 ∷ []) more ∙ ap (λ l. p.taken ++ l) (append_assoc bytes (10 ∷ []) more)) ∙ p.cut (bytes ++ 10 ∷ more)
-      ∙ ap (λ (ls : List (List ℕ)). p.before ++ ls) (lines_join bytes more) ∙ sym (append_assoc p.before (lines_of bytes) (lines_of more));
-  count = let all = length-append p.before (lines_of bytes) in omega (arith, all, p.count);
-  lines = p.lines ++ a.lines;
-  said = said_join p.before (lines_of bytes) p.lines a.lines p.said a.said;
-  follow = follows_join h k j p.lines a.lines p.follow a.follow;
-}
-
--- the last lines
-pub passed_all : (h k j : Listed) (old now new : Known) (n : ℕ) (bytes : List ℕ) → Passed h old now n k → Accepts k bytes j → Consumes now new bytes → IsAtEnd new →
-    (all : List ℕ) × GivesText old all × Accepts h all j
-passed_all h k j old now new n bytes p a consumed end =
-    let all = p.taken ++ bytes in (
-      all,
-      Consumes-whole old new all (λ bs. all ≡ bs) (Consumes-trans old now new p.taken bytes p.consumed consumed) end refl,
-      record {
-        lines = p.lines ++ a.lines;
-        said = ap said_all (p.cut bytes) ∙ said_join p.before (lines_of bytes) p.lines a.lines p.said a.said;
-        follow = follows_join h k j p.lines a.lines p.follow a.follow;
-      },
-    )
-
--- a line that is begun
-pub passed_cut : (h k : Listed) (old now new : Known) (n : ℕ) (begun : List ℕ) → Passed h old now n k → IsOpen begun → Consumes now new begun → IsCutOff old h
-passed_cut h k old now new n begun p is_open consumed = record {
-  taken = p.taken;
-  begun = begun;
-  left = new;
-  consumed = Consumes-trans old now new p.taken begun p.consumed consumed;
-  is_open = is_open;
-  held = k;
-  accepts = record {
-    lines = p.lines ++ [];
-    said = ap (λ l. said_all (lines_of l)) (sym (append-nil p.taken)) ∙ ap said_all (p.cut []) ∙ said_join p.before ([] ∷ []) p.lines [] p.said refl;
-    follow = follows_join h k k p.lines [] p.follow refl;
-  };
-}
-
--- ---- a line that is refused
-
--- among the lines of a text that stand between others
-refused_among : (h k : Listed) (old now : Known) (n m : ℕ) (bytes all : List ℕ) (others : List (List ℕ)) (p : Passed h old now n k) →
-    lines_of all ≡ p.before ++ (lines_of bytes ++ others) → (g : LineFault) → Refuses k bytes m g → Refuses h all (n + m) g
-refused_among h k old now n m bytes all others p e g r = record {
-  before = p.before ++ r.before;
-  line = r.line;
-  after = r.after ++ others;
-  cut =
-      e ∙ ap (λ (ls : List (List ℕ)). p.before ++ (ls ++ others)) r.cut ∙ ap (λ (ls : List (List ℕ)). p.before ++ ls) (append_assoc r.before (r.line ∷ r.after) others)
-      ∙ sym (append_assoc p.before r.before (r.line ∷ (r.after ++ others)));
-  number = let all_before = length-append p.before r.before in omega (arith, all_before, p.count, r.number);
-  lines = p.lines ++ r.lines;
-  said = said_join p.before r.before p.lines r.lines p.said r.said;
-  held = r.held;
-  follow = follows_join h k r.held p.lines r.lines p.follow r.follow;
-  refused = r.refused;
-}
-
--- whatever the cause is
-refused_so : (h k : Listed) (n m : ℕ) (bytes all : List ℕ) → ((g : LineFault) → Refuses k bytes m g → Refuses h all (n + m) g) →
-    (f : LineFault) → IsRefusal k bytes (in_line f m) → IsRefusal h all (in_line f (n + m))
-refused_so h k n m bytes all on causes.Malformed r = on causes.Malformed r
-refused_so h k n m bytes all on causes.IdNotGreater r = on causes.IdNotGreater r
-refused_so h k n m bytes all on causes.UnknownId r = on causes.UnknownId r
-refused_so h k n m bytes all on causes.NotUnit r = on causes.NotUnit r
-refused_so h k n m bytes all on causes.NoConflict r = on causes.NoConflict r
-refused_so h k n m bytes all on causes.OutOfMemory r = tt
+-- ---- the text of a reader
 
 -- what is left after some bytes, where it is known
 abbrev left_after : Known → List ℕ
@@ -159,38 +38,199 @@ gives_all None b bs c = tt
 gives_all (Some xs) None bs c = absurd c
 gives_all (Some xs) (Some ys) bs c = sym c
 
--- in lines after which others come
-pub refused_inside : (h k : Listed) (old now new : Known) (n m : ℕ) (bytes : List ℕ) (f : LineFault) → Passed h old now n k → Consumes now new (bytes ++ 10 ∷ []) →
-    IsRefusal k bytes (in_line f m) → (all : List ℕ) × GivesText old all × IsRefusal h all (in_line f (n + m))
-refused_inside h k old now new n m bytes f p consumed r =
-    let rest = left_after new in
-    let all = (p.taken ++ (bytes ++ 10 ∷ [])) ++ rest in
-    let cut : lines_of all ≡ p.before ++ (lines_of bytes ++ lines_of rest) =
-    ap lines_of (append_assoc p.taken (bytes ++ 10 ∷ []) rest ∙ ap (λ l. p.taken ++ l) (append_assoc bytes (10 ∷ []) rest)) ∙ p.cut (bytes ++ 10 ∷ rest)
-    ∙ ap (λ (ls : List (List ℕ)). p.before ++ ls) (lines_join bytes rest) in (
-      all,
-      gives_all old new (p.taken ++ (bytes ++ 10 ∷ [])) (Consumes-trans old now new p.taken (bytes ++ 10 ∷ []) p.consumed consumed),
-      refused_so h k n m bytes all (refused_among h k old now n m bytes all (lines_of rest) p cut) f r,
-    )
-
--- in the last lines
-pub refused_last : (h k : Listed) (old now new : Known) (n m : ℕ) (bytes : List ℕ) (f : LineFault) → Passed h old now n k → Consumes now new bytes → IsAtEnd new →
-    IsRefusal k bytes (in_line f m) → (all : List ℕ) × GivesText old all × IsRefusal h all (in_line f (n + m))
-refused_last h k old now new n m bytes f p consumed end r =
-    let all = p.taken ++ bytes in
-    let cut : lines_of all ≡ p.before ++ (lines_of bytes ++ []) = p.cut bytes ∙ ap (λ (ls : List (List ℕ)). p.before ++ ls) (sym (append-nil (lines_of bytes))) in (
-      all,
-      Consumes-whole old new all (λ bs. all ≡ bs) (Consumes-trans old now new p.taken bytes p.consumed consumed) end refl,
-      refused_so h k n m bytes all (refused_among h k old now n m bytes all [] p cut) f r,
-    )
-
--- in what was taken
-pub refused_taken : {R : Type 0} (h k : Listed) (old now new : Known) (n m : ℕ) (bytes : List ℕ) (source : Source R) (f : LineFault) (whole : Bool) → Passed h old now n k →
-    TakesLines now new bytes source (Ok whole) → IsRefusal k bytes (in_line f m) → (all : List ℕ) × GivesText old all × IsRefusal h all (in_line f (n + m))
-refused_taken h k old now new n m bytes source f true p t r = refused_inside h k old now new n m bytes f p t r
-refused_taken h k old now new n m bytes source f false p t r = refused_last h k old now new n m bytes f p t.0 t.1 r
-
 -- a reader gives some text
 pub some_text : (known : Known) → (text : List ℕ) × GivesText known text
 some_text None = ([], tt)
 some_text (Some bytes) = (bytes, refl)
+
+-- a text of the reader, of which g says what it says
+record Found (known : Known) (g : List ℕ → Outcome) : Type 0 where
+  text : List ℕ
+  gives : GivesText known text
+  rest : List ℕ
+  says : outcome_of text ≡ g rest
+
+found : (known left : Known) (over : Bool) (g : List ℕ → Outcome) → Follows known left 0 over g → Found known g
+found known left false g f = record { text = f.taken ++ left_after left; gives = gives_all known left f.taken f.consumed; rest = left_after left; says = f.same (left_after left) }
+found known left true g f = record { text = f.taken; gives = Consumes-whole known left f.taken (λ bs. f.taken ≡ bs) f.consumed f.at_end refl; rest = []; says = f.same }
+
+-- an outcome behind these lines
+abbrev behind : List (ℕ × Line) → Outcome → Outcome
+behind xs o = (xs ++ o.0, o.1)
+
+-- after the text so far it goes on
+goes_on : (known left new : Known) (n : ℕ) (over : Bool) (xs : List (ℕ × Line)) (g : List ℕ → Outcome) → Leads known left (outcome_after 0) (λ more. behind xs (outcome_after n more)) →
+    Follows left new n over g → Follows known new 0 over (λ more. behind xs (g more))
+goes_on known left new n false xs g e f = leads_on e (record { taken = f.taken; consumed = f.consumed; same = λ more. ap (behind xs) (f.same more) })
+goes_on known left new n true xs g e f = ends_on e (record { taken = f.taken; consumed = f.consumed; at_end = f.at_end; same = ap (behind xs) f.same })
+
+-- ---- the loop over lines
+
+pub record SoFar (known left : Known) (number : ℕ) (over : Bool) (h k : Listed) : Type 0 where
+  pub lines : List (ℕ × Line)
+  pub text : Follows known left 0 over (λ more. behind lines (outcome_after number more))
+  pub run : Run h lines k
+
+pub so_far_start : (known left : Known) (number : ℕ) (over : Bool) (h : Listed) → left ≡ known → number ≡ 0 → over ≡ false → SoFar known left number over h h
+so_far_start known left number over h e n o = record {
+  lines = [];
+  text = subst (λ (b : Bool). Follows known left 0 b (λ more. behind [] (outcome_after number more))) (sym o)
+      (record { taken = []; consumed = subst (λ b. Consumes known b []) (sym e) (Consumes-nil known); same = λ more. ap (λ m. outcome_after m more) (sym n) });
+  run = refl;
+}
+
+module _ (known left : Known) (number : ℕ) (h k : Listed) where
+  -- one more line
+  pub so_far_more : (so : SoFar known left number false h k) (new : Known) (over : Bool) (m : ℕ) (line : Line) → Follows left new number over (λ more. with_line m line (outcome_after m more)) →
+      refusal k (as_hints line) ≡ None → SoFar known new m over h (after_said k (as_hints line))
+  so_far_more so new over m line goes none = record {
+    lines = so.lines ++ (m, line) ∷ [];
+    text = go over (goes_on known left new number over so.lines (λ more. with_line m line (outcome_after m more)) so.text goes);
+    run = run_more h k so.lines m line so.run none;
+  }
+    where
+      one : (o : Outcome) → behind so.lines (with_line m line o) ≡ behind (so.lines ++ (m, line) ∷ []) o
+      one o = ap (λ (xs : List (ℕ × Line)). (xs, o.1)) (sym (append_assoc so.lines ((m, line) ∷ []) o.0))
+
+      go : (b : Bool) → Follows known new 0 b (λ more. behind so.lines (with_line m line (outcome_after m more))) →
+          Follows known new 0 b (λ more. behind (so.lines ++ (m, line) ∷ []) (outcome_after m more))
+      go false f = record { taken = f.taken; consumed = f.consumed; same = λ more. f.same more ∙ one (outcome_after m more) }
+      go true f = record { taken = f.taken; consumed = f.consumed; at_end = f.at_end; same = f.same ∙ one (outcome_after m []) }
+
+  -- the whole text
+  accepts : (xs : List (ℕ × Line)) → Run h xs k → (bytes : List ℕ) → outcome_of bytes ≡ (xs ++ [], Ended) → Accepts h bytes k
+  accepts xs run bytes e =
+      let all = ap (λ (o : Outcome). o.0) e ∙ append-nil xs in
+      let a = all_accepted 0 (lines_of bytes) h k (ap (λ (o : Outcome). o.1) e) (subst (λ (ys : List (ℕ × Line)). Run h ys k) (sym all) run) in
+      record { lines = a.lines; said = a.said; follow = a.follow }
+
+  pub so_far_ended : (over : Bool) → SoFar known left number over h k → (new : Known) → (over ≡ false → Follows left new number true (λ more. ([], Ended))) →
+      (text : List ℕ) × GivesText known text × Accepts h text k
+  so_far_ended false so new goes =
+      let f = found known new true _ (goes_on known left new number true so.lines (λ more. ([], Ended)) so.text (goes refl)) in
+      (f.text, f.gives, accepts so.lines so.run f.text f.says)
+  so_far_ended true so new goes =
+      let text = so.text.taken in
+      (text, Consumes-whole known left text (λ bs. text ≡ bs) so.text.consumed so.text.at_end refl, accepts so.lines so.run text so.text.same)
+
+  -- a failed read
+  pub so_far_cut : SoFar known left number false h k → (new : Known) (m : ℕ) → Breaks left new number m → IsCutOff known h
+  so_far_cut so new m b =
+      let front = so.text.taken ++ b.passed in
+      record {
+        taken = front;
+        begun = b.begun;
+        left = new;
+        consumed = rw (append_assoc so.text.taken b.passed b.begun) (Consumes-trans known left new so.text.taken (b.passed ++ b.begun) so.text.consumed b.consumed);
+        is_open = b.is_open;
+        held = k;
+        accepts = accepts so.lines so.run front
+            (so.text.same b.passed ∙ ap (behind so.lines) (ap (outcome_after number) (sym (append-nil b.passed)) ∙ b.same []));
+      }
+
+  -- a line that is refused, or malformed
+  stopped : (xs ys : List (ℕ × Line)) (ending : Ending) → Run h xs k → (bytes : List ℕ) → outcome_of bytes ≡ (xs ++ ys, ending) → (m : ℕ) → m < 2 ^ 64 - 1 →
+      (fault : LineFault) → Stops k ys ending m fault → Refuses h bytes m fault
+  stopped xs ys ending run bytes e m below fault stops =
+      let s = stopped_at 0 (lines_of bytes) h k xs ys ending m fault (ap (λ (o : Outcome). o.0) e) (ap (λ (o : Outcome). o.1) e) run stops in
+      record {
+        before = s.before;
+        line = s.line;
+        after = s.after;
+        cut = s.cut;
+        number =
+            let exact = numbered-exact (suc (length s.before)) 0 (omega arith) (subst (λ j. j < 2 ^ 64 - 1) s.number below) in
+            s.number ∙ exact ∙ omega arith;
+        lines = s.accepted.lines;
+        said = s.accepted.said;
+        held = s.held;
+        follow = s.accepted.follow;
+        refused = s.refused;
+      }
+
+  by_cause : (bytes : List ℕ) (m : ℕ) (fault : LineFault) (o : Option LineFault) → IsCause fault o → ((g : LineFault) → o ≡ Some g → Refuses h bytes m g) → IsRefusal h bytes (in_line fault m)
+  by_cause bytes m causes.Malformed o e r = r causes.Malformed e
+  by_cause bytes m causes.IdNotGreater o e r = r causes.IdNotGreater e
+  by_cause bytes m causes.UnknownId o e r = r causes.UnknownId e
+  by_cause bytes m causes.NotUnit o e r = r causes.NotUnit e
+  by_cause bytes m causes.NoConflict o e r = r causes.NoConflict e
+  by_cause bytes m causes.OutOfMemory o e r = tt
+
+  pub so_far_refused : (so : SoFar known left number false h k) (new : Known) (over : Bool) (m : ℕ) (line : Line) → Follows left new number over (λ more. with_line m line (outcome_after m more)) →
+      m < 2 ^ 64 - 1 → (fault : LineFault) → IsCause fault (refusal k (as_hints line)) → IsTextRefusal known h (Refused (in_line fault m))
+  so_far_refused so new over m line goes below fault cause =
+      let f = found known new over _ (goes_on known left new number over so.lines (λ more. with_line m line (outcome_after m more)) so.text goes) in
+      let later = outcome_after m f.rest in (
+        f.text,
+        f.gives,
+        by_cause f.text m fault (refusal k (as_hints line)) cause
+            (λ g is. stopped so.lines ((m, line) ∷ later.0) later.1 so.run f.text f.says m below g (refl, is)),
+      )
+
+  pub so_far_malformed : (so : SoFar known left number false h k) (new : Known) (over : Bool) (m : ℕ) (kind : LineKind) → Follows left new number over (λ more. ([], Faulty m kind)) →
+      m < 2 ^ 64 - 1 → IsTextRefusal known h (Refused (in_line causes.Malformed m))
+  so_far_malformed so new over m kind goes below =
+      let f = found known new over _ (goes_on known left new number over so.lines (λ more. ([], Faulty m kind)) so.text goes) in
+      (f.text, f.gives, stopped so.lines [] (Faulty m kind) so.run f.text f.says m below causes.Malformed (refl, refl))
+
+-- ---- what the reader gave
+
+-- an answer, with a line or without one;  a fault
+abbrev answer : Option LratLine → Result (Option LratLine) LratTextFault
+answer o = Ok o
+
+abbrev failure : LratTextFault → Result (Option LratLine) LratTextFault
+failure fault = Err fault
+
+module _ {R : Type 0} (remaining : R → Option (List ℕ)) (old new : LineReader R) where
+  -- only a reader that has not ended gives something
+  open_still : (r : Result (Option LratLine) LratTextFault) → (r ≡ Ok None → ⊥) → Gives remaining old new r → has_ended old ≡ false
+  open_still r some gives = go (has_ended old) refl
+    where
+      go : (b : Bool) → has_ended old ≡ b → b ≡ false
+      go true e = absurd (some (gives.stays e).0)
+      go false e = refl
+
+  is_line : (line : LratLine) → answer (Some line) ≡ answer None → ⊥
+  is_line line e = absurd cc
+
+  is_fault : (fault : LratTextFault) → failure fault ≡ answer None → ⊥
+  is_fault fault e = absurd cc
+
+  -- the bytes that were taken bound the number of a line
+  pub still_few : (line : LratLine) → Gives remaining old new (Ok (Some line)) → line_number old + room_left old ≤ 2 ^ 64 - 2 → line_number new + room_left new ≤ 2 ^ 64 - 2
+  still_few line gives few = let more = gives.counts (open_still (Ok (Some line)) (is_line line) gives) in omega arith
+
+  module _ (known : Known) (h k : Listed) (so : SoFar known (bytes_left remaining old) (line_number old) (has_ended old) h k) where
+    still : (r : Result (Option LratLine) LratTextFault) → (r ≡ Ok None → ⊥) → Gives remaining old new r → SoFar known (bytes_left remaining old) (line_number old) false h k
+    still r some gives = subst (λ (b : Bool). SoFar known (bytes_left remaining old) (line_number old) b h k) (open_still r some gives) so
+
+    pub next_more : (line : LratLine) → Gives remaining old new (Ok (Some line)) → refusal k (as_hints (view line)) ≡ None →
+        SoFar known (bytes_left remaining new) (line_number new) (has_ended new) h (after_said k (as_hints (view line)))
+    next_more line gives none =
+        so_far_more known (bytes_left remaining old) (line_number old) h k (still (Ok (Some line)) (is_line line) gives) (bytes_left remaining new) (has_ended new)
+        (line_number new) (view line) (gives.reads (open_still (Ok (Some line)) (is_line line) gives)).0 none
+
+    pub next_refused : (line : LratLine) → Gives remaining old new (Ok (Some line)) → line_number old + room_left old ≤ 2 ^ 64 - 2 → (fault : LineFault) →
+        IsCause fault (refusal k (as_hints (view line))) → IsTextRefusal known h (Refused (in_line fault (line_number new)))
+    next_refused line gives few fault cause =
+        let within = still_few line gives few in
+        so_far_refused known (bytes_left remaining old) (line_number old) h k (still (Ok (Some line)) (is_line line) gives) (bytes_left remaining new) (has_ended new)
+        (line_number new) (view line) (gives.reads (open_still (Ok (Some line)) (is_line line) gives)).0 (omega arith) fault cause
+
+    pub next_ended : Gives remaining old new (Ok None) → (text : List ℕ) × GivesText known text × Accepts h text k
+    next_ended gives =
+        so_far_ended known (bytes_left remaining old) (line_number old) h k (has_ended old) so (bytes_left remaining new) (λ e. (gives.reads e).0)
+
+    pub next_unread : (fault : LratTextFault) → Gives remaining old new (Err fault) → line_number old + room_left old ≤ 2 ^ 64 - 2 → IsTextRefusal known h (of_text fault)
+    next_unread (reads.Line n kind) gives few =
+        let here = open_still (Err (reads.Line n kind)) (is_fault (reads.Line n kind)) gives in
+        let a = gives.reads here in
+        let counts = gives.counts here in
+        let number = a.0 in
+        so_far_malformed known (bytes_left remaining old) (line_number old) h k (still (Err (reads.Line n kind)) (is_fault (reads.Line n kind)) gives) (bytes_left remaining new)
+        a.1.0 n kind (subst (λ m. Follows (bytes_left remaining old) (bytes_left remaining new) (line_number old) a.1.0 (λ more. ([], Faulty m kind))) (sym number) a.1.1) (omega arith)
+    next_unread (reads.Read cause) gives few =
+        so_far_cut known (bytes_left remaining old) (line_number old) h k (still (Err (reads.Read cause)) (is_fault (reads.Read cause)) gives) (bytes_left remaining new) (line_number new)
+        (gives.reads (open_still (Err (reads.Read cause)) (is_fault (reads.Read cause)) gives)).0
+    next_unread reads.OutOfMemory gives few = let given = some_text known in (given.0, given.1, tt)

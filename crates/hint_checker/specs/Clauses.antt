@@ -1,6 +1,7 @@
 -- The clauses under their ids.
 use Rattle.std.specs.Prelude.{ℕ, List, Option}
-use Rattle.hint_checker.specs.Near.{far_clause, near_clause, near_or}
+use Rattle.clause_table.specs.Near.{near_clause}
+use Rattle.hint_checker.specs.Near.{far_clause, near_or}
 use Rattle.hint_checker.specs.declared.clauses.Clauses.{Clauses}
 
 -- the clause of an id, where it is there

@@ -1,14 +1,9 @@
 pub mod Checked
 pub mod Clauses
+pub mod Given
 pub mod Held
-pub mod Lines
-pub mod Marks
 pub mod Near
 pub mod OneAnswer
-pub mod Places
-pub mod ReadLine
-pub mod Room
 pub mod Streams
 pub mod Text
 pub mod Unit
-pub mod Words

@@ -1,41 +1,13 @@
 -- Texts that a reader gives.
---     unread_text, room_in      the bytes that were not taken, and how many it can still give
---     TakesLines old new lines source r      what taking lines answered
 --     GivesText known text      a reader with these bytes gave this text
 --     ReadsAccepted, IsCutOff, IsTextRefusal      the answers to the text of a reader
-use Rattle.std.specs.Prelude.{◌≡◌, ℕ, All, Bool, true, false, List, [], ◌∷◌, ◌++◌, Option, Some, unwrap_or, IfSome, Result, Ok, Err}
-use Rattle.std.specs.Io.KnownBytes.{Consumes, IsAtEnd}
+use Rattle.std.specs.Prelude.{◌≡◌, ℕ, Bool, List, ◌++◌, Option, Some, IfSome}
+use Rattle.std.specs.Io.KnownBytes.{Consumes}
 use Rattle.sat_rules.specs.HintLines.{Listed}
-use Rattle.sat_formula.specs.Bytes.{is_lf}
-use Rattle.sat_formula.specs.declared.source.Source.{Source}
-use Rattle.sat_formula.specs.Source.{unread, room_of, IsStopped}
+use Rattle.lrat_text.specs.Bytes.{IsOpen}
 use Rattle.hint_checker.specs.Checked.{Accepts, IsRefusal}
 use Rattle.hint_checker.specs.declared.fault.HintTextFault.{HintTextFault}
 use Rattle.hint_checker.specs.declared.fault.HintTextFault.TheVariants.{Read, Refused}
-use Rattle.hint_checker.specs.declared.fault.Stop.{Stop}
-use Rattle.hint_checker.specs.declared.fault.Stop.TheVariants as stops
-use Rattle.hint_checker.specs.declared.stream.Stream.{Stream}
-
--- the bytes that were not taken, where they are known
-abbrev pub unread_text : {R : Type 0} → (R → Option (List ℕ)) → Stream R → Option (List ℕ)
-unread_text remaining s = unread remaining s.source
-
--- how many bytes it can still give
-abbrev pub room_in : {R : Type 0} → Stream R → ℕ
-room_in s = unwrap_or (room_of s.source) 0
-
--- no LF is among the bytes
-abbrev pub IsOpen : List ℕ → Type 0
-IsOpen bytes = All (λ b. is_lf b ≡ false) bytes
-
--- from old to new whole lines were taken and the LF of the last one, or the last line, which has none; or a read failed within a line
-abbrev pub TakesLines : {R : Type 0} → Option (List ℕ) → Option (List ℕ) → List ℕ → Source R →
-    Result Bool Stop → Type 0
-TakesLines old new lines source (Ok true) = Consumes old new (lines ++ 10 ∷ [])
-TakesLines old new lines source (Ok false) = Consumes old new lines × IsAtEnd new
-TakesLines old new lines source (Err stops.Read) = IsOpen lines × Consumes old new lines
-    × IsStopped source
-TakesLines old new lines source (Err stops.OutOfMemory) = Unit {0}
 
 -- a reader with these bytes gave this text
 abbrev pub GivesText : Option (List ℕ) → List ℕ → Type 0

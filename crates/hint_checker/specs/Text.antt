@@ -10,8 +10,6 @@ use Rattle.sat_rules.specs.HintLines.{HintLine, adds_clause, deletes_clauses}
 use Rattle.sat_formula.specs.Bytes.{letter_c, minus_sign}
 use Rattle.sat_formula.specs.Lines.{value_of, words_of}
 use Rattle.sat_formula.specs.Vars.{lit_code}
-use Rattle.hint_checker.specs.declared.word.ClauseWord.{ClauseWord}
-use Rattle.hint_checker.specs.declared.word.ClauseWord.TheVariants as words
 
 -- numbers are below 2^64
 abbrev pub small : Option ℕ → Option ℕ
@@ -51,30 +49,36 @@ abbrev pub lit_in_front : ℕ → Clause → Clause
 lit_in_front l None = None
 lit_in_front l (Some p) = Some (l ∷ p.0, p.1)
 
+-- what a word says in a clause: its end, a literal, or nothing
+pub data ClauseWord : Type 0 where
+  End : ClauseWord
+  Literal : ℕ → ClauseWord
+  Bad : ClauseWord
+
 -- the word of a literal
 abbrev pub literal_word : ℕ → ClauseWord
-literal_word l = words.Literal l
+literal_word l = Literal l
 
 -- digits of a value, or no digits, after a `-` or not
 abbrev pub signed_word : Bool → Option ℕ → ClauseWord
-signed_word negative None = words.Bad
+signed_word negative None = Bad
 signed_word negative (Some v) =
-    if v == 0 then (if negative then words.Bad else words.End)
-    else if nat_lt (2 ^ 28) v then words.Bad
-    else words.Literal (lit_code v negative)
+    if v == 0 then (if negative then Bad else End)
+    else if nat_lt (2 ^ 28) v then Bad
+    else Literal (lit_code v negative)
 
 -- what a word says in a clause
 abbrev pub clause_word : List ℕ → ClauseWord
-clause_word [] = words.Bad
+clause_word [] = Bad
 clause_word (b ∷ bs) =
     if b == minus_sign then signed_word true (number_of_word bs)
     else signed_word false (number_of_word (b ∷ bs))
 
 -- by the word
 abbrev pub on_word : ClauseWord → List (List ℕ) → Clause → Clause
-on_word words.End ws rest = Some ([], ws)
-on_word (words.Literal l) ws rest = lit_in_front l rest
-on_word words.Bad ws rest = None
+on_word End ws rest = Some ([], ws)
+on_word (Literal l) ws rest = lit_in_front l rest
+on_word Bad ws rest = None
 
 -- literals up to a 0
 abbrev pub clause_to_zero : List (List ℕ) → Clause

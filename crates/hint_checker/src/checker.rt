@@ -1,50 +1,51 @@
 //! A checker of lines of hints, which holds ids and clauses and nothing else.
-ghost use Rattle.std.specs.Prelude.{◌≡◌, ◌≤◌, ◌+◌, ◌-◌, ◌^◌, ℕ, Bool, true, length, List, Some, None, Err, IfErr, IfOk, OnOk};
+ghost use Rattle.std.specs.Prelude.{◌≡◌, ℕ, Bool, true, List, Some, None, Err, map, IfErr, IfOk, OnOk};
 ghost use Rattle.sat_rules.specs.Clauses.{all_true};
 ghost use Rattle.sat_rules.specs.HintLines as rules;
 ghost use Rattle.sat_rules.specs.HintLines.{Follows, Listed, listing};
-ghost use Rattle.sat_formula.specs.Lines.{lines_of};
-ghost use Rattle.hint_checker.specs.Checked.{Accepts, AcceptsAfter, IsCause, IsRefusal, after_said, in_line, refusal};
-ghost use Rattle.hint_checker.specs.Text.{said_by};
-ghost use Rattle.hint_checker.specs.Held.{held_by, holds};
-ghost use Rattle.hint_checker.specs.Streams.{GivesText, IsTextRefusal, ReadsAccepted, room_in, unread_text};
+ghost use Rattle.lrat_text.specs.Grammar.{hint_of};
+ghost use Rattle.lrat_text.specs.NextLine.{view};
+ghost use Rattle.hint_checker.specs.Checked.{Accepts, AcceptsAfter, IsCause, IsRefusal, after_said, refusal};
+ghost use Rattle.hint_checker.specs.Given.{CollectsIds, as_hints, ids_along};
+ghost use Rattle.hint_checker.specs.Held.{HoldsLittle, IsSmall, held_by, holds};
+ghost use Rattle.hint_checker.specs.Streams.{GivesText, IsTextRefusal, ReadsAccepted};
 ghost use Rattle.hint_checker.specs.declared.fault.HintFault.TheVariants.{Malformed, OutOfMemory};
 ghost use Rattle.hint_checker.specs.declared.fault.HintTextFault.TheVariants.{Refused};
 
-use crate::fault::{HintFault, HintTextFault, LineFault, Stop};
-use crate::line::{HintLine, Row, read_line};
-use crate::lines::Lines;
+use crate::fault::{HintFault, HintTextFault, LineFault};
 use crate::listing::Listing;
-use crate::stream::Stream;
 use crate::values::Values;
+use lrat_text::{Hint, LineReader, LratLine};
 use sat_formula::CnfFormula;
 use std::alloc::Global;
 use std::io::Read;
 
-/// Checks lines of hints after the clauses of a formula. It shares nothing with the checker of
-/// proofs but the types of literals and formulas.
+/// Checks lines of hints after the clauses of a formula. Nothing of the checker of proof bytes is
+/// below it, except the types of literals and formulas.
 #[derive(Drop)]
 pub struct HintChecker {
     alloc: Global,
     held: Listing,
     values: Values,
-    row: Row,
+    /// The hints of the line that is checked.
+    ids: Vec<u64>,
     faulted: bool,
 }
 
 impl HintChecker {
-    /// A checker that holds the clauses of a formula under 1, 2 and so on. Want of memory alone is
-    /// a fault.
+    /// A checker that holds the clauses of a formula under 1, 2 and so on. The only fault is
+    /// `OutOfMemory`.
     pub fn new(alloc: Global, formula: &CnfFormula) -> Result<HintChecker, HintFault>
         ensures ok { IfOk result (λ checker. holds checker ≡ Some (listing formula.now)) }
         ensures err { IfErr result (λ fault. fault ≡ OutOfMemory) }
+        ensures small { IfOk result (λ checker. HoldsLittle checker) }
     {
         match Listing::new(alloc, formula) {
             Ok(held) => Ok(HintChecker {
                 alloc,
                 held,
                 values: Values::new(alloc),
-                row: Row::new(alloc),
+                ids: Vec::new(alloc),
                 faulted: false,
             }),
             Err(_) => Err(HintFault::OutOfMemory),
@@ -70,15 +71,12 @@ impl HintChecker {
         ensures lines { (formula : List (List ℕ)) (lines : List rules.HintLine) (h : Listed)
             → holds self.old ≡ Some h → Follows (listing formula) lines h
             → IfOk result (λ yes. AcceptsAfter formula lines text.now (holds self.new) yes) }
+        ensures small { HoldsLittle self.old → OnOk result (HoldsLittle self.new) }
     {
-        if self.faulted {
-            return Err(HintFault::Malformed { line: 0 });
+        match self.check_reader(text) {
+            Ok(yes) => Ok(yes),
+            Err(fault) => Err(fault.of_bytes()),
         }
-        if let Err(stuck) = check_lines(&mut self.held, &mut self.values, &mut self.row, text) {
-            self.fail();
-            return Err(stuck.fault.in_line(stuck.number));
-        }
-        Ok(self.held.added_empty())
     }
 
     /// The same for the text of a reader, which is read as it goes and of which no more is held
@@ -97,12 +95,18 @@ impl HintChecker {
         ensures refutes { (formula : List (List ℕ)) (lines : List rules.HintLine) (h : Listed)
             → holds self.old ≡ Some h → Follows (listing formula) lines h
             → IfOk result (λ yes. yes ≡ true → (a : ℕ → Bool) → all_true a formula ≡ true → ⊥) }
+        ensures small { HoldsLittle self.old → OnOk result (HoldsLittle self.new) }
     {
         if self.faulted {
             return Err(HintTextFault::Refused(HintFault::Malformed { line: 0 }));
         }
-        let mut stream = Stream::new(self.alloc, input);
-        match check_stream(&mut self.held, &mut self.values, &mut self.row, &mut stream) {
+        match check_text(
+            self.alloc,
+            &mut self.held,
+            &mut self.values,
+            &mut self.ids,
+            input,
+        ) {
             Ok(()) => Ok(self.held.added_empty()),
             Err(fault) => {
                 self.fail();
@@ -119,90 +123,70 @@ impl HintChecker {
     }
 }
 
-/// The first line of a text that is refused, and why.
-#[derive(Clone, Copy)]
-struct Stuck {
-    fault: LineFault,
-    /// Lines count from 1.
-    number: u64,
-}
-
-/// Checks the lines of a stream to its end.
-fn check_stream<R: Read>(
+/// Checks the lines of a text to its end.
+fn check_text<R: Read + Drop>(
+    alloc: Global,
     held: &mut Listing,
     values: &mut Values,
-    row: &mut Row,
-    stream: &mut Stream<R>,
+    ids: &mut Vec<u64>,
+    text: R,
 ) -> Result<(), HintTextFault>
-    requires { room_in stream.old ≡ 2 ^ 64 - 2 }
-    ensures accepted { OnOk result ((text : List ℕ)
-        × GivesText (unread_text R.remaining stream.old) text
-        × Accepts (held_by held.old) text (held_by held.new)) }
+    ensures accepted { OnOk result ((given : List ℕ) × GivesText (R.remaining text) given
+        × Accepts (held_by held.old) given (held_by held.new)) }
     ensures refused { IfErr result (λ fault.
-        IsTextRefusal (unread_text R.remaining stream.old) (held_by held.old) fault) }
+        IsTextRefusal (R.remaining text) (held_by held.old) fault) }
+    ensures small { IsSmall held.old → OnOk result (IsSmall held.new) }
 {
-    let mut before = 0u64;
-    'texts: loop {
-        let whole = match stream.take_lines() {
-            Ok(whole) => whole,
-            Err(Stop::Read) => return Err(HintTextFault::Read(stream.error())),
-            Err(Stop::OutOfMemory) => return Err(HintTextFault::Refused(HintFault::OutOfMemory)),
-        };
-        match check_lines(held, values, row, stream.lines()) {
-            Ok(count) => before += count,
-            Err(stuck) => {
-                let number = before + stuck.number;
-                return Err(HintTextFault::Refused(stuck.fault.in_line(number)));
+    let mut reader = LineReader::new(alloc, text);
+    'lines: loop {
+        match reader.next_line() {
+            Ok(Some(line)) => {
+                if let Err(fault) = check_line(held, values, ids, line) {
+                    return Err(HintTextFault::Refused(fault.in_line(reader.line())));
+                }
             }
-        }
-        if !whole {
-            return Ok(());
-        }
-    }
-}
-
-/// Checks the lines of a text, and answers how many there are.
-fn check_lines(
-    held: &mut Listing,
-    values: &mut Values,
-    row: &mut Row,
-    text: &[u8],
-) -> Result<u64, Stuck>
-    ensures accepted { OnOk result (Accepts (held_by held.old) text.now (held_by held.new)) }
-    ensures counted { IfOk result (λ count. count ≡ length (lines_of text.now)) }
-    ensures refused { IfErr result (λ stuck.
-        IsRefusal (held_by held.old) text.now (in_line stuck.fault stuck.number)) }
-    ensures within { IfErr result (λ stuck. stuck.number ≤ length text.now + 1) }
-{
-    let mut number = 0u64;
-    for line in Lines::of(text) {
-        number += 1;
-        if let Err(fault) = check_line(held, values, row, line) {
-            return Err(Stuck { fault, number });
+            Ok(None) => return Ok(()),
+            Err(fault) => return Err(HintTextFault::from(fault)),
         }
     }
-    Ok(number)
 }
 
 /// Checks one line.
 fn check_line(
     held: &mut Listing,
     values: &mut Values,
-    row: &mut Row,
-    line: &[u8],
+    ids: &mut Vec<u64>,
+    line: LratLine<'_>,
 ) -> Result<(), LineFault>
-    ensures ok { OnOk result (refusal (held_by held.old) (said_by line.now) ≡ None) }
+    ensures ok { OnOk result (refusal (held_by held.old) (as_hints (view line.entry)) ≡ None) }
     ensures after { OnOk result (held_by held.new
-        ≡ after_said (held_by held.old) (said_by line.now)) }
+        ≡ after_said (held_by held.old) (as_hints (view line.entry))) }
     ensures err { IfErr result (λ fault. IsCause fault
-        (refusal (held_by held.old) (said_by line.now))) }
+        (refusal (held_by held.old) (as_hints (view line.entry)))) }
+    ensures small { IsSmall held.old → OnOk result (IsSmall held.new) }
 {
-    match read_line(line, row)? {
-        None => Ok(()),
-        Some(HintLine::Addition { id }) => held.add(values, id, &row.clause, &row.ids),
-        Some(HintLine::Deletion { .. }) => {
-            held.remove(&row.ids);
+    match line {
+        LratLine::Add { id, clause, hints } => {
+            collect_ids(hints, ids)?;
+            held.add(values, id, clause, ids)
+        }
+        LratLine::Delete { ids } => {
+            held.remove(ids);
             Ok(())
         }
     }
+}
+
+/// Collects the ids of hints, in place of what `ids` held. A hint against makes a line malformed.
+fn collect_ids(hints: &[Hint], ids: &mut Vec<u64>) -> Result<(), LineFault>
+    ensures { CollectsIds ids.new.items result (ids_along (map hint_of hints.now)) }
+{
+    ids.clear();
+    for hint in hints {
+        match *hint {
+            Hint::Along(id) => ids.push(id)?,
+            Hint::Against(_) => return Err(LineFault::Malformed),
+        }
+    }
+    Ok(())
 }

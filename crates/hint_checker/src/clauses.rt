@@ -1,18 +1,14 @@
 //! The clauses under their ids.
-ghost use Rattle.std.specs.Prelude.{◌≡◌, ◌==◌, ◌+◌, ◌*◌, ◌≤◌, ◌^◌, ◌&&◌, ℕ, None, Some, if◌then◌else◌, length, IfOk, OnOk};
+ghost use Rattle.std.specs.Prelude.{◌≡◌, ◌==◌, ◌+◌, ◌*◌, ◌≤◌, ◌^◌, ◌-◌, ◌&&◌, ℕ, None, Some, if◌then◌else◌, length, min, IfOk, OnOk};
 ghost use Rattle.std.specs.Option.{option_copied};
-ghost use Rattle.hint_checker.specs.Near.{far_clause, gets_place, has_room, spare_places};
+ghost use Rattle.clause_table.specs.Near.{IsTight, has_room, place_count};
+ghost use Rattle.clause_table.specs.Room.{gets_place, spare_places};
+ghost use Rattle.hint_checker.specs.Near.{far_clause};
 
-use crate::near::NearClauses;
+use clause_table::{NearClauses, gets_place};
 use sat_formula::lit::Lit;
 use std::alloc::{AllocError, Global};
 use std::collections::HashMap;
-
-/// So many places there are for ids beside four for each clause that was stored.
-const SPARE_PLACES: u64 = 1 << 12;
-
-/// Ids from here on are far.
-const NEAR_IDS: u64 = 1 << 40;
 
 /// The clauses under their ids. Near ids rise and have places in turn; ids that are far above the
 /// number of clauses that were stored stand in a map.
@@ -23,8 +19,8 @@ pub(crate) struct Clauses {
     far: HashMap<u64, Vec<Lit>>,
     /// How many clauses were stored so far.
     stored: u64,
-    ghost few: { length near.places.items ≤ 4 * (stored + spare_places) + 4 },
-    ghost small: { length near.places.items ≤ 2 ^ 40 },
+    ghost few: { place_count near ≤ 4 * (stored + spare_places) + 4 },
+    ghost small: { place_count near ≤ 2 ^ 40 },
 }
 
 impl Clauses {
@@ -32,7 +28,8 @@ impl Clauses {
 
     /// No clause, with places for some.
     pub(crate) fn new(alloc: Global, room: usize) -> Result<Clauses, AllocError>
-        ensures { IfOk result (λ made. (k : ℕ) → clause_of made k ≡ None) }
+        ensures none { IfOk result (λ made. (k : ℕ) → clause_of made k ≡ None) }
+        ensures tight { IfOk result (λ made. IsTight made.near) }
     {
         Ok(Clauses {
             alloc,
@@ -65,8 +62,10 @@ impl Clauses {
     /// Puts a clause under an id, in place of the one that is there. After an error the clauses are
     /// of no use.
     pub(crate) fn put(&mut self, id: u64, clause: &[Lit]) -> Result<(), AllocError>
-        ensures { OnOk result ((k : ℕ) → clause_of self.new k
+        ensures put { OnOk result ((k : ℕ) → clause_of self.new k
             ≡ (if k == id then Some clause.now else clause_of self.old k)) }
+        ensures stored { OnOk result (self.new.stored ≡ min (self.old.stored + 1) (2 ^ 64 - 1)) }
+        ensures tight { IsTight self.old.near → OnOk result (IsTight self.new.near) }
     {
         if !self.put_near(id, clause)? {
             self.put_far(id, clause)?;
@@ -81,8 +80,10 @@ impl Clauses {
             && has_room self.old.near id (length clause.now))) }
         ensures ok { IfOk result (λ put. (k : ℕ) → clause_of self.new k
             ≡ (if put && (k == id) then Some clause.now else clause_of self.old k)) }
+        ensures stored { self.new.stored ≡ self.old.stored }
+        ensures tight { IsTight self.old.near → IsTight self.new.near }
     {
-        if !self.is_near(id) {
+        if !gets_place(id, self.stored) {
             return Ok(false);
         }
         self.near.put(id, clause)
@@ -90,20 +91,15 @@ impl Clauses {
 
     /// Puts a clause in the map.
     fn put_far(&mut self, id: u64, clause: &[Lit]) -> Result<(), AllocError>
-        ensures { OnOk result ((k : ℕ) → clause_of self.new k
+        ensures put { OnOk result ((k : ℕ) → clause_of self.new k
             ≡ (if k == id then Some clause.now else clause_of self.old k)) }
+        ensures stored { self.new.stored ≡ self.old.stored }
+        ensures tight { IsTight self.new.near }
     {
         self.near.remove(id);
+        self.near.collect_garbage();
         self.far.insert(id, Vec::from_slice(self.alloc, clause)?)?;
         Ok(())
-    }
-
-    /// Whether a clause under this id may have a place: there are at most four for each clause that
-    /// was stored.
-    fn is_near(&self, id: u64) -> bool
-        ensures { result ≡ gets_place self.now.stored id }
-    {
-        id < NEAR_IDS && id / 4 <= self.stored.saturating_add(SPARE_PLACES)
     }
 
     /// Removes the clause of an id, where it is there.
@@ -117,7 +113,8 @@ impl Clauses {
 
     /// Takes the room back that clauses had which were removed, once it is a quarter.
     pub(crate) fn collect_garbage(&mut self)
-        ensures { (k : ℕ) → clause_of self.new k ≡ clause_of self.old k }
+        ensures same { (k : ℕ) → clause_of self.new k ≡ clause_of self.old k }
+        ensures tight { IsTight self.new.near }
     {
         self.near.collect_garbage();
     }

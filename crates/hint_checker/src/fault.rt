@@ -1,6 +1,7 @@
 //! Why lines of hints are refused.
 ghost use Rattle.std.specs.Prelude.{◌≡◌};
 
+use lrat_text::LratTextFault;
 use std::alloc::{AllocError, AllocFailed};
 use std::io;
 use thiserror::Error;
@@ -34,38 +35,40 @@ pub enum HintTextFault {
     /// A read failed, or the text is longer than any that is read.
     #[error("error reading hints: {0}")]
     Read(io::Error),
-    /// A line was refused, or memory was wanting.
+    /// A line was refused, or there was not enough memory.
     #[error("{0}")]
     Refused(HintFault),
 }
 
-/// Why no more lines of a reader's text come.
-#[derive(Clone, Copy)]
-pub(crate) enum Stop {
-    /// A read failed, or the text is too long.
-    Read,
-    OutOfMemory,
-}
-
-impl From<AllocError> for Stop {
+impl From<LratTextFault> for HintTextFault {
     ghost use Rattle.std.specs.Prelude.{◌≡◌};
-    ghost use Rattle.hint_checker.specs.declared.fault.Stop.TheVariants.{OutOfMemory};
+    ghost use Rattle.hint_checker.specs.Given.{of_text};
 
-    ghost from_gives = { λ _ stop. stop ≡ OutOfMemory };
+    ghost from_gives = { λ fault r. r ≡ of_text fault };
 
-    fn from(_e: AllocError) -> Stop {
-        Stop::OutOfMemory
+    fn from(fault: LratTextFault) -> HintTextFault {
+        match fault {
+            LratTextFault::Read(cause) => HintTextFault::Read(cause),
+            LratTextFault::Line { line, .. } => {
+                HintTextFault::Refused(HintFault::Malformed { line })
+            }
+            LratTextFault::OutOfMemory => HintTextFault::Refused(HintFault::OutOfMemory),
+        }
     }
 }
 
-impl<T: Drop> From<AllocFailed<T>> for Stop {
-    ghost use Rattle.std.specs.Prelude.{◌≡◌};
-    ghost use Rattle.hint_checker.specs.declared.fault.Stop.TheVariants.{OutOfMemory};
+impl HintTextFault {
+    ghost use Rattle.hint_checker.specs.Given.{of_bytes};
 
-    ghost from_gives = { λ _ stop. stop ≡ OutOfMemory };
-
-    fn from(_e: AllocFailed<T>) -> Stop {
-        Stop::OutOfMemory
+    /// The fault of a text in memory. No read of it fails, so an error of one is that there was no
+    /// memory.
+    pub(crate) fn of_bytes(self) -> HintFault
+        ensures { result ≡ of_bytes self }
+    {
+        match self {
+            HintTextFault::Refused(fault) => fault,
+            HintTextFault::Read(_) => HintFault::OutOfMemory,
+        }
     }
 }
 

@@ -4,18 +4,9 @@
 mod checker;
 mod clauses;
 mod fault;
-mod growth;
 pub mod laws;
-mod line;
-mod lines;
 mod listing;
-mod marks;
-mod near;
-mod room;
-mod short;
-mod stream;
 mod values;
-mod word;
 
 pub use checker::HintChecker;
 pub use fault::{HintFault, HintTextFault};

@@ -1,9 +1,9 @@
 //! The clauses that a checker of hints holds.
-ghost use Rattle.std.specs.Prelude.{◌≡◌, ℕ, Bool, Option, None, IfErr, IfOk, OnOk};
+ghost use Rattle.std.specs.Prelude.{◌≡◌, ◌+◌, ◌-◌, ◌^◌, ℕ, Bool, Option, None, length, min, IfErr, IfOk, OnOk};
 ghost use Rattle.sat_rules.specs.HintLines.{HintCause, adds_clause, after_line, drop_ids, hints_cause, line_cause, listing, next_cause};
 ghost use Rattle.sat_rules.specs.Named.{drop_id, put_id};
 ghost use Rattle.hint_checker.specs.Checked.{IsCause, cause_of};
-ghost use Rattle.hint_checker.specs.Held.{held_by, trues};
+ghost use Rattle.hint_checker.specs.Held.{IsSmall, held_by, trues};
 ghost use Rattle.std.specs.Option.{option_map};
 
 use crate::clauses::Clauses;
@@ -27,7 +27,8 @@ pub(crate) struct Listing {
 impl Listing {
     /// The clauses of a formula under 1, 2 and so on.
     pub(crate) fn new(alloc: Global, formula: &CnfFormula) -> Result<Listing, AllocError>
-        ensures { IfOk result (λ made. held_by made ≡ listing formula.now) }
+        ensures held { IfOk result (λ made. held_by made ≡ listing formula.now) }
+        ensures small { IfOk result (λ made. IsSmall made) }
     {
         let mut held = Listing {
             clauses: Clauses::new(alloc, formula.len())?,
@@ -44,11 +45,14 @@ impl Listing {
 
     /// Puts a clause under an id.
     fn put(&mut self, id: u64, clause: &[Lit]) -> Result<(), AllocError>
-        ensures { OnOk result (held_by self.new
+        ensures put { OnOk result (held_by self.new
             ≡ record (held_by self.old) {
               machine = put_id id clause.now
                   (held_by self.old).machine;
             }) }
+        ensures stored { OnOk result (self.new.stored
+            ≡ min (self.old.stored + length clause.now) (2 ^ 64 - 1)) }
+        ensures small { IsSmall self.old → OnOk result (IsSmall self.new) }
     {
         self.clauses.put(id, clause)?;
         self.greatest = id;
@@ -78,6 +82,9 @@ impl Listing {
         ensures err { IfErr result (λ fault. IsCause fault
             (option_map cause_of (line_cause (held_by self.old)
             (adds_clause id clause.now hints.now)))) }
+        ensures stored { OnOk result (self.new.stored
+            ≡ min (self.old.stored + length clause.now) (2 ^ 64 - 1)) }
+        ensures small { IsSmall self.old → OnOk result (IsSmall self.new) }
     {
         if id <= self.greatest {
             return Err(LineFault::IdNotGreater);
@@ -126,8 +133,9 @@ impl Listing {
 
     /// Removes the clauses of these ids, where they are there.
     pub(crate) fn remove(&mut self, ids: &[u64])
-        ensures { held_by self.new ≡ record (held_by self.old)
+        ensures removed { held_by self.new ≡ record (held_by self.old)
             { machine = drop_ids ids.now (held_by self.old).machine } }
+        ensures small { IsSmall self.new }
     {
         for id in ids {
             self.remove_one(*id);
@@ -144,7 +152,8 @@ impl Listing {
 
     /// Takes room back; what is held stays.
     fn collect_garbage(&mut self)
-        ensures { held_by self.new ≡ held_by self.old }
+        ensures same { held_by self.new ≡ held_by self.old }
+        ensures small { IsSmall self.new }
     {
         self.clauses.collect_garbage();
     }

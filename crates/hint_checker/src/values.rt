@@ -3,10 +3,10 @@ ghost use Rattle.std.specs.Prelude.{◌≡◌, ℕ, false, true, OnOk};
 ghost use Rattle.sat_rules.specs.Clauses.{add_lit, has, is_falsified};
 ghost use Rattle.sat_rules.specs.HintLines.{unit_among};
 ghost use Rattle.sat_rules.specs.Named.{negated_set};
-ghost use Rattle.hint_checker.specs.Marks.{has_mark};
+ghost use Rattle.clause_table.specs.Marks.{has_mark};
 ghost use Rattle.hint_checker.specs.Unit.{is_other};
 
-use crate::marks::Marks;
+use clause_table::Marks;
 use sat_formula::lit::Lit;
 use std::alloc::{AllocError, Global};
 
@@ -55,7 +55,7 @@ impl Values {
         ensures { OnOk result (trues self.new ≡ add_lit lit (trues self.old)) }
     {
         self.trail.push(lit)?;
-        self.marks.set(lit)?;
+        self.marks.insert(lit)?;
         Ok(())
     }
 

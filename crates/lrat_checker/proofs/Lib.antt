@@ -1,9 +1,6 @@
-pub mod MarkLemmas
 pub mod CountLemmas
 pub mod TrailLemmas
 pub mod SearchLemmas
-pub mod PlaceLemmas
-pub mod PackLemmas
 pub mod TableLemmas
 pub mod JudgeLemmas
 pub mod StandLemmas

@@ -6,7 +6,7 @@ use Rattle.std.specs.HashSet.{contains}
 use Rattle.lrat_rules.specs.Tables.{Table}
 use Rattle.lrat_checker.specs.Counts.{lit_count}
 use Rattle.lrat_checker.specs.Far.{far_clause}
-use Rattle.lrat_checker.specs.Near.{near_clause}
+use Rattle.clause_table.specs.Near.{near_clause}
 use Rattle.lrat_checker.specs.declared.clauses.Clauses.{Clauses}
 use Rattle.lrat_checker.specs.declared.work.Work.{Work}
 

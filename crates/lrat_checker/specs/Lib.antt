@@ -1,10 +1,6 @@
-pub mod Room
-pub mod Marks
 pub mod FarCounts
 pub mod Counts
 pub mod Values
-pub mod Places
-pub mod Near
 pub mod Far
 pub mod Causes
 pub mod Faults

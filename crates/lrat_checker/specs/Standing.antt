@@ -14,7 +14,7 @@ use Rattle.lrat_rules.specs.Stores.{formula_store}
 use Rattle.lrat_rules.specs.Tables.{IsTableOf, formula_table}
 use Rattle.lrat_checker.specs.Causes.{cause_of}
 use Rattle.lrat_checker.specs.Held.{table_of}
-use Rattle.lrat_checker.specs.Near.{IsTight}
+use Rattle.clause_table.specs.Near.{IsTight}
 use Rattle.lrat_checker.specs.declared.checker.LratChecker.{LratChecker}
 use Rattle.lrat_checker.specs.declared.formula.LratFormula.{LratFormula}
 use Rattle.lrat_checker.specs.declared.fault.LineFault.{LineFault}

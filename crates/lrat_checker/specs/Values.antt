@@ -9,8 +9,8 @@ use Rattle.std.specs.Prelude.{◌≡◌, ℕ, Bool, true, if◌then◌else◌, L
 use Rattle.sat_rules.specs.Clauses.{has, negate}
 use Rattle.lrat_rules.specs.Counts.{all_once}
 use Rattle.lrat_rules.specs.Groups.{without}
-use Rattle.lrat_checker.specs.Marks.{has_mark}
-use Rattle.lrat_checker.specs.declared.marks.Marks.{Marks}
+use Rattle.clause_table.specs.Marks.{has_mark}
+use Rattle.clause_table.specs.declared.marks.Marks.{Marks}
 
 -- the set of the literals of a trail
 abbrev pub among : List ℕ → ℕ → Bool

@@ -3,20 +3,15 @@ ghost use Rattle.std.specs.Prelude.{◌≡◌, ◌==◌, ◌+◌, ◌-◌, ◌*�
 ghost use Rattle.std.specs.Option.{option_copied};
 ghost use Rattle.std.specs.HashMap.{get};
 ghost use Rattle.lrat_rules.specs.Tables.{drop_all, drop_one, empty_table, put};
+ghost use Rattle.clause_table.specs.Near.{IsTight, has_room, near_clause, place_count};
+ghost use Rattle.clause_table.specs.Room.{gets_place, spare_places};
 ghost use Rattle.lrat_checker.specs.Far.{far_clause};
-ghost use Rattle.lrat_checker.specs.Near.{IsTight, gets_place, has_room, near_clause, spare_places};
 
 use crate::counts::LitCounts;
-use crate::near::NearClauses;
+use clause_table::{NearClauses, gets_place};
 use sat_formula::Lit;
 use std::alloc::{AllocError, Global};
 use std::collections::HashMap;
-
-/// So many places there are for ids beside four for each stored clause.
-const SPARE_PLACES: u64 = 1 << 12;
-
-/// Ids from here on are far.
-const NEAR_IDS: u64 = 1 << 40;
 
 /// The clauses by their ids. Small ids that rise have places in turn; ids that are not greater than
 /// those, or far above the number of clauses that were stored, stand in a map.
@@ -30,7 +25,7 @@ pub(crate) struct Clauses {
     counts: LitCounts,
     ghost apart: { (id : ℕ)
         → (is_some (near_clause near id) && is_some (get nat_eq far id)) ≡ false },
-    ghost few: { length near.places.items ≤ 4 * (stored + spare_places) + 4 },
+    ghost few: { place_count near ≤ 4 * (stored + spare_places) + 4 },
 }
 
 impl Clauses {
@@ -115,19 +110,11 @@ impl Clauses {
             → self.new.near ≡ self.old.near }
         ensures tight { IsTight self.old.near → IsTight self.new.near }
     {
-        if self.is_near(id) && self.near.put(id, clause)? {
+        if gets_place(id, self.stored) && self.near.put(id, clause)? {
             return Ok(());
         }
         self.far.insert(id, Vec::from_slice(self.alloc, clause)?)?;
         Ok(())
-    }
-
-    /// Whether a new clause under this id may have a place: there are at most four for each clause
-    /// that was stored.
-    fn is_near(&self, id: u64) -> bool
-        ensures { result ≡ gets_place self.now.stored id }
-    {
-        id < NEAR_IDS && id / 4 <= self.stored.saturating_add(SPARE_PLACES)
     }
 
     /// Removes the clauses of these ids, where they are there.

@@ -1,10 +1,10 @@
 //! How often each literal stands in stored clauses.
 ghost use Rattle.std.specs.Prelude.{◌≡◌, ◌+◌, ◌-◌, ◌*◌, ◌==◌, ◌<◌, ◌≤◌, ◌^◌, ℕ, if◌then◌else◌, length, max, min, nat_lt, slice_index, IsOk, OnOk};
 ghost use Rattle.lrat_checker.specs.FarCounts.{far_count};
-ghost use Rattle.lrat_checker.specs.Room.{spare_lits};
+ghost use Rattle.clause_table.specs.Room.{spare_lits};
 ghost use Rattle.lrat_rules.specs.Counts.{count_of};
 
-use crate::room::gets_room;
+use clause_table::gets_room;
 use sat_formula::Lit;
 use std::alloc::{AllocError, Global};
 use std::collections::HashMap;

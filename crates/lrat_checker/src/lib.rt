@@ -8,13 +8,9 @@ mod counts;
 mod fault;
 mod formula;
 mod groups;
-mod growth;
 mod judging;
-mod marks;
-mod near;
 mod propagation;
 mod redundancy;
-mod room;
 mod values;
 mod work;
 

@@ -7,7 +7,7 @@ ghost use Rattle.lrat_rules.specs.Groups.{add_negated};
 ghost use Rattle.lrat_rules.specs.Propagation.{Ending, by_left, stuck};
 ghost use Rattle.lrat_checker.specs.Values.{IsGrown, among, lits_besides, with_lit};
 
-use crate::marks::Marks;
+use clause_table::Marks;
 use sat_formula::Lit;
 use std::alloc::{AllocError, Global};
 use std::marker::Model;

@@ -1,6 +1,6 @@
 -- The number in front of a line.
 use Rattle.std.proofs.Common.{◌≡◌, ℕ, zero, suc, ◌+◌, ◌-◌, ◌*◌, ◌^◌, ◌<◌, ◌≤◌, Bool, true, false, List, [], ◌∷◌, ◌++◌, length}
-use Rattle.std.proofs.Common.{length-take, get_or, take, drop, Option, Some, None, refl, sym, ap, ◌∙◌, arith, length-drop, subst}
+use Rattle.std.proofs.Common.{get_or, take, drop, Some, refl, sym, ap, ◌∙◌, arith, length-drop, subst}
 use Rattle.std.proofs.Math.Nat.{pow-le-pow_right, pow-suc}
 use Rattle.std.proofs.lemmas.Bool.{eqb-true}
 use Rattle.std.specs.Prelude.{◌==◌, slice_index}

@@ -1,7 +1,7 @@
 -- What reading a line says, and reading on to one that says something.
-use Rattle.std.proofs.Common.{◌≡◌, ℕ, ◌<◌, Bool, true, false, List, [], Option, Some, None, Result, Ok, Err, refl, sym, ap}
-use Rattle.std.specs.Prelude.{not, IsErrAnd}
-use Rattle.std.proofs.lemmas.Result.{err_from_is_err_and}
+use Rattle.std.proofs.Common.{◌≡◌, ℕ, ◌+◌, ◌<◌, ◌≤◌, Bool, true, false, List, [], ◌∷◌, length, Option, Some, None, Result, Ok, Err, refl, sym, ap, ◌∙◌, arith}
+use Rattle.std.specs.Prelude.{not}
+use Rattle.std.proofs.lemmas.Bool.{true≢false}
 use Rattle.sat_formula.specs.Lines.{words_of}
 use Rattle.sat_formula.specs.Outcome.{next_line}
 use Rattle.sat_formula.specs.declared.source.Source.{Source}
@@ -17,10 +17,9 @@ use Rattle.lrat_text.specs.declared.row.Head.{Head}
 use Rattle.lrat_text.specs.Bytes.{IsOpen}
 use Rattle.lrat_text.specs.Grammar.{says}
 use Rattle.lrat_text.specs.Holding.{HoldsLine}
-use Rattle.lrat_text.specs.NextLine.{bytes_left, has_ended, line_number, work_left, rest_of, Reads, Answers, JudgesLine, Explains}
+use Rattle.lrat_text.specs.NextLine.{bytes_left, has_ended, line_number, room_left, work_left, rest_of, Reads, Answers, Counts, CountsBytes, CountsLine, JudgesLine, Explains}
 use Rattle.lrat_text.specs.Reading.{ReadsAs, line_if, line_of}
 use Rattle.lrat_text.specs.Taking.{Follows}
-use Rattle.lrat_text.specs.Texts.{outcome_after}
 use Rattle.lrat_text.proofs.LineLemmas.{Known, said_then, line_leads, last_ends, follows_on, follows_as, breaks_on}
 
 -- ---- one line
@@ -55,6 +54,39 @@ module _ {R : Type 0} (remaining : R → Option (List ℕ)) (old new : LineReade
       )
   line_judged whole (Err stops.Read) p number over said = absurd said
   line_judged whole (Err stops.OutOfMemory) p number over said = tt
+
+-- ---- what is counted
+
+-- a line of which a byte was taken
+pub counts_line : {R : Type 0} (old new : LineReader R) → CountsBytes old new → (r : Result (Option Head) Stop) → CountsLine old new r
+counts_line old new c (Ok None) = λ open_still. c
+counts_line old new c (Ok (Some head)) = c
+counts_line old new c (Err (stops.Wrong kind)) = c
+counts_line old new c (Err stops.Read) = tt
+counts_line old new c (Err stops.OutOfMemory) = tt
+
+-- a line that says something has a byte
+pub held_counts : {R : Type 0} (old new : LineReader R) (line : List ℕ) (whole : Bool) (r : Result (Option Head) Stop) → line_number new ≡ next_line (line_number old)
+    → has_ended new ≡ not whole → (whole ≡ true → room_left new < room_left old) → room_left new + length line ≤ room_left old
+    → ReadsAs (line_if new.row) (says (short_for whole) (words_of line)) r → CountsLine old new r
+held_counts old new line true r number over nearer taken said = counts_line old new (let less = nearer refl in omega arith) r
+held_counts old new [] false (Ok None) number over nearer taken said = λ open_still. absurd (true≢false (sym over ∙ open_still))
+held_counts old new [] false (Ok (Some head)) number over nearer taken said = absurd cc
+held_counts old new [] false (Err (stops.Wrong kind)) number over nearer taken said = absurd cc
+held_counts old new [] false (Err stops.Read) number over nearer taken said = absurd said
+held_counts old new [] false (Err stops.OutOfMemory) number over nearer taken said = tt
+held_counts old new (b ∷ line) false r number over nearer taken said = counts_line old new (omega arith) r
+
+pub counts_on : {R : Type 0} (old now new : LineReader R) → CountsBytes old now → CountsBytes now new → CountsBytes old new
+counts_on old now new p q = omega arith
+
+pub stop_counts : {R : Type 0} (old now new last : LineReader R) (stop : Stop) (fault : LratTextFault) → CountsBytes old now → CountsLine now new (Err stop)
+    → Explains new.lines.source new.number stop fault → last ≡ record new { ended = true } → Counts {R = R} {X = Head} old last (Err fault)
+stop_counts old now new last (stops.Wrong kind) fault p q e is = rw (e, is) (counts_on old now new p q)
+stop_counts old now new last stops.Read (faults.Read e) p q told is = tt
+stop_counts old now new last stops.Read (faults.Line number kind) p q told is = absurd told
+stop_counts old now new last stops.Read faults.OutOfMemory p q told is = absurd told
+stop_counts old now new last stops.OutOfMemory fault p q e is = rw e tt
 
 -- ---- line after line
 

@@ -1,8 +1,9 @@
 -- What `next_line` answers.
 --     view      a line as the rules know it
 --     bytes_left, room_left, line_number, has_ended, work_left, IsReadError      what a caller knows of a reader
+--     Counts      a line's number and the bytes that were taken
 --     Gives      what a call gave, and the reader after it
-use Rattle.std.specs.Prelude.{◌≡◌, ℕ, suc, ◌<◌, Bool, true, false, List, [], Option, Some, None, Result, Ok, Err, map, if◌then◌else◌}
+use Rattle.std.specs.Prelude.{◌≡◌, ℕ, suc, ◌+◌, ◌<◌, ◌≤◌, Bool, true, false, List, [], Option, Some, None, Result, Ok, Err, map, if◌then◌else◌}
 use Rattle.std.specs.declared.io.Error.{Error}
 use Rattle.sat_formula.specs.declared.source.Source.{Source}
 use Rattle.sat_formula.specs.Source.{IsErrorOf, IsStopped}
@@ -83,10 +84,33 @@ Answers remaining seen old new (Err (faults.Line number kind)) =
     (number ≡ line_number new) × ReadsFault remaining old new kind × (has_ended new ≡ true)
 Answers remaining seen old new (Err faults.OutOfMemory) = has_ended new ≡ true
 
+-- the line's number rises by no more than bytes were taken, since each line takes one at least
+abbrev pub CountsBytes : {R : Type 0} → LineReader R → LineReader R → Type 0
+CountsBytes old new = line_number new + room_left new ≤ line_number old + room_left old
+
+-- so it is for a line that is given, or has a fault
+abbrev pub Counts : {R X : Type 0} → LineReader R → LineReader R →
+    Result (Option X) LratTextFault → Type 0
+Counts old new (Ok (Some x)) = CountsBytes old new
+Counts old new (Ok None) = Unit {0}
+Counts old new (Err (faults.Read e)) = Unit {0}
+Counts old new (Err (faults.Line number kind)) = CountsBytes old new
+Counts old new (Err faults.OutOfMemory) = Unit {0}
+
+-- and for a line that says nothing, unless it is the last, which may have no byte
+abbrev pub CountsLine : {R : Type 0} → LineReader R → LineReader R →
+    Result (Option Head) Stop → Type 0
+CountsLine old new (Ok (Some head)) = CountsBytes old new
+CountsLine old new (Ok None) = has_ended new ≡ false → CountsBytes old new
+CountsLine old new (Err (stops.Wrong kind)) = CountsBytes old new
+CountsLine old new (Err stops.Read) = Unit {0}
+CountsLine old new (Err stops.OutOfMemory) = Unit {0}
+
 -- the call gave the next line, the end or the fault of the text; after the end or a fault it gives none and stays as it is
 pub record Gives {R : Type 0} (remaining : R → Option (List ℕ)) (old new : LineReader R)
     (r : Result (Option LratLine) LratTextFault) : Type 0 where
   pub reads : has_ended old ≡ false → Answers remaining view old new r
+  pub counts : has_ended old ≡ false → Counts old new r
   pub stays : has_ended old ≡ true → (r ≡ Ok None) × (new ≡ old)
 
 -- what reading one line answered

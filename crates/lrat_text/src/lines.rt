@@ -1,5 +1,5 @@
 //! The lines of a text, one after the other.
-ghost use Rattle.std.specs.Prelude.{◌≡◌, ◌<◌, ◌≤◌, ◌-◌, ◌^◌, ◌++◌, ◌∷◌, [], Ok, IfErr, IfSome, OnOk, true, IsTrue, length, take};
+ghost use Rattle.std.specs.Prelude.{◌≡◌, ◌<◌, ◌≤◌, ◌+◌, ◌-◌, ◌^◌, ◌++◌, ◌∷◌, [], Ok, IfErr, IfSome, OnOk, true, IsTrue, length, take};
 ghost use Rattle.std.specs.Io.KnownBytes.{Consumes};
 ghost use Rattle.sat_formula.specs.Source.{is_limited};
 ghost use Rattle.lrat_text.specs.Bytes.{IsLine};
@@ -10,6 +10,9 @@ use sat_formula::source::{NoByte, Source};
 use std::alloc::Global;
 use std::io;
 use std::io::Read;
+
+/// How many bytes of a text are taken at most, so that its lines can be counted.
+const MOST_BYTES: u64 = u64::MAX - 1;
 
 /// A text of which the last line that was taken is held.
 #[derive(Drop)]
@@ -25,10 +28,10 @@ impl<R: Read> Lines<R> {
 
     pub(crate) fn new(alloc: Global, inner: R) -> Lines<R>
         ensures bytes { unread_lines R.remaining result ≡ R.remaining inner }
-        ensures room { room_in result ≡ 2 ^ 64 - 1 }
+        ensures room { room_in result ≡ 2 ^ 64 - 2 }
     {
         Lines {
-            source: Source::limited(alloc, inner, u64::MAX),
+            source: Source::limited(alloc, inner, MOST_BYTES),
             held: Vec::new(alloc),
         }
     }
@@ -78,6 +81,8 @@ impl<R: Read> Lines<R> {
             let new = unread_lines R.remaining self.new in
             HoldsLine old new self.new.source self.new.held.items result }
         ensures room { room_in self.new ≤ room_in self.old }
+        ensures taken { OnOk result
+            (room_in self.new + length self.new.held.items ≤ room_in self.old) }
         ensures nearer { result ≡ Ok true → room_in self.new < room_in self.old }
     {
         self.held.clear();

@@ -17,8 +17,8 @@ use std::io::Read;
 /// are passed over. Ids go from 1 to 2^64 - 1, but the one before a `d` may be 0 and says nothing;
 /// variables go up to `Var::MAX_COUNT`.
 ///
-/// It keeps the bytes read ahead and one line. Of a text it takes at most `u64::MAX` bytes; where
-/// it would take more, it is as if a read had failed.
+/// It keeps the bytes read ahead and one line. Of a text it takes at most `u64::MAX - 1` bytes, so
+/// that its lines can be counted; where it would take more, it is as if a read had failed.
 #[derive(Drop)]
 pub struct LineReader<R> {
     lines: Lines<R>,
@@ -30,14 +30,14 @@ pub struct LineReader<R> {
 impl<R: Read> LineReader<R> {
     ghost use Rattle.sat_formula.specs.Outcome.{next_line};
     ghost use Rattle.sat_formula.specs.Source.{IsStopped};
-    ghost use Rattle.lrat_text.specs.NextLine.{bytes_left, room_left, has_ended, line_number, work_left, view, Gives, Answers, JudgesLine, Explains};
+    ghost use Rattle.lrat_text.specs.NextLine.{bytes_left, room_left, has_ended, line_number, work_left, view, Gives, Answers, Counts, CountsLine, JudgesLine, Explains};
     ghost use Rattle.lrat_text.specs.Reading.{line_of};
     ghost use Rattle.lrat_text.specs.contracts.reader.LineReader.{the_row};
 
     /// A reader at the start of a text. It takes no memory and reads nothing yet.
     pub fn new(alloc: Global, inner: R) -> LineReader<R>
         ensures bytes { bytes_left R.remaining result ≡ R.remaining inner }
-        ensures room { room_left result ≡ 2 ^ 64 - 1 }
+        ensures room { room_left result ≡ 2 ^ 64 - 2 }
         ensures line { line_number result ≡ 0 }
         ensures ended { has_ended result ≡ false }
     {
@@ -77,6 +77,7 @@ impl<R: Read> LineReader<R> {
     fn begin(&mut self) -> Result<Option<Head>, LratTextFault>
         ensures reads { has_ended self.old ≡ false
             → Answers R.remaining (line_of self.new.row) self.old self.new result }
+        ensures counts { has_ended self.old ≡ false → Counts self.old self.new result }
         ensures stays { has_ended self.old ≡ true → (result ≡ Ok None) × (self.new ≡ self.old) }
     {
         'lines: while !self.ended {
@@ -92,6 +93,7 @@ impl<R: Read> LineReader<R> {
     /// Reads one line, whatever it says.
     fn one_line(&mut self) -> Result<Option<Head>, Stop>
         ensures judged { JudgesLine R.remaining self.old self.new result }
+        ensures counts { CountsLine self.old self.new result }
         ensures nearer { has_ended self.old ≡ false → IsOk result
             → work_left self.new < work_left self.old }
     {
@@ -108,6 +110,7 @@ impl<R: Read> LineReader<R> {
     /// Reads a line that does not stand ahead whole.
     fn held_line(&mut self) -> Result<Option<Head>, Stop>
         ensures judged { JudgesLine R.remaining self.old self.new result }
+        ensures counts { CountsLine self.old self.new result }
         ensures nearer { has_ended self.old ≡ false → IsOk result
             → work_left self.new < work_left self.old }
     {

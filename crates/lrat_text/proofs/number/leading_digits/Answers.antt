@@ -1,4 +1,4 @@
-use Rattle.std.proofs.Common.{◌≡◌, ◌*◌, ◌<◌, ◌^◌, true, sym, ◌∙◌, arith}
+use Rattle.std.proofs.Common.{sym, ◌∙◌, arith}
 use Rattle.std.specs.Prelude.{slice_index}
 use Rattle.lrat_text.proofs.FirstNumberLemmas.{digit_fits_after, digits_none, digits_more, small_more}
 use Rattle.lrat_text.proofs.number.leading_digits.Goals as goal

@@ -1,4 +1,4 @@
-use Rattle.std.proofs.Common.{◌-◌, ◌<◌, ◌≤◌, ◌^◌}
+use Rattle.std.proofs.Common.{◌-◌, ◌<◌, ◌^◌}
 use Rattle.lrat_text.specs.FirstNumbers.{HasDigits}
 use Rattle.lrat_text.proofs.number.leading_digits.Given as goal
 

@@ -1,5 +1,5 @@
 use Rattle.std.proofs.Common.{arith}
-use Rattle.lrat_text.proofs.WordLemmas.{line_rest, no_words, words_in-word}
+use Rattle.lrat_text.proofs.WordLemmas.{words_in-word}
 use Rattle.lrat_text.proofs.words.split_word.Goals as goal
 
 pub returns-clause-word : goal.returns-clause-word

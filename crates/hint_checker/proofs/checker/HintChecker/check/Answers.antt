@@ -1,22 +1,19 @@
-use Rattle.std.proofs.Common.{◌≡◌, Some, None, subst, sym, ap, ◌∙◌, cond}
-use Rattle.sat_rules.specs.HintLines.{Follows, listing}
-use Rattle.sat_rules.proofs.HintLineFacts.{some-same}
-use Rattle.hint_checker.specs.Held.{held_by}
-use Rattle.hint_checker.proofs.CheckLemmas.{accepts_after, yes_refutes}
+use Rattle.std.proofs.Common.{subst, sym}
+use Rattle.hint_checker.specs.Checked.{Accepts, IsRefusal}
+use Rattle.hint_checker.proofs.CheckLemmas.{accepts_after, refused_bytes}
 use Rattle.hint_checker.proofs.checker.HintChecker.check.Goals as goal
 
-pub returns-clause-refutes : goal.returns-clause-refutes
-returns-clause-refutes c formula lines h e f y =
-    yes_refutes formula lines (held_by c.args.self.now.held) c.args.text.now (held_by c.check_lines.new.held)
-    (subst (Follows (listing formula) lines) (sym same) f) c.in_default.ensures.accepted (sym c.added_empty.ensures ∙ y)
-  where
-    same : held_by c.args.self.now.held ≡ h
-    same = some-same (held_by c.args.self.now.held) h (sym (ap (λ b. cond b None (Some (held_by c.args.self.now.held))) c.if-self.false) ∙ e)
+pub returns-in-Ok-clause-accepted : goal.returns-in-Ok-clause-accepted
+returns-in-Ok-clause-accepted c h e =
+    let found = c.in-Ok.ensures.accepted h e in
+    (found.held, subst (λ text. Accepts h text found.held) found.gives found.accepts, found.holds, found.answer)
 
-pub returns-clause-lines : goal.returns-clause-lines
-returns-clause-lines c formula lines h e f =
-    accepts_after formula lines (held_by c.args.self.now.held) c.args.text.now (held_by c.check_lines.new.held) _ _ (subst (Follows (listing formula) lines) (sym same) f) c.in_default.ensures.accepted
-    (ap (λ b. cond b None (Some (held_by c.check_lines.new.held))) c.if-self.false) c.added_empty.ensures
-  where
-    same : held_by c.args.self.now.held ≡ h
-    same = some-same (held_by c.args.self.now.held) h (sym (ap (λ b. cond b None (Some (held_by c.args.self.now.held))) c.if-self.false) ∙ e)
+pub returns-in-Ok-clause-lines : goal.returns-in-Ok-clause-lines
+returns-in-Ok-clause-lines c formula lines h e f =
+    let found = c.in-Ok.ensures.accepted h e in
+    accepts_after formula lines h c.args.text.now found.held _ _ f (subst (λ text. Accepts h text found.held) found.gives found.accepts) found.holds found.answer
+
+pub returns-in-Err-clause-refused : goal.returns-in-Err-clause-refused
+returns-in-Err-clause-refused c h e =
+    let refused = c.in-Err.ensures.refused h e in
+    (subst (λ fault. IsRefusal h c.args.text.now fault) (sym c.of_bytes.ensures) (refused_bytes h c.args.text.now c.in-Err.fault refused.0), refused.1)

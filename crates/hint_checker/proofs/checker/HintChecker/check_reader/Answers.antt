@@ -8,7 +8,7 @@ use Rattle.hint_checker.proofs.checker.HintChecker.check_reader.Goals as goal
 pub returns-in-Ok-clause-refutes : goal.returns-in-Ok-clause-refutes
 returns-in-Ok-clause-refutes g c formula lines h e f y =
     let found = c.in-Ok.ensures.accepted in
-    yes_refutes formula lines (held_by c.args.self.now.held) found.0 (held_by c.check_stream.new.held)
+    yes_refutes formula lines (held_by c.args.self.now.held) found.0 (held_by c.check_text.new.held)
     (subst (Follows (listing formula) lines) (sym same) f) found.2 (sym c.added_empty.ensures ∙ y)
   where
     same : held_by c.args.self.now.held ≡ h

@@ -1,6 +1,6 @@
 use Rattle.std.proofs.Common.{◌≡◌, ℕ, true, drop}
 use Rattle.sat_rules.specs.Clauses.{has}
-use Rattle.hint_checker.specs.Marks.{has_mark}
+use Rattle.clause_table.specs.Marks.{has_mark}
 use Rattle.hint_checker.proofs.values.Values.clear.Given as goal
 
 -- what is still true comes later in the trail

@@ -4,7 +4,7 @@ use Rattle.lrat_rules.specs.Tables.{drop_all}
 use Rattle.lrat_checker.specs.Counts.{lit_count}
 use Rattle.lrat_checker.specs.Far.{far_clause}
 use Rattle.lrat_checker.specs.Held.{near_or, table_of}
-use Rattle.lrat_checker.specs.Near.{near_clause}
+use Rattle.clause_table.specs.Near.{near_clause}
 use Rattle.lrat_checker.proofs.TableLemmas.{table_ext}
 use Rattle.lrat_checker.proofs.clauses.Clauses.remove.Goals as goal
 

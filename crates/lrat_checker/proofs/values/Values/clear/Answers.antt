@@ -1,6 +1,6 @@
 use Rattle.std.proofs.Common.{sym, ap, ◌∙◌, subst}
 use Rattle.sat_rules.specs.Clauses.{has}
-use Rattle.lrat_checker.specs.Marks.{has_mark}
+use Rattle.clause_table.specs.Marks.{has_mark}
 use Rattle.lrat_checker.specs.Values.{IsMarked, true_by}
 use Rattle.lrat_checker.proofs.TrailLemmas.{cleared_of, earlier_in_trail, marked-none}
 use Rattle.lrat_checker.proofs.values.Values.clear.Goals as goal

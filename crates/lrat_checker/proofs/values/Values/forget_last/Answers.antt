@@ -1,5 +1,5 @@
 use Rattle.std.proofs.Common.{subst}
-use Rattle.lrat_checker.specs.Marks.{has_mark}
+use Rattle.clause_table.specs.Marks.{has_mark}
 use Rattle.lrat_checker.specs.Values.{IsMarked, true_by}
 use Rattle.lrat_checker.proofs.TrailLemmas.{cleared_of, marked-pop}
 use Rattle.lrat_checker.proofs.values.Values.forget_last.Goals as goal

@@ -1,7 +1,7 @@
 use Rattle.std.proofs.Common.{sym, ap, ◌∙◌}
 use Rattle.sat_rules.specs.Clauses.{has, negate, unfalsified}
 use Rattle.sat_rules.proofs.Chains.{negate-negate}
-use Rattle.lrat_checker.specs.Marks.{has_mark}
+use Rattle.clause_table.specs.Marks.{has_mark}
 use Rattle.lrat_checker.specs.Values.{among}
 use Rattle.lrat_checker.proofs.SearchLemmas.{unfalsified-false}
 use Rattle.lrat_checker.proofs.values.Values.last_left.Goals as goal

@@ -1,6 +1,6 @@
 use Rattle.std.proofs.Common.{subst, sym, ap, ◌∙◌}
 use Rattle.std.proofs.lemmas.Bool.{not-true}
-use Rattle.lrat_checker.specs.Marks.{has_mark}
+use Rattle.clause_table.specs.Marks.{has_mark}
 use Rattle.lrat_checker.specs.Values.{IsMarked, true_by}
 use Rattle.lrat_checker.proofs.TrailLemmas.{marked-push, set_of}
 use Rattle.lrat_checker.proofs.values.Values.set.Goals as goal

@@ -1,0 +1,4 @@
+pub mod Room
+pub mod Marks
+pub mod Places
+pub mod Near

@@ -1,5 +1,0 @@
-use Rattle.hint_checker.proofs.MarkLemmas.{mark-none}
-use Rattle.hint_checker.proofs.marks.Marks.new.Goals as goal
-
-pub returns-clause-marks : goal.returns-clause-marks
-returns-clause-marks c = mark-none c.new.result.items c.new-2.result c.new.ensures.items c.new-2.ensures.empty
