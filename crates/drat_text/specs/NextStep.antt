@@ -1,6 +1,6 @@
 -- What `next_step` answers.
 --     view      a step, with its list in place of a reference to it
---     bytes_left, steps_given, has_ended, format_now, work_left, IsReadError      what a caller knows of a reader
+--     bytes_left, room_left, steps_given, has_ended, format_now, work_left, IsReadError      what a caller knows of a reader
 --     Gives      what a call gave, and the reader after it
 use Rattle.std.specs.Prelude.{◌≡◌, ℕ, suc, ◌<◌, Bool, true, false, List, [], Option, Some, None, Result, Ok, Err, IfSome, IfOk, OnOk, ◌≤◌, unwrap_or, if◌then◌else◌}
 use Rattle.std.specs.declared.io.Error.{Error}
@@ -33,6 +33,10 @@ view (steps.Delete lits) = deletes lits.now
 abbrev pub bytes_left : {R : Type 0} → (R → Option (List ℕ)) → DratReader R → Option (List ℕ)
 bytes_left remaining r = unread_bytes remaining r.bytes
 
+-- how many more bytes it takes at most
+abbrev pub room_left : {R : Type 0} → DratReader R → ℕ
+room_left r = room_in r.bytes
+
 -- no step comes any more
 abbrev pub has_ended : {R : Type 0} → DratReader R → Bool
 has_ended r = r.ended
@@ -60,7 +64,7 @@ format_for r bytes = unwrap_or (known_format r) (format_of bytes)
 
 -- a number that falls with each step that is given
 abbrev pub work_left : {R : Type 0} → DratReader R → ℕ
-work_left r = if has_ended r then 0 else suc (room_in r.bytes)
+work_left r = if has_ended r then 0 else suc (room_left r)
 
 -- the error of the read that failed, or where none did and the proof is too long, one that says so
 abbrev pub IsReadError : {R : Type 0} → DratReader R → Error → Type 0

@@ -1,5 +1,5 @@
 //! The bytes of a proof, the first of which tell whether it is text.
-ghost use Rattle.std.specs.Prelude.{◌≡◌, ◌<◌, ◌≤◌, [], IfOk, IsSome, IsTrue, length, vec_len};
+ghost use Rattle.std.specs.Prelude.{◌≡◌, ◌<◌, ◌≤◌, ◌-◌, ◌^◌, [], IfOk, IsSome, IsTrue, length, vec_len};
 ghost use Rattle.sat_formula.specs.Source.{is_limited};
 
 use crate::fault::{DratKind, Stop};
@@ -37,6 +37,7 @@ impl<R: Read> Bytes<R> {
     pub fn new(alloc: Global, inner: R) -> Bytes<R>
         ensures bytes { unread_bytes R.remaining result ≡ R.remaining inner }
         ensures front { result.front.items ≡ [] }
+        ensures room { room_in result ≡ 2 ^ 64 - 1 }
     {
         Bytes {
             source: Source::limited(alloc, inner, u64::MAX),

@@ -1,5 +1,5 @@
 //! Steps from a reader's bytes.
-ghost use Rattle.std.specs.Prelude.{◌≡◌, Ok, None, true, false};
+ghost use Rattle.std.specs.Prelude.{◌≡◌, ◌-◌, ◌^◌, Ok, None, true, false};
 ghost use Rattle.std.specs.Io.BufRead.{Rests};
 ghost use types.Logic.{sem};
 
@@ -39,14 +39,15 @@ impl<R: Read> DratReader<R> {
     ghost use Rattle.drat_text.specs.declared.bytes.Format.{Format};
     ghost use Rattle.sat_formula.specs.Outcome.{next_line};
     ghost use Rattle.sat_formula.specs.Source.{IsStopped};
-    ghost use Rattle.drat_text.specs.NextStep.{bytes_left, has_ended, steps_given, known_format, reads_binary, view, Gives, Answers, ReadsOn, SeesFormat, Explains};
+    ghost use Rattle.drat_text.specs.NextStep.{bytes_left, room_left, has_ended, steps_given, known_format, reads_binary, view, Gives, Answers, ReadsOn, SeesFormat, Explains};
     ghost use Rattle.drat_text.specs.Steps.{step_of};
-    ghost use Rattle.drat_text.specs.Taking.{unread_bytes};
+    ghost use Rattle.drat_text.specs.Taking.{room_in, unread_bytes};
     ghost use Rattle.drat_text.specs.contracts.reader.DratReader.{the_row};
 
     /// A reader at the start of a proof. It takes no memory and reads nothing yet.
     pub fn new(alloc: Global, input: R) -> DratReader<R>
         ensures bytes { bytes_left R.remaining result ≡ R.remaining input }
+        ensures room { room_left result ≡ 2 ^ 64 - 1 }
         ensures steps { steps_given result ≡ 0 }
         ensures format { known_format result ≡ None }
         ensures ended { has_ended result ≡ false }
@@ -58,6 +59,7 @@ impl<R: Read> DratReader<R> {
     #[doc(hidden)]
     pub fn over(alloc: Global, bytes: Bytes<R>) -> DratReader<R>
         ensures bytes { bytes_left R.remaining result ≡ unread_bytes R.remaining bytes }
+        ensures room { room_left result ≡ room_in bytes }
         ensures steps { steps_given result ≡ 0 }
         ensures format { known_format result ≡ None }
         ensures ended { has_ended result ≡ false }

@@ -1,5 +1,5 @@
 -- What `next_step` answers.
---     bytes_left, steps_given, has_ended, format_now, work_left, IsReadError      what a caller knows of a reader
+--     bytes_left, room_left, steps_given, has_ended, format_now, work_left, IsReadError      what a caller knows of a reader
 --     Gives      what a call gave, and the reader after it
 use Rattle.std.specs.Prelude.{◌≡◌, ℕ, suc, ◌<◌, Bool, true, false, List, [], Option, Some, None, Result, Ok, Err, IfSome, IfOk, OnOk, ◌≤◌, unwrap_or, if◌then◌else◌}
 use Rattle.std.specs.declared.io.Error.{Error}
@@ -28,6 +28,10 @@ use Rattle.frat_text.specs.Taking.{EndsAll, Breaks, Fails}
 abbrev pub bytes_left : {R : Type 0} → (R → Option (List ℕ)) → FratReader R → Option (List ℕ)
 bytes_left remaining r = unread_bytes remaining r.bytes
 
+-- how many more bytes it takes at most
+abbrev pub room_left : {R : Type 0} → FratReader R → ℕ
+room_left r = room_in r.bytes
+
 -- no step comes any more
 abbrev pub has_ended : {R : Type 0} → FratReader R → Bool
 has_ended r = r.ended
@@ -55,7 +59,7 @@ format_for r bytes = unwrap_or (known_format r) (format_of bytes)
 
 -- a number that falls with each step that is given
 abbrev pub work_left : {R : Type 0} → FratReader R → ℕ
-work_left r = if has_ended r then 0 else suc (room_in r.bytes)
+work_left r = if has_ended r then 0 else suc (room_left r)
 
 -- the error of the read that failed, or where none did and the proof is too long, one that says so
 abbrev pub IsReadError : {R : Type 0} → FratReader R → Error → Type 0

@@ -1,5 +1,5 @@
 //! Steps from a reader's bytes.
-ghost use Rattle.std.specs.Prelude.{◌≡◌, Ok, None, true, false};
+ghost use Rattle.std.specs.Prelude.{◌≡◌, ◌-◌, ◌^◌, Ok, None, true, false};
 ghost use Rattle.std.specs.Io.BufRead.{Rests};
 ghost use types.Logic.{sem};
 
@@ -45,15 +45,16 @@ pub struct FratReader<R> {
 impl<R: Read> FratReader<R> {
     ghost use Rattle.std.specs.Prelude.{Some};
     ghost use Rattle.drat_text.specs.declared.bytes.Format.{Format};
-    ghost use Rattle.drat_text.specs.Taking.{unread_bytes, source_of};
+    ghost use Rattle.drat_text.specs.Taking.{room_in, unread_bytes, source_of};
     ghost use Rattle.sat_formula.specs.Source.{IsStopped};
     ghost use Rattle.frat_text.specs.Drafts.{found_step, view};
-    ghost use Rattle.frat_text.specs.NextStep.{bytes_left, has_ended, steps_given, known_format, reads_binary, Gives, Answers, ReadsOn, SeesFormat, Explains};
+    ghost use Rattle.frat_text.specs.NextStep.{bytes_left, room_left, has_ended, steps_given, known_format, reads_binary, Gives, Answers, ReadsOn, SeesFormat, Explains};
     ghost use Rattle.frat_text.specs.contracts.reader.FratReader.{the_row};
 
     /// A reader at the start of a proof. It takes no memory and reads nothing yet.
     pub fn new(alloc: Global, input: R) -> FratReader<R>
         ensures bytes { bytes_left R.remaining result ≡ R.remaining input }
+        ensures room { room_left result ≡ 2 ^ 64 - 1 }
         ensures steps { steps_given result ≡ 0 }
         ensures format { known_format result ≡ None }
         ensures ended { has_ended result ≡ false }
@@ -65,6 +66,7 @@ impl<R: Read> FratReader<R> {
     #[doc(hidden)]
     pub fn over(alloc: Global, bytes: Bytes<R>) -> FratReader<R>
         ensures bytes { bytes_left R.remaining result ≡ unread_bytes R.remaining bytes }
+        ensures room { room_left result ≡ room_in bytes }
         ensures steps { steps_given result ≡ 0 }
         ensures format { known_format result ≡ None }
         ensures ended { has_ended result ≡ false }
