@@ -10,11 +10,10 @@ use Rattle.lrat_checker.specs.Standing.{IsReady, has_refuted}
 use Rattle.lrat_checker.specs.declared.checker.LratChecker.{LratChecker}
 use Rattle.sat_output.specs.LratTexts.{last_after, line_text, lines_text, words_before_end}
 use Rattle.sat_output.proofs.Beginnings.{begins_nothing, begins_past, begins_whole}
-use Rattle.drat_check.specs.declared.fault.OutputFault.{OutputFault}
-use Rattle.drat_check.specs.declared.fault.OutputFault.TheVariants.{Run}
 use Rattle.drat_check.specs.declared.fault.ProofFault.{ProofFault}
 use Rattle.drat_check.specs.declared.fault.RunFault.TheVariants.{Proof}
-use Rattle.drat_check.specs.Outputs.{BeganLines, WritesOutputs, WroteProof, bytes_in}
+use Rattle.drat_check.specs.declared.outputs.Outputs.{Outputs}
+use Rattle.drat_check.specs.Outputs.{BeganLines, WritesBefore, WroteProof, bytes_in}
 
 abbrev Known : Type 0
 Known = Option (List ℕ)
@@ -105,6 +104,6 @@ on_err P (Ok x) p = tt
 on_err P (Err e) p = p
 
 -- a refusal before a line was made
-pub refused : {L C : Type 0} (formula : List (List ℕ)) (lrat : L → Known) (core : C → Known) (l : Option L) (c : Option C) (fault : ProofFault) (wide : OutputFault) → wide ≡ Run (Proof fault) →
-    WritesOutputs formula lrat core l l c c (Err wide)
-refused formula lrat core l c fault wide e = rw e (began_none formula (bytes_in lrat l), refl)
+pub refused : {L C : Type 0} (formula : List (List ℕ)) (lrat : L → Known) (core : C → Known) (s : Outputs L C) (fault : ProofFault) →
+    WritesBefore formula lrat core s s (Err (Proof fault))
+refused formula lrat core s fault = (began_none formula (bytes_in lrat s.lrat), refl)

@@ -1,30 +1,25 @@
--- What a run writes beside its verdict.
+-- What a run writes.
 --     bytes_in contents w      the bytes that a writer holds, where there is one
 --     IsPartOf used formula      some of the formula's clauses, in their order
 --     WroteProof, BeganLines      lines that refute the formula were written, or a beginning of lines that were accepted
 --     WroteCore, BeganCore      a part of the formula was written as a formula, or a beginning of that
 --     IsLineFault r      the fault of making and writing lines
---     IsOutputRun, IsOutputCheckRun      the run of a proof after a formula, and after a formula's text
---     IsEarlyFault r, IsSilent r, IsUnwrittenWith r      a fault before the line of the verdict;  none of it was written;  not all of it was
---     WritesOutputs      what such a run wrote
---     OfFormula cnf P, HasNoFormula r      the whole text is a formula of which this is so;  it is none
+--     WritesBefore      what a run wrote beside its verdict's line, before that
+--     WritesOutputs      what a run wrote beside its verdict's line, and of that where it was not written whole
 use Rattle.std.specs.Prelude.{◌≡◌, ℕ, Bool, true, false, List, [], ◌∷◌, length, Option, Some, None, Result, Ok, Err}
-use Rattle.std.specs.Option.{option_map}
 use Rattle.std.specs.Io.KnownBytes.{Appends}
 use Rattle.sat_rules.specs.Named.{Item}
-use Rattle.sat_formula.specs.Lines as dimacs
-use Rattle.sat_formula.specs.Outcome.{Ended}
-use Rattle.sat_formula.specs.Whole.{FailsAfter, IsOutcome}
 use Rattle.lrat_rules.specs.Lines.{Line, is_refuted, run}
 use Rattle.lrat_rules.specs.Stores.{formula_store}
 use Rattle.sat_output.specs.FormulaTexts.{formula_text}
 use Rattle.sat_output.specs.LratTexts.{lines_text}
 use Rattle.whole_writes.specs.Beginnings.{AppendsBeginning}
+use Rattle.verdicts.specs.Verdicts.{shown_line}
 use Rattle.verdicts.specs.declared.verdict.Verdict.{Verdict}
 use Rattle.verdicts.specs.declared.verdict.Verdict.TheVariants.{Verified, NotVerified}
-use Rattle.drat_check.specs.declared.fault.OutputFault.{OutputFault}
-use Rattle.drat_check.specs.declared.fault.OutputFault.TheVariants.{Run, Lrat, Core}
-use Rattle.drat_check.specs.declared.fault.RunFault.TheVariants.{Formula, Proof, Write}
+use Rattle.drat_check.specs.declared.fault.RunFault.{RunFault}
+use Rattle.drat_check.specs.declared.fault.RunFault.TheVariants.{Formula, Proof, Lrat, Core, Write}
+use Rattle.drat_check.specs.declared.outputs.Outputs.{Outputs}
 use Rattle.drat_check.specs.Runs.{IsShown}
 
 -- the bytes that a writer holds, where there is one and they are known
@@ -75,100 +70,54 @@ pub record BeganCore (formula : List (List ℕ)) (old new : Option (List ℕ)) :
 -- ---- runs
 
 -- a fault of making and writing lines
-abbrev pub IsLineFault : Result (Unit {0}) OutputFault → Type 0
+abbrev pub IsLineFault : Result (Unit {0}) RunFault → Type 0
 IsLineFault (Ok x) = Unit {0}
-IsLineFault (Err (Run (Proof fault))) = Unit {0}
-IsLineFault (Err (Run (Write cause))) = ⊥
-IsLineFault (Err (Run (Formula fault))) = ⊥
+IsLineFault (Err (Formula fault)) = ⊥
+IsLineFault (Err (Proof fault)) = Unit {0}
 IsLineFault (Err (Lrat cause)) = Unit {0}
 IsLineFault (Err (Core cause)) = ⊥
-
--- the verdict says no more than is so; the formula was there
-abbrev pub IsOutputRun : List (List ℕ) → Result Verdict OutputFault → Type 0
-IsOutputRun formula (Ok verdict) = IsShown formula verdict
-IsOutputRun formula (Err (Run (Proof fault))) = Unit {0}
-IsOutputRun formula (Err (Run (Write cause))) = Unit {0}
-IsOutputRun formula (Err (Run (Formula fault))) = ⊥
-IsOutputRun formula (Err (Lrat cause)) = Unit {0}
-IsOutputRun formula (Err (Core cause)) = Unit {0}
-
--- a fault that comes before the verdict's line
-abbrev pub IsEarlyFault : Result Verdict OutputFault → Type 0
-IsEarlyFault (Ok verdict) = Unit {0}
-IsEarlyFault (Err (Run (Proof fault))) = Unit {0}
-IsEarlyFault (Err (Run (Write cause))) = ⊥
-IsEarlyFault (Err (Run (Formula fault))) = ⊥
-IsEarlyFault (Err (Lrat cause)) = Unit {0}
-IsEarlyFault (Err (Core cause)) = Unit {0}
-
--- no line of a verdict was begun
-abbrev pub IsSilent : Result Verdict OutputFault → Type 0
-IsSilent (Ok verdict) = ⊥
-IsSilent (Err (Run (Proof fault))) = Unit {0}
-IsSilent (Err (Run (Write cause))) = ⊥
-IsSilent (Err (Run (Formula fault))) = Unit {0}
-IsSilent (Err (Lrat cause)) = Unit {0}
-IsSilent (Err (Core cause)) = Unit {0}
-
--- the verdict stands, and its line was not written whole
-abbrev pub IsUnwrittenWith : Result Verdict OutputFault → Type 0
-IsUnwrittenWith (Ok verdict) = ⊥
-IsUnwrittenWith (Err (Run (Proof fault))) = ⊥
-IsUnwrittenWith (Err (Run (Write cause))) = Unit {0}
-IsUnwrittenWith (Err (Run (Formula fault))) = ⊥
-IsUnwrittenWith (Err (Lrat cause)) = ⊥
-IsUnwrittenWith (Err (Core cause)) = ⊥
+IsLineFault (Err (Write cause)) = ⊥
 
 module _ {L C : Type 0} (formula : List (List ℕ)) (lrat : L → Option (List ℕ)) (core : C → Option (List ℕ))
-    (l l' : Option L) (c c' : Option C) where
-  -- neither is touched
-  abbrev pub Untouched : Type 0
-  Untouched = (l' ≡ l) × (c' ≡ c)
-
-  -- both are written whole
+    (s s' : Outputs L C) where
+  -- lines that refute the formula are written whole, and a part of the formula
   abbrev pub BothWritten : Type 0
-  BothWritten = WroteProof formula (bytes_in lrat l) (bytes_in lrat l')
-      × WroteCore formula (bytes_in core c) (bytes_in core c')
+  BothWritten = WroteProof formula (bytes_in lrat s.lrat) (bytes_in lrat s'.lrat)
+      × WroteCore formula (bytes_in core s.core) (bytes_in core s'.core)
+
+  -- of the lines a beginning was written, and of the part nothing
+  abbrev pub LinesBegan : Type 0
+  LinesBegan = BeganLines formula (bytes_in lrat s.lrat) (bytes_in lrat s'.lrat)
+      × (s'.core ≡ s.core)
 
   -- what the verdict stands on was written, where it says anything
   abbrev pub WritesFor : Verdict → Type 0
   WritesFor Verified = BothWritten
-  WritesFor NotVerified = Untouched
+  WritesFor NotVerified = s' ≡ s
 
-  -- what the run of a proof after a formula wrote
-  abbrev pub WritesOutputs : Result Verdict OutputFault → Type 0
-  WritesOutputs (Ok verdict) = WritesFor verdict
-  WritesOutputs (Err (Run (Proof fault))) =
-      BeganLines formula (bytes_in lrat l) (bytes_in lrat l') × (c' ≡ c)
-  WritesOutputs (Err (Run (Write cause))) = (verdict : Verdict) × WritesFor verdict
-  WritesOutputs (Err (Run (Formula fault))) = Untouched
-  WritesOutputs (Err (Lrat cause)) =
-      BeganLines formula (bytes_in lrat l) (bytes_in lrat l') × (c' ≡ c)
-  WritesOutputs (Err (Core cause)) =
-      WroteProof formula (bytes_in lrat l) (bytes_in lrat l')
-      × BeganCore formula (bytes_in core c) (bytes_in core c')
+  -- what was written before the verdict's line
+  abbrev pub WritesBefore : Result Verdict RunFault → Type 0
+  WritesBefore (Ok verdict) = WritesFor verdict
+  WritesBefore (Err (Formula fault)) = s' ≡ s
+  WritesBefore (Err (Proof fault)) = LinesBegan
+  WritesBefore (Err (Lrat cause)) = LinesBegan
+  WritesBefore (Err (Core cause)) =
+      WroteProof formula (bytes_in lrat s.lrat) (bytes_in lrat s'.lrat)
+      × BeganCore formula (bytes_in core s.core) (bytes_in core s'.core)
+  WritesBefore (Err (Write cause)) = ⊥
 
--- the whole text is this formula, of which this is so
-pub record OfFormula (cnf : Option (List ℕ)) (P : List (List ℕ) → Type 0) : Type 0 where
-  pub formula : List (List ℕ)
-  pub whole : IsOutcome (option_map dimacs.outcome_of cnf) (formula, Ended)
-  pub holds : P formula
+  -- one verdict stood, which says no more than is so: what it stands on was written, and a beginning of its line
+  pub record LeftUnwritten (old new : Option (List ℕ)) : Type 0 where
+    pub verdict : Verdict
+    pub shown : IsShown formula verdict
+    pub stands : WritesFor verdict
+    pub begins : AppendsBeginning old new (shown_line verdict)
 
--- the run over both texts: a formula that was not read whole is answered, and else the proof's run
-abbrev pub IsOutputCheckRun : Option (List ℕ) → Result Verdict OutputFault → Type 0
-IsOutputCheckRun cnf (Ok verdict) = OfFormula cnf (λ formula. IsShown formula verdict)
-IsOutputCheckRun cnf (Err (Run (Proof fault))) = OfFormula cnf (λ formula. Unit {0})
-IsOutputCheckRun cnf (Err (Run (Write cause))) = OfFormula cnf (λ formula. Unit {0})
-IsOutputCheckRun cnf (Err (Run (Formula fault))) = (clauses : List (List ℕ))
-    × FailsAfter (option_map dimacs.outcome_of cnf) clauses fault
-IsOutputCheckRun cnf (Err (Lrat cause)) = OfFormula cnf (λ formula. Unit {0})
-IsOutputCheckRun cnf (Err (Core cause)) = OfFormula cnf (λ formula. Unit {0})
-
--- the formula was not read whole
-abbrev pub HasNoFormula : Result Verdict OutputFault → Type 0
-HasNoFormula (Ok verdict) = ⊥
-HasNoFormula (Err (Run (Proof fault))) = ⊥
-HasNoFormula (Err (Run (Write cause))) = ⊥
-HasNoFormula (Err (Run (Formula fault))) = Unit {0}
-HasNoFormula (Err (Lrat cause)) = ⊥
-HasNoFormula (Err (Core cause)) = ⊥
+  -- what a run wrote; of the verdict's line that which a write that failed has left
+  abbrev pub WritesOutputs : {W : Type 0} → (W → Option (List ℕ)) → W → W → Result Verdict RunFault → Type 0
+  WritesOutputs line w w' (Ok verdict) = WritesBefore (Ok verdict)
+  WritesOutputs line w w' (Err (Formula fault)) = WritesBefore (Err (Formula fault))
+  WritesOutputs line w w' (Err (Proof fault)) = WritesBefore (Err (Proof fault))
+  WritesOutputs line w w' (Err (Lrat cause)) = WritesBefore (Err (Lrat cause))
+  WritesOutputs line w w' (Err (Core cause)) = WritesBefore (Err (Core cause))
+  WritesOutputs line w w' (Err (Write cause)) = LeftUnwritten (line w) (line w')

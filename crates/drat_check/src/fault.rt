@@ -38,35 +38,15 @@ pub enum RunFault {
     /// There is no verdict on the proof.
     #[error("{0}")]
     Proof(ProofFault),
-    /// The verdict stands, and its line could not be written.
-    #[error("error writing: {0}")]
-    Write(io::Error),
-}
-
-/// What a run that writes outputs beside its verdict answers in place of it.
-#[derive(Debug, Drop, Error)]
-pub enum OutputFault {
-    /// What a run without such outputs answers.
-    #[error("{0}")]
-    Run(RunFault),
     /// The lines of the LRAT proof could not be written.
     #[error("error writing: {0}")]
     Lrat(io::Error),
     /// The used clauses could not be written.
     #[error("error writing: {0}")]
     Core(io::Error),
-}
-
-impl From<ProofFault> for OutputFault {
-    ghost use Rattle.std.specs.Prelude.{◌≡◌};
-    ghost use Rattle.drat_check.specs.declared.fault.OutputFault.TheVariants.{Run};
-    ghost use Rattle.drat_check.specs.declared.fault.RunFault.TheVariants.{Proof};
-
-    ghost from_gives = { λ fault wide. wide ≡ Run (Proof fault) };
-
-    fn from(fault: ProofFault) -> OutputFault {
-        OutputFault::Run(RunFault::Proof(fault))
-    }
+    /// The verdict stands, and its line could not be written.
+    #[error("error writing: {0}")]
+    Write(io::Error),
 }
 
 impl From<DratFault> for ProofFault {

@@ -10,10 +10,9 @@ mod progress;
 mod proof;
 mod reader;
 mod run;
-mod with_outputs;
 
-pub use fault::{OutputFault, ProofFault, RunFault};
+pub use fault::{ProofFault, RunFault};
+pub use outputs::Outputs;
 pub use reader::ProofFormat;
 pub use run::{run_check, run_proof};
 pub use verdicts::{Verdict, exit_status};
-pub use with_outputs::{run_check_with_outputs, run_proof_with_outputs};

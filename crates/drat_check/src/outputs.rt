@@ -9,7 +9,7 @@ ghost use Rattle.whole_writes.specs.Beginnings.{AppendsBeginning};
 ghost use Rattle.drat_check.specs.Outputs.{BeganCore, BeganLines, IsLineFault, IsPartOf, WroteCore, WroteProof, bytes_in};
 ghost use Rattle.drat_check.specs.Runs.{IsUnsatisfiable};
 
-use crate::fault::{OutputFault, ProofFault};
+use crate::fault::{ProofFault, RunFault};
 use crate::proof::line_fault;
 use drat_elaborate::Elaborator;
 use lrat_checker::LratChecker;
@@ -20,6 +20,15 @@ use std::alloc::{AllocError, Global};
 use std::io;
 use std::io::Write;
 
+/// What a run writes beside its verdict, each where there is a writer for it.
+#[derive(Drop)]
+pub struct Outputs<L, C> {
+    /// The lines of the LRAT proof.
+    pub lrat: Option<L>,
+    /// The clauses of the formula that they use.
+    pub core: Option<C>,
+}
+
 /// Hands the elaborated lines to a checker that holds the formula, up to the empty clause, and
 /// writes each that it accepts.
 pub(crate) fn write_lines<L: Write>(
@@ -27,7 +36,7 @@ pub(crate) fn write_lines<L: Write>(
     formula: &CnfFormula,
     elaborator: &mut Elaborator,
     lrat: &mut Option<L>,
-) -> Result<(), OutputFault>
+) -> Result<(), RunFault>
     ensures shown { OnOk result (IsUnsatisfiable formula.now) }
     ensures whole { OnOk result (WroteProof formula.now
         (bytes_in L.contents lrat.old) (bytes_in L.contents lrat.new)) }
@@ -37,7 +46,7 @@ pub(crate) fn write_lines<L: Write>(
 {
     let mut checker = match LratChecker::new(alloc, formula) {
         Ok(checker) => checker,
-        Err(fault) => return Err(OutputFault::from(ProofFault::from(fault))),
+        Err(fault) => return Err(RunFault::Proof(ProofFault::from(fault))),
     };
     let mut last = formula.len() as u64;
     'lines: for line in 1..u64::MAX {
@@ -47,18 +56,18 @@ pub(crate) fn write_lines<L: Write>(
         match elaborator.next_line() {
             Ok(Some(entry)) => {
                 if let Err(fault) = checker.check_line(entry) {
-                    return Err(OutputFault::from(line_fault(line, fault)));
+                    return Err(RunFault::Proof(line_fault(line, fault)));
                 }
                 if let Err(fault) = write_accepted(alloc, lrat, last, entry) {
-                    return Err(OutputFault::Lrat(fault));
+                    return Err(RunFault::Lrat(fault));
                 }
                 last = number_after(last, entry);
             }
-            Ok(None) => return Err(OutputFault::from(ProofFault::Unfinished)),
-            Err(fault) => return Err(OutputFault::from(ProofFault::from(fault))),
+            Ok(None) => return Err(RunFault::Proof(ProofFault::Unfinished)),
+            Err(fault) => return Err(RunFault::Proof(ProofFault::from(fault))),
         }
     }
-    Err(OutputFault::from(ProofFault::Unfinished))
+    Err(RunFault::Proof(ProofFault::Unfinished))
 }
 
 /// Writes a line, where lines are wanted.
@@ -80,13 +89,13 @@ fn write_accepted<L: Write>(
 }
 
 /// Writes what a writer of lines holds back.
-fn end_lines<L: Write>(lrat: &mut Option<L>) -> Result<(), OutputFault>
+fn end_lines<L: Write>(lrat: &mut Option<L>) -> Result<(), RunFault>
     ensures kept { Keeps (bytes_in L.contents lrat.old) (bytes_in L.contents lrat.new) }
     ensures fault { IsLineFault result }
 {
     match flush(lrat) {
         Ok(()) => Ok(()),
-        Err(fault) => Err(OutputFault::Lrat(fault)),
+        Err(fault) => Err(RunFault::Lrat(fault)),
     }
 }
 

@@ -1,14 +1,16 @@
-//! Runs: a proof is checked, and its verdict is written.
-ghost use Rattle.std.specs.Prelude.{◌≡◌, ℕ, Bool, false, List, IfOk, Ok};
+//! Runs: a proof is checked, and its verdict and what it stands on are written.
+ghost use Rattle.std.specs.Prelude.{◌≡◌, ◌⊎◌, ℕ, Bool, false, List, IfOk, Ok, Some};
 ghost use Rattle.std.specs.Io.KnownBytes.{Appends};
 ghost use Rattle.sat_rules.specs.Clauses.{all_true};
 ghost use Rattle.sat_formula.specs.Refuted.{IsRefuted};
-ghost use Rattle.drat_check.specs.Runs.{BeginsLine, BeginsLineAfter, IsCheckRun, IsProofRun, IsRefusedRun, IsUnwritten};
+ghost use Rattle.drat_check.specs.Outputs.{WritesBefore, WritesOutputs};
+ghost use Rattle.drat_check.specs.Runs.{HasNoFormula, IsCheckRun, IsEarly, IsProofRun, IsSilent, OfFormula};
 ghost use Rattle.verdicts.specs.Verdicts.{shown_line};
 ghost use Rattle.verdicts.specs.declared.verdict.Verdict.TheVariants.{Verified};
 
 use crate::fault::RunFault;
-use crate::proof::verdict_of;
+use crate::outputs::{Outputs, write_core, write_lines};
+use crate::proof::{elaborate, read_proof};
 use crate::reader::ProofFormat;
 use log::Log;
 use sat_formula::{CnfFormula, read_formula};
@@ -16,61 +18,106 @@ use std::alloc::Global;
 use std::io::{Read, Write};
 use verdicts::{Verdict, write_line};
 
-/// Reads a formula in DIMACS CNF, checks the proof, and writes the verdict's line.
+/// Reads a formula in DIMACS CNF, checks the proof, and writes the verdict's line, and before it
+/// what is wanted beside it.
 ///
 /// The proof is read only once the formula was read whole. What is written is as for `run_proof`;
 /// nothing is where the formula can't be read.
-pub fn run_check<L: Log, F: Read + Drop, P: Read + Drop, W: Write>(
-    rt: &L,
+pub fn run_check<R: Log, F: Read + Drop, P: Read + Drop, W: Write, L: Write, C: Write>(
+    rt: &R,
     alloc: Global,
     cnf: F,
     proof: P,
     format: ProofFormat,
+    outputs: &mut Outputs<L, C>,
     out: &mut W,
 ) -> Result<Verdict, RunFault>
     ensures run { IsCheckRun (F.remaining cnf) result }
     ensures line { IfOk result (λ verdict.
         Appends (W.contents out.old) (W.contents out.new) (shown_line verdict)) }
-    ensures silent { IsRefusedRun result → out.new ≡ out.old }
-    ensures unwritten { IsUnwritten result → BeginsLineAfter (F.remaining cnf)
-        (W.contents out.old) (W.contents out.new) }
+    ensures silent { IsSilent result → out.new ≡ out.old }
+    ensures untouched { HasNoFormula result → outputs.new ≡ outputs.old }
+    ensures outputs { OfFormula (F.remaining cnf) (λ formula. WritesOutputs formula
+        L.contents C.contents outputs.old outputs.new W.contents out.old out.new result)
+        ⊎ HasNoFormula result }
     ensures refutes { (text : List ℕ) → F.remaining cnf ≡ Some text
         → result ≡ Ok Verified → IsRefuted text }
 {
     match read_formula(alloc, cnf) {
-        Ok(formula) => run_proof(rt, alloc, &formula, proof, format, out),
+        Ok(formula) => run_proof(rt, alloc, &formula, proof, format, outputs, out),
         Err(fault) => Err(RunFault::Formula(fault)),
     }
 }
 
-/// Checks a proof after a formula, and writes the verdict's line.
+/// Checks a proof after a formula, and writes the verdict's line, and before it what is wanted
+/// beside it.
 ///
 /// The proof is read up to its first conflict by propagation; the verdict is `NotVerified` where it
-/// ends without one. Nothing is written where a step can't be read, or where one that the conflict
-/// needs is not right. Where the verdict's line can't be written whole, the verdict stood, and a
-/// beginning of the line is written.
-pub fn run_proof<L: Log, P: Read + Drop, W: Write>(
-    rt: &L,
+/// ends without one. Where a step can't be read, or one that the conflict needs is not right, no
+/// line of a verdict is written.
+///
+/// The lines of the LRAT proof are those that the checker accepted, up to the empty clause, each
+/// written as it is accepted. Then come the clauses of the formula that they use, as a formula, and
+/// then the verdict's line. Where the proof shows nothing, and where it is refused before a line is
+/// made, the two are not written. A write that fails ends the run: nothing of what comes later is
+/// written. Where it is that of the verdict's line, the verdict stood.
+pub fn run_proof<R: Log, P: Read + Drop, W: Write, L: Write, C: Write>(
+    rt: &R,
     alloc: Global,
     formula: &CnfFormula,
     proof: P,
     format: ProofFormat,
+    outputs: &mut Outputs<L, C>,
     out: &mut W,
 ) -> Result<Verdict, RunFault>
     ensures run { IsProofRun formula.now result }
     ensures line { IfOk result (λ verdict.
         Appends (W.contents out.old) (W.contents out.new) (shown_line verdict)) }
-    ensures silent { IsRefusedRun result → out.new ≡ out.old }
-    ensures unwritten { IsUnwritten result → BeginsLine formula.now
-        (W.contents out.old) (W.contents out.new) }
+    ensures silent { IsSilent result → out.new ≡ out.old }
+    ensures outputs { WritesOutputs formula.now L.contents C.contents
+        outputs.old outputs.new W.contents out.old out.new result }
     ensures refutes { result ≡ Ok Verified → (a : ℕ → Bool) → all_true a formula.now ≡ false }
 {
-    let verdict = match verdict_of(rt, alloc, formula, proof, format) {
+    let verdict = match verdict_of(rt, alloc, formula, proof, format, outputs) {
         Ok(verdict) => verdict,
-        Err(fault) => return Err(RunFault::Proof(fault)),
+        Err(fault) => return Err(fault),
     };
     match write_line(out, verdict) {
         Ok(()) => Ok(verdict),
         Err(fault) => Err(RunFault::Write(fault)),
+    }
+}
+
+/// What a proof shows of a formula, once what it stands on is written. `Verified` is answered where
+/// the checker of LRAT proofs has taken the empty clause.
+fn verdict_of<R: Log, P: Read + Drop, L: Write, C: Write>(
+    rt: &R,
+    alloc: Global,
+    formula: &CnfFormula,
+    proof: P,
+    format: ProofFormat,
+    outputs: &mut Outputs<L, C>,
+) -> Result<Verdict, RunFault>
+    ensures run { IsProofRun formula.now result }
+    ensures early { IsEarly result }
+    ensures outputs { WritesBefore formula.now L.contents C.contents
+        outputs.old outputs.new result }
+{
+    let mut elaborator = match read_proof(rt, alloc, formula, proof, format) {
+        Ok(elaborator) => elaborator,
+        Err(fault) => return Err(RunFault::Proof(fault)),
+    };
+    if !elaborator.is_refuted() {
+        return Ok(Verdict::NotVerified);
+    }
+    if let Err(fault) = elaborate(rt, &mut elaborator) {
+        return Err(RunFault::Proof(fault));
+    }
+    if let Err(fault) = write_lines(alloc, formula, &mut elaborator, &mut outputs.lrat) {
+        return Err(fault);
+    }
+    match write_core(alloc, formula, &elaborator, &mut outputs.core) {
+        Ok(()) => Ok(Verdict::Verified),
+        Err(fault) => Err(RunFault::Core(fault)),
     }
 }

@@ -1,5 +1,5 @@
 //! Runs with their verdicts, lines and statuses, texts of faults, and reads and writes that fail.
-use drat_check::{ProofFormat, exit_status, run_check};
+use drat_check::{Outputs, ProofFormat, exit_status, run_check};
 use log::sink::Discard;
 use std::alloc::Global;
 use std::io::ErrorKind;
@@ -133,7 +133,11 @@ fn is_answered(
 ) {
     let cnf = Pieces::whole(cnf);
     let mut page = Page::of_room(alloc, room);
-    let answer = run_check(&Discard, alloc, cnf, proof, format, &mut page);
+    let mut outputs: Outputs<Page, Page> = Outputs {
+        lrat: None,
+        core: None,
+    };
+    let answer = run_check(&Discard, alloc, cnf, proof, format, &mut outputs, &mut page);
     let ended = Ended::of(alloc, page, &answer, exit_status(&answer));
     assert_eq!(rt; ended.outcome(), (written, fault, status), "{bytes:?}");
 }
