@@ -129,6 +129,24 @@ def long_trail():
     return text(formula), text([[x, y] for y in ys] + [[x]])
 
 
+def chain_of_lemmas(count):
+    """Lemmas each of which forces a literal by the one before, and all of them needed."""
+    chain = [[3]] + [[place + 3, -place - 2] for place in range(1, count)]
+    return text(FOUR), text([*chain, [1, -count - 2], [1]])
+
+
+def chain_25000():
+    return chain_of_lemmas(25_000)
+
+
+def chain_50000():
+    return chain_of_lemmas(50_000)
+
+
+def chain_100000():
+    return chain_of_lemmas(100_000)
+
+
 CASES = {
     it.__name__: it
     for it in (
@@ -146,6 +164,9 @@ CASES = {
         one_literal,
         sums_of_one_hash,
         long_trail,
+        chain_25000,
+        chain_50000,
+        chain_100000,
     )
 }
 

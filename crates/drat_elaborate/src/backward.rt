@@ -1,6 +1,7 @@
 //! The backward pass: what the conflict needs is checked, the last step first.
+use crate::arena::Block;
 use crate::check::Check;
-use crate::clauses::{ClauseIndex, ClauseLink, Clauses};
+use crate::clauses::{ClauseIndex, ClauseLink, Clauses, Use};
 use crate::fault::ElaborateFault;
 use crate::hinted::GivenHints;
 use crate::occurrences::Occurrences;
@@ -9,6 +10,10 @@ use crate::records::Records;
 use crate::redundancy::is_redundant;
 use crate::steps::{Step, Steps};
 use std::alloc::Global;
+
+/// A round has this many checks. Clauses that were used in this one or in the one before are
+/// propagated first.
+const CHECKS_A_ROUND: u32 = 512;
 
 /// What the pass works with, and what it found.
 #[derive(Drop)]
@@ -20,6 +25,10 @@ pub(crate) struct Backward {
     /// Where literals stand, once a clause is checked that does not follow.
     occurrences: Option<Occurrences>,
     pub(crate) records: Records,
+    /// The number of the first lemma.
+    formula_len: usize,
+    /// How many clauses were checked in this round.
+    in_round: u32,
     /// How many clauses were checked.
     pub(crate) checked: u64,
 }
@@ -32,6 +41,8 @@ impl Backward {
             given: GivenHints::new(alloc),
             occurrences: None,
             records: Records::new(alloc),
+            formula_len: 0,
+            in_round: 0,
             checked: 0,
         }
     }
@@ -41,11 +52,13 @@ impl Backward {
         &mut self,
         propagator: &mut Propagator,
         formula_len: usize,
-        conflict: ClauseIndex,
+        conflict: Block,
     ) -> Result<(), ElaborateFault> {
-        let is_empty = propagator.clauses.lits(conflict)?.is_empty();
-        if is_empty && conflict.get() >= formula_len {
-            propagator.clauses.get_mut(conflict)?.is_core = true;
+        self.formula_len = formula_len;
+        let is_empty = propagator.clauses.arena.lits(conflict)?.is_empty();
+        let clause = propagator.clauses.arena.clause(conflict)?;
+        if is_empty && clause.get() >= formula_len {
+            propagator.clauses.get_mut(clause)?.used = Use::Now;
             return Ok(());
         }
         self.check.start()?;
@@ -72,7 +85,7 @@ impl Backward {
                 self.given.drop_last_of(clause);
                 Ok(())
             }
-            Some(Step::Delete(clause)) => undo_deletion(propagator, clause),
+            Some(Step::Delete(clause)) => propagator.restore(clause),
             Some(Step::Nothing) | None => Ok(()),
         }
     }
@@ -88,11 +101,7 @@ impl Backward {
         if let Some(len) = steps.pop_growth() {
             propagator.trail.cut(len);
         }
-        if propagator.clauses.get(clause)?.is_watched {
-            propagator.unwatch(clause)?;
-        }
-        propagator.clauses.get_mut(clause)?.is_active = false;
-        if !propagator.clauses.get(clause)?.is_core {
+        if !propagator.detach(clause)?.is_core() {
             return Ok(());
         }
         if !self.check_clause(propagator, clause)? {
@@ -110,6 +119,8 @@ impl Backward {
         clause: ClauseIndex,
     ) -> Result<bool, ElaborateFault> {
         self.check.start()?;
+        self.count_check(propagator)?;
+        propagator.recent.begin(clause.get(), self.formula_len);
         let end = propagator.trail.len();
         let is_accepted = match self.refute(propagator, clause)? {
             Some(conflict) => {
@@ -122,13 +133,23 @@ impl Backward {
         Ok(is_accepted)
     }
 
+    /// Another clause is checked. After so many a round ends.
+    fn count_check(&mut self, propagator: &mut Propagator) -> Result<(), ElaborateFault> {
+        self.in_round = self.in_round.saturating_add(1);
+        if self.in_round == CHECKS_A_ROUND {
+            self.in_round = 0;
+            propagator.end_round()?;
+        }
+        Ok(())
+    }
+
     /// Assumes the negated literals of a clause. The answer is the clause of a conflict, by the
     /// hints that are given, or else by propagation.
     fn refute(
         &mut self,
         propagator: &mut Propagator,
         clause: ClauseIndex,
-    ) -> Result<Option<ClauseIndex>, ElaborateFault> {
+    ) -> Result<Option<Block>, ElaborateFault> {
         let end = propagator.trail.len();
         let hints = self.given.last_of(clause);
         if hints.is_empty() {
@@ -187,13 +208,4 @@ impl Backward {
             &self.check.fresh,
         )
     }
-}
-
-/// A clause that was deleted is there again.
-fn undo_deletion(propagator: &mut Propagator, clause: ClauseIndex) -> Result<(), ElaborateFault> {
-    propagator.clauses.get_mut(clause)?.is_active = true;
-    if propagator.clauses.get(clause)?.is_watched {
-        propagator.watch(clause)?;
-    }
-    Ok(())
 }

@@ -1,12 +1,13 @@
 //! The check of one clause by propagation, and the walk back from its conflict.
-use crate::clauses::{ClauseIndex, ClauseLink};
+use crate::arena::Block;
+use crate::clauses::ClauseIndex;
 use crate::fault::ElaborateFault;
 use crate::lit_set::LitSet;
 use crate::local::LocalLit;
 use crate::place_set::PlaceSet;
 use crate::propagator::Propagator;
 use crate::records::PackedHint;
-use crate::trail::Value;
+use crate::trail::{Reason, Value};
 use std::alloc::Global;
 
 /// Which literals are true by assumption, besides the negated literals of the clause.
@@ -70,7 +71,7 @@ impl Check {
         &mut self,
         propagator: &mut Propagator,
         clause: ClauseIndex,
-    ) -> Result<Option<ClauseIndex>, ElaborateFault> {
+    ) -> Result<Option<Block>, ElaborateFault> {
         let end = propagator.trail.len();
         let satisfied = self.assume(propagator, clause)?;
         if satisfied.is_some() {
@@ -85,7 +86,7 @@ impl Check {
         &mut self,
         propagator: &mut Propagator,
         clause: ClauseIndex,
-    ) -> Result<Option<ClauseIndex>, ElaborateFault> {
+    ) -> Result<Option<Block>, ElaborateFault> {
         let mut satisfied = None;
         for lit in propagator.clauses.lits(clause)? {
             if propagator.trail.value(*lit) == Value::True {
@@ -98,7 +99,7 @@ impl Check {
         }
         for lit in propagator.clauses.lits(clause)? {
             if propagator.trail.value(*lit) == Value::Free {
-                propagator.trail.assign(!*lit, ClauseLink::none())?;
+                propagator.trail.assign(!*lit, Reason::assumed())?;
             }
         }
         Ok(None)
@@ -108,10 +109,11 @@ impl Check {
     pub(crate) fn explain(
         &mut self,
         propagator: &mut Propagator,
-        conflict: ClauseIndex,
+        conflict: Block,
     ) -> Result<(), ElaborateFault> {
-        self.want_negated(propagator, conflict, None, Assumed::Clause)?;
-        self.use_clause(propagator, conflict)?;
+        self.wanted.make_room(propagator.trail.len())?;
+        self.want_negated(propagator, conflict, Assumed::Clause)?;
+        let conflict = self.use_clause(propagator, conflict)?;
         self.walk(propagator, 0, Assumed::Clause, After::Forget)?;
         for reason in self.walked.iter().rev() {
             self.leading.push(*reason)?;
@@ -136,11 +138,12 @@ impl Check {
     pub(crate) fn explain_group(
         &mut self,
         propagator: &mut Propagator,
-        conflict: ClauseIndex,
+        conflict: Block,
         end: usize,
     ) -> Result<(), ElaborateFault> {
-        self.want_negated(propagator, conflict, None, Assumed::Group)?;
-        self.use_clause(propagator, conflict)?;
+        self.wanted.make_room(propagator.trail.len())?;
+        self.want_negated(propagator, conflict, Assumed::Group)?;
+        let conflict = self.use_clause(propagator, conflict)?;
         self.walk(propagator, end, Assumed::Group, After::Forget)?;
         for reason in self.walked.iter().rev() {
             self.groups.push(PackedHint::along(*reason))?;
@@ -149,16 +152,18 @@ impl Check {
         Ok(())
     }
 
-    /// A clause is a hint.
+    /// A clause is a hint. The answer is its number.
+    #[inline(always)]
     fn use_clause(
         &mut self,
         propagator: &mut Propagator,
-        clause: ClauseIndex,
-    ) -> Result<(), ElaborateFault> {
+        block: Block,
+    ) -> Result<ClauseIndex, ElaborateFault> {
+        let clause = propagator.clauses.arena.clause(block)?;
         if propagator.make_core(clause)? {
             self.fresh.push(clause)?;
         }
-        Ok(())
+        Ok(clause)
     }
 
     /// The place of the variable of a literal is wanted.
@@ -167,31 +172,26 @@ impl Check {
         propagator: &Propagator,
         lit: LocalLit,
     ) -> Result<(), ElaborateFault> {
-        let place = propagator.trail.place(lit)?;
-        self.wanted.insert(place)?;
+        self.wanted.make_room(propagator.trail.len())?;
+        self.wanted.insert(propagator.trail.place(lit)?);
         Ok(())
     }
 
-    /// The negations of a clause's literals are wanted, besides that of one, and where they are not
-    /// assumed.
+    /// The places of a clause's literals are wanted, besides those whose negations the candidate
+    /// assumes.
+    #[inline(always)]
     fn want_negated(
         &mut self,
         propagator: &Propagator,
-        clause: ClauseIndex,
-        besides: Option<LocalLit>,
+        block: Block,
         assumed: Assumed,
     ) -> Result<(), ElaborateFault> {
-        for lit in propagator.clauses.lits(clause)? {
-            if besides != Some(*lit) && !self.is_assumed(!*lit, assumed) {
-                self.want(propagator, *lit)?;
+        for lit in propagator.clauses.arena.lits(block)? {
+            if assumed == Assumed::Clause || !self.by_group.contains(!*lit) {
+                self.wanted.insert(propagator.trail.place(*lit)?);
             }
         }
         Ok(())
-    }
-
-    #[inline(always)]
-    fn is_assumed(&self, lit: LocalLit, assumed: Assumed) -> bool {
-        self.by_clause.contains(lit) || (assumed == Assumed::Group && self.by_group.contains(lit))
     }
 
     /// Goes through the wanted places from a place on, the last first. What forced them is walked,
@@ -205,8 +205,15 @@ impl Check {
     ) -> Result<(), ElaborateFault> {
         self.walked.clear();
         let first = from / 64;
-        let end = self.wanted.word_count(propagator.trail.len());
-        for word in (first..end).rev() {
+        let mut end = self.wanted.word_count();
+        // Each word is gone through at most once.
+        for _ in first..end {
+            let Some(word) = self.wanted.word_before(end) else {
+                break;
+            };
+            if word < first {
+                break;
+            }
             let within = if word == first {
                 u64::MAX.wrapping_shl((from % 64) as u32)
             } else {
@@ -216,6 +223,7 @@ impl Check {
             if after == After::Forget {
                 self.wanted.remove(word, done);
             }
+            end = word;
         }
         Ok(())
     }
@@ -250,13 +258,14 @@ impl Check {
         assumed: Assumed,
     ) -> Result<(), ElaborateFault> {
         let lit = propagator.trail.get(place).ok_or(ElaborateFault::Internal)?;
-        let reason = propagator
-            .trail
-            .reason(lit)
-            .ok_or(ElaborateFault::Internal)?;
-        self.want_negated(propagator, reason, Some(lit), assumed)?;
-        self.use_clause(propagator, reason)?;
-        self.walked.push(reason)?;
+        if self.by_clause.contains(lit) {
+            return Ok(());
+        }
+        if let Some(reason) = propagator.trail.reason(lit) {
+            self.want_negated(propagator, reason, assumed)?;
+            let reason = self.use_clause(propagator, reason)?;
+            self.walked.push(reason)?;
+        }
         Ok(())
     }
 }

@@ -1,4 +1,5 @@
 //! The clauses: their literals in one buffer, and what is known of each.
+use crate::arena::{Arena, Block};
 use crate::fault::ElaborateFault;
 use crate::local::LocalLit;
 use std::alloc::Global;
@@ -60,22 +61,27 @@ impl ClauseLink {
     }
 }
 
-/// Where the literals of a clause stand.
-#[derive(Clone, Copy)]
-pub(crate) struct Span {
-    start: u32,
-    end: u32,
+/// How much a clause is used by the conflict and by what was checked so far.
+#[derive(Clone, Copy, PartialEq, Eq)]
+pub(crate) enum Use {
+    Never,
+    /// It was not used in the last round of checks.
+    Before,
+    /// It was used in the last round, and not yet in this one.
+    Lately,
+    /// It was used in this round.
+    Now,
 }
 
 /// What is known of a clause besides its literals.
 #[derive(Clone, Copy)]
 pub(crate) struct Clause {
+    pub(crate) block: Block,
     /// The code of the pivot; that of no literal in the empty clause.
     pivot: u32,
     /// The next clause of the same bucket.
     pub(crate) next: ClauseLink,
-    /// It is used by the conflict or by a clause that is.
-    pub(crate) is_core: bool,
+    pub(crate) used: Use,
     /// It is there at the step where the elaborator stands.
     pub(crate) is_active: bool,
     /// Its first two literals are watched while it is there.
@@ -95,22 +101,35 @@ impl Clause {
             Some(LocalLit::from_code(self.pivot))
         }
     }
+
+    /// Whether it is used by the conflict or by a clause that is.
+    pub(crate) fn is_core(&self) -> bool {
+        self.used != Use::Never
+    }
+
+    /// Whether it is there and used, so that a redundant clause is checked against it.
+    pub(crate) fn is_candidate(&self) -> bool {
+        self.is_active && self.is_core() && !self.is_tautology
+    }
+
+    /// Whether it is there and watched, and nothing that was checked uses it.
+    pub(crate) fn is_unused(&self) -> bool {
+        self.is_active && self.is_watched && self.used == Use::Never
+    }
 }
 
-/// All clauses. Propagation looks at their spans and literals alone, which lie close together so.
+/// All clauses.
 #[derive(Drop)]
 pub(crate) struct Clauses {
-    pub(crate) spans: Vec<Span>,
+    pub(crate) arena: Arena,
     table: Vec<Clause>,
-    pub(crate) lits: Vec<LocalLit>,
 }
 
 impl Clauses {
     pub(crate) fn new(alloc: Global) -> Clauses {
         Clauses {
-            spans: Vec::new(alloc),
+            arena: Arena::new(alloc),
             table: Vec::new(alloc),
-            lits: Vec::new(alloc),
         }
     }
 
@@ -125,17 +144,15 @@ impl Clauses {
         is_tautology: bool,
     ) -> Result<ClauseIndex, ElaborateFault> {
         let index = ClauseIndex::new(self.table.len())?;
-        let start = narrow(self.lits.len())?;
-        self.lits.extend_from_slice(lits)?;
-        let end = narrow(self.lits.len())?;
-        self.spans.push(Span { start, end })?;
+        let block = self.arena.push(index, lits)?;
         self.table.push(Clause {
+            block,
             pivot: match lits.first() {
                 Some(lit) => lit.code(),
                 None => Clause::NO_PIVOT,
             },
             next: ClauseLink::none(),
-            is_core: false,
+            used: Use::Never,
             is_active: true,
             is_watched: false,
             is_tautology,
@@ -144,10 +161,12 @@ impl Clauses {
     }
 
     /// What is known of a clause.
+    #[inline(always)]
     pub(crate) fn get(&self, clause: ClauseIndex) -> Result<&Clause, ElaborateFault> {
         self.table.get(clause.get()).ok_or(ElaborateFault::Internal)
     }
 
+    #[inline(always)]
     pub(crate) fn get_mut(&mut self, clause: ClauseIndex) -> Result<&mut Clause, ElaborateFault> {
         self.table
             .get_mut(clause.get())
@@ -156,48 +175,7 @@ impl Clauses {
 
     /// The literals of a clause, in the order in which they are watched.
     pub(crate) fn lits(&self, clause: ClauseIndex) -> Result<&[LocalLit], ElaborateFault> {
-        let (start, end) = span_of(&self.spans, clause)?;
-        if start <= end && end <= self.lits.len() {
-            Ok(&self.lits[start..end])
-        } else {
-            Err(ElaborateFault::Internal)
-        }
-    }
-
-    pub(crate) fn lits_mut(
-        &mut self,
-        clause: ClauseIndex,
-    ) -> Result<&mut [LocalLit], ElaborateFault> {
-        lits_at(&self.spans, &mut self.lits, clause)
-    }
-
-    /// Whether the clause is there and used, so that a redundant clause is checked against it.
-    pub(crate) fn is_candidate(&self, clause: ClauseIndex) -> Result<bool, ElaborateFault> {
-        let found = self.get(clause)?;
-        Ok(found.is_active && found.is_core && !found.is_tautology)
-    }
-}
-
-/// The literals of a clause among those of all.
-#[inline(always)]
-pub(crate) fn lits_at<'a>(
-    spans: &[Span],
-    lits: &'a mut [LocalLit],
-    clause: ClauseIndex,
-) -> Result<&'a mut [LocalLit], ElaborateFault> {
-    let (start, end) = span_of(spans, clause)?;
-    if start <= end && end <= lits.len() {
-        Ok(&mut lits[start..end])
-    } else {
-        Err(ElaborateFault::Internal)
-    }
-}
-
-#[inline(always)]
-fn span_of(spans: &[Span], clause: ClauseIndex) -> Result<(usize, usize), ElaborateFault> {
-    match spans.get(clause.get()) {
-        Some(span) => Ok((span.start as usize, span.end as usize)),
-        None => Err(ElaborateFault::Internal),
+        self.arena.lits(self.get(clause)?.block)
     }
 }
 

@@ -176,7 +176,7 @@ impl Elaborator {
     pub fn is_used(&self, index: usize) -> bool {
         match ClauseIndex::new(index) {
             Ok(clause) => match self.forward.propagator.clauses.get(clause) {
-                Ok(found) => found.is_core && index < self.forward.formula_len,
+                Ok(found) => found.is_core() && index < self.forward.formula_len,
                 Err(_) => false,
             },
             Err(_) => false,

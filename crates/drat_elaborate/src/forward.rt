@@ -1,6 +1,7 @@
 //! The forward pass: the formula and the steps are taken in, up to the first conflict by
 //! propagation.
-use crate::clauses::{ClauseIndex, ClauseLink};
+use crate::arena::Block;
+use crate::clauses::ClauseIndex;
 use crate::fault::ElaborateFault;
 use crate::lit_set::LitSet;
 use crate::local::LocalLit;
@@ -8,7 +9,7 @@ use crate::lookup::{ClauseTable, Lookup, Reasons};
 use crate::names::Names;
 use crate::propagator::Propagator;
 use crate::steps::{Step, Steps};
-use crate::trail::Value;
+use crate::trail::{Reason, Value};
 use crate::variables::Variables;
 use sat_formula::Lit;
 use std::alloc::Global;
@@ -22,7 +23,7 @@ pub(crate) struct Forward {
     pub(crate) steps: Steps,
     /// So many clauses are of the formula.
     pub(crate) formula_len: usize,
-    pub(crate) conflict: Option<ClauseIndex>,
+    pub(crate) conflict: Option<Block>,
     /// The clauses that a proof names by their literals.
     pub(crate) table: ClauseTable,
     /// The clauses that it names by ids.
@@ -86,9 +87,13 @@ impl Forward {
     }
 
     fn watch_formula_clause(&mut self, clause: ClauseIndex) -> Result<(), ElaborateFault> {
-        let is_tautology = self.propagator.clauses.get(clause)?.is_tautology;
-        if !is_tautology && self.propagator.clauses.lits(clause)?.len() >= 2 {
-            self.propagator.watch(clause)?;
+        let found = self.propagator.clauses.get_mut(clause)?;
+        if found.is_tautology {
+            return Ok(());
+        }
+        let found = *found;
+        if self.propagator.clauses.arena.lits(found.block)?.len() >= 2 {
+            self.propagator.watch(&found)?;
             self.propagator.clauses.get_mut(clause)?.is_watched = true;
         }
         Ok(())
@@ -96,18 +101,19 @@ impl Forward {
 
     /// Makes the literal of a unit clause true. An empty clause is a conflict.
     fn assign_formula_unit(&mut self, clause: ClauseIndex) -> Result<(), ElaborateFault> {
-        let lits = self.propagator.clauses.lits(clause)?;
+        let block = self.propagator.clauses.get(clause)?.block;
+        let lits = self.propagator.clauses.arena.lits(block)?;
         if lits.len() >= 2 {
             return Ok(());
         }
         let Some(lit) = lits.first().copied() else {
-            self.conflict = Some(clause);
+            self.conflict = Some(block);
             return Ok(());
         };
         match self.propagator.trail.value(lit) {
             Value::True => {}
-            Value::False => self.conflict = Some(clause),
-            Value::Free => { self.propagator.trail.assign(lit, ClauseLink::to(clause))? }
+            Value::False => self.conflict = Some(block),
+            Value::Free => self.propagator.trail.assign(lit, Reason::clause(block))?,
         }
         Ok(())
     }
@@ -152,10 +158,7 @@ impl Forward {
     /// A clause that forces nothing goes.
     pub(crate) fn remove(&mut self, clause: ClauseIndex) -> Result<(), ElaborateFault> {
         self.steps.push(Step::Delete(clause))?;
-        self.propagator.clauses.get_mut(clause)?.is_active = false;
-        if self.propagator.clauses.get(clause)?.is_watched {
-            self.propagator.unwatch(clause)?;
-        }
+        self.propagator.detach(clause)?;
         Ok(())
     }
 

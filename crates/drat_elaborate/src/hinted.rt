@@ -1,10 +1,11 @@
 //! The hints that a proof gives, and the check of a clause by them.
+use crate::arena::Block;
 use crate::check::Check;
-use crate::clauses::{ClauseIndex, ClauseLink, narrow};
+use crate::clauses::{Clause, ClauseIndex, narrow};
 use crate::fault::ElaborateFault;
-use crate::local::LocalLit;
 use crate::propagator::Propagator;
-use crate::trail::Value;
+use crate::standing::Standing;
+use crate::trail::Reason;
 use std::alloc::Global;
 
 /// Where the hints of a clause begin.
@@ -63,16 +64,6 @@ impl GivenHints {
     }
 }
 
-/// What a clause comes to under the true literals.
-#[derive(Clone, Copy)]
-enum Standing {
-    False,
-    /// All literals but this one are false.
-    Unit(LocalLit),
-    /// It can't be used.
-    Other,
-}
-
 impl Check {
     /// Assumes the negated literals of a clause, and goes once through these hints, in order. The
     /// answer is the clause of a conflict, or the reason of a literal of the clause that is true
@@ -82,15 +73,18 @@ impl Check {
         propagator: &mut Propagator,
         clause: ClauseIndex,
         hints: &[ClauseIndex],
-    ) -> Result<Option<ClauseIndex>, ElaborateFault> {
+    ) -> Result<Option<Block>, ElaborateFault> {
         let satisfied = self.assume(propagator, clause)?;
         if satisfied.is_some() {
             return Ok(satisfied);
         }
         for hint in hints {
-            match standing_of(propagator, *hint)? {
-                Standing::False => return Ok(Some(*hint)),
-                Standing::Unit(lit) => propagator.trail.assign(lit, ClauseLink::to(*hint))?,
+            let found = *propagator.clauses.get(*hint)?;
+            match standing_of(propagator, &found)? {
+                Standing::False => return Ok(Some(found.block)),
+                Standing::Unit(lit) => {
+                    propagator.trail.assign(lit, Reason::clause(found.block))?;
+                }
                 Standing::Other => {}
             }
         }
@@ -99,21 +93,10 @@ impl Check {
 }
 
 /// What a clause comes to. One that is not there can't be used, nor a tautology.
-fn standing_of(propagator: &Propagator, clause: ClauseIndex) -> Result<Standing, ElaborateFault> {
-    let found = propagator.clauses.get(clause)?;
-    if !found.is_active || found.is_tautology {
+fn standing_of(propagator: &Propagator, clause: &Clause) -> Result<Standing, ElaborateFault> {
+    if !clause.is_active || clause.is_tautology {
         return Ok(Standing::Other);
     }
-    let mut free = None;
-    for lit in propagator.clauses.lits(clause)? {
-        match propagator.trail.value(*lit) {
-            Value::False => {}
-            Value::Free if free.is_none() => free = Some(*lit),
-            Value::Free | Value::True => return Ok(Standing::Other),
-        }
-    }
-    match free {
-        Some(lit) => Ok(Standing::Unit(lit)),
-        None => Ok(Standing::False),
-    }
+    let lits = propagator.clauses.arena.lits(clause.block)?;
+    Ok(Standing::of(lits, propagator.trail.values()))
 }

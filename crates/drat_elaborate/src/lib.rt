@@ -4,6 +4,8 @@
 //! whatever they are.
 #![tactic(auto)]
 
+mod arena;
+mod attach;
 mod backward;
 mod check;
 mod clauses;
@@ -20,8 +22,10 @@ mod names;
 mod occurrences;
 mod place_set;
 mod propagator;
+mod recent;
 mod records;
 mod redundancy;
+mod standing;
 mod steps;
 mod sweep;
 mod trail;

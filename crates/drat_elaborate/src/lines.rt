@@ -48,7 +48,7 @@ impl Lines {
         for index in 0..formula_len {
             let clause = ClauseIndex::new(index)?;
             self.name(clause)?;
-            if !clauses.get(clause)?.is_core {
+            if !clauses.get(clause)?.is_core() {
                 self.dying.push(self.last_id)?;
             }
         }

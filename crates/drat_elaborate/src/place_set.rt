@@ -1,42 +1,93 @@
 //! Sets of places on the trail.
 use std::alloc::{AllocError, Global};
 
-/// A set of places, 64 in a word.
+/// A set of places: 64 in a word, and of 64 words the marks which of them may hold some. So the
+/// places of a long trail are found without a look at each word.
 #[derive(Drop)]
 pub(crate) struct PlaceSet {
     words: Vec<u64>,
+    marks: Vec<u64>,
 }
 
 impl PlaceSet {
     pub(crate) fn new(alloc: Global) -> PlaceSet {
         PlaceSet {
             words: Vec::new(alloc),
+            marks: Vec::new(alloc),
         }
     }
 
-    /// The number of words that hold the places below `len`, as far as there are any.
-    pub(crate) fn word_count(&self, len: usize) -> usize {
-        self.words.len().min(len.div_ceil(64))
-    }
-
-    pub(crate) fn insert(&mut self, place: usize) -> Result<(), AllocError> {
-        let word = place / 64;
-        if self.words.len() <= word {
-            self.words.resize(word + 1, 0)?;
+    /// Makes room for the places below `len`. Others are not kept.
+    pub(crate) fn make_room(&mut self, len: usize) -> Result<(), AllocError> {
+        let words = len.div_ceil(64);
+        if self.words.len() < words {
+            self.words.resize(words, 0)?;
+            self.marks.resize(words.div_ceil(64), 0)?;
         }
-        self.words[word] |= 1u64.wrapping_shl((place % 64) as u32);
         Ok(())
     }
 
+    #[inline(always)]
+    pub(crate) fn insert(&mut self, place: usize) {
+        if let Some(word) = self.words.get_mut(place / 64) {
+            *word |= bit(place);
+        }
+        if let Some(marks) = self.marks.get_mut(place / 4096) {
+            *marks |= bit(place / 64);
+        }
+    }
+
+    /// The number of words.
+    pub(crate) fn word_count(&self) -> usize {
+        self.words.len()
+    }
+
+    /// The last word below `end` that may hold places, where there is one.
+    pub(crate) fn word_before(&self, end: usize) -> Option<usize> {
+        let last = end.checked_sub(1)?;
+        let below = u64::MAX.wrapping_shr(63u32.wrapping_sub((last % 64) as u32));
+        let group = last / 64;
+        let marks = self.marks.get(group).copied().unwrap_or(0) & below;
+        if marks != 0 {
+            return Some(highest(group, marks));
+        }
+        for group in (0..group).rev() {
+            let marks = self.marks.get(group).copied().unwrap_or(0);
+            if marks != 0 {
+                return Some(highest(group, marks));
+            }
+        }
+        None
+    }
+
     /// The places of a word, as bits.
+    #[inline(always)]
     pub(crate) fn word(&self, word: usize) -> u64 {
         self.words.get(word).copied().unwrap_or(0)
     }
 
     /// Takes places out of a word.
     pub(crate) fn remove(&mut self, word: usize, places: u64) {
-        if let Some(found) = self.words.get_mut(word) {
-            *found &= !places;
+        let Some(found) = self.words.get_mut(word) else {
+            return;
+        };
+        *found &= !places;
+        if *found == 0 {
+            if let Some(marks) = self.marks.get_mut(word / 64) {
+                *marks &= !bit(word);
+            }
         }
     }
+}
+
+/// The bit of a place within its word.
+#[inline(always)]
+fn bit(place: usize) -> u64 {
+    1u64.wrapping_shl((place % 64) as u32)
+}
+
+/// The number of the highest one of 64 that are marked, of which one is.
+fn highest(group: usize, marks: u64) -> usize {
+    let within = 63u32.saturating_sub(marks.leading_zeros());
+    group.wrapping_mul(64).wrapping_add(within as usize)
 }

@@ -1,12 +1,12 @@
 //! The check that a clause is redundant by its first literal.
 use crate::check::{After, Assumed, Check};
-use crate::clauses::{ClauseIndex, ClauseLink};
+use crate::clauses::ClauseIndex;
 use crate::fault::ElaborateFault;
 use crate::local::LocalLit;
 use crate::occurrences::Occurrences;
 use crate::propagator::Propagator;
 use crate::records::PackedHint;
-use crate::trail::Value;
+use crate::trail::{Reason, Value};
 use std::alloc::Global;
 
 /// Whether a clause is redundant by its pivot. Its negated literals are assumed and propagated
@@ -52,7 +52,7 @@ fn candidates(
 ) -> Result<Vec<ClauseIndex>, ElaborateFault> {
     let mut candidates = Vec::new(alloc);
     for found in occurrences.of(!pivot) {
-        if found.get() < clause.get() && propagator.clauses.is_candidate(*found)? {
+        if found.get() < clause.get() && propagator.clauses.get(*found)?.is_candidate() {
             candidates.push(*found)?;
         }
     }
@@ -141,7 +141,7 @@ fn assume_negated(
         }
         check.by_group.insert(!*lit)?;
         if propagator.trail.value(*lit) == Value::Free {
-            propagator.trail.assign(!*lit, ClauseLink::none())?;
+            propagator.trail.assign(!*lit, Reason::assumed())?;
         }
     }
     Ok(())

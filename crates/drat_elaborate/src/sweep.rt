@@ -1,21 +1,25 @@
 //! One list of watches, gone through when its literal became false.
-use crate::clauses::{ClauseIndex, Clauses, lits_at};
+use crate::arena::{Arena, Block};
 use crate::fault::ElaborateFault;
 use crate::local::LocalLit;
-use crate::trail::{Value, value_in};
+use crate::trail::{Reason, Trail, Value, value_in};
 use crate::watches::{Watch, Watches};
+
+/// How far a list is gone through.
+#[derive(Clone, Copy, PartialEq, Eq)]
+pub(crate) enum Until {
+    End,
+    /// Up to the first clause that forces a literal.
+    Unit,
+}
 
 /// Where a list was left.
 #[derive(Clone, Copy)]
 pub(crate) enum Sweep {
     End,
-    /// After a clause that forces a literal, at this place of the list.
-    Unit {
-        clause: ClauseIndex,
-        lit: LocalLit,
-        next: usize,
-    },
-    Conflict(ClauseIndex),
+    /// Before this place of the list, after a clause that forced a literal.
+    Unit { next: usize },
+    Conflict(Block),
 }
 
 /// What a clause comes to whose watched literal became false.
@@ -23,52 +27,72 @@ pub(crate) enum Sweep {
 enum Found {
     /// This literal of it is true.
     True(LocalLit),
-    /// The first literal watches it instead; the second is the other one that does.
+    /// The first literal, which is free, watches it instead; the second is the other one that does.
     Moved(LocalLit, LocalLit),
     Unit(LocalLit),
     Conflict,
 }
 
-/// Goes through a list from a place on, up to the first clause that forces a literal. Clauses with
-/// a literal that is not false move to that one's list.
+/// Goes through a list from a place on. What a clause forces is made true. Clauses with a second
+/// literal that is free move to the list of that one. Where a literal is true, the clause stays:
+/// what one propagation makes true becomes free all at once.
+#[inline(always)]
 pub(crate) fn sweep_list(
-    clauses: &mut Clauses,
-    values: &[Value],
+    arena: &mut Arena,
+    trail: &mut Trail,
     lists: &mut Watches,
     watches: &mut Vec<Watch>,
     from: usize,
     falsified: LocalLit,
+    until: Until,
 ) -> Result<Sweep, ElaborateFault> {
-    let spans = clauses.spans.as_slice();
-    let lits = clauses.lits.as_mut_slice();
     let mut at = from;
     // Each step goes on by one place, or takes one out.
     for _ in from..watches.len() {
         if at >= watches.len() {
             break;
         }
-        let Watch { clause, blocker } = watches[at];
-        if value_in(values, blocker) == Value::True {
+        let watch = watches[at];
+        let value = trail.value(watch.blocker);
+        if value == Value::True {
             at += 1;
             continue;
         }
-        match look(lits_at(spans, lits, clause)?, falsified, values)? {
+        let found = if watch.is_binary() {
+            forced(watch.blocker, value)
+        } else {
+            look(arena.lits_mut(watch.block())?, falsified, trail.values())?
+        };
+        match found {
             Found::True(blocker) => {
-                watches[at] = Watch { clause, blocker };
+                watches[at] = watch.with_blocker(blocker);
                 at += 1;
             }
             Found::Moved(to, blocker) => {
-                lists.push(to, Watch { clause, blocker })?;
+                lists.push(to, watch.with_blocker(blocker))?;
                 watches.swap_remove(at);
             }
             Found::Unit(lit) => {
-                let next = at + 1;
-                return Ok(Sweep::Unit { clause, lit, next });
+                trail.assign(lit, Reason::clause(watch.block()))?;
+                at += 1;
+                if until == Until::Unit {
+                    return Ok(Sweep::Unit { next: at });
+                }
             }
-            Found::Conflict => return Ok(Sweep::Conflict(clause)),
+            Found::Conflict => return Ok(Sweep::Conflict(watch.block())),
         }
     }
     Ok(Sweep::End)
+}
+
+/// What a clause comes to of which all literals but one are false. That one is not true.
+#[inline(always)]
+fn forced(lit: LocalLit, value: Value) -> Found {
+    if value == Value::False {
+        Found::Conflict
+    } else {
+        Found::Unit(lit)
+    }
 }
 
 /// Looks for a literal of a clause that is not false, to be watched in place of one that became
@@ -79,27 +103,26 @@ fn look(
     falsified: LocalLit,
     values: &[Value],
 ) -> Result<Found, ElaborateFault> {
-    if lits.len() < 2 {
+    let [first, second, rest @ ..] = lits else {
         return Err(ElaborateFault::Internal);
-    }
-    if lits[0] == falsified {
-        lits.swap(0, 1);
-    }
-    let other = lits[0];
+    };
+    let other = if *first == falsified { *second } else { *first };
     let value = value_in(values, other);
     if value == Value::True {
         return Ok(Found::True(other));
     }
-    for place in 2..lits.len() {
-        let lit = lits[place];
-        if value_in(values, lit) != Value::False {
-            lits.swap(1, place);
-            return Ok(Found::Moved(lit, other));
+    for lit in rest {
+        match value_in(values, *lit) {
+            Value::False => {}
+            Value::True => return Ok(Found::True(*lit)),
+            Value::Free => {
+                let free = *lit;
+                *lit = falsified;
+                *first = other;
+                *second = free;
+                return Ok(Found::Moved(free, other));
+            }
         }
     }
-    if value == Value::False {
-        Ok(Found::Conflict)
-    } else {
-        Ok(Found::Unit(other))
-    }
+    Ok(forced(other, value))
 }

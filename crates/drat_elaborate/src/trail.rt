@@ -1,5 +1,6 @@
 //! Which literals are true, in what order they became so, and why.
-use crate::clauses::{ClauseIndex, ClauseLink, narrow};
+use crate::arena::Block;
+use crate::clauses::narrow;
 use crate::fault::ElaborateFault;
 use crate::local::LocalLit;
 use std::alloc::{AllocError, Global};
@@ -12,11 +13,40 @@ pub(crate) enum Value {
     False,
 }
 
+/// Why a literal is true, in four bytes.
+#[derive(Clone, Copy)]
+pub(crate) struct Reason(u32);
+
+impl Reason {
+    /// No block has this code.
+    const ASSUMED: u32 = u32::MAX;
+
+    /// It is assumed.
+    pub(crate) fn assumed() -> Reason {
+        Reason(Reason::ASSUMED)
+    }
+
+    /// A clause forces it.
+    #[inline(always)]
+    pub(crate) fn clause(block: Block) -> Reason {
+        Reason(block.code())
+    }
+
+    /// The clause that forces it.
+    #[inline(always)]
+    fn block(self) -> Option<Block> {
+        if self.0 == Reason::ASSUMED {
+            None
+        } else {
+            Some(Block::from_code(self.0))
+        }
+    }
+}
+
 /// Why and where a variable got its value.
 #[derive(Clone, Copy)]
 struct Cause {
-    /// None where it is assumed.
-    reason: ClauseLink,
+    reason: Reason,
     place: u32,
 }
 
@@ -42,7 +72,7 @@ impl Trail {
     /// Makes room for so many variables, of which there were fewer.
     pub(crate) fn make_room(&mut self, count: usize) -> Result<(), AllocError> {
         let cause = Cause {
-            reason: ClauseLink::none(),
+            reason: Reason::assumed(),
             place: 0,
         };
         self.causes.resize(count, cause)?;
@@ -73,8 +103,8 @@ impl Trail {
     }
 
     /// The clause that forced the variable of a literal.
-    pub(crate) fn reason(&self, lit: LocalLit) -> Option<ClauseIndex> {
-        self.causes.get(lit.variable())?.reason.get()
+    pub(crate) fn reason(&self, lit: LocalLit) -> Option<Block> {
+        self.causes.get(lit.variable())?.reason.block()
     }
 
     /// The place of the variable of a literal that has a value.
@@ -86,11 +116,8 @@ impl Trail {
     }
 
     /// Makes a free literal true.
-    pub(crate) fn assign(
-        &mut self,
-        lit: LocalLit,
-        reason: ClauseLink,
-    ) -> Result<(), ElaborateFault> {
+    #[inline(always)]
+    pub(crate) fn assign(&mut self, lit: LocalLit, reason: Reason) -> Result<(), ElaborateFault> {
         let place = narrow(self.lits.len())?;
         self.lits.push(lit)?;
         set_value(&mut self.values, lit, Value::True);

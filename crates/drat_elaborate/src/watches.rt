@@ -1,5 +1,5 @@
 //! The lists of watches.
-use crate::clauses::ClauseIndex;
+use crate::arena::Block;
 use crate::fault::ElaborateFault;
 use crate::local::LocalLit;
 use std::alloc::{AllocError, Global};
@@ -8,8 +8,41 @@ use std::mem;
 /// A clause that watches a literal, and another literal of it: where that is true, the clause is.
 #[derive(Clone, Copy)]
 pub(crate) struct Watch {
-    pub(crate) clause: ClauseIndex,
+    /// The code of the block, and `BINARY`.
+    tagged: u32,
     pub(crate) blocker: LocalLit,
+}
+
+impl Watch {
+    /// The clause has two literals, so that the blocker is the other one.
+    const BINARY: u32 = 1 << 31;
+
+    pub(crate) fn new(block: Block, blocker: LocalLit, is_binary: bool) -> Watch {
+        let tag = if is_binary { Watch::BINARY } else { 0 };
+        Watch {
+            tagged: block.code() | tag,
+            blocker,
+        }
+    }
+
+    #[inline(always)]
+    pub(crate) fn is_binary(self) -> bool {
+        self.tagged & Watch::BINARY != 0
+    }
+
+    #[inline(always)]
+    pub(crate) fn block(self) -> Block {
+        Block::from_code(self.tagged & !Watch::BINARY)
+    }
+
+    /// The watch with another blocker.
+    #[inline(always)]
+    pub(crate) fn with_blocker(self, blocker: LocalLit) -> Watch {
+        Watch {
+            tagged: self.tagged,
+            blocker,
+        }
+    }
 }
 
 /// For each literal the clauses that watch it.
@@ -45,26 +78,24 @@ impl Watches {
     }
 
     /// Takes a clause out of the list of a literal.
-    pub(crate) fn remove(
-        &mut self,
-        lit: LocalLit,
-        clause: ClauseIndex,
-    ) -> Result<(), ElaborateFault> {
+    pub(crate) fn remove(&mut self, lit: LocalLit, block: Block) -> Result<(), ElaborateFault> {
         match self.lists.get_mut(lit.place()) {
-            Some(list) => remove_from(list, clause),
+            Some(list) => remove_from(list, block),
             None => Err(ElaborateFault::Internal),
         }
     }
 
-    /// Takes the list of a literal away, until it is put back.
-    pub(crate) fn take(&mut self, lit: LocalLit) -> Result<Vec<Watch>, ElaborateFault> {
+    /// Takes the list of a literal away, until it is put back. None where it is empty.
+    #[inline(always)]
+    pub(crate) fn take(&mut self, lit: LocalLit) -> Option<Vec<Watch>> {
         match self.lists.get_mut(lit.place()) {
-            Some(list) => Ok(mem::replace(list, Vec::new(self.alloc))),
-            None => Err(ElaborateFault::Internal),
+            Some(list) if !list.is_empty() => Some(mem::replace(list, Vec::new(self.alloc))),
+            _ => None,
         }
     }
 
     /// Puts the list of a literal back.
+    #[inline(always)]
     pub(crate) fn put(&mut self, lit: LocalLit, watches: Vec<Watch>) {
         if let Some(list) = self.lists.get_mut(lit.place()) {
             *list = watches;
@@ -73,9 +104,9 @@ impl Watches {
 }
 
 /// Takes the last watch of a clause out of a list.
-fn remove_from(list: &mut Vec<Watch>, clause: ClauseIndex) -> Result<(), ElaborateFault> {
+fn remove_from(list: &mut Vec<Watch>, block: Block) -> Result<(), ElaborateFault> {
     for index in (0..list.len()).rev() {
-        if list[index].clause == clause {
+        if list[index].block() == block {
             list.swap_remove(index);
             return Ok(());
         }

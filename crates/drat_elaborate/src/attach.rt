@@ -1,0 +1,187 @@
+//! A clause comes into the propagator, and goes.
+use crate::arena::Block;
+use crate::clauses::{Clause, ClauseIndex, Use};
+use crate::fault::ElaborateFault;
+use crate::local::LocalLit;
+use crate::propagator::Propagator;
+use crate::standing::WatchStanding;
+use crate::trail::{Reason, Trail, Value};
+use crate::watches::{Watch, Watches};
+
+impl Propagator {
+    /// Watches the first two literals of a clause.
+    pub(crate) fn watch(&mut self, clause: &Clause) -> Result<(), ElaborateFault> {
+        let block = clause.block;
+        let (first, second, is_binary) = self.watched(block)?;
+        let lists = self.lists_of(clause.used);
+        lists.push(first, Watch::new(block, second, is_binary))?;
+        lists.push(second, Watch::new(block, first, is_binary))
+    }
+
+    /// Watches the first two literals of a clause no longer.
+    pub(crate) fn unwatch(&mut self, clause: &Clause) -> Result<(), ElaborateFault> {
+        let (first, second, _) = self.watched(clause.block)?;
+        let lists = self.lists_of(clause.used);
+        lists.remove(first, clause.block)?;
+        lists.remove(second, clause.block)
+    }
+
+    /// The watched literals, and whether the clause has no more.
+    fn watched(&self, block: Block) -> Result<(LocalLit, LocalLit, bool), ElaborateFault> {
+        match self.clauses.arena.lits(block)? {
+            [first, second, rest @ ..] => Ok((*first, *second, rest.is_empty())),
+            _ => Err(ElaborateFault::Internal),
+        }
+    }
+
+    /// The watches of the clauses that are used so much.
+    fn lists_of(&mut self, used: Use) -> &mut Watches {
+        match used {
+            Use::Never => &mut self.unused,
+            Use::Before => &mut self.used,
+            Use::Lately | Use::Now => &mut self.lately,
+        }
+    }
+
+    /// The clause is used from here on. The answer is whether it was not before.
+    pub(crate) fn make_core(&mut self, clause: ClauseIndex) -> Result<bool, ElaborateFault> {
+        let found = self.clauses.get_mut(clause)?;
+        let used = found.used;
+        if used == Use::Now || used == Use::Lately || !found.is_watched {
+            found.used = Use::Now;
+            return Ok(used == Use::Never);
+        }
+        self.change_use(clause, Use::Now)?;
+        self.used_lately.push(clause)?;
+        Ok(used == Use::Never)
+    }
+
+    /// A watched clause is watched among others that are used so much.
+    fn change_use(&mut self, clause: ClauseIndex, used: Use) -> Result<(), ElaborateFault> {
+        let mut found = *self.clauses.get(clause)?;
+        self.unwatch(&found)?;
+        found.used = used;
+        *self.clauses.get_mut(clause)? = found;
+        self.watch(&found)
+    }
+
+    /// Ends a round of checks. Clauses that were used neither in it nor in the one before are
+    /// among those that were used before.
+    pub(crate) fn end_round(&mut self) -> Result<(), ElaborateFault> {
+        let mut kept = 0;
+        for place in 0..self.used_lately.len() {
+            let Some(clause) = self.used_lately.get(place).copied() else {
+                break;
+            };
+            if self.is_kept(clause)? {
+                if let Some(slot) = self.used_lately.get_mut(kept) {
+                    *slot = clause;
+                }
+                kept = kept.saturating_add(1);
+            }
+        }
+        self.used_lately.truncate(kept);
+        Ok(())
+    }
+
+    /// Whether a clause stays among those that were used lately.
+    fn is_kept(&mut self, clause: ClauseIndex) -> Result<bool, ElaborateFault> {
+        let found = self.clauses.get_mut(clause)?;
+        if !found.is_active {
+            found.used = Use::Before;
+            return Ok(false);
+        }
+        if found.used == Use::Now {
+            found.used = Use::Lately;
+            return Ok(true);
+        }
+        self.change_use(clause, Use::Before)?;
+        Ok(false)
+    }
+
+    /// A clause is not there any more. The answer is what was known of it.
+    pub(crate) fn detach(&mut self, clause: ClauseIndex) -> Result<Clause, ElaborateFault> {
+        let found = self.clauses.get_mut(clause)?;
+        found.is_active = false;
+        let found = *found;
+        if found.is_watched {
+            self.unwatch(&found)?;
+        }
+        Ok(found)
+    }
+
+    /// A clause that was deleted is there again.
+    pub(crate) fn restore(&mut self, clause: ClauseIndex) -> Result<(), ElaborateFault> {
+        let found = self.clauses.get_mut(clause)?;
+        found.is_active = true;
+        let found = *found;
+        if found.is_watched {
+            self.watch(&found)?;
+        }
+        Ok(())
+    }
+
+    /// Whether the clause forced a literal that is true.
+    pub(crate) fn is_reason(&self, clause: ClauseIndex) -> Result<bool, ElaborateFault> {
+        let block = self.clauses.get(clause)?.block;
+        let lits = self.clauses.arena.lits(block)?;
+        Ok(
+            lits.iter().take(2).any(|lit| {
+                self.trail.value(*lit) == Value::True && self.trail.reason(*lit) == Some(block)
+            }),
+        )
+    }
+
+    /// Attaches a clause under the literals that are true now, and propagates. The answer is the
+    /// clause of a conflict.
+    pub(crate) fn attach(&mut self, clause: ClauseIndex) -> Result<Option<Block>, ElaborateFault> {
+        let found = *self.clauses.get(clause)?;
+        if found.is_tautology {
+            return Ok(None);
+        }
+        let block = found.block;
+        let lits = self.clauses.arena.lits_mut(block)?;
+        choose_watches(lits, &self.trail);
+        let standing = WatchStanding::of(lits, self.trail.values());
+        if let WatchStanding::True = standing {
+            return Ok(None);
+        }
+        if lits.len() >= 2 {
+            self.watch(&found)?;
+            self.clauses.get_mut(clause)?.is_watched = true;
+        }
+        match standing {
+            WatchStanding::False => Ok(Some(block)),
+            WatchStanding::Unit(lit) => {
+                let end = self.trail.len();
+                self.trail.assign(lit, Reason::clause(block))?;
+                self.propagate(end)
+            }
+            WatchStanding::True | WatchStanding::Open => Ok(None),
+        }
+    }
+}
+
+/// Puts the two literals first that are best to be watched.
+fn choose_watches(lits: &mut [LocalLit], trail: &Trail) {
+    for place in 0..2 {
+        let best = best_from(lits, place, trail);
+        if place < lits.len() && best < lits.len() {
+            lits.swap(place, best);
+        }
+    }
+}
+
+/// The place of the best literal from a place on.
+fn best_from(lits: &[LocalLit], first: usize, trail: &Trail) -> usize {
+    let mut best = first;
+    let mut best_rank = 0;
+    for (place, lit) in lits.iter().enumerate().skip(first) {
+        let rank = trail.rank(*lit);
+        if rank > best_rank {
+            best = place;
+            best_rank = rank;
+        }
+    }
+    best
+}
