@@ -1,7 +1,7 @@
 //! The checker of LRAT proofs for callers in C: over two texts in memory.
 #![tactic(auto)]
 
-ghost use Rattle.std.specs.Prelude.{◌≡◌, ◌≤◌, Some, Result, length};
+ghost use Rattle.std.specs.Prelude.{◌≡◌, ◌≤◌, IfOk, Some, Result, drop, length};
 ghost use Rattle.lrat_check.specs.Runs.{IsCheckRun};
 ghost use Rattle.verdicts.specs.Verdicts.{status_of};
 ghost use Rattle.lrat_check.specs.declared.fault.RunFault.{RunFault};
@@ -36,8 +36,10 @@ pub extern "C" fn cefindrato_lrat_check(
     text: &mut [u8],
 ) -> Answer
     ensures run { (r : Result Verdict RunFault)
-        × IsCheckRun (Some cnf.now) (Some proof.now) r × (result.status ≡ status_of r) }
+        × IsCheckRun (Some cnf.now) (Some proof.now) r × (result.status ≡ status_of r)
+        × IfOk r (λ verdict. (result.text_len ≡ 0) × (text.new ≡ text.old)) }
     ensures within { result.text_len ≤ length text.new }
+    ensures kept { drop result.text_len text.new ≡ drop result.text_len text.old }
 {
     // The verdict's line goes to a buffer that is let go.
     let mut line = Vec::new(alloc);

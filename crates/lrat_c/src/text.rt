@@ -1,5 +1,5 @@
 //! Texts of faults.
-ghost use Rattle.std.specs.Prelude.{◌≤◌, length};
+ghost use Rattle.std.specs.Prelude.{◌≡◌, ◌≤◌, ◌++◌, IfOk, drop, length, min, take};
 
 use lrat_check::{RunFault, Verdict};
 use std::alloc::Global;
@@ -11,7 +11,9 @@ pub(crate) fn put_fault(
     outcome: &Result<Verdict, RunFault>,
     room: &mut [u8],
 ) -> usize
-    ensures { result ≤ length room.new }
+    ensures silent { IfOk outcome.now (λ verdict. (result ≡ 0) × (room.new ≡ room.old)) }
+    ensures within { result ≤ length room.new }
+    ensures kept { drop result room.new ≡ drop result room.old }
 {
     let Err(fault) = outcome else {
         return 0;
@@ -22,8 +24,12 @@ pub(crate) fn put_fault(
     put(text.as_bytes(), room)
 }
 
+/// Puts the beginning of a text at the start of the room, and answers how many bytes these are.
 fn put(text: &[u8], room: &mut [u8]) -> usize
-    ensures { result ≤ length room.new }
+    ensures whole { result ≡ min (length text.now) (length room.old) }
+    ensures put { room.new ≡ take result text.now ++ drop result room.old }
+    ensures within { result ≤ length room.new }
+    ensures kept { drop result room.new ≡ drop result room.old }
 {
     let len = text.len().min(room.len());
     room[..len].copy_from_slice(&text[..len]);
