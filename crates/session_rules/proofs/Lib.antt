@@ -1,0 +1,5 @@
+mod AnswerLemmas
+mod CopyLemmas
+mod NameLemmas
+mod RoundLemmas
+mod RowsFacts

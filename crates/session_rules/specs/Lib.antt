@@ -1,0 +1,4 @@
+pub mod Copies
+pub mod Rounds
+pub mod Rows
+pub mod Sessions
