@@ -1,0 +1,66 @@
+#!/usr/bin/env bash
+# `tools/proof_picture`: what it says of proofs, counted here in another way; that the picture is whole; and files that are none.
+set -euo pipefail
+
+top=$(cd "$(dirname "$0")/.." && pwd)
+work=$(mktemp -d)
+trap 'rm -rf "$work"' EXIT
+cd "$work"
+picture=$top/tools/proof_picture
+wrong=0
+
+# says STATUS OUTPUT WORDS..: the call must end so, and write this to both streams together
+says() {
+  local status=0 said
+  said=$("$picture" "${@:3}" 2>&1) || status=$?
+  if [[ $status != "$1" || $said != "$2" ]]; then
+    printf 'proof_picture %s: status %d, it wrote:\n%s\n' "${*:3}" "$status" "$said"
+    wrong=1
+  fi
+}
+
+# whole FILE RECTANGLES: it is XML, with so many of them at least
+whole() {
+  local count
+  count=$(python3 -c 'import sys, xml.dom.minidom as dom; print(len(dom.parse(sys.argv[1]).getElementsByTagName("rect")))' "$1") || wrong=1
+  if ((count < $2)); then
+    echo "$1: $count rectangles"
+    wrong=1
+  fi
+}
+
+# By hand: five of six clauses, a step with a RAT hint, lengths 1, 3 and 0.
+printf 'c six\np cnf 4 6\n1 2 0 1 -2 0\n-1 2 0\n-1 -2 00\n3 4 0 3 -4\n0\n%%\n0 0\n' > six.cnf
+printf 'c lines\n7 1 0 1 2 0\n\n8 5 6 7 0 -2 1 3 0\n8 d 1 2 0\n9 0 7 4 6 3 0\n' > six.lrat
+says 0 'c formula: 5 of 6 clauses are used (83 %)
+c proof: 3 steps, 1 of them RAT; 2 deletions
+c hints: 9, 3.0 a step, at most 4
+c clauses: mean length 1.3, median 1, longest 3' six.cnf six.lrat six.svg
+whole six.svg 100
+
+# A proof of a solver: the numbers by another count.
+data=$top/tests/data/grid5
+"$picture" "$data.cnf" "$data.lrat" grid.svg > said
+whole grid.svg 300
+lines=$(awk '$2 != "d" && $1 != "c"' "$data.lrat" | wc -l)
+hints=$(awk '$2 != "d" && $1 != "c" { on = 0; for (i = 2; i < NF; i++) { if (on) n++; if ($i == "0") on = 1 } } END { print n }' "$data.lrat")
+if ! grep -qx "c proof: $lines steps, 0 of them RAT; .*" said || ! grep -qx "c hints: $hints, .*" said; then
+  printf '%s lines and %s hints, but\n%s\n' "$lines" "$hints" "$(cat said)"
+  wrong=1
+fi
+
+# Files that are none, and wrong calls. A picture that was there stays.
+cp six.svg before
+says 1 'six.cnf: line 2: no line of LRAT text' six.cnf six.cnf six.svg
+says 1 '/dev/null: no steps' six.cnf /dev/null six.svg
+printf '7 1 0 1 2\n' > cut.lrat
+says 1 'cut.lrat: line 1: no line of LRAT text' six.cnf cut.lrat six.svg
+says 2 'cannot open none.cnf: No such file or directory' none.cnf six.lrat six.svg
+says 2 'cannot open six.cnf/svg: Not a directory' six.cnf six.lrat six.cnf/svg
+says 2 'usage: proof_picture CNF LRAT SVG' six.cnf six.lrat
+says 2 'usage: proof_picture CNF LRAT SVG'
+if ! cmp -s six.svg before || [[ $(ls ./*.new 2> null) ]]; then
+  echo "what was there is lost: $(ls)"
+  wrong=1
+fi
+exit "$wrong"

@@ -1,0 +1,209 @@
+#!/usr/bin/env bash
+# The array of docs/SCALE.md, by a Slurm of its own on this machine (Debian: slurm-wlm munge cadical): 64 cubes, in arrays of at
+# most 20 tasks; a task that is cancelled, a solver that is killed, a damaged proof, and going on.
+#
+# The programs must be built: `rt ci` does it, or `rt run` in their folders. Its daemons (munged, slurmctld, slurmd) run in the
+# foreground as children of this script, with ports, keys and folders of their own, and each is ended by its id.
+set -euo pipefail
+
+for program in munged slurmctld slurmd sbatch cadical; do
+  if ! command -v "$program" > /dev/null; then
+    echo "$program is not installed: not tried"
+    exit 0
+  fi
+done
+top=$(cd "$(dirname "$0")/.." && pwd)
+work=$(mktemp -d)
+daemons=() submission=
+end() {
+  local n
+  if [[ $submission ]]; then
+    timeout 20 scancel --quiet --user="$(id -un)" || true
+    kill -- "-$submission" 2> /dev/null || true
+  fi
+  # the last one first
+  for ((n = ${#daemons[@]} - 1; n >= 0; n--)); do
+    kill "${daemons[n]}" 2> /dev/null || true
+    wait "${daemons[n]}" 2> /dev/null || true
+  done
+  rm -rf "$work"
+}
+trap end EXIT
+mkdir "$work/bin" "$work/slurm" "$work/slurm/"{state,spool}
+for program in drat_check lrat_check model_check; do
+  built=$top/crates/${program}_main/out/${program}_main
+  if [[ ! -x $built ]]; then
+    echo "not built: $built"
+    exit 1
+  fi
+  ln -s "$built" "$work/bin/$program"
+done
+ln -s "$top/tools/cubes" "$work/bin/cubes"
+solver=$(command -v cadical)
+export PATH=$work/bin:$PATH SLURM_CONF=$work/slurm/slurm.conf
+cd "$work"
+wrong=0
+
+# The daemons. They talk by a socket and ports that no other Slurm has.
+host=$(hostname -s)
+user=$(id -un)
+port=$((20000 + $$ % 20000))
+cat > "$SLURM_CONF" << END
+ClusterName=test
+SlurmctldHost=$host(127.0.0.1)
+SlurmctldPort=$port
+SlurmdPort=$((port + 1))
+AuthType=auth/munge
+AuthInfo=socket=$work/slurm/munge
+CredType=cred/munge
+ProctrackType=proctrack/linuxproc
+TaskPlugin=task/none
+SlurmUser=$user
+SlurmdUser=$user
+StateSaveLocation=$work/slurm/state
+SlurmdSpoolDir=$work/slurm/spool
+SlurmctldPidFile=$work/slurm/slurmctld.pid
+SlurmdPidFile=$work/slurm/slurmd.pid
+SchedulerType=sched/builtin
+SelectType=select/cons_tres
+SelectTypeParameters=CR_CPU
+SlurmdParameters=config_overrides
+SwitchType=switch/none
+MpiDefault=none
+MaxArraySize=21
+ReturnToService=2
+KillWait=2
+NodeName=$host NodeAddr=127.0.0.1 CPUs=4 RealMemory=8000 State=UNKNOWN
+PartitionName=main Nodes=ALL Default=YES MaxTime=INFINITE State=UP
+END
+head -c 128 /dev/urandom > slurm/key
+chmod 600 slurm/key
+chmod 755 "$work" slurm
+
+# daemon COMMAND..: starts one, which stays in the foreground
+daemon() {
+  "$@" > "slurm/$1.log" 2>&1 < /dev/null &
+  daemons+=("$!")
+}
+
+# until_so WHAT COMMAND..: waits until the command ends well, some minutes at most
+until_so() {
+  for _ in {1..1500}; do
+    ! "${@:2}" > slurm/said 2>&1 || return 0
+    sleep 0.2
+  done
+  echo "not $1: $(cat slurm/said)"
+  tail -n 5 slurm/*.log
+  exit 1
+}
+
+answers() {
+  [[ -S slurm/munge ]] && munge -S "$work/slurm/munge" -n
+}
+
+idle() {
+  [[ $(sinfo -h -o %T) == idle ]]
+}
+
+daemon munged --foreground --force --key-file="$work/slurm/key" --socket="$work/slurm/munge" --pid-file="$work/slurm/munged.pid" \
+  --log-file="$work/slurm/munged.log" --seed-file="$work/slurm/seed"
+until_so 'an answer of munged' answers
+daemon slurmctld -D -i -f "$SLURM_CONF"
+daemon slurmd -D -f "$SLURM_CONF"
+until_so 'an idle machine' idle
+
+# block WORDS: the block of commands under these words, as the document has it
+block() {
+  awk -v head="\`\`\`$1" '$0 == head { on = 1; next } /^```/ { on = 0 } on' "$top/docs/SCALE.md"
+}
+
+# The solver notes its calls. A part that `slow` names is never solved.
+printf '#!/bin/sh\necho "$2" >> calls\n! grep -qsx "$2" slow || { echo half > "$3"; echo "$$ ${SLURM_ARRAY_JOB_ID}_$SLURM_ARRAY_TASK_ID" > "$2.runs"; exec sleep 600; }\nexec "%s" "$@"\n' \
+  "$solver" > bin/cadical
+chmod +x bin/cadical
+: > calls
+python3 -B "$top/tests/drat/formulas.py" pigeons 8 > formula.cnf
+for first in {1..8}; do
+  for second in {9..16}; do
+    echo "$first $second 0"
+  done
+done > cubes.txt
+block 'sh solve.sh' > solve.sh
+block 'sh part.sh' > part.sh
+block 'sh submit.sh' | sed 's/-l 1000/-l 20/' > submit.sh
+chmod +x solve.sh submit.sh
+if [[ $(grep -c -- '-l 20 ' submit.sh) != 1 ]]; then
+  echo "docs/SCALE.md: no pieces of 1000 lines"
+  wrong=1
+fi
+
+# submits LINES CALL..: what is left is given out, and the report at the end has these last lines; else it fails
+submits() {
+  local found
+  timeout 900 "${@:2}" > said 2>&1 || true
+  found=$(tail -n "$(wc -l <<< "$1")" said)
+  if [[ $found != "$1" ]]; then
+    printf '%s: it wrote\n%s\nand not\n%s\n%s\n' "${*:2}" "$(cat said)" "$1" "$(tail -n 3 slurm-*.out)"
+    return 1
+  fi
+}
+
+# solved N: so many parts were given to the solver since the last call
+solved() {
+  if [[ $(wc -l < calls) != "$1" ]]; then
+    printf '%s solved, and not %s\n' "$(wc -l < calls)" "$1"
+    wrong=1
+  fi
+  : > calls
+}
+
+# hangs PART: waits until the solver has it, and hangs
+hangs() {
+  until_so "the solver hangs at $1" test -s "parts/$1.cnf.runs"
+}
+
+whole='all parts are verified: 64 cubes, and the closing formula'
+# Two parts hang. Of the first one the task is cancelled, of the second one the solver is killed.
+printf 'parts/7.cnf\nparts/31.cnf\n' > slow
+set -m
+submits $'7: no proof\n31: no proof\n2 of 65 parts are not verified' ./submit.sh &
+submission=$!
+set +m
+hangs 7
+hangs 31
+scancel "$(cut -d ' ' -f 2 parts/7.cnf.runs)"
+kill -KILL "$(cut -d ' ' -f 1 parts/31.cnf.runs)"
+wait "$submission" || wrong=1
+submission=
+rm slow
+solved 65
+if [[ $(ls left.* | wc -l) != 4 ]]; then
+  echo "not four arrays: $(ls left.*)"
+  wrong=1
+fi
+
+# It goes on with the two, and with one whose proof was damaged after it was verified: that one is refused, and stays.
+head -c 200 parts/20.drat > short
+mv short parts/20.drat
+rm parts/20.checked
+submits $'20: not verified\n1 of 65 parts are not verified' ./submit.sh || wrong=1
+if ! cat slurm-*.out | grep -q '^20: parts/20.drat is refused: '; then
+  echo "part 20 is not refused"
+  wrong=1
+fi
+solved 2
+rm parts/20.drat
+submits "$whole" ./submit.sh || wrong=1
+solved 1
+
+# Nothing is left; a cube that changed is, with the closing part: both by one task.
+submits "$whole" ./submit.sh || wrong=1
+solved 0
+sed -i '7s/.*/1 15 1 0/' cubes.txt
+submits "$whole" ./submit.sh 8 || wrong=1
+solved 2
+if [[ $(cat left.*) != '7 closing' ]]; then
+  echo "not one task of two parts: $(cat left.*)"
+  wrong=1
+fi
+exit "$wrong"
