@@ -5,9 +5,11 @@
 #   ./install.sh --uninstall PREFIX
 #
 # All is proved and built first, unless nothing has changed since it was. With --built the programs are taken as `rt ci` or
-# `rt run` left them in crates/*/out, and the library if it is there. PREFIX/share/cefindrato/installed lists what was installed;
-# by this list it is taken away. DESTDIR, where it is set, stands before PREFIX in all that is written. RT may name another `rt`.
+# `rt run` left them in crates/*/out, and the library if it is there. PREFIX/share/cefindrato/installed lists what is installed, and
+# is written first; by this list all is taken away, also after a run that failed. What is installed may be moved as a whole.
+# DESTDIR, where it is set, stands before PREFIX in all that is written. RT may name another `rt`.
 set -euo pipefail
+umask 022
 
 top=$(cd "$(dirname "$0")" && pwd)
 mode=build
@@ -46,6 +48,7 @@ fi
 work=$(mktemp -d)
 trap 'rm -rf "$work"' EXIT
 mapfile -t programs < <(sed -n 's/^\([a-z0-9_]*\)_main:.*/\1/p' "$top/crates.txt")
+tools=(checked cubes proof_picture sessions)
 
 # built CRATE: builds a program, and says where it is
 built() {
@@ -62,12 +65,29 @@ built() {
   echo "$program"
 }
 
-# All is made before anything is installed.
+# put MODE FILE NAME: what is to be installed; it stands in a folder of its own until all is there
+put() {
+  install -D -m "$1" "$2" "$stage/$3"
+}
+
+# put_program NAME PROGRAM [VERSION]: puts a program or tool with its man page, and its completions for three shells
+put_program() {
+  local kind
+  for kind in man bash zsh fish; do
+    "$top/tools/pages" "$kind" "$@" > "$work/$1.$kind"
+  done
+  put 755 "$2" "bin/$1"
+  put 644 "$work/$1.man" "share/man/man1/$1.1"
+  put 644 "$work/$1.bash" "share/bash-completion/completions/$1"
+  put 644 "$work/$1.zsh" "share/zsh/site-functions/_$1"
+  put 644 "$work/$1.fish" "share/fish/vendor_completions.d/$1.fish"
+}
+
+stage=$work/stage
 for name in "${programs[@]}"; do
   program=$(built "${name}_main")
   strip -o "$work/$name" "$program"
-  "$top/tools/pages" man "$name" "$program" > "$work/$name.1"
-  "$top/tools/pages" bash "$name" "$program" > "$work/$name.bash"
+  put_program "$name" "$work/$name"
 done
 if [[ $mode == built ]]; then
   "$top/bindings/build.sh" --built "$work"
@@ -75,55 +95,46 @@ else
   "$top/bindings/build.sh" "$work"
 fi
 version=$("$work/${programs[0]}" --version | cut -d ' ' -f 2)
+for name in "${tools[@]}"; do
+  put_program "$name" "$top/tools/$name" "$version"
+done
 cat > "$work/cefindrato.pc" << END
-prefix=$prefix
+prefix=\${pcfiledir}/../..
+includedir=\${prefix}/include
+libdir=\${prefix}/lib
 
 Name: cefindrato
 Description: The proved checker of LRAT proofs
 Version: $version
-Cflags: -I\${prefix}/include
-Libs: -L\${prefix}/lib -lcefindrato
+Cflags: -I\${includedir}
+Libs: -L\${libdir} -lcefindrato
 END
-
-if [[ -f $list ]]; then
-  uninstall
-fi
-
-# folder NAME: makes a folder and those above it, and lists those that were not there
-folder() {
-  if [[ ! -d $root/$1 ]]; then
-    if [[ $1 != . ]]; then
-      folder "$(dirname "$1")"
-    fi
-    mkdir -p "$root/$1"
-    echo "folder $1" >> "$work/installed"
-  fi
-}
-
-# put MODE FILE NAME: installs a file
-put() {
-  folder "$(dirname "$3")"
-  install -m "$1" "$2" "$root/$3"
-  echo "file $3" >> "$work/installed"
-}
-
-: > "$work/installed"
-for name in "${programs[@]}"; do
-  put 755 "$work/$name" "bin/$name"
-  put 644 "$work/$name.1" "share/man/man1/$name.1"
-  put 644 "$work/$name.bash" "share/bash-completion/completions/$name"
-done
-put 755 "$top/tools/cubes" bin/cubes
 put 644 "$top/bindings/c/cefindrato.h" include/cefindrato.h
 put 644 "$top/bindings/cpp/cefindrato.hpp" include/cefindrato.hpp
 put 644 "$top/bindings/cpp/cefindrato_running.hpp" include/cefindrato_running.hpp
 put 644 "$work/libcefindrato.a" lib/libcefindrato.a
-put 755 "$work/libcefindrato.so" "lib/libcefindrato.so.$version"
+put 644 "$work/libcefindrato.so" "lib/libcefindrato.so.$version"
 for name in libcefindrato.so.0 libcefindrato.so; do
-  ln -sf "libcefindrato.so.$version" "$root/lib/$name"
-  echo "file lib/$name" >> "$work/installed"
+  ln -s "libcefindrato.so.$version" "$stage/lib/$name"
 done
 put 644 "$work/cefindrato.pc" lib/pkgconfig/cefindrato.pc
-folder share/cefindrato
-echo "file share/cefindrato/installed" >> "$work/installed"
-install -m 644 "$work/installed" "$list"
+put 644 /dev/null share/cefindrato/installed
+
+if [[ -f $list ]]; then
+  uninstall
+fi
+export LC_ALL=C
+(cd "$stage" && find . -type d -printf '%P\n' | sort) | while read -r name; do
+  if [[ ! -d $root/$name ]]; then
+    echo "folder ${name:-.}"
+  fi
+done > "$work/installed"
+(cd "$stage" && find . ! -type d -printf 'file %P\n' | sort) >> "$work/installed"
+put 644 "$work/installed" share/cefindrato/installed
+install -D -m 644 "$work/installed" "$list"
+while read -r kind name; do
+  case $kind in
+    folder) mkdir -p "$root/$name" ;;
+    file) cp -P --remove-destination "$stage/$name" "$root/$name" ;;
+  esac
+done < "$work/installed"

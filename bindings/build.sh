@@ -19,6 +19,11 @@ if (($# != 1)); then
   echo "usage: bindings/build.sh [--built] FOLDER" >&2
   exit 2
 fi
+if ! rt=$(command -v "${RT:-rt}"); then
+  echo "${RT:-rt} is not on the path: the library needs two archives of the toolchain" >&2
+  exit 1
+fi
+kit=$(dirname "$(dirname "$(readlink -f "$rt")")")
 work=$(mktemp -d)
 trap 'rm -rf "$work"' EXIT
 mkdir -p "$1"
@@ -36,7 +41,6 @@ fi
 cp "$archive" "$work"
 exec 3>&-
 
-kit=$(dirname "$(dirname "$(readlink -f "$(command -v "${RT:-rt}")")")")
 ld -r -o "$work/whole.o" --whole-archive "$work/${archive##*/}" --no-whole-archive "$kit/c/libos_c.a" "$kit/c/liblibc_c.a"
 objcopy --strip-debug --wildcard --keep-global-symbol='cefindrato_*' "$work/whole.o" "$work/cefindrato.o"
 rm -f "$1/libcefindrato.a"

@@ -7,7 +7,7 @@ set -euo pipefail
 top=$(cd "$(dirname "$0")/.." && pwd)
 work=$(mktemp -d)
 trap 'rm -rf "$work"' EXIT
-prefix=$work/a/prefix
+prefix="$work/a/a prefix"
 wrong=0
 
 has() {
@@ -25,7 +25,8 @@ same() {
   fi
 }
 
-"$top/install.sh" --built "$prefix"
+(umask 077 && "$top/install.sh" --built "$prefix")
+same 'what others may not read' '' "$(find "$prefix" ! -perm -o=r)"
 mapfile -t programs < <(sed -n 's/^\([a-z0-9_]*\)_main:.*/\1/p' "$top/crates.txt")
 if ((${#programs[@]} < 5)); then
   echo "crates.txt names ${#programs[@]} programs"
@@ -55,25 +56,64 @@ list() {
   sed -n "/^$1:\$/,/^\$/s/^  \([^ ]*\).*/\1/p" <<< "$2"
 }
 
-# each program runs, and its page and its completions are of it
 for name in "${programs[@]}"; do
   said=$("$prefix/bin/$name" --version)
   same "$name --version" "$name" "${said%% *}"
   described "$name"
+done
+
+# words NAME: the options of a program, and its calls where it has several
+words() {
+  local help
+  help=$("$prefix/bin/$1" --help)
+  list options "$help"
+  list calls "$help"
+}
+
+# offered NAME: what the completions of zsh and fish offer is that too
+offered() {
+  local zsh=$prefix/share/zsh/site-functions/_$1 fish=$prefix/share/fish/vendor_completions.d/$1.fish
+  same "completions of $1 for zsh" "#compdef $1"$'\n'"$(words "$1")" \
+    "$(sed -n "1p;s/^  '\(--[a-z-]*\)\[.*/\1/p" "$zsh"; sed -n "s/^  '1:call:(\(.*\))' .*/\1/p" "$zsh" | tr ' ' '\n')"
+  same "completions of $1 for fish" "$(words "$1" | sed 's/^--//')" \
+    "$(sed -n "s/^complete -c $1 \(-n __fish_use_subcommand -a\|-l\) \([a-z-]*\) .*/\2/p" "$fish")"
+  if [[ $has_zsh ]]; then
+    zsh -n "$zsh" || wrong=1
+  fi
+  if [[ $has_fish ]]; then
+    same "what fish offers for $1 --" "$(words "$1" | grep -- -- | sort)" \
+      "$(fish -c "source '$fish'; complete -C '$1 --'" | cut -f 1 | sort)"
+  fi
+}
+
+has_zsh='' has_fish=''
+if has zsh; then
+  has_zsh=yes
+fi
+if has fish; then
+  has_fish=yes
+fi
+mapfile -t all < <(cd "$prefix/bin" && ls)
+# each page and its completions are of its program, and the pages name each other
+for name in "${all[@]}"; do
   page=$prefix/share/man/man1/$name.1
   same "the page of $name" ".TH ${name^^} 1" "$(head -n 1 "$page" | cut -d ' ' -f 1-3)"
   if has man; then
     text=$(MANWIDTH=200 man --warnings -l "$page" 2> "$work/warned")
-    usage=$("$prefix/bin/$name" --help | head -n 1)
+    usage=$("$prefix/bin/$name" --help)
+    usage=${usage%%$'\n'*}
     if [[ $text != *"${usage#usage: }"* || -s $work/warned ]]; then
       printf 'man %s: %s\n%s\n' "$name" "$(cat "$work/warned")" "$text"
       wrong=1
     fi
   fi
-  same "sections of $name" "$(printf '%s\n' NAME SYNOPSIS DESCRIPTION OPERANDS OPTIONS 'EXIT STATUS' EXAMPLES)" \
-    "$(sed -n 's/^\.SH //p' "$page" | grep -xv ENVIRONMENT)"
-  same "completions of $name" "complete -o default -W '$(list options "$("$prefix/bin/$name" --help)" | tr '\n' ' ' | sed 's/ $//')' $name" \
+  same "sections of $name" "$(printf '%s\n' NAME SYNOPSIS DESCRIPTION OPERANDS OPTIONS 'EXIT STATUS' EXAMPLES LIMITS 'SEE ALSO')" \
+    "$(sed -n 's/^\.SH //p' "$page" | grep -vxE 'ENVIRONMENT|CALLS')"
+  same "what the page of $name names" "$(printf '%s\n' "${all[@]}" | grep -vx "$name")" \
+    "$(sed -n '/^\.SH SEE ALSO/,$p' "$page" | grep -o 'fB[^\]*' | sed 's/^fB//')"
+  same "completions of $name" "complete -o default -W '$(words "$name" | tr '\n' ' ' | sed 's/ $//')' $name" \
     "$(. "$prefix/share/bash-completion/completions/$name" && complete -p "$name")"
+  offered "$name"
 done
 
 # as they are used: the programs from the path, and the script with them
@@ -88,13 +128,20 @@ said=$(
   cubes report four.cnf two.txt parts
 )
 same 'cubes' 'all parts are verified: 2 cubes, and the closing formula' "$said"
+printf '#!/bin/sh\necho 0 > "$2"; exit 20\n' > "$work/solver"
+chmod +x "$work/solver"
+printf '1 0\n-1 0\n' > "$work/opposite.cnf"
+status=0
+said=$(PATH=$prefix/bin:$PATH checked "$work/solver" "$work/opposite.cnf") || status=$?
+same 'checked' '20 s VERIFIED UNSAT' "$status $said"
 
-# the library by pkg-config: the shared one, and the static one
+# the library by pkg-config, in a folder that was moved: the shared one, and the static one
 if has pkg-config; then
+  mv "$prefix" "$work/moved to"
+  prefix="$work/moved to"
   export PKG_CONFIG_PATH=$prefix/lib/pkgconfig
   same 'the version' "$("$prefix/bin/lrat_check" --version | cut -d ' ' -f 2)" "$(pkg-config --modversion cefindrato)"
-  read -r -a flags < <(pkg-config --cflags cefindrato)
-  read -r -a libraries < <(pkg-config --libs cefindrato)
+  eval "flags=($(pkg-config --cflags cefindrato)) libraries=($(pkg-config --libs cefindrato))"
   data=("$top/tests/data/board6.cnf" "$top/tests/data/board6.lrat")
   cc -pthread "${flags[@]}" -o "$work/shared" "$top/tests/bindings/test.c" "${libraries[@]}"
   LD_LIBRARY_PATH=$prefix/lib "$work/shared" "${data[@]}" || wrong=1
@@ -106,6 +153,21 @@ if has pkg-config; then
   fi
 fi
 
+# A run that fails midway leaves a list, by which what it left is taken away; one that can't begin leaves nothing.
+mkdir "$work/full"
+touch "$work/full/lib"
+if "$top/install.sh" --built "$work/full" > "$work/said" 2>&1; then
+  echo "installed over a file in the place of a folder"
+  wrong=1
+fi
+same 'the list of a run that failed' yes "$([[ -f $work/full/share/cefindrato/installed ]] && echo yes)"
+"$top/install.sh" --uninstall "$work/full"
+same 'what is left of it' "$work/full"$'\n'"$work/full/lib" "$(find "$work/full" | sort)"
+status=0
+said=$(RT=no-such-rt "$top/install.sh" --built "$work/none" 2>&1) || status=$?
+same 'without the toolchain' '1 no-such-rt is not on the path: the library needs two archives of the toolchain' "$status $said"
+same 'what it installed' '' "$(find "$work/none" 2> /dev/null || true)"
+
 # Once more over itself, and away: nothing is left but what others put there.
 find "$prefix" | sort > "$work/first"
 "$top/install.sh" --built "$prefix"
@@ -115,12 +177,12 @@ touch "$prefix/bin/mine"
 same 'what is left' "$prefix"$'\n'"$prefix/bin"$'\n'"$prefix/bin/mine" "$(find "$prefix" | sort)"
 rm -r "$prefix"
 DESTDIR=$work/stage "$top/install.sh" --built /usr
-same 'the prefix' 'prefix=/usr' "$(head -n 1 "$work/stage/usr/lib/pkgconfig/cefindrato.pc")"
+same 'the list' "$(cd "$work/stage/usr" && find . ! -type d | sort)" "$(sed -n 's/^file /.\//p' "$work/stage/usr/share/cefindrato/installed" | sort)"
 DESTDIR=$work/stage "$top/install.sh" --uninstall /usr
 same 'what is left of it' '' "$(find "$work/stage/usr" 2> /dev/null || true)"
 
 # what is not installed is not taken away, and a wrong call says how
-for words in "--uninstall $prefix" '' '--help' '/a /b'; do
+for words in "--uninstall $work/none" '' '--help' '/a /b'; do
   status=0
   # shellcheck disable=SC2086
   "$top/install.sh" $words > "$work/said" 2>&1 || status=$?

@@ -1,6 +1,6 @@
 /* The proved checker of LRAT proofs, for C and C++.
  *
- * Link with liblrat_c.a and the toolchain's two archives, or with the shared library: see bindings/README.md.
+ * Link with libcefindrato.a or libcefindrato.so, as `pkg-config --cflags --libs cefindrato` says.
  * Nothing is kept between calls; any number of threads may call at once. */
 #ifndef CEFINDRATO_H
 #define CEFINDRATO_H

@@ -1,6 +1,7 @@
 """The proved checker of LRAT proofs, by ctypes over the shared library.
 
-CEFINDRATO_LIBRARY may name the library; otherwise `libcefindrato.so` is looked for where the system has its libraries.
+CEFINDRATO_LIBRARY may name the library; otherwise it is the one beside this file, or else `libcefindrato.so` is looked for
+where the system has its libraries.
 """
 
 import ctypes
@@ -14,7 +15,8 @@ class _Answer(ctypes.Structure):
     _fields_ = [("status", ctypes.c_uint8), ("text_len", ctypes.c_size_t)]
 
 
-_library = ctypes.CDLL(os.environ.get("CEFINDRATO_LIBRARY", "libcefindrato.so"))
+_beside = os.path.join(os.path.dirname(os.path.abspath(__file__)), "libcefindrato.so")
+_library = ctypes.CDLL(os.environ.get("CEFINDRATO_LIBRARY") or (_beside if os.path.isfile(_beside) else "libcefindrato.so"))
 _text = [ctypes.c_char_p, ctypes.c_size_t]
 _library.cefindrato_lrat_check.argtypes = _text * 3
 _library.cefindrato_lrat_check.restype = _Answer
