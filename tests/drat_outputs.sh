@@ -1,6 +1,6 @@
 #!/usr/bin/env bash
 # What `drat_check` writes by its options --lrat and --core: the lines are accepted by `lrat_check`, and the clauses are
-# some of the formula's, as their header says, and can't be satisfied. And which files it refuses to write.
+# some of the formula's, as their header says, and refuted by the same proof. And which files it refuses to write.
 #
 # The programs must be built: `rt ci` does it, or `rt run` in their folders.
 set -euo pipefail
@@ -64,11 +64,8 @@ outputs() {
   [[ $said == 's VERIFIED UNSAT' ]] || fault "$name, its lines: $said $(cat err)"
   [[ -z $(comm -13 <(clauses "$2") <(clauses core)) ]] || fault "$name: the core has clauses of its own"
   [[ $(awk '$1 == "p" { print $4 }' core) == $(clauses core | wc -l) ]] || fault "$name: the core's header"
-  if command -v cadical > where; then
-    local status=0
-    cadical -q core > said 2>&1 || status=$?
-    ((status == 20)) || fault "$name, its core: cadical ended with status $status"
-  fi
+  said=$("$check" core "$3" 2> err) || true
+  [[ $said == 's VERIFIED UNSAT' ]] || fault "$name, its core by the same proof: $said $(cat err)"
   said=$("$check" "$2" "$3" --core core.alone 2> err) || true
   [[ $said == 's VERIFIED UNSAT' ]] && cmp -s core core.alone || fault "$name, the core alone: $said $(cat err)"
   said=$("$check" "$2" "$3" --lrat lrat.alone 2> err) || true
@@ -136,10 +133,33 @@ wants 1 '' $'error writing: No space left on device (os error 28)\nin /dev/full'
 wants 1 '' $'error writing: No space left on device (os error 28)\nin /dev/full' f p --core /dev/full --lrat l
 [[ $("$lrat_check" f l) == 's VERIFIED UNSAT' ]] || fault 'the lines before a core that can not be written'
 
-# calls that are none
-usage='usage: drat_check CNF PROOF [--drat] [--frat] [--lrat FILE] [--core FILE]'
-for arguments in 'f' 'f p --lrat' 'f p --lrat l --core' 'f p --lrat l --lrat c' 'f p --other l' 'f p --lrat l --core c d' 'f p --frat --drat'; do
+# calls that can't be read, and others of the same words
+while IFS=: read -r arguments why; do
   # shellcheck disable=SC2086
-  wants 2 '' "$usage" $arguments
+  wants 2 '' "$why"$'\nusage: drat_check CNF PROOF [--drat] [--frat] [--lrat FILE] [--core FILE]\ndrat_check --help says more' $arguments
+done << 'END'
+:no file is named for CNF
+f:no file is named for PROOF
+f p --lrat:--lrat has no value
+f p --lrat l --core:--core has no value
+f p --lrat l --lrat c:--lrat stands twice
+f p --lrat=l --lrat c:--lrat stands twice
+f p --other l:there is no option --other
+f p --lrat l --core c d:a file too many: d
+f p --frat --drat:--drat and --frat can't both stand
+f p --drat=1:--drat takes no value
+f p --example:--example stands alone
+--example --drat:--example stands alone
+-- --drat:no file is named for PROOF
+END
+for arguments in '--lrat l --core c f p' '--lrat=l f --core=c p' 'f --drat p --core c --lrat l' '--core c --lrat l -- f p'; do
+  rm -f l c
+  # shellcheck disable=SC2086
+  wants 0 's VERIFIED UNSAT' '' $arguments
+  [[ $("$lrat_check" f l) == 's VERIFIED UNSAT' ]] || fault "the lines of $arguments"
+  grep -q '^p cnf' c || fault "the core of $arguments"
 done
+rm -f -- --core
+wants 0 's VERIFIED UNSAT' '' f p --lrat --core
+[[ $("$lrat_check" -- f --core) == 's VERIFIED UNSAT' ]] || fault 'a value that begins as an option'
 exit "$wrong"

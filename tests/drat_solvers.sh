@@ -1,5 +1,6 @@
 #!/usr/bin/env bash
-# Solvers that write DRAT, and `drat_check` on what they write: text, binary, and by a pipe; and proofs with RAT steps.
+# Solvers that write DRAT, and `drat_check` on what they write: text, binary, and by a pipe; and proofs with RAT steps. Each proof is
+# damaged, too: `tests/drat/refusal.py` then says of each refusal whether it is right.
 # It uses the solvers that are there (Debian: cadical picosat cryptominisat), and says which are not.
 #
 # The program must be built: `rt ci` does it, or `rt run` in its folder.
@@ -19,14 +20,20 @@ formula() {
   python3 -B "$top/tests/drat/formulas.py" "$@"
 }
 
-# verified NAME CNF PROOF: the proof has to be verified
-verified() {
-  local said
-  said=$("$check" "$2" "$3" 2> "$work/err") || true
-  if [[ $said != 's VERIFIED UNSAT' ]]; then
-    printf '%s: %s %s\n' "$1" "$said" "$(cat "$work/err")"
+# says_verified NAME CNF PROOF: the program has to say so, and to end with status 0
+says_verified() {
+  local said status=0
+  said=$("$check" "$2" "$3" 2> "$work/err") || status=$?
+  if [[ $said != 's VERIFIED UNSAT' || $status != 0 ]]; then
+    printf '%s: status %d, %s %s\n' "$1" "$status" "$said" "$(cat "$work/err")"
     wrong=1
   fi
+}
+
+# verified NAME CNF PROOF: the proof has to be verified, and damaged ones to be refused for a reason that can be shown
+verified() {
+  says_verified "$1" "$2" "$3"
+  python3 -B "$top/tests/drat/damage.py" "$check" "$2" "$3" "$1" || wrong=1
 }
 
 # solved NAME COMMAND..: the solver has to answer "unsatisfiable"
@@ -59,11 +66,7 @@ if has cadical; then
     verified "cadical $name, text" "$cnf" "$work/text"
     solved "cadical $name" cadical -q "$cnf" "$work/binary"
     verified "cadical $name, binary" "$cnf" "$work/binary"
-    said=$(cat "$work/binary" | "$check" "$cnf" - 2> "$work/err") || true
-    if [[ $said != 's VERIFIED UNSAT' ]]; then
-      printf 'cadical %s, by a pipe: %s %s\n' "$name" "$said" "$(cat "$work/err")"
-      wrong=1
-    fi
+    says_verified "cadical $name, by a pipe" "$cnf" - < <(cat "$work/binary")
   done
 fi
 if has picosat; then

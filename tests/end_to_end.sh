@@ -35,6 +35,11 @@ refused() {
   expect "$1" 1 '' "$3"$'\n'"in $2" "${@:4}"
 }
 
+# misused NAME WHY CALL ARGUMENT..: a call that can't be read, with the words of how it is made
+misused() {
+  expect "$1" 2 '' "$2"$'\nusage: '"$3"$'\n'"${3%% *} --help says more" "${@:4}"
+}
+
 # begun_as NAME FILE KIND ERROR ARGUMENT..: one that is refused for a file which begins as one of this kind
 begun_as() {
   expect "$1" 1 '' "$4"$'\n'"$2 begins as $3" "${@:5}"
@@ -135,8 +140,8 @@ expect not_shown 3 's NOT SHOWN' '' unit.cnf end.proof
 refused no_proof nothing.proof 'step 1: Unexpected end of proof file' unit.cnf nothing.proof
 expect no_arguments 0 's UNSATISFIABLE' ''
 expect version 0 'varisat_check 0.3.0 (varisat-checker 0.2.2)' '' --version
-expect one_argument 2 '' 'usage: varisat_check CNF PROOF [LRAT]' unit.cnf
-expect four_arguments 2 '' 'usage: varisat_check CNF PROOF [LRAT]' unit.cnf end.proof hints.lrat hints.lrat
+misused one_argument 'no file is named for PROOF' 'varisat_check CNF PROOF [LRAT]' unit.cnf
+misused four_arguments 'a file too many: more.lrat' 'varisat_check CNF PROOF [LRAT]' unit.cnf end.proof hints.lrat more.lrat
 expect hints 0 's UNSATISFIABLE' '' par10.cnf par10.whole.proof hints.lrat
 refused hints_of_a_refused_proof nothing.proof 'step 1: Unexpected end of proof file' unit.cnf nothing.proof hints.lrat
 expect missing_formula 2 '' $'cannot open absent.cnf\nNo such file or directory (os error 2)' absent.cnf absent.proof
@@ -207,7 +212,7 @@ refuted board6 board6.cnf
 printf '5 0 1\n' > "$work/files/malformed.lrat"
 refused malformed_formula malformed.cnf 'line 2: bad number' malformed.cnf par10.lrat
 refused malformed_hints malformed.lrat 'line 1: malformed line' unit.cnf malformed.lrat
-expect no_arguments 2 '' 'usage: hint_check CNF LRAT'
+misused no_arguments 'no file is named for CNF' 'hint_check CNF LRAT'
 expect example 0 's VERIFIED UNSAT' '' --example
 expect help 0 'usage: hint_check CNF LRAT
 
@@ -234,8 +239,8 @@ examples:
   checks a proof in bytes, and once more by its hints:
       varisat_check formula.cnf proof.bytes proof.lrat && hint_check formula.cnf proof.lrat' '' --help
 expect version 0 'hint_check 0.3.0 (varisat-checker 0.2.2)' '' --version
-expect one_argument 2 '' 'usage: hint_check CNF LRAT' unit.cnf
-expect three_arguments 2 '' 'usage: hint_check CNF LRAT' unit.cnf par10.lrat par10.lrat
+misused one_argument 'no file is named for LRAT' 'hint_check CNF LRAT' unit.cnf
+misused three_arguments 'a file too many: more.lrat' 'hint_check CNF LRAT' unit.cnf par10.lrat more.lrat
 expect missing_formula 2 '' $'cannot open absent.cnf\nNo such file or directory (os error 2)' absent.cnf absent.lrat
 expect missing_hints 2 '' $'cannot open absent.lrat\nNo such file or directory (os error 2)' malformed.cnf absent.lrat
 run_cases hint_check_main
@@ -321,25 +326,26 @@ expect nothing 3 's NOT VERIFIED' '' four.cnf nothing.proof
 printf '1 2 0\n0\n' > "$work/files/refuted.cnf"
 expect refuted_formula 0 's VERIFIED UNSAT' '' refuted.cnf nothing.proof
 expect refuted_formula_unread 0 's VERIFIED UNSAT' '' refuted.cnf drat.lrat
-for file in four.cnf mark.lrat malformed.lrat; do
+for file in mark.lrat malformed.lrat; do
   refused "read_${file%.*}" "$file" 'proof: line 1: malformed line' four.cnf "$file"
 done
+expect read_four 1 '' $'proof: line 1: malformed line\nfour.cnf begins as a formula\narguments in the wrong order?' four.cnf four.cnf
 begun_as read_binary binary.lrat 'binary LRAT or binary DRAT' 'proof: line 1: malformed line' four.cnf binary.lrat
 begun_as read_drat drat.lrat 'DRAT text' 'proof: line 1: malformed line' four.cnf drat.lrat
 begun_as read_compressed compressed.lrat 'a gzip file' 'proof: line 1: malformed line' four.cnf compressed.lrat
 # a formula may begin as DRAT text does
 refused read_no_drat malformed.cnf 'formula: line 2: bad number' malformed.cnf nothing.proof
-refused swapped par10.lrat 'formula: line 24: bad number' par10.lrat par10.cnf
+expect swapped 1 '' $'formula: line 24: bad number\nin par10.lrat\narguments in the wrong order?' par10.lrat par10.cnf
 refused malformed_formula malformed.cnf 'formula: line 2: bad number' malformed.cnf par10.lrat
 # reads that fail: a folder, and a file of the system's
 refused folder / 'formula: error reading formula: Is a directory (os error 21)' / par10.lrat
 refused folder_as_proof / 'proof: error reading proof: Is a directory (os error 21)' four.cnf /
 refused unreadable_proof /proc/self/mem 'proof: error reading proof: Input/output error (os error 5)' four.cnf /proc/self/mem
-expect no_arguments 2 '' 'usage: lrat_check CNF LRAT'
+misused no_arguments 'no file is named for CNF' 'lrat_check CNF LRAT'
 expect example 0 's VERIFIED UNSAT' '' --example
 expect version 0 'lrat_check 0.3.0 (varisat-checker 0.2.2)' '' --version
-expect one_argument 2 '' 'usage: lrat_check CNF LRAT' four.cnf
-expect three_arguments 2 '' 'usage: lrat_check CNF LRAT' four.cnf par10.lrat par10.lrat
+misused one_argument 'no file is named for LRAT' 'lrat_check CNF LRAT' four.cnf
+misused three_arguments 'a file too many: more.lrat' 'lrat_check CNF LRAT' four.cnf par10.lrat more.lrat
 expect missing_formula 2 '' $'cannot open absent.cnf\nNo such file or directory (os error 2)' absent.cnf absent.lrat
 expect missing_proof 2 '' $'cannot open absent.lrat\nNo such file or directory (os error 2)' malformed.cnf absent.lrat
 run_cases lrat_check_main
@@ -368,12 +374,23 @@ refused unknown unknown.lrat 'proof: line 1: no clause has the id of a hint' uni
 refused malformed_formula malformed.cnf 'formula: line 2: bad number' malformed.cnf par10.lrat "$work/files/refused"
 refused malformed_proof malformed.lrat 'proof: line 1: malformed line' unit.cnf malformed.lrat "$work/files/refused"
 expect version 0 'lrat_to_proof 0.3.0 (varisat-checker 0.2.2)' '' --version
-for words in '' 'unit.cnf' 'unit.cnf nothing.lrat' 'unit.cnf nothing.lrat refused --width' 'unit.cnf nothing.lrat refused --width 0' \
-  'unit.cnf nothing.lrat refused --width 65' 'unit.cnf nothing.lrat refused --width x' 'unit.cnf nothing.lrat refused --bits 9' \
-  'unit.cnf nothing.lrat refused --width 9 9'; do
+convert_call='lrat_to_proof CNF LRAT PROOF [--width N]'
+while IFS=: read -r words why; do
   read -ra arguments <<< "$words"
-  expect "usage_of_${#names[@]}" 2 '' 'usage: lrat_to_proof CNF LRAT PROOF [--width N]' "${arguments[@]}"
-done
+  misused "usage_of_${#names[@]}" "$why" "$convert_call" "${arguments[@]}"
+done << 'END'
+:no file is named for CNF
+unit.cnf:no file is named for LRAT
+unit.cnf nothing.lrat:no file is named for PROOF
+unit.cnf nothing.lrat refused --width:--width has no value
+unit.cnf nothing.lrat refused --width 0:--width takes a number from 1 to 64
+unit.cnf nothing.lrat refused --width=65:--width takes a number from 1 to 64
+unit.cnf nothing.lrat refused --width x:--width takes a number from 1 to 64
+unit.cnf nothing.lrat refused --bits 9:there is no option --bits
+unit.cnf nothing.lrat refused --width 9 --width=9:--width stands twice
+unit.cnf nothing.lrat refused --width 9 9:a file too many: 9
+unit.cnf nothing.lrat refused --example:there is no option --example
+END
 expect missing_formula 2 '' $'cannot open absent.cnf\nNo such file or directory (os error 2)' absent.cnf absent.lrat refused
 expect missing_proof 2 '' $'cannot open absent.lrat\nNo such file or directory (os error 2)' unit.cnf absent.lrat refused
 expect missing_folder 2 '' $'cannot open absent/proof\nNo such file or directory (os error 2)' unit.cnf nothing.lrat absent/proof

@@ -1,6 +1,7 @@
 #!/usr/bin/env bash
 # FRAT proofs by `drat_check`: some hundred random ones, beside the same steps as DRAT; proofs of formulas made of the lines that
 # `drat_check` writes, with right hints, wrong ones and none; and those of cryptominisat, where it is there (Debian: cryptominisat).
+# By the options --frat and --drat each proof is read as what it does not begin as, too.
 #
 #   tests/frat.sh [COUNT [SEED]]
 #
@@ -31,6 +32,20 @@ says() {
   fi
 }
 
+# by_the_option NAME CNF FRAT TYPE: where the proof's own beginning says something else, the option decides. A text that begins with a
+# long comment is no FRAT without it, nor is a binary proof that begins with a step `a`; and no FRAT is DRAT.
+by_the_option() {
+  if [[ $4 == text ]]; then
+    { printf 'c%5000s\n' '' && cat "$3"; } > "$work/late"
+  else
+    { printf 'a\x02\x02\x03\x00' && cat "$3"; } > "$work/late"
+  fi
+  says 0 's VERIFIED UNSAT' "$1, late" "$2" "$work/late" --frat
+  says 1 '' "$1, late, as it begins" "$2" "$work/late"
+  says 1 '' "$1, late, as DRAT" "$2" "$work/late" --drat
+  says 1 '' "$1, as DRAT" "$2" "$3" --drat
+}
+
 # of_lines NAME CNF DRAT: the lines of the proof, as FRAT
 of_lines() {
   local hints way
@@ -40,6 +55,7 @@ of_lines() {
       python3 -B "$top/tests/drat/frat.py" of_lrat "$2" "$work/lrat" "$hints" "$way" > "$work/frat"
       says 0 's VERIFIED UNSAT' "$1, $hints hints, $way" "$2" "$work/frat"
       says 0 's VERIFIED UNSAT' "$1, $hints hints, $way, by the option" "$2" "$work/frat" --frat
+      by_the_option "$1, $hints hints, $way" "$2" "$work/frat" "$way"
       head -c "$(($(stat -c %s "$work/frat") / 2))" "$work/frat" > "$work/half"
       "$check" "$2" "$work/half" > "$work/said" 2> "$work/err" || true
       if grep -q 'internal' "$work/err" || grep -q '^s VERIFIED' "$work/said"; then

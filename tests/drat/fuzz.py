@@ -3,16 +3,22 @@
 fuzz.py PROGRAM COUNT [SEED]
 
 A proof that meets the definition at every step must be verified. No satisfiable formula may be, whatever its proof; and no
-answer may be `internal`. Every other proof is damaged: a step goes, a literal is turned, or the text is cut.
+answer may be `internal`. Every other proof is damaged: a step goes, a literal is turned, most steps go, or the text is cut. Where
+no choice of clauses and steps comes to a conflict, the proof must be refused, though the formula can't be satisfied; and what is
+refused is judged by `refusal.py`.
 """
 
 import itertools
 import random
+import re
 import subprocess
 import sys
 import tempfile
 
+import refusal
 from formulas import binary_drat, dimacs, drat
+
+NOT_REDUNDANT = re.compile(r"proof: step (\d+): clause neither follows nor is redundant by its first literal\n")
 
 
 def propagate(clauses, true):
@@ -80,6 +86,68 @@ def meets_definition(formula, steps):
     return False, plain
 
 
+def stands_against(clauses, clause):
+    """What keeps a clause from being redundant by its first literal: none if it follows, else those whose resolvents don't."""
+    negated = [-it for it in clause]
+    if propagate(clauses, negated) is None:
+        return []
+    holders = [it for it in clauses if clause and -clause[0] in it]
+    rests = [[-it for it in other if it != -clause[0]] for other in holders]
+    return [it for it, rest in zip(holders, rests) if propagate(clauses, negated + rest) is not None]
+
+
+class Choices:
+    """Which clauses and steps a checker may take: it may leave out what its conflict does not need, and what is deleted
+    before. So a step that is not redundant is left out, or all that stands against it is."""
+
+    def __init__(self, formula, steps):
+        self.clauses = [(False, it) for it in formula] + steps
+        self.clauses = [(gone, list(dict.fromkeys(it))) for gone, it in self.clauses]
+        self.formula, self.last, self.tries = len(formula), len(self.clauses), 300
+        self.last = self.conflict_at(lambda there, at: True)
+
+    def conflict_at(self, is_taken):
+        """The count of clauses and steps up to the first conflict of those that are taken; all, where there is none."""
+        there = []
+        for at, (gone, clause) in enumerate(self.clauses[: self.last]):
+            if gone:
+                found = [it for it in there if set(self.clauses[it][1]) == set(clause)]
+                if found and unit_reason([self.clauses[it][1] for it in there], clause):
+                    self.tries = 0
+                there = [it for it in there if it != found[0]] if found else there
+            elif not is_tautology(clause) and is_taken(there, at):
+                there.append(at)
+                if at + 1 >= self.formula and propagate([self.clauses[it][1] for it in there], []) is None:
+                    self.has_conflict = True
+                    return at + 1
+        self.has_conflict = False
+        return self.last
+
+    def can_be_verified(self, out=frozenset()):
+        """Whether there is a choice, without these, that comes to a conflict. Where it is not found out, there may be."""
+        self.tries -= 1
+        if self.tries < 0:
+            return True
+        wrong = []
+
+        def is_taken(there, at):
+            clause = self.clauses[at][1]
+            if at in out or wrong:
+                return False
+            against = stands_against([self.clauses[it][1] for it in there], clause) if at >= self.formula else []
+            if against or (at >= self.formula and not clause):
+                wrong.append((at, [it for it in there if self.clauses[it][1] in against]))
+            return not wrong
+
+        self.conflict_at(is_taken)
+        if not wrong and self.tries > 0:
+            return self.has_conflict
+        if not wrong:
+            return True
+        at, against = wrong[0]
+        return self.can_be_verified(out | {at}) or bool(against) and self.can_be_verified(out | set(against))
+
+
 def is_satisfiable(formula):
     variables = sorted({abs(it) for clause in formula for it in clause})
     for signs in itertools.product((1, -1), repeat=len(variables)):
@@ -102,10 +170,11 @@ class Case:
     def literal(self, variables):
         return self.draw.choice((1, -1)) * self.draw.randint(1, variables)
 
+    sizes, least = (1, 2, 3, 3, 3, 3, 4), 2
+
     def some_formula(self):
-        count = self.draw.randint(2 * self.variables, 8 * self.variables)
-        sizes = (1, 2, 3, 3, 3, 3, 4)
-        return [[self.literal(self.variables) for _ in range(self.draw.choice(sizes))] for _ in range(count)]
+        count = self.draw.randint(self.least * self.variables, 8 * self.variables)
+        return [[self.literal(self.variables) for _ in range(self.draw.choice(self.sizes))] for _ in range(count)]
 
     def add(self, clause):
         self.steps.append((False, clause))
@@ -155,9 +224,18 @@ class Case:
             self.steps[at] = (gone, clause)
 
 
-def try_case(program, seed, folder):
+class Sparse(Case):
+    """A formula that no units refute, and few of the steps that do."""
+
+    sizes, least = (2, 3, 3, 3, 3), 6
+
+    def damage(self):
+        self.steps = [it for it in self.steps if self.draw.random() < 0.15 and not it[0]] + [(False, [])]
+
+
+def try_case(program, seed, folder, counts):
     """What is wrong with the answer, if anything."""
-    case = Case(seed)
+    case = Sparse(seed) if seed % 4 == 1 else Case(seed)
     case.grow()
     if seed % 2:
         case.damage()
@@ -181,19 +259,37 @@ def try_case(program, seed, folder):
     met, plain = meets_definition(case.formula, case.steps)
     if met and plain and not is_cut and not is_verified:
         return f"not verified: {ran.stdout}{ran.stderr}"
-    return None
+    if not is_right(f"{folder}/a.cnf", f"{folder}/a.drat", ran):
+        return f"refused, and it is not shown why: {ran.stdout}{ran.stderr}"
+    if met or is_cut or is_satisfiable(case.formula):
+        return None
+    if Choices(case.formula, case.steps).can_be_verified():
+        return None
+    counts["must"] += 1
+    return "verified by steps that are wrong" if is_verified else None
+
+
+def is_right(cnf, proof, ran):
+    """Whether a refusal, if it is one of a step that is read, is right."""
+    step = NOT_REDUNDANT.match(ran.stderr)
+    if not step and ran.stdout != "s NOT VERIFIED\n":
+        return True
+    formula, steps = refusal.read_formula(cnf), refusal.read_proof(proof)
+    return refusal.step_is_refuted(formula, steps, int(step[1])) if step else refusal.ends_open(formula, steps)
 
 
 def main(program, count, first=1):
-    wrong = 0
+    wrong, counts = 0, {"must": 0}
     with tempfile.TemporaryDirectory() as folder:
         for seed in range(int(first), int(first) + int(count)):
-            why = try_case(program, seed, folder)
+            why = try_case(program, seed, folder, counts)
             if why:
                 wrong += 1
                 print(f"case {seed}: {why}")
-    print(f"{count} cases, {wrong} wrong")
-    return 1 if wrong else 0
+    print(f"{count} cases, {wrong} wrong; {counts['must']} wrong proofs of formulas that can't be satisfied")
+    if not counts["must"]:
+        print("no proof had to be refused")
+    return 1 if wrong or not counts["must"] else 0
 
 
 if __name__ == "__main__":

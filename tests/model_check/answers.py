@@ -4,7 +4,8 @@ answers.py PROGRAM solved CNF ANSWER      a solver's answer to a formula, and da
 answers.py PROGRAM random COUNT SEED      random formulas and lists of literals
 
 The definition: each clause has a literal of the list, and the list has no two opposite ones. Where a clause has none, the first
-such clause is named, with the line on which its 0 stands.
+such clause is named, with the line on which its 0 stands. A formula that has fewer clauses than its header says, or without a
+header none, has no verdict.
 """
 
 import random
@@ -42,8 +43,9 @@ class Tries:
 
     def spread(self, name, clauses, literals, source):
         """The clauses with any blanks, line ends and comments between their numbers."""
-        text, lines = spread(clauses, source)
-        self.wants(name, text, " ".join(map(str, [*literals, 0])), *definition(clauses, literals, lines, [1] * len(literals)))
+        text, lines, said = spread(clauses, source)
+        wanted = definition(clauses, literals, lines, [1] * len(literals), said)
+        self.wants(name, text, " ".join(map(str, [*literals, 0])), *wanted)
 
     def refused(self, name, cnf, answer, line, why):
         self.wants(name, cnf, answer, 1, "", f"answer: line {line}: {why}")
@@ -54,25 +56,31 @@ def dimacs(clauses):
 
 
 def spread(clauses, source):
-    """A text of the clauses, and the line on which each ends."""
-    count = len(clauses)
-    text, lines = source.choice(("", "c 1 0\n", f"p cnf 9 {count}\n", f" p  cnf 09 0{count}\r\n\nc\n")), []
+    """A text of the clauses, the line on which each ends, and how many the header says, where there is one."""
+    count = len(clauses) + source.choice((0, 0, 0, 1, 2))
+    said = count if source.random() < 0.5 else None
+    text = source.choice(("", "c 1 0\n")) if said is None else source.choice((f"p cnf 9 {said}\n", f" p  cnf 09 0{said}\r\n\nc\n"))
+    lines = []
     for clause in clauses:
         for number in [*clause, 0]:
             text += source.choice((f"{number}", f"{number:03}")) if number >= 0 else f"{number}"
             if number == 0:
                 lines.append(text.count("\n") + 1)
             text += source.choice((" ", "\n", "\t \r", "\n\n", "\nc 0 2 0\n", " \n \tc 0\n"))
-    return text.rstrip() if source.random() < 0.5 else text, lines
+    return text.rstrip() if source.random() < 0.5 else text, lines, said
 
 
-def definition(clauses, literals, lines, rows):
-    """What is said, where the clauses end on these lines, and the literals stand on those."""
+def definition(clauses, literals, lines, rows, said=None):
+    """What is said, where the clauses end on these lines, the literals stand on those, and a header says so many clauses."""
     seen = set()
     for literal, row in zip(literals, rows):
         if -literal in seen:
             return 1, "", f"answer: line {row}: both signs of a variable"
         seen.add(literal)
+    if said is None and not clauses:
+        return 1, "", "formula: it has neither a header nor a clause"
+    if said is not None and len(clauses) < said:
+        return 1, "", f"formula: it ends after {len(clauses)} of {said} clauses"
     for number, clause in enumerate(clauses, 1):
         if not any(it in seen for it in clause):
             return 3, NOT_VERIFIED, f"formula: line {lines[number - 1]}: clause {number} has no literal of the answer"
@@ -119,8 +127,8 @@ def solved(tries, cnf_name, answer_name):
         tries.refused(word, cnf, "".join(other), status + 1, why)
     tries.refused("no status", cnf, "".join(line for line in lines if line[0] == "v"), last - status + 1, "no status line")
     for end in range(1, last + 1):
-        tries.refused("cut", cnf, "".join(lines[:end]), end + 1, "the answer ends early")
-    tries.refused("cut in its last line", cnf, "".join(lines[: last + 1])[:-2], last + 1, "the answer ends early")
+        tries.refused("cut", cnf, "".join(lines[:end]), end + 1, "the answer ends before its last 0")
+    tries.refused("cut in its last line", cnf, "".join(lines[: last + 1])[:-2], last + 1, "the answer ends before its last 0")
     tries.refused("more numbers", cnf, answer + "v 1 0\n", len(lines) + 1, "a number after the last one")
 
 
