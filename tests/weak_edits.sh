@@ -14,7 +14,7 @@ if (($# == 0)); then
 fi
 told=${1:-$work/tried}
 bad=$(sed -n 's/^rt: must-fail \([^:]*: BAD EDIT\).*/\1/p' "$told")
-weak=$(sed -n 's/^rt: must-fail \([^:]*\): refused, .*this says little of the contract.*/\1/p' "$told")
+weak=$(sed -n 's/^rt: must-fail \([^:]*\): refused, .*this says \(little\|less\) of the contract.*/\1/p' "$told")
 if [[ -n $bad$weak ]]; then
   printf '%s\n' 'edits that say little:' "$bad" "$weak" | sed '/^$/d'
   exit 1

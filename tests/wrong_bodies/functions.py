@@ -55,28 +55,35 @@ class NoCopy(Exception):
 class WrongBody:
     """A wrong body: lines 'file:', 'old:' and 'new:', as in a must-fail edit.
 
-    With a line 'only: FUNCTION' it is no copy: the text is changed where it stands, and this function has to be refused.
+    With a line 'only: FUNCTION' it is no copy: the text is changed where it stands, and this function has to be refused. A line
+    'right:' behind 'new:' is a right body of the same shape, which has to be proved.
     """
 
-    def __init__(self, path, number):
-        self.label, self.number = os.path.basename(path).removesuffix(".edit"), number
-        self.said, self.only = None, None
-        self.pairs, file = [], None
-        with open(path, encoding="utf-8") as edit:
-            for line in edit.read().split("\n"):
-                word, _, text = line.partition(":")
-                text = text.removeprefix(" ")
-                if word == "file":
-                    file = text.strip()
-                elif word == "only":
-                    self.only = text.strip()
-                elif word == "old":
-                    self.pairs.append((file, text, ""))
-                elif word == "new":
-                    self.pairs[-1] = (*self.pairs[-1][:2], text)
+    def __init__(self, label, text, number):
+        self.label, self.number = label, number
+        self.said, self.only, self.right, self.faults = None, None, None, []
+        self.pairs, self.rights, file = [], [], None
+        for line in text.split("\n"):
+            word, _, words = line.partition(":")
+            words = words.removeprefix(" ")
+            if word == "file":
+                file = words.strip()
+            elif word == "only":
+                self.only = words.strip()
+            elif word == "old":
+                self.pairs.append((file, words, ""))
+                self.rights.append(words)
+            elif word == "new":
+                self.pairs[-1] = (*self.pairs[-1][:2], words)
+            elif word == "right":
+                self.rights[-1] = words
 
-    def place(self, crate, unchanged=False):
-        """Finds the function in which all of it stands, and makes the copy's text. `unchanged`: the copy without the edit."""
+    def has_right(self):
+        """Whether it comes with a right body of the same shape."""
+        return self.rights != [old for _, old, _ in self.pairs]
+
+    def place(self, crate, which="wrong"):
+        """Finds the function in which all of it stands, and makes the copy's text: wrong, right or unchanged."""
         self.file = self.pairs[0][0]
         if {file for file, _, _ in self.pairs} != {self.file}:
             raise NoCopy("it changes more than one file")
@@ -94,10 +101,10 @@ class WrongBody:
         if function.calls_itself(lines):
             raise NoCopy("its function calls itself")
         whole = "\n".join(lines[function.first : function.end + 1])
-        for _, old, new in self.pairs if not unchanged else []:
-            whole = whole.replace(old, new)
+        for (_, old, new), right in zip(self.pairs, self.rights) if which != "unchanged" else []:
+            whole = whole.replace(old, new if which == "wrong" else right)
         self.function = function
-        self.name = f"{function.name}_{'copy' if unchanged else 'wrong'}{self.number}"
+        self.name = f"{function.name}_{which}{self.number}"
         head = rf"(?m)^( *(?:pub(?:\([^)]*\))? )?(?:const )?(?:unsafe )?fn ){function.name}\b"
         self.text = re.sub(head, rf"\g<1>{self.name}", whole, count=1)
 

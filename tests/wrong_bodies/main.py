@@ -8,8 +8,12 @@ says something only where the same copy without the edit is proved, so that is t
 What can't be a copy, as a method of a trait or a constant, names the function that has to be refused, by a line `only:`. It is
 changed where it stands, and has a check of its own, of that function alone.
 
-Then `wrong-bodies/REFUSED` is written: a sum over the words of the crate's src, specs and wrong bodies, and their count. Tests
-of its own, `src/tests.rt` and `src/tests/`, are left out, with the lines that declare them: no wrong body rests on them.
+A body with another shape may be refused though it is right, since a proof that was written for the function no longer fits. So
+`kinds.py` tells apart what refuses a wrong body: a clause of the contract, or a written proof.
+
+Then `wrong-bodies/REFUSED` is written: a sum over the words of the crate's src, specs and wrong bodies, and one over the specs of all
+crates below; the count of wrong bodies, and that of each kind, with the names of the second. Tests of the crate's own,
+`src/tests.rt` and `src/tests/`, are left out, with the lines that declare them: no wrong body rests on them.
 """
 
 import concurrent.futures
@@ -20,7 +24,9 @@ import shutil
 import subprocess
 import sys
 import tempfile
+import time
 
+import kinds
 import toolchain
 from functions import NoCopy, WrongBody
 
@@ -28,9 +34,17 @@ ROOT = os.path.dirname(os.path.dirname(os.path.dirname(os.path.abspath(__file__)
 BATCH = 30
 
 
-def edits(crate):
-    folder = f"{crate}/wrong-bodies"
-    return sorted(f"{folder}/{it}" for it in os.listdir(folder) if it.endswith(".edit"))
+def bodies(crate):
+    """The wrong bodies of a crate, each with its name: a file NAME.edit, or a paragraph of `wrong-bodies.txt` below its heading."""
+    folder, found = f"{crate}/wrong-bodies", []
+    for name in os.listdir(folder):
+        with open(f"{folder}/{name}", encoding="utf-8") as file:
+            if name.endswith(".edit"):
+                found.append((name.removesuffix(".edit"), file.read()))
+            elif name == "wrong-bodies.txt":
+                paragraphs = re.split(r"(?m)^# ", file.read())[1:]
+                found += [(head.strip(), text) for head, _, text in (it.partition("\n") for it in paragraphs)]
+    return sorted(found)
 
 
 def crates_with_wrong_bodies():
@@ -39,9 +53,13 @@ def crates_with_wrong_bodies():
 
 
 def words_of(path):
-    """The words of a file, without comments and layout. Of an import they are what is imported, not where it stands."""
     with open(path, encoding="utf-8") as file:
-        lines = [it.strip() for it in file.read().split("\n")]
+        return words_in(file.read())
+
+
+def words_in(text):
+    """The words of a text, without comments and layout. Of an import they are what is imported, not where it stands."""
+    lines = [it.strip() for it in text.split("\n")]
     imported, kept = set(), []
     for line in lines:
         if line in ("#[cfg(test)]", "mod tests;"):
@@ -54,32 +72,79 @@ def words_of(path):
     return sorted(imported) + kept
 
 
-def record(crate):
-    """What a record says of the crate as it stands: of what is proved, not of how, so a change of proofs alone keeps it."""
-    found = edits(crate)
-    for part in ("src", "specs"):
-        found += [f"{at}/{it}" for at, _, names in os.walk(f"{crate}/{part}") for it in names]
-    tests = f"{crate}/src/tests"
-    found = [it for it in found if it != f"{tests}.rt" and not it.startswith(f"{tests}/")]
+def crates_below(name):
+    """The repository's crates that this one stands on, as `crates.txt` says."""
+    with open(f"{ROOT}/crates.txt", encoding="utf-8") as file:
+        lines = [it.split("#")[0].partition(":") for it in file]
+    uses = {head.split()[0]: rest.split() for head, _, rest in lines if head.strip()}
+    below, waiting = set(), [name]
+    while waiting:
+        new = [it for it in uses.get(waiting.pop(), []) if it in uses and it not in below]
+        below.update(new)
+        waiting += new
+    return sorted(below)
+
+
+def files_in(*folders):
+    return sorted(f"{at}/{it}" for folder in folders for at, _, names in os.walk(folder) for it in names)
+
+
+def sum_over(words):
+    """A sum over the words of places, by their names."""
     total = hashlib.sha256()
-    for path in sorted(found):
-        total.update(repr((os.path.relpath(path, crate), words_of(path))).encode())
-    return f"sum: {total.hexdigest()}\nrefused: {len(edits(crate))}\n"
+    for place in sorted(words.items()):
+        total.update(repr(place).encode())
+    return total.hexdigest()
+
+
+def sum_of(crate):
+    """A sum over what is proved of a crate, not over how, so a change of proofs alone keeps it."""
+    tests = f"{crate}/src/tests"
+    found = [it for it in files_in(f"{crate}/src") if it != f"{tests}.rt" and not it.startswith(f"{tests}/")]
+    words = {os.path.relpath(it, crate): words_of(it) for it in found + files_in(f"{crate}/specs")}
+    words.update({f"wrong-bodies/{name}.edit": words_in(text) for name, text in bodies(crate)})
+    return sum_over(words)
+
+
+def sum_below(crate):
+    """A sum over the definitions of all crates below."""
+    found = files_in(*(f"{ROOT}/crates/{it}/specs" for it in crates_below(os.path.basename(crate))))
+    return sum_over({os.path.relpath(it, ROOT): words_of(it) for it in found})
+
+
+def head(crate):
+    """How a record begins, of the crate as it is now."""
+    return f"sum: {sum_of(crate)}\nrefused: {len(bodies(crate))}\n"
+
+
+def record(crate):
+    """The part of a record by which it is told whether it is of the crate as it is now."""
+    return f"{head(crate)}below: {sum_below(crate)}\n"
+
+
+def is_of(crate, begins):
+    """Whether the record of a crate begins so."""
+    path = f"{crate}/wrong-bodies/REFUSED"
+    if not os.path.exists(path):
+        return False
+    with open(path, encoding="utf-8") as file:
+        return file.read().startswith(begins(crate))
 
 
 def stale(crate):
-    path = f"{crate}/wrong-bodies/REFUSED"
-    if not os.path.exists(path):
-        return True
-    with open(path, encoding="utf-8") as file:
-        return file.read() != record(crate)
+    return not is_of(crate, record)
 
 
 def check_records():
-    old = [it for it in crates_with_wrong_bodies() if stale(f"{ROOT}/crates/{it}")]
-    if old:
-        print("wrong bodies were not tried since these changed; run: tests/wrong_bodies.sh", *old)
-    return 1 if old else 0
+    """Fails where a crate's own words have changed. Where those of a definition below have, or the kinds were not told, it says so."""
+    names = crates_with_wrong_bodies()
+    own = [it for it in names if not is_of(f"{ROOT}/crates/{it}", head)]
+    if own:
+        print("wrong bodies were not tried since these changed; run: tests/wrong_bodies.sh", *own)
+    below = [it for it in names if it not in own and stale(f"{ROOT}/crates/{it}")]
+    if below:
+        print("wrong bodies are to be tried again over the definitions below, by --stale:", *below)
+    return 1 if own else 0
 
 
 def write_copies(crate, wrongs, room):
@@ -141,7 +206,7 @@ def read_judgements(told, wrongs):
     for symbol, _, words in judged:
         for wrong in wrongs:
             if symbol.endswith(f"::{wrong.name}"):
-                wrong.said = words
+                wrong.said, wrong.faults = words, kinds.faults(told, wrong)
     return bool(judged)
 
 
@@ -159,17 +224,12 @@ def judge(crate, wrongs, room):
         wrongs = [it for it in wrongs if it not in bad] if bad else []
 
 
-def is_refused(wrong):
-    said = wrong.said or ""
-    return bool(re.match("not proved|no proof", said)) and not re.search("it calls|it passes|a call of", said)
-
-
 class Trial:
     """The wrong bodies of one crate, those that are no copies apart, and an unchanged copy of each function that is copied."""
 
     def __init__(self, name):
         self.name, self.crate = name, f"{ROOT}/crates/{name}"
-        self.wrongs, self.alone, self.controls, self.say = [], [], [], []
+        self.wrongs, self.alone, self.controls, self.rights, self.say = [], [], [], [], []
 
     def begin(self):
         """Proves the crate, and places the copies."""
@@ -177,15 +237,19 @@ class Trial:
             self.say.append(f"{self.name}: is not proved")
             return self
         controls = {}
-        for number, path in enumerate(edits(self.crate)):
-            wrong, control = WrongBody(path, number), WrongBody(path, number)
+        for number, (label, text) in enumerate(bodies(self.crate)):
+            wrong, control = WrongBody(label, text, number), WrongBody(label, text, number)
             try:
                 if wrong.only:
                     wrong.place_alone(self.crate)
                     self.alone.append(wrong)
                     continue
                 wrong.place(self.crate)
-                control.place(self.crate, unchanged=True)
+                control.place(self.crate, "unchanged")
+                if wrong.has_right():
+                    wrong.right = WrongBody(label, text, number)
+                    wrong.right.place(self.crate, "right")
+                    self.rights.append(wrong.right)
             except NoCopy as why:
                 self.say.append(f"{self.name}/{wrong.label}: needs a line 'only:', or belongs into must-fail/: {why}")
                 continue
@@ -195,8 +259,8 @@ class Trial:
         return self
 
     def batches(self):
-        both = [self.controls, self.wrongs]
-        copies = [some[at : at + BATCH] for some in both for at in range(0, len(some), BATCH)]
+        kinds_of_copy = [self.controls, self.rights, self.wrongs]
+        copies = [some[at : at + BATCH] for some in kinds_of_copy for at in range(0, len(some), BATCH)]
         return copies + [[it] for it in self.alone]
 
     def try_batch(self, batch):
@@ -213,24 +277,48 @@ class Trial:
         for it in self.controls:
             if not (it.said or "").startswith("proved"):
                 say.append(f"{name}/{it.function.name}: THE UNCHANGED COPY IS NOT PROVED: {(it.said or 'no line')[:300]}")
+        for it in self.rights:
+            if not (it.said or "").startswith("proved"):
+                say.append(f"{name}/{it.label}: THE RIGHT BODY IS NOT PROVED: {(it.said or 'no line')[:300]}")
         tried = self.wrongs + self.alone
         for it in tried:
-            if not is_refused(it):
+            if not kinds.is_refused(it):
                 say.append(f"{name}/{it.label}: NOT REFUSED: {it.name}: {(it.said or 'no line')[:300]}")
+        by_clause = {it.label for it in tried if kinds.is_by_clause(it)}
         well = not say
         if well:
-            with open(f"{self.crate}/wrong-bodies/REFUSED", "w", encoding="utf-8") as to:
-                to.write(record(self.crate))
-        refused = sum(map(is_refused, tried))
-        say.append(f"{name}: {refused} of {len(edits(self.crate))} refused, {len(self.controls)} unchanged copies tried")
+            self.note(by_clause)
+        refused = sum(map(kinds.is_refused, tried))
+        say.append(f"{name}: {refused} of {len(bodies(self.crate))} refused, {len(by_clause)} of them by a clause, ")
+        say[-1] += f"{len(self.controls)} unchanged copies tried"
         print(*say, sep="\n", flush=True)
         return well
 
+    def note(self, by_clause):
+        """Writes the record, with the names of those that a written proof refuses."""
+        written = sorted(it.label for it in self.wrongs + self.alone if it.label not in by_clause)
+        with open(f"{self.crate}/wrong-bodies/REFUSED", "w", encoding="utf-8") as to:
+            to.write(record(self.crate))
+            to.write(f"by a clause: {len(by_clause)}\nby a written proof: {len(written)}\n")
+            to.writelines(f"    {it}\n" for it in written)
 
-def main(words):
-    if words == ["--records"]:
-        return check_records()
-    trials = [Trial(it) for it in words or crates_with_wrong_bodies()]
+
+def in_turn(minutes):
+    """Tries the crates whose records are stale, one after the other; none is begun once the minutes are over."""
+    end, well = time.time() + 60 * minutes, True
+    for name in crates_with_wrong_bodies():
+        if not stale(f"{ROOT}/crates/{name}"):
+            continue
+        if time.time() > end:
+            print("not tried yet:", name)
+            well = False
+            continue
+        well = try_crates([name]) and well
+    return well
+
+
+def try_crates(names):
+    trials = [Trial(it) for it in names]
     jobs = int(os.environ.get("RT_JOBS", os.cpu_count() or 1))
     with concurrent.futures.ThreadPoolExecutor(jobs) as pool:
         begun = [pool.submit(it.begin) for it in trials]
@@ -244,7 +332,16 @@ def main(words):
             for batch in batches:
                 batch.result()
             well.append(trial.end())
-    return 0 if all(well) else 1
+    return all(well)
 
 
-sys.exit(main(sys.argv[1:]))
+def main(words):
+    if words == ["--records"]:
+        return check_records()
+    if words[:1] == ["--stale"]:
+        return 0 if in_turn(float(words[1]) if words[1:] else 10**6) else 1
+    return 0 if try_crates(words or crates_with_wrong_bodies()) else 1
+
+
+if __name__ == "__main__":
+    sys.exit(main(sys.argv[1:]))
