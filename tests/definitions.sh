@@ -1,0 +1,55 @@
+#!/usr/bin/env bash
+# The definitions in Python (docs/definitions.py) against `lrat_check`, over 3000 random texts: the fault and its line, or the
+# verdict; and against the other checkers, over formulas that all assignments are tried on.
+#
+# The programs must be built: `rt ci` does it, or `rt run` in their folders.
+set -euo pipefail
+
+top=$(cd "$(dirname "$0")/.." && pwd)
+work=$(mktemp -d)
+trap 'rm -rf "$work"' EXIT
+for program in drat_check lrat_check model_check; do
+  built=$top/crates/${program}_main/out/${program}_main
+  if [[ ! -x $built ]]; then
+    echo "not built: $built"
+    exit 1
+  fi
+  ln -s "$built" "$work/$program"
+done
+wrong=0
+definitions=(python3 -B "$top/docs/definitions.py")
+LRAT_CHECK=$work/lrat_check "${definitions[@]}" --try 3000 1 || wrong=1
+
+# A program that says something else is found out.
+printf '#!/bin/sh\n"%s" "$@" | sed "s/NOT VERIFIED/VERIFIED UNSAT/"\n' "$work/lrat_check" > "$work/liar"
+chmod +x "$work/liar"
+if LRAT_CHECK=$work/liar "${definitions[@]}" --try 50 1 > "$work/said"; then
+  echo "a checker that lies is not found out"
+  wrong=1
+fi
+
+# By cadical, if it is there: each answer that a checker verifies is the one of the definitions.
+if ! command -v cadical > "$work/where"; then
+  echo "cadical is not installed: not tried"
+  exit "$wrong"
+fi
+refuted=0
+for seed in {1..20}; do
+  python3 -B "$top/tests/drat/formulas.py" random 10 5.2 "$seed" > "$work/cnf"
+  status=0
+  PATH=$work:$PATH "$top/tools/checked" cadical "$work/cnf" > "$work/said" 2>&1 || status=$?
+  found=$("${definitions[@]}" "$work/cnf" | tail -n 1)
+  case "$status $found" in
+    '20 refuted') refuted=$((refuted + 1)) ;;
+    '10 not refuted') ;;
+    *)
+      echo "seed $seed: $status, $found: $(cat "$work/said")"
+      wrong=1
+      ;;
+  esac
+done
+if ((refuted == 0 || refuted == 20)); then
+  echo "$refuted of 20 formulas are refuted: one answer is never tried"
+  wrong=1
+fi
+exit "$wrong"
