@@ -90,7 +90,7 @@ def below(crate, listed):
 
 def call_of(crate):
     """The words of a program's call: its name, and its files."""
-    call = re.search(r'const CALL: &str = "([^"]*)"', text_of("crates", crate, "src", "main.rt"))
+    call = re.search(r'^    call: "([^"]*)"', text_of("crates", crate, "src", "about.rt"), re.MULTILINE)
     if call is None:
         sys.exit(f"docs/picture.py: the program {crate} does not say how it is called")
     return call.group(1).split()

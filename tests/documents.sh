@@ -1,7 +1,10 @@
 #!/usr/bin/env bash
 # What the documents say of files: links, names, counts of lines, quotations, laws, clauses of contracts, crates, calls;
-# and that the picture is the one of `crates.txt`.
+# that the pictures are those of `crates.txt` and of the table of times, and that the page of definitions is the one of the files
+# of definitions.
 set -euo pipefail
 cd "$(dirname "$0")/.."
 python3 -B docs/picture.py --check
+python3 -B docs/definitions_page.py --check
+python3 -B benches/picture.py --check
 exec python3 -B tests/documents/main.py

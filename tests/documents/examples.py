@@ -1,9 +1,13 @@
-"""Runs the commands of documents and compares what they print: `tests/examples.sh`.
+"""Runs the commands of documents and compares what they print, and the calls that programs name by `--help`: `tests/examples.sh`.
 
 A command is a line that begins with `$ ` in a block without a language. The lines up to the next one are what it
 prints, to standard output and then to standard error. All commands of a document run one after the other in one folder.
+
+In the list "examples" of a program's `--help` each call stands below what it does. It is run among files of the names that it
+uses; `solver` and `cadical` are scripts that write what the program reads. It has to end well, and to say why nowhere.
 """
 
+import lzma
 import os
 import re
 import subprocess
@@ -11,7 +15,19 @@ import sys
 import tempfile
 
 BLOCK = re.compile(r"^```\n(\$ .*?)^```$", re.MULTILINE | re.DOTALL)
-CALL = re.compile(r'^const CALL: &str = "(\w+)', re.MULTILINE)
+HELP_EXAMPLE = re.compile(r"^  \S.*:\n      (\S.*)$", re.MULTILINE)
+TOOLS = ("checked", "cubes", "proof_picture")
+
+# Files for the calls of `--help`: a formula that can't be satisfied with its proofs, and for `model_check` one that can be.
+REFUTED = b"p cnf 2 4\n1 2 0\n1 -2 0\n-1 2 0\n-1 -2 0\n"
+SATISFIED = b"p cnf 3 3\n1 2 0\n-1 3 0\n-2 -3 0\n"
+ANSWER = b"s SATISFIABLE\nv 1 -2 3 0\n"
+DRAT = b"1 0\n0\n"
+LRAT = b"5 1 0 1 2 0\n6 0 5 3 4 0\n"
+PROOF_BYTES = bytes.fromhex(
+    "06000100 02aa90d494b0b2ddd7c401c1988e93c8eafff366 06000002 9598ae9aa8cbffeb66fe90f49dd093ddcfc4010d".replace(" ", "")
+)
+CADICAL = '#!/bin/sh\nfor proof; do :; done\n[ "$proof" != - ] || proof=/dev/stdout\nprintf "1 0\\n0\\n" > "$proof"\nexit 20\n'
 
 
 def examples(document):
@@ -24,15 +40,61 @@ def examples(document):
             yield command, printed
 
 
+def names():
+    """The programs, as crates.txt has them."""
+    with open("crates.txt", encoding="utf-8") as file:
+        return re.findall(r"^(\w+)_main:", file.read(), re.MULTILINE)
+
+
 def built(folder):
-    """Names the programs that were built in a folder."""
-    mains = "crates/*_main/src/main.rt"
-    listed = subprocess.run(["git", "ls-files", mains], capture_output=True, text=True, check=True)
-    for main in listed.stdout.split():
-        crate = main.split("/")[1]
-        with open(main, encoding="utf-8") as file:
-            name = CALL.search(file.read()).group(1)
-        os.symlink(os.path.abspath(f"crates/{crate}/out/{crate}"), os.path.join(folder, name))
+    """Names the programs that were built, and the tools, in a folder."""
+    for name in names():
+        os.symlink(os.path.abspath(f"crates/{name}_main/out/{name}_main"), os.path.join(folder, name))
+    for tool in TOOLS:
+        os.symlink(os.path.abspath(f"tools/{tool}"), os.path.join(folder, tool))
+
+
+def furnish(room, program):
+    """Writes the files that the calls of a program name."""
+    formula = SATISFIED if program == "model_check" else REFUTED
+    written = {"drat_check": DRAT, "lrat_check": LRAT, "model_check": ANSWER}.get(program, b"")
+    files = {
+        "formula.cnf": formula,
+        "formula.cnf.xz": lzma.compress(formula),
+        "proof.drat": DRAT,
+        "proof.lrat": LRAT,
+        "proof.bytes": PROOF_BYTES,
+        "answer": ANSWER,
+        "cubes.txt": b"1 0\n-1 0\n",
+        **{f"parts/{part}.drat": b"0\n" for part in ("1", "2", "closing")},
+        "bin/written": written,
+        "bin/solver": b'#!/bin/sh\nexec cat "$(dirname "$0")/written"\n',
+        "bin/cadical": CADICAL.encode(),
+    }
+    for name, content in files.items():
+        path = os.path.join(room, name)
+        os.makedirs(os.path.dirname(path), exist_ok=True)
+        with open(path, "wb") as file:
+            file.write(content)
+        os.chmod(path, 0o755)
+
+
+def wrong_calls(program, programs):
+    """The calls of a program's `--help` that don't end well, and how many there are."""
+    said = subprocess.run([os.path.join(programs, program), "--help"], capture_output=True, text=True, check=True).stdout
+    calls = HELP_EXAMPLE.findall(said)
+    wrong = 0
+    for call in calls:
+        with tempfile.TemporaryDirectory() as room:
+            furnish(room, program)
+            path = os.pathsep.join((os.path.join(room, "bin"), os.path.abspath(programs), os.environ["PATH"]))
+            run = subprocess.run(["bash", "-c", call], cwd=room, env={**os.environ, "PATH": path}, capture_output=True, text=True)
+            well = run.returncode == (20 if call.startswith("checked") and "||" not in call else 0)
+            if not well or (run.stderr and "RUST_LOG" not in call):
+                wrong += 1
+                print(f"{program} --help: {call}: status {run.returncode}\n{run.stdout}{run.stderr}", end="")
+    print(f"{program} --help: {len(calls)} calls, {wrong} of them end badly")
+    return wrong or not calls
 
 
 def wrong_examples(document, programs):
@@ -58,6 +120,7 @@ def main(programs, *documents):
             programs = work
             built(programs)
         failed = [document for document in documents if wrong_examples(document, programs)]
+        failed += [program for program in (*names(), *TOOLS) if wrong_calls(program, programs)]
     return 1 if failed else 0
 
 

@@ -13,7 +13,7 @@ What a document can say of files, and how it is written:
     ```rust path                        a quotation: these words are there one after the other
 
 The table of crates has those of `crates.txt`, each with crates that are below it there. The README and FORMATS have
-each program as it says that it is called. Words over which readers of technical English stumble are not used.
+each program as it says that it is called. There is one version. Words over which readers of technical English stumble are not used.
 """
 
 import os
@@ -35,6 +35,7 @@ LAWS = re.compile(r"\b[Ll]aws? (`\w+`(?:(?:,| and) `\w+`)*)")
 CONTRACT = re.compile(r"((?:`[\w:]+`(?:, | and )?)+)(?: of [^:|;]*)?: ((?:`\w+`(?: \([^)]*\))?(?:, | and )?)+)")
 ROW = re.compile(r"^\| `(\w+)` \|.*\|([^|]*)\|$", re.MULTILINE)
 CRATES_PAGE = "docs/reference/ARCHITECTURE.md"
+VERSION_PAGE = "crates/command/src/status.rt"
 PLAIN = {
     "want of memory": "out of memory",
     "is wanting": "is missing, is out of",
@@ -168,6 +169,17 @@ def bad_calls():
             yield f"docs/reference/FORMATS.md: no `usage: {call}`"
 
 
+def bad_versions():
+    version = re.search(r'^const VERSION: &str = "([^ "]*)', text_of(VERSION_PAGE), re.MULTILINE)[1]
+    for path, words in (
+        ("bindings/rust/Cargo.toml", f'version = "{version}"'),
+        ("CHANGELOG.md", f"## {version}"),
+        ("docs/reference/FORMATS.md", f"`NAME {version} ("),
+    ):
+        if words not in text_of(path):
+            yield f"{path}: no {words}, which is the version in {VERSION_PAGE}"
+
+
 def faults(document, known_laws, known_contracts):
     text = text_of(document)
     yield from bad_links(document, text)
@@ -188,7 +200,7 @@ def main():
         for document in documents
         for fault in faults(document, known_laws, known_contracts)
     ]
-    found += [*bad_crates(), *bad_calls()]
+    found += [*bad_crates(), *bad_calls(), *bad_versions()]
     print(*found, sep="\n", end="\n" if found else "")
     return 1 if found else 0
 

@@ -9,7 +9,7 @@ USES = re.compile(r"^use Rattle\.(\w+)\.specs\.(\w+)", re.MULTILINE)
 FUNCTION = re.compile(r"^\s*(?:pub(?:\([a-z]+\))? )?(?:extern \"C\" )?fn (\w+)")
 CLAUSE = re.compile(r"^\s*ensures\*? (\w+) \{")
 RELATION = re.compile(r"^\s*ghost (\w+) =")
-CALL = re.compile(r'^const CALL: &str = "(.*)";$', re.MULTILINE)
+CALL = re.compile(r'^    call: "(.*)",$', re.MULTILINE)
 LAW = re.compile(r"^pub fn (\w+)", re.MULTILINE)
 BARE_LAW = re.compile(r"^pub fn (\w+)\(\)$", re.MULTILINE)
 
@@ -64,7 +64,7 @@ def contracts():
 
 def calls():
     """How each program says that it is called."""
-    return [call for path in listed("crates/*_main/src/main.rt") for call in CALL.findall(text_of(path))]
+    return [call for path in listed("crates/*_main/src/about.rt") for call in CALL.findall(text_of(path))]
 
 
 def crates():
