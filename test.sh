@@ -33,6 +33,6 @@ run() {
 }
 export -f run
 export told
-printf '%s\n' end_to_end refused_growths failing_files drat_fuzz drat_solvers drat_outputs frat bindings lrat_fuzz named_files log_lines \
-  examples cubes solver_runs install memory model_check |
+printf '%s\n' slurm sessions cubes end_to_end refused_growths failing_files drat_fuzz drat_solvers drat_outputs frat large_formulas bindings \
+  lrat_fuzz named_files log_lines examples checked definitions proof_picture solver_runs install release portable memory model_check |
   xargs -P "$(nproc)" -I SCRIPT bash -c 'run SCRIPT'
