@@ -11,8 +11,8 @@ tests/documents.sh
 tests/layout.sh
 tests/wrong_bodies.sh --records
 
-# `rt ci` leaves no library to build with, and the one for C stands on nine crates. So they are proved in a copy meanwhile, by
-# one job; `rt lib` then takes them from there.
+# `rt ci` leaves no library to build with, and the one for C stands on ten crates. So they are proved in a copy meanwhile, by
+# one job; what that leaves is taken over once the gate has ended.
 mkdir "$told/copy"
 tar -c --exclude=./.git --exclude=out --exclude=target . | tar -x -C "$told/copy"
 setsid nice bash -c 'cd "$1/crates/lrat_c" && rt lib --jobs 1' library "$told/copy" > "$told/library" 2>&1 &
@@ -22,6 +22,10 @@ rt ci 2>&1 | tee "$told/gate"
 tests/weak_edits.sh "$told/gate"
 wait "$library" || echo "the library for C was not built beside the gate: $(tail -n 3 "$told/library")"
 library=
+for kept in "$told"/copy/crates/*/out/; do
+  crate=${kept%/out/}
+  [[ ! -d $kept ]] || cp -a "$kept." "crates/${crate##*/}/out/"
+done
 
 # run SCRIPT: its lines and its name, together
 run() {
