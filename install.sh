@@ -54,7 +54,7 @@ tools=(checked cubes proof_picture sessions)
 built() {
   local program=$top/crates/$1/out/$1
   if [[ $mode == build ]]; then
-    (cd "$top/crates/$1" && "${RT:-rt}" run -- --version > "$work/version" 2> "$work/said" < /dev/null) || {
+    "$top/tools/prove_and_run" "$1" --version > "$work/version" 2> "$work/said" < /dev/null || {
       cat "$work/said" >&2
       return 1
     }
@@ -104,14 +104,14 @@ includedir=\${prefix}/include
 libdir=\${prefix}/lib
 
 Name: cefindrato
-Description: The proved checker of LRAT proofs
+Description: Proved checkers of proofs and answers of SAT solvers
 Version: $version
 Cflags: -I\${includedir}
 Libs: -L\${libdir} -lcefindrato
 END
-put 644 "$top/bindings/c/cefindrato.h" include/cefindrato.h
-put 644 "$top/bindings/cpp/cefindrato.hpp" include/cefindrato.hpp
-put 644 "$top/bindings/cpp/cefindrato_running.hpp" include/cefindrato_running.hpp
+for header in "$top"/bindings/{c,cpp}/*.h*; do
+  put 644 "$header" "include/${header##*/}"
+done
 put 644 "$work/libcefindrato.a" lib/libcefindrato.a
 put 644 "$work/libcefindrato.so" "lib/libcefindrato.so.$version"
 for name in libcefindrato.so.0 libcefindrato.so; do

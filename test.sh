@@ -11,32 +11,62 @@ tests/documents.sh
 tests/layout.sh
 tests/wrong_bodies.sh --records
 
-# `rt ci` leaves no library to build with, and the one for C stands on ten crates. So they are proved in a copy meanwhile, by
-# one job; what that leaves is taken over once the gate has ended.
+# `rt ci` leaves no library to build with, and no module of a program. So the library for C and the module of one program are made in
+# a copy meanwhile, by one job, over the libraries that an earlier run left here; what that leaves is taken over once the gate has
+# ended.
 mkdir "$told/copy"
 tar -c --exclude=./.git --exclude=out --exclude=target . | tar -x -C "$told/copy"
-setsid nice bash -c 'cd "$1/crates/lrat_c" && rt lib --jobs 1' library "$told/copy" > "$told/library" 2>&1 &
+find crates -mindepth 3 -maxdepth 3 -path '*/out/rlib' -exec cp -a --parents {} "$told/copy" \;
+setsid nice bash -c '
+  set -e
+  cd "$1"
+  (cd "$(dirname "$(dirname "$(bindings/build.sh --archive)")")" && rt lib --jobs 1)
+  tools/portable.sh --module lrat_check
+' library "$told/copy" > "$told/library" 2>&1 &
 library=$!
 
 rt ci 2>&1 | tee "$told/gate"
 tests/weak_edits.sh "$told/gate"
-wait "$library" || echo "the library for C was not built beside the gate: $(tail -n 3 "$told/library")"
+wait "$library" || echo "not all was built beside the gate: $(tail -n 3 "$told/library")"
 library=
 for kept in "$told"/copy/crates/*/out/; do
   crate=${kept%/out/}
-  [[ ! -d $kept ]] || cp -a "$kept." "crates/${crate##*/}/out/"
+  crate=${crate##*/}
+  if [[ ! -d $kept ]]; then
+    continue
+  fi
+  if [[ $crate != *_main ]]; then
+    mkdir -p "crates/$crate/out"
+    for made in "$kept"*; do
+      rm -rf "crates/$crate/out/${made##*/}"
+    done
+    cp -a "$kept." "crates/$crate/out/"
+  elif [[ -f $kept$crate.bc ]]; then
+    # (the program is the gate's; a gate that took it from an earlier run has left no object of it)
+    cp "$kept$crate".bc* "crates/$crate/out/"
+    [[ -f crates/$crate/out/$crate.o ]] || cp "$kept$crate.o" "crates/$crate/out/"
+  fi
 done
 
-# run SCRIPT: its lines and its name, together
+# run SCRIPT: its lines and its name, together; a name that is left in `failed` if it failed
 run() {
   local status=0
   "tests/$1.sh" > "$told/$1" 2>&1 || status=$?
   cat "$told/$1"
   echo "tests/$1.sh ended with status $status"
-  return "$status"
+  [[ $status == 0 ]] || echo "$1" >> "$told/failed"
 }
 export -f run
 export told
-printf '%s\n' slurm sessions cubes end_to_end refused_growths failing_files drat_fuzz drat_solvers drat_outputs frat large_formulas bindings \
-  lrat_fuzz named_files log_lines examples checked definitions proof_picture solver_runs install release portable memory model_check |
+printf '%s\n' portable slurm sessions cubes end_to_end refused_growths failing_files drat_fuzz drat_solvers drat_outputs frat large_formulas bindings \
+  lrat_fuzz named_files log_lines examples checked definitions proof_picture solver_runs install prove_and_run release memory model_check |
   xargs -P "$(nproc)" -I SCRIPT bash -c 'run SCRIPT'
+
+# What failed is told once more at the end, where it is looked for.
+if [[ -s $told/failed ]]; then
+  while IFS= read -r name; do
+    echo "tests/$name.sh failed; its last lines:"
+    tail -n 30 "$told/$name"
+  done < "$told/failed"
+  exit 1
+fi

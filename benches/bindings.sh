@@ -3,7 +3,7 @@
 #
 #   benches/bindings.sh CNF LRAT
 #
-# Both must be built: `rt run` in crates/lrat_check_main, and `rt lib` in crates/lrat_c. It needs cc and valgrind.
+# Both must be built: `rt run` in crates/lrat_check_main, and `rt lib` in the crate of the library. It needs cc and valgrind.
 set -euo pipefail
 
 top=$(cd "$(dirname "$0")/.." && pwd)

@@ -2,21 +2,27 @@
 # Builds the library for other languages: libcefindrato.a and libcefindrato.so in a folder.
 #
 #   bindings/build.sh [--built] FOLDER
+#   bindings/build.sh --archive          where `rt lib` leaves it
 #
-# `rt lib` proves and compiles it; with --built what it left in crates/lrat_c/out is taken, if it is there. What that needs of
-# the toolchain's two archives is linked into it, and no name but those of the header is left visible, so that it meets no other
-# library's. RT may name another `rt`; it needs cc and binutils.
+# `rt lib` proves and compiles it, in the crate that crates.txt calls a staticlib; with --built what it left there is taken, if it is
+# there. What that needs of the toolchain's two archives is linked into it, and no name but those of the header is left visible, so
+# that it meets no other library's. RT may name another `rt`; it needs cc and binutils.
 set -euo pipefail
 
 top=$(cd "$(dirname "$0")/.." && pwd)
-archive=$top/crates/lrat_c/out/liblrat_c.a
+crate=$(sed -n 's/^\([a-z0-9_]*\) staticlib:.*/\1/p' "$top/crates.txt")
+archive=$top/crates/$crate/out/lib$crate.a
+if [[ $* == --archive ]]; then
+  echo "$archive"
+  exit
+fi
 is_built=
 if [[ ${1:-} == --built ]]; then
   is_built=1
   shift
 fi
 if (($# != 1)); then
-  echo "usage: bindings/build.sh [--built] FOLDER" >&2
+  echo "usage: bindings/build.sh [--built] FOLDER, or --archive" >&2
   exit 2
 fi
 if ! rt=$(command -v "${RT:-rt}"); then
@@ -33,7 +39,7 @@ mkdir -p "${archive%/*}"
 exec 3> "${archive%/*}/building"
 flock 3
 if [[ ! $is_built || ! -f $archive ]]; then
-  (cd "$top/crates/lrat_c" && "${RT:-rt}" lib > "$work/said" 2>&1 3>&-) || {
+  (cd "$top/crates/$crate" && "${RT:-rt}" lib > "$work/said" 2>&1 3>&-) || {
     cat "$work/said" >&2
     exit 1
   }

@@ -1,8 +1,10 @@
 #!/usr/bin/env bash
-# Builds the library for other languages, and calls it from C, C++, Rust and Python, where the tools are there.
+# Builds the library for other languages, and calls it from C, C++, Rust and Python, where the tools are there: by the tests of each,
+# and from projects that stand outside the repository.
 set -euo pipefail
 
 top=$(cd "$(dirname "$0")/.." && pwd)
+own=$top/tests/bindings
 work=$(mktemp -d)
 trap 'rm -rf "$work"' EXIT
 cnf=$top/tests/data/board6.cnf
@@ -15,43 +17,118 @@ has() {
   }
 }
 
-"$top/bindings/build.sh" "$work"
-library=$work/libcefindrato.a
-header=$top/bindings/c
+# quiet COMMAND..: what it says is shown if it fails
+quiet() {
+  "$@" > "$work/said" 2>&1 || {
+    cat "$work/said"
+    return 1
+  }
+}
+
+# one version everywhere
+versions=$(
+  sed -n 's/^#define CEFINDRATO_VERSION "\(.*\)"$/\1/p' "$top/bindings/c/cefindrato.h"
+  sed -n 's/^version = "\(.*\)"$/\1/p' "$top/bindings/rust/Cargo.toml" "$top/bindings/python/pyproject.toml"
+  sed -n 's/^__version__ = "\(.*\)"$/\1/p' "$top/bindings/python/cefindrato/__init__.py"
+)
+if [[ $(sort -u <<< "$versions" | wc -l) != 1 || $(wc -l <<< "$versions") != 4 ]]; then
+  echo "versions of header, Rust and Python: $versions"
+  exit 1
+fi
+version=${versions%%$'\n'*}
+if ! grep -q "^const VERSION: &str = \"$version " "$top/crates/command/src/status.rt"; then
+  echo "the programs have another version than $version"
+  exit 1
+fi
+
+# a folder with what is installed of the library
+prefix=$work/prefix
+mkdir -p "$prefix/lib/pkgconfig" "$prefix/include"
+"$top/bindings/build.sh" "$prefix/lib"
+cp "$top"/bindings/c/*.h "$top"/bindings/cpp/*.hpp "$prefix/include/"
+cat > "$prefix/lib/pkgconfig/cefindrato.pc" << END
+libdir=$prefix/lib
+Name: cefindrato
+Description: Proved checkers
+Version: $version
+Cflags: -I$prefix/include
+Libs: -L\${libdir} -lcefindrato
+END
+export PKG_CONFIG_PATH=$prefix/lib/pkgconfig
+library=$prefix/lib/libcefindrato.a
+header=$prefix/include
+
 # other libraries of the toolchain define the names that are hidden here
-for names in "nm -g $library" "nm -D $work/libcefindrato.so"; do
+wanted='cefindrato_drat_check cefindrato_lrat_check cefindrato_model_check cefindrato_version '
+for names in "nm -g $library" "nm -D $prefix/lib/libcefindrato.so"; do
   exported=$($names --defined-only | awk 'NF == 3 { print $3 }' | sort | tr '\n' ' ')
-  if [[ $exported != 'cefindrato_lrat_check ' ]]; then
+  if [[ $exported != "$wanted" ]]; then
     echo "visible by $names: $exported"
     exit 1
   fi
 done
 
-cc -O2 -Wall -Wextra -Werror -pthread -I"$header" -o "$work/c" "$top/tests/bindings/test.c" "$library"
+cc -std=c99 -O2 -Wall -Wextra -Werror -pthread -I"$header" -o "$work/c" "$own/test.c" "$library"
 "$work/c" "$cnf" "$proof"
-cc -g -fsanitize=address -pthread -I"$header" -o "$work/checked" "$top/tests/bindings/test.c" "$library"
+cc -g -fsanitize=address,undefined -fno-sanitize-recover=all -pthread -I"$header" -o "$work/checked" "$own/test.c" "$library"
 "$work/checked" "$cnf" "$proof"
+cc -std=c99 -O2 -Wall -Wextra -Werror -I"$header" -Wl,--wrap=malloc,--wrap=realloc -o "$work/memory" "$own/memory.c" "$library"
+"$work/memory"
 if has valgrind; then
   valgrind -q --leak-check=full --error-exitcode=9 "$work/c" "$cnf" "$proof"
+  valgrind -q --leak-check=full --error-exitcode=9 "$work/memory"
   valgrind -q --tool=helgrind --error-exitcode=9 "$work/c" "$cnf" "$proof"
 fi
 if has c++; then
-  c++ -O2 -Wall -Werror -pthread -x c++ -I"$header" -o "$work/c_as_cpp" "$top/tests/bindings/test.c" -x none "$library"
+  c++ -O2 -Wall -Werror -pthread -x c++ -I"$header" -o "$work/c_as_cpp" "$own/test.c" -x none "$library"
   "$work/c_as_cpp" "$cnf" "$proof"
-  c++ -std=c++17 -g -fsanitize=address -Wall -Wextra -Werror -pthread -I"$header" -I"$top/bindings/cpp" -o "$work/cpp" \
-    "$top/tests/bindings/test.cpp" "$library"
+  c++ -std=c++17 -g -fsanitize=address,undefined -fno-sanitize-recover=all -Wall -Wextra -Werror -pthread -I"$header" -o "$work/cpp" \
+    "$own/test.cpp" "$library"
   "$work/cpp" "$cnf" "$proof"
 fi
-if has python3; then
-  CEFINDRATO_LIBRARY=$work/libcefindrato.so PYTHONPATH=$top/bindings/python \
-    python3 -B "$top/tests/bindings/test.py" "$cnf" "$proof"
+
+# projects outside the repository: C by pkg-config, and by the static library alone
+cd "$work"
+if has pkg-config; then
+  eval "flags=($(pkg-config --cflags cefindrato)) libraries=($(pkg-config --libs cefindrato))"
+  cc "${flags[@]}" -o project "$own/project.c" "${libraries[@]}"
+  ln -s libcefindrato.so "$prefix/lib/libcefindrato.so.0"
+  LD_LIBRARY_PATH=$prefix/lib ./project
+  cc "${flags[@]}" -o project_alone "$own/project.c" "$library"
+  ./project_alone
 fi
-if has cargo; then
-  # the linker finds libcefindrato.so, and the program one of the name that the library gives itself
-  ln -s libcefindrato.so "$work/libcefindrato.so.0"
-  CEFINDRATO_LIBRARY_FOLDER=$work LD_LIBRARY_PATH=$work \
-    cargo test -q --offline --manifest-path "$top/bindings/rust/Cargo.toml" --target-dir "$work/rust" > "$work/cargo" 2>&1 || {
-    cat "$work/cargo"
+
+# Rust: the crate's own tests in a copy, and a project that names it by its path, which runs without the library's folder
+if has cargo && has pkg-config; then
+  cp -R "$top/bindings/rust" "$work/crate"
+  export CARGO_TARGET_DIR=$work/target CARGO_NET_OFFLINE=true
+  quiet cargo test -q --manifest-path "$work/crate/Cargo.toml"
+  mkdir -p "$work/rust_project/src"
+  printf '[package]\nname = "project"\nversion = "0.1.0"\nedition = "2021"\n[dependencies]\ncefindrato = { path = "../crate" }\n' \
+    > "$work/rust_project/Cargo.toml"
+  cp "$own/project.rs" "$work/rust_project/src/main.rs"
+  quiet cargo build -q --manifest-path "$work/rust_project/Cargo.toml"
+  "$work/target/debug/project"
+  # by a folder, with the shared library; and what is said where there is none
+  CEFINDRATO_LIBRARY_FOLDER=$prefix/lib CEFINDRATO_SHARED=1 quiet cargo build -q --manifest-path "$work/rust_project/Cargo.toml"
+  LD_LIBRARY_PATH=$prefix/lib "$work/target/debug/project"
+  if PKG_CONFIG_PATH=$work/none PKG_CONFIG_LIBDIR=$work/none cargo build -q --manifest-path "$work/rust_project/Cargo.toml" > said 2>&1 ||
+    ! grep -q 'libcefindrato is not found: install it' said; then
+    echo "without a library: $(cat said)"
     exit 1
-  }
+  fi
+fi
+
+# Python: the package as it stands, and as pip installs it in an environment of its own, without a network
+if has python3; then
+  CEFINDRATO_LIBRARY=$prefix/lib/libcefindrato.so PYTHONPATH=$top/bindings/python PYTHONDONTWRITEBYTECODE=1 \
+    python3 "$own/test.py" "$cnf" "$proof"
+  if has pkg-config && python3 -m venv "$work/venv" > "$work/said" 2>&1; then
+    cp -R "$top/bindings/python" "$work/package"
+    quiet "$work/venv/bin/pip" install -q --no-index --no-build-isolation --disable-pip-version-check "$work/package"
+    env -u PKG_CONFIG_PATH "$work/venv/bin/python" "$own/test.py" "$cnf" "$proof"
+    quiet "$work/venv/bin/pip" uninstall -q -y cefindrato
+  else
+    echo 'no venv here: not tried'
+  fi
 fi

@@ -54,12 +54,31 @@ clauses() {
   grep -v '^[pc]' "$1" | sort
 }
 
+# counts: what the lines and the core that were written have
+counts() {
+  awk '
+    $2 != "d" {
+      lemmas++
+      redundant = 0
+      for (i = 2; $i != "0"; i++);
+      for (i++; $i != "0"; i++) {
+        hints++
+        if ($i < 0) redundant = 1
+      }
+      all_redundant += redundant
+    }
+    END { printf "c lemmas %d\nc rat_lemmas %d\nc hints %d\n", lemmas, all_redundant, hints }
+  ' lrat
+  echo "c core_clauses $(clauses core | wc -l)"
+}
+
 # outputs NAME CNF PROOF: both outputs, and each alone, say what they should
 outputs() {
   local name=$1 said
   rm -f lrat core lrat.alone core.alone
-  said=$("$check" "$2" "$3" --lrat lrat --core core 2> err) || true
+  said=$("$check" "$2" "$3" --lrat lrat --core core --stats 2> err) || true
   [[ $said == 's VERIFIED UNSAT' ]] || fault "$name: $said $(cat err)"
+  [[ $(grep -Ev '^c (steps|seconds|memory_kb) ' err) == "$(counts)" ]] || fault "$name: counted $(cat err), and not $(counts)"
   said=$("$lrat_check" "$2" lrat 2> err) || true
   [[ $said == 's VERIFIED UNSAT' ]] || fault "$name, its lines: $said $(cat err)"
   [[ -z $(comm -13 <(clauses "$2") <(clauses core)) ]] || fault "$name: the core has clauses of its own"
@@ -86,11 +105,26 @@ if command -v cadical > where; then
 fi
 for holes in 6 9; do
   formula pigeons "$holes" > pigeons.cnf
-  for family in extended swaps; do
+  for family in extended swaps exchanges; do
     formula "$family" "$holes" > pigeons.drat
     outputs "$family $holes" pigeons.cnf pigeons.drat
   done
 done
+formula pairs 4 > pairs.cnf
+formula pair_exchanges 4 > pairs.dpr
+outputs 'pair_exchanges 4' pairs.cnf pairs.dpr
+
+# an interrupt leaves a beginning of what is written, here nothing; a beginning of the lines is no proof, and one of the
+# clauses is not what its header says
+timeout -s INT 0.5 "$check" f - --lrat l --core c < <(sleep 1) > out 2> err || true
+empty l c
+"$check" f p --lrat l --core c > out
+head -n -1 l > begun.lines
+head -n -1 c > begun.clauses
+said=$("$lrat_check" f begun.lines) || true
+[[ $said == 's NOT VERIFIED' ]] || fault "a beginning of the lines: $said"
+"$check" begun.clauses p > out 2> err || true
+grep -q '^warning: the header of begun.clauses is ' err || fault "a beginning of the clauses: $(cat out err)"
 
 # nothing is written where the proof shows nothing, or is refused before a line is made
 printf '1 x 0\n' > malformed
@@ -136,7 +170,7 @@ wants 1 '' $'error writing: No space left on device (os error 28)\nin /dev/full'
 # calls that can't be read, and others of the same words
 while IFS=: read -r arguments why; do
   # shellcheck disable=SC2086
-  wants 2 '' "$why"$'\nusage: drat_check CNF PROOF [--drat] [--frat] [--lrat FILE] [--core FILE]\ndrat_check --help says more' $arguments
+  wants 2 '' "$why"$'\nusage: drat_check CNF PROOF [--drat] [--frat] [--lpr] [--lrat FILE] [--core FILE]\ndrat_check --help says more' $arguments
 done << 'END'
 :no file is named for CNF
 f:no file is named for PROOF
@@ -146,7 +180,9 @@ f p --lrat l --lrat c:--lrat stands twice
 f p --lrat=l --lrat c:--lrat stands twice
 f p --other l:there is no option --other
 f p --lrat l --core c d:a file too many: d
-f p --frat --drat:--drat and --frat can't both stand
+f p --frat --drat:--drat, --frat and --lpr exclude each other
+f p --lpr --drat:--drat, --frat and --lpr exclude each other
+f p --quiet --verbose:--quiet and --verbose can't both stand
 f p --drat=1:--drat takes no value
 f p --example:--example stands alone
 --example --drat:--example stands alone

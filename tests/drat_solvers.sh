@@ -1,6 +1,6 @@
 #!/usr/bin/env bash
-# Solvers that write DRAT, and `drat_check` on what they write: text, binary, and by a pipe; and proofs with RAT steps. Each proof is
-# damaged, too: `tests/drat/refusal.py` then says of each refusal whether it is right.
+# Solvers that write DRAT, and `drat_check` on what they write: text, binary, and by a pipe; and proofs with RAT steps and with
+# witnesses. Each proof is damaged, too: `tests/drat/refusal.py` then says of each refusal whether it is right.
 # It uses the solvers that are there (Debian: cadical picosat cryptominisat), and says which are not.
 #
 # The program must be built: `rt ci` does it, or `rt run` in its folder.
@@ -93,4 +93,18 @@ for holes in 6 9; do
     verified "$family $holes" "$work/rat.cnf" "$work/proof"
   done
 done
+formula pigeons 9 > "$work/pr.cnf"
+formula exchanges 9 > "$work/proof"
+verified "exchanges 9" "$work/pr.cnf" "$work/proof"
+formula pairs 4 > "$work/pr.cnf"
+formula pair_exchanges 4 > "$work/proof"
+verified "pair_exchanges 4" "$work/pr.cnf" "$work/proof"
+if has cadical; then
+  formula board 8 > "$work/board.cnf"
+  formula turned_board 8 > "$work/turned.cnf"
+  solved "cadical on a board" cadical -q --no-binary "$work/turned.cnf" "$work/rest"
+  formula turns 8 > "$work/proof"
+  cat "$work/rest" >> "$work/proof"
+  verified "turns 8" "$work/board.cnf" "$work/proof"
+fi
 exit "$wrong"

@@ -223,6 +223,8 @@ operands:
   LRAT          the lines, LRAT text; - stands for standard input
 
 options:
+  --quiet       says nothing of how far a long run has come, on a terminal neither
+  --verbose     says twice a second on standard error how far a run has come, as it does on a terminal
   --example     checks a small fixed example, in place of files
   --help        says how the program is called
   --version     says of which version it is
@@ -232,6 +234,9 @@ exit status:
   1             a file is malformed or refused, or a read, a write or an allocation failed: nothing is claimed, and standard error says why
   2             wrong arguments, or a file that can'"'"'t be opened
   3             s NOT VERIFIED: the lines end before they show that
+
+environment:
+  RUST_LOG      what is logged to standard error, as info; without it nothing is
 
 examples:
   checks lines of hints:

@@ -1,5 +1,6 @@
 #!/usr/bin/env bash
-# Runs programs with `RUST_LOG`: what it asks for is logged to standard error, and the verdict stays alone on its line.
+# What programs say of a run on standard error, while it goes on and at its end: what `RUST_LOG` asks for is logged, how far
+# the run has come is told as `--quiet`, `--verbose` and a terminal decide, and `--stats` counts. The verdict stays alone on its line.
 #
 # The programs must be built: `rt ci` does it, or `rt run` in their folders.
 set -euo pipefail
@@ -8,7 +9,7 @@ top=$(cd "$(dirname "$0")/.." && pwd)
 data=$top/tests/data
 work=$(mktemp -d)
 trap 'rm -rf "$work"' EXIT
-for program in varisat_check drat_check lrat_check; do
+for program in varisat_check drat_check lrat_check hint_check; do
   if [[ ! -x $top/crates/${program}_main/out/${program}_main ]]; then
     echo "not built: $program"
     exit 1
@@ -53,17 +54,121 @@ logs off off "${grid[@]}"
 logs of_the_checker varisat_checker=info "${grid[@]}" "$parsed"
 logs of_another_crate another=info "${grid[@]}"
 
-# 2^20 steps or lines that do nothing, and then a proof. The steps take 6,291,456 bytes, and what is read ahead is less
-# than 64 KB. Going back over 2^20 steps leaves one, the first; the clause that was added last is the one that is checked.
-echo '1 2 0 1 -2 0 -1 2 0 -1 -2 0' > "$work/cnf"
-{ head -n 1048576 < <(yes 'd 5 0'); echo '1 0'; } > "$work/drat"
-{ head -n 1048576 < <(yes '4 d 0'); printf '5 1 0 1 2 0\n6 0 5 3 4 0\n'; } > "$work/lrat"
-long=('s VERIFIED UNSAT' drat_check "$work"/{cnf,drat})
-logs steps_unset unset "${long[@]}"
-logs steps info "${long[@]}" '1048576 steps and 6[23][0-9]{5} bytes read' '1 steps left, 1 clauses checked'
-logs steps_of_another_crate lrat_check=info "${long[@]}"
-lines=('s VERIFIED UNSAT' lrat_check "$work"/{cnf,lrat})
-logs lines_unset unset "${lines[@]}"
-logs lines info "${lines[@]}" '1048576 lines read'
-logs lines_of_another_crate drat_check=info "${lines[@]}"
+printf 'p cnf 2 4\n1 2 0\n1 -2 0\n-1 2 0\n-1 -2 0\n' > "$work/cnf"
+printf '5 1 0 1 2 0\n6 0 5 3 4 0\n' > "$work/lrat"
+printf 'd 1 2 3 0\n1 0\n' > "$work/drat"
+
+# slow FILE: its bytes, the last one after more than twice the time from one report to the next
+slow() {
+  head -c -1 "$1"
+  sleep 1.1
+  tail -c 1 "$1"
+}
+
+# tells NAME SETTING LINE VERDICT PROGRAM CNF PROOF OPTION..: a run over a slow proof has this verdict, and tells once or more
+# how far it has come, in lines of this pattern of grep; an empty one: it tells nothing
+tells() {
+  local name=$1 program=$top/crates/$5_main/out/$5_main status=0
+  slow "$7" | env "RUST_LOG=$2" "$program" "${@:8}" "$6" - > "$work/out" 2> "$work/err" || status=$?
+  if [[ $status != 0 || $(cat "$work/out") != "$4" ]]; then
+    echo "WRONG $name: status $status, output '$(cat "$work/out")'"
+    wrong=1
+  elif [[ -z $3 && -s $work/err ]] || [[ -n $3 ]] && { [[ ! -s $work/err ]] || grep -Evqx "$3" "$work/err"; }; then
+    echo "WRONG $name: errors '$(cat "$work/err")'"
+    wrong=1
+  else
+    echo "ok    $name"
+  fi
+}
+
+read='proof: 0\.0 MB read'
+tells drat_unasked off '' 's VERIFIED UNSAT' drat_check "$work"/{cnf,drat}
+tells drat_quiet off '' 's VERIFIED UNSAT' drat_check "$work"/{cnf,drat} --quiet
+tells drat_verbose off "$read" 's VERIFIED UNSAT' drat_check "$work"/{cnf,drat} --verbose
+tells drat_logged info "\[INFO +drat_check\] $read" 's VERIFIED UNSAT' drat_check "$work"/{cnf,drat} --quiet
+tells drat_logged_by_name drat_check=info "\[INFO +drat_check\] $read" 's VERIFIED UNSAT' drat_check "$work"/{cnf,drat}
+tells drat_of_another_program lrat_check=info '' 's VERIFIED UNSAT' drat_check "$work"/{cnf,drat}
+tells lrat_unasked off '' 's VERIFIED UNSAT' lrat_check "$work"/{cnf,lrat}
+tells lrat_verbose off "$read" 's VERIFIED UNSAT' lrat_check "$work"/{cnf,lrat} --verbose
+tells lrat_logged info "\[INFO +lrat_check\] $read" 's VERIFIED UNSAT' lrat_check "$work"/{cnf,lrat}
+tells hint_verbose off "$read" 's VERIFIED UNSAT' hint_check "$work"/{cnf,lrat} --verbose
+tells varisat_verbose off "$read" 's UNSATISFIABLE' varisat_check "$data"/par10.{cnf,whole.proof} --verbose
+
+# on a terminal one line is written anew, and taken back before the verdict's
+back=$'\r\x1b[K'
+if ! command -v script > "$work/where"; then
+  echo 'script is not there: nothing is tried on a terminal'
+else
+  for program in drat_check lrat_check hint_check; do
+    for option in '' --quiet --verbose; do
+      name="$program on a terminal $option"
+      proof=$work/${program%_check}
+      [[ $program != hint_check ]] || proof=$work/lrat
+      mkfifo "$work/pipe"
+      slow "$proof" > "$work/pipe" &
+      script -qec "$top/crates/${program}_main/out/${program}_main $option $work/cnf $work/pipe" /dev/null > "$work/out" < /dev/null || true
+      wait
+      rm "$work/pipe"
+      shown=$(tr -d '\n' < "$work/out")
+      case $option in
+        '') pattern="(${back//[/\\[}proof: 0\.0 MB read)+${back//[/\\[}s VERIFIED UNSAT"$'\r' ;;
+        --quiet) pattern=$'s VERIFIED UNSAT\r' ;;
+        --verbose) pattern=$'(proof: 0\\.0 MB read\r)+s VERIFIED UNSAT\r' ;;
+      esac
+      if grep -Eqx "$pattern" <<< "$shown"; then
+        echo "ok    $name"
+      else
+        printf 'WRONG %s: %q\n' "$name" "$shown"
+        wrong=1
+      fi
+    done
+  done
+fi
+
+# the second phase of drat_check, over a proof that takes longer than half a second
+if command -v cadical > "$work/where"; then
+  python3 -B "$top/tests/drat/formulas.py" pigeons 8 > "$work/long.cnf"
+  cadical -q "$work/long.cnf" "$work/long.drat" > "$work/said" 2>&1 || true
+  "$top/crates/drat_check_main/out/drat_check_main" --verbose "$work"/long.{cnf,drat} > "$work/out" 2> "$work/err" || true
+  if [[ $(cat "$work/out") == 's VERIFIED UNSAT' ]] \
+    && grep -Eqx 'proof: [0-9]{1,2} % of [0-9]+ steps gone over backward, [0-9]+ checked' "$work/err" \
+    && ! grep -Evx 'proof: [0-9]+ % of [0-9]+ steps gone over backward, [0-9]+ checked|proof: [0-9.]+ of [0-9.]+ MB read, [0-9]+ %' "$work/err"; then
+    echo 'ok    long'
+  else
+    echo "WRONG long: output '$(cat "$work/out")', errors '$(cat "$work/err")'"
+    wrong=1
+  fi
+fi
+
+# counts NAME PROGRAM CNF PROOF VERDICT LINE..: with --stats these lines come on standard error, which are patterns of grep
+counts() {
+  local name=$1 program=$top/crates/$2_main/out/$2_main line
+  "$program" --stats "$3" "$4" > "$work/out" 2> "$work/err" || true
+  mapfile -t said < "$work/err"
+  if [[ $(cat "$work/out") != "$5" || ${#said[@]} != $(($# - 5)) ]]; then
+    echo "WRONG $name: output '$(cat "$work/out")', errors '$(cat "$work/err")'"
+    wrong=1
+    return
+  fi
+  for line in "${said[@]}"; do
+    if ! grep -Eqx "$6" <<< "$line"; then
+      echo "WRONG $name: '$line' is not '$6'"
+      wrong=1
+    fi
+    set -- "${@:1:5}" "${@:7}"
+  done
+  echo "ok    $name"
+}
+
+# 1 follows from two of the clauses, and the other two are against each other with it.
+cost=('c seconds [0-9]+\.[0-9]{3}' 'c memory_kb [1-9][0-9]+')
+counts stats drat_check "$work"/{cnf,drat} 's VERIFIED UNSAT' 'c steps 2' 'c lemmas 2' 'c rat_lemmas 0' 'c hints 5' \
+  'c core_clauses 4' "${cost[@]}"
+printf 'd 1 2 3 0\n' > "$work/open"
+counts stats_open drat_check "$work"/{cnf,open} 's NOT VERIFIED' 'c steps 1' 'c lemmas 0' 'c rat_lemmas 0' 'c hints 0' 'c core_clauses 0' \
+  "${cost[@]}"
+printf 'd 1 2 3 0\n1 x 0\n' > "$work/malformed"
+counts stats_malformed drat_check "$work"/{cnf,malformed} '' 'proof: step 2: malformed' "in $work/malformed" 'c steps 1' 'c lemmas 0' \
+  'c rat_lemmas 0' 'c hints 0' 'c core_clauses 0' "${cost[@]}"
+counts stats_lrat lrat_check "$work"/{cnf,lrat} 's VERIFIED UNSAT' "${cost[@]}"
 exit "$wrong"

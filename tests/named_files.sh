@@ -197,6 +197,16 @@ for program in "$check" "$hint_check" "$lrat_check" "$convert" "$drat_check" "$m
   done
 done
 
+# what nobody reads on, as behind head
+unread() {
+  local status=0
+  { sleep 0.1 && "$@"; } | true || status=${PIPESTATUS[0]}
+  return "$status"
+}
+for option in --help --version; do
+  wants 0 '' '' unread "$lrat_check" "$option"
+done
+
 # each file is the one that its name says: of two that are read and two that are written none is taken for another, and they are
 # opened before anything is made
 "$drat_check" f d --lrat lines --core kept > out

@@ -4,8 +4,9 @@
 #
 #   tests/portable.sh [--pictures FOLDER] [NAME..]
 #
-# NAME is `lrat_check` if none is named. The program and its module must be there, as `tools/portable.sh OUT NAME` leaves them. It uses
-# what is there of node, gcc, clang, tcc, qemu-aarch64 and chromium, and says what is not. FOLDER gets pictures of the page.
+# NAME is `lrat_check` if none is named. The program must be built, and its module be beside it, as `tools/portable.sh --module NAME`
+# leaves it. It uses what is there of node, gcc, clang, tcc, qemu-aarch64 and chromium, and says what is not. FOLDER gets pictures of
+# the page.
 set -euo pipefail
 
 top=$(cd "$(dirname "$0")/.." && pwd)
@@ -30,14 +31,42 @@ has() {
   }
 }
 
-for name in "${names[@]}"; do
-  if [[ ! -f $top/crates/${name}_main/out/${name}_main.bc ]]; then
-    echo "no module of $name is kept: not tried (tools/portable.sh makes it)"
-    exit
+# same WHAT WANTED FOUND
+same() {
+  if [[ $2 != "$3" ]]; then
+    printf '%s: not\n%s\nbut\n%s\n' "$1" "$2" "$3"
+    wrong=1
   fi
-done
+}
+
+# Where wasm2c and the compiler for aarch64 are missing, that is said, and the other forms are made
 out=$work/forms
+mkdir "$work/bin"
+ln -s /usr/bin/* "$work/bin/"
+ln -sf /usr/local/bin/* "$work/bin/"
+rm -f "$work"/bin/{wasm2c,aarch64-linux-gnu-gcc}
+PATH=$work/bin "$top/tools/portable.sh" --built "$work/few" "${names[@]}" > "$work/missing" 2>&1 &
+few=$!
 "$top/tools/portable.sh" --built "$out" "${names[@]}"
+wait "$few" || wrong=1
+same 'without two compilers' 'wasm2c is not installed (Debian: wabt): no C files
+aarch64-linux-gnu-gcc is not installed (Debian: gcc-aarch64-linux-gnu): no programs for aarch64' "$(cat "$work/missing")"
+same 'the other forms' "$(cd "$out" && sha256sum -- *.wasm cefindrato.* | sort)" "$(cd "$work/few" && sha256sum -- * | sort)"
+
+# A module that does not give the program is refused, as is a program without one
+name=${names[0]}
+built=crates/${name}_main/out/${name}_main
+mkdir -p "$work/tree/${built%/*}"
+cp -R "$top/tools" "$work/tree/"
+cp "$top/$built"{,.bc,.bc.words} "$work/tree/${built%/*}/"
+echo >> "$work/tree/$built"
+for change in 'another program' 'no module'; do
+  status=0
+  said=$("$work/tree/tools/portable.sh" --built "$work/none" "$name" 2>&1) || status=$?
+  same "$change" "1 no module of $name as it is built: tools/portable.sh $work/none $name makes it" "$status $said"
+  cp "$top/$built" "$work/tree/$built"
+  rm -f "$work/tree/$built.bc"
+done
 
 # compiled NAME FORM COMPILER WORD..: a form of the C file
 compiled() {

@@ -58,10 +58,10 @@ play_row() {
   echo "$row $mode: $((number - 1)) runs, of which $own met the program that plays the row"
 }
 
-# Whether a run of a program that logs, whose one refused growth was that of the log's setting, went on without a log, and did
-# all else: once at most.
+# Whether a run of a program that tells how far it has come, whose one refused growth was that of the log's setting, went on without a
+# log, and did all else.
 went_on_silently() {
-  [[ $1 == "$check" || $1 == "$lrat_check" || $1 == "$drat_check" ]] || return 1
+  [[ $1 == "$check" || $1 == "$lrat_check" || $1 == "$drat_check" || $1 == "$hint_check" ]] || return 1
   [[ $status == 0 && $(cat "$work/out") == "$line" ]] || return 1
   [[ $# == 3 ]] || cmp -s "$work/hints" "$work/whole_hints"
 }
@@ -69,15 +69,17 @@ went_on_silently() {
 # run NAME MODE LINE COMMAND..: a run that ends in the line, if no growth is refused. With a refused growth there is no line and no
 # line of hints; the fault is want of memory, or the arguments could not be read.
 run() {
-  local name=$1 mode=$2 line=$3 number unread=0 silent=0
+  local name=$1 mode=$2 line=$3 number unread=0 silent=0 settings=1
   shift 3
+  # its log asks for the setting, and what tells how far it has come
+  [[ $1 != "$check" ]] || settings=2
   for ((number = 1; ; number++)); do
     rm -f "$work/hints"
     refuse "$mode" "$number" "$@"
     if ((refused == 0)); then
       break
-    elif ((silent == 0)) && went_on_silently "$@"; then
-      silent=1
+    elif ((silent < settings)) && went_on_silently "$@"; then
+      silent=$((silent + 1))
     elif [[ -s $work/out || -s $work/hints ]]; then
       misjudged "$name $mode=$number"
     elif ((status == 2)); then

@@ -1,9 +1,10 @@
 #!/usr/bin/env bash
-# Packs what is built, twice, and uses each package where nothing else is: in an empty root, in a fresh Debian, in a venv of Python.
+# Packs what is built, here and in another checkout, and uses each package where nothing else is: in an empty root, in a fresh Debian,
+# in a venv of Python.
 #
 #   tests/release.sh [BOOKWORM]
 #
-# The programs and the library must be built. BOOKWORM is a folder that debootstrap made; without it one is made, where debootstrap
+# The programs and the library must be built. Static programs are tried of those that have their object beside them. BOOKWORM is a folder that debootstrap made; without it one is made, where debootstrap
 # and its mirror are there. What is not installed is said, and the rest is tried.
 set -euo pipefail
 
@@ -33,16 +34,50 @@ printf '1 0\n0\n' > "$work/four.drat"
 printf '5 1 0 1 2 0\n6 0 5 3 4 0\n' > "$work/four.lrat"
 printf '1 2 0\n' > "$work/one.cnf"
 printf 's SATISFIABLE\nv 1 2 0\n' > "$work/one.answer"
-# what the programs have to say of these, with PREFIX before their names
-calls='for call in "drat_check four.cnf four.drat" "lrat_check four.cnf four.lrat" "model_check one.cnf one.answer" "drat_check one.cnf four.drat"; do
-  $PREFIX$call 2> /dev/null; echo "status $?"
-done'
-verdicts=$'s VERIFIED UNSAT\nstatus 0\ns VERIFIED UNSAT\nstatus 0\ns VERIFIED SAT\nstatus 0\nstatus 1'
+# calls of programs, with the verdict and the status that they have to give
+table=('drat_check four.cnf four.drat:s VERIFIED UNSAT:0' 'drat_check one.cnf four.drat::1'
+  'lrat_check four.cnf four.lrat:s VERIFIED UNSAT:0' 'model_check one.cnf one.answer:s VERIFIED SAT:0')
+all=(drat_check lrat_check model_check)
 
-# Twice, by other users' habits: a mask, a language, a zone
-echo '12 passed, 0 failed' > "$work/gate"
+# calls NAME..: the calls of these programs, for a shell, with PREFIX before each name
+calls() {
+  local name
+  for name; do
+    printf '%s\n' "${table[@]}" | sed -n "s|^\($name [^:]*\):.*|\${PREFIX}\1 2> /dev/null; echo \"status \$?\"|p"
+  done
+}
+
+# verdicts NAME..: what is printed by them
+verdicts() {
+  local name
+  for name; do
+    printf '%s\n' "${table[@]}" | sed -n "s/^$name [^:]*:\(.*\):\(.*\)/\1\nstatus \2/p" | sed '/^$/d'
+  done
+}
+
+has_object() {
+  [[ -f $top/crates/$1_main/out/$1_main.o ]]
+}
+static=()
+for name in "${all[@]}"; do
+  if has_object "$name"; then
+    static+=("$name")
+  fi
+done
+
+# The same checkout with what is built in it, in another place
+other="$work/another/place of it"
+git clone -q --shared "$top" "$other"
+(cd "$top" && {
+  git ls-files -z
+  find crates -path '*/out/*' -type f \( -name '*_main' -o -name '*_main.o' -o -name 'lib*.a' \) -print0
+} | tar -c --null -T -) | tar -x -C "$other"
+
+# Twice: here, and there by other habits: a mask, a language, a zone
+last=$'rt: ok; handles allowed: none; every proof was done in this run\n12 passed, 0 failed'
+printf 'rt: lrat_check proved\nrt: note: one\n%s\n' "$last" > "$work/gate"
 "$top/tools/release.sh" "$work/one" "$work/gate"
-(umask 077 && LANG=C.UTF-8 TZ=Asia/Tokyo "$top/tools/release.sh" "$work/two" "$work/gate")
+(umask 077 && LANG=C.UTF-8 TZ=Asia/Tokyo "$other/tools/release.sh" "$work/two" "$work/gate") > "$work/said"
 same 'packed twice' "$(cd "$work/one" && sha256sum -- *)" "$(cd "$work/two" && sha256sum -- *)"
 (cd "$work/one" && sha256sum --quiet -c SHA256SUMS) || wrong=1
 same 'the sums' "$(cd "$work/one" && find . -type f ! -name SHA256SUMS -printf '%P\n' | sort)" "$(cut -d ' ' -f 3 "$work/one/SHA256SUMS" | sort)"
@@ -60,21 +95,65 @@ for bundle in "$work"/one/*.tar.gz; do
     grep -q "^$(sha256sum < "$file" | cut -d ' ' -f 1)  $file " "$work/one/PROVED" || echo "$folder/$file is not in PROVED"
   done) > "$work/missing"
   same 'what is not in the record' '' "$(cat "$work/missing")"
-  same "verdicts of $folder" "$verdicts" "$(cd "$work" && PREFIX=$folder/bin/ bash -c "$calls")"
+  there=("${all[@]}")
+  if [[ $folder == *-static ]]; then
+    there=("${static[@]}")
+  fi
+  same "the programs of $folder" "$(printf '%s\n' "${there[@]}")" "$(cd "$folder/bin" && find "${all[@]}" 2> "$work/said" || true)"
+  same "verdicts of $folder" "$(verdicts "${there[@]}")" "$(cd "$work" && PREFIX=$folder/bin/ bash -c "$(calls "${there[@]}")")"
 done
-same 'the test run' 'test run    12 passed, 0 failed' "$(grep '^test run' "$work/one/PROVED")"
+same 'the test run' "test run    rt: note: one"$'\n'"$(sed 's/^/            /' <<< "$last")" "$(sed -n '/^test run/,/^$/p' "$work/one/PROVED" | sed '/^$/d')"
 while read -r _ file logic; do
   if [[ $file == *_check && ! $logic =~ ^[0-9a-f]{64}$ ]]; then
     echo "PROVED: no logic of $file: $logic"
     wrong=1
   fi
 done < "$work/one/PROVED"
-echo '12 passed, 1 failed' > "$work/gate"
-if "$top/tools/release.sh" "$work/three" "$work/gate" > "$work/said" 2>&1; then
-  echo 'a test run that failed was taken'
+for end in '12 passed, 1 failed' '12 passed, 0 failed (lrat_check and the crates below alone: not the gate)' 'rt: lrat_check proved'; do
+  sed "\$s/.*/$end/" "$work/gate" > "$work/failed"
+  status=0
+  said=$("$top/tools/release.sh" "$work/three" "$work/failed" 2>&1) || status=$?
+  same 'a test run that is not whole' "1 $work/failed is no whole test run: its last line is: $end" "$status $said"
+done
+sed '/^rt: ok; /d' "$work/gate" > "$work/failed"
+if "$top/tools/release.sh" "$work/three" "$work/failed" > "$work/said" 2>&1; then
+  echo 'a test run without its end was taken'
   wrong=1
 fi
-same 'with a test run that failed' '' "$(find "$work/three" 2> /dev/null || true)"
+same 'with a test run that is not whole' '' "$(find "$work/three" 2> /dev/null || true)"
+
+# packed FOLDER: what a folder has of the forms, by their ends
+packed() {
+  find "$1" -type f | sed -n 's/.*\(static\.tar\.gz\|x86_64\.tar\.gz\|deb\|whl\|PROVED\|SHA256SUMS\)$/\1/p' | LC_ALL=C sort | paste -s -d ' '
+}
+
+# Without a test run, that is said. Without an object, or with another program's, a program is not among the static ones; without
+# compilers there are the other forms.
+if has musl-gcc; then
+  rm -f "$other"/crates/{drat_check,model_check}_main/out/*.o
+  cp "$other/crates/lrat_check_main/out/lrat_check_main.o" "$other/crates/model_check_main/out/model_check_main.o" || wrong=1
+  said=$("$other/tools/release.sh" "$work/three")
+  if [[ $said != *'no object of '*drat_check*model_check*' as it is built'* ]]; then
+    echo "without objects: $said"
+    wrong=1
+  fi
+  same 'the static programs then' "$name-static/bin/lrat_check" \
+    "$(tar -tzf "$work/three/$name-static.tar.gz" | grep -E '/bin/(drat|lrat|model)_check$')"
+  same 'without a test run' 'test run    NONE' "$(sed -n 's/^\(test run.*\):.*/\1/p' "$work/three/PROVED")"
+fi
+printf 'rattle logic=0123' > "$work/comment"
+objcopy --update-section ".comment=$work/comment" "$other/crates/lrat_check_main/out/lrat_check_main"
+status=0
+said=$("$other/tools/release.sh" "$work/none" 2>&1) || status=$?
+same 'a program of another toolchain' "1 lrat_check was not proved by $(rt version): build it again" "$status $said"
+mkdir "$work/bin"
+ln -s /usr/bin/* "$work/bin/"
+ln -sf /usr/local/bin/* "$work/bin/"
+rm -f "$work"/bin/{musl-gcc,dpkg-deb}
+said=$(PATH=$work/bin "$top/tools/release.sh" "$work/few" "$work/gate")
+same 'without two tools' 'musl-gcc is not installed (Debian: musl-tools): no static programs, no wheel
+dpkg-deb is not installed (Debian: dpkg): no Debian package' "$said"
+same 'the other forms' 'PROVED SHA256SUMS x86_64.tar.gz' "$(packed "$work/few")"
 
 # Static programs in a root that has nothing else
 for program in "$work/$name-static"/bin/*_check; do
@@ -82,11 +161,8 @@ for program in "$work/$name-static"/bin/*_check; do
 done
 if [[ -d $work/$name-static ]] && unshare --user --map-root-user true 2> "$work/said"; then
   cp "$work"/four.* "$work"/one.{cnf,answer} "$work/$name-static"
-  for call in 'drat_check four.cnf four.drat' 'lrat_check four.cnf four.lrat' 'model_check one.cnf one.answer'; do
-    # shellcheck disable=SC2086
-    unshare --user --map-root-user chroot "$work/$name-static" /bin/$call
-  done > "$work/said" 2>&1 || wrong=1
-  same 'in an empty root' $'s VERIFIED UNSAT\ns VERIFIED UNSAT\ns VERIFIED SAT' "$(cat "$work/said")"
+  same 'in an empty root' "$(verdicts "${static[@]}")" \
+    "$(PREFIX="unshare --user --map-root-user chroot $work/$name-static /bin/" bash -c "$(calls "${static[@]}")")"
 else
   echo 'no static programs or no namespaces here: not tried in an empty root'
 fi
@@ -113,7 +189,7 @@ if [[ $fresh ]]; then
     cat "$work/said"
     wrong=1
   }
-  same 'verdicts in a fresh Debian' "$verdicts" "$(chroot "$fresh" env -C / PREFIX='' bash -c "$calls")"
+  same 'verdicts in a fresh Debian' "$(verdicts "${all[@]}")" "$(chroot "$fresh" env -C / PREFIX='' bash -c "$(calls "${all[@]}")")"
   same 'without a compiler' '' "$(chroot "$fresh" bash -c 'command -v cc gcc clang rt python3' || true)"
   chroot "$fresh" dpkg -r cefindrato > "$work/said" 2>&1 || wrong=1
   same 'what is left of it' '' "$(find "$fresh/usr" -name '*cefindrato*' -o -name 'lrat_check*')"
@@ -124,7 +200,7 @@ wheel=$(echo "$work"/one/*.whl)
 if [[ -f $wheel ]] && python3 -m venv "$work/venv" > "$work/said" 2>&1; then
   "$work/venv/bin/pip" install -q --no-index --disable-pip-version-check "$wheel"
   (cd "$work" && venv/bin/python -B "$top/tests/release/wheel.py" "$top/tests/data") || wrong=1
-  same 'verdicts of the wheel' "$verdicts" "$(cd "$work" && PREFIX=$work/venv/bin/ bash -c "$calls")"
+  same 'verdicts of the wheel' "$(verdicts "${static[@]}")" "$(cd "$work" && PREFIX=$work/venv/bin/ bash -c "$(calls "${static[@]}")")"
 else
   echo 'no wheel or no venv here: not tried'
 fi

@@ -2,6 +2,7 @@
 # Makes proved programs for machines that have neither the toolchain nor Linux on x86-64.
 #
 #   tools/portable.sh [--built] OUT NAME..
+#   tools/portable.sh --module NAME..
 #
 # NAME is `drat_check`, `lrat_check` or `model_check`. OUT gets these forms; one that can't be made here says what is missing:
 #
@@ -11,24 +12,34 @@
 #   NAME-aarch64                a program for Linux on aarch64 (gcc-aarch64-linux-gnu)
 #
 # All are made of the module that the proof's build hands to LLVM. A toolchain whose clang copies its input gives it, over what is
-# kept of the program's crate and those below it; with --built it is the one that a run before has left. Each time it is compiled,
-# and the object has to be the proved program's, byte for byte. RT may name another `rt`.
+# kept of the program's crate and those below it; with --built it is the one that a run before has left. Each time it is compiled and
+# linked as `rt` does, and that has to be the proved program, byte for byte. With --module the module is made and no more, beside
+# what is built in the program's crate: there is nothing to compare it with yet. RT may name another `rt`.
 set -euo pipefail
 
 usage() {
-  echo "usage: tools/portable.sh [--built] OUT NAME.. (drat_check, lrat_check, model_check)" >&2
+  echo "usage: tools/portable.sh [--built] OUT NAME.., or --module NAME.. (drat_check, lrat_check, model_check)" >&2
   exit 2
 }
-is_built=
-if [[ ${1:-} == --built ]]; then
-  is_built=1
+is_built='' is_module='' out=''
+case ${1:-} in
+  --built) is_built=1 ;;
+  --module) is_module=1 ;;
+esac
+if [[ $is_built$is_module ]]; then
   shift
 fi
-if (($# < 2)) || [[ -z $1 || $1 == -* ]]; then
+if [[ ! $is_module ]]; then
+  if [[ -z ${1:-} || $1 == -* ]]; then
+    usage
+  fi
+  out=$(realpath -m "$1")
+  shift
+fi
+names=("$@")
+if ((${#names[@]} == 0)); then
   usage
 fi
-out=$(realpath -m "$1")
-names=("${@:2}")
 for name in "${names[@]}"; do
   if [[ ! $name =~ ^(drat|lrat|model)_check$ ]]; then
     usage
@@ -46,7 +57,6 @@ if ! rt=$(command -v "${RT:-rt}"); then
 fi
 kit=$(dirname "$(dirname "$(readlink -f "$rt")")")
 clang=$kit/toolchain/bin/clang
-mkdir -p "$out"
 
 # has PROGRAM PACKAGE FORM: whether a form can be made here
 has() {
@@ -81,21 +91,40 @@ END
   chmod 755 "$work/kit/toolchain/bin/clang"
 }
 
-# is_kept NAME: whether the module that is kept gives the object of the proved program
+# is_kept NAME: whether the module that is kept gives the proved program
 is_kept() {
-  local object=$top/crates/$1_main/out/$1_main.o kept=$top/crates/$1_main/out/$1_main.bc words
-  [[ -f $object && -f $kept && -f $kept.words ]] || return 1
+  local program=$top/crates/$1_main/out/$1_main kept=$top/crates/$1_main/out/$1_main.bc words
+  [[ -f $program && -f $kept && -f $kept.words ]] || return 1
   rm -rf "$work/again"
   mkdir "$work/again"
   cp "$kept" "$work/again/module.bc"
   mapfile -t words < <(sed "s|^--sysroot=.*|--sysroot=$kit/toolchain|" "$kept.words")
   (cd "$work/again" && "$clang" "${words[@]}") || return 1
-  cmp -s "$work/again/module.o" "$object"
+  "$top/tools/release/link.sh" "$work/again/module.o" "$work/again/program"
+  cmp -s "$work/again/program" "$program"
 }
 
-# module NAME: sees to it that the module of the proved program is there
-module() {
+# proved NAME RT: proves and builds the program anew, over what a check has kept of its crate
+proved() {
   local folder=$top/crates/$1_main
+  rm -f "$folder/out/$1_main.stamp"
+  (cd "$folder" && "$2" run --jobs 1 -- --version) > "$work/said" 2>&1 < /dev/null || {
+    cat "$work/said" >&2
+    return 1
+  }
+}
+
+# watched NAME: builds the program so that its module is kept
+watched() {
+  rm -rf "$work/kit"
+  watching "$top/crates/$1_main/out/$1_main.bc"
+  proved "$1" "$work/kit/bin/rt"
+}
+
+# module NAME: sees to it that the module of the proved program is there. The program that it is compared with was there before, or
+# is built by the toolchain as it is.
+module() {
+  local program=$top/crates/$1_main/out/$1_main
   if is_kept "$1"; then
     return
   fi
@@ -103,19 +132,16 @@ module() {
     echo "no module of $1 as it is built: tools/portable.sh $out $1 makes it" >&2
     return 1
   fi
-  (cd "$folder" && "$rt" run -- --version) > "$work/said" 2>&1 < /dev/null || {
-    cat "$work/said" >&2
-    return 1
-  }
-  rm -rf "$work/kit" "$folder/out/$1_main.stamp"
-  watching "$folder/out/$1_main.bc"
-  cp "$folder/out/$1_main.o" "$work/proved.o"
-  (cd "$folder" && "$work/kit/bin/rt" run -- --version) > "$work/said" 2>&1 < /dev/null || {
-    cat "$work/said" >&2
-    return 1
-  }
-  if ! cmp "$work/proved.o" "$folder/out/$1_main.o" || ! is_kept "$1"; then
-    echo "the module of $1 does not give the object of the proved program" >&2
+  rm -f "$work/before"
+  if [[ -f $program ]]; then
+    cp "$program" "$work/before"
+  fi
+  watched "$1"
+  if ! cmp -s "$work/before" "$program"; then
+    proved "$1" "$rt"
+  fi
+  if ! is_kept "$1"; then
+    echo "the module of $1 does not give the proved program" >&2
     return 1
   fi
 }
@@ -158,6 +184,13 @@ aarch64() {
   aarch64-linux-gnu-gcc -static -s -Wl,--gc-sections -O2 -o "$out/$1-aarch64" "$work/aarch64.o" "$top/tools/release/rt.c"
 }
 
+if [[ $is_module ]]; then
+  for name in "${names[@]}"; do
+    watched "$name"
+  done
+  exit
+fi
+mkdir -p "$out"
 makes_c=$(has wasm2c wabt 'C files' >&2 && echo 1 || true)
 makes_aarch64=$(has aarch64-linux-gnu-gcc gcc-aarch64-linux-gnu 'programs for aarch64' >&2 && echo 1 || true)
 for name in "${names[@]}"; do

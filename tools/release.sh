@@ -12,8 +12,9 @@
 #   PROVED, SHA256SUMS                              what was proved, by what; and the sums of the files
 #
 # The programs must be built, as `rt ci` or `rt run` leaves them, and `rt` be on the path. GATE is the output of `rt ci`: without it
-# PROVED says that no whole test run stands behind it. The same sources and tools give the same bytes: all times are that of the
-# commit, or SOURCE_DATE_EPOCH.
+# PROVED says that no whole test run stands behind it. Static programs are linked from the objects beside the programs. An `rt ci`
+# that takes a program from an earlier run leaves no object of it: then it is said which are missing, and `rt run` or `rt ci --anew`
+# leaves them. The same sources and tools give the same bytes: all times are that of the commit, or SOURCE_DATE_EPOCH.
 set -euo pipefail
 
 if (($# < 1 || $# > 2)) || [[ -z $1 || $1 == -* ]]; then
@@ -25,9 +26,10 @@ own=$top/tools/release
 out=$(realpath -m "$1")
 verdict=
 if (($# == 2)); then
-  verdict=$(tail -n 1 "$2")
-  if [[ ! $verdict =~ ^[0-9]+\ passed,\ 0\ failed$ ]]; then
-    echo "$2 is no whole test run: its last line is: $verdict" >&2
+  # what a whole run ends with: notes, what was done in it and what was kept, and the counts
+  verdict=$(sed -n '/^rt: note: /p; /^rt: ok; /p; $p' "$2")
+  if [[ ! ${verdict##*$'\n'} =~ ^[0-9]+\ passed,\ 0\ failed$ || $'\n'$verdict != *$'\nrt: ok; '* ]]; then
+    echo "$2 is no whole test run: its last line is: ${verdict##*$'\n'}" >&2
     exit 1
   fi
 fi
@@ -46,58 +48,96 @@ has() {
   }
 }
 
+# logic_of FILE: the sum of the logic in which a program or a library is proved, as it says itself
+logic_of() {
+  { readelf -p .comment "$1" 2> "$work/said" || true; } | sed -n 's/.*rattle logic=//p'
+}
+
 # What is packed, as it is installed, and what belongs to it
 stage=$work/usr
 "$top/install.sh" --built "$stage"
+kit=$(dirname "$(dirname "$(readlink -f "$(command -v "${RT:-rt}")")")")
+
+# built NAME: the program of a name as it was built, if it is one of those that are proved
+built() {
+  local program=$top/crates/$1_main/out/$1_main
+  [[ -f $program ]] && echo "$program"
+}
+for program in "$stage"/bin/*; do
+  if built "${program##*/}" > "$work/said" && [[ $(logic_of "$program") != "$(sed -n '1s/.* logic //p' "$kit/KIT-ID")"* ]]; then
+    echo "${program##*/} was not proved by $(head -n 1 "$kit/KIT-ID"): build it again" >&2
+    exit 1
+  fi
+done
 rm -r "$stage/share/cefindrato"
 version=$("$stage/bin/lrat_check" --version | cut -d ' ' -f 2)
 name=cefindrato-$version-linux-x86_64
 documents=$work/documents
 (cd "$top" && cp -R --parents README.md CHANGELOG.md LICENSE docs/*.md docs/picture.svg docs/reference "$(mkdir "$documents" && echo "$documents")")
 
-# The same objects without the toolchain's archives: programs with a C library in them, and a library for any C library
+# has_object PROGRAM: whether the object beside a proved program is its own: linked as `rt` does, it gives the same bytes
+has_object() {
+  [[ -f $1.o ]] && "$own/link.sh" "$1.o" "$work/again" && cmp -s "$work/again" "$1"
+}
+
+# static_programs: those of which the object is there, linked with a C library in place of the toolchain's archives; and the scripts
+static_programs() {
+  local program name from lacking=()
+  musl-gcc -O2 -c -o "$work/rt.o" "$own/rt.c"
+  for program in "$stage"/bin/*; do
+    name=${program##*/}
+    if ! from=$(built "$name"); then
+      cp "$program" "$work/static/bin/"
+    elif has_object "$from"; then
+      objcopy --redefine-sym main=rattle_main "$from.o" "$work/program.o"
+      musl-gcc -static -s -Wl,--gc-sections -o "$work/static/bin/$name" "$work/program.o" "$work/rt.o"
+    else
+      lacking+=("$name")
+    fi
+  done
+  if ((${#lacking[@]})); then
+    echo "no object of ${lacking[*]} as it is built (\`rt run\` or \`rt ci --anew\` leaves it): not among the static programs, nor in the wheel"
+  fi
+}
+
+# wheel_library: the library in place of the toolchain's archives too, for any C library
+wheel_library() {
+  local archive folder
+  archive=$("$top/bindings/build.sh" --archive)
+  folder=$(dirname "$archive")
+  "${CC:-cc}" -O2 -fPIC -DIS_LIBRARY -c -o "$work/library_rt.o" "$own/rt.c"
+  # (others may build it at the same time, as bindings/build.sh has it)
+  (flock 3 && cp "$archive" "$work/archive.a") 3> "$folder/building"
+  ld -r -o "$work/whole.o" --whole-archive "$work/archive.a" --no-whole-archive "$work/library_rt.o"
+  objcopy --strip-debug --wildcard --keep-global-symbol='cefindrato_*' "$work/whole.o" "$work/library.o"
+  "${CC:-cc}" -shared -nostdlib -s -o "$work/wheel/libcefindrato.so" "$work/library.o"
+}
+
 is_static=
 if has musl-gcc musl-tools 'static programs, no wheel'; then
   is_static=1
   mkdir -p "$work/static/bin" "$work/wheel"
-  musl-gcc -O2 -c -o "$work/rt.o" "$own/rt.c"
-  for program in "$stage"/bin/*; do
-    built=${program##*/}_main
-    built=$top/crates/$built/out/$built.o
-    if [[ -f $built ]]; then
-      objcopy --redefine-sym main=rattle_main "$built" "$work/program.o"
-      musl-gcc -static -s -Wl,--gc-sections -o "$work/static/bin/${program##*/}" "$work/program.o" "$work/rt.o"
-    else
-      cp "$program" "$work/static/bin/"
-    fi
-  done
-  "${CC:-cc}" -O2 -fPIC -DIS_LIBRARY -c -o "$work/library_rt.o" "$own/rt.c"
-  # (others may build it at the same time, as bindings/build.sh has it)
-  (flock 3 && cp "$top/crates/lrat_c/out/liblrat_c.a" "$work/") 3> "$top/crates/lrat_c/out/building"
-  ld -r -o "$work/whole.o" --whole-archive "$work/liblrat_c.a" --no-whole-archive "$work/library_rt.o"
-  objcopy --strip-debug --wildcard --keep-global-symbol='cefindrato_*' "$work/whole.o" "$work/library.o"
-  "${CC:-cc}" -shared -nostdlib -s -o "$work/wheel/libcefindrato.so" "$work/library.o"
+  static_programs
+  wheel_library
 fi
 
 # sums FOLDER: the sum of each program and library there, and the logic in which it is proved
 sums() {
   local file logic
   (cd "$1" && find . -path './bin/*' -o -type f -name 'lib*') | sed 's|^\./||' | sort | while read -r file; do
-    logic=$({ readelf -p .comment "$1/$file" 2> "$work/said" || true; } | sed -n 's/.*rattle logic=//p')
+    logic=$(logic_of "$1/$file")
     printf '%s  %-26s %s\n' "$(sha256sum < "$1/$file" | cut -d ' ' -f 1)" "$file" "${logic:-not proved}"
   done
 }
 
 # record: what was proved, by what, and what the files say of it themselves
 record() {
-  local kit
-  kit=$(dirname "$(dirname "$(readlink -f "$(command -v "${RT:-rt}")")")")
   echo "version     $version"
   echo "commit      $(git -C "$top" rev-parse HEAD)$(git -C "$top" diff --quiet HEAD || echo ', and changes that are not in it')"
   echo "date        $(date -u -d "@$SOURCE_DATE_EPOCH" +%FT%TZ)"
   sed -n '1s/^/toolchain   /p' "$kit/KIT-ID"
   sed -n 's/^\(archive\|compiler\) \(.*\)/            \1 sha256 \2/p' "$kit/WHAT"
-  echo "test run    ${verdict:-NONE: no output of \`rt ci\` was given; each program is proved, and nothing says that all tests passed}"
+  sed '1s/^/test run    /; 2,$s/^/            /' <<< "${verdict:-NONE: no output of \`rt ci\` was given; each program is proved, and nothing says that all tests passed}"
   cat "$own/record.txt"
   echo
   echo 'sha256, file, and the sum of the logic in which it is proved'

@@ -7,6 +7,7 @@
 #include "cefindrato.hpp"
 #include <algorithm>
 #include <cerrno>
+#include <csignal>
 #include <cstdio>
 #include <fcntl.h>
 #include <spawn.h>
@@ -14,13 +15,15 @@
 #include <sys/wait.h>
 #include <system_error>
 #include <unistd.h>
+#include <vector>
 
 namespace cefindrato {
 
 class Running {
   public:
-    // Starts the program on a formula's file. Where that can't be done a std::system_error says why.
-    Running(const std::string &program, const std::string &formula) {
+    // Starts the program on a formula's file, with options as on its command line, such as {"--core", "core.cnf"}. Where that
+    // can't be done a std::system_error says why.
+    Running(const std::string &program, const std::string &formula, const std::vector<std::string> &options = {}) {
         int steps[2], faults[2];
         open(steps);
         open(faults);
@@ -29,8 +32,11 @@ class Running {
         posix_spawn_file_actions_adddup2(&actions, steps[0], 0);
         posix_spawn_file_actions_addopen(&actions, 1, "/dev/null", O_WRONLY, 0);
         posix_spawn_file_actions_adddup2(&actions, faults[1], 2);
-        const char *words[] = {program.c_str(), formula.c_str(), "-", nullptr};
-        const int fault = posix_spawnp(&child, words[0], &actions, nullptr, const_cast<char **>(words), environ);
+        std::vector<char *> words = {word(program), word(formula), word("-")};
+        for (const std::string &option : options)
+            words.push_back(word(option));
+        words.push_back(nullptr);
+        const int fault = posix_spawnp(&child, words[0], &actions, nullptr, words.data(), environ);
         posix_spawn_file_actions_destroy(&actions);
         close(steps[0]);
         close(faults[1]);
@@ -50,7 +56,8 @@ class Running {
     Running(const Running &) = delete;
     Running &operator=(const Running &) = delete;
 
-    ~Running() { finish(); }
+    // A check that was not finished is cancelled.
+    ~Running() { cancel(); }
 
     // Where the proof is written. A write fails once the program has ended.
     FILE *proof() { return proof_file; }
@@ -80,13 +87,27 @@ class Running {
             // beside a verdict there may be a warning
             if (answer != Answer::fault)
                 text.clear();
+            else if (cancelled && WIFSIGNALED(status))
+                text = "cancelled";
         }
         if (why)
             *why = text;
         return answer;
     }
 
+    // Ends the program without a verdict: where the check was not finished it is a fault from now on.
+    void cancel() {
+        if (!proof_file)
+            return;
+        cancelled = true;
+        kill(child, SIGKILL);
+        finish();
+    }
+
   private:
+    static char *word(const std::string &text) { return const_cast<char *>(text.c_str()); }
+    static char *word(const char *text) { return const_cast<char *>(text); }
+
     static void open(int (&ends)[2]) {
         if (pipe2(ends, O_CLOEXEC) != 0)
             throw std::system_error(errno, std::generic_category(), "pipe2");
@@ -95,6 +116,7 @@ class Running {
     pid_t child = -1;
     FILE *proof_file = nullptr;
     int faults_end = -1;
+    bool cancelled = false;
     Answer answer = Answer::fault;
     std::string text;
 };

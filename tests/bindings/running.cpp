@@ -68,8 +68,28 @@ int main(int, char **words) {
         if (why.code().value() != ENOENT)
             wrong = 1;
     }
-    // one that is let go, and several at once
+    // one that is let go, one that is cancelled, and options that the program gets
     { Running check(program, formula); }
+    {
+        Running check(program, formula);
+        std::fputs("5 1 0 1 2 0\n6 0 5 3 4 0\n", check.proof());
+        check.cancel();
+        expect("cancelled", check, Answer::fault, "cancelled");
+    }
+    {
+        Running check(program, formula);
+        std::fputs("5 1 0 1 2 0\n6 0 5 3 4 0\n", check.proof());
+        expect("finished", check, Answer::verified, "");
+        check.cancel();
+        expect("cancelled after that", check, Answer::verified, "");
+    }
+    {
+        Running check(program, formula, {"--help"});
+        if (check.finish() != Answer::verified) {
+            std::cout << "an option does not come to the program\n";
+            wrong = 1;
+        }
+    }
     std::vector<std::thread> threads;
     std::vector<Answer> answers(8, Answer::fault);
     for (size_t n = 0; n < answers.size(); n++)

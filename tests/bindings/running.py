@@ -7,11 +7,11 @@ import concurrent.futures
 import sys
 import time
 
-from cefindrato_running import Fault, Running
+from cefindrato import Fault, Running
 
 
-def answer(program, formula, *lines):
-    check = Running(formula, program)
+def answer(program, formula, *lines, options=()):
+    check = Running(formula, program, options)
     for line in lines:
         check.write(line)
     try:
@@ -42,6 +42,17 @@ def main(program, formula):
             assert check.finish() is wanted
         except Fault as why:
             assert str(why) == wanted
+    with Running(formula, program) as check:
+        assert check.write(memoryview(bytearray(b"5 1 0 1 2 0\n")))
+    try:
+        check.finish()
+        raise AssertionError("a check that was cancelled has a verdict")
+    except Fault as why:
+        assert str(why) == "cancelled"
+    with Running(formula, program) as check:
+        assert check.finish() is False
+    assert check.finish() is False
+    assert answer(program, formula, options=["--no-such-option"]) not in (True, False)
     # the clauses have the ids 1 to 4, and with the second proof 5 too
     proofs = (b"6 0 5 3 0\n", b"5 1 0 1 2 0\n")
     with concurrent.futures.ThreadPoolExecutor(8) as pool:

@@ -20,6 +20,46 @@ static void expect(std::string_view cnf, std::string_view proof, Answer wanted, 
     }
 }
 
+static void is_so(const char *what, bool holds) {
+    if (!holds) {
+        std::cout << what << ": it is not so\n";
+        wrong = 1;
+    }
+}
+
+static void of_drat() {
+    const std::string_view five = "3 0 1 2 0 1 -2 0 -1 2 0 -1 -2 0";
+    std::string why = "of before", lrat = "of before", core = "of before";
+    is_so("verified", cefindrato::check_drat(five, "1 0\n0\n", &why, {&lrat, &core}) == Answer::verified);
+    is_so("no fault", why.empty());
+    is_so("the lines are a proof", cefindrato::check(five, lrat) == Answer::verified);
+    is_so("the used clauses", core == "p cnf 2 4\n1 2 0\n1 -2 0\n-1 2 0\n-1 -2 0\n");
+    is_so("no output", cefindrato::check_drat(five, "4 0\n", &why, {&lrat, &core}) == Answer::not_verified && lrat.empty() && core.empty());
+    is_so("refused", cefindrato::check_drat(five, "1 x\n", &why) == Answer::fault && why == "proof: step 1: malformed");
+    is_so("a format", cefindrato::check_drat(five, "1 0\n0\n", nullptr, {}, cefindrato::Format::drat) == Answer::verified);
+}
+
+// One line with so many hints that it is longer than the room that is tried first.
+static void of_long_lines() {
+    const int length = 200000;
+    std::string cnf = "1 0\n", lrat;
+    for (int var = 1; var < length; var++)
+        cnf += "-" + std::to_string(var) + " " + std::to_string(var + 1) + " 0\n";
+    cnf += "-" + std::to_string(length) + " 0\n";
+    is_so("long", cefindrato::check_drat(cnf, "", nullptr, {&lrat, nullptr}) == Answer::verified);
+    is_so("long lines", lrat.size() > 1 << 20 && cefindrato::check(cnf, lrat) == Answer::verified);
+}
+
+static void of_models() {
+    const std::string_view answer = "s SATISFIABLE\nv 1 2 0\n";
+    std::string why = "of before";
+    cefindrato::Unmet unmet;
+    is_so("met", cefindrato::check_model("1 2 0", answer, &why, &unmet) == Answer::verified && unmet.clause == 0 && why.empty());
+    is_so("not met", cefindrato::check_model("1 2 0\n-1 -2 0\n", answer, &why, &unmet) == Answer::not_verified);
+    is_so("the clause", unmet.clause == 2 && unmet.line == 2);
+    is_so("refused", cefindrato::check_model("1 x", answer, &why) == Answer::fault && why == "formula: line 1: bad number");
+}
+
 static std::string whole_file(const char *name) {
     std::ifstream file(name, std::ios::binary);
     return {std::istreambuf_iterator<char>(file), {}};
@@ -36,6 +76,10 @@ int main(int, char **names) {
     expect(four.substr(0, 5), "", Answer::not_verified, "");
     expect(four.substr(0, 3), "", Answer::fault, "formula: line 1: unterminated clause");
     expect(std::string_view("1 0\0", 4), "", Answer::fault, "formula: line 1: bad number");
+
+    of_drat();
+    of_long_lines();
+    of_models();
 
     const std::string cnf = whole_file(names[1]), proof = whole_file(names[2]);
     const std::string_view cut = std::string_view(proof).substr(0, proof.size() / 2);

@@ -1,7 +1,14 @@
-"""The Python binding on real input, wrong proofs, nothing, and several threads."""
+"""The Python package by its library: real input, wrong proofs, nothing, each kind of bytes, several threads, and the command.
+
+test.py CNF LRAT
+"""
 
 import concurrent.futures
+import mmap
+import os
+import subprocess
 import sys
+import tempfile
 
 import cefindrato
 
@@ -13,6 +20,78 @@ def answer(cnf, proof):
         return cefindrato.check(cnf, proof)
     except cefindrato.Fault as why:
         return str(why)
+
+
+def refused(call, *arguments, **named):
+    try:
+        return call(*arguments, **named)
+    except cefindrato.Fault as why:
+        return str(why)
+
+
+def of_drat():
+    assert cefindrato.check_drat(FOUR, b"1 0\n0\n") == (True, None, None)
+    assert cefindrato.check_drat(FOUR, b"a\x02\x00a\x00").verified is True
+    assert cefindrato.check_drat(b"1 2 0", b"", lrat=True, core=True) == (False, None, None)
+    checked = cefindrato.check_drat(b"3 0 " + FOUR, b"1 0\n0\n", format="drat", lrat=True, core=True)
+    assert cefindrato.check(b"3 0 " + FOUR, checked.lrat) is True
+    assert checked.core == b"p cnf 2 4\n1 2 0\n1 -2 0\n-1 2 0\n-1 -2 0\n"
+    assert refused(cefindrato.check_drat, FOUR, b"1 x\n") == "proof: step 1: malformed"
+    # one line of hints, longer than the room that is tried first
+    chain = "".join(f"-{var} {var + 1} 0\n" for var in range(1, 200000))
+    cnf = f"1 0\n{chain}-200000 0\n".encode()
+    lines = cefindrato.check_drat(cnf, b"", lrat=True).lrat
+    assert len(lines) > 1 << 20 and cefindrato.check(cnf, lines) is True
+
+
+def of_models():
+    said = b"s SATISFIABLE\nv 1 2 0\n"
+    assert cefindrato.check_model(b"1 2 0", said) == (True, None, None)
+    assert cefindrato.check_model(b"1 2 0\n-1 -2 0\n", said) == (False, 2, 2)
+    assert refused(cefindrato.check_model, b"1 x", said) == "formula: line 1: bad number"
+
+
+def of_bytes(cnf_name, text):
+    """Each kind of bytes has the same answer, and what has none is no text."""
+    with open(cnf_name, "rb") as file, mmap.mmap(file.fileno(), 0, access=mmap.ACCESS_READ) as mapped:
+        formula = bytes(mapped)
+        for kind in (bytes, bytearray, memoryview, lambda it: memoryview(bytearray(b"1 2 0" + it))[5:]):
+            assert cefindrato.check(kind(formula), kind(text)) is True
+            assert cefindrato.check(mapped, kind(text)) is True
+    for kind in (bytes, bytearray, memoryview):
+        assert cefindrato.check(kind(b""), kind(b"")) is False
+    held = bytearray(FOUR)
+    assert cefindrato.check(held, b"5 1 0 1 2 0\n6 0 5 3 4 0\n") is True
+    held.extend(b" ")
+    for wrong in (FOUR.decode(), 5, None, [1], memoryview(FOUR)[::2]):
+        try:
+            cefindrato.check(wrong, b"")
+        except (TypeError, BufferError):
+            continue
+        raise AssertionError(wrong)
+
+
+def of_command(cnf_name, proof_name):
+    """The command says what the programs say."""
+
+    def ran(*words):
+        ended = subprocess.run([sys.executable, "-B", "-m", "cefindrato", *words], capture_output=True, text=True)
+        return ended.returncode, ended.stdout, ended.stderr
+
+    with tempfile.TemporaryDirectory() as folder:
+        names = {name: os.path.join(folder, name) for name in ("four.cnf", "proof.drat", "model", "lrat", "core")}
+        for name, text in ("four.cnf", FOUR), ("proof.drat", b"1 0\n0\n"), ("model", b"s SATISFIABLE\nv 1 2 0\n"):
+            with open(names[name], "wb") as file:
+                file.write(text)
+        four, drat, model, lrat, core = names.values()
+        assert ran("lrat", cnf_name, proof_name) == (0, "s VERIFIED UNSAT\n", "")
+        assert ran("drat", four, drat, "--lrat", lrat, "--core", core) == (0, "s VERIFIED UNSAT\n", "")
+        assert ran("lrat", four, lrat)[0] == 0 and ran("drat", core, drat, "--drat")[0] == 0
+        assert ran("drat", four, model) == (1, "", "proof: step 1: malformed\n")
+        told = "formula: line 1: clause 4 has no literal of the answer\n"
+        assert ran("model", four, model) == (3, "s NOT VERIFIED\n", told)
+        assert ran("model", folder + "/none", model)[0] == 2 and ran("lrat", four)[0] == 2
+        assert ran("--version")[:2] == (0, f"cefindrato {cefindrato.__version__}\n")
 
 
 def main(cnf_name, proof_name):
@@ -29,6 +108,11 @@ def main(cnf_name, proof_name):
     with concurrent.futures.ThreadPoolExecutor(8) as pool:
         answers = list(pool.map(lambda n: answer(formula, cut if n % 2 else text), range(32)))
     assert answers == [True, unfinished] * 16
+    of_drat()
+    of_models()
+    of_bytes(cnf_name, text)
+    of_command(cnf_name, proof_name)
+    assert cefindrato.library.version() == cefindrato.__version__
 
 
 main(*sys.argv[1:])

@@ -12,7 +12,7 @@ What a document can say of files, and how it is written:
     laws `name`, `name`                 laws of some crate; so are the names in a column "law" of a table
     ```rust path                        a quotation: these words are there one after the other
 
-The table of crates has those of `crates.txt`, each with crates that are below it there. The README and FORMATS have
+The table of crates has those of `crates.txt`, each with all that is below it there, by itself or with another that is named. The README and FORMATS have
 each program as it says that it is called. There is one version. Words over which readers of technical English stumble are not used.
 """
 
@@ -155,10 +155,13 @@ def bad_crates():
         yield f"{CRATES_PAGE}: no row for the crate {crate}"
     for crate in sorted(told.keys() - known.keys()):
         yield f"{CRATES_PAGE}: a row for {crate}, which is no crate"
-    for crate, others in told.items():
-        for other in re.findall(r"`(\w+)`", others):
-            if crate in known and other not in below(crate, known):
-                yield f"{CRATES_PAGE}: {other} is not below {crate}"
+    for crate in sorted(told.keys() & known.keys()):
+        named = set(re.findall(r"`(\w+)`", told[crate]))
+        all_below = below(crate, known)
+        for other in sorted(named - all_below):
+            yield f"{CRATES_PAGE}: {other} is not below {crate}"
+        for other in sorted(all_below - named.union(*(below(it, known) for it in named))):
+            yield f"{CRATES_PAGE}: {crate} rests on {other}, and that comes with none that its row names"
 
 
 def bad_calls():

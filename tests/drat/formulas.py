@@ -1,10 +1,16 @@
-"""Formulas, and proofs with RAT steps that few solvers write.
+"""Formulas, and proofs with RAT steps and with witnesses that few solvers write.
 
 formulas.py random VARIABLES RATIO SEED    DIMACS: clauses of three literals, drawn at random
 formulas.py pigeons HOLES                  DIMACS: one pigeon more than holes
+formulas.py pairs HOLES                    DIMACS: two pigeons a hole, and one more
+formulas.py board SIZE                     DIMACS: dominoes on a board that has lost two corners
+formulas.py turned_board SIZE              DIMACS: that board, and the clauses of `turns`
 formulas.py multiplier BITS                DIMACS: a * b and b * a, told to differ
 formulas.py extended HOLES                 DRAT: the proof of `pigeons` by Cook's definitions
 formulas.py swaps HOLES                    DRAT: the proof of `pigeons` by swapping rows, one after the other
+formulas.py exchanges HOLES                DPR: the proof of `pigeons` by exchanging the holes of two
+formulas.py pair_exchanges HOLES           DPR: the proof of `pairs` by exchanging the holes of two
+formulas.py turns SIZE                     DPR: of `board`, no two dominoes lie side by side where they can be turned
 """
 
 import itertools
@@ -30,6 +36,38 @@ def pigeons(holes):
     clauses = [[at[pigeon, hole] for hole in range(holes)] for pigeon in range(holes + 1)]
     for hole in range(holes):
         clauses += [[-at[a, hole], -at[b, hole]] for a, b in itertools.combinations(range(holes + 1), 2)]
+    return clauses
+
+
+def pair_places(holes):
+    return {(pigeon, hole): pigeon * holes + hole + 1 for pigeon in range(2 * holes + 1) for hole in range(holes)}
+
+
+def pairs(holes):
+    at, birds = pair_places(holes), range(2 * holes + 1)
+    clauses = [[at[pigeon, hole] for hole in range(holes)] for pigeon in birds]
+    for hole in range(holes):
+        clauses += [[-at[it, hole] for it in three] for three in itertools.combinations(birds, 3)]
+    return clauses
+
+
+def board_places(size):
+    """The dominoes of each square, and the variable of each pair of squares: all but two corners of a board."""
+    lost = ((0, 0), (size - 1, size - 1))
+    at = {it: [] for it in itertools.product(range(size), repeat=2) if it not in lost}
+    dominoes = [(a, b) for a in at for b in ((a[0] + 1, a[1]), (a[0], a[1] + 1)) if b in at]
+    numbers = {domino: n for n, domino in enumerate(dominoes, 1)}
+    for (a, b), number in numbers.items():
+        at[a].append(number)
+        at[b].append(number)
+    return at, numbers
+
+
+def board(size):
+    clauses = []
+    for some in board_places(size)[0].values():
+        clauses.append(some)
+        clauses += [[-a, -b] for a, b in itertools.combinations(some, 2)]
     return clauses
 
 
@@ -147,6 +185,47 @@ def swaps(holes):
     yield False, []
 
 
+def exchanged(clause, made_true):
+    """An addition with a witness: the literals of the clause come again, and others."""
+    return False, clause + clause + made_true
+
+
+def exchanges(holes):
+    """Steps: whoever is in the last hole, but the last pigeon, takes its hole and leaves it the last one."""
+    at = pigeon_places(holes)
+    for last in range(holes, 0, -1):
+        for one in range(last):
+            for hole in range(last - 1):
+                yield exchanged([-at[one, last - 1], -at[last, hole]], [at[one, hole], at[last, last - 1]])
+            yield False, [-at[one, last - 1]]
+    yield False, []
+
+
+def pair_exchanges(holes):
+    """Steps: whoever is in the last hole exchanges holes with both of the last two pigeons, so that they are there alone."""
+    at = pair_places(holes)
+    for last in range(holes, 0, -1):
+        for one in range(2 * last - 1):
+            for other in (2 * last, 2 * last - 1):
+                for hole in range(last - 1):
+                    yield exchanged([-at[one, last - 1], -at[other, hole]], [at[one, hole], at[other, last - 1]])
+                yield False, [-at[one, last - 1], at[other, last - 1]]
+            yield False, [-at[one, last - 1]]
+    yield False, []
+
+
+def turns(size):
+    at, numbers = board_places(size)
+    for a in at:
+        b, c, d = (a[0], a[1] + 1), (a[0] + 1, a[1]), (a[0] + 1, a[1] + 1)
+        if all(it in at for it in (b, c, d)):
+            yield exchanged([-numbers[a, b], -numbers[c, d]], [numbers[a, c], numbers[b, d]])
+
+
+def turned_board(size):
+    return board(size) + [clause[:2] for _, clause in turns(size)]
+
+
 def dimacs(clauses):
     variables = max((abs(it) for clause in clauses for it in clause), default=0)
     return f"p cnf {variables} {len(clauses)}\n" + "".join(f"{' '.join(map(str, [*it, 0]))}\n" for it in clauses)
@@ -174,9 +253,15 @@ def main(family, *words):
     made = {
         "random": lambda: dimacs(random_clauses(*numbers)),
         "pigeons": lambda: dimacs(pigeons(*numbers)),
+        "pairs": lambda: dimacs(pairs(*numbers)),
+        "board": lambda: dimacs(board(*numbers)),
+        "turned_board": lambda: dimacs(turned_board(*numbers)),
         "multiplier": lambda: dimacs(multiplier(*numbers)),
         "extended": lambda: drat(extended(*numbers)),
         "swaps": lambda: drat(swaps(*numbers)),
+        "exchanges": lambda: drat(exchanges(*numbers)),
+        "pair_exchanges": lambda: drat(pair_exchanges(*numbers)),
+        "turns": lambda: drat(turns(*numbers)),
     }
     sys.stdout.write(made[family]())
 

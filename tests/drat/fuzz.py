@@ -10,16 +10,12 @@ refused is judged by `refusal.py`.
 
 import itertools
 import random
-import re
 import subprocess
 import sys
 import tempfile
 
 import refusal
 from formulas import binary_drat, dimacs, drat
-
-NOT_REDUNDANT = re.compile(r"proof: step (\d+): clause neither follows nor is redundant by its first literal\n")
-
 
 def propagate(clauses, true):
     """The literals that follow by units, or None for a conflict."""
@@ -248,7 +244,8 @@ def try_case(program, seed, folder, counts):
         file.write(dimacs(case.formula))
     with open(f"{folder}/a.drat", "wb") as file:
         file.write(proof)
-    ran = subprocess.run([program, f"{folder}/a.cnf", f"{folder}/a.drat"], capture_output=True, text=True, timeout=60)
+    call = [program, "--drat", f"{folder}/a.cnf", f"{folder}/a.drat"]
+    ran = subprocess.run(call, capture_output=True, text=True, timeout=60)
     is_verified = ran.stdout == "s VERIFIED UNSAT\n" and ran.returncode == 0
     if not is_verified and ran.returncode not in (1, 3):
         return f"status {ran.returncode}"
@@ -259,7 +256,7 @@ def try_case(program, seed, folder, counts):
     met, plain = meets_definition(case.formula, case.steps)
     if met and plain and not is_cut and not is_verified:
         return f"not verified: {ran.stdout}{ran.stderr}"
-    if not is_right(f"{folder}/a.cnf", f"{folder}/a.drat", ran):
+    if not is_right(f"{folder}/a.cnf", f"{folder}/a.drat", ran, refusal.drat_steps):
         return f"refused, and it is not shown why: {ran.stdout}{ran.stderr}"
     if met or is_cut or is_satisfiable(case.formula):
         return None
@@ -269,13 +266,13 @@ def try_case(program, seed, folder, counts):
     return "verified by steps that are wrong" if is_verified else None
 
 
-def is_right(cnf, proof, ran):
+def is_right(cnf, proof, ran, read=refusal.dpr_steps):
     """Whether a refusal, if it is one of a step that is read, is right."""
-    step = NOT_REDUNDANT.match(ran.stderr)
+    step = refusal.refused_step(ran.stderr)
     if not step and ran.stdout != "s NOT VERIFIED\n":
         return True
-    formula, steps = refusal.read_formula(cnf), refusal.read_proof(proof)
-    return refusal.step_is_refuted(formula, steps, int(step[1])) if step else refusal.ends_open(formula, steps)
+    formula, steps = refusal.read_formula(cnf), read(refusal.read_proof(proof))
+    return refusal.step_is_refuted(formula, steps, step) if step else refusal.ends_open(formula, steps)
 
 
 def main(program, count, first=1):

@@ -1,18 +1,51 @@
 """Whether a refusal of `drat_check` is right: a judge that shares nothing with the program.
 
-refusal.py CNF PROOF STEP       the clause that this step of a DRAT proof adds neither follows nor is redundant
+refusal.py CNF PROOF STEP       the clause that this step of a DRAT or DPR proof adds neither follows nor is redundant
 refusal.py CNF PROOF end        the clauses come to no conflict by propagation, up to the proof's end
 
 It shows that by a partial assignment over the clauses that are there before the step. Under it every literal of the step's
 clause is false; every clause that is there has a true literal, or two others that are free; and so far the clause does not
-follow. One clause with the negation of the first literal has its other literals false too, so it is not redundant either. How the
-assignment was found is of no matter: `refuted` looks at every clause once more.
+follow. One clause that the witness makes no literal of true, and some false, has its other literals false too, so it is not redundant
+either. The witness is the first literal, where no other one is given. How the assignment was found is of no matter: `refuted` looks
+at every clause once more.
 
 Deletions are honoured. Where nothing is shown so, those of clauses that can be the reason of a unit are passed over.
 """
 
 import re
 import sys
+
+
+STEP_FAULTS = [
+    re.compile(rf"proof: step (\d+): {it}\n")
+    for it in (
+        "clause neither follows nor is redundant by its first literal",
+        "clause neither follows nor is redundant by its witness",
+        "witness contradicts itself",
+    )
+]
+
+
+def refused_step(errors):
+    """The number of the step that is refused, where one is."""
+    found = [it[1] for it in (fault.match(errors) for fault in STEP_FAULTS) if it]
+    return int(found[0]) if found else None
+
+
+def parts(literals):
+    """The clause of an addition and its witness, which begins where the first literal comes again; each literal once."""
+    start = next((at for at, it in enumerate(literals) if at and it == literals[0]), len(literals))
+    return list(dict.fromkeys(literals[:start])), list(dict.fromkeys(literals[start:] or literals[:1]))
+
+
+def dpr_steps(steps):
+    """Steps as whether they delete, the clause, and the witness of an addition."""
+    return [(gone, literals, []) if gone else (gone, *parts(literals)) for gone, literals in steps]
+
+
+def drat_steps(steps):
+    """The same of steps in which a literal that comes again says nothing more."""
+    return [(gone, list(dict.fromkeys(literals)), literals[:1]) for gone, literals in steps]
 
 
 class Assignment:
@@ -92,28 +125,35 @@ def at_rest(clauses, true):
     return True
 
 
-def refuted(clauses, clause, other, true):
+def left_by(witness, clause):
+    """What the witness leaves of a clause, or None where it has no literal false or one true."""
+    left = [it for it in clause if -it not in witness]
+    return None if len(left) == len(clause) or any(it in witness for it in left) else left
+
+
+def refuted(clauses, clause, witness, other, true):
     """Whether the assignment shows that the clause neither follows nor is redundant, the latter by the other clause."""
     if not at_rest(clauses, true) or any(-it not in true for it in clause):
         return False
     if not clause:
         return True
-    rest = [it for it in other if it != -clause[0]]
-    return other in clauses and -clause[0] in other and all(-it in true for it in rest)
+    left = left_by(witness, other)
+    return other in clauses and left is not None and all(-it in true for it in left)
 
 
-def is_refuted(clauses, clause):
+def is_refuted(clauses, clause, witness):
     """Whether an assignment is found that shows it, and does."""
     found = Assignment(clauses)
     if is_tautology(clause) or not found.is_open or not found.extend([-it for it in clause]):
         return False
     if not clause:
-        return refuted(clauses, clause, None, found.true)
+        return refuted(clauses, clause, witness, None, found.true)
     mark = len(found.trail)
-    for key in found.holders.get(-clause[0], ()):
+    for key in sorted({key for it in witness for key in found.holders.get(-it, ())}):
         other = clauses[key]
-        if found.extend([-it for it in other if it != -clause[0]]):
-            return refuted(clauses, clause, other, found.true)
+        left = left_by(witness, other)
+        if left is not None and found.extend([-it for it in left]):
+            return refuted(clauses, clause, witness, other, found.true)
         found.back(mark)
     return False
 
@@ -123,8 +163,8 @@ class Clauses:
 
     def __init__(self, formula, steps, passes_over):
         self.counts, self.units, self.passes_over = {}, Assignment(), passes_over
-        for step in [(False, it) for it in formula] + steps:
-            self.take(*step)
+        for gone, clause, *_ in [(False, it) for it in formula] + steps:
+            self.take(gone, clause)
 
     def take(self, gone, clause):
         clause = frozenset(clause)
@@ -150,10 +190,11 @@ class Clauses:
 
 def step_is_refuted(formula, steps, number):
     """Whether the step of this number, from 1 on, adds a clause that neither follows nor is redundant."""
-    gone, clause = steps[number - 1]
-    clause = list(dict.fromkeys(clause))
+    gone, clause, witness = steps[number - 1]
     before = steps[: number - 1]
-    return not gone and any(is_refuted(Clauses(formula, before, it).there(), clause) for it in (False, True))
+    if is_tautology(witness):
+        return not gone
+    return not gone and any(is_refuted(Clauses(formula, before, it).there(), clause, witness) for it in (False, True))
 
 
 def ends_open(formula, steps):
@@ -211,7 +252,7 @@ def read_proof(path):
 
 
 def main(cnf, proof, step):
-    formula, steps = read_formula(cnf), read_proof(proof)
+    formula, steps = read_formula(cnf), dpr_steps(read_proof(proof))
     right = ends_open(formula, steps) if step == "end" else step_is_refuted(formula, steps, int(step))
     if not right:
         print(f"not shown: a refusal at {step} of {proof}")

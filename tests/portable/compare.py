@@ -113,10 +113,11 @@ def cases(name, data, rng):
 
 
 def calls(name):
-    """Calls that are made over a pair that is right."""
+    """Calls that are made over a pair that is right. Where a word is `-`, standard input is the file that is meant."""
     made = [["--version"], ["--example"], [], ["formula", "none"], ["formula", "."], ["none", "second"]]
+    made += [["-", "second"], ["formula", "-"], ["-", "-"], ["-", "none"]]
     if name == "drat_check":
-        made += [["formula", "second", "--lrat", "written"], ["formula", "second", "--lrat", "second"]]
+        made += [["formula", "second", "--lrat", "written"], ["formula", "second", "--lrat", "second"], ["formula", "second", "--lrat", "-"]]
     return made
 
 
@@ -134,7 +135,9 @@ class Forms:
 
     def answer(self, command, words):
         """Status, output, errors, and what is written."""
-        ran = subprocess.run([*shlex.split(command), *words], cwd=self.work, capture_output=True, stdin=subprocess.DEVNULL)
+        meant = os.devnull if "-" not in words[:2] else f"{self.work}/{('formula', 'second')[words.index('-')]}"
+        with open(meant, "rb") as stdin:
+            ran = subprocess.run([*shlex.split(command), *words], cwd=self.work, capture_output=True, stdin=stdin)
         written = f"{self.work}/written"
         text = read(written) if os.path.exists(written) else None
         if text is not None:

@@ -1,10 +1,13 @@
 """The package of the wheel, where it is installed: each shape of a formula, a proof and a model that it takes, by both kinds of call.
 
     wheel.py DATA
+
+What asks for a program that the wheel was made without is not tried.
 """
 
 import os
 import sys
+import sysconfig
 import tempfile
 
 import cefindrato
@@ -20,6 +23,10 @@ class CNF:
     clauses = FOUR
 
 
+def has(name):
+    return os.path.isfile(f"{sysconfig.get_path('scripts')}/{name}")
+
+
 def refused(call, *arguments, **named):
     try:
         call(*arguments, **named)
@@ -28,23 +35,28 @@ def refused(call, *arguments, **named):
     return "no fault"
 
 
-def by_programs(folder):
+FORMULAS = (FOUR, CNF(), TEXT, tuple(map(tuple, FOUR)))
+
+
+def by_drat(folder):
     cnf, drat = os.path.join(folder, "four.cnf"), os.path.join(folder, "-four.drat")
-    with open(cnf, "wb") as file:
-        file.write(TEXT)
     with open(drat, "w", encoding="ascii") as file:
         file.write("1 0\n0\n")
-    for formula in (FOUR, CNF(), TEXT, cnf, tuple(map(tuple, FOUR))):
+    for formula in (*FORMULAS, cnf):
         assert cefindrato.check_unsat(formula, ["1 0", "0"]) is True
         assert cefindrato.check_unsat(formula, drat) is True
         assert cefindrato.check_unsat(formula, b"a\x02\x00a\x00") is True
-        assert cefindrato.check_unsat(formula, ["5 1 0 1 2 0", "6 0 5 3 4 0"], kind="lrat") is True
         assert cefindrato.check_unsat(formula, ["1 0"][:0]) is False
     os.chdir(folder)
     assert cefindrato.check_unsat("four.cnf", "-four.drat") is True
     assert refused(cefindrato.check_unsat, FOUR[:3], ["-1 0", "0"]) == WRONG
-    assert refused(cefindrato.check_unsat, FOUR, ["1 0", "0"], kind="lrat").startswith("proof: line 1")
     assert refused(cefindrato.check_unsat, "none.cnf", drat).startswith("cannot open ")
+
+
+def by_lrat(folder):
+    for formula in (*FORMULAS, os.path.join(folder, "four.cnf")):
+        assert cefindrato.check_unsat(formula, ["5 1 0 1 2 0", "6 0 5 3 4 0"], kind="lrat") is True
+    assert refused(cefindrato.check_unsat, FOUR, ["1 0", "0"], kind="lrat").startswith("proof: line 1")
 
 
 def of_models():
@@ -71,7 +83,13 @@ def while_it_is_written(folder):
 
 
 with tempfile.TemporaryDirectory() as own:
-    by_programs(own)
-    of_models()
+    with open(os.path.join(own, "four.cnf"), "wb") as four:
+        four.write(TEXT)
+    if has("drat_check"):
+        by_drat(own)
+    if has("lrat_check"):
+        by_lrat(own)
+        while_it_is_written(own)
+    if has("model_check"):
+        of_models()
     by_library(sys.argv[1])
-    while_it_is_written(own)

@@ -33,10 +33,11 @@ def check_crate(crate):
 
 
 def take_kept(crate, room):
-    """Copies what a check of the crate has kept."""
+    """Copies what a check of the crate has kept; where `rt` has a copy of its own, of links, by that."""
     kept = f"{crate}/out/incremental"
+    copy = getattr(rt, "linked", shutil.copytree)
     if os.path.isdir(kept):
-        getattr(rt, "linked", shutil.copytree)(kept, f"{room}/over")
+        copy(kept, f"{room}/over")
 
 
 def copy_crate(crate, room):

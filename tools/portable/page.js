@@ -3,7 +3,7 @@ const find = (id) => document.getElementById(id)
 const MOST = 2 ** 31
 const HEAD = 1 << 16
 const KINDS = {
-  drat: { program: 'drat_check', second: 'proof', about: 'DRAT or FRAT, text or binary' },
+  drat: { program: 'drat_check', second: 'proof', about: 'DRAT, DPR or FRAT, text or binary' },
   lrat: { program: 'lrat_check', second: 'proof', about: 'LRAT text' },
   model: { program: 'model_check', second: 'answer', about: 's and v lines, or literals up to a 0' },
 }

@@ -38,14 +38,10 @@ def packed(version, top, static, library):
     """The files of the wheel, with their modes."""
     info, scripts = f"cefindrato-{version}.dist-info", f"cefindrato-{version}.data/scripts"
     documents = f"{static}/share/doc/cefindrato"
-    own = read(f"{top}/tools/release/cefindrato.py")
-    about = own.decode().split('"""')[1].strip()
-    files = {
-        "cefindrato/__init__.py": (own, 0o644),
-        "cefindrato/library.py": (read(f"{top}/bindings/python/cefindrato.py"), 0o644),
-        "cefindrato/running.py": (read(f"{top}/bindings/python/cefindrato_running.py"), 0o644),
-        "cefindrato/libcefindrato.so": (read(library), 0o755),
-    }
+    package = f"{top}/bindings/python/cefindrato"
+    about = read(f"{package}/__init__.py").decode().split('"""')[1].strip()
+    files = {f"cefindrato/{name}": (read(f"{package}/{name}"), 0o644) for name in sorted(os.listdir(package)) if name != "__pycache__"}
+    files["cefindrato/libcefindrato.so"] = (read(library), 0o755)
     for name in sorted(os.listdir(f"{static}/bin")):
         files[f"{scripts}/{name}"] = (read(f"{static}/bin/{name}"), 0o755)
     files[f"{info}/METADATA"] = (METADATA.format(version=version, about=about).encode(), 0o644)

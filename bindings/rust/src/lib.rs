@@ -1,96 +1,154 @@
-//! The proved checker of LRAT proofs.
+//! Proved checkers of SAT solvers' proofs and answers, over texts in memory.
+//!
+//! Nothing is kept between calls, and any number of threads may call at once.
+//!
+//! ```
+//! use cefindrato::{check_drat, DratOptions, Verdict};
+//!
+//! let formula = b"p cnf 2 4\n1 2 0\n1 -2 0\n-1 2 0\n-1 -2 0\n";
+//! let answer = check_drat(formula, b"1 0\n0\n", DratOptions::default())?;
+//! assert_eq!(answer.verdict, Verdict::Verified);
+//! # Ok::<(), cefindrato::Fault>(())
+//! ```
+#![warn(missing_docs)]
 use std::fmt;
 
-#[repr(C)]
-struct Answer {
-    status: u8,
-    text_len: usize,
-}
-
-extern "C" {
-    fn cefindrato_lrat_check(
-        cnf: *const u8,
-        cnf_len: usize,
-        proof: *const u8,
-        proof_len: usize,
-        text: *mut u8,
-        text_len: usize,
-    ) -> Answer;
-}
+mod library;
 
 /// What an accepted proof shows.
 #[derive(Clone, Copy, Debug, PartialEq, Eq)]
 pub enum Verdict {
     /// No assignment satisfies the clauses of the formula's text.
     Verified,
-    /// Every line is accepted, and none adds the empty clause.
+    /// All of the proof is accepted, and it shows nothing.
     NotVerified,
+}
+
+/// What a solver's answer is to a formula.
+#[derive(Clone, Copy, Debug, PartialEq, Eq)]
+pub enum ModelVerdict {
+    /// Each assignment that agrees with the answer satisfies the formula, and there is one.
+    Verified,
+    /// A clause has no literal of the answer.
+    NotVerified {
+        /// The number of the first such clause, counted from 1.
+        clause: u64,
+        /// The line on which it ends.
+        line: u64,
+    },
 }
 
 /// Why there is no verdict: a text was refused, or there was no memory.
 #[derive(Clone, Debug, PartialEq, Eq)]
-pub struct Fault(String);
+pub struct Fault {
+    text: String,
+    is_out_of_memory: bool,
+}
+
+impl Fault {
+    /// Whether there was no memory. Nothing is said then of the formula or of the proof.
+    pub fn is_out_of_memory(&self) -> bool {
+        self.is_out_of_memory
+    }
+}
 
 impl fmt::Display for Fault {
     fn fmt(&self, f: &mut fmt::Formatter<'_>) -> fmt::Result {
-        f.write_str(&self.0)
+        f.write_str(&self.text)
     }
 }
 
 impl std::error::Error for Fault {}
 
-/// Checks an LRAT text against a DIMACS text. Nothing is kept between calls.
-pub fn check(cnf: &[u8], proof: &[u8]) -> Result<Verdict, Fault> {
-    let mut text = [0u8; 200];
-    // SAFETY: each pointer and length are of one slice, and `text` is a local of this call.
-    let answer = unsafe {
-        cefindrato_lrat_check(
-            cnf.as_ptr(),
-            cnf.len(),
-            proof.as_ptr(),
-            proof.len(),
-            text.as_mut_ptr(),
-            text.len(),
-        )
-    };
-    match answer.status {
-        0 => Ok(Verdict::Verified),
-        3 => Ok(Verdict::NotVerified),
-        _ => Err(Fault(String::from_utf8_lossy(&text[..answer.text_len]).into_owned())),
-    }
+/// The format of a proof.
+#[derive(Clone, Copy, Debug, Default, PartialEq, Eq)]
+pub enum Format {
+    /// Its first bytes tell it: FRAT, or else DPR, which is DRAT whose additions may have witnesses.
+    #[default]
+    Told,
+    /// DRAT, text or binary.
+    Drat,
+    /// FRAT, text or binary.
+    Frat,
+    /// LPR text, which is LRAT text whose clauses may have witnesses.
+    Lpr,
 }
 
-#[cfg(test)]
-mod tests {
-    use super::{check, Fault, Verdict};
+/// What [`check_drat`] is told of a proof, and what is wanted beside its verdict.
+#[derive(Clone, Copy, Debug, Default, PartialEq, Eq)]
+pub struct DratOptions {
+    /// The format of the proof.
+    pub format: Format,
+    /// Whether the proof is wanted as LRAT text.
+    pub lrat: bool,
+    /// Whether the clauses of the formula that the proof uses are wanted.
+    pub core: bool,
+}
 
-    const FOUR: &[u8] = b"1 2 0 1 -2 0 -1 2 0 -1 -2 0";
+/// What [`check_drat`] answers.
+#[derive(Clone, Debug, PartialEq, Eq)]
+pub struct DratAnswer {
+    /// What the proof shows.
+    pub verdict: Verdict,
+    /// The proof as LRAT text, where that is wanted and the proof is verified.
+    pub lrat: Option<Vec<u8>>,
+    /// The used clauses as DIMACS text, where they are wanted and the proof is verified.
+    pub core: Option<Vec<u8>>,
+}
 
-    #[test]
-    fn verdicts_and_faults() {
-        assert_eq!(check(FOUR, b"5 1 0 1 2 0\n6 0 5 3 4 0\n"), Ok(Verdict::Verified));
-        assert_eq!(check(FOUR, b"5 1 0 1 2 0\n"), Ok(Verdict::NotVerified));
-        assert_eq!(check(b"", b""), Ok(Verdict::NotVerified));
-        let fault = check(FOUR, b"5 1 0 1 2 0\n6 0 5 3 0\n").unwrap_err();
-        assert_eq!(fault.to_string(), "proof: line 2: hints end without a conflict");
+/// Checks an LRAT text against a DIMACS text.
+pub fn check(cnf: &[u8], proof: &[u8]) -> Result<Verdict, Fault> {
+    let mut room = library::text_room();
+    let answer = library::lrat_check(cnf, proof, &mut room);
+    verdict_of(answer.status, &room[..answer.text.len])
+}
+
+/// Checks a DRAT, DPR or FRAT proof, text or binary, or LPR text, against a DIMACS text.
+///
+/// Where LRAT text is wanted that is longer than eight times the proof and a megabyte, the proof is checked twice.
+pub fn check_drat(cnf: &[u8], proof: &[u8], options: DratOptions) -> Result<DratAnswer, Fault> {
+    let mut room = library::text_room();
+    let mut core = vec![0; if options.core { cnf.len() + 64 } else { 0 }];
+    let mut lrat = vec![0; if options.lrat { 8 * proof.len() + (1 << 20) } else { 0 }];
+    let mut answer = library::drat_check(cnf, proof, options, &mut lrat, &mut core, &mut room);
+    if answer.lrat.len < answer.lrat.whole {
+        lrat.resize(answer.lrat.whole, 0);
+        answer = library::drat_check(cnf, proof, options, &mut lrat, &mut core, &mut room);
     }
+    let verdict = verdict_of(answer.status, &room[..answer.text.len])?;
+    lrat.truncate(answer.lrat.len);
+    core.truncate(answer.core.len);
+    let is_verified = verdict == Verdict::Verified;
+    Ok(DratAnswer {
+        verdict,
+        lrat: (is_verified && options.lrat).then_some(lrat),
+        core: (is_verified && options.core).then_some(core),
+    })
+}
 
-    const BOARD: &[u8] = include_bytes!("../../../tests/data/board6.cnf");
-    const BOARD_PROOF: &[u8] = include_bytes!("../../../tests/data/board6.lrat");
+/// Checks a solver's answer that a formula is satisfiable against a DIMACS text.
+pub fn check_model(cnf: &[u8], answer: &[u8]) -> Result<ModelVerdict, Fault> {
+    let mut room = library::text_room();
+    let told = library::model_check(cnf, answer, &mut room);
+    Ok(match verdict_of(told.status, &room[..told.text.len])? {
+        Verdict::Verified => ModelVerdict::Verified,
+        Verdict::NotVerified => ModelVerdict::NotVerified { clause: told.clause, line: told.line },
+    })
+}
 
-    /// Each other thread has a proof that is cut within a line.
-    #[test]
-    fn threads_at_once() {
-        let cut = &BOARD_PROOF[..BOARD_PROOF.len() / 2];
-        let line = cut.iter().filter(|byte| **byte == b'\n').count() + 1;
-        let unfinished = Err(Fault(format!("proof: line {line}: unfinished line")));
-        std::thread::scope(|scope| {
-            let of = |n: usize| if n % 2 == 0 { BOARD_PROOF } else { cut };
-            let all: Vec<_> = (0..8).map(|n| scope.spawn(move || check(BOARD, of(n)))).collect();
-            for (n, one) in all.into_iter().enumerate() {
-                let wanted = if n % 2 == 0 { Ok(Verdict::Verified) } else { unfinished.clone() };
-                assert_eq!(one.join().unwrap(), wanted);
-            }
-        });
+/// The version of the library: 0.3.0 is `(0, 3, 0)`.
+pub fn version() -> (u32, u32, u32) {
+    let number = library::version();
+    (number / 10_000, number / 100 % 100, number % 100)
+}
+
+fn verdict_of(status: u8, text: &[u8]) -> Result<Verdict, Fault> {
+    match status {
+        library::VERIFIED => Ok(Verdict::Verified),
+        library::NOT_VERIFIED => Ok(Verdict::NotVerified),
+        _ => Err(Fault {
+            text: String::from_utf8_lossy(text).into_owned(),
+            is_out_of_memory: status == library::OUT_OF_MEMORY,
+        }),
     }
 }

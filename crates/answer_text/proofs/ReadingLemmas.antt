@@ -1,13 +1,13 @@
 -- Bytes of an answer, one after the other.
 use Rattle.std.proofs.Common.{◌≡◌, ℕ, suc, ◌<◌, arith, Bool, true, false, cond, not, List, [], ◌∷◌, ◌++◌, Option, Some, None, Result, Ok, Err, IfOk, refl, sym, ap, ◌∙◌, append_assoc, subst}
 use Rattle.std.specs.Option.{option_map}
-use Rattle.std.specs.Prelude.{IsErrAnd, IfErr, unwrap_or}
+use Rattle.std.specs.Prelude.{IsErrAnd, unwrap_or}
 use Rattle.std.proofs.lemmas.Result.{err_from_is_err_and}
 use Rattle.std.specs.Io.KnownBytes.{Consumes, Keeps, IsAtEnd}
 use Rattle.std.proofs.KnownBytes.{Consumes-trans, Consumes-nil}
 use Rattle.sat_rules.specs.Clauses.{has, negate}
-use Rattle.answer_text.specs.declared.fault.AnswerFault.{AnswerFault}
-use Rattle.answer_text.specs.declared.fault.AnswerFault.TheVariants as faults
+use Rattle.answer_text.specs.declared.fault.Stop.{Stop}
+use Rattle.answer_text.specs.declared.fault.Stop.TheVariants as stops
 use Rattle.answer_text.specs.declared.fault.AnswerKind.{AnswerKind}
 use Rattle.answer_text.specs.declared.fault.AnswerKind.TheVariants.{BothSigns, Unfinished, NoStatus}
 use Rattle.answer_text.specs.declared.literals.Literals.{Literals}
@@ -18,7 +18,7 @@ use Rattle.answer_text.specs.Answers.{Outcome, Lists, Faulty, Step, On, Off, tak
 use Rattle.answer_text.specs.Literals.{HasThe, IsConsistent, has_lit, listed}
 use Rattle.answer_text.specs.Places.{after, start}
 use Rattle.answer_text.proofs.ConsistencyLemmas.{ended, taken_consistent}
-use Rattle.answer_text.specs.Reading.{IsOutcome, Leads, IsTaken, FailsBy, ListsThe, Ends}
+use Rattle.answer_text.specs.Reading.{IsOutcome, Leads, IsTaken, FailsBy, ListsThe, Ends, fault_of}
 
 abbrev pub Known : Type 0
 Known = Option (List ℕ)
@@ -78,21 +78,19 @@ literal_on table lits line lit other a next e h is absent =
 
 -- ---- what is answered
 
-pub exits : {X : Type 0} (P : Result X AnswerFault → Type 0) (r : Result X AnswerFault) (e : AnswerFault) → IsErrAnd r (λ d. d ≡ e) → P (Err e) → P r
-exits P r e h p = let q = err_from_is_err_and r h in subst P (sym (q.1 ∙ ap (λ (d : AnswerFault). Err d) q.2)) p
+pub exits : {X E : Type 0} (P : Result X E → Type 0) (r : Result X E) (e : E) → IsErrAnd r (λ d. d ≡ e) → P (Err e) → P r
+exits {E = E} P r e h p = let q = err_from_is_err_and r h in subst P (sym (q.1 ∙ ap (λ (d : E). Err d) q.2)) p
 
 -- a byte was the fault
-pub fails_taken : (a b c : Known) (lits : List ℕ) (s : Spot) (x : ℕ) (table : Literals) (e : AnswerFault) → Leads a b lits s → Consumes b c (x ∷ []) →
-    IsTaken (step lits s x) table (Err e) → FailsBy a e
-fails_taken a b c lits s x table (faults.Read d) p h t = absurd t
-fails_taken a b c lits s x table (faults.Wrong line kind) p h t = byte_off a b c lits s x line kind p h t
-fails_taken a b c lits s x table faults.OutOfMemory p h t = tt
+pub fails_taken : (a b c : Known) (lits : List ℕ) (s : Spot) (x : ℕ) (table : Literals) (e : Stop) → Leads a b lits s → Consumes b c (x ∷ []) →
+    IsTaken (step lits s x) table (Err e) → FailsBy a (fault_of e)
+fails_taken a b c lits s x table (stops.Wrong line kind) p h t = byte_off a b c lits s x line kind p h t
+fails_taken a b c lits s x table stops.OutOfMemory p h t = tt
 
 -- the end of the text is the fault
-pub ends_off : (line : ℕ) (d : Step) (table : Literals) (e : AnswerFault) → IsTaken d table (Err e) → Ends (at_end line d) (Err e)
-ends_off line d table (faults.Read x) t = absurd t
-ends_off line d table (faults.Wrong at kind) t = ap (at_end line) t
-ends_off line d table faults.OutOfMemory t = tt
+pub ends_off : (line : ℕ) (d : Step) (table : Literals) (e : Stop) → IsTaken d table (Err e) → Ends (at_end line d) (Err e)
+ends_off line d table (stops.Wrong at kind) t = ap (at_end line) t
+ends_off line d table stops.OutOfMemory t = tt
 
 pub unlisted : (line : ℕ) (lits : List ℕ) (s : Spot) → not s.listed ≡ true → finish line lits s ≡ Faulty line Unfinished
 unlisted line lits s h = rw h refl
@@ -101,22 +99,19 @@ pub untold : (line : ℕ) (lits : List ℕ) (s : Spot) → not s.listed ≡ fals
 untold line lits s h k m = rw (h, k, m) refl
 
 -- the whole text was read
-pub ends_well : (a b c : Known) (lits : List ℕ) (s : Spot) (r : Result Literals AnswerFault) → IsConsistent (listed lits) → Leads a b lits s → Keeps b c → IsAtEnd c →
-    Ends (at_end s.line (step lits s 10)) r → IfOk r (ListsThe a)
-ends_well a b c lits s (Ok table) apart p k e h = record {
+pub ends_well : (a b c : Known) (lits : List ℕ) (s : Spot) (table : Literals) → IsConsistent (listed lits) → Leads a b lits s → Keeps b c → IsAtEnd c →
+    Ends (at_end s.line (step lits s 10)) (Ok table) → ListsThe a table
+ends_well a b c lits s table apart p k e h = record {
   lits = h.0;
   said = said_so a (at_end s.line (step lits s 10)) (Lists h.0) (text_ends a b c lits s p k e) h.1;
   apart = ended s.line (step lits s 10) h.0 (λ more next on. taken_consistent lits s.line (after s 10) more next apart on) h.1;
   has = h.2;
 }
-ends_well a b c lits s (Err f) apart p k e h = tt
 
-pub ends_ill : (a b c : Known) (lits : List ℕ) (s : Spot) (r : Result Literals AnswerFault) → Leads a b lits s → Keeps b c → IsAtEnd c → Ends (at_end s.line (step lits s 10)) r
-    → IfErr r (FailsBy a)
-ends_ill a b c lits s (Ok table) p k e h = tt
-ends_ill a b c lits s (Err (faults.Read d)) p k e h = absurd h
-ends_ill a b c lits s (Err (faults.Wrong line kind)) p k e h = said_so a (at_end s.line (step lits s 10)) (Faulty line kind) (text_ends a b c lits s p k e) h
-ends_ill a b c lits s (Err faults.OutOfMemory) p k e h = tt
+pub ends_ill : (a b c : Known) (lits : List ℕ) (s : Spot) (e : Stop) → Leads a b lits s → Keeps b c → IsAtEnd c → Ends (at_end s.line (step lits s 10)) (Err e)
+    → FailsBy a (fault_of e)
+ends_ill a b c lits s (stops.Wrong line kind) p k e h = said_so a (at_end s.line (step lits s 10)) (Faulty line kind) (text_ends a b c lits s p k e) h
+ends_ill a b c lits s stops.OutOfMemory p k e h = tt
 
 -- ---- room
 

@@ -5,6 +5,8 @@ use Rattle.std.specs.Prelude.{◌≡◌, ℕ, List, ◌++◌, Option, Result, Ok
 use Rattle.std.specs.Io.KnownBytes.{Consumes}
 use Rattle.answer_text.specs.declared.fault.AnswerFault.{AnswerFault}
 use Rattle.answer_text.specs.declared.fault.AnswerFault.TheVariants as faults
+use Rattle.answer_text.specs.declared.fault.Stop.{Stop}
+use Rattle.answer_text.specs.declared.fault.Stop.TheVariants as stops
 use Rattle.answer_text.specs.declared.literals.Literals.{Literals}
 use Rattle.answer_text.specs.declared.spot.Spot.{Spot}
 use Rattle.answer_text.specs.Literals.{HasThe, IsConsistent, listed}
@@ -40,16 +42,19 @@ FailsBy known (faults.Read e) = Unit {0}
 FailsBy known (faults.Wrong line kind) = IsOutcome known (Faulty line kind)
 FailsBy known faults.OutOfMemory = Unit {0}
 
--- what a byte did: the literals and the spot after it, or the fault
-abbrev pub IsTaken : Step → Literals → Result Spot AnswerFault → Type 0
+-- the fault that a stop is
+abbrev pub fault_of : Stop → AnswerFault
+fault_of (stops.Wrong line kind) = faults.Wrong line kind
+fault_of stops.OutOfMemory = faults.OutOfMemory
+
+-- what a byte did: the literals and the spot after it, or the stop
+abbrev pub IsTaken : Step → Literals → Result Spot Stop → Type 0
 IsTaken step table (Ok s) = (lits : List ℕ) × (step ≡ On lits s) × HasThe lits table
-IsTaken step table (Err (faults.Read e)) = ⊥
-IsTaken step table (Err (faults.Wrong line kind)) = step ≡ Off line kind
-IsTaken step table (Err faults.OutOfMemory) = Unit {0}
+IsTaken step table (Err (stops.Wrong line kind)) = step ≡ Off line kind
+IsTaken step table (Err stops.OutOfMemory) = Unit {0}
 
 -- the end of the text, which says this
-abbrev pub Ends : Outcome → Result Literals AnswerFault → Type 0
+abbrev pub Ends : Outcome → Result Literals Stop → Type 0
 Ends o (Ok table) = (lits : List ℕ) × (o ≡ Lists lits) × HasThe lits table
-Ends o (Err (faults.Read e)) = ⊥
-Ends o (Err (faults.Wrong line kind)) = o ≡ Faulty line kind
-Ends o (Err faults.OutOfMemory) = Unit {0}
+Ends o (Err (stops.Wrong line kind)) = o ≡ Faulty line kind
+Ends o (Err stops.OutOfMemory) = Unit {0}

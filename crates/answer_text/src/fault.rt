@@ -1,5 +1,5 @@
 //! Why an answer is not taken.
-ghost use Rattle.answer_text.specs.declared.fault.AnswerFault.TheVariants as faults;
+ghost use Rattle.answer_text.specs.declared.fault.Stop.TheVariants as stops;
 
 use std::alloc::AllocError;
 use std::io;
@@ -52,13 +52,35 @@ pub enum AnswerFault {
     OutOfMemory,
 }
 
-impl From<AllocError> for AnswerFault {
+/// Why a byte was not taken. A fault that may hold the error of a read is three times as long, and
+/// would be copied for each byte.
+#[derive(Clone, Copy)]
+pub(crate) enum Stop {
+    Wrong { line: u64, kind: AnswerKind },
+    OutOfMemory,
+}
+
+impl From<AllocError> for Stop {
     ghost use Rattle.std.specs.Prelude.{◌≡◌};
 
-    ghost from_gives = { λ _ fault. fault ≡ faults.OutOfMemory };
+    ghost from_gives = { λ _ stop. stop ≡ stops.OutOfMemory };
 
-    fn from(_e: AllocError) -> AnswerFault {
-        AnswerFault::OutOfMemory
+    fn from(_e: AllocError) -> Stop {
+        Stop::OutOfMemory
+    }
+}
+
+impl From<Stop> for AnswerFault {
+    ghost use Rattle.std.specs.Prelude.{◌≡◌};
+    ghost use Rattle.answer_text.specs.Reading.{fault_of};
+
+    ghost from_gives = { λ stop fault. fault ≡ fault_of stop };
+
+    fn from(stop: Stop) -> AnswerFault {
+        match stop {
+            Stop::Wrong { line, kind } => AnswerFault::Wrong { line, kind },
+            Stop::OutOfMemory => AnswerFault::OutOfMemory,
+        }
     }
 }
 

@@ -4,7 +4,7 @@ ghost use Rattle.answer_text.specs.Answers.{at_end, finish, step};
 ghost use Rattle.answer_text.specs.Literals.{HasThe};
 ghost use Rattle.answer_text.specs.Reading.{Ends, FailsBy, IsTaken, ListsThe};
 
-use crate::fault::{AnswerFault, AnswerKind};
+use crate::fault::{AnswerFault, AnswerKind, Stop};
 use crate::literals::Literals;
 use crate::spot::{After, Spot};
 use sat_formula::source::{NoByte, Source};
@@ -29,7 +29,7 @@ pub fn read_answer<R: Read + Drop>(alloc: Global, answer: R) -> Result<Literals,
     'bytes: loop {
         match source.next_byte() {
             Ok(byte) => spot = take(&mut literals, spot, byte)?,
-            Err(NoByte::End) => return end(literals, spot),
+            Err(NoByte::End) => return Ok(end(literals, spot)?),
             Err(NoByte::Read) => return Err(AnswerFault::Read(source.error())),
             Err(NoByte::OutOfMemory) => return Err(AnswerFault::OutOfMemory),
         }
@@ -38,7 +38,7 @@ pub fn read_answer<R: Read + Drop>(alloc: Global, answer: R) -> Result<Literals,
 
 /// Takes a byte: where the reading stands after it.
 #[inline(always)]
-fn take(literals: &mut Literals, spot: Spot, byte: u8) -> Result<Spot, AnswerFault>
+fn take(literals: &mut Literals, spot: Spot, byte: u8) -> Result<Spot, Stop>
     ensures { (lits : List ℕ) → HasThe lits literals.old
         → IsTaken (step lits spot byte) literals.new result }
 {
@@ -56,7 +56,7 @@ fn take(literals: &mut Literals, spot: Spot, byte: u8) -> Result<Spot, AnswerFau
 }
 
 /// Ends the text.
-fn end(mut literals: Literals, spot: Spot) -> Result<Literals, AnswerFault>
+fn end(mut literals: Literals, spot: Spot) -> Result<Literals, Stop>
     ensures { (lits : List ℕ) → HasThe lits literals
         → Ends (at_end spot.line (step lits spot 10)) result }
 {
@@ -71,10 +71,10 @@ fn end(mut literals: Literals, spot: Spot) -> Result<Literals, AnswerFault>
 }
 
 /// A fault on the line where the reading stands.
-fn wrong(spot: Spot, kind: AnswerKind) -> AnswerFault
-    ensures { result ≡ AnswerFault.Wrong spot.line kind }
+fn wrong(spot: Spot, kind: AnswerKind) -> Stop
+    ensures { result ≡ Stop.Wrong spot.line kind }
 {
-    AnswerFault::Wrong {
+    Stop::Wrong {
         line: spot.line,
         kind,
     }

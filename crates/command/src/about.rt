@@ -73,6 +73,24 @@ pub(crate) const VERSION: Entry<'static> = Entry {
     text: "says of which version it is",
 };
 
+/// Of a program that tells how far a run has come: it does not.
+pub const QUIET: Entry<'static> = Entry {
+    name: "--quiet",
+    text: "says nothing of how far a long run has come, on a terminal neither",
+};
+
+/// Of such a program: it does so in lines, wherever standard error goes.
+pub const VERBOSE: Entry<'static> = Entry {
+    name: "--verbose",
+    text: "says twice a second on standard error how far a run has come, as it does on a terminal",
+};
+
+/// Of a program that counts: it says what.
+pub const STATS: Entry<'static> = Entry {
+    name: "--stats",
+    text: "says at the end on standard error what was counted, in lines c NAME NUMBER",
+};
+
 /// The options of all programs.
 const COMMON_OPTIONS: [Entry<'static>; 2] = [HELP, VERSION];
 

@@ -1,5 +1,6 @@
 //! How a program begins: with the words of its call.
-ghost use Rattle.std.specs.Prelude.{◌≡◌};
+ghost use Rattle.std.specs.Prelude.{◌≡◌, IfOk, codes, true};
+ghost use Rattle.command.specs.Calls.{choices_of, is_given, is_one_flag, operands_of};
 
 use crate::about::About;
 use crate::call::{Call, read_words};
@@ -14,8 +15,13 @@ const WORD_LENGTH: usize = 4096;
 /// Reads the words of a call, as the program says them of itself.
 ///
 /// An Err is the exit status of a call that ends here: `--help` and `--version` are answered, and
-/// of words that can't be read a line on standard error says which one is wrong.
-pub fn start<'a>(rt: &HostRuntime, about: &'a About<'a>) -> Result<Call<'a>, u8> {
+/// of words that can't be read a line on standard error says which one is wrong. `--example` stands
+/// alone.
+pub fn start<'a>(rt: &HostRuntime, about: &'a About<'a>) -> Result<Call<'a>, u8>
+    ensures example { IfOk result (λ call.
+        is_given (choices_of call) (codes "--example") ≡ true
+        → is_one_flag (operands_of call) (choices_of call) ≡ true) }
+{
     let mut words = match env::args(rt) {
         Ok(words) => words,
         Err(fault) => {
@@ -33,6 +39,9 @@ pub fn start<'a>(rt: &HostRuntime, about: &'a About<'a>) -> Result<Call<'a>, u8>
     }
     if call.has("--version") {
         return Err(version(rt, about.program()));
+    }
+    if call.has("--quiet") && call.has("--verbose") {
+        return Err(misused(rt, about, "--quiet and --verbose can't both stand"));
     }
     if call.has("--example") && !call.is_one_word() {
         return Err(misused(rt, about, "--example stands alone"));

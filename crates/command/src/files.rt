@@ -3,7 +3,6 @@
 ghost use Rattle.std.specs.Prelude.{◌≡◌, ◌⊎◌, ◌↔◌, IfOk, IfSome, IsNone, IsSome, IsTrue, codes};
 ghost use Rattle.command.specs.Inputs.{IsOpenedBy, is_standard_input};
 
-use crate::header::CountingReader;
 use std::fmt::Display;
 use std::fs::{File, Metadata};
 use std::io::{Read, Stdin};
@@ -45,6 +44,16 @@ impl Source {
 pub struct Input<'a> {
     pub name: &'a str,
     pub file: Source,
+}
+
+impl Input<'_> {
+    /// How many bytes there are of a regular file.
+    pub fn length(&self, rt: &HostRuntime) -> Option<u64> {
+        match self.file.metadata(rt) {
+            Ok(data) if data.is_file() => Some(data.len()),
+            _ => None,
+        }
+    }
 }
 
 /// Opens a file, or takes descriptor 0, if it is open.
@@ -204,10 +213,10 @@ pub fn open_again(rt: &HostRuntime, name: &str) -> Option<File>
     File::open(rt, name).ok()
 }
 
-/// Warns on standard error where the header of a formula that was read whole says something else
-/// than what was read.
-pub fn warn_of_header<R: Read>(rt: &HostRuntime, name: &str, cnf: &CountingReader<R>) {
-    if let Some(header) = cnf.lying_header() {
+/// Warns on standard error where the header of a formula that was read whole lies: it says
+/// something else than what was read.
+pub fn warn_of_header<L: Display>(rt: &HostRuntime, name: &str, lie: &Option<L>) {
+    if let Some(header) = lie {
         let place = if name == "-" { "standard input" } else { name };
         let _ = eprintln!(rt; "warning: the header of {place} is {header}");
     }

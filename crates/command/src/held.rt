@@ -49,10 +49,10 @@ impl HeldBytes {
 
 /// Reads a file whole that is open. Of a regular one the memory taken is that of its length.
 pub fn hold_input(rt: &HostRuntime, input: Input<'_>) -> io::Result<HeldBytes> {
-    let expected = match input.file.metadata(rt) {
+    let expected = match input.length(rt) {
         // One byte more, so that the end is found without growing.
-        Ok(data) if data.is_file() => (data.len() as usize).saturating_add(1),
-        _ => 0,
+        Some(length) => (length as usize).saturating_add(1),
+        None => 0,
     };
     HeldBytes::of_reader(rt.alloc(), input.file, expected)
 }

@@ -4,21 +4,21 @@
 mod about;
 mod begin;
 mod call;
+mod cost;
 mod files;
-mod header;
 mod held;
 mod kind;
 mod places;
 mod status;
 
-pub use about::{About, Entry};
+pub use about::{About, Entry, QUIET, STATS, VERBOSE};
 pub use begin::{misused, start, unnamed};
 pub use call::{Call, Misuse, Setting, read_words};
+pub use cost::{Cost, say_figure};
 pub use files::{
     Input, Source, create_output, create_two_outputs, open_again, open_inputs, warn_of_header,
 };
-pub use header::{CountingReader, Counts, LyingHeader};
 pub use held::{HeldBytes, hold_input};
 pub use kind::{Kind, kind_of};
-pub use places::{say_answer, say_drat_proof, say_formula, say_proof};
+pub use places::{say_answer, say_drat_proof, say_formula, say_proof, say_unread};
 pub use status::{FAILED, NOT_RUN};

@@ -1,6 +1,10 @@
 //! What is said of a file that could not be read as what it should be.
+ghost use Rattle.std.specs.Prelude.{◌≡◌};
+
 use crate::files::open_again;
 use crate::kind::{Kind, kind_of};
+use crate::status::FAILED;
+use std::fmt::Display;
 use std::io::Read;
 
 /// How many bytes of such a file are looked at.
@@ -19,6 +23,16 @@ pub fn say_formula(rt: &HostRuntime, name: &str, other: &str) {
     if kind == Some(Kind::BinaryProof) || kind_of_file(rt, other) == Some(Kind::Formula) {
         ask_order(rt);
     }
+}
+
+/// Says on standard error why a formula could not be read, and what `say_formula` says, and gives
+/// the exit status.
+pub fn say_unread<D: Display + Drop>(rt: &HostRuntime, name: &str, other: &str, why: D) -> u8
+    ensures { result ≡ FAILED }
+{
+    let _ = eprintln!(rt; "{why}");
+    say_formula(rt, name, other);
+    FAILED
 }
 
 /// Says on standard error, after a fault of an answer, which file it is.

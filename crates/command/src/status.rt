@@ -1,8 +1,11 @@
 //! Exit statuses, and what ends a call with one.
-ghost use Rattle.std.specs.Prelude.{◌≡◌, ◌⊎◌, if◌then◌else◌, is_ok};
+ghost use Rattle.std.specs.Prelude.{◌≡◌, ◌≢◌, ◌⊎◌, IfErr, OnOk};
+ghost use Rattle.std.specs.IoError.{error_kind};
+ghost use Rattle.std.specs.declared.io.ErrorKind.TheVariants.{BrokenPipe};
 
 use crate::about::About;
 use std::io;
+use std::io::ErrorKind;
 
 /// The exit status of a call that failed.
 pub const FAILED: u8 = 1;
@@ -15,7 +18,7 @@ pub const NOT_RUN: u8 = 2;
 const VERSION: &str = "0.3.0 (varisat-checker 0.2.2)";
 
 /// Says on standard output what a program is. That was asked for, so the status is 0, or 1 if it
-/// can't be written.
+/// can't be written. Where nobody reads on, as behind `head`, it is 0.
 pub fn help(rt: &HostRuntime, about: &About<'_>) -> u8
     ensures { (result ≡ 0) ⊎ (result ≡ FAILED) }
 {
@@ -30,13 +33,19 @@ pub fn version(rt: &HostRuntime, name: &str) -> u8
     status_of(rt, println!(rt; "{name} {VERSION}"))
 }
 
-/// The status of a call that only writes. A fault is said on standard error.
+/// The status of a call that only writes. A fault is said on standard error, unless it is that
+/// nobody reads on.
 fn status_of(rt: &HostRuntime, written: io::Result<()>) -> u8
-    ensures { result ≡ (if is_ok written then 0 else FAILED) }
+    ensures written { OnOk written (result ≡ 0) }
+    ensures unread { IfErr written (λ fault. error_kind fault ≡ BrokenPipe → result ≡ 0) }
+    ensures failed { IfErr written (λ fault. error_kind fault ≢ BrokenPipe → result ≡ FAILED) }
 {
-    match written {
-        Ok(()) => 0,
-        Err(fault) => {
+    let Err(fault) = written else {
+        return 0;
+    };
+    match fault.kind() {
+        ErrorKind::BrokenPipe => 0,
+        _ => {
             let _ = eprintln!(rt; "error writing: {fault}");
             FAILED
         }

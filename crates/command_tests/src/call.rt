@@ -95,28 +95,38 @@ fn has_operands(rt: &impl Abort, call: &Call<'_>, operands: &[&str]) {
     }
 }
 
+fn has_settings(rt: &impl Abort, call: &Call<'_>, options: &[(&str, Option<&str>)]) {
+    assert_eq!(rt; call.settings.len(), options.len());
+    for (flag, value) in options {
+        assert!(rt; call.has(flag) && call.value(flag) == *value, "{flag}");
+    }
+    assert!(rt; !call.has("--nothing"));
+}
+
+/// The rows come as a slice: a loop over the table itself would build it in its function's proof.
+fn are_read(rt: &impl Abort, alloc: Global, rows: &[Row]) {
+    for (words, operands, options) in rows {
+        let call = read(rt, alloc, words).ok().expect(rt, "a call");
+        has_operands(rt, &call, operands);
+        has_settings(rt, &call, options);
+    }
+}
+
 #[test]
 fn words_of_calls(rt: HostRuntime) {
-    for (words, operands, options) in READ {
-        let call = read(&rt, rt.alloc(), words).ok().expect(&rt, "a call");
-        has_operands(&rt, &call, operands);
-        assert_eq!(rt; call.settings.len(), options.len());
-        for (flag, value) in options {
-            assert!(rt; call.has(flag), "{flag}");
-            assert_eq!(rt; call.value(flag), *value, "{flag}");
-        }
-        assert!(rt; !call.has("--nothing"));
+    are_read(&rt, rt.alloc(), &READ);
+}
+
+fn are_misread(rt: &impl Abort, alloc: Global, rows: &[(&[&str], &str)]) {
+    for (words, said) in rows {
+        let misuse = read(rt, alloc, words).err().expect(rt, "a wrong word");
+        let mut shown = Shown::new(alloc);
+        shown.value(&misuse);
+        assert_eq!(rt; shown.text(), *said);
     }
 }
 
 #[test]
 fn wrong_words_of_calls(rt: HostRuntime) {
-    for (words, said) in MISREAD {
-        let misuse = read(&rt, rt.alloc(), words)
-            .err()
-            .expect(&rt, "a wrong word");
-        let mut shown = Shown::new(rt.alloc());
-        shown.value(&misuse);
-        assert_eq!(rt; shown.text(), said);
-    }
+    are_misread(&rt, rt.alloc(), &MISREAD);
 }

@@ -1,5 +1,5 @@
 //! What no clause of `command` and `whole_writes` says, as tests: files by their first bytes,
-//! headers, what a program says of itself, the words of calls, and writers that take bytes in parts
+//! what a program says of itself, the words of calls, and writers that take bytes in parts
 //! or fail.
 //!
 //! They stand apart so that no library is proved a second time with them.

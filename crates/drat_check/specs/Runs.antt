@@ -4,12 +4,15 @@
 --     IsProofRun, IsCheckRun      the run of a proof after a formula, and after a formula's text
 --     IsEarly r, IsSilent r      the verdict's line did not fail;  no line of a verdict was begun
 --     OfFormula cnf P, HasNoFormula r      the whole text is a formula of which this is so;  it is none
-use Rattle.std.specs.Prelude.{◌≡◌, ℕ, Bool, false, List, Option, Result, Ok, Err}
+--     RunTellsLie cnf r told      this is told of the formula's header
+use Rattle.std.specs.Prelude.{◌≡◌, ℕ, Bool, false, List, Option, None, Result, Ok, Err}
 use Rattle.std.specs.Option.{option_map}
 use Rattle.sat_rules.specs.Clauses.{all_true}
+use Rattle.sat_formula.specs.declared.counts.LyingHeader.{LyingHeader}
 use Rattle.sat_formula.specs.Lines as dimacs
 use Rattle.sat_formula.specs.Outcome.{Ended}
 use Rattle.sat_formula.specs.Whole.{FailsAfter, IsOutcome}
+use Rattle.whole_formulas.specs.Lies.{IsLie}
 use Rattle.verdicts.specs.declared.verdict.Verdict.{Verdict}
 use Rattle.verdicts.specs.declared.verdict.Verdict.TheVariants.{Verified, NotVerified}
 use Rattle.drat_check.specs.declared.fault.RunFault.{RunFault}
@@ -75,3 +78,12 @@ HasNoFormula (Err (Proof fault)) = ⊥
 HasNoFormula (Err (Lrat cause)) = ⊥
 HasNoFormula (Err (Core cause)) = ⊥
 HasNoFormula (Err (Write cause)) = ⊥
+
+-- what the header lies about, where the formula was read whole; else nothing
+abbrev pub RunTellsLie : Option (List ℕ) → Result Verdict RunFault → Option LyingHeader → Type 0
+RunTellsLie cnf (Ok verdict) told = IsLie cnf told
+RunTellsLie cnf (Err (Formula fault)) told = told ≡ None
+RunTellsLie cnf (Err (Proof fault)) told = IsLie cnf told
+RunTellsLie cnf (Err (Lrat cause)) told = IsLie cnf told
+RunTellsLie cnf (Err (Core cause)) told = IsLie cnf told
+RunTellsLie cnf (Err (Write cause)) told = IsLie cnf told

@@ -2,6 +2,7 @@
 use drat_elaborate::ElaborateFault;
 use drat_text::DratFault;
 use lrat_checker::LineFault;
+use lrat_text::LratTextFault;
 use sat_formula::DimacsFault;
 use std::alloc::AllocError;
 use std::io;
@@ -13,6 +14,9 @@ pub enum ProofFault {
     /// The proof could not be read up to a conflict.
     #[error("proof: {0}")]
     Unread(DratFault),
+    /// The lines of an LPR proof could not be read up to a conflict.
+    #[error("proof: {0}")]
+    UnreadLine(LratTextFault),
     /// A step that the conflict needs is not right, or it is too much to be judged.
     #[error("proof: {0}")]
     Refused(ElaborateFault),
@@ -52,6 +56,12 @@ pub enum RunFault {
 impl From<DratFault> for ProofFault {
     fn from(fault: DratFault) -> ProofFault {
         ProofFault::Unread(fault)
+    }
+}
+
+impl From<LratTextFault> for ProofFault {
+    fn from(fault: LratTextFault) -> ProofFault {
+        ProofFault::UnreadLine(fault)
     }
 }
 

@@ -1,9 +1,10 @@
-//! Whether a DRAT or FRAT proof shows a formula to be unsatisfiable, said in one line.
+//! Whether a DRAT, DPR, FRAT or LPR proof shows a formula to be unsatisfiable, said in one line.
 //!
 //! The proof is turned into lines of an LRAT proof by a part that nobody has to trust, and each
 //! line goes to the checker of LRAT proofs. The verdict is that checker's.
 #![tactic(auto)]
 
+mod counts;
 mod fault;
 mod outputs;
 mod progress;
@@ -11,6 +12,7 @@ mod proof;
 mod reader;
 mod run;
 
+pub use counts::RunCounts;
 pub use fault::{ProofFault, RunFault};
 pub use outputs::Outputs;
 pub use reader::ProofFormat;

@@ -9,6 +9,7 @@ ghost use Rattle.whole_writes.specs.Beginnings.{AppendsBeginning};
 ghost use Rattle.drat_check.specs.Outputs.{BeganCore, BeganLines, IsLineFault, IsPartOf, WroteCore, WroteProof, bytes_in};
 ghost use Rattle.drat_check.specs.Runs.{IsUnsatisfiable};
 
+use crate::counts::{RunCounts, count_line};
 use crate::fault::{ProofFault, RunFault};
 use crate::proof::line_fault;
 use drat_elaborate::Elaborator;
@@ -17,16 +18,19 @@ use lrat_text::LratLine;
 use sat_formula::CnfFormula;
 use sat_output::{number_after, write_formula, write_lrat_line};
 use std::alloc::{AllocError, Global};
+use std::cell::Cell;
 use std::io;
 use std::io::Write;
 
-/// What a run writes beside its verdict, each where there is a writer for it.
+/// What a run writes beside its verdict, each where there is a writer for it, and what it counts.
 #[derive(Drop)]
 pub struct Outputs<L, C> {
     /// The lines of the LRAT proof.
     pub lrat: Option<L>,
     /// The clauses of the formula that they use.
     pub core: Option<C>,
+    /// What was counted so far. No clause speaks of it.
+    pub counts: Cell<RunCounts>,
 }
 
 /// Hands the elaborated lines to a checker that holds the formula, up to the empty clause, and
@@ -36,6 +40,7 @@ pub(crate) fn write_lines<L: Write>(
     formula: &CnfFormula,
     elaborator: &mut Elaborator,
     lrat: &mut Option<L>,
+    counts: &Cell<RunCounts>,
 ) -> Result<(), RunFault>
     ensures shown { OnOk result (IsUnsatisfiable formula.now) }
     ensures whole { OnOk result (WroteProof formula.now
@@ -62,6 +67,7 @@ pub(crate) fn write_lines<L: Write>(
                     return Err(RunFault::Lrat(fault));
                 }
                 last = number_after(last, entry);
+                count_line(counts, entry);
             }
             Ok(None) => return Err(RunFault::Proof(ProofFault::Unfinished)),
             Err(fault) => return Err(RunFault::Proof(ProofFault::from(fault))),

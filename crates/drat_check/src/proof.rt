@@ -1,8 +1,9 @@
 //! A proof, read and checked backward.
 ghost use Rattle.std.specs.Prelude.{◌≡◌, ◌≢◌};
 
+use crate::counts::{RunCounts, count_steps};
 use crate::fault::ProofFault;
-use crate::progress::{CountedBytes, STEPS_A_REPORT, tell_checked, tell_read};
+use crate::progress::{STEPS_A_REPORT, tell_checked};
 use crate::reader::{ProofFormat, ProofReader};
 use drat_elaborate::Elaborator;
 use log::Log;
@@ -13,24 +14,36 @@ use std::cell::Cell;
 use std::io::Read;
 
 /// Reads a formula and a proof into an elaborator, up to the first conflict.
-pub(crate) fn read_proof<L: Log, P: Read + Drop>(
-    rt: &L,
+pub(crate) fn read_proof<P: Read + Drop>(
     alloc: Global,
     formula: &CnfFormula,
     proof: P,
     format: ProofFormat,
+    counts: &Cell<RunCounts>,
 ) -> Result<Elaborator, ProofFault> {
     let mut elaborator = begun(alloc, formula)?;
-    let bytes = Cell::new(0);
-    let mut reader = ProofReader::new(alloc, CountedBytes::new(proof, &bytes), format)?;
+    let mut reader = ProofReader::new(alloc, proof, format)?;
+    let mut steps = 0;
+    let read = hand_steps(&mut reader, &mut elaborator, &mut steps);
+    count_steps(counts, steps);
+    read?;
+    Ok(elaborator)
+}
+
+/// Hands an elaborator the steps up to the first conflict, and counts them.
+fn hand_steps<P: Read + Drop>(
+    reader: &mut ProofReader<P>,
+    elaborator: &mut Elaborator,
+    count: &mut u64,
+) -> Result<(), ProofFault> {
     // The steps are fewer: the reader counts its bytes in 64 bits.
-    for step in 1..u64::MAX {
-        if elaborator.is_refuted() || !reader.hand_step(&mut elaborator)? {
+    for steps in 0..u64::MAX {
+        *count = steps;
+        if elaborator.is_refuted() || !reader.hand_step(elaborator)? {
             break;
         }
-        tell_read(rt, step, &bytes);
     }
-    Ok(elaborator)
+    Ok(())
 }
 
 /// An elaborator that has the formula.
@@ -45,12 +58,13 @@ fn begun(alloc: Global, formula: &CnfFormula) -> Result<Elaborator, ProofFault> 
 
 /// Checks backward what the conflict needs.
 pub(crate) fn elaborate<L: Log>(rt: &L, elaborator: &mut Elaborator) -> Result<(), ProofFault> {
+    let steps = elaborator.steps_left();
     // Each call but the last goes over steps, of which there are fewer.
     for _ in 0..u64::MAX {
         if elaborator.elaborate(STEPS_A_REPORT)? {
             break;
         }
-        tell_checked(rt, elaborator);
+        tell_checked(rt, elaborator, steps);
     }
     Ok(())
 }

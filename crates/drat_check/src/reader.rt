@@ -1,27 +1,34 @@
-//! Steps of a proof, DRAT or FRAT, for an elaborator.
+//! Steps of a proof, DRAT, DPR, FRAT or LPR, for an elaborator.
 use crate::fault::ProofFault;
 use drat_elaborate::Elaborator;
 use drat_text::bytes::Bytes;
 use drat_text::fault::DratFault;
 use drat_text::{DratReader, DratStep};
 use frat_text::{FratReader, is_frat};
+use lrat_text::LineReader;
 use std::alloc::Global;
 use std::io::Read;
 
-/// Whether a proof is DRAT or FRAT.
+/// Whether a proof is DRAT, DPR, FRAT or LPR.
 #[derive(Clone, Copy, Debug, PartialEq, Eq)]
 pub enum ProofFormat {
-    /// Its first bytes tell it: it is FRAT where the first step begins with `o`, `f`, `l` or `r`.
+    /// Its first bytes tell it: it is FRAT where the first step begins with `o`, `f`, `l` or `r`,
+    /// and else DPR, which is DRAT whose additions may have witnesses.
     Told,
+    /// DRAT, where a literal of a clause may come again and says nothing more.
     Drat,
     Frat,
+    /// LPR text, which is LRAT text whose clauses may have witnesses.
+    Lpr,
 }
 
 /// A reader of the steps of a proof.
 #[derive(Drop)]
 pub(crate) enum ProofReader<R> {
     Drat(DratReader<R>),
+    Dpr(DratReader<R>),
     Frat(FratReader<R>),
+    Lpr(LineReader<R>),
 }
 
 impl<R: Read + Drop> ProofReader<R> {
@@ -32,16 +39,20 @@ impl<R: Read + Drop> ProofReader<R> {
         proof: R,
         format: ProofFormat,
     ) -> Result<ProofReader<R>, DratFault> {
-        let mut bytes = Bytes::new(alloc, proof);
-        let is_frat = match format {
-            ProofFormat::Told => is_frat(&mut bytes)?,
-            ProofFormat::Drat => false,
-            ProofFormat::Frat => true,
-        };
-        if is_frat {
+        match format {
+            ProofFormat::Told => ProofReader::told(alloc, Bytes::new(alloc, proof)),
+            ProofFormat::Drat => Ok(ProofReader::Drat(DratReader::new(alloc, proof))),
+            ProofFormat::Frat => Ok(ProofReader::Frat(FratReader::new(alloc, proof))),
+            ProofFormat::Lpr => Ok(ProofReader::Lpr(LineReader::new(alloc, proof))),
+        }
+    }
+
+    /// A reader of a proof that tells its format.
+    fn told(alloc: Global, mut bytes: Bytes<R>) -> Result<ProofReader<R>, DratFault> {
+        if is_frat(&mut bytes)? {
             Ok(ProofReader::Frat(FratReader::over(alloc, bytes)))
         } else {
-            Ok(ProofReader::Drat(DratReader::over(alloc, bytes)))
+            Ok(ProofReader::Dpr(DratReader::over(alloc, bytes)))
         }
     }
 
@@ -54,8 +65,17 @@ impl<R: Read + Drop> ProofReader<R> {
                 Some(DratStep::Delete(lits)) => elaborator.delete_clause(lits)?,
                 None => return Ok(false),
             },
+            ProofReader::Dpr(reader) => match reader.next_step()? {
+                Some(DratStep::Add(lits)) => elaborator.add_dpr_lemma(lits)?,
+                Some(DratStep::Delete(lits)) => elaborator.delete_clause(lits)?,
+                None => return Ok(false),
+            },
             ProofReader::Frat(reader) => match reader.next_step()? {
                 Some(step) => elaborator.take_frat_step(step)?,
+                None => return Ok(false),
+            },
+            ProofReader::Lpr(reader) => match reader.next_line()? {
+                Some(line) => elaborator.take_lpr_line(line)?,
                 None => return Ok(false),
             },
         }

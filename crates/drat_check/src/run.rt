@@ -4,25 +4,28 @@ ghost use Rattle.std.specs.Io.KnownBytes.{Appends};
 ghost use Rattle.sat_rules.specs.Clauses.{all_true};
 ghost use Rattle.sat_formula.specs.Refuted.{IsRefuted};
 ghost use Rattle.drat_check.specs.Outputs.{WritesBefore, WritesOutputs};
-ghost use Rattle.drat_check.specs.Runs.{HasNoFormula, IsCheckRun, IsEarly, IsProofRun, IsSilent, OfFormula};
+ghost use Rattle.drat_check.specs.Runs.{HasNoFormula, IsCheckRun, IsEarly, IsProofRun, IsSilent, OfFormula, RunTellsLie};
 ghost use Rattle.verdicts.specs.Verdicts.{shown_line};
 ghost use Rattle.verdicts.specs.declared.verdict.Verdict.TheVariants.{Verified};
 
+use crate::counts::count_core;
 use crate::fault::RunFault;
 use crate::outputs::{Outputs, write_core, write_lines};
 use crate::proof::{elaborate, read_proof};
 use crate::reader::ProofFormat;
 use log::Log;
-use sat_formula::{CnfFormula, read_formula};
+use sat_formula::{CnfFormula, LyingHeader};
 use std::alloc::Global;
 use std::io::{Read, Write};
 use verdicts::{Verdict, write_line};
+use whole_formulas::read_formula;
 
 /// Reads a formula in DIMACS CNF, checks the proof, and writes the verdict's line, and before it
 /// what is wanted beside it.
 ///
 /// The proof is read only once the formula was read whole. What is written is as for `run_proof`;
-/// nothing is where the formula can't be read.
+/// nothing is where the formula can't be read. `lie` tells what the formula's header lies about;
+/// where the formula can't be read that is nothing.
 pub fn run_check<R: Log, F: Read + Drop, P: Read + Drop, W: Write, L: Write, C: Write>(
     rt: &R,
     alloc: Global,
@@ -31,6 +34,7 @@ pub fn run_check<R: Log, F: Read + Drop, P: Read + Drop, W: Write, L: Write, C: 
     format: ProofFormat,
     outputs: &mut Outputs<L, C>,
     out: &mut W,
+    lie: &mut Option<LyingHeader>,
 ) -> Result<Verdict, RunFault>
     ensures run { IsCheckRun (F.remaining cnf) result }
     ensures line { IfOk result (λ verdict.
@@ -42,8 +46,9 @@ pub fn run_check<R: Log, F: Read + Drop, P: Read + Drop, W: Write, L: Write, C: 
         ⊎ HasNoFormula result }
     ensures refutes { (text : List ℕ) → F.remaining cnf ≡ Some text
         → result ≡ Ok Verified → IsRefuted text }
+    ensures lie { RunTellsLie (F.remaining cnf) result lie.new }
 {
-    match read_formula(alloc, cnf) {
+    match read_formula(alloc, cnf, lie) {
         Ok(formula) => run_proof(rt, alloc, &formula, proof, format, outputs, out),
         Err(fault) => Err(RunFault::Formula(fault)),
     }
@@ -82,6 +87,7 @@ pub fn run_proof<R: Log, P: Read + Drop, W: Write, L: Write, C: Write>(
         Ok(verdict) => verdict,
         Err(fault) => return Err(fault),
     };
+    rt.flush();
     match write_line(out, verdict) {
         Ok(()) => Ok(verdict),
         Err(fault) => Err(RunFault::Write(fault)),
@@ -103,7 +109,7 @@ fn verdict_of<R: Log, P: Read + Drop, L: Write, C: Write>(
     ensures outputs { WritesBefore formula.now L.contents C.contents
         outputs.old outputs.new result }
 {
-    let mut elaborator = match read_proof(rt, alloc, formula, proof, format) {
+    let mut elaborator = match read_proof(alloc, formula, proof, format, &outputs.counts) {
         Ok(elaborator) => elaborator,
         Err(fault) => return Err(RunFault::Proof(fault)),
     };
@@ -113,9 +119,11 @@ fn verdict_of<R: Log, P: Read + Drop, L: Write, C: Write>(
     if let Err(fault) = elaborate(rt, &mut elaborator) {
         return Err(RunFault::Proof(fault));
     }
-    if let Err(fault) = write_lines(alloc, formula, &mut elaborator, &mut outputs.lrat) {
+    let counts = &outputs.counts;
+    if let Err(fault) = write_lines(alloc, formula, &mut elaborator, &mut outputs.lrat, counts) {
         return Err(fault);
     }
+    count_core(counts, formula, &elaborator);
     match write_core(alloc, formula, &elaborator, &mut outputs.core) {
         Ok(()) => Ok(Verdict::Verified),
         Err(fault) => Err(RunFault::Core(fault)),

@@ -1,10 +1,10 @@
 //! What the program says of itself.
-use command::{About, Entry};
+use command::{About, Entry, QUIET, STATS, VERBOSE};
 
 /// What `--help` says.
 pub const ABOUT: About<'static> = About {
-    call: "drat_check CNF PROOF [--drat] [--frat] [--lrat FILE] [--core FILE]",
-    does: "Checks a DRAT or FRAT proof, text or binary, against a formula, and says in one line what it shows.",
+    call: "drat_check CNF PROOF [--drat] [--frat] [--lpr] [--lrat FILE] [--core FILE]",
+    does: "Checks a DRAT, DPR, FRAT or LPR proof, text or binary, against a formula, and says in one line what it shows.",
     operands: &[
         Entry {
             name: "CNF",
@@ -12,17 +12,21 @@ pub const ABOUT: About<'static> = About {
         },
         Entry {
             name: "PROOF",
-            text: "the proof, DRAT or FRAT, text or binary; - stands for standard input",
+            text: "the proof, DRAT, DPR or FRAT, text or binary, or LPR text; - stands for standard input",
         },
     ],
     options: &[
         Entry {
             name: "--drat",
-            text: "the proof is DRAT, whatever its first bytes tell",
+            text: "the proof is DRAT, whatever its first bytes tell, and has no witnesses: a literal that comes again says nothing",
         },
         Entry {
             name: "--frat",
             text: "the proof is FRAT, whatever its first bytes tell",
+        },
+        Entry {
+            name: "--lpr",
+            text: "the proof is LPR text, or LRAT text",
         },
         Entry {
             name: "--lrat FILE",
@@ -32,6 +36,9 @@ pub const ABOUT: About<'static> = About {
             name: "--core FILE",
             text: "writes the clauses of the formula that these lines use",
         },
+        STATS,
+        QUIET,
+        VERBOSE,
         Entry {
             name: "--example",
             text: "checks a small fixed example, in place of files",

@@ -1,8 +1,8 @@
-//! The command `drat_check CNF PROOF [--drat] [--frat] [--lrat FILE] [--core FILE]`: checks a DRAT
-//! or FRAT proof, text or binary, against a formula, and says in one line what it shows.
+//! The command `drat_check CNF PROOF [--drat] [--frat] [--lpr] [--lrat FILE] [--core FILE]`:
+//! checks a DRAT, DPR, FRAT or LPR proof against a formula, and says in one line what it shows.
 //!
-//! Which of the two the proof is, is told by its first bytes, or by `--drat` or `--frat`. With
-//! `--lrat` the lines that the checker of LRAT proofs accepted are written to a file, and with
+//! Which of them the proof is, is told by its first bytes, or by `--drat`, `--frat` or `--lpr`.
+//! With `--lrat` the lines that the checker of LRAT proofs accepted are written to a file, and with
 //! `--core` the clauses of the formula that they use.
 //! `--example` checks a small fixed example, `--help` says how the program is called, and
 //! `--version` of which version it is. The name `-` of a file that is read stands for standard
@@ -14,12 +14,15 @@ mod about;
 
 use crate::about::ABOUT;
 use command::{
-    Call, CountingReader, Input, NOT_RUN, create_output, create_two_outputs, hold_input, misused,
-    open_inputs, say_drat_proof, say_formula, start, unnamed, warn_of_header,
+    Call, Cost, HeldBytes, Input, NOT_RUN, create_output, create_two_outputs, hold_input, misused,
+    open_inputs, say_drat_proof, say_figure, say_formula, say_proof, say_unread, start, unnamed,
+    warn_of_header,
 };
-use drat_check::{Outputs, ProofFormat, RunFault, Verdict, exit_status, run_check};
-use progress::logged;
-use sat_formula::DimacsFault;
+use drat_check::{Outputs, ProofFormat, RunCounts, RunFault, Verdict, exit_status, run_check};
+use log::sink::Discard;
+use progress::{Progress, ToldBytes};
+use sat_formula::{DimacsFault, LyingHeader};
+use std::cell::Cell;
 use std::fs::File;
 use std::io;
 use std::io::BufWriter;
@@ -49,11 +52,12 @@ fn run(rt: &HostRuntime, call: &Call<'_>) -> u8 {
     if call.has("--example") {
         return check_example(rt);
     }
-    let format = match (call.has("--drat"), call.has("--frat")) {
-        (true, true) => return misused(rt, &ABOUT, "--drat and --frat can't both stand"),
-        (true, false) => ProofFormat::Drat,
-        (false, true) => ProofFormat::Frat,
-        (false, false) => ProofFormat::Told,
+    let format = match (call.has("--drat"), call.has("--frat"), call.has("--lpr")) {
+        (false, false, false) => ProofFormat::Told,
+        (true, false, false) => ProofFormat::Drat,
+        (false, true, false) => ProofFormat::Frat,
+        (false, false, true) => ProofFormat::Lpr,
+        _ => return misused(rt, &ABOUT, "--drat, --frat and --lpr exclude each other"),
     };
     match call.operands.as_slice() {
         [cnf, proof] => check_files(rt, cnf.as_str(), proof.as_str(), format, call),
@@ -70,6 +74,7 @@ fn check_files(
     format: ProofFormat,
     call: &Call<'_>,
 ) -> u8 {
+    let cost = Cost::from_now(rt);
     let (lrat_name, core_name) = (call.value("--lrat"), call.value("--core"));
     let Some((cnf, proof)) = open_inputs(rt, cnf_name, proof_name) else {
         return NOT_RUN;
@@ -79,32 +84,47 @@ fn check_files(
     };
     let cnf = match hold_input(rt, cnf) {
         Ok(held) => held,
-        Err(fault) => return say_unread(rt, cnf_name, proof_name, fault),
+        Err(fault) => {
+            let fault = RunFault::Formula(DimacsFault::of_error(fault));
+            return say_unread(rt, cnf_name, proof_name, fault);
+        }
     };
-    let mut cnf = CountingReader::new(cnf);
-    let log = logged(rt);
-    let outcome = run_check(
-        &log,
-        rt.alloc(),
-        &mut cnf,
-        proof.file,
-        format,
-        &mut outputs,
-        &mut io::writer(rt),
-    );
+    let mut lie = None;
+    let outcome = check_told(rt, cnf, proof, format, call, &mut outputs, &mut lie);
     let status = report(rt, &outcome);
     match outcome {
         Err(RunFault::Formula(_)) => {
             say_formula(rt, cnf_name, proof_name);
             return status;
         }
-        Err(RunFault::Proof(_)) => say_drat_proof(rt, proof_name),
+        Err(RunFault::Proof(_)) => say_steps(rt, proof_name, format),
         Err(RunFault::Lrat(_)) => say_output(rt, lrat_name),
         Err(RunFault::Core(_)) => say_output(rt, core_name),
         Err(RunFault::Write(_)) | Ok(_) => {}
     }
-    warn_of_header(rt, cnf_name, &cnf);
+    warn_of_header(rt, cnf_name, &lie);
+    if call.has("--stats") {
+        say_stats(rt, outputs.counts.get(), cost);
+    }
     status
+}
+
+/// Checks a proof, and tells how far that has come as the call asks.
+fn check_told(
+    rt: &HostRuntime,
+    cnf: HeldBytes,
+    proof: Input<'_>,
+    format: ProofFormat,
+    call: &Call<'_>,
+    outputs: &mut OutputFiles,
+    lie: &mut Option<LyingHeader>,
+) -> Result<Verdict, RunFault> {
+    let (is_quiet, is_verbose) = (call.has("--quiet"), call.has("--verbose"));
+    let progress = Progress::of_call(rt, "drat_check", is_quiet, is_verbose);
+    let length = proof.length(rt);
+    let proof = ToldBytes::new(&progress, proof.file, length);
+    let out = &mut io::writer(rt);
+    run_check(&progress, rt.alloc(), cnf, proof, format, outputs, out, lie)
 }
 
 /// Makes the files that are wanted. None of them is one of the inputs, nor is one file made twice.
@@ -127,6 +147,7 @@ fn create_outputs(
     Some(Outputs {
         lrat: buffered(rt, lrat)?,
         core: buffered(rt, core)?,
+        counts: Cell::default(),
     })
 }
 
@@ -149,24 +170,19 @@ fn check_example(rt: &HostRuntime) -> u8 {
     let mut outputs: OutputFiles = Outputs {
         lrat: None,
         core: None,
+        counts: Cell::default(),
     };
     let outcome = run_check(
-        &logged(rt),
+        &Discard,
         rt.alloc(),
         EXAMPLE_FORMULA,
         EXAMPLE_PROOF,
         ProofFormat::Told,
         &mut outputs,
         &mut io::writer(rt),
+        &mut None,
     );
     report(rt, &outcome)
-}
-
-/// Says why the formula could not be read, and gives the exit status.
-fn say_unread(rt: &HostRuntime, cnf_name: &str, proof_name: &str, fault: io::Error) -> u8 {
-    let status = report(rt, &Err(RunFault::Formula(DimacsFault::of_error(fault))));
-    say_formula(rt, cnf_name, proof_name);
-    status
 }
 
 /// Says why there is no verdict, and gives the exit status.
@@ -175,6 +191,25 @@ fn report(rt: &HostRuntime, outcome: &Result<Verdict, RunFault>) -> u8 {
         let _ = eprintln!(rt; "{fault}");
     }
     exit_status(outcome)
+}
+
+/// Says which proof has the fault, and what it is where its first bytes tell.
+fn say_steps(rt: &HostRuntime, name: &str, format: ProofFormat) {
+    if format == ProofFormat::Lpr {
+        say_proof(rt, name);
+    } else {
+        say_drat_proof(rt, name);
+    }
+}
+
+/// Says what a run counted, up to where it ended, and what it cost.
+fn say_stats(rt: &HostRuntime, counts: RunCounts, cost: Cost) {
+    say_figure(rt, "steps", counts.steps);
+    say_figure(rt, "lemmas", counts.lemmas);
+    say_figure(rt, "rat_lemmas", counts.redundant);
+    say_figure(rt, "hints", counts.hints);
+    say_figure(rt, "core_clauses", counts.core);
+    cost.say(rt);
 }
 
 /// Says which file could not be written.

@@ -1,7 +1,9 @@
-//! The literals of all clauses in one buffer, each clause behind its number and its length.
+//! The literals of the clauses that are there in one buffer, each clause behind its number and its
+//! length.
 use crate::clauses::{ClauseIndex, narrow};
 use crate::fault::ElaborateFault;
 use crate::local::LocalLit;
+use crate::room::Room;
 use std::alloc::Global;
 
 /// Where a clause begins in the arena.
@@ -20,6 +22,11 @@ impl Block {
         }
     }
 
+    /// No block: none begins here.
+    pub(crate) fn none() -> Block {
+        Block(Block::END)
+    }
+
     pub(crate) fn code(self) -> u32 {
         self.0
     }
@@ -30,17 +37,21 @@ impl Block {
     }
 }
 
-/// The blocks. Propagation reads them alone.
+/// The blocks. Propagation reads them alone. That of a clause that goes is used again.
 #[derive(Drop)]
 pub(crate) struct Arena {
     /// Of each clause its number and its length, each as the code of a literal, then its literals.
     words: Vec<LocalLit>,
+    /// For each room the last block of it that became free, which has the one before it in place
+    /// of a number.
+    free: Vec<Block>,
 }
 
 impl Arena {
     pub(crate) fn new(alloc: Global) -> Arena {
         Arena {
             words: Vec::new(alloc),
+            free: Vec::new(alloc),
         }
     }
 
@@ -50,12 +61,84 @@ impl Arena {
         clause: ClauseIndex,
         lits: &[LocalLit],
     ) -> Result<Block, ElaborateFault> {
-        let block = Block::new(self.words.len())?;
+        let room = Room::of(lits.len());
         let len = narrow(lits.len())?;
+        match self.take_free(room) {
+            Some(block) => {
+                self.fill(block, clause, len, lits)?;
+                Ok(block)
+            }
+            None => self.append(room, clause, len, lits),
+        }
+    }
+
+    /// Stores a clause behind all others.
+    fn append(
+        &mut self,
+        room: Room,
+        clause: ClauseIndex,
+        len: u32,
+        lits: &[LocalLit],
+    ) -> Result<Block, ElaborateFault> {
+        let block = Block::new(self.words.len())?;
+        let end = self.words.len().saturating_add(room.words());
         self.words.push(LocalLit::from_code(clause.number()))?;
         self.words.push(LocalLit::from_code(len))?;
         self.words.extend_from_slice(lits)?;
+        if self.words.len() < end {
+            self.words.resize(end, LocalLit::from_code(0))?;
+        }
         Ok(block)
+    }
+
+    /// Stores a clause in a block of its room.
+    fn fill(
+        &mut self,
+        block: Block,
+        clause: ClauseIndex,
+        len: u32,
+        lits: &[LocalLit],
+    ) -> Result<(), ElaborateFault> {
+        let start = block.0 as usize;
+        if start >= self.words.len() {
+            return Err(ElaborateFault::Internal);
+        }
+        let [number, count, rest @ ..] = &mut self.words[start..] else {
+            return Err(ElaborateFault::Internal);
+        };
+        *number = LocalLit::from_code(clause.number());
+        *count = LocalLit::from_code(len);
+        for (word, lit) in rest.iter_mut().zip(lits) {
+            *word = *lit;
+        }
+        Ok(())
+    }
+
+    /// A block of a room that became free, if there is one.
+    fn take_free(&mut self, room: Room) -> Option<Block> {
+        let head = self.free.get_mut(room.class())?;
+        let block = *head;
+        let next = self.words.get(block.0 as usize)?;
+        *head = Block(next.code());
+        Some(block)
+    }
+
+    /// The clause of a block is not there any more.
+    pub(crate) fn free(&mut self, block: Block) -> Result<(), ElaborateFault> {
+        let class = Room::of(self.lits(block)?.len()).class();
+        if self.free.len() <= class {
+            self.free.resize(class.saturating_add(1), Block::none())?;
+        }
+        let head = self.free.get_mut(class);
+        let word = self.words.get_mut(block.0 as usize);
+        match (head, word) {
+            (Some(head), Some(word)) => {
+                *word = LocalLit::from_code(head.0);
+                *head = block;
+                Ok(())
+            }
+            _ => Err(ElaborateFault::Internal),
+        }
     }
 
     /// The number of a clause.
@@ -76,6 +159,13 @@ impl Arena {
             }
             _ => Err(ElaborateFault::Internal),
         }
+    }
+
+    /// The words from a block on: its number, its length, its literals, and the blocks behind it.
+    #[inline(always)]
+    pub(crate) fn words_from(&mut self, block: Block) -> &mut [LocalLit] {
+        let start = (block.0 as usize).min(self.words.len());
+        &mut self.words[start..]
     }
 
     #[inline(always)]

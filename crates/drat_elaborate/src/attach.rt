@@ -51,6 +51,7 @@ impl Propagator {
             found.used = Use::Now;
             return Ok(used == Use::Never);
         }
+        self.recent.remove(clause);
         self.change_use(clause, Use::Now)?;
         self.used_lately.push(clause)?;
         Ok(used == Use::Never)
@@ -99,12 +100,13 @@ impl Propagator {
         Ok(false)
     }
 
-    /// A clause is not there any more. The answer is what was known of it.
+    /// A clause is not there any more; its block is. The answer is what was known of it.
     pub(crate) fn detach(&mut self, clause: ClauseIndex) -> Result<Clause, ElaborateFault> {
         let found = self.clauses.get_mut(clause)?;
         found.is_active = false;
         let found = *found;
         if found.is_watched {
+            self.recent.remove(clause);
             self.unwatch(&found)?;
         }
         Ok(found)
@@ -112,11 +114,13 @@ impl Propagator {
 
     /// A clause that was deleted is there again.
     pub(crate) fn restore(&mut self, clause: ClauseIndex) -> Result<(), ElaborateFault> {
-        let found = self.clauses.get_mut(clause)?;
-        found.is_active = true;
-        let found = *found;
+        let found = self.clauses.restore(clause)?;
         if found.is_watched {
+            choose_watches(self.clauses.arena.lits_mut(found.block)?, &self.trail);
             self.watch(&found)?;
+            if !found.is_core() {
+                self.recent.insert(clause)?;
+            }
         }
         Ok(())
     }
@@ -149,6 +153,7 @@ impl Propagator {
         if lits.len() >= 2 {
             self.watch(&found)?;
             self.clauses.get_mut(clause)?.is_watched = true;
+            self.recent.insert(clause)?;
         }
         match standing {
             WatchStanding::False => Ok(Some(block)),

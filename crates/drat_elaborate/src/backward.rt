@@ -9,6 +9,7 @@ use crate::propagator::Propagator;
 use crate::records::Records;
 use crate::redundancy::is_redundant;
 use crate::steps::{Step, Steps};
+use crate::witnesses::Witnesses;
 use std::alloc::Global;
 
 /// A round has this many checks. Clauses that were used in this one or in the one before are
@@ -22,6 +23,8 @@ pub(crate) struct Backward {
     check: Check,
     /// The hints that the proof gives.
     pub(crate) given: GivenHints,
+    /// The witnesses that it gives.
+    pub(crate) witnesses: Witnesses,
     /// Where literals stand, once a clause is checked that does not follow.
     occurrences: Option<Occurrences>,
     pub(crate) records: Records,
@@ -39,6 +42,7 @@ impl Backward {
             alloc,
             check: Check::new(alloc),
             given: GivenHints::new(alloc),
+            witnesses: Witnesses::new(alloc),
             occurrences: None,
             records: Records::new(alloc),
             formula_len: 0,
@@ -101,18 +105,26 @@ impl Backward {
         if let Some(len) = steps.pop_growth() {
             propagator.trail.cut(len);
         }
-        if !propagator.detach(clause)?.is_core() {
-            return Ok(());
+        if propagator.detach(clause)?.is_core() {
+            if !self.check_clause(propagator, clause)? {
+                return Err(self.refusal(clause, steps.len().saturating_add(1)));
+            }
+            self.checked = self.checked.saturating_add(1);
+            self.record(ClauseLink::to(clause))?;
         }
-        if !self.check_clause(propagator, clause)? {
-            let step = (steps.len() as u64).saturating_add(1);
-            return Err(ElaborateFault::NotRedundant { step });
-        }
-        self.checked = self.checked.saturating_add(1);
-        self.record(ClauseLink::to(clause))
+        propagator.clauses.free(clause)
     }
 
-    /// Whether a clause follows, or is redundant by its pivot. The hints are left in the check.
+    /// Why the step that adds a clause is wrong.
+    fn refusal(&self, clause: ClauseIndex, step: u64) -> ElaborateFault {
+        match self.witnesses.of(clause) {
+            Some(_) => ElaborateFault::NotRedundantByWitness { step },
+            None => ElaborateFault::NotRedundant { step },
+        }
+    }
+
+    /// Whether a clause follows, or is redundant by its witness or its pivot. The hints are left in
+    /// the check.
     fn check_clause(
         &mut self,
         propagator: &mut Propagator,
@@ -168,11 +180,16 @@ impl Backward {
         propagator: &mut Propagator,
         clause: ClauseIndex,
     ) -> Result<bool, ElaborateFault> {
-        let Some(pivot) = propagator.clauses.get(clause)?.pivot() else {
+        let Some(pivot) = propagator.clauses.pivot(clause)? else {
             return Ok(false);
         };
         let lit_count = propagator.trail.lit_count();
         self.collect(&propagator.clauses, clause, lit_count)?;
+        let pivot = [pivot];
+        let witness = match self.witnesses.of(clause) {
+            Some(witness) => witness,
+            None => &pivot,
+        };
         match &self.occurrences {
             Some(occurrences) => is_redundant(
                 self.alloc,
@@ -180,7 +197,7 @@ impl Backward {
                 &mut self.check,
                 occurrences,
                 clause,
-                pivot,
+                witness,
             ),
             None => Err(ElaborateFault::Internal),
         }

@@ -7,7 +7,7 @@ use crate::local::LocalLit;
 use crate::place_set::PlaceSet;
 use crate::propagator::Propagator;
 use crate::records::PackedHint;
-use crate::trail::{Reason, Value};
+use crate::trail::{Reason, Trail, Value};
 use std::alloc::Global;
 
 /// Which literals are true by assumption, besides the negated literals of the clause.
@@ -32,6 +32,8 @@ pub(crate) struct Check {
     pub(crate) by_clause: LitSet,
     /// The negated literals of the candidate.
     pub(crate) by_group: LitSet,
+    /// The literals by which the clause may be redundant.
+    pub(crate) by_witness: LitSet,
     /// The places of the trail whose reasons are wanted.
     pub(crate) wanted: PlaceSet,
     /// The hints before the groups.
@@ -48,6 +50,7 @@ impl Check {
         Check {
             by_clause: LitSet::new(alloc),
             by_group: LitSet::new(alloc),
+            by_witness: LitSet::new(alloc),
             wanted: PlaceSet::new(alloc),
             leading: Vec::new(alloc),
             groups: Vec::new(alloc),
@@ -186,9 +189,27 @@ impl Check {
         block: Block,
         assumed: Assumed,
     ) -> Result<(), ElaborateFault> {
-        for lit in propagator.clauses.arena.lits(block)? {
-            if assumed == Assumed::Clause || !self.by_group.contains(!*lit) {
-                self.wanted.insert(propagator.trail.place(*lit)?);
+        let lits = propagator.clauses.arena.lits(block)?;
+        match assumed {
+            Assumed::Clause => self.want_all(&propagator.trail, lits),
+            Assumed::Group => self.want_ungrouped(&propagator.trail, lits),
+        }
+    }
+
+    /// The places of literals are wanted.
+    #[inline(always)]
+    fn want_all(&mut self, trail: &Trail, lits: &[LocalLit]) -> Result<(), ElaborateFault> {
+        for lit in lits {
+            self.wanted.insert(trail.place(*lit)?);
+        }
+        Ok(())
+    }
+
+    /// The places of literals whose negations the candidate does not assume are wanted.
+    fn want_ungrouped(&mut self, trail: &Trail, lits: &[LocalLit]) -> Result<(), ElaborateFault> {
+        for lit in lits {
+            if !self.by_group.contains(!*lit) {
+                self.wanted.insert(trail.place(*lit)?);
             }
         }
         Ok(())

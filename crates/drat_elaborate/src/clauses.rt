@@ -1,7 +1,8 @@
-//! The clauses: their literals in one buffer, and what is known of each.
+//! The clauses: their literals, and what is known of each.
 use crate::arena::{Arena, Block};
 use crate::fault::ElaborateFault;
 use crate::local::LocalLit;
+use crate::written::Written;
 use std::alloc::Global;
 
 /// The number of a clause. Those of the formula come first.
@@ -51,6 +52,16 @@ impl ClauseLink {
         ClauseLink(clause.0)
     }
 
+    /// The number itself; that of no clause is the highest one.
+    pub(crate) fn number(self) -> u32 {
+        self.0
+    }
+
+    /// The link of a number that was given by `number`.
+    pub(crate) fn from_number(number: u32) -> ClauseLink {
+        ClauseLink(number)
+    }
+
     #[inline(always)]
     pub(crate) fn get(self) -> Option<ClauseIndex> {
         if self.0 == ClauseLink::NONE {
@@ -76,9 +87,10 @@ pub(crate) enum Use {
 /// What is known of a clause besides its literals.
 #[derive(Clone, Copy)]
 pub(crate) struct Clause {
+    /// That of the clause while it is there; else none.
     pub(crate) block: Block,
-    /// The code of the pivot; that of no literal in the empty clause.
-    pivot: u32,
+    /// Where it is kept as it was written.
+    written: u32,
     /// The next clause of the same bucket.
     pub(crate) next: ClauseLink,
     pub(crate) used: Use,
@@ -90,18 +102,6 @@ pub(crate) struct Clause {
 }
 
 impl Clause {
-    /// The code of no literal.
-    const NO_PIVOT: u32 = u32::MAX;
-
-    /// Its first literal as it was written; none in the empty clause.
-    pub(crate) fn pivot(&self) -> Option<LocalLit> {
-        if self.pivot == Clause::NO_PIVOT {
-            None
-        } else {
-            Some(LocalLit::from_code(self.pivot))
-        }
-    }
-
     /// Whether it is used by the conflict or by a clause that is.
     pub(crate) fn is_core(&self) -> bool {
         self.used != Use::Never
@@ -111,26 +111,34 @@ impl Clause {
     pub(crate) fn is_candidate(&self) -> bool {
         self.is_active && self.is_core() && !self.is_tautology
     }
-
-    /// Whether it is there and watched, and nothing that was checked uses it.
-    pub(crate) fn is_unused(&self) -> bool {
-        self.is_active && self.is_watched && self.used == Use::Never
-    }
 }
 
 /// All clauses.
 #[derive(Drop)]
 pub(crate) struct Clauses {
+    alloc: Global,
+    /// Those that are there.
     pub(crate) arena: Arena,
+    written: Written,
     table: Vec<Clause>,
+    /// The literals of a clause that is there again.
+    restored: Vec<LocalLit>,
 }
 
 impl Clauses {
     pub(crate) fn new(alloc: Global) -> Clauses {
         Clauses {
+            alloc,
             arena: Arena::new(alloc),
+            written: Written::new(alloc),
             table: Vec::new(alloc),
+            restored: Vec::new(alloc),
         }
+    }
+
+    /// Gives back the memory of the blocks.
+    pub(crate) fn end(&mut self) {
+        self.arena = Arena::new(self.alloc);
     }
 
     pub(crate) fn len(&self) -> usize {
@@ -144,13 +152,11 @@ impl Clauses {
         is_tautology: bool,
     ) -> Result<ClauseIndex, ElaborateFault> {
         let index = ClauseIndex::new(self.table.len())?;
+        let written = self.written.push(lits)?;
         let block = self.arena.push(index, lits)?;
         self.table.push(Clause {
             block,
-            pivot: match lits.first() {
-                Some(lit) => lit.code(),
-                None => Clause::NO_PIVOT,
-            },
+            written,
             next: ClauseLink::none(),
             used: Use::Never,
             is_active: true,
@@ -173,9 +179,43 @@ impl Clauses {
             .ok_or(ElaborateFault::Internal)
     }
 
-    /// The literals of a clause, in the order in which they are watched.
+    /// The literals of a clause that is there, in the order in which they are watched.
     pub(crate) fn lits(&self, clause: ClauseIndex) -> Result<&[LocalLit], ElaborateFault> {
         self.arena.lits(self.get(clause)?.block)
+    }
+
+    /// Reads the literals of a clause into a list, in the order in which they were written.
+    pub(crate) fn read(
+        &self,
+        clause: ClauseIndex,
+        lits: &mut Vec<LocalLit>,
+    ) -> Result<(), ElaborateFault> {
+        self.written.read(self.get(clause)?.written, lits)?;
+        Ok(())
+    }
+
+    /// The first literal of a clause as it was written; none in the empty clause.
+    pub(crate) fn pivot(&self, clause: ClauseIndex) -> Result<Option<LocalLit>, ElaborateFault> {
+        Ok(self.written.first(self.get(clause)?.written))
+    }
+
+    /// The block of a clause that is not there any more may be used again.
+    pub(crate) fn free(&mut self, clause: ClauseIndex) -> Result<(), ElaborateFault> {
+        let block = self.get(clause)?.block;
+        self.arena.free(block)?;
+        self.get_mut(clause)?.block = Block::none();
+        Ok(())
+    }
+
+    /// A clause that has no block gets one.
+    pub(crate) fn restore(&mut self, clause: ClauseIndex) -> Result<Clause, ElaborateFault> {
+        let written = self.get(clause)?.written;
+        self.written.read(written, &mut self.restored)?;
+        let block = self.arena.push(clause, &self.restored)?;
+        let found = self.get_mut(clause)?;
+        found.block = block;
+        found.is_active = true;
+        Ok(*found)
     }
 }
 

@@ -95,8 +95,8 @@ impl Elaborator {
     /// Checks the steps that the conflict needs, the last first. A call goes over as many steps as
     /// it is told, and the answer is whether none is left; then the lines may be asked for.
     ///
-    /// `NoConflict` where there is none, `NotRedundant` with the first needed clause, from the end,
-    /// that is not redundant.
+    /// `NoConflict` where there is none, `NotRedundant` or `NotRedundantByWitness` with the first
+    /// needed clause, from the end, that is not redundant.
     pub fn elaborate(&mut self, count: u64) -> Result<bool, ElaborateFault> {
         self.begin_backward()?;
         for _ in 0..count {
@@ -137,7 +137,7 @@ impl Elaborator {
 
     /// How many steps of the proof were taken in, less those that were gone over backward.
     pub fn steps_left(&self) -> u64 {
-        self.forward.steps.len() as u64
+        self.forward.steps.len()
     }
 
     /// How many clauses that the proof adds were checked.
@@ -148,23 +148,33 @@ impl Elaborator {
     /// The next line, after [`elaborate`](Elaborator::elaborate). Before it, and after the last
     /// line, there is none. First the unused clauses of the formula are deleted, and each other
     /// clause is right after the line that uses it last. The last line adds the empty clause. There
-    /// are at most two lines for each clause that the proof adds, and two more.
+    /// are at most two lines for each clause that the proof adds, and two more; and for one that is
+    /// redundant by a witness a line for each clause that the witness touches, or two, and one for
+    /// each literal of the witness, all over a variable above those of the formula and the proof.
+    ///
+    /// `NoFreshVariable` where there is no such variable.
     pub fn next_line(&mut self) -> Result<Option<LratLine<'_>>, ElaborateFault> {
         if self.phase != Phase::Elaborated {
             return Ok(None);
         }
         let clauses = &self.forward.propagator.clauses;
         self.lines.begin(clauses, self.forward.formula_len)?;
+        if self.lines.by_witness.queue.advance() {
+            return Ok(Some(self.lines.by_witness.queue.line()?));
+        }
         if self.lines.take_deletion() {
             return Ok(Some(LratLine::Delete {
                 ids: &self.lines.dying,
             }));
         }
-        let Some(record) = self.backward.records.last()? else {
+        let (variables, records) = (&self.forward.variables, &mut self.backward.records);
+        let witnesses = &self.backward.witnesses;
+        if !self.lines.read(clauses, variables, witnesses, records)? {
             return Ok(None);
-        };
-        self.lines.read(clauses, &self.forward.variables, &record)?;
-        self.backward.records.pop();
+        }
+        if self.lines.by_witness.queue.advance() {
+            return Ok(Some(self.lines.by_witness.queue.line()?));
+        }
         Ok(Some(LratLine::Add {
             id: self.lines.last_id,
             clause: &self.lines.clause,

@@ -15,6 +15,17 @@ pub enum ElaborateFault {
     /// by its first literal.
     #[error("step {step}: clause neither follows nor is redundant by its first literal")]
     NotRedundant { step: u64 },
+    /// The clause that the step adds is used, and neither follows by propagation nor is redundant
+    /// by its witness.
+    #[error("step {step}: clause neither follows nor is redundant by its witness")]
+    NotRedundantByWitness { step: u64 },
+    /// The witness of the step has a literal and its negation.
+    #[error("step {step}: witness contradicts itself")]
+    ContradictoryWitness { step: u64 },
+    /// The lines of a clause with a witness need a variable above those of the formula and the
+    /// proof, and the largest one that there may be is among them.
+    #[error("no variable is left for the lines of a witness")]
+    NoFreshVariable,
     /// The step says that a clause is of the formula, and each that has its literals was named
     /// already.
     #[error("step {step}: clause is not in the formula")]

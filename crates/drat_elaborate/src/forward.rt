@@ -63,6 +63,7 @@ impl Forward {
 
     /// Watches the clauses of the formula, and propagates its units.
     pub(crate) fn begin(&mut self) -> Result<(), ElaborateFault> {
+        self.steps.begin(self.formula_len)?;
         for index in 0..self.formula_len {
             self.watch_formula_clause(ClauseIndex::new(index)?)?;
         }
@@ -159,7 +160,7 @@ impl Forward {
     pub(crate) fn remove(&mut self, clause: ClauseIndex) -> Result<(), ElaborateFault> {
         self.steps.push(Step::Delete(clause))?;
         self.propagator.detach(clause)?;
-        Ok(())
+        self.propagator.clauses.free(clause)
     }
 
     /// Stores a clause, each literal once.

@@ -33,7 +33,7 @@ impl Elaborator {
 
     /// Keeps the hints before the first negative one, as far as clauses have their ids.
     fn keep_hints(&mut self, hints: &[FratHint]) -> Result<(), ElaborateFault> {
-        if let Some(Step::Add(clause)) = self.forward.steps.last() {
+        if let Some(clause) = self.forward.steps.last_added() {
             self.backward.given.begin(clause)?;
             for hint in hints {
                 if hint.is_negative {
@@ -79,13 +79,13 @@ impl Forward {
         {
             Lookup::Found(clause) => self.names.put(id, clause),
             Lookup::Reason | Lookup::Missing => Err(ElaborateFault::NotInFormula {
-                step: self.steps.len() as u64,
+                step: self.steps.len(),
             }),
         }
     }
 
     /// Takes in a clause that the proof adds under an id.
-    fn add_named(&mut self, id: u64, lits: &[Lit]) -> Result<(), ElaborateFault> {
+    pub(crate) fn add_named(&mut self, id: u64, lits: &[Lit]) -> Result<(), ElaborateFault> {
         let is_tautology = self.normalize(lits)?;
         let clause = self.propagator.clauses.push(&self.lits, is_tautology)?;
         self.names.put(id, clause)?;
@@ -93,7 +93,7 @@ impl Forward {
     }
 
     /// Takes in the deletion of the clause of an id.
-    fn delete_named(&mut self, id: u64) -> Result<(), ElaborateFault> {
+    pub(crate) fn delete_named(&mut self, id: u64) -> Result<(), ElaborateFault> {
         let Some(clause) = self.names.take(id) else {
             self.missing_deletions = self.missing_deletions.saturating_add(1);
             return self.pass_over();

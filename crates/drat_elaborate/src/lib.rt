@@ -1,4 +1,4 @@
-//! Turns DRAT proofs into lines of LRAT proofs, by backward checking.
+//! Turns DRAT, DPR, LPR and FRAT proofs into lines of LRAT proofs, by backward checking.
 //!
 //! Nobody has to trust it: its lines are for a checker of LRAT proofs, whose verdict stands
 //! whatever they are.
@@ -7,6 +7,7 @@
 mod arena;
 mod attach;
 mod backward;
+mod byte_stack;
 mod check;
 mod clauses;
 mod elaborator;
@@ -18,19 +19,25 @@ mod lines;
 mod lit_set;
 mod local;
 mod lookup;
+mod lpr;
 mod names;
 mod occurrences;
 mod place_set;
 mod propagator;
+mod queue;
 mod recent;
 mod records;
 mod redundancy;
+mod room;
 mod standing;
 mod steps;
 mod sweep;
 mod trail;
 mod variables;
 mod watches;
+mod witness_lines;
+mod witnesses;
+mod written;
 
 pub use elaborator::Elaborator;
 pub use fault::ElaborateFault;

@@ -1,8 +1,11 @@
 //! The lines of the checked clauses, in order.
 use crate::clauses::{ClauseIndex, Clauses, narrow};
 use crate::fault::ElaborateFault;
-use crate::records::{PackedHint, RecordView};
+use crate::local::LocalLit;
+use crate::records::{Record, Records};
 use crate::variables::Variables;
+use crate::witness_lines::WitnessLines;
+use crate::witnesses::Witnesses;
 use lrat_text::Hint;
 use sat_formula::Lit;
 use std::alloc::Global;
@@ -11,14 +14,20 @@ use std::alloc::Global;
 #[derive(Drop)]
 pub(crate) struct Lines {
     /// By number of the clause; 0 where it has none yet.
-    ids: Vec<u32>,
+    pub(crate) ids: Vec<u32>,
     pub(crate) last_id: u64,
     pub(crate) clause: Vec<Lit>,
     pub(crate) hints: Vec<Hint>,
     pub(crate) dying: Vec<u64>,
     /// The deletion of `dying` is the next line.
-    deletion_is_next: bool,
+    pub(crate) deletion_is_next: bool,
     is_begun: bool,
+    /// The record that is read.
+    pub(crate) record: Record,
+    /// The literals of its clause, as they are numbered here.
+    pub(crate) lits: Vec<LocalLit>,
+    /// The lines of a clause that is redundant by a witness.
+    pub(crate) by_witness: WitnessLines,
 }
 
 impl Lines {
@@ -31,6 +40,9 @@ impl Lines {
             dying: Vec::new(alloc),
             deletion_is_next: false,
             is_begun: false,
+            record: Record::new(alloc),
+            lits: Vec::new(alloc),
+            by_witness: WitnessLines::new(alloc),
         }
     }
 
@@ -63,58 +75,62 @@ impl Lines {
         is_next
     }
 
-    /// Reads a record into the lists.
+    /// Reads the last record into the lists, and takes it off. The answer is whether there was one.
+    /// Where its clause is redundant by a witness, its lines wait instead.
     pub(crate) fn read(
         &mut self,
         clauses: &Clauses,
         variables: &Variables,
-        record: &RecordView<'_>,
-    ) -> Result<(), ElaborateFault> {
-        self.read_hints(record.hints)?;
+        witnesses: &Witnesses,
+        records: &mut Records,
+    ) -> Result<bool, ElaborateFault> {
+        if !records.pop(&mut self.record)? {
+            return Ok(false);
+        }
+        if let Some(witness) = witnesses.of_record(&self.record) {
+            self.read_witnessed(clauses, variables, witness)?;
+            return Ok(true);
+        }
+        self.read_hints()?;
         self.clause.clear();
-        match record.clause {
+        match self.record.clause.get() {
             Some(clause) => {
                 self.read_clause(clauses, variables, clause)?;
                 self.name(clause)?;
             }
             None => self.last_id = self.last_id.saturating_add(1),
         }
-        self.read_dying(record.dying)?;
+        self.read_dying()?;
         self.deletion_is_next = !self.dying.is_empty() && !self.clause.is_empty();
-        Ok(())
+        Ok(true)
     }
 
-    /// The literals of a clause, the pivot first.
-    fn read_clause(
+    /// The literals of a clause as they were written, the pivot first.
+    pub(crate) fn read_clause(
         &mut self,
         clauses: &Clauses,
         variables: &Variables,
         clause: ClauseIndex,
     ) -> Result<(), ElaborateFault> {
-        let Some(pivot) = clauses.get(clause)?.pivot() else {
-            return Ok(());
-        };
-        self.clause.push(variables.named(pivot)?)?;
-        for lit in clauses.lits(clause)? {
-            if *lit != pivot {
-                self.clause.push(variables.named(*lit)?)?;
-            }
+        clauses.read(clause, &mut self.lits)?;
+        for lit in &self.lits {
+            self.clause.push(variables.named(*lit)?)?;
         }
         Ok(())
     }
 
-    fn read_hints(&mut self, hints: &[PackedHint]) -> Result<(), ElaborateFault> {
+    fn read_hints(&mut self) -> Result<(), ElaborateFault> {
         self.hints.clear();
-        for hint in hints {
+        for hint in &self.record.hints {
             let id = id_in(&self.ids, hint.clause())?;
             self.hints.push(hint.with_id(id))?;
         }
         Ok(())
     }
 
-    fn read_dying(&mut self, dying: &[ClauseIndex]) -> Result<(), ElaborateFault> {
+    pub(crate) fn read_dying(&mut self) -> Result<(), ElaborateFault> {
         self.dying.clear();
-        for clause in dying {
+        for clause in &self.record.dying {
             let id = id_in(&self.ids, *clause)?;
             self.dying.push(id)?;
         }
@@ -122,7 +138,7 @@ impl Lines {
     }
 
     /// Gives the next id to a clause.
-    fn name(&mut self, clause: ClauseIndex) -> Result<(), ElaborateFault> {
+    pub(crate) fn name(&mut self, clause: ClauseIndex) -> Result<(), ElaborateFault> {
         self.last_id = self.last_id.saturating_add(1);
         match self.ids.get_mut(clause.get()) {
             Some(id) => *id = narrow(self.last_id as usize)?,
@@ -133,7 +149,7 @@ impl Lines {
 }
 
 /// The id of a clause that has one.
-fn id_in(ids: &[u32], clause: ClauseIndex) -> Result<u64, ElaborateFault> {
+pub(crate) fn id_in(ids: &[u32], clause: ClauseIndex) -> Result<u64, ElaborateFault> {
     match ids.get(clause.get()).copied() {
         Some(id) if id > 0 => Ok(id as u64),
         _ => Err(ElaborateFault::Internal),

@@ -22,14 +22,18 @@ impl Occurrences {
     ) -> Result<Occurrences, ElaborateFault> {
         let mut starts = Vec::new(alloc);
         starts.resize(lit_count.saturating_add(1), 0)?;
+        let mut lits = Vec::new(alloc);
         for index in 0..end.get() {
-            count(clauses, ClauseIndex::new(index)?, &mut starts)?;
+            read(clauses, ClauseIndex::new(index)?, &mut lits)?;
+            count(&lits, &mut starts);
         }
         let total = add_up(&mut starts);
         let mut found = Vec::new(alloc);
         found.resize(total, end)?;
         for index in (0..end.get()).rev() {
-            place(clauses, ClauseIndex::new(index)?, &mut starts, &mut found)?;
+            let clause = ClauseIndex::new(index)?;
+            read(clauses, clause, &mut lits)?;
+            place(clause, &lits, &mut starts, &mut found);
         }
         Ok(Occurrences {
             starts,
@@ -53,21 +57,26 @@ impl Occurrences {
     }
 }
 
-/// Counts the literals of a clause.
-fn count(
+/// Reads the literals of a clause; none where it is a tautology.
+fn read(
     clauses: &Clauses,
     clause: ClauseIndex,
-    counts: &mut Vec<usize>,
+    lits: &mut Vec<LocalLit>,
 ) -> Result<(), ElaborateFault> {
     if clauses.get(clause)?.is_tautology {
+        lits.clear();
         return Ok(());
     }
-    for lit in clauses.lits(clause)? {
+    clauses.read(clause, lits)
+}
+
+/// Counts the literals of a clause.
+fn count(lits: &[LocalLit], counts: &mut Vec<usize>) {
+    for lit in lits {
         if let Some(count) = counts.get_mut(lit.place()) {
             *count = count.saturating_add(1);
         }
     }
-    Ok(())
 }
 
 /// Adds to each count those before it. The answer is the sum.
@@ -82,15 +91,12 @@ fn add_up(counts: &mut Vec<usize>) -> usize {
 
 /// Puts a clause before the others of each of its literals.
 fn place(
-    clauses: &Clauses,
     clause: ClauseIndex,
+    lits: &[LocalLit],
     starts: &mut Vec<usize>,
     found: &mut Vec<ClauseIndex>,
-) -> Result<(), ElaborateFault> {
-    if clauses.get(clause)?.is_tautology {
-        return Ok(());
-    }
-    for lit in clauses.lits(clause)? {
+) {
+    for lit in lits {
         if let Some(start) = starts.get_mut(lit.place()) {
             *start = start.saturating_sub(1);
             if let Some(place) = found.get_mut(*start) {
@@ -98,5 +104,4 @@ fn place(
             }
         }
     }
-    Ok(())
 }

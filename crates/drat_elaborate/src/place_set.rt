@@ -29,11 +29,20 @@ impl PlaceSet {
 
     #[inline(always)]
     pub(crate) fn insert(&mut self, place: usize) {
-        if let Some(word) = self.words.get_mut(place / 64) {
-            *word |= bit(place);
+        let Some(word) = self.words.get_mut(place / 64) else {
+            return;
+        };
+        let held = *word;
+        *word = held | bit(place);
+        if held == 0 {
+            self.mark(place / 64);
         }
-        if let Some(marks) = self.marks.get_mut(place / 4096) {
-            *marks |= bit(place / 64);
+    }
+
+    /// A word may hold places.
+    fn mark(&mut self, word: usize) {
+        if let Some(marks) = self.marks.get_mut(word / 64) {
+            *marks |= bit(word);
         }
     }
 

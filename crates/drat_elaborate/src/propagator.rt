@@ -10,6 +10,9 @@ use crate::trail::{Reason, Trail};
 use crate::watches::Watches;
 use std::alloc::{AllocError, Global};
 
+/// The highest bit of 64.
+const HIGHEST: u64 = 1 << 63;
+
 /// The clauses with their watches, and the literals that are true.
 #[derive(Drop)]
 pub(crate) struct Propagator {
@@ -79,17 +82,20 @@ impl Propagator {
             used: Watches::new(alloc),
             unused: Watches::new(alloc),
             used_lately: Vec::new(alloc),
-            recent: Recent::new(),
+            recent: Recent::new(alloc),
         }
     }
 
-    /// Gives back the memory of all but the clauses, when no more is propagated.
+    /// Gives back the memory of all but the clauses as they were written, when no more is
+    /// propagated.
     pub(crate) fn end(&mut self) {
+        self.clauses.end();
         self.trail = Trail::new(self.alloc);
         self.lately = Watches::new(self.alloc);
         self.used = Watches::new(self.alloc);
         self.unused = Watches::new(self.alloc);
         self.used_lately = Vec::new(self.alloc);
+        self.recent = Recent::new(self.alloc);
     }
 
     /// Makes room for so many variables.
@@ -170,27 +176,39 @@ impl Propagator {
 
     /// Looks at the recent lemmas, up to the first that forces a literal or is false.
     fn advance_recent(&mut self) -> Result<Option<Progress>, ElaborateFault> {
-        for number in self.recent.numbers().rev() {
-            let found = *self.clauses.get(ClauseIndex::new(number)?)?;
-            if !found.is_unused() {
-                continue;
+        let mut lemmas = self.recent.lemmas();
+        // Each bit is looked at once.
+        for _ in 0..64 {
+            if lemmas == 0 {
+                break;
             }
-            self.recent.spend();
-            let lits = self.clauses.arena.lits(found.block)?;
-            match Standing::of(lits, self.trail.values()) {
-                Standing::Other => {}
-                Standing::False => {
-                    self.recent.reward();
-                    return Ok(Some(Progress::Conflict(found.block)));
-                }
-                Standing::Unit(lit) => {
-                    self.recent.reward();
-                    self.trail.assign(lit, Reason::clause(found.block))?;
-                    return Ok(Some(Progress::Going));
-                }
+            let places = lemmas.leading_zeros();
+            lemmas &= !HIGHEST.wrapping_shr(places);
+            let clause = ClauseIndex::new(self.recent.number(places))?;
+            if let Some(progress) = self.look_at(clause)? {
+                return Ok(Some(progress));
             }
         }
         Ok(None)
+    }
+
+    /// What a recent lemma comes to, if it forces a literal or is false.
+    #[inline(always)]
+    fn look_at(&mut self, clause: ClauseIndex) -> Result<Option<Progress>, ElaborateFault> {
+        self.recent.spend();
+        let block = self.clauses.get(clause)?.block;
+        match Standing::of(self.clauses.arena.lits(block)?, self.trail.values()) {
+            Standing::Other => Ok(None),
+            Standing::False => {
+                self.recent.reward();
+                Ok(Some(Progress::Conflict(block)))
+            }
+            Standing::Unit(lit) => {
+                self.recent.reward();
+                self.trail.assign(lit, Reason::clause(block))?;
+                Ok(Some(Progress::Going))
+            }
+        }
     }
 }
 

@@ -3,9 +3,10 @@
 //! An unused clause that a check needs is mostly one of them. So they are looked at one by one
 //! before the watches of all unused clauses are gone through.
 
-use std::ops::Range;
+use crate::clauses::ClauseIndex;
+use std::alloc::{AllocError, Global};
 
-/// At most this many lemmas are looked at.
+/// At most this many lemmas are looked at, and no more than 64.
 const WINDOW: usize = 32;
 
 /// A lemma that is found pays for this many that are looked at.
@@ -17,40 +18,83 @@ const MOST_CREDIT: u32 = 4096;
 /// Which lemmas are looked at, and how many may be.
 ///
 /// Where few of them are found, other clauses serve the proof better: then their credit runs out.
-#[derive(Clone, Copy)]
+#[derive(Drop)]
 pub(crate) struct Recent {
-    /// The number of the first lemma that may be looked at.
-    start: usize,
+    /// By number, 64 in a word, which clauses are there and watched, and are used by nothing that
+    /// was checked.
+    unused: Vec<u64>,
     /// The number of the lemma that is checked.
     end: usize,
+    /// Of the 64 numbers before it, the last one as the highest bit, those that may be looked at.
+    within: u64,
     credit: u32,
 }
 
 impl Recent {
     /// No lemma is checked yet.
-    pub(crate) fn new() -> Recent {
+    pub(crate) fn new(alloc: Global) -> Recent {
         Recent {
-            start: 0,
+            unused: Vec::new(alloc),
             end: 0,
+            within: 0,
             credit: MOST_CREDIT,
+        }
+    }
+
+    /// The clause is there and watched, and unused.
+    pub(crate) fn insert(&mut self, clause: ClauseIndex) -> Result<(), AllocError> {
+        let word = clause.get() / 64;
+        if self.unused.len() <= word {
+            self.unused.resize(word.saturating_add(1), 0)?;
+        }
+        if let Some(found) = self.unused.get_mut(word) {
+            *found |= bit(clause);
+        }
+        Ok(())
+    }
+
+    /// The clause is used, or is not there any more.
+    #[inline(always)]
+    pub(crate) fn remove(&mut self, clause: ClauseIndex) {
+        if let Some(found) = self.unused.get_mut(clause.get() / 64) {
+            *found &= !bit(clause);
         }
     }
 
     /// The lemma of this number is checked next; those before `formula_len` are no lemmas. Each
     /// check gives a little credit, so that looking is tried again.
     pub(crate) fn begin(&mut self, lemma: usize, formula_len: usize) {
-        self.start = formula_len.max(lemma.saturating_sub(WINDOW)).min(lemma);
+        let count = lemma.saturating_sub(formula_len).min(WINDOW);
         self.end = lemma;
+        self.within = !u64::MAX.checked_shr(count as u32).unwrap_or(0);
         self.earn(1);
     }
 
-    /// The numbers of the lemmas to be looked at, the last first.
-    pub(crate) fn numbers(&self) -> Range<usize> {
+    /// The lemmas to be looked at, each as a bit: the one right before the checked one is the
+    /// highest.
+    #[inline(always)]
+    pub(crate) fn lemmas(&self) -> u64 {
         if self.credit == 0 {
-            0..0
-        } else {
-            self.start..self.end
+            return 0;
         }
+        let (word, shift) = (self.end / 64, (self.end % 64) as u32);
+        let below = match word.checked_sub(1) {
+            Some(before) => self.unused.get(before).copied().unwrap_or(0),
+            None => 0,
+        };
+        let above = self.unused.get(word).copied().unwrap_or(0);
+        let joined = if shift == 0 {
+            below
+        } else {
+            below.wrapping_shr(shift) | above.wrapping_shl(64u32.wrapping_sub(shift))
+        };
+        joined & self.within
+    }
+
+    /// The number of the lemma that is so many places before the one right before the checked one.
+    #[inline(always)]
+    pub(crate) fn number(&self, places: u32) -> usize {
+        self.end.saturating_sub(1).saturating_sub(places as usize)
     }
 
     /// A lemma was looked at.
@@ -66,4 +110,10 @@ impl Recent {
     fn earn(&mut self, credit: u32) {
         self.credit = self.credit.saturating_add(credit).min(MOST_CREDIT);
     }
+}
+
+/// The bit of a clause within its word.
+#[inline(always)]
+fn bit(clause: ClauseIndex) -> u64 {
+    1u64.wrapping_shl((clause.get() % 64) as u32)
 }

@@ -1,8 +1,9 @@
 //! What was found of each checked clause, kept until the lines are asked for.
+use crate::byte_stack::ByteStack;
 use crate::clauses::{ClauseIndex, ClauseLink, narrow};
 use crate::fault::ElaborateFault;
 use lrat_text::Hint;
-use std::alloc::Global;
+use std::alloc::{AllocError, Global};
 
 /// A hint in four bytes: the clause, and whether it is resolved with the one that is added.
 #[derive(Clone, Copy)]
@@ -21,6 +22,11 @@ impl PackedHint {
         ClauseIndex::from_number(self.0 / 2)
     }
 
+    /// Whether the clause is resolved with the one that is added.
+    pub(crate) fn is_against(self) -> bool {
+        self.0 % 2 == 1
+    }
+
     /// The hint, where the clause has this id.
     pub(crate) fn with_id(self, id: u64) -> Hint {
         if self.0 % 2 == 0 {
@@ -31,41 +37,42 @@ impl PackedHint {
     }
 }
 
-/// A checked clause, and where its lists begin.
-#[derive(Clone, Copy)]
-struct Record {
-    /// None for the empty clause that ends the proof.
-    clause: ClauseLink,
-    hints: u32,
-    dying: u32,
-}
-
 /// A checked clause with its lists.
 #[derive(Drop)]
-pub(crate) struct RecordView<'a> {
-    pub(crate) clause: Option<ClauseIndex>,
-    pub(crate) hints: &'a [PackedHint],
+pub(crate) struct Record {
+    /// None for the empty clause that ends the proof.
+    pub(crate) clause: ClauseLink,
+    pub(crate) hints: Vec<PackedHint>,
     /// The clauses that no later line uses.
-    pub(crate) dying: &'a [ClauseIndex],
+    pub(crate) dying: Vec<ClauseIndex>,
+}
+
+impl Record {
+    pub(crate) fn new(alloc: Global) -> Record {
+        Record {
+            clause: ClauseLink::none(),
+            hints: Vec::new(alloc),
+            dying: Vec::new(alloc),
+        }
+    }
 }
 
 /// Records, the last of which is read first.
+///
+/// Numbers of clauses are kept as their distances before the checked one, most of which are small.
 #[derive(Drop)]
 pub(crate) struct Records {
-    records: Vec<Record>,
-    hints: Vec<PackedHint>,
-    dying: Vec<ClauseIndex>,
+    numbers: ByteStack,
 }
 
 impl Records {
     pub(crate) fn new(alloc: Global) -> Records {
         Records {
-            records: Vec::new(alloc),
-            hints: Vec::new(alloc),
-            dying: Vec::new(alloc),
+            numbers: ByteStack::new(alloc),
         }
     }
 
+    /// Keeps what was found of a clause, each list from its end on.
     pub(crate) fn push(
         &mut self,
         clause: ClauseLink,
@@ -73,41 +80,63 @@ impl Records {
         groups: &[PackedHint],
         dying: &[ClauseIndex],
     ) -> Result<(), ElaborateFault> {
-        self.records.push(Record {
-            clause,
-            hints: narrow(self.hints.len())?,
-            dying: narrow(self.dying.len())?,
-        })?;
-        for hint in leading {
-            self.hints.push(PackedHint::along(*hint))?;
+        let base = clause.number();
+        for clause in dying.iter().rev() {
+            self.numbers.push(base.wrapping_sub(clause.number()))?;
         }
-        self.hints.extend_from_slice(groups)?;
-        self.dying.extend_from_slice(dying)?;
+        self.numbers.push(narrow(dying.len())?)?;
+        for hint in groups.iter().rev() {
+            self.push_hint(base, *hint)?;
+        }
+        self.numbers.push(narrow(groups.len())?)?;
+        for hint in leading.iter().rev() {
+            self.numbers.push(base.wrapping_sub(hint.number()))?;
+        }
+        self.numbers.push(narrow(leading.len())?)?;
+        self.numbers.push(base)?;
         Ok(())
     }
 
-    /// The last record.
-    pub(crate) fn last(&self) -> Result<Option<RecordView<'_>>, ElaborateFault> {
-        let Some(record) = self.records.last() else {
-            return Ok(None);
-        };
-        let hints = self.hints.get(record.hints as usize..);
-        let dying = self.dying.get(record.dying as usize..);
-        match (hints, dying) {
-            (Some(hints), Some(dying)) => Ok(Some(RecordView {
-                clause: record.clause.get(),
-                hints,
-                dying,
-            })),
-            _ => Err(ElaborateFault::Internal),
-        }
+    /// Keeps a hint of a group.
+    fn push_hint(&mut self, base: u32, hint: PackedHint) -> Result<(), AllocError> {
+        self.numbers.push(hint.0 % 2)?;
+        self.numbers.push(base.wrapping_sub(hint.clause().number()))
     }
 
-    /// Drops the last record.
-    pub(crate) fn pop(&mut self) {
-        if let Some(record) = self.records.pop() {
-            self.hints.truncate(record.hints as usize);
-            self.dying.truncate(record.dying as usize);
+    /// Takes the last record off. The answer is whether there was one.
+    pub(crate) fn pop(&mut self, record: &mut Record) -> Result<bool, AllocError> {
+        if self.numbers.is_empty() {
+            return Ok(false);
         }
+        let base = self.numbers.pop();
+        record.clause = ClauseLink::from_number(base);
+        self.pop_hints(base, &mut record.hints)?;
+        record.dying.clear();
+        for _ in 0..self.numbers.pop() {
+            record.dying.push(self.pop_clause(base))?;
+        }
+        Ok(true)
+    }
+
+    /// Takes off the leading hints, and then those of the groups.
+    fn pop_hints(&mut self, base: u32, hints: &mut Vec<PackedHint>) -> Result<(), AllocError> {
+        hints.clear();
+        for _ in 0..self.numbers.pop() {
+            hints.push(PackedHint::along(self.pop_clause(base)))?;
+        }
+        for _ in 0..self.numbers.pop() {
+            let clause = self.pop_clause(base);
+            hints.push(if self.numbers.pop() == 0 {
+                PackedHint::along(clause)
+            } else {
+                PackedHint::against(clause)
+            })?;
+        }
+        Ok(())
+    }
+
+    #[inline(always)]
+    fn pop_clause(&mut self, base: u32) -> ClauseIndex {
+        ClauseIndex::from_number(base.wrapping_sub(self.numbers.pop()))
     }
 }

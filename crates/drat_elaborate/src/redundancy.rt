@@ -1,4 +1,4 @@
-//! The check that a clause is redundant by its first literal.
+//! The check that a clause is redundant by a witness, as by its first literal.
 use crate::check::{After, Assumed, Check};
 use crate::clauses::ClauseIndex;
 use crate::fault::ElaborateFault;
@@ -9,89 +9,113 @@ use crate::records::PackedHint;
 use crate::trail::{Reason, Value};
 use std::alloc::Global;
 
-/// Whether a clause is redundant by its pivot. Its negated literals are assumed and propagated
-/// without a conflict. The hints are left in the check.
+/// Whether a clause is redundant by a witness, which has a literal of it: a model of the clauses
+/// that are there becomes one of the clause too, by making the witness true. The negated literals
+/// of the clause are assumed and propagated without a conflict. The hints are left in the check.
 ///
-/// It is checked against the used clauses that are there and have the negated pivot, also those
-/// that come into use by the check itself.
+/// It is checked against the used clauses that are there and have the negation of a literal of the
+/// witness, also those that come into use by the check itself. Where the witness is the pivot
+/// alone, they are those with the negated pivot.
 pub(crate) fn is_redundant(
     alloc: Global,
     propagator: &mut Propagator,
     check: &mut Check,
     occurrences: &Occurrences,
     clause: ClauseIndex,
-    pivot: LocalLit,
+    witness: &[LocalLit],
 ) -> Result<bool, ElaborateFault> {
-    let mut candidates = candidates(alloc, propagator, occurrences, clause, pivot)?;
+    let mut candidates = candidates(alloc, propagator, check, occurrences, clause, witness)?;
     let mut seen = check.fresh.len();
     // Each clause is a candidate at most once.
     for next in 0..propagator.clauses.len().saturating_add(1) {
         if next >= candidates.len() {
             check.walk(propagator, 0, Assumed::Clause, After::Keep)?;
-            add_fresh(propagator, check, seen, pivot, &mut candidates)?;
+            add_fresh(propagator, check, seen, &mut candidates)?;
             seen = check.fresh.len();
         }
         let Some(candidate) = candidates.get(next).copied() else {
             check.explain_wanted(propagator)?;
             return Ok(true);
         };
-        if !meet(propagator, check, candidate, pivot)? {
+        if !meet(propagator, check, candidate)? {
             return Ok(false);
         }
     }
     Err(ElaborateFault::Internal)
 }
 
-/// The used clauses before one that are there and have the negation of its pivot.
+/// The used clauses before one that are there and that its witness touches, each once. The witness
+/// is left in the check.
 fn candidates(
     alloc: Global,
     propagator: &Propagator,
+    check: &mut Check,
     occurrences: &Occurrences,
     clause: ClauseIndex,
-    pivot: LocalLit,
+    witness: &[LocalLit],
 ) -> Result<Vec<ClauseIndex>, ElaborateFault> {
     let mut candidates = Vec::new(alloc);
-    for found in occurrences.of(!pivot) {
-        if found.get() < clause.get() && propagator.clauses.get(*found)?.is_candidate() {
-            candidates.push(*found)?;
+    check.by_witness.clear()?;
+    for lit in witness {
+        // Those that a literal before touches are among them already.
+        for found in occurrences.of(!*lit) {
+            if found.get() < clause.get()
+                && propagator.clauses.get(*found)?.is_candidate()
+                && !is_touched(propagator.clauses.lits(*found)?, check)
+            {
+                candidates.push(*found)?;
+            }
         }
+        check.by_witness.insert(*lit)?;
     }
     Ok(candidates)
 }
 
-/// Adds the clauses with the negated pivot that came into use since.
+/// Whether a clause has the negation of a literal of the witness.
+fn is_touched(lits: &[LocalLit], check: &Check) -> bool {
+    lits.iter().any(|lit| check.by_witness.contains(!*lit))
+}
+
+/// Whether a clause has a literal of the witness.
+fn is_satisfied(lits: &[LocalLit], check: &Check) -> bool {
+    lits.iter().any(|lit| check.by_witness.contains(*lit))
+}
+
+/// Adds the clauses that the witness touches and that came into use since.
 fn add_fresh(
     propagator: &Propagator,
     check: &Check,
     seen: usize,
-    pivot: LocalLit,
     candidates: &mut Vec<ClauseIndex>,
 ) -> Result<(), ElaborateFault> {
     for fresh in check.fresh.iter().skip(seen) {
-        let lits = propagator.clauses.lits(*fresh)?;
-        if lits.iter().any(|lit| *lit == !pivot) {
+        if is_touched(propagator.clauses.lits(*fresh)?, check) {
             candidates.push(*fresh)?;
         }
     }
     Ok(())
 }
 
-/// Whether the resolvent with a candidate follows. Its group is added.
+/// Whether a candidate stays true when the witness is made true: it has a literal of the witness,
+/// or what the witness does not falsify of it follows. Its group is added, without hints where it
+/// has such a literal.
 fn meet(
     propagator: &mut Propagator,
     check: &mut Check,
     candidate: ClauseIndex,
-    pivot: LocalLit,
 ) -> Result<bool, ElaborateFault> {
     check.groups.push(PackedHint::against(candidate))?;
-    if let Some(lit) = best_true(propagator, check, candidate, pivot)? {
+    if is_satisfied(propagator.clauses.lits(candidate)?, check) {
+        return Ok(true);
+    }
+    if let Some(lit) = best_true(propagator, check, candidate)? {
         if !check.by_clause.contains(lit) {
             check.want(propagator, lit)?;
         }
         return Ok(true);
     }
     let end = propagator.trail.len();
-    assume_negated(propagator, check, candidate, pivot)?;
+    assume_negated(propagator, check, candidate)?;
     let conflict = propagator.propagate(end)?;
     if let Some(conflict) = conflict {
         check.explain_group(propagator, conflict, end)?;
@@ -100,17 +124,16 @@ fn meet(
     Ok(conflict.is_some())
 }
 
-/// A literal of a candidate that is true, besides the negated pivot: an assumed one if there is
-/// one, else the one that has been true longest.
+/// A literal of a candidate that is true and that the witness does not falsify: an assumed one if
+/// there is one, else the one that has been true longest.
 fn best_true(
     propagator: &Propagator,
     check: &Check,
     candidate: ClauseIndex,
-    pivot: LocalLit,
 ) -> Result<Option<LocalLit>, ElaborateFault> {
     let mut best = None;
     for lit in propagator.clauses.lits(candidate)? {
-        if *lit == !pivot || propagator.trail.value(*lit) != Value::True {
+        if check.by_witness.contains(!*lit) || propagator.trail.value(*lit) != Value::True {
             continue;
         }
         if check.by_clause.contains(*lit) {
@@ -127,16 +150,15 @@ fn best_true(
     Ok(best)
 }
 
-/// Assumes the negated literals of a candidate besides the negated pivot.
+/// Assumes the negated literals of a candidate that the witness does not falsify.
 fn assume_negated(
     propagator: &mut Propagator,
     check: &mut Check,
     candidate: ClauseIndex,
-    pivot: LocalLit,
 ) -> Result<(), ElaborateFault> {
     check.by_group.clear()?;
     for lit in propagator.clauses.lits(candidate)? {
-        if *lit == !pivot {
+        if check.by_witness.contains(!*lit) {
             continue;
         }
         check.by_group.insert(!*lit)?;

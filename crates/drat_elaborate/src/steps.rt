@@ -1,5 +1,6 @@
 //! The steps of the proof, and where they made the trail longer.
-use crate::clauses::{ClauseIndex, narrow};
+use crate::byte_stack::ByteStack;
+use crate::clauses::{ClauseIndex, ClauseLink, narrow};
 use crate::fault::ElaborateFault;
 use std::alloc::Global;
 
@@ -12,34 +13,6 @@ pub(crate) enum Step {
     Nothing,
 }
 
-/// A step in four bytes: the number of its clause, and whether that is deleted.
-#[derive(Clone, Copy)]
-struct PackedStep(u32);
-
-impl PackedStep {
-    /// No clause has this number.
-    const NOTHING: u32 = u32::MAX;
-
-    fn of(step: Step) -> PackedStep {
-        match step {
-            Step::Add(clause) => PackedStep(clause.number().wrapping_mul(2)),
-            Step::Delete(clause) => PackedStep(clause.number().wrapping_mul(2) | 1),
-            Step::Nothing => PackedStep(PackedStep::NOTHING),
-        }
-    }
-
-    fn step(self) -> Step {
-        let clause = ClauseIndex::from_number(self.0 / 2);
-        if self.0 == PackedStep::NOTHING {
-            Step::Nothing
-        } else if self.0 % 2 == 0 {
-            Step::Add(clause)
-        } else {
-            Step::Delete(clause)
-        }
-    }
-}
-
 /// How long the trail was before a step that made it longer.
 #[derive(Clone, Copy)]
 struct Growth {
@@ -49,56 +22,112 @@ struct Growth {
 }
 
 /// The steps so far, and which of them made the trail longer.
+///
+/// Clauses are added in the order of their numbers. So a step is one number: that of an addition
+/// says nothing more, and that of a deletion how many clauses came since the one that is deleted.
 #[derive(Drop)]
 pub(crate) struct Steps {
-    steps: Vec<PackedStep>,
+    numbers: ByteStack,
+    len: u64,
+    /// How many clauses there are after the last step.
+    clauses: u32,
+    /// The clause that the last step added.
+    last_added: ClauseLink,
     growths: Vec<Growth>,
 }
 
 impl Steps {
+    const ADD: u32 = 0;
+
+    const NOTHING: u32 = 1;
+
+    /// Deletions have the numbers from here on.
+    const DELETE: u32 = 2;
+
     pub(crate) fn new(alloc: Global) -> Steps {
         Steps {
-            steps: Vec::new(alloc),
+            numbers: ByteStack::new(alloc),
+            len: 0,
+            clauses: 0,
+            last_added: ClauseLink::none(),
             growths: Vec::new(alloc),
         }
     }
 
-    pub(crate) fn len(&self) -> usize {
-        self.steps.len()
+    /// So many clauses there are before the first step.
+    pub(crate) fn begin(&mut self, formula_len: usize) -> Result<(), ElaborateFault> {
+        self.clauses = narrow(formula_len)?;
+        Ok(())
+    }
+
+    pub(crate) fn len(&self) -> u64 {
+        self.len
     }
 
     pub(crate) fn push(&mut self, step: Step) -> Result<(), ElaborateFault> {
-        self.steps.push(PackedStep::of(step))?;
+        let number = match step {
+            Step::Add(clause) => {
+                self.clauses = clause.number().wrapping_add(1);
+                self.last_added = ClauseLink::to(clause);
+                Steps::ADD
+            }
+            Step::Delete(clause) => {
+                self.last_added = ClauseLink::none();
+                self.clauses
+                    .wrapping_sub(clause.number())
+                    .wrapping_add(Steps::DELETE)
+            }
+            Step::Nothing => {
+                self.last_added = ClauseLink::none();
+                Steps::NOTHING
+            }
+        };
+        self.numbers.push(number)?;
+        self.len = self.len.saturating_add(1);
         Ok(())
     }
 
     /// The last step made the trail longer, which had this length.
     pub(crate) fn push_growth(&mut self, len: usize) -> Result<(), ElaborateFault> {
         let growth = Growth {
-            step: narrow(self.steps.len())?,
+            step: narrow(self.len as usize)?,
             len: narrow(len)?,
         };
         self.growths.push(growth)?;
         Ok(())
     }
 
-    /// The last step.
-    pub(crate) fn last(&self) -> Option<Step> {
-        Some(self.steps.last()?.step())
+    /// The clause that the last step added, if it added one.
+    pub(crate) fn last_added(&self) -> Option<ClauseIndex> {
+        self.last_added.get()
     }
 
     /// Takes the last step off.
     pub(crate) fn pop(&mut self) -> Option<Step> {
-        Some(self.steps.pop()?.step())
+        if self.numbers.is_empty() {
+            return None;
+        }
+        self.len = self.len.saturating_sub(1);
+        let number = self.numbers.pop();
+        if number == Steps::ADD {
+            self.clauses = self.clauses.wrapping_sub(1);
+            return Some(Step::Add(ClauseIndex::from_number(self.clauses)));
+        }
+        if number == Steps::NOTHING {
+            return Some(Step::Nothing);
+        }
+        let since = number.wrapping_sub(Steps::DELETE);
+        let deleted = self.clauses.wrapping_sub(since);
+        Some(Step::Delete(ClauseIndex::from_number(deleted)))
     }
 
     /// The length of the trail before the step that was taken off last, where it made it longer.
     pub(crate) fn pop_growth(&mut self) -> Option<usize> {
         let (step, len) = match self.growths.last() {
-            Some(growth) => (growth.step as usize, growth.len as usize),
+            Some(growth) => (growth.step as u64, growth.len as usize),
             None => return None,
         };
-        if step != self.steps.len().saturating_add(1) {
+        if step != self.len.saturating_add(1) {
             return None;
         }
         self.growths.pop();

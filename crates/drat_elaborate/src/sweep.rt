@@ -61,7 +61,7 @@ pub(crate) fn sweep_list(
         let found = if watch.is_binary() {
             forced(watch.blocker, value)
         } else {
-            look(arena.lits_mut(watch.block())?, falsified, trail.values())?
+            look(arena.words_from(watch.block()), falsified, trail.values())?
         };
         match found {
             Found::True(blocker) => {
@@ -99,19 +99,23 @@ fn forced(lit: LocalLit, value: Value) -> Found {
 /// false.
 #[inline(always)]
 fn look(
-    lits: &mut [LocalLit],
+    words: &mut [LocalLit],
     falsified: LocalLit,
     values: &[Value],
 ) -> Result<Found, ElaborateFault> {
-    let [first, second, rest @ ..] = lits else {
+    let [_, len, first, second, rest @ ..] = words else {
         return Err(ElaborateFault::Internal);
     };
+    let count = len.code().wrapping_sub(2) as usize;
+    if count > rest.len() {
+        return Err(ElaborateFault::Internal);
+    }
     let other = if *first == falsified { *second } else { *first };
     let value = value_in(values, other);
     if value == Value::True {
         return Ok(Found::True(other));
     }
-    for lit in rest {
+    for lit in &mut rest[..count] {
         match value_in(values, *lit) {
             Value::False => {}
             Value::True => return Ok(Found::True(*lit)),

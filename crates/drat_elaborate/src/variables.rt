@@ -86,6 +86,15 @@ impl Variables {
         )
     }
 
+    /// The literal of the variable above the largest one, where there is such a variable.
+    pub(crate) fn fresh_lit(&self) -> Option<Lit> {
+        let mut end = 0;
+        for index in &self.indexes {
+            end = (*index as usize).saturating_add(1).max(end);
+        }
+        Lit::from_code(end.saturating_mul(2))
+    }
+
     /// Gives back the memory that is of use only while variables come.
     pub(crate) fn end(&mut self) {
         self.near = Vec::new(self.alloc);

@@ -17,3 +17,5 @@ mod lemmas;
 mod runs;
 #[cfg(test)]
 mod texts;
+#[cfg(test)]
+mod witnesses;

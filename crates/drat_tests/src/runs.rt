@@ -2,6 +2,7 @@
 use drat_check::{Outputs, ProofFormat, exit_status, run_check};
 use log::sink::Discard;
 use std::alloc::Global;
+use std::cell::Cell;
 use std::io::ErrorKind;
 use std::process::Abort;
 use test_streams::{Ended, Page, Pieces};
@@ -136,8 +137,18 @@ fn is_answered(
     let mut outputs: Outputs<Page, Page> = Outputs {
         lrat: None,
         core: None,
+        counts: Cell::default(),
     };
-    let answer = run_check(&Discard, alloc, cnf, proof, format, &mut outputs, &mut page);
+    let answer = run_check(
+        &Discard,
+        alloc,
+        cnf,
+        proof,
+        format,
+        &mut outputs,
+        &mut page,
+        &mut None,
+    );
     let ended = Ended::of(alloc, page, &answer, exit_status(&answer));
     assert_eq!(rt; ended.outcome(), (written, fault, status), "{bytes:?}");
 }
@@ -147,6 +158,102 @@ fn are_answered(rt: &impl Abort, alloc: Global, rows: &[Row], format: ProofForma
         is_answered(rt, alloc, *row, Pieces::whole(row.1), format, usize::MAX);
     }
 }
+
+/// 1 and 2 can be exchanged, and one of them holds; with either come 3 and 4, and four clauses are
+/// against these.
+const ALIKE: &[u8] = b"1 2 0 -1 -2 0 1 3 0 2 3 0 -1 4 0 -2 4 0 -3 -4 5 6 0 -3 -4 5 -6 0 \
+    -3 -4 -5 6 0 -3 -4 -5 -6 0";
+
+/// The same with the largest variable that there is in place of 6, so that no other one is left.
+const ALIKE_AT_MOST: &[u8] = b"1 2 0 -1 -2 0 1 3 0 2 3 0 -1 4 0 -2 4 0 -3 -4 5 268435456 0 \
+    -3 -4 5 -268435456 0 -3 -4 -5 268435456 0 -3 -4 -5 -268435456 0";
+
+/// Where its first literal comes again, the witness of a clause begins.
+const WITH_WITNESSES: [Row; 7] = [
+    (ALIKE, b"1 -2 1 -2 0\n1 0\n5 0\n", VERIFIED, "", 0),
+    (ALIKE, b"a\x02\x05\x02\x05\0a\x02\0a\x0a\0", VERIFIED, "", 0),
+    (
+        ALIKE,
+        b"1 -2 1 2 0\n1 0\n5 0\n",
+        "",
+        "proof: step 1: clause neither follows nor is redundant by its witness",
+        1,
+    ),
+    (
+        ALIKE,
+        b"1 -2 0\n1 0\n5 0\n",
+        "",
+        "proof: step 1: clause neither follows nor is redundant by its first literal",
+        1,
+    ),
+    (
+        ALIKE,
+        b"1 2 0\n1 -2 1 2 -2 0\n",
+        "",
+        "proof: step 2: witness contradicts itself",
+        1,
+    ),
+    (ALIKE, b"d 1 2 1 0\nd 1 2 0\n", NOT_VERIFIED, "", 3),
+    (
+        ALIKE_AT_MOST,
+        b"1 -2 1 -2 0\n1 0\n5 0\n",
+        "",
+        "proof: no variable is left for the lines of a witness",
+        1,
+    ),
+];
+
+/// A literal that comes again says nothing more.
+const WITHOUT: [Row; 2] = [
+    (
+        ALIKE,
+        b"1 -2 1 -2 0\n1 0\n5 0\n",
+        "",
+        "proof: step 1: clause neither follows nor is redundant by its first literal",
+        1,
+    ),
+    (FOUR, b"1 1 2 -2 0\n1 1 0\n", VERIFIED, "", 0),
+];
+
+/// Ids, and hints that may be there or not. The clauses of the formula have the ids from 1 on.
+const AS_LPR: [Row; 6] = [
+    (
+        ALIKE,
+        b"11 1 -2 1 -2 0 3 6 -4 -5 0\n12 1 0 1 11 0\n13 5 0 0\n",
+        VERIFIED,
+        "",
+        0,
+    ),
+    (
+        ALIKE,
+        b"11 1 -2 1 2 0 3 6 -4 -5 0\n12 1 0 1 11 0\n13 5 0 0\n",
+        "",
+        "proof: step 1: clause neither follows nor is redundant by its witness",
+        1,
+    ),
+    (
+        FOUR,
+        b"5 1 0 1 2 0\n5 d 1 2 0\n6 0 5 3 4 0\n",
+        VERIFIED,
+        "",
+        0,
+    ),
+    (
+        FOUR,
+        b"4 d 1 7 0\n5 1 0 0\n",
+        "",
+        "proof: step 3: clause neither follows nor is redundant by its first literal",
+        1,
+    ),
+    (FOUR, b"", NOT_VERIFIED, "", 3),
+    (
+        FOUR,
+        b"4 d 1 0\n5 1 x 0 0\n",
+        "",
+        "proof: line 2: malformed line",
+        1,
+    ),
+];
 
 const AS_FRAT: [Row; 2] = [
     (FOUR, b"a 5 1 0\n", VERIFIED, "", 0),
@@ -159,7 +266,10 @@ const AS_DRAT: [Row; 1] = [(FOUR, b"o 1 1 2 0\n", "", "proof: step 1: malformed"
 fn runs(rt: HostRuntime) {
     are_answered(&rt, rt.alloc(), &RUNS, ProofFormat::Told);
     are_answered(&rt, rt.alloc(), &WITH_IDS, ProofFormat::Told);
+    are_answered(&rt, rt.alloc(), &WITH_WITNESSES, ProofFormat::Told);
+    are_answered(&rt, rt.alloc(), &WITHOUT, ProofFormat::Drat);
     are_answered(&rt, rt.alloc(), &AS_FRAT, ProofFormat::Frat);
+    are_answered(&rt, rt.alloc(), &AS_LPR, ProofFormat::Lpr);
     are_answered(&rt, rt.alloc(), &AS_DRAT, ProofFormat::Drat);
 }
 

@@ -4,19 +4,22 @@
 --     CheckRun cnf lrat r      the run over both texts
 --     IsRefusedRun r      the formula or the hints were not accepted
 --     IsUnwritten r, BeginsLine      the verdict's line was not written whole, and what was written then
-use Rattle.std.specs.Prelude.{◌≡◌, ◌≢◌, ℕ, Bool, false, List, Option, Result, Ok, Err}
+--     RunTellsLie cnf r told      this is told of the formula's header
+use Rattle.std.specs.Prelude.{◌≡◌, ◌≢◌, ℕ, Bool, false, List, Option, None, Result, Ok, Err}
 use Rattle.std.specs.IoError.{error_kind}
 use Rattle.std.specs.Option.{option_map}
 use Rattle.std.specs.declared.io.Error.{Error}
 use Rattle.std.specs.declared.io.ErrorKind.TheVariants.{OutOfMemory}
 use Rattle.sat_rules.specs.Clauses.{all_true}
 use Rattle.sat_rules.specs.HintLines.{Listed, listing}
+use Rattle.sat_formula.specs.declared.counts.LyingHeader.{LyingHeader}
 use Rattle.sat_formula.specs.Lines.{outcome_of}
 use Rattle.sat_formula.specs.Outcome.{Ended}
 use Rattle.sat_formula.specs.Whole.{FailsAfter, IsOutcome}
 use Rattle.hint_checker.specs.Checked.{Accepts, IsRefusal}
 use Rattle.hint_checker.specs.Streams.{GivesText}
 use Rattle.hint_checker.specs.declared.fault.HintFault.TheVariants as hints
+use Rattle.whole_formulas.specs.Lies.{IsLie}
 use Rattle.whole_writes.specs.Beginnings.{AppendsBeginning}
 use Rattle.verdicts.specs.Verdicts.{shown_line, verdict_of}
 use Rattle.hint_check.specs.declared.fault.RunFault.{RunFault}
@@ -88,3 +91,11 @@ pub record BeginsLine (cnf lrat old new : Option (List ℕ)) : Type 0 where
   pub verdict : Verdict
   pub checked : ReadAndChecked cnf lrat (Ok verdict)
   pub begins : AppendsBeginning old new (shown_line verdict)
+
+-- what the header lies about, where the formula was read whole; else nothing
+abbrev pub RunTellsLie : Option (List ℕ) → Result Verdict RunFault → Option LyingHeader → Type 0
+RunTellsLie cnf (Ok verdict) told = IsLie cnf told
+RunTellsLie cnf (Err (Write cause)) told = IsLie cnf told
+RunTellsLie cnf (Err (Hints fault)) told = IsLie cnf told
+RunTellsLie cnf (Err (Read cause)) told = IsLie cnf told
+RunTellsLie cnf (Err (Formula fault)) told = told ≡ None

@@ -4,29 +4,32 @@ ghost use Rattle.std.specs.IoError.{error_kind};
 ghost use Rattle.std.specs.Io.KnownBytes.{Appends};
 ghost use Rattle.sat_formula.specs.Refuted.{IsRefuted};
 ghost use Rattle.whole_writes.specs.Beginnings.{AppendsBeginning};
-ghost use Rattle.hint_check.specs.Runs.{BeginsLine, ChecksHints, CheckRun, IsRefusedRun, IsUnread, IsUnwritten};
+ghost use Rattle.hint_check.specs.Runs.{BeginsLine, ChecksHints, CheckRun, IsRefusedRun, IsUnread, IsUnwritten, RunTellsLie};
 ghost use Rattle.verdicts.specs.Verdicts.{shown_line};
 ghost use Rattle.verdicts.specs.declared.verdict.Verdict.TheVariants.{Verified};
 
 use crate::fault::RunFault;
 use hint_checker::{HintChecker, HintFault, HintTextFault};
-use sat_formula::{CnfFormula, read_formula};
+use sat_formula::{CnfFormula, LyingHeader};
 use std::alloc::Global;
 use std::io;
 use std::io::{ErrorKind, Read, Write};
 use verdicts::{Verdict, write_line};
+use whole_formulas::read_formula;
 
 /// Reads a formula as DIMACS text and a text of hints, checks the hints over the formula, and
 /// writes the verdict's line.
 ///
 /// Nothing is written unless all lines are accepted. Where the line can't be written whole, the
 /// verdict stood, and a beginning of the line is written. The checker of proofs takes no part in
-/// it.
+/// it. `lie` tells what the formula's header lies about; where the formula can't be read that is
+/// nothing.
 pub fn run_check<F: Read + Drop, H: Read + Drop, W: Write>(
     alloc: Global,
     cnf: F,
     hints: H,
     out: &mut W,
+    lie: &mut Option<LyingHeader>,
 ) -> Result<Verdict, RunFault>
     ensures run { CheckRun (F.remaining cnf) (H.remaining hints) result }
     ensures line { IfOk result (λ verdict.
@@ -36,8 +39,9 @@ pub fn run_check<F: Read + Drop, H: Read + Drop, W: Write>(
         (W.contents out.old) (W.contents out.new) }
     ensures refutes { (text : List ℕ) → F.remaining cnf ≡ Some text
         → result ≡ Ok Verified → IsRefuted text }
+    ensures lie { RunTellsLie (F.remaining cnf) result lie.new }
 {
-    let formula = match read_formula(alloc, cnf) {
+    let formula = match read_formula(alloc, cnf, lie) {
         Ok(formula) => formula,
         Err(fault) => return Err(RunFault::Formula(fault)),
     };

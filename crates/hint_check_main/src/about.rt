@@ -1,5 +1,5 @@
 //! What the program says of itself.
-use command::{About, Entry};
+use command::{About, Entry, QUIET, VERBOSE};
 
 /// What `--help` says.
 pub const ABOUT: About<'static> = About {
@@ -15,13 +15,20 @@ pub const ABOUT: About<'static> = About {
             text: "the lines, LRAT text; - stands for standard input",
         },
     ],
-    options: &[Entry {
-        name: "--example",
-        text: "checks a small fixed example, in place of files",
-    }],
+    options: &[
+        QUIET,
+        VERBOSE,
+        Entry {
+            name: "--example",
+            text: "checks a small fixed example, in place of files",
+        },
+    ],
     verified: "s VERIFIED UNSAT: no assignment satisfies the formula",
     open: "s NOT VERIFIED: the lines end before they show that",
-    environment: &[],
+    environment: &[Entry {
+        name: "RUST_LOG",
+        text: "what is logged to standard error, as info; without it nothing is",
+    }],
     examples: &[
         Entry {
             name: "hint_check formula.cnf proof.lrat",

@@ -9,10 +9,11 @@ mod about;
 
 use crate::about::ABOUT;
 use command::{
-    Call, CountingReader, NOT_RUN, hold_input, open_inputs, say_formula, say_proof, start, unnamed,
+    Call, NOT_RUN, hold_input, open_inputs, say_formula, say_proof, say_unread, start, unnamed,
     warn_of_header,
 };
 use hint_check::{RunFault, Verdict, exit_status, run_check};
+use progress::{Progress, ToldBytes};
 use sat_formula::DimacsFault;
 use std::io;
 use std::process::ExitCode;
@@ -33,23 +34,30 @@ fn run(rt: &HostRuntime, call: &Call<'_>) -> u8 {
         return check_example(rt);
     }
     match call.operands.as_slice() {
-        [cnf, lrat] => check_files(rt, cnf.as_str(), lrat.as_str()),
+        [cnf, lrat] => check_files(rt, cnf.as_str(), lrat.as_str(), call),
         operands => unnamed(rt, &ABOUT, operands.len()),
     }
 }
 
 /// Both files are opened before anything is read. The formula is read whole, and let go once its
 /// clauses are taken.
-fn check_files(rt: &HostRuntime, cnf_name: &str, lrat_name: &str) -> u8 {
+fn check_files(rt: &HostRuntime, cnf_name: &str, lrat_name: &str, call: &Call<'_>) -> u8 {
     let Some((cnf, lrat)) = open_inputs(rt, cnf_name, lrat_name) else {
         return NOT_RUN;
     };
     let cnf = match hold_input(rt, cnf) {
         Ok(held) => held,
-        Err(fault) => return say_unread(rt, cnf_name, lrat_name, fault),
+        Err(fault) => {
+            let fault = RunFault::Formula(DimacsFault::of_error(fault));
+            return say_unread(rt, cnf_name, lrat_name, fault);
+        }
     };
-    let mut cnf = CountingReader::new(cnf);
-    let outcome = run_check(rt.alloc(), &mut cnf, lrat.file, &mut io::writer(rt));
+    let (is_quiet, is_verbose) = (call.has("--quiet"), call.has("--verbose"));
+    let progress = Progress::of_call(rt, "hint_check", is_quiet, is_verbose);
+    let length = lrat.length(rt);
+    let mut lie = None;
+    let lrat = ToldBytes::new(&progress, lrat.file, length);
+    let outcome = run_check(rt.alloc(), cnf, lrat, &mut io::writer(rt), &mut lie);
     let status = report(rt, &outcome);
     match outcome {
         Err(RunFault::Formula(_)) => {
@@ -59,7 +67,7 @@ fn check_files(rt: &HostRuntime, cnf_name: &str, lrat_name: &str) -> u8 {
         Err(RunFault::Read(_) | RunFault::Hints(_)) => say_proof(rt, lrat_name),
         Err(RunFault::Write(_)) | Ok(_) => {}
     }
-    warn_of_header(rt, cnf_name, &cnf);
+    warn_of_header(rt, cnf_name, &lie);
     status
 }
 
@@ -67,15 +75,8 @@ fn check_files(rt: &HostRuntime, cnf_name: &str, lrat_name: &str) -> u8 {
 fn check_example(rt: &HostRuntime) -> u8 {
     let cnf = "1 0\n-1 0\n".as_bytes();
     let lrat = "3 0 1 2 0\n".as_bytes();
-    let outcome = run_check(rt.alloc(), cnf, lrat, &mut io::writer(rt));
+    let outcome = run_check(rt.alloc(), cnf, lrat, &mut io::writer(rt), &mut None);
     report(rt, &outcome)
-}
-
-/// Says why the formula could not be read, and gives the exit status.
-fn say_unread(rt: &HostRuntime, cnf_name: &str, lrat_name: &str, fault: io::Error) -> u8 {
-    let status = report(rt, &Err(RunFault::Formula(DimacsFault::of_error(fault))));
-    say_formula(rt, cnf_name, lrat_name);
-    status
 }
 
 /// Says why there is no verdict, and gives the exit status.

@@ -51,7 +51,7 @@ fn is_answered(
     outcome: Outcome<'_>,
 ) {
     let mut page = Page::of_room(alloc, room);
-    let answer = run_check(alloc, cnf, hints, &mut page);
+    let answer = run_check(alloc, cnf, hints, &mut page, &mut None);
     let ended = Ended::of(alloc, page, &answer, exit_status(&answer));
     assert_eq!(rt; ended.outcome(), outcome, "{name}");
 }

@@ -6,9 +6,11 @@
 --     IsRefusedRun r      the formula or the proof was refused
 --     IsUnwritten r      the verdict's line was not written whole
 --     BeginsLine, BeginsLineAfter      what was written then, after a formula, and after a formula's text
-use Rattle.std.specs.Prelude.{◌≡◌, ℕ, Bool, true, false, List, [], Option, Result, Ok, Err, OnErr, IfSome}
+--     RunTellsLie cnf r told      this is told of the formula's header
+use Rattle.std.specs.Prelude.{◌≡◌, ℕ, Bool, true, false, List, [], Option, None, Result, Ok, Err, OnErr, IfSome}
 use Rattle.std.specs.Option.{option_map}
 use Rattle.sat_rules.specs.Clauses.{all_true}
+use Rattle.sat_formula.specs.declared.counts.LyingHeader.{LyingHeader}
 use Rattle.sat_formula.specs.Lines as dimacs
 use Rattle.sat_formula.specs.Outcome.{Ended}
 use Rattle.sat_formula.specs.Whole.{FailsAfter, IsOutcome}
@@ -16,6 +18,7 @@ use Rattle.lrat_rules.specs.Lines.{is_refuted}
 use Rattle.lrat_text.specs.Texts.{outcome_of}
 use Rattle.lrat_checker.specs.Standing.{has_refuted}
 use Rattle.lrat_checker.specs.TextAnswers.{IsTextAnswer, said}
+use Rattle.whole_formulas.specs.Lies.{IsLie}
 use Rattle.whole_writes.specs.Beginnings.{AppendsBeginning}
 use Rattle.lrat_checker.specs.declared.checker.LratChecker.{LratChecker}
 use Rattle.lrat_checker.specs.declared.fault.LratFault.{LratFault}
@@ -114,3 +117,10 @@ pub record BeginsLineAfter (cnf known old new : Option (List ℕ)) : Type 0 wher
   pub formula : List (List ℕ)
   pub whole : IsOutcome (option_map dimacs.outcome_of cnf) (formula, Ended)
   pub line : BeginsLine formula known old new
+
+-- what the header lies about, where the formula was read whole; else nothing
+abbrev pub RunTellsLie : Option (List ℕ) → Result Verdict RunFault → Option LyingHeader → Type 0
+RunTellsLie cnf (Ok verdict) told = IsLie cnf told
+RunTellsLie cnf (Err (Write cause)) told = IsLie cnf told
+RunTellsLie cnf (Err (Proof fault)) told = IsLie cnf told
+RunTellsLie cnf (Err (Formula fault)) told = told ≡ None

@@ -2,6 +2,7 @@
 #![tactic(auto)]
 
 mod fault;
+mod formula;
 mod run;
 
 pub use fault::RunFault;

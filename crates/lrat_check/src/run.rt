@@ -5,13 +5,14 @@ ghost use Rattle.sat_rules.specs.Clauses.{all_true};
 ghost use Rattle.sat_formula.specs.Refuted.{IsRefuted};
 ghost use Rattle.whole_writes.specs.Beginnings.{AppendsBeginning};
 ghost use Rattle.lrat_checker.specs.Standing.{HoldsFormula};
-ghost use Rattle.lrat_check.specs.Runs.{BeginsLine, BeginsLineAfter, IsCheckRun, IsDecided, IsProofRun, IsRefusedRun, IsUnwritten, Refutes};
+ghost use Rattle.lrat_check.specs.Runs.{BeginsLine, BeginsLineAfter, IsCheckRun, IsDecided, IsProofRun, IsRefusedRun, IsUnwritten, Refutes, RunTellsLie};
 ghost use Rattle.verdicts.specs.Verdicts.{shown_line};
 ghost use Rattle.verdicts.specs.declared.verdict.Verdict.TheVariants.{Verified};
 
 use crate::fault::RunFault;
+use crate::formula::read_held;
 use lrat_checker::{LratFault, LratFormula};
-use sat_formula::CnfFormula;
+use sat_formula::{CnfFormula, LyingHeader};
 use std::alloc::Global;
 use std::io;
 use std::io::{Read, Write};
@@ -47,12 +48,14 @@ pub fn run_proof<P: Read + Drop, W: Write>(
 /// Reads a formula in DIMACS CNF, checks the proof, and writes the verdict's line.
 ///
 /// The proof is read only once the formula was read whole. What is written is as for `run_proof`;
-/// nothing is where the formula can't be read.
+/// nothing is where the formula can't be read. `lie` tells what the formula's header lies about;
+/// where the formula can't be read that is nothing.
 pub fn run_check<F: Read + Drop, P: Read + Drop, W: Write>(
     alloc: Global,
     cnf: F,
     proof: P,
     out: &mut W,
+    lie: &mut Option<LyingHeader>,
 ) -> Result<Verdict, RunFault>
     ensures run { IsCheckRun (F.remaining cnf) (P.remaining proof) result }
     ensures line { IfOk result (λ verdict.
@@ -62,8 +65,9 @@ pub fn run_check<F: Read + Drop, P: Read + Drop, W: Write>(
         (P.remaining proof) (W.contents out.old) (W.contents out.new) }
     ensures refutes { (text : List ℕ) → F.remaining cnf ≡ Some text
         → result ≡ Ok Verified → IsRefuted text }
+    ensures lie { RunTellsLie (F.remaining cnf) result lie.new }
 {
-    match LratFormula::read(alloc, cnf) {
+    match read_held(alloc, cnf, lie) {
         Ok(read) => run_after(read, proof, out),
         Err(fault) => Err(RunFault::Formula(fault)),
     }

@@ -1,5 +1,5 @@
 //! What the program says of itself.
-use command::{About, Entry};
+use command::{About, Entry, QUIET, STATS, VERBOSE};
 
 /// What `--help` says.
 pub const ABOUT: About<'static> = About {
@@ -15,10 +15,15 @@ pub const ABOUT: About<'static> = About {
             text: "the proof, LRAT text; - stands for standard input",
         },
     ],
-    options: &[Entry {
-        name: "--example",
-        text: "checks a small fixed example, in place of files",
-    }],
+    options: &[
+        STATS,
+        QUIET,
+        VERBOSE,
+        Entry {
+            name: "--example",
+            text: "checks a small fixed example, in place of files",
+        },
+    ],
     verified: "s VERIFIED UNSAT: no assignment satisfies the formula",
     open: "s NOT VERIFIED: the proof ends before it shows that",
     environment: &[Entry {

@@ -10,11 +10,11 @@ mod about;
 
 use crate::about::ABOUT;
 use command::{
-    Call, CountingReader, NOT_RUN, hold_input, open_inputs, say_formula, say_proof, start, unnamed,
-    warn_of_header,
+    Call, Cost, NOT_RUN, hold_input, open_inputs, say_formula, say_proof, say_unread, start,
+    unnamed, warn_of_header,
 };
 use lrat_check::{RunFault, Verdict, exit_status, run_check};
-use progress::{LoggedLines, logged};
+use progress::{Progress, ToldBytes};
 use sat_formula::DimacsFault;
 use std::io;
 use std::process::ExitCode;
@@ -41,25 +41,31 @@ fn run(rt: &HostRuntime, call: &Call<'_>) -> u8 {
         return check_example(rt);
     }
     match call.operands.as_slice() {
-        [cnf, proof] => check_files(rt, cnf.as_str(), proof.as_str()),
+        [cnf, proof] => check_files(rt, cnf.as_str(), proof.as_str(), call),
         operands => unnamed(rt, &ABOUT, operands.len()),
     }
 }
 
 /// Both files are opened before anything is read. The formula is read whole, and let go once its
 /// clauses are taken.
-fn check_files(rt: &HostRuntime, cnf_name: &str, proof_name: &str) -> u8 {
+fn check_files(rt: &HostRuntime, cnf_name: &str, proof_name: &str, call: &Call<'_>) -> u8 {
+    let cost = Cost::from_now(rt);
     let Some((cnf, proof)) = open_inputs(rt, cnf_name, proof_name) else {
         return NOT_RUN;
     };
     let cnf = match hold_input(rt, cnf) {
         Ok(held) => held,
-        Err(fault) => return say_unread(rt, cnf_name, proof_name, fault),
+        Err(fault) => {
+            let fault = RunFault::Formula(DimacsFault::of_error(fault));
+            return say_unread(rt, cnf_name, proof_name, fault);
+        }
     };
-    let mut cnf = CountingReader::new(cnf);
-    let log = logged(rt);
-    let proof = LoggedLines::new(&log, proof.file);
-    let outcome = run_check(rt.alloc(), &mut cnf, proof, &mut io::writer(rt));
+    let (is_quiet, is_verbose) = (call.has("--quiet"), call.has("--verbose"));
+    let progress = Progress::of_call(rt, "lrat_check", is_quiet, is_verbose);
+    let length = proof.length(rt);
+    let mut lie = None;
+    let proof = ToldBytes::new(&progress, proof.file, length);
+    let outcome = run_check(rt.alloc(), cnf, proof, &mut io::writer(rt), &mut lie);
     let status = report(rt, &outcome);
     match outcome {
         Err(RunFault::Formula(_)) => {
@@ -69,7 +75,10 @@ fn check_files(rt: &HostRuntime, cnf_name: &str, proof_name: &str) -> u8 {
         Err(RunFault::Proof(_)) => say_proof(rt, proof_name),
         Err(RunFault::Write(_)) | Ok(_) => {}
     }
-    warn_of_header(rt, cnf_name, &cnf);
+    warn_of_header(rt, cnf_name, &lie);
+    if call.has("--stats") {
+        cost.say(rt);
+    }
     status
 }
 
@@ -79,15 +88,9 @@ fn check_example(rt: &HostRuntime) -> u8 {
         EXAMPLE_FORMULA,
         EXAMPLE_PROOF,
         &mut io::writer(rt),
+        &mut None,
     );
     report(rt, &outcome)
-}
-
-/// Says why the formula could not be read, and gives the exit status.
-fn say_unread(rt: &HostRuntime, cnf_name: &str, proof_name: &str, fault: io::Error) -> u8 {
-    let status = report(rt, &Err(RunFault::Formula(DimacsFault::of_error(fault))));
-    say_formula(rt, cnf_name, proof_name);
-    status
 }
 
 /// Says why there is no verdict, and gives the exit status.

@@ -168,7 +168,7 @@ const REFUSED: [Refusal; 10] = [
 /// As much of the proof is written as there is room for.
 fn ran(alloc: Global, cnf: Pieces<'_>, proof: Pieces<'_>, width: HashWidth, room: usize) -> Ended {
     let mut page = Page::of_room(alloc, room);
-    let answer = convert(alloc, cnf, proof, width, &mut page);
+    let answer = convert(alloc, cnf, proof, width, &mut page, &mut None);
     Ended::of(alloc, page, &answer, exit_status(&answer))
 }
 

@@ -1,12 +1,15 @@
 -- Conversions of the lines of a text.
 --     IsStopped known width c start now r      the lines after c are converted up to one that is refused, or that can't be read
 --     IsProofRun, IsRun      the conversion of a proof after a formula, and after a formula's text
-use Rattle.std.specs.Prelude.{◌≡◌, ℕ, false, List, [], ◌∷◌, ◌++◌, MatchBool, Option, Result, Ok, Err}
+--     RunTellsLie cnf r told      this is told of the formula's header
+use Rattle.std.specs.Prelude.{◌≡◌, ℕ, false, List, [], ◌∷◌, ◌++◌, MatchBool, Option, None, Result, Ok, Err}
 use Rattle.std.specs.Io.KnownBytes.{Appends}
 use Rattle.std.specs.Option.{option_map}
+use Rattle.sat_formula.specs.declared.counts.LyingHeader.{LyingHeader}
 use Rattle.sat_formula.specs.Lines as dimacs
 use Rattle.sat_formula.specs.Outcome.{Ended}
 use Rattle.sat_formula.specs.Whole.{FailsAfter, IsOutcome}
+use Rattle.whole_formulas.specs.Lies.{IsLie}
 use Rattle.lrat_rules.specs.Lines.{Line}
 use Rattle.lrat_text.specs.Texts as texts
 use Rattle.lrat_text.specs.declared.fault.LineKind.{LineKind}
@@ -113,3 +116,14 @@ IsRun cnf known width old new (Err (Formula fault)) =
     (new ≡ old)
     × ((clauses : List (List ℕ)) × FailsAfter (option_map dimacs.outcome_of cnf) clauses fault)
 IsRun cnf known width old new r = IsAfterFormula cnf known width old new r
+
+-- what the header lies about, where the formula was read whole; else nothing
+abbrev pub RunTellsLie : Option (List ℕ) → Result Conversion ConvertFault → Option LyingHeader →
+    Type 0
+RunTellsLie cnf (Ok conversion) told = IsLie cnf told
+RunTellsLie cnf (Err (Formula fault)) told = told ≡ None
+RunTellsLie cnf (Err (Read cause)) told = IsLie cnf told
+RunTellsLie cnf (Err (Unread number kind)) told = IsLie cnf told
+RunTellsLie cnf (Err (Refused number cause)) told = IsLie cnf told
+RunTellsLie cnf (Err (Write cause)) told = IsLie cnf told
+RunTellsLie cnf (Err OutOfMemory) told = IsLie cnf told

@@ -1,7 +1,7 @@
 //! Conversions of a whole proof.
 ghost use Rattle.std.specs.Prelude.{ℕ, List, Option};
 ghost use Rattle.lrat_to_proof.specs.Converting.{Converted};
-ghost use Rattle.lrat_to_proof.specs.Runs.{ConvertsLines, IsProofRun, IsRun};
+ghost use Rattle.lrat_to_proof.specs.Runs.{ConvertsLines, IsProofRun, IsRun, RunTellsLie};
 ghost use Rattle.lrat_to_proof.specs.Standing.{HasConverted};
 ghost use Rattle.lrat_to_proof.specs.Widths.{bits_of};
 
@@ -10,9 +10,10 @@ use crate::fault::ConvertFault;
 use crate::status::Conversion;
 use crate::width::HashWidth;
 use lrat_text::LineReader;
-use sat_formula::{CnfFormula, read_formula};
+use sat_formula::{CnfFormula, LyingHeader};
 use std::alloc::Global;
 use std::io::{Read, Write};
+use whole_formulas::read_formula;
 
 /// Writes the lines of an LRAT proof after a formula as proof bytes of version 2, up to the first
 /// line that adds the empty clause or the opposite of a unit. What stands after that line is not
@@ -38,18 +39,21 @@ pub fn convert_proof<P: Read + Drop, W: Write>(
 
 /// Reads a formula in DIMACS CNF, and writes the lines of an LRAT proof as above.
 ///
-/// The proof is read only once the formula was read whole.
+/// The proof is read only once the formula was read whole. `lie` tells what the formula's header
+/// lies about; where the formula can't be read that is nothing.
 pub fn convert<F: Read + Drop, P: Read + Drop, W: Write>(
     alloc: Global,
     cnf: F,
     proof: P,
     width: HashWidth,
     out: &mut W,
+    lie: &mut Option<LyingHeader>,
 ) -> Result<Conversion, ConvertFault>
     ensures run { IsRun (F.remaining cnf) (P.remaining proof) (bits_of width)
         (W.contents out.old) (W.contents out.new) result }
+    ensures lie { RunTellsLie (F.remaining cnf) result lie.new }
 {
-    match read_formula(alloc, cnf) {
+    match read_formula(alloc, cnf, lie) {
         Ok(formula) => convert_proof(alloc, &formula, proof, width, out),
         Err(fault) => Err(ConvertFault::Formula(fault)),
     }

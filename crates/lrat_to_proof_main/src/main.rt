@@ -9,10 +9,11 @@ mod about;
 
 use crate::about::ABOUT;
 use command::{
-    Call, CountingReader, Input, NOT_RUN, Source, create_output, misused, open_inputs, say_formula,
-    say_proof, start, unnamed, warn_of_header,
+    Call, Input, NOT_RUN, Source, create_output, misused, open_inputs, say_formula, say_proof,
+    start, unnamed, warn_of_header,
 };
 use lrat_to_proof::{Conversion, ConvertFault, HashWidth, convert, exit_status};
+use sat_formula::LyingHeader;
 use std::fs::File;
 use std::io::BufWriter;
 use std::process::ExitCode;
@@ -74,8 +75,8 @@ fn convert_to(
     width: HashWidth,
 ) -> u8 {
     let (cnf_name, lrat_name) = (cnf.name, lrat.name);
-    let mut cnf = CountingReader::new(cnf.file);
-    let outcome = write_proof(rt, &mut cnf, lrat.file, proof, width);
+    let mut lie = None;
+    let outcome = write_proof(rt, cnf.file, lrat.file, proof, width, &mut lie);
     let status = report(rt, &outcome);
     match outcome {
         Err(ConvertFault::Formula(_)) => {
@@ -86,19 +87,20 @@ fn convert_to(
             say_proof(rt, lrat_name),
         Err(ConvertFault::Write(_) | ConvertFault::OutOfMemory) | Ok(_) => {}
     }
-    warn_of_header(rt, cnf_name, &cnf);
+    warn_of_header(rt, cnf_name, &lie);
     status
 }
 
 fn write_proof(
     rt: &HostRuntime,
-    cnf: &mut CountingReader<Source>,
+    cnf: Source,
     lrat: Source,
     proof: File,
     width: HashWidth,
+    lie: &mut Option<LyingHeader>,
 ) -> Result<Conversion, ConvertFault> {
     match BufWriter::new(rt.alloc(), proof) {
-        Ok(mut out) => convert(rt.alloc(), cnf, lrat, width, &mut out),
+        Ok(mut out) => convert(rt.alloc(), cnf, lrat, width, &mut out, lie),
         Err(_) => Err(ConvertFault::OutOfMemory),
     }
 }

@@ -3,11 +3,14 @@
 --     IsRefusedRun r      the answer or the formula was refused
 --     IsUnwritten r      the verdict's line was not written whole
 --     BeginsLine cnf answer old new      what was written then
-use Rattle.std.specs.Prelude.{ℕ, List, Option, Some, None, Result, Ok, Err}
+--     RunTellsLie cnf r told      this is told of the formula's header
+use Rattle.std.specs.Prelude.{◌≡◌, ℕ, List, Option, Some, None, Result, Ok, Err}
 use Rattle.std.specs.Option.{option_map}
+use Rattle.sat_formula.specs.declared.counts.LyingHeader.{LyingHeader}
 use Rattle.sat_formula.specs.declared.fault.DimacsFault.{DimacsFault}
 use Rattle.sat_formula.specs.Lines as dimacs
 use Rattle.sat_formula.specs.Whole.{FailsAfter}
+use Rattle.whole_formulas.specs.Lies.{IsLie}
 use Rattle.whole_writes.specs.Beginnings.{AppendsBeginning}
 use Rattle.answer_text.specs.Answers.{Lists}
 use Rattle.answer_text.specs.Literals.{IsConsistent, listed}
@@ -62,3 +65,11 @@ pub record BeginsLine (cnf answer old new : Option (List ℕ)) : Type 0 where
   pub verdict : Verdict
   pub shown : IsShown cnf answer verdict None
   pub begins : AppendsBeginning old new (shown_line verdict)
+
+-- what the header lies about, where the formula was read whole; else nothing
+abbrev pub RunTellsLie : Option (List ℕ) → Result Verdict RunFault → Option LyingHeader → Type 0
+RunTellsLie cnf (Ok verdict) told = IsLie cnf told
+RunTellsLie cnf (Err (Answer fault)) told = told ≡ None
+RunTellsLie cnf (Err (Formula fault)) told = told ≡ None
+RunTellsLie cnf (Err (Cut cut)) told = IsLie cnf told
+RunTellsLie cnf (Err (Write cause)) told = IsLie cnf told

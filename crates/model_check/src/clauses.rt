@@ -5,11 +5,12 @@ ghost use Rattle.sat_formula.specs.Lines.{outcome_of};
 ghost use Rattle.sat_formula.specs.Whole.{FailsAfter};
 ghost use Rattle.answer_text.specs.Literals.{has_lit};
 ghost use Rattle.model_check.specs.Verdicts.{IsJudged, IsVerdict};
+ghost use Rattle.whole_formulas.specs.Lies.{IsLie};
 
 use crate::verdict::Verdict;
 use crate::whole::{CutFormula, cut_of};
 use answer_text::Literals;
-use sat_formula::{DimacsFault, DimacsReader, Lit};
+use sat_formula::{DimacsFault, DimacsReader, Lit, LyingHeader};
 use std::alloc::Global;
 use std::io::Read;
 
@@ -19,6 +20,8 @@ pub(crate) struct Judged {
     pub(crate) verdict: Verdict,
     /// What it lacks.
     pub(crate) cut: Option<CutFormula>,
+    /// What its header lies about.
+    pub(crate) lie: Option<LyingHeader>,
 }
 
 /// Reads a formula whole, a clause at a time, and tells whether each has one of the literals.
@@ -29,6 +32,7 @@ pub(crate) fn judge<F: Read + Drop>(
 ) -> Result<Judged, DimacsFault>
     ensures whole { IfOk result (λ judged.
         IsJudged (F.remaining cnf) (has_lit literals.now) judged.verdict judged.cut) }
+    ensures lie { IfOk result (λ judged. IsLie (F.remaining cnf) judged.lie) }
     ensures fault { IfErr result (λ fault. (clauses : List (List ℕ))
         × FailsAfter (option_map outcome_of (F.remaining cnf)) clauses fault) }
 {
@@ -43,6 +47,7 @@ pub(crate) fn judge<F: Read + Drop>(
     Ok(Judged {
         verdict,
         cut: cut_of(reader.header(), count),
+        lie: reader.lying_header(),
     })
 }
 

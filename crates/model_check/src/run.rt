@@ -2,7 +2,7 @@
 ghost use Rattle.std.specs.Prelude.{◌≡◌, ℕ, List, IfOk, Ok, Some};
 ghost use Rattle.std.specs.Io.KnownBytes.{Appends};
 ghost use Rattle.model_check.specs.Models.{IsSatisfiedBy};
-ghost use Rattle.model_check.specs.Runs.{BeginsLine, IsCheckRun, IsRefusedRun, IsUnwritten};
+ghost use Rattle.model_check.specs.Runs.{BeginsLine, IsCheckRun, IsRefusedRun, IsUnwritten, RunTellsLie};
 ghost use Rattle.model_check.specs.Verdicts.{shown_line};
 ghost use Rattle.model_check.specs.declared.verdict.Verdict.TheVariants.{Verified};
 
@@ -10,6 +10,7 @@ use crate::clauses::judge;
 use crate::fault::RunFault;
 use crate::verdict::{Verdict, write_line};
 use answer_text::read_answer;
+use sat_formula::LyingHeader;
 use std::alloc::Global;
 use std::io::{Read, Write};
 
@@ -20,12 +21,14 @@ use std::io::{Read, Write};
 /// written where one of the two can't be read, where the answer is none that the formula is
 /// satisfiable, or where the formula has fewer clauses than its header says, or neither a header
 /// nor a clause. Where the verdict's line can't be written whole, the verdict stood, and a
-/// beginning of the line is written.
+/// beginning of the line is written. `lie` tells what the formula's header lies about; where the
+/// formula was not read whole that is nothing.
 pub fn run_check<F: Read + Drop, P: Read + Drop, W: Write>(
     alloc: Global,
     cnf: F,
     answer: P,
     out: &mut W,
+    lie: &mut Option<LyingHeader>,
 ) -> Result<Verdict, RunFault>
     ensures run { IsCheckRun (F.remaining cnf) (P.remaining answer) result }
     ensures line { IfOk result (λ verdict.
@@ -35,7 +38,9 @@ pub fn run_check<F: Read + Drop, P: Read + Drop, W: Write>(
         (W.contents out.old) (W.contents out.new) }
     ensures satisfies { (text said : List ℕ) → F.remaining cnf ≡ Some text
         → P.remaining answer ≡ Some said → result ≡ Ok Verified → IsSatisfiedBy text said }
+    ensures lie { RunTellsLie (F.remaining cnf) result lie.new }
 {
+    *lie = None;
     let literals = match read_answer(alloc, answer) {
         Ok(literals) => literals,
         Err(fault) => return Err(RunFault::Answer(fault)),
@@ -44,6 +49,7 @@ pub fn run_check<F: Read + Drop, P: Read + Drop, W: Write>(
         Ok(judged) => judged,
         Err(fault) => return Err(RunFault::Formula(fault)),
     };
+    *lie = judged.lie;
     let verdict = match judged.cut {
         Some(cut) => return Err(RunFault::Cut(cut)),
         None => judged.verdict,

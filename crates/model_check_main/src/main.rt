@@ -10,8 +10,8 @@ mod about;
 use crate::about::ABOUT;
 use answer_text::AnswerFault;
 use command::{
-    Call, CountingReader, NOT_RUN, hold_input, open_inputs, say_answer, say_formula, start,
-    unnamed, warn_of_header,
+    Call, NOT_RUN, hold_input, open_inputs, say_answer, say_formula, say_unread, start, unnamed,
+    warn_of_header,
 };
 use model_check::{RunFault, Verdict, exit_status, run_check};
 use sat_formula::DimacsFault;
@@ -61,22 +61,21 @@ fn check_files(rt: &HostRuntime, cnf_name: &str, answer_name: &str) -> u8 {
     let cnf = match hold_input(rt, cnf) {
         Ok(held) => held,
         Err(fault) => {
-            let status = report(rt, &Err(RunFault::Formula(DimacsFault::of_error(fault))));
-            say_formula(rt, cnf_name, answer_name);
-            return status;
+            let fault = RunFault::Formula(DimacsFault::of_error(fault));
+            return say_unread(rt, cnf_name, answer_name, fault);
         }
     };
-    let mut cnf = CountingReader::new(cnf);
-    let outcome = run_check(rt.alloc(), &mut cnf, answer, &mut io::writer(rt));
+    let mut lie = None;
+    let outcome = run_check(rt.alloc(), cnf, answer, &mut io::writer(rt), &mut lie);
     let status = report(rt, &outcome);
     match outcome {
         Err(RunFault::Answer(_)) => say_answer(rt, answer_name),
         Err(RunFault::Formula(_) | RunFault::Cut(_)) => say_formula(rt, cnf_name, answer_name),
         Ok(Verdict::NotVerified { clause, line }) => {
             say_unmet(rt, clause, line);
-            warn_of_header(rt, cnf_name, &cnf);
+            warn_of_header(rt, cnf_name, &lie);
         }
-        Err(RunFault::Write(_)) | Ok(Verdict::Verified) => warn_of_header(rt, cnf_name, &cnf),
+        Err(RunFault::Write(_)) | Ok(Verdict::Verified) => warn_of_header(rt, cnf_name, &lie),
     }
     status
 }
@@ -87,6 +86,7 @@ fn check_example(rt: &HostRuntime) -> u8 {
         EXAMPLE_FORMULA,
         EXAMPLE_ANSWER,
         &mut io::writer(rt),
+        &mut None,
     );
     report(rt, &outcome)
 }

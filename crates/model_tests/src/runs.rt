@@ -135,7 +135,7 @@ fn is_answered(
     (line, fault, unmet, status): Outcome,
 ) {
     let mut page = Page::of_room(alloc, room);
-    let answer = run_check(alloc, cnf, literals, &mut page);
+    let answer = run_check(alloc, cnf, literals, &mut page, &mut None);
     let ended = Ended::of(alloc, page, &answer, exit_status(&answer));
     assert_eq!(rt;
         (ended.outcome(), unmet_clause(&answer)),
@@ -197,6 +197,7 @@ fn lines_of_clauses(rt: HostRuntime) {
             Pieces::whole(cnf),
             Pieces::whole(literals),
             &mut page,
+            &mut None,
         );
         let found = match answer {
             Ok(Verdict::NotVerified { clause, line }) => (clause, line),

@@ -1,1 +1,2 @@
-pub mod Lines
+pub mod Bytes
+pub mod Manners

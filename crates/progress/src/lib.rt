@@ -1,11 +1,15 @@
-//! What a program logs of a long run: the log that the environment asks for, and a reader that
-//! says how many lines it has given.
+//! What a program tells on standard error of a long run, while it goes on: how far it has come, and
+//! the log that the environment asks for.
 #![tactic(auto)]
 
+mod bytes;
 mod console;
-mod lines;
+mod manner;
 #[cfg(test)]
 mod tests;
+mod told;
 
+pub use bytes::ToldBytes;
 pub use console::logged;
-pub use lines::LoggedLines;
+pub use manner::Manner;
+pub use told::Progress;

@@ -1,52 +1,133 @@
-//! The lines that are told of bytes that were given.
-use crate::lines::{LoggedLines, lines_after};
-use log::sink::{Discard, Memory};
+//! What is told, and when, by a clock that is set.
+use crate::bytes::ToldBytes;
+use crate::manner::Manner;
+use crate::told::Progress;
+use log::filter::Builder;
+use log::{Log, info};
 use std::alloc::Global;
-use std::io::Read;
+use std::cell::{Cell, RefCell};
+use std::fmt::Display;
+use std::io;
+use std::io::{Eprint, Read};
+use std::rt::Clock;
 use std::test::Fail;
+use std::time::Duration;
 
-/// Lines before, bytes, lines after, and what is told.
-type Row = (u64, &'static [u8], u64, Option<&'static str>);
+/// A clock that is set, and what was written to standard error.
+#[derive(Drop)]
+struct Desk {
+    millis: Cell<u64>,
+    said: RefCell<String>,
+}
 
-const ROWS: [Row; 6] = [
-    (0, b"1 0\n2 0\n", 2, None),
-    (0xF_FFFE, b"1 0\n2", 0xF_FFFF, None),
-    (0xF_FFFF, b"1 0\n2", 0x10_0000, Some(" 1048576 lines read")),
-    (0xF_FFFF, b"\n\n\n", 0x10_0002, Some(" 1048576 lines read")),
-    (0x10_0000, b"1 0\n", 0x10_0001, None),
-    (0x2F_FFFF, b"\n", 0x30_0000, Some(" 3145728 lines read")),
-];
-
-/// Whether these bytes make so many lines, and just this is told.
-fn counts(alloc: Global, (before, bytes, after, told): Row) -> bool {
-    let memory = Memory::new(alloc);
-    if lines_after(&memory, before, bytes) != after {
-        return false;
+impl Desk {
+    fn new(alloc: Global) -> Desk {
+        Desk {
+            millis: Cell::new(0),
+            said: RefCell::new(String::new(alloc)),
+        }
     }
-    let lines = memory.into_lines();
-    match (lines.as_slice(), told) {
-        ([], None) => true,
-        ([line], Some(expected)) => line.as_str().ends_with(expected),
-        _ => false,
+
+    fn has_said(self, text: &str) -> bool {
+        let Desk { millis: _, said } = self;
+        said.into_inner().as_str() == text
     }
 }
 
+impl Clock for Desk {
+    fn monotonic(&self) -> io::Result<Duration> {
+        Ok(Duration::from_millis(self.millis.get()))
+    }
+
+    fn since_1970(&self) -> io::Result<Duration> {
+        self.monotonic()
+    }
+}
+
+impl Eprint for Desk {
+    fn eprint<D: Display + Drop>(&self, value: D) -> io::Result<()> {
+        let Ok(mut said) = self.said.try_borrow_mut() else {
+            return Ok(());
+        };
+        match write!(said, "{value}") {
+            Ok(()) => Ok(()),
+            Err(_) => Err(io::Error::from(io::ErrorKind::OutOfMemory)),
+        }
+    }
+
+    fn eprintln<D: Display + Drop>(&self, value: D) -> io::Result<()> {
+        self.eprint(value)?;
+        self.eprint("\n")
+    }
+}
+
+/// How a run tells, what the environment asks for, at which milliseconds a record comes, and what
+/// is written of those, which are numbered from 0.
+type Row = (Manner, &'static str, &'static [u64], &'static str);
+
+const TOLD: [Row; 8] = [
+    (Manner::Silent, "", &[0, 500, 5000], ""),
+    (Manner::Lines, "", &[0, 499], ""),
+    (Manner::Lines, "", &[0, 499, 500, 999, 1000], "2\n4\n"),
+    (Manner::Lines, "", &[7000, 7400, 7500, 400], "0\n2\n"),
+    (
+        Manner::OneLine,
+        "",
+        &[500, 1000],
+        "\r\x1b[K0\r\x1b[K1\r\x1b[K",
+    ),
+    (Manner::OneLine, "", &[499], ""),
+    (Manner::Silent, "run=info", &[0, 500], "[INFO  run] 1\n"),
+    (Manner::Silent, "another=info", &[0, 500], ""),
+];
+
+fn tells(alloc: Global, (manner, asked, times, said): Row) -> Result<bool, Fail> {
+    let desk = Desk::new(alloc);
+    let filter = Builder::new(alloc).parse(asked)?.build();
+    let progress = Progress::new(&desk, "run", filter, manner);
+    for (number, millis) in times.iter().enumerate() {
+        desk.millis.set(*millis);
+        info!(progress; "{number}");
+    }
+    progress.flush();
+    progress.flush();
+    drop(progress);
+    Ok(desk.has_said(said))
+}
+
 #[test]
-fn lines_are_told(rt: HostRuntime) -> Result<(), Fail> {
-    for row in ROWS {
-        assert!(rt; counts(rt.alloc(), row), "{}", row.0);
+fn it_is_told_twice_a_second(rt: HostRuntime) -> Result<(), Fail> {
+    for row in &TOLD {
+        assert!(rt; tells(rt.alloc(), *row)?, "{}", row.3);
     }
     Ok(())
 }
 
-/// With a log and without one the bytes are those of the reader within.
+/// With a listener and without one the bytes are those of the reader within, and the line is taken
+/// back with the reader.
 #[test]
 fn bytes_are_given_on(rt: HostRuntime) -> Result<(), Fail> {
-    let memory = Memory::new(rt.alloc());
-    let mut text = Vec::new(rt.alloc());
-    LoggedLines::new(&memory, b"1 0\n2".as_slice()).read_to_end(&mut text)?;
-    LoggedLines::new(&Discard, b" 0\n".as_slice()).read_to_end(&mut text)?;
-    assert_eq!(rt; text.as_slice(), b"1 0\n2 0\n".as_slice());
-    let _ = memory.into_lines();
+    let alloc = rt.alloc();
+    let proof = Vec::from_elem(alloc, b'x', 10_000)?;
+    for (manner, said) in [
+        (Manner::Silent, ""),
+        (
+            Manner::OneLine,
+            "\r\x1b[Kproof: 0.0 of 0.0 MB read, 40 %\r\x1b[K",
+        ),
+    ] {
+        let desk = Desk::new(alloc);
+        let progress = Progress::new(&desk, "run", Builder::new(alloc).build(), manner);
+        desk.millis.set(500);
+        let mut front = [0; 8192];
+        let mut reader = ToldBytes::new(&progress, proof.as_slice(), Some(10_000));
+        let count = reader.read(&mut front)?;
+        let mut text = Vec::from_slice(alloc, &front[..count])?;
+        reader.read_to_end(&mut text)?;
+        drop(reader);
+        drop(progress);
+        assert!(rt; text.as_slice() == proof.as_slice());
+        assert!(rt; desk.has_said(said), "{said}");
+    }
     Ok(())
 }

@@ -47,12 +47,16 @@ fn is_read(alloc: Global, number: u64, bytes: &[u8]) -> bool {
     }
 }
 
-pub fn numbers(rt: &impl Abort, alloc: Global) -> Result<(), AllocError> {
-    for (number, bytes) in NUMBERS {
-        assert!(rt; is_written(alloc, number, bytes)?, "{number}");
-        assert!(rt; is_read(alloc, number, bytes), "{number}");
+fn hold(rt: &impl Abort, alloc: Global, rows: &[(u64, &[u8])]) -> Result<(), AllocError> {
+    for (number, bytes) in rows {
+        assert!(rt; is_written(alloc, *number, bytes)?, "{number}");
+        assert!(rt; is_read(alloc, *number, bytes), "{number}");
     }
     Ok(())
+}
+
+pub fn numbers(rt: &impl Abort, alloc: Global) -> Result<(), AllocError> {
+    hold(rt, alloc, &NUMBERS)
 }
 
 /// A step of each kind and each form of its fields, a line each.

@@ -42,7 +42,7 @@ pub fn check_answers(alloc: Global) -> Played {
 /// Nothing is written where memory is wanted.
 fn check(alloc: Global, answer: Answer) -> Played {
     let mut out = ArrayVec::<u8, 16>::new();
-    match run_check(alloc, FORMULA, answer.text, &mut out) {
+    match run_check(alloc, FORMULA, answer.text, &mut out, &mut None) {
         Ok(verdict) if verdict == answer.verdict && out.as_slice() == answer.line => {
             Ok(Memory::Ample)
         }

@@ -143,7 +143,7 @@ fn check_both(checker: &mut HintChecker) -> Played {
 
 /// Reads the formula. None: memory is wanted.
 pub fn formula(alloc: Global) -> Result<Option<CnfFormula>, Stop> {
-    match read_formula(alloc, FOUR) {
+    match read_formula(alloc, FOUR, &mut None) {
         Ok(formula) => Ok(Some(formula)),
         Err(fault) => {
             is_want(&fault)?;

@@ -24,7 +24,7 @@ type Written = ArrayVec<u8, 64>;
 /// Checks the proof of four clauses. Where there is no verdict, no line is written.
 pub fn check_four(alloc: Global) -> Played {
     let mut out = Written::new();
-    let answer = run_check(&Discard, alloc, FOUR, PROOF, &mut out);
+    let answer = run_check(&Discard, alloc, FOUR, PROOF, &mut out, &mut None);
     match answer {
         Ok(Verdict::Unsatisfiable) if out.as_slice() == LINE => Ok(Memory::Ample),
         Err(fault) if out.is_empty() => is_want(&fault),

@@ -4,6 +4,7 @@
 --     refuted_clauses      and the formula, where the checker was new
 --     whole_run, refuted_text      the run over both texts, and what it says of a text whose bytes are known
 --     unwritten_run      and where its line was not written whole
+--     told_run      what it tells of the formula's header
 use Rattle.std.proofs.Common.{◌≡◌, ◌≤◌, ℕ, Bool, true, false, not, List, [], map, Option, Some, None, Result, Ok, Err, refl, sym, ap, ◌∙◌, subst, arith}
 use Rattle.std.specs.Prelude.{◌==◌, ◌-◌, if◌then◌else◌, IfOk}
 use Rattle.std.proofs.lemmas.Bool.{and_parts, eqb-true}
@@ -18,14 +19,17 @@ use Rattle.checker_rules.proofs.Refuting.{counted_run, runs_refute}
 use Rattle.proof_bytes.specs.Reading.{Fault}
 use Rattle.proof_bytes.specs.Texts.{Place, next_of, start_of}
 use Rattle.checker_parts.specs.Answers.{IsCovered}
+use Rattle.checker_parts.specs.declared.error.CheckerError.{CheckerError}
 use Rattle.checker_parts.specs.declared.error.DimacsError.{DimacsError}
 use Rattle.checker_steps.specs.Delivered.{Listeners, Listens, ListensImage}
 use Rattle.varisat_checker.specs.ProofRun.{ProofAnswer, ProofRun}
 use Rattle.varisat_checker.specs.TextRun.{EndsText, TextAnswer, TextRun, outcome_of}
 use Rattle.checker_steps.specs.Failing.{IsFailed}
+use Rattle.sat_formula.specs.declared.counts.LyingHeader.{LyingHeader}
 use Rattle.sat_formula.specs.Refuted.{IsRefuted}
+use Rattle.whole_formulas.specs.Lies.{IsLie}
 use Rattle.whole_writes.specs.Beginnings.{AppendsBeginning}
-use Rattle.varisat_check.specs.Runs.{BeginsLine, CheckRun, IsUnwritten, OnProof, RefusedText}
+use Rattle.varisat_check.specs.Runs.{BeginsLine, CheckRun, IsUnwritten, OnProof, RefusedText, RunTellsLie}
 use Rattle.varisat_check.specs.declared.fault.RunFault.{RunFault}
 use Rattle.varisat_check.specs.declared.fault.RunFault.TheVariants.{Formula, Proof, Write}
 use Rattle.varisat_check.specs.Verdicts.{shown_line, verdict_of}
@@ -143,3 +147,12 @@ pub refuted_text : (cnf : Known) (bytes : List ℕ) (s : State) → cnf ≡ Some
 refuted_text cnf bytes s known text refuted =
     let whole = subst (λ k. EndsText {A = Unit {0}} (outcome_of k) text.0 (Ok tt)) known text.1.text in
     (text.0, whole, refuted_clauses s text.1 refuted)
+
+-- the proof was run, so the formula was added whole
+pub told_run : {P T : Type 0} (listens : Listens P) (listens_image : ListensImage T)
+    (old new : Listeners P T) (cnf proof : Known) (s s' : State) (r : Result Verdict RunFault) (told : Option LyingHeader)
+    → OnProof (λ answer. ProofRun proof s answer s' listens listens_image old new) r → IsLie cnf told → RunTellsLie cnf r told
+told_run listens listens_image old new cnf proof s s' (Ok verdict) told run h = h
+told_run listens listens_image old new cnf proof s s' (Err (Write cause)) told run h = h
+told_run listens listens_image old new cnf proof s s' (Err (Proof e)) told run h = h
+told_run listens listens_image old new cnf proof s s' (Err (Formula e)) told run h = absurd run

@@ -4,8 +4,10 @@
 --     AddedRun cnf proof r      the proof was run where the formula was added whole; what the verdict says of the clauses that were added
 --     CheckRun cnf proof r      the run over both texts
 --     IsUnwritten r, BeginsLine      the verdict's line was not written whole, and what was written then
-use Rattle.std.specs.Prelude.{◌≡◌, ℕ, Bool, false, List, Option, Result, Ok, Err, IfOk}
+--     RunTellsLie cnf r told      this is told of the formula's header
+use Rattle.std.specs.Prelude.{◌≡◌, ℕ, Bool, false, List, Option, None, Result, Ok, Err, IfOk}
 use Rattle.sat_rules.specs.Clauses.{all_true}
+use Rattle.sat_formula.specs.declared.counts.LyingHeader.{LyingHeader}
 use Rattle.checker_rules.specs.Calls.{shown_inputs}
 use Rattle.checker_rules.specs.State.{State}
 use Rattle.checker_rules.specs.Steps.{new_state}
@@ -15,6 +17,7 @@ use Rattle.checker_parts.specs.declared.error.CheckerError.TheVariants.{Failed}
 use Rattle.checker_parts.specs.declared.error.DimacsError.{DimacsError}
 use Rattle.varisat_checker.specs.ProofRun.{ProofAnswer}
 use Rattle.varisat_checker.specs.TextRun.{TextAnswer}
+use Rattle.whole_formulas.specs.Lies.{IsLie}
 use Rattle.whole_writes.specs.Beginnings.{AppendsBeginning}
 use Rattle.varisat_check.specs.Verdicts.{shown_line, verdict_of}
 use Rattle.varisat_check.specs.declared.fault.RunFault.{RunFault}
@@ -83,3 +86,10 @@ pub record BeginsLine (cnf proof old new : Option (List ℕ)) : Type 0 where
   pub left : State
   pub runs : ProofAnswer {A = Unit {0}} proof formula text steps (Ok tt) left
   pub begins : AppendsBeginning old new (shown_line (verdict_of (shown_inputs formula) left))
+
+-- what the header lies about, where the formula was added whole; else nothing
+abbrev pub RunTellsLie : Option (List ℕ) → Result Verdict RunFault → Option LyingHeader → Type 0
+RunTellsLie cnf (Ok verdict) told = IsLie cnf told
+RunTellsLie cnf (Err (Write cause)) told = IsLie cnf told
+RunTellsLie cnf (Err (Proof e)) told = IsLie cnf told
+RunTellsLie cnf (Err (Formula e)) told = told ≡ None

@@ -10,7 +10,7 @@ ghost use Rattle.varisat_checker.specs.ProofRun.{ProofRun};
 ghost use Rattle.varisat_checker.specs.Shown.{listeners, state};
 ghost use Rattle.sat_formula.specs.Refuted.{IsRefuted};
 ghost use Rattle.whole_writes.specs.Beginnings.{AppendsBeginning};
-ghost use Rattle.varisat_check.specs.Runs.{BeginsLine, CheckRun, IsFailedRun, IsRefusedRun, IsUnwritten, OnProof};
+ghost use Rattle.varisat_check.specs.Runs.{BeginsLine, CheckRun, IsFailedRun, IsRefusedRun, IsUnwritten, OnProof, RunTellsLie};
 ghost use Rattle.varisat_check.specs.Verdicts.{shown_line, verdict_of};
 ghost use Rattle.varisat_check.specs.declared.verdict.Verdict.TheVariants.{Unsatisfiable};
 
@@ -19,6 +19,7 @@ use crate::line::Line;
 use crate::verdict::Verdict;
 use checker_parts::processor::{ProofProcessor, ProofTranscriptProcessor};
 use log::Log;
+use sat_formula::LyingHeader;
 use std::alloc::Global;
 use std::io;
 use std::io::{Read, Write};
@@ -69,13 +70,15 @@ pub fn run_proof<L: Log, R: Read + Drop, W: Write, P: ProofProcessor, T: ProofTr
 /// Adds a formula in DIMACS CNF to a new checker, checks the proof, and writes the verdict's line.
 ///
 /// The proof is read only once the formula was added whole. What is written is as for `run_proof`;
-/// nothing is where the formula can't be added whole.
+/// nothing is where the formula can't be added whole. `lie` tells what the formula's header lies
+/// about; where the formula can't be added whole that is nothing.
 pub fn run_check<L: Log, F: Read + Drop, P: Read + Drop, W: Write>(
     rt: &L,
     alloc: Global,
     cnf: F,
     proof: P,
     out: &mut W,
+    lie: &mut Option<LyingHeader>,
 ) -> Result<Verdict, RunFault>
     ensures run { CheckRun (F.remaining cnf) (P.remaining proof) result }
     ensures line { IfOk result (λ verdict. Appends (W.contents out.old) (W.contents out.new)
@@ -85,9 +88,10 @@ pub fn run_check<L: Log, F: Read + Drop, P: Read + Drop, W: Write>(
         (W.contents out.old) (W.contents out.new) }
     ensures refutes { (text : List ℕ) → F.remaining cnf ≡ Some text
         → result ≡ Ok Unsatisfiable → IsRefuted text }
+    ensures lie { RunTellsLie (F.remaining cnf) result lie.new }
 {
     let mut checker = Checker::new(alloc);
-    if let Err(fault) = checker.add_dimacs_cnf(rt, cnf) {
+    if let Err(fault) = checker.add_dimacs_cnf_with_lie(rt, cnf, lie) {
         return Err(RunFault::Formula(fault));
     }
     run_proof(rt, &mut checker, proof, out)

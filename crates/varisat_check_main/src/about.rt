@@ -1,5 +1,5 @@
 //! What the program says of itself.
-use command::{About, Entry};
+use command::{About, Entry, QUIET, VERBOSE};
 
 /// What `--help` says.
 pub const ABOUT: About<'static> = About {
@@ -20,7 +20,7 @@ pub const ABOUT: About<'static> = About {
             text: "a file that the checked steps are written to, as lines of hints",
         },
     ],
-    options: &[],
+    options: &[QUIET, VERBOSE],
     verified: "s UNSATISFIABLE: no assignment satisfies the formula",
     open: "s NOT SHOWN: the proof ends before it shows that. s UNSATISFIABLE WITH n ADDED CLAUSES: \
         it shows that of the formula and n clauses that it adds",

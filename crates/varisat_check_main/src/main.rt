@@ -12,14 +12,15 @@ mod about;
 
 use crate::about::ABOUT;
 use command::{
-    Call, CountingReader, HeldBytes, Input, NOT_RUN, Source, create_output, hold_input,
-    open_inputs, say_formula, say_proof, start, unnamed, warn_of_header,
+    Call, HeldBytes, Input, NOT_RUN, create_output, hold_input, open_inputs, say_formula,
+    say_proof, say_unread, start, unnamed, warn_of_header,
 };
-use progress::logged;
-use sat_formula::{DimacsFault, Lit};
+use progress::{Progress, ToldBytes, logged};
+use sat_formula::{DimacsFault, Lit, LyingHeader};
 use sat_hints::LratWriter;
 use std::fs::File;
 use std::io;
+use std::io::Read;
 use std::process::ExitCode;
 use varisat_check::{RunFault, Verdict, exit_status, read_formula, run_check, run_lrat, run_proof};
 use varisat_checker::Checker;
@@ -41,58 +42,86 @@ fn status_of_call(rt: &HostRuntime) -> u8 {
 fn run(rt: &HostRuntime, call: &Call<'_>) -> u8 {
     match call.operands.as_slice() {
         [] => check_example(rt),
-        [cnf, proof] => check_files(rt, cnf.as_str(), proof.as_str()),
-        [cnf, proof, lrat] => write_hints(rt, cnf.as_str(), proof.as_str(), lrat.as_str()),
+        [cnf, proof] => check_files(rt, cnf.as_str(), proof.as_str(), call),
+        [cnf, proof, lrat] => { write_hints(rt, cnf.as_str(), proof.as_str(), lrat.as_str(), call) }
         operands => unnamed(rt, &ABOUT, operands.len()),
     }
 }
 
 /// Both files are opened before anything is read. The formula is read whole, and let go once its
 /// clauses are taken.
-fn check_files(rt: &HostRuntime, cnf_name: &str, proof_name: &str) -> u8 {
+fn check_files(rt: &HostRuntime, cnf_name: &str, proof_name: &str, call: &Call<'_>) -> u8 {
     let Some((cnf, proof)) = open_inputs(rt, cnf_name, proof_name) else {
         return NOT_RUN;
     };
     let cnf = match hold_input(rt, cnf) {
         Ok(held) => held,
-        Err(fault) => return say_unread(rt, cnf_name, proof_name, fault),
+        Err(fault) => return say_unread(rt, cnf_name, proof_name, formula_fault(fault)),
     };
-    let mut cnf = CountingReader::new(cnf);
-    let log = logged(rt);
-    let outcome = run_check(&log, rt.alloc(), &mut cnf, proof.file, &mut io::writer(rt));
-    report_files(rt, &outcome, cnf_name, &cnf, proof_name)
+    let progress = progress_of(rt, call);
+    let length = proof.length(rt);
+    let mut lie = None;
+    let outcome = run_check(
+        &logged(rt),
+        rt.alloc(),
+        cnf,
+        ToldBytes::new(&progress, proof.file, length),
+        &mut io::writer(rt),
+        &mut lie,
+    );
+    report_files(rt, &outcome, cnf_name, &lie, proof_name)
+}
+
+fn progress_of<'a>(rt: &'a HostRuntime, call: &Call<'_>) -> Progress<&'a HostRuntime> {
+    let (is_quiet, is_verbose) = (call.has("--quiet"), call.has("--verbose"));
+    Progress::of_call(rt, "varisat_check", is_quiet, is_verbose)
 }
 
 /// The third file is made once both others are open, and before anything is read. It is neither of
 /// them.
-fn write_hints(rt: &HostRuntime, cnf_name: &str, proof_name: &str, lrat_name: &str) -> u8 {
+fn write_hints(
+    rt: &HostRuntime,
+    cnf_name: &str,
+    proof_name: &str,
+    lrat_name: &str,
+    call: &Call<'_>,
+) -> u8 {
     let Some((cnf, proof)) = open_inputs(rt, cnf_name, proof_name) else {
         return NOT_RUN;
     };
     match create_output(rt, lrat_name, &cnf, &proof) {
-        Some(mut lrat) => write_hints_to(rt, cnf, proof, &mut lrat),
+        Some(mut lrat) => write_hints_to(rt, cnf, proof, &mut lrat, &progress_of(rt, call)),
         None => NOT_RUN,
     }
 }
 
-fn write_hints_to(rt: &HostRuntime, cnf: Input<'_>, proof: Input<'_>, lrat: &mut File) -> u8 {
+fn write_hints_to(
+    rt: &HostRuntime,
+    cnf: Input<'_>,
+    proof: Input<'_>,
+    lrat: &mut File,
+    progress: &Progress<&HostRuntime>,
+) -> u8 {
     let (cnf_name, proof_name) = (cnf.name, proof.name);
     let cnf = match hold_input(rt, cnf) {
         Ok(held) => held,
-        Err(fault) => return say_unread(rt, cnf_name, proof_name, fault),
+        Err(fault) => return say_unread(rt, cnf_name, proof_name, formula_fault(fault)),
     };
-    let mut cnf = CountingReader::new(cnf);
-    let outcome = hints_of(rt, &mut cnf, proof.file, lrat);
-    report_files(rt, &outcome, cnf_name, &cnf, proof_name)
+    let length = proof.length(rt);
+    let proof = ToldBytes::new(progress, proof.file, length);
+    let mut lie = None;
+    let outcome = hints_of(rt, cnf, proof, lrat, &mut lie);
+    report_files(rt, &outcome, cnf_name, &lie, proof_name)
 }
 
-fn hints_of(
+fn hints_of<P: Read + Drop>(
     rt: &HostRuntime,
-    cnf: &mut CountingReader<HeldBytes>,
-    proof: Source,
+    cnf: HeldBytes,
+    proof: P,
     lrat: &mut File,
+    lie: &mut Option<LyingHeader>,
 ) -> Result<Verdict, RunFault> {
-    let formula = read_formula(rt.alloc(), cnf)?;
+    let formula = read_formula(rt.alloc(), cnf, lie)?;
     let writer = LratWriter::new(rt.alloc(), formula.len() as u64);
     let log = logged(rt);
     let out = &mut io::writer(rt);
@@ -126,7 +155,7 @@ fn report_files(
     rt: &HostRuntime,
     outcome: &Result<Verdict, RunFault>,
     cnf_name: &str,
-    cnf: &CountingReader<HeldBytes>,
+    lie: &Option<LyingHeader>,
     proof_name: &str,
 ) -> u8 {
     let status = report(rt, outcome);
@@ -138,16 +167,13 @@ fn report_files(
         Err(RunFault::Proof(_)) => say_proof(rt, proof_name),
         Err(RunFault::Write(_)) | Ok(_) => {}
     }
-    warn_of_header(rt, cnf_name, cnf);
+    warn_of_header(rt, cnf_name, lie);
     status
 }
 
-/// Says why the formula could not be read, and gives the exit status.
-fn say_unread(rt: &HostRuntime, cnf_name: &str, proof_name: &str, fault: io::Error) -> u8 {
-    let fault = DimacsFault::of_error(fault).into();
-    let status = report(rt, &Err(RunFault::Formula(fault)));
-    say_formula(rt, cnf_name, proof_name);
-    status
+/// A fault of a run whose formula could not be read.
+fn formula_fault(fault: io::Error) -> RunFault {
+    RunFault::Formula(DimacsFault::of_error(fault).into())
 }
 
 /// Says why there is no verdict, and gives the exit status.

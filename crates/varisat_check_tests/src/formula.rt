@@ -29,7 +29,7 @@ fn show(shown: &mut Shown, answer: Result<CnfFormula, RunFault>) {
 
 fn reads(rt: &impl Abort, alloc: Global, cnf: Pieces<'_>, expected: &str) {
     let mut shown = Shown::new(alloc);
-    show(&mut shown, read_formula(alloc, cnf));
+    show(&mut shown, read_formula(alloc, cnf, &mut None));
     assert_eq!(rt; shown.text(), expected);
 }
 
@@ -62,7 +62,7 @@ fn formulas(rt: HostRuntime) {
 #[test]
 fn failed_read_is_no_end(rt: HostRuntime) {
     let cnf = Pieces::broken(b"1 0\n-1 0\n", ErrorKind::ConnectionReset);
-    let answer = read_formula(rt.alloc(), cnf);
+    let answer = read_formula(rt.alloc(), cnf, &mut None);
     assert!(rt; matches!(&answer, Err(RunFault::Formula(DimacsError::Read(_)))));
     let mut shown = Shown::new(rt.alloc());
     show(&mut shown, answer);

@@ -56,7 +56,7 @@ fn is_answered(
     outcome: Outcome<'_>,
 ) {
     let mut out = Vec::new(alloc);
-    let answer = run_check(&Discard, alloc, cnf, proof, &mut out);
+    let answer = run_check(&Discard, alloc, cnf, proof, &mut out, &mut None);
     has_outcome(rt, alloc, answer, &out, outcome);
 }
 
@@ -156,7 +156,14 @@ fn reads_that_fail(rt: HostRuntime) {
 
 #[test]
 fn lines_that_cannot_be_written(rt: HostRuntime) {
-    let answer = run_check(&Discard, rt.alloc(), UNITS, END, &mut Full::after(0));
+    let answer = run_check(
+        &Discard,
+        rt.alloc(),
+        UNITS,
+        END,
+        &mut Full::after(0),
+        &mut None,
+    );
     has_outcome(&rt, rt.alloc(), answer, &[], ("", "error writing: full", 1));
 }
 
@@ -180,7 +187,7 @@ fn a_line_is_one_write(rt: HostRuntime) {
 }
 
 fn is_one_write(rt: &impl Abort, out: &mut Counting, alloc: Global, cnf: &[u8], line: &str) {
-    assert!(rt; run_check(&Discard, alloc, cnf, END, out).is_ok());
+    assert!(rt; run_check(&Discard, alloc, cnf, END, out, &mut None).is_ok());
     assert_eq!(rt; out.text.as_slice(), line.as_bytes());
     assert_eq!(rt; out.writes, 1);
 }
@@ -193,6 +200,7 @@ fn refused_proof_is_not_a_failed_write(rt: HostRuntime) {
         b"1 0".as_slice(),
         b"".as_slice(),
         &mut Full::after(0),
+        &mut None,
     );
     assert!(rt;
         matches!(

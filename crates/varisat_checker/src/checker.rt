@@ -13,7 +13,7 @@ use checker_steps::context::ContextOf;
 use checker_steps::processing::ProcessingOf;
 use log::{Log, info};
 use proof_bytes::ProofStep;
-use sat_formula::{CnfFormula, DimacsFault, DimacsReader, Lit};
+use sat_formula::{CnfFormula, DimacsFault, DimacsReader, Lit, LyingHeader};
 use std::alloc::Global;
 use std::io::Read;
 
@@ -47,6 +47,7 @@ impl<P: ProofProcessor, T: ProofTranscriptProcessor> CheckerOf<P, T> {
     ghost use Rattle.varisat_checker.specs.Shown.{listeners, state, buffer_length, shown_literals};
     ghost use Rattle.varisat_checker.specs.TextFault.{IsTextFault};
     ghost use Rattle.varisat_checker.specs.TextRun.{TextRun};
+    ghost use Rattle.whole_formulas.specs.Lies.{TellsLie};
 
     /// A checker with nothing stored. Takes no memory.
     pub fn new(alloc: Global) -> CheckerOf<P, T>
@@ -139,6 +140,25 @@ impl<P: ProofProcessor, T: ProofTranscriptProcessor> CheckerOf<P, T> {
             → TextRun (R.remaining input) (state self.old) result (state self.new)
             P.ProofProcessor T.ProofTranscriptProcessor (listeners self.old) (listeners self.new) }
     {
+        self.add_dimacs_cnf_with_lie(rt, input, &mut None)
+    }
+
+    /// The same, and `lie` tells what the header of the text lies about; where not all of the text
+    /// was added that is nothing.
+    pub fn add_dimacs_cnf_with_lie<L: Log, R: Read + Drop>(
+        &mut self,
+        rt: &L,
+        input: R,
+        lie: &mut Option<LyingHeader>,
+    ) -> Result<(), DimacsError>
+        ensures failed { (state self.old).failed ≡ true
+            → IsTextFailed result × (self.new ≡ self.old) }
+        ensures text { (state self.old).failed ≡ false
+            → TextRun (R.remaining input) (state self.old) result (state self.new)
+            P.ProofProcessor T.ProofTranscriptProcessor (listeners self.old) (listeners self.new) }
+        ensures lie { TellsLie (R.remaining input) result lie.new }
+    {
+        *lie = None;
         if self.ctx.checker_state.failed {
             return Err(DimacsError::Checker(CheckerError::Failed));
         }
@@ -155,6 +175,7 @@ impl<P: ProofProcessor, T: ProofTranscriptProcessor> CheckerOf<P, T> {
             }
         }
         info!(rt; "Parsed formula with {} variables and {} clauses", reader.var_count(), reader.clause_count());
+        *lie = reader.lying_header();
         Ok(())
     }
 

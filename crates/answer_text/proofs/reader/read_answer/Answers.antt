@@ -46,10 +46,11 @@ pub returns-in-Err-End-clause-lists : goal.returns-in-Err-End-clause-lists
 returns-in-Err-End-clause-lists g c =
     let so_far = c.bytes.invariant.read in
     ends_well _ _ _ so_far.lits _ _ so_far.apart so_far.leads c.in-Err-End.ensures.byte.kept (c.in-Err-End.ensures.byte.at_end c.in-Err-End.field-0-is)
-    (c.end.ensures so_far.lits so_far.has)
+    (c.in_ok-end-in-Err-End.ensures so_far.lits so_far.has)
 
-pub returns-in-Err-End-clause-fault : goal.returns-in-Err-End-clause-fault
-returns-in-Err-End-clause-fault g c =
+pub returns-in_err-end-in-Err-End-clause-fault : goal.returns-in_err-end-in-Err-End-clause-fault
+returns-in_err-end-in-Err-End-clause-fault g c =
     let so_far = c.bytes.invariant.read in
-    ends_ill _ _ _ so_far.lits _ _ so_far.leads c.in-Err-End.ensures.byte.kept (c.in-Err-End.ensures.byte.at_end c.in-Err-End.field-0-is)
-    (c.end.ensures so_far.lits so_far.has)
+    exits (λ r. IfErr r (FailsBy (g.R.Read.remaining c.args.answer))) _ _ c.from_residual-in_err-end-in-Err-End.ensures.1
+    (ends_ill _ _ _ so_far.lits _ _ so_far.leads c.in-Err-End.ensures.byte.kept (c.in-Err-End.ensures.byte.at_end c.in-Err-End.field-0-is)
+    (c.in_err-end-in-Err-End.ensures so_far.lits so_far.has))

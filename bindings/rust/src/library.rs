@@ -1,0 +1,130 @@
+//! The calls of the library, as `cefindrato.h` has them.
+use crate::{DratOptions, Format};
+
+pub const VERIFIED: u8 = 0;
+pub const NOT_VERIFIED: u8 = 3;
+pub const OUT_OF_MEMORY: u8 = 4;
+
+/// Room for the text of a fault.
+pub fn text_room() -> [u8; 512] {
+    [0; 512]
+}
+
+#[repr(C)]
+pub struct Text {
+    pub len: usize,
+    pub whole: usize,
+}
+
+#[repr(C)]
+pub struct LratAnswer {
+    pub status: u8,
+    pub text: Text,
+}
+
+#[repr(C)]
+pub struct DratAnswer {
+    pub status: u8,
+    pub lrat: Text,
+    pub core: Text,
+    pub text: Text,
+}
+
+#[repr(C)]
+pub struct ModelAnswer {
+    pub status: u8,
+    pub text: Text,
+    pub clause: u64,
+    pub line: u64,
+}
+
+#[repr(C)]
+struct Options {
+    format: u8,
+    lrat: bool,
+    core: bool,
+}
+
+extern "C" {
+    fn cefindrato_lrat_check(
+        cnf: *const u8,
+        cnf_len: usize,
+        proof: *const u8,
+        proof_len: usize,
+        text: *mut u8,
+        text_size: usize,
+    ) -> LratAnswer;
+    fn cefindrato_drat_check(
+        cnf: *const u8,
+        cnf_len: usize,
+        proof: *const u8,
+        proof_len: usize,
+        options: Options,
+        lrat: *mut u8,
+        lrat_size: usize,
+        core: *mut u8,
+        core_size: usize,
+        text: *mut u8,
+        text_size: usize,
+    ) -> DratAnswer;
+    fn cefindrato_model_check(
+        cnf: *const u8,
+        cnf_len: usize,
+        answer: *const u8,
+        answer_len: usize,
+        text: *mut u8,
+        text_size: usize,
+    ) -> ModelAnswer;
+    fn cefindrato_version() -> u32;
+}
+
+// SAFETY, of each call: a pointer and its length are of one slice, no slice has a null pointer, and rooms are borrowed mutably,
+// so they overlap nothing. The library keeps no pointer.
+
+pub fn lrat_check(cnf: &[u8], proof: &[u8], text: &mut [u8]) -> LratAnswer {
+    unsafe {
+        cefindrato_lrat_check(cnf.as_ptr(), cnf.len(), proof.as_ptr(), proof.len(), text.as_mut_ptr(), text.len())
+    }
+}
+
+pub fn drat_check(
+    cnf: &[u8],
+    proof: &[u8],
+    options: DratOptions,
+    lrat: &mut [u8],
+    core: &mut [u8],
+    text: &mut [u8],
+) -> DratAnswer {
+    let format = match options.format {
+        Format::Told => 0,
+        Format::Drat => 1,
+        Format::Frat => 2,
+        Format::Lpr => 3,
+    };
+    let options = Options { format, lrat: options.lrat, core: options.core };
+    unsafe {
+        cefindrato_drat_check(
+            cnf.as_ptr(),
+            cnf.len(),
+            proof.as_ptr(),
+            proof.len(),
+            options,
+            lrat.as_mut_ptr(),
+            lrat.len(),
+            core.as_mut_ptr(),
+            core.len(),
+            text.as_mut_ptr(),
+            text.len(),
+        )
+    }
+}
+
+pub fn model_check(cnf: &[u8], answer: &[u8], text: &mut [u8]) -> ModelAnswer {
+    unsafe {
+        cefindrato_model_check(cnf.as_ptr(), cnf.len(), answer.as_ptr(), answer.len(), text.as_mut_ptr(), text.len())
+    }
+}
+
+pub fn version() -> u32 {
+    unsafe { cefindrato_version() }
+}

@@ -1,0 +1,2 @@
+mod DratOutputs
+mod VerifiedRuns

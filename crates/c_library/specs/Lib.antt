@@ -1,0 +1,4 @@
+pub mod DratCalls
+pub mod ModelCalls
+pub mod Rooms
+pub mod Statuses

@@ -1,0 +1,83 @@
+//! LRAT proofs.
+ghost use Rattle.std.specs.Prelude.{◌≡◌, ℕ, IfOk, List, Result, Some};
+ghost use Rattle.sat_formula.specs.Refuted.{IsRefuted};
+ghost use Rattle.lrat_check.specs.Runs.{IsCheckRun};
+ghost use Rattle.c_library.specs.Rooms.{IsNothing, IsPlaced};
+ghost use Rattle.c_library.specs.Statuses.{lines_status, lrat_status};
+ghost use Rattle.lrat_check.specs.declared.fault.RunFault.{RunFault};
+ghost use Rattle.verdicts.specs.declared.verdict.Verdict.{Verdict};
+
+use crate::room::{Placed, place_fault, place_nothing};
+use crate::status::{FAULT, OUT_OF_MEMORY, of_formula};
+use lrat_check::{RunFault, Verdict, exit_status, run_check};
+use lrat_checker::LratFault;
+use std::alloc::Global;
+use std::io::sink;
+
+/// What a check of an LRAT proof answers.
+#[repr(C)]
+#[derive(Clone, Copy)]
+pub struct LratAnswer {
+    /// 0 verified, 3 not verified, 1 for a fault, 4 where there was no memory.
+    pub status: u8,
+    /// A fault's text.
+    pub text: Placed,
+}
+
+/// Checks an LRAT text against a DIMACS text. Where the status is 0, no assignment satisfies the
+/// clauses of the formula's text.
+///
+/// `text` gets a fault's text, and nothing beside a verdict.
+#[unsafe(no_mangle)]
+pub extern "C" fn cefindrato_lrat_check(
+    alloc: Global,
+    cnf: &[u8],
+    proof: &[u8],
+    text: &mut [u8],
+) -> LratAnswer
+    ensures refutes { result.status ≡ 0 → IsRefuted cnf.now }
+    ensures run { (r : Result Verdict RunFault)
+        × IsCheckRun (Some cnf.now) (Some proof.now) r × (result.status ≡ lrat_status r)
+        × IfOk r (λ verdict. IsNothing text.old text.new result.text) }
+    ensures text { (said : List ℕ) × IsPlaced said text.old text.new result.text }
+{
+    let outcome = run_check(alloc, cnf, proof, &mut sink(), &mut None);
+    answer_to(alloc, &outcome, text)
+}
+
+/// What is answered to a run, and put into the room.
+fn answer_to(alloc: Global, outcome: &Result<Verdict, RunFault>, text: &mut [u8]) -> LratAnswer
+    ensures status { result.status ≡ lrat_status outcome.now }
+    ensures silent { IfOk outcome.now (λ verdict. IsNothing text.old text.new result.text) }
+    ensures text { (said : List ℕ) × IsPlaced said text.old text.new result.text }
+{
+    LratAnswer {
+        status: status(outcome),
+        text: match outcome {
+            Ok(_) => place_nothing(text),
+            Err(fault) => place_fault(alloc, fault, text),
+        },
+    }
+}
+
+/// The status of a run.
+fn status(outcome: &Result<Verdict, RunFault>) -> u8
+    ensures { result ≡ lrat_status outcome.now }
+{
+    match outcome {
+        Ok(_) => exit_status(outcome),
+        Err(RunFault::Formula(fault)) => of_formula(fault),
+        Err(RunFault::Proof(fault)) => of_lines(fault),
+        Err(RunFault::Write(_)) => FAULT,
+    }
+}
+
+/// The status of a fault of lines.
+fn of_lines(fault: &LratFault) -> u8
+    ensures { result ≡ lines_status fault.now }
+{
+    match fault {
+        LratFault::OutOfMemory => OUT_OF_MEMORY,
+        _ => FAULT,
+    }
+}

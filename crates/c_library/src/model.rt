@@ -1,0 +1,106 @@
+//! Answers that a formula is satisfiable.
+ghost use Rattle.std.specs.Prelude.{◌≡◌, ℕ, IfOk, List, Result, Some};
+ghost use Rattle.model_check.specs.Models.{IsSatisfiedBy};
+ghost use Rattle.model_check.specs.Runs.{IsCheckRun};
+ghost use Rattle.c_library.specs.ModelCalls.{clause_of, line_of};
+ghost use Rattle.c_library.specs.Rooms.{IsNothing, IsPlaced};
+ghost use Rattle.c_library.specs.Statuses.{answer_status, model_status};
+ghost use Rattle.model_check.specs.declared.fault.RunFault.{RunFault};
+ghost use Rattle.model_check.specs.declared.verdict.Verdict.{Verdict};
+
+use crate::room::{Placed, place_fault, place_nothing};
+use crate::status::{FAULT, OUT_OF_MEMORY, of_formula};
+use answer_text::AnswerFault;
+use model_check::{RunFault, Verdict, exit_status, run_check};
+use std::alloc::Global;
+use std::io::sink;
+
+/// What a check of a solver's answer answers.
+#[repr(C)]
+#[derive(Clone, Copy)]
+pub struct ModelAnswer {
+    /// 0 verified, 3 not verified, 1 for a fault, 4 where there was no memory.
+    pub status: u8,
+    /// A fault's text.
+    pub text: Placed,
+    /// Where it is not verified, the number of the first clause that has no literal of the answer;
+    /// else 0.
+    pub clause: u64,
+    /// The line on which that clause ends, or 0.
+    pub line: u64,
+}
+
+/// Checks a solver's answer against a DIMACS text. Where the status is 0, each assignment that
+/// agrees with the answer satisfies the formula, and there is one.
+///
+/// `text` gets a fault's text, and nothing beside a verdict.
+#[unsafe(no_mangle)]
+pub extern "C" fn cefindrato_model_check(
+    alloc: Global,
+    cnf: &[u8],
+    answer: &[u8],
+    text: &mut [u8],
+) -> ModelAnswer
+    ensures satisfies { result.status ≡ 0 → IsSatisfiedBy cnf.now answer.now }
+    ensures run { (r : Result Verdict RunFault)
+        × IsCheckRun (Some cnf.now) (Some answer.now) r × (result.status ≡ model_status r)
+        × (result.clause ≡ clause_of r) × (result.line ≡ line_of r)
+        × IfOk r (λ verdict. IsNothing text.old text.new result.text) }
+    ensures text { (said : List ℕ) × IsPlaced said text.old text.new result.text }
+{
+    let outcome = run_check(alloc, cnf, answer, &mut sink(), &mut None);
+    answer_to(alloc, &outcome, text)
+}
+
+/// What is answered to a run, and put into the room.
+fn answer_to(alloc: Global, outcome: &Result<Verdict, RunFault>, text: &mut [u8]) -> ModelAnswer
+    ensures status { result.status ≡ model_status outcome.now }
+    ensures clause { result.clause ≡ clause_of outcome.now }
+    ensures line { result.line ≡ line_of outcome.now }
+    ensures silent { IfOk outcome.now (λ verdict. IsNothing text.old text.new result.text) }
+    ensures text { (said : List ℕ) × IsPlaced said text.old text.new result.text }
+{
+    let (clause, line) = unmet(outcome);
+    ModelAnswer {
+        status: status(outcome),
+        text: match outcome {
+            Ok(_) => place_nothing(text),
+            Err(fault) => place_fault(alloc, fault, text),
+        },
+        clause,
+        line,
+    }
+}
+
+/// The clause that is not met and its line, or 0 and 0.
+fn unmet(outcome: &Result<Verdict, RunFault>) -> (u64, u64)
+    ensures clause { result.0 ≡ clause_of outcome.now }
+    ensures line { result.1 ≡ line_of outcome.now }
+{
+    match outcome {
+        Ok(Verdict::NotVerified { clause, line }) => (*clause, *line),
+        _ => (0, 0),
+    }
+}
+
+/// The status of a run.
+fn status(outcome: &Result<Verdict, RunFault>) -> u8
+    ensures { result ≡ model_status outcome.now }
+{
+    match outcome {
+        Ok(_) => exit_status(outcome),
+        Err(RunFault::Answer(fault)) => of_answer(fault),
+        Err(RunFault::Formula(fault)) => of_formula(fault),
+        Err(RunFault::Cut(_) | RunFault::Write(_)) => FAULT,
+    }
+}
+
+/// The status of an answer's fault.
+fn of_answer(fault: &AnswerFault) -> u8
+    ensures { result ≡ answer_status fault.now }
+{
+    match fault {
+        AnswerFault::OutOfMemory => OUT_OF_MEMORY,
+        _ => FAULT,
+    }
+}

@@ -1,0 +1,58 @@
+//! Texts that are put into the rooms of a caller.
+ghost use Rattle.std.specs.Prelude.{◌≡◌, ℕ, true, false, IfSome, List, []};
+ghost use Rattle.c_library.specs.Rooms.{IsNothing, IsPlaced};
+
+use std::alloc::Global;
+use std::fmt::Display;
+
+/// How much of a text was put at the start of a room.
+#[repr(C)]
+#[derive(Clone, Copy)]
+pub struct Placed {
+    /// The bytes that were put: those of the text, or as many as there was room for.
+    pub len: usize,
+    /// The bytes of the text.
+    pub whole: usize,
+}
+
+/// Puts the beginning of a text at the start of a room.
+pub(crate) fn place(text: &[u8], room: &mut [u8]) -> Placed
+    ensures { IsPlaced text.now room.old room.new result }
+{
+    let len = text.len().min(room.len());
+    room[..len].copy_from_slice(&text[..len]);
+    Placed {
+        len,
+        whole: text.len(),
+    }
+}
+
+/// Puts nothing.
+pub(crate) fn place_nothing(room: &mut [u8]) -> Placed
+    ensures nothing { IsNothing room.old room.new result }
+    ensures empty { IsPlaced [] room.old room.new result }
+{
+    place(b"", room)
+}
+
+/// Puts the text of a fault, or that there was no memory for it.
+pub(crate) fn place_fault<F: Display>(alloc: Global, fault: &F, room: &mut [u8]) -> Placed
+    ensures { (text : List ℕ) × IsPlaced text room.old room.new result }
+{
+    match format!(in alloc; "{fault}") {
+        Ok(text) => place(text.as_bytes(), room),
+        Err(_) => place(b"out of memory", room),
+    }
+}
+
+/// Puts a text where it is wanted and there is one.
+pub(crate) fn place_wanted(wanted: bool, text: &Option<Vec<u8>>, room: &mut [u8]) -> Placed
+    ensures wanted { wanted ≡ true
+        → IfSome text.now (λ bytes. IsPlaced bytes.items room.old room.new result) }
+    ensures unwanted { wanted ≡ false → IsNothing room.old room.new result }
+{
+    match text {
+        Some(bytes) if wanted => place(bytes, room),
+        _ => place_nothing(room),
+    }
+}

@@ -1,0 +1,63 @@
+//! Numbers on a stack of bytes: small ones take one.
+use std::alloc::{AllocError, Global};
+
+/// A number is in pieces of seven bits, the highest on top. All but the lowest say that another one
+/// is below.
+const PIECE: u32 = 7;
+
+const MORE: u8 = 1 << 7;
+
+/// A number of 32 bits has at most so many pieces.
+const MOST_PIECES: usize = 5;
+
+/// Numbers, the last of which is taken first.
+#[derive(Drop)]
+pub(crate) struct ByteStack {
+    bytes: Vec<u8>,
+}
+
+impl ByteStack {
+    pub(crate) fn new(alloc: Global) -> ByteStack {
+        ByteStack {
+            bytes: Vec::new(alloc),
+        }
+    }
+
+    pub(crate) fn is_empty(&self) -> bool {
+        self.bytes.is_empty()
+    }
+
+    #[inline(always)]
+    pub(crate) fn push(&mut self, number: u32) -> Result<(), AllocError> {
+        self.bytes.push(piece(number))?;
+        let mut rest = number >> PIECE;
+        for _ in 1..MOST_PIECES {
+            if rest == 0 {
+                break;
+            }
+            self.bytes.push(piece(rest) | MORE)?;
+            rest >>= PIECE;
+        }
+        Ok(())
+    }
+
+    /// Takes the number off that came last; 0 where there is none.
+    #[inline(always)]
+    pub(crate) fn pop(&mut self) -> u32 {
+        let mut number = 0u32;
+        for _ in 0..MOST_PIECES {
+            let byte = self.bytes.pop().unwrap_or(0);
+            number = number.wrapping_shl(PIECE) | (byte & !MORE) as u32;
+            if byte & MORE == 0 {
+                break;
+            }
+        }
+        number
+    }
+}
+
+/// The lowest seven bits.
+#[inline(always)]
+fn piece(number: u32) -> u8 {
+    (number & 0x7f) as u8
+}

@@ -1,0 +1,389 @@
+//! The lines of a clause that is redundant by a witness.
+//!
+//! An LRAT line has no witness. But one fresh variable x serves, which says that a model of the
+//! clauses before is one of the clause already, and need not be changed by the witness:
+//!
+//! - for each clause D that the witness touches and does not satisfy, `x` or the literals of D that
+//!   the witness does not falsify: redundant by `x`, whose negation no clause has;
+//! - the clause or `-x`, redundant by `-x`: the groups of the check are those of these clauses;
+//! - each clause that the witness touches and satisfies, or `-x`, in place of that clause;
+//! - each literal of the witness, or `x`: redundant by that literal;
+//! - the clause itself, which follows; and the satisfied clauses again, which do too.
+//!
+//! Then all that has x is deleted.
+
+use crate::clauses::{ClauseIndex, Clauses, narrow};
+use crate::fault::ElaborateFault;
+use crate::lines::{Lines, id_in};
+use crate::local::LocalLit;
+use crate::queue::LineQueue;
+use crate::variables::Variables;
+use lrat_text::Hint;
+use sat_formula::Lit;
+use std::alloc::Global;
+
+/// A clause that the witness touches, and the id of the line over x that stands for it.
+#[derive(Clone, Copy)]
+struct Touched {
+    clause: ClauseIndex,
+    id: u64,
+}
+
+/// What the lines of a step are made with.
+#[derive(Drop)]
+pub(crate) struct WitnessLines {
+    alloc: Global,
+    pub(crate) queue: LineQueue,
+    /// The literal x, once it is known.
+    fresh: Option<Lit>,
+    /// By code of the literal, its place in the witness and 1 more; 0 where it is not in it.
+    places: Vec<u32>,
+    /// The clauses that are touched and not satisfied.
+    reduced: Vec<Touched>,
+    /// The clauses that are touched and satisfied.
+    satisfied: Vec<Touched>,
+    /// By place in the witness, the hints of the literal's line.
+    literal_hints: Vec<Vec<Hint>>,
+    /// By place in the witness, the id of the literal's line.
+    literal_ids: Vec<u64>,
+}
+
+impl WitnessLines {
+    pub(crate) fn new(alloc: Global) -> WitnessLines {
+        WitnessLines {
+            alloc,
+            queue: LineQueue::new(alloc),
+            fresh: None,
+            places: Vec::new(alloc),
+            reduced: Vec::new(alloc),
+            satisfied: Vec::new(alloc),
+            literal_hints: Vec::new(alloc),
+            literal_ids: Vec::new(alloc),
+        }
+    }
+
+    /// Begins a step. The answer is x.
+    fn begin(
+        &mut self,
+        variables: &Variables,
+        witness: &[LocalLit],
+    ) -> Result<Lit, ElaborateFault> {
+        self.queue.clear();
+        self.reduced.clear();
+        self.satisfied.clear();
+        self.literal_ids.clear();
+        for hints in self.literal_hints.iter_mut() {
+            hints.clear();
+        }
+        for (place, lit) in witness.iter().enumerate() {
+            self.enter(*lit, place)?;
+        }
+        self.fresh_lit(variables)
+    }
+
+    /// A literal has this place in the witness.
+    fn enter(&mut self, lit: LocalLit, place: usize) -> Result<(), ElaborateFault> {
+        if self.literal_hints.len() <= place {
+            self.literal_hints.push(Vec::new(self.alloc))?;
+        }
+        if self.places.len() <= lit.place() {
+            self.places.resize(lit.place().saturating_add(1), 0)?;
+        }
+        if let Some(found) = self.places.get_mut(lit.place()) {
+            *found = narrow(place.saturating_add(1))?;
+        }
+        Ok(())
+    }
+
+    /// The literal x: its variable is the one above the largest of the formula and the proof.
+    fn fresh_lit(&mut self, variables: &Variables) -> Result<Lit, ElaborateFault> {
+        if self.fresh.is_none() {
+            self.fresh = variables.fresh_lit();
+        }
+        self.fresh.ok_or(ElaborateFault::NoFreshVariable)
+    }
+
+    /// The place of a literal in the witness.
+    fn place_of(&self, lit: LocalLit) -> Option<usize> {
+        let place = self.places.get(lit.place()).copied()? as usize;
+        place.checked_sub(1)
+    }
+
+    /// A place in the witness of a literal of a clause, where it has one.
+    fn satisfied_at(&self, lits: &[LocalLit]) -> Option<usize> {
+        for lit in lits {
+            if let Some(place) = self.place_of(*lit) {
+                return Some(place);
+            }
+        }
+        None
+    }
+
+    /// The lines of the literals whose negations are among these get some hints.
+    fn hint_literals(&mut self, lits: &[LocalLit], hints: &[Hint]) -> Result<(), ElaborateFault> {
+        for lit in lits {
+            if let Some(place) = self.place_of(!*lit) {
+                if let Some(list) = self.literal_hints.get_mut(place) {
+                    list.extend_from_slice(hints)?;
+                }
+            }
+        }
+        Ok(())
+    }
+
+    /// The literals of a clause are the next ones of a line.
+    fn push_lits(
+        &mut self,
+        variables: &Variables,
+        lits: &[LocalLit],
+    ) -> Result<(), ElaborateFault> {
+        for lit in lits {
+            self.queue.push_lit(variables.named(*lit)?)?;
+        }
+        Ok(())
+    }
+
+    /// The literals of a clause that the witness does not falsify are the next ones of a line.
+    fn push_rest(
+        &mut self,
+        variables: &Variables,
+        lits: &[LocalLit],
+    ) -> Result<(), ElaborateFault> {
+        for lit in lits {
+            if self.place_of(!*lit).is_none() {
+                self.queue.push_lit(variables.named(*lit)?)?;
+            }
+        }
+        Ok(())
+    }
+
+    /// The hints of a line are those that a literal of the witness got.
+    fn push_literal_hints(&mut self, place: usize) -> Result<(), ElaborateFault> {
+        if let Some(hints) = self.literal_hints.get(place) {
+            for hint in hints {
+                self.queue.push_hint(*hint)?;
+            }
+        }
+        Ok(())
+    }
+
+    /// The id of the line of a literal of the witness.
+    fn literal_id(&self, place: Option<usize>) -> Result<u64, ElaborateFault> {
+        let place = place.ok_or(ElaborateFault::Internal)?;
+        let id = self.literal_ids.get(place).copied();
+        id.ok_or(ElaborateFault::Internal)
+    }
+
+    /// No literal is in the witness any more.
+    fn end(&mut self, witness: &[LocalLit]) {
+        for lit in witness {
+            if let Some(place) = self.places.get_mut(lit.place()) {
+                *place = 0;
+            }
+        }
+    }
+}
+
+impl Lines {
+    /// The lines of a clause that is redundant by a witness wait in the queue.
+    pub(crate) fn read_witnessed(
+        &mut self,
+        clauses: &Clauses,
+        variables: &Variables,
+        witness: &[LocalLit],
+    ) -> Result<(), ElaborateFault> {
+        let clause = self.record.clause.get().ok_or(ElaborateFault::Internal)?;
+        let fresh = self.by_witness.begin(variables, witness)?;
+        self.clause.clear();
+        self.read_clause(clauses, variables, clause)?;
+        self.tell_reduced(clauses, variables, fresh)?;
+        let freed = self.tell_freed(clauses, clause, fresh)?;
+        self.tell_satisfied(clauses, variables, fresh)?;
+        self.delete_satisfied()?;
+        self.tell_literals(variables, witness, fresh)?;
+        self.tell_clause(clause, freed)?;
+        self.tell_satisfied_again(clauses, variables)?;
+        self.read_dying()?;
+        self.dying.push(freed)?;
+        self.end_witness(witness)
+    }
+
+    /// The line that was begun adds a clause under the next id.
+    fn end_line(&mut self) -> Result<u64, ElaborateFault> {
+        self.last_id = self.last_id.saturating_add(1);
+        self.by_witness.queue.end_addition(self.last_id)?;
+        Ok(self.last_id)
+    }
+
+    /// For each clause that is touched and not satisfied, x or what the witness leaves of it.
+    fn tell_reduced(
+        &mut self,
+        clauses: &Clauses,
+        variables: &Variables,
+        fresh: Lit,
+    ) -> Result<(), ElaborateFault> {
+        for place in 0..self.record.hints.len() {
+            let Some(hint) = self.record.hints.get(place).copied() else {
+                break;
+            };
+            if !hint.is_against() {
+                continue;
+            }
+            let clause = hint.clause();
+            clauses.read(clause, &mut self.lits)?;
+            if self.by_witness.satisfied_at(&self.lits).is_some() {
+                self.by_witness.satisfied.push(Touched { clause, id: 0 })?;
+                continue;
+            }
+            self.by_witness.queue.push_lit(fresh)?;
+            self.by_witness.push_rest(variables, &self.lits)?;
+            let id = self.end_line()?;
+            self.by_witness.reduced.push(Touched { clause, id })?;
+            let own = id_in(&self.ids, clause)?;
+            let hints = [Hint::Against(own), Hint::Along(id)];
+            self.by_witness.hint_literals(&self.lits, &hints)?;
+        }
+        Ok(())
+    }
+
+    /// The clause or -x. The answer is its id.
+    fn tell_freed(
+        &mut self,
+        clauses: &Clauses,
+        clause: ClauseIndex,
+        fresh: Lit,
+    ) -> Result<u64, ElaborateFault> {
+        self.by_witness.queue.push_lit(!fresh)?;
+        self.push_clause()?;
+        let mut reduced = 0;
+        for place in 0..self.record.hints.len() {
+            let Some(hint) = self.record.hints.get(place).copied() else {
+                break;
+            };
+            if !hint.is_against() {
+                let id = id_in(&self.ids, hint.clause())?;
+                self.by_witness.queue.push_hint(Hint::Along(id))?;
+                continue;
+            }
+            // A clause that is satisfied has no group, and no hints come after it.
+            if let Some(touched) = self.by_witness.reduced.get(reduced).copied() {
+                if touched.clause == hint.clause() {
+                    self.by_witness.queue.push_hint(Hint::Against(touched.id))?;
+                    reduced = reduced.saturating_add(1);
+                }
+            }
+        }
+        let id = self.end_line()?;
+        clauses.read(clause, &mut self.lits)?;
+        self.by_witness
+            .hint_literals(&self.lits, &[Hint::Against(id)])?;
+        Ok(id)
+    }
+
+    /// The literals of the clause are the next ones of a line.
+    fn push_clause(&mut self) -> Result<(), ElaborateFault> {
+        for lit in &self.clause {
+            self.by_witness.queue.push_lit(*lit)?;
+        }
+        Ok(())
+    }
+
+    /// Each clause that is satisfied, or -x.
+    fn tell_satisfied(
+        &mut self,
+        clauses: &Clauses,
+        variables: &Variables,
+        fresh: Lit,
+    ) -> Result<(), ElaborateFault> {
+        for place in 0..self.by_witness.satisfied.len() {
+            let Some(touched) = self.by_witness.satisfied.get(place).copied() else {
+                break;
+            };
+            clauses.read(touched.clause, &mut self.lits)?;
+            self.by_witness.push_lits(variables, &self.lits)?;
+            self.by_witness.queue.push_lit(!fresh)?;
+            let own = id_in(&self.ids, touched.clause)?;
+            self.by_witness.queue.push_hint(Hint::Along(own))?;
+            let id = self.end_line()?;
+            if let Some(touched) = self.by_witness.satisfied.get_mut(place) {
+                touched.id = id;
+            }
+            self.by_witness
+                .hint_literals(&self.lits, &[Hint::Against(id)])?;
+        }
+        Ok(())
+    }
+
+    /// The clauses that are satisfied go.
+    fn delete_satisfied(&mut self) -> Result<(), ElaborateFault> {
+        for touched in &self.by_witness.satisfied {
+            let own = id_in(&self.ids, touched.clause)?;
+            self.by_witness.queue.push_id(own)?;
+        }
+        self.by_witness.queue.end_deletion()
+    }
+
+    /// Each literal of the witness, or x.
+    fn tell_literals(
+        &mut self,
+        variables: &Variables,
+        witness: &[LocalLit],
+        fresh: Lit,
+    ) -> Result<(), ElaborateFault> {
+        for (place, lit) in witness.iter().enumerate() {
+            self.by_witness.queue.push_lit(variables.named(*lit)?)?;
+            self.by_witness.queue.push_lit(fresh)?;
+            self.by_witness.push_literal_hints(place)?;
+            let id = self.end_line()?;
+            self.by_witness.literal_ids.push(id)?;
+        }
+        Ok(())
+    }
+
+    /// The clause follows: without x by its first literal, with which the witness begins, and with
+    /// x by the line of this id.
+    fn tell_clause(&mut self, clause: ClauseIndex, freed: u64) -> Result<(), ElaborateFault> {
+        self.push_clause()?;
+        let id = self.by_witness.literal_id(Some(0))?;
+        self.by_witness.queue.push_hint(Hint::Along(id))?;
+        self.by_witness.queue.push_hint(Hint::Along(freed))?;
+        self.name(clause)?;
+        self.by_witness.queue.end_addition(self.last_id)
+    }
+
+    /// The clauses that are satisfied follow again, under new ids.
+    fn tell_satisfied_again(
+        &mut self,
+        clauses: &Clauses,
+        variables: &Variables,
+    ) -> Result<(), ElaborateFault> {
+        for place in 0..self.by_witness.satisfied.len() {
+            let Some(touched) = self.by_witness.satisfied.get(place).copied() else {
+                break;
+            };
+            clauses.read(touched.clause, &mut self.lits)?;
+            self.by_witness.push_lits(variables, &self.lits)?;
+            let place = self.by_witness.satisfied_at(&self.lits);
+            let id = self.by_witness.literal_id(place)?;
+            self.by_witness.queue.push_hint(Hint::Along(id))?;
+            self.by_witness.queue.push_hint(Hint::Along(touched.id))?;
+            self.name(touched.clause)?;
+            self.by_witness.queue.end_addition(self.last_id)?;
+        }
+        Ok(())
+    }
+
+    /// All that has x goes once the lines are told.
+    fn end_witness(&mut self, witness: &[LocalLit]) -> Result<(), ElaborateFault> {
+        for touched in &self.by_witness.reduced {
+            self.dying.push(touched.id)?;
+        }
+        for touched in &self.by_witness.satisfied {
+            self.dying.push(touched.id)?;
+        }
+        self.dying.extend_from_slice(&self.by_witness.literal_ids)?;
+        self.deletion_is_next = true;
+        self.by_witness.end(witness);
+        Ok(())
+    }
+}

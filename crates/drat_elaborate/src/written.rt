@@ -1,0 +1,107 @@
+//! The clauses as they were written, in bytes.
+use crate::clauses::narrow;
+use crate::fault::ElaborateFault;
+use crate::local::LocalLit;
+use std::alloc::{AllocError, Global};
+
+/// A number is in pieces of seven bits, the lowest first. All but the highest say that another one
+/// comes.
+const PIECE: u32 = 7;
+
+const MORE: u8 = 1 << 7;
+
+/// A number of 32 bits has at most so many pieces.
+const MOST_PIECES: u32 = 5;
+
+/// Of each clause the number of its literals, and their codes.
+#[derive(Drop)]
+pub(crate) struct Written {
+    bytes: Vec<u8>,
+}
+
+impl Written {
+    pub(crate) fn new(alloc: Global) -> Written {
+        Written {
+            bytes: Vec::new(alloc),
+        }
+    }
+
+    /// Keeps the literals of a clause. The answer is the place where they are.
+    pub(crate) fn push(&mut self, lits: &[LocalLit]) -> Result<u32, ElaborateFault> {
+        let place = narrow(self.bytes.len())?;
+        self.push_number(narrow(lits.len())?)?;
+        for lit in lits {
+            self.push_number(lit.code())?;
+        }
+        Ok(place)
+    }
+
+    #[inline(always)]
+    fn push_number(&mut self, number: u32) -> Result<(), AllocError> {
+        let mut rest = number;
+        for _ in 1..MOST_PIECES {
+            if rest < MORE as u32 {
+                break;
+            }
+            self.bytes.push((rest & 0x7f) as u8 | MORE)?;
+            rest >>= PIECE;
+        }
+        self.bytes.push((rest & 0x7f) as u8)?;
+        Ok(())
+    }
+
+    /// Reads the literals at a place into a list.
+    pub(crate) fn read(&self, place: u32, lits: &mut Vec<LocalLit>) -> Result<(), AllocError> {
+        lits.clear();
+        let (count, mut rest) = take_number(self.bytes_from(place));
+        for _ in 0..count {
+            let (code, after) = take_number(rest);
+            lits.push(LocalLit::from_code(code))?;
+            rest = after;
+        }
+        Ok(())
+    }
+
+    /// The first literal at a place, if there is one.
+    pub(crate) fn first(&self, place: u32) -> Option<LocalLit> {
+        let (count, rest) = take_number(self.bytes_from(place));
+        if count == 0 {
+            return None;
+        }
+        Some(LocalLit::from_code(take_number(rest).0))
+    }
+
+    fn bytes_from(&self, place: u32) -> &[u8] {
+        self.bytes.get(place as usize..).unwrap_or(&[])
+    }
+}
+
+/// The first number of some bytes, and those behind it.
+#[inline(always)]
+fn take_number(bytes: &[u8]) -> (u32, &[u8]) {
+    match bytes {
+        [low, rest @ ..] if low & MORE == 0 => (*low as u32, rest),
+        [low, next, rest @ ..] if next & MORE == 0 => {
+            let number = (low & !MORE) as u32 | (*next as u32).wrapping_shl(PIECE);
+            (number, rest)
+        }
+        _ => take_long(bytes),
+    }
+}
+
+/// The first number of some bytes, of whatever length, and those behind it.
+fn take_long(bytes: &[u8]) -> (u32, &[u8]) {
+    let mut number = 0u32;
+    let mut rest = bytes;
+    for piece in 0..MOST_PIECES {
+        let [byte, after @ ..] = rest else {
+            break;
+        };
+        number |= ((byte & !MORE) as u32).wrapping_shl(piece.wrapping_mul(PIECE));
+        rest = after;
+        if byte & MORE == 0 {
+            break;
+        }
+    }
+    (number, rest)
+}

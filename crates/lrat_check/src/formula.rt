@@ -1,0 +1,43 @@
+//! The clauses of a formula, given to the checker as they are read.
+ghost use Rattle.std.specs.Prelude.{ℕ, List, IfErr, IfOk};
+ghost use Rattle.std.specs.Option.{option_map};
+ghost use Rattle.sat_formula.specs.Lines.{outcome_of};
+ghost use Rattle.sat_formula.specs.Outcome.{Ended};
+ghost use Rattle.sat_formula.specs.Whole.{FailsAfter, IsOutcome};
+ghost use Rattle.lrat_checker.specs.Standing.{HoldsFormula};
+ghost use Rattle.whole_formulas.specs.Lies.{TellsLie};
+
+use lrat_checker::LratFormula;
+use sat_formula::{DimacsFault, DimacsReader, LyingHeader};
+use std::alloc::Global;
+use std::io::Read;
+
+/// The clauses of a text in DIMACS CNF, the whole of it, or its first fault. They stand here alone.
+/// `lie` tells what the header lies about; after a fault that is nothing.
+pub(crate) fn read_held<F: Read + Drop>(
+    alloc: Global,
+    cnf: F,
+    lie: &mut Option<LyingHeader>,
+) -> Result<LratFormula, DimacsFault>
+    ensures whole { IfOk result (λ held. (formula : List (List ℕ))
+        × IsOutcome (option_map outcome_of (F.remaining cnf)) (formula, Ended)
+        × HoldsFormula formula held) }
+    ensures fault { IfErr result (λ fault. (clauses : List (List ℕ))
+        × FailsAfter (option_map outcome_of (F.remaining cnf)) clauses fault) }
+    ensures lie { TellsLie (F.remaining cnf) result lie.new }
+{
+    *lie = None;
+    let mut held = match LratFormula::new(alloc) {
+        Ok(held) => held,
+        Err(_) => return Err(DimacsFault::OutOfMemory),
+    };
+    let mut reader = DimacsReader::new(alloc, cnf);
+    let mut clause = Vec::new(alloc);
+    'clauses: while reader.next_clause(&mut clause)? {
+        if held.add_clause(&clause).is_err() {
+            return Err(DimacsFault::OutOfMemory);
+        }
+    }
+    *lie = reader.lying_header();
+    Ok(held)
+}

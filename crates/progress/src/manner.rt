@@ -1,0 +1,29 @@
+//! How a run tells how far it has come.
+ghost use Rattle.std.specs.Prelude.{◌≡◌};
+ghost use Rattle.progress.specs.Manners.{manner_by};
+
+/// How a run tells how far it has come.
+#[derive(Clone, Copy, Debug, PartialEq, Eq)]
+pub enum Manner {
+    /// It does not.
+    Silent,
+    /// In lines.
+    Lines,
+    /// In one line, which is written anew each time, as a terminal can.
+    OneLine,
+}
+
+impl Manner {
+    /// As the options of a call ask, `--quiet` and `--verbose`; where neither does, in one line if
+    /// standard error is a terminal.
+    pub fn asked(is_quiet: bool, is_verbose: bool, is_terminal: bool) -> Manner
+        ensures { result ≡ manner_by is_quiet is_verbose is_terminal }
+    {
+        match (is_quiet, is_verbose, is_terminal) {
+            (true, _, _) => Manner::Silent,
+            (false, true, _) => Manner::Lines,
+            (false, false, true) => Manner::OneLine,
+            (false, false, false) => Manner::Silent,
+        }
+    }
+}

@@ -1,0 +1,122 @@
+//! How far a run has come, told at intervals.
+use crate::console::asked_for;
+use crate::manner::Manner;
+use log::filter::Filter;
+use log::kv::Source;
+use log::sink::Console;
+use log::span::Spans;
+use log::{Level, Log, Metadata, Record};
+use std::cell::Cell;
+use std::fmt::Display;
+use std::io::{Eprint, IsTerminal};
+use std::rt::Clock;
+use std::time::Duration;
+
+/// So many milliseconds pass at least from one time that it is told to the next.
+const INTERVAL: u64 = 500;
+
+/// What takes back all that stands in the line of a terminal.
+const LINE_TAKEN_BACK: &str = "\r\x1b[K";
+
+/// A log of how far a run has come. Of what is logged it writes to standard error what comes twice
+/// a second, and passes over the rest.
+///
+/// It does so as its manner is, or where the variable `RUST_LOG` of the environment asks for it, as
+/// a line of a log.
+#[derive(Drop)]
+pub struct Progress<R> {
+    rt: R,
+    /// The target of the records, by which `RUST_LOG` names them.
+    program: &'static str,
+    filter: Filter,
+    manner: Manner,
+    /// When it was told last, or the run began.
+    told: Cell<Duration>,
+    /// Something stands in the one line.
+    is_shown: Cell<bool>,
+}
+
+impl<'a> Progress<&'a HostRuntime> {
+    /// The progress of a run that begins now, as the options of its call ask.
+    pub fn of_call(
+        rt: &'a HostRuntime,
+        program: &'static str,
+        is_quiet: bool,
+        is_verbose: bool,
+    ) -> Progress<&'a HostRuntime> {
+        let manner = Manner::asked(is_quiet, is_verbose, rt.stderr().is_terminal());
+        Progress::new(rt, program, asked_for(rt), manner)
+    }
+}
+
+impl<R: Eprint + Clock> Progress<R> {
+    /// The progress of a run that begins now.
+    pub fn new(rt: R, program: &'static str, filter: Filter, manner: Manner) -> Progress<R> {
+        let began = rt.monotonic().unwrap_or(Duration::ZERO);
+        Progress {
+            rt,
+            program,
+            filter,
+            manner,
+            told: Cell::new(began),
+            is_shown: Cell::new(false),
+        }
+    }
+
+    /// Whether anything is told at all.
+    pub fn is_heard(&self) -> bool {
+        self.is_heard_of(&Metadata::new(Level::Info, self.program))
+    }
+
+    fn is_heard_of(&self, metadata: &Metadata<'_>) -> bool {
+        self.manner != Manner::Silent || self.filter.enabled(metadata)
+    }
+
+    /// Whether it is time to tell. A clock that can't be read never says so.
+    fn is_due(&self) -> bool {
+        match self.rt.monotonic() {
+            Ok(now) => now.saturating_sub(self.told.get()) >= Duration::from_millis(INTERVAL),
+            Err(_) => false,
+        }
+    }
+
+    fn tell<D: Display + Drop>(&self, text: D) {
+        let _ = match self.manner {
+            Manner::Silent => Ok(()),
+            Manner::Lines => eprintln!(self.rt; "{text}"),
+            Manner::OneLine => {
+                self.is_shown.set(true);
+                eprint!(self.rt; "{LINE_TAKEN_BACK}{text}")
+            }
+        };
+    }
+}
+
+impl<R: Eprint + Clock> Log for Progress<R> {
+    fn enabled(&self, metadata: &Metadata<'_>) -> bool {
+        self.is_heard_of(metadata) && self.is_due()
+    }
+
+    fn log<D: Display, K: Source, S: Spans>(&self, record: &Record<'_, D, K, S>) {
+        if let Ok(now) = self.rt.monotonic() {
+            self.told.set(now);
+        }
+        if self.filter.matches(record) {
+            Console(&self.rt).log(record);
+        } else {
+            self.tell(record.args());
+        }
+    }
+
+    /// Takes back what stands in the one line, so that others can write there.
+    fn flush(&self) {
+        if self.is_shown.get() {
+            self.is_shown.set(false);
+            let _ = eprint!(self.rt; "{LINE_TAKEN_BACK}");
+        }
+    }
+
+    fn target(&self) -> &str {
+        self.program
+    }
+}

@@ -1,0 +1,103 @@
+/* Each growth of each call is refused, alone and with all that come after it; exits 0 if each answers what it must: what it answers
+ * with memory, or that there was none. Linked with --wrap=malloc and --wrap=realloc. */
+#include "cefindrato.h"
+#include <stdio.h>
+#include <stdlib.h>
+#include <string.h>
+
+void *__real_malloc(size_t size);
+void *__real_realloc(void *block, size_t size);
+
+/* The growth that is refused, counted from 1, and whether all after it are too; 0: none is. */
+static long refused_at = 0;
+static bool refuses_on = false;
+static long growths = 0, refusals = 0;
+
+static bool is_refused(void) {
+    growths++;
+    if (refused_at == 0 || growths < refused_at || (growths > refused_at && !refuses_on))
+        return false;
+    refusals++;
+    return true;
+}
+
+void *__wrap_malloc(size_t size) { return is_refused() ? NULL : __real_malloc(size); }
+
+void *__wrap_realloc(void *block, size_t size) { return is_refused() ? NULL : __real_realloc(block, size); }
+
+static const char *const cnf = "p cnf 2 5\n3 0 1 2 0 1 -2 0 -1 2 0 -1 -2 0";
+static char text[100], lrat[100], core[100];
+
+struct told {
+    int status;
+    size_t text, lrat, core;
+};
+
+static struct told of(cefindrato_answer answer) {
+    const struct told told = {answer.status, answer.text.len, 0, 0};
+    return told;
+}
+
+static struct told lrat_call(const char *proof) {
+    return of(cefindrato_check(cnf, strlen(cnf), proof, strlen(proof), text, sizeof text));
+}
+
+static struct told drat_call(const char *proof) {
+    const cefindrato_drat_answer answer = cefindrato_check_drat(cnf, strlen(cnf), proof, strlen(proof), CEFINDRATO_TOLD, lrat,
+                                                                sizeof lrat, core, sizeof core, text, sizeof text);
+    const struct told told = {answer.status, answer.text.len, answer.lrat.len, answer.core.len};
+    return told;
+}
+
+static struct told model_call(const char *answer) {
+    const cefindrato_model_answer told = cefindrato_check_model("1 2 0", 5, answer, strlen(answer), text, sizeof text);
+    const struct told of_it = {told.status, told.text.len, 0, 0};
+    return of_it;
+}
+
+static int wrong = 0;
+
+/* The call with refusals, up to one that meets none. */
+static void refuse(const char *name, struct told (*call)(const char *), const char *input, bool all) {
+    const struct told whole = call(input);
+    long at, without = 0;
+    for (at = 1;; at++) {
+        struct told told;
+        memset(text, 0, sizeof text);
+        growths = refusals = 0;
+        refused_at = at;
+        refuses_on = all;
+        told = call(input);
+        refused_at = 0;
+        if (refusals == 0)
+            break;
+        if (told.status == CEFINDRATO_OUT_OF_MEMORY) {
+            without++;
+            if (told.text == 0 || told.lrat || told.core || !strstr(text, "out of memory"))
+                wrong = 1;
+        } else if (told.status != whole.status || told.lrat != whole.lrat || told.core != whole.core) {
+            wrong = 1;
+        }
+        if (wrong) {
+            printf("%s, growth %ld: status %d, '%.*s'\n", name, at, told.status, (int)told.text, text);
+            return;
+        }
+    }
+    if (without == 0) {
+        printf("%s: nothing answers that there is no memory\n", name);
+        wrong = 1;
+    }
+}
+
+int main(void) {
+    int all;
+    for (all = 0; all < 2; all++) {
+        refuse("LRAT", lrat_call, "6 1 0 2 3 0\n7 0 6 4 5 0\n", all);
+        refuse("LRAT that is refused", lrat_call, "6 1 0 2 3 0\n7 0 6 4 0\n", all);
+        refuse("DRAT", drat_call, "1 0\n0\n", all);
+        refuse("DRAT that is refused", drat_call, "1 x\n", all);
+        refuse("model", model_call, "s SATISFIABLE\nv 1 2 0\n", all);
+        refuse("model that is refused", model_call, "s UNKNOWN\n", all);
+    }
+    return wrong;
+}
