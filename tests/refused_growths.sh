@@ -25,6 +25,7 @@ done
 "${CC:-cc}" -O2 -Wall -shared -fPIC -o "$work/fail.so" "$top/tests/refused_growths/fail.c" -ldl
 wrong=0
 declare -A growths
+unset RUST_LOG
 
 # refuse MODE NUMBER COMMAND..: a run with refused growths. It sets `status`, and `refused` to how many there were.
 refuse() {
@@ -58,40 +59,56 @@ play_row() {
   echo "$row $mode: $((number - 1)) runs, of which $own met the program that plays the row"
 }
 
-# Whether a run of a program that tells how far it has come, whose one refused growth was that of the log's setting, went on without a
-# log, and did all else.
-went_on_silently() {
-  [[ $1 == "$check" || $1 == "$lrat_check" || $1 == "$drat_check" || $1 == "$hint_check" ]] || return 1
-  [[ $status == 0 && $(cat "$work/out") == "$line" ]] || return 1
-  [[ $# == 3 ]] || cmp -s "$work/hints" "$work/whole_hints"
+# stopped: a run with a refused growth claims nothing: there is no line and no line of hints; the fault is want of memory, or the
+# arguments could not be read
+stopped() {
+  if [[ -s $work/out || -s $work/hints ]]; then
+    return 1
+  elif ((status == 2)); then
+    unread=$((unread + 1))
+  else
+    ((status == 1)) && grep -qE '^((Error in proof processor|formula|proof|answer): )?out of memory$' "$work/err"
+  fi
 }
 
-# run NAME MODE LINE COMMAND..: a run that ends in the line, if no growth is refused. With a refused growth there is no line and no
-# line of hints; the fault is want of memory, or the arguments could not be read.
+# run NAME MODE LINE COMMAND..: a run that ends in the line, if no growth is refused
 run() {
-  local name=$1 mode=$2 line=$3 number unread=0 silent=0 settings=1
+  local name=$1 mode=$2 line=$3 number unread=0
   shift 3
-  # its log asks for the setting, and what tells how far it has come
-  [[ $1 != "$check" ]] || settings=2
   for ((number = 1; ; number++)); do
     rm -f "$work/hints"
     refuse "$mode" "$number" "$@"
     if ((refused == 0)); then
       break
-    elif ((silent < settings)) && went_on_silently "$@"; then
-      silent=$((silent + 1))
-    elif [[ -s $work/out || -s $work/hints ]]; then
-      misjudged "$name $mode=$number"
-    elif ((status == 2)); then
-      unread=$((unread + 1))
-    elif ((status != 1)) || ! grep -qE '^((Error in proof processor|formula|proof|answer): )?out of memory$' "$work/err"; then
+    elif ! stopped; then
       misjudged "$name $mode=$number"
     fi
   done
   if [[ $status != 0 || $(cat "$work/out") != "$line" ]]; then
     misjudged "$name without a refused growth"
   fi
-  echo "$name $mode: $((number - 1)) runs, of which $unread met the reading of the arguments and $silent the log's setting"
+  echo "$name $mode: $((number - 1)) runs, of which $unread met the reading of the arguments"
+}
+
+# run_logged NAME LINE LOGGED COMMAND..: where the growth of the log's setting is refused, a run goes on without a log, and does all
+# else; the setting is read once, and is one text and one directive
+run_logged() {
+  local name=$1 line=$2 logged=$3 number unread=0 silent=0
+  shift 3
+  for ((number = 1; ; number++)); do
+    RUST_LOG=info refuse FAIL_AT "$number" "$@"
+    if ((refused == 0)); then
+      break
+    elif [[ $status == 0 && $(cat "$work/out") == "$line" && ! -s $work/err ]]; then
+      silent=$((silent + 1))
+    elif ! stopped; then
+      misjudged "$name $number"
+    fi
+  done
+  if [[ $status != 0 || $(cat "$work/out") != "$line" || $(cat "$work/err") != "$logged" || $silent != 2 ]]; then
+    misjudged "$name, with $silent runs without a log"
+  fi
+  echo "$name: $((number - 1)) runs, of which $unread met the reading of the arguments and $silent the log's setting"
 }
 
 # An answer that does not meet a clause: a refused growth leaves no line of a verdict.
@@ -101,11 +118,7 @@ run_unmet() {
     refuse "$mode" "$number" "$model_check" "$work/chain.cnf" "$work/unmet"
     if ((refused == 0)); then
       break
-    elif [[ -s $work/out ]]; then
-      misjudged "an answer that is not met $mode=$number"
-    elif ((status == 2)); then
-      unread=$((unread + 1))
-    elif ((status != 1)) || ! grep -qE '^(formula|answer): out of memory$' "$work/err"; then
+    elif ! stopped; then
       misjudged "an answer that is not met $mode=$number"
     fi
   done
@@ -116,7 +129,6 @@ run_unmet() {
 }
 
 "$rows" > "$work/all" || { cat "$work/all"; exit 1; }
-"$check" "$data"/par10.{cnf,whole.proof} "$work/whole_hints" > "$work/out"
 # the added clauses of the LRAT proof alone
 sed '/ d /d;s/^[0-9]* //;s/^0 .*/0/;s/ 0 .*/ 0/' "$data/par10.lrat" > "$work/drat"
 printf '1 268435456 0\n1 -268435456 0\n-1 268435456 0\n-1 -268435456 0\n' > "$work/far.cnf"
@@ -155,6 +167,8 @@ for mode in FAIL_AT FAIL_FROM; do
   run 'an answer' "$mode" 's VERIFIED SAT' "$model_check" "$work"/{chain.cnf,answer}
   run_unmet "$mode"
 done
+parsed=$(awk '$1 == "p" { print "Parsed formula with " $3 " variables and " $4 " clauses" }' "$data/par10.cnf")
+run_logged 'par10.whole.proof with a log' 's UNSATISFIABLE' "[INFO  varisat_checker::checker] $parsed" "$check" "$data"/par10.{cnf,whole.proof}
 # Nothing is grown for the number of literals that a proof announces: there are fewer growths than where one literal follows.
 if ((growths[announced_count] >= growths[short_list])); then
   echo "WRONG announced_count: ${growths[announced_count]} growths, and ${growths[short_list]} where a literal follows"

@@ -1,18 +1,52 @@
 //! The log that the environment asks for.
-use log::Logged;
-use log::filter::{Builder, Filter, FilteredLog};
+use crate::told::Progress;
+use log::filter::{Builder, Filter};
+use log::kv::Source;
 use log::sink::Console;
+use log::span::Spans;
+use log::{Log, Metadata, Record};
+use std::env::{Env, FillError};
+use std::fmt::Display;
+use std::io::Eprint;
+use std::rt::Clock;
 
-/// A runtime that logs to standard error what the variable `RUST_LOG` of the environment asks for;
-/// without it, nothing. Where there is no memory to read what that is, it asks for nothing.
-pub fn logged(rt: &HostRuntime) -> Logged<&HostRuntime, FilteredLog<Console<&HostRuntime>>> {
-    let filter = asked_for(rt);
-    Logged::new(rt, filter.filter(), FilteredLog::new(Console(rt), filter))
+/// The variable of the environment that says what is logged.
+const SETTING: &str = "RUST_LOG";
+
+/// A log to standard error of what the variable `RUST_LOG` of the environment asks for, as the
+/// progress of the run has read it. A line of progress that was to be written anew is taken back
+/// before.
+#[derive(Clone, Copy)]
+pub struct AskedLog<'a, R> {
+    pub(crate) progress: &'a Progress<R>,
 }
 
-/// What `RUST_LOG` asks for.
+impl<R: Eprint + Clock> Log for AskedLog<'_, R> {
+    fn enabled(&self, metadata: &Metadata<'_>) -> bool {
+        self.progress.filter.enabled(metadata)
+    }
+
+    fn log<D: Display, K: Source, S: Spans>(&self, record: &Record<'_, D, K, S>) {
+        if self.progress.filter.matches(record) {
+            self.progress.flush();
+            Console(&self.progress.rt).log(record);
+        }
+    }
+
+    fn flush(&self) {}
+
+    fn target(&self) -> &str {
+        ""
+    }
+}
+
+/// What `RUST_LOG` asks for: without it nothing, and nothing is allocated then. Where there is no
+/// memory to read what it is, it asks for nothing.
 pub(crate) fn asked_for(rt: &HostRuntime) -> Filter {
-    match Builder::from_env(rt, "RUST_LOG") {
+    if let Err(FillError::NotPresent) = rt.var(SETTING, &mut [0]) {
+        return Builder::new(rt.alloc()).build();
+    }
+    match Builder::from_env(rt, SETTING) {
         Ok(builder) => builder.build(),
         Err(_) => Builder::new(rt.alloc()).build(),
     }

@@ -3,7 +3,7 @@ use crate::bytes::ToldBytes;
 use crate::manner::Manner;
 use crate::told::Progress;
 use log::filter::Builder;
-use log::{Log, info};
+use log::{Log, debug, info};
 use std::alloc::Global;
 use std::cell::{Cell, RefCell};
 use std::fmt::Display;
@@ -100,6 +100,26 @@ fn it_is_told_twice_a_second(rt: HostRuntime) -> Result<(), Fail> {
     for row in &TOLD {
         assert!(rt; tells(rt.alloc(), *row)?, "{}", row.3);
     }
+    Ok(())
+}
+
+/// What is asked for is logged whenever it comes, and a line that stands is taken back before.
+#[test]
+fn all_that_is_asked_for_is_logged(rt: HostRuntime) -> Result<(), Fail> {
+    let alloc = rt.alloc();
+    let desk = Desk::new(alloc);
+    let filter = Builder::new(alloc).parse("progress=info")?.build();
+    let progress = Progress::new(&desk, "run", filter, Manner::OneLine);
+    let log = progress.asked_log();
+    info!(log; "begun");
+    desk.millis.set(500);
+    info!(progress; "told");
+    info!(log; "logged");
+    debug!(log; "unasked");
+    drop(progress);
+    let said =
+        "[INFO  progress::tests] begun\n\r\x1b[Ktold\r\x1b[K[INFO  progress::tests] logged\n";
+    assert!(rt; desk.has_said(said));
     Ok(())
 }
 

@@ -1,5 +1,5 @@
 //! How far a run has come, told at intervals.
-use crate::console::asked_for;
+use crate::console::{AskedLog, asked_for};
 use crate::manner::Manner;
 use log::filter::Filter;
 use log::kv::Source;
@@ -25,10 +25,11 @@ const LINE_TAKEN_BACK: &str = "\r\x1b[K";
 /// a line of a log.
 #[derive(Drop)]
 pub struct Progress<R> {
-    rt: R,
+    pub(crate) rt: R,
     /// The target of the records, by which `RUST_LOG` names them.
     program: &'static str,
-    filter: Filter,
+    /// What `RUST_LOG` asks for.
+    pub(crate) filter: Filter,
     manner: Manner,
     /// When it was told last, or the run began.
     told: Cell<Duration>,
@@ -61,6 +62,11 @@ impl<R: Eprint + Clock> Progress<R> {
             told: Cell::new(began),
             is_shown: Cell::new(false),
         }
+    }
+
+    /// A log of all that the variable `RUST_LOG` asks for, whenever it comes.
+    pub fn asked_log(&self) -> AskedLog<'_, R> {
+        AskedLog { progress: self }
     }
 
     /// Whether anything is told at all.

@@ -15,7 +15,8 @@ use command::{
     Call, HeldBytes, Input, NOT_RUN, create_output, hold_input, open_inputs, say_formula,
     say_proof, say_unread, start, unnamed, warn_of_header,
 };
-use progress::{Progress, ToldBytes, logged};
+use log::Log;
+use progress::{Progress, ToldBytes};
 use sat_formula::{DimacsFault, Lit, LyingHeader};
 use sat_hints::LratWriter;
 use std::fs::File;
@@ -41,7 +42,7 @@ fn status_of_call(rt: &HostRuntime) -> u8 {
 
 fn run(rt: &HostRuntime, call: &Call<'_>) -> u8 {
     match call.operands.as_slice() {
-        [] => check_example(rt),
+        [] => check_example(rt, call),
         [cnf, proof] => check_files(rt, cnf.as_str(), proof.as_str(), call),
         [cnf, proof, lrat] => { write_hints(rt, cnf.as_str(), proof.as_str(), lrat.as_str(), call) }
         operands => unnamed(rt, &ABOUT, operands.len()),
@@ -62,7 +63,7 @@ fn check_files(rt: &HostRuntime, cnf_name: &str, proof_name: &str, call: &Call<'
     let length = proof.length(rt);
     let mut lie = None;
     let outcome = run_check(
-        &logged(rt),
+        &progress.asked_log(),
         rt.alloc(),
         cnf,
         ToldBytes::new(&progress, proof.file, length),
@@ -109,13 +110,15 @@ fn write_hints_to(
     };
     let length = proof.length(rt);
     let proof = ToldBytes::new(progress, proof.file, length);
+    let log = progress.asked_log();
     let mut lie = None;
-    let outcome = hints_of(rt, cnf, proof, lrat, &mut lie);
+    let outcome = hints_of(rt, &log, cnf, proof, lrat, &mut lie);
     report_files(rt, &outcome, cnf_name, &lie, proof_name)
 }
 
-fn hints_of<P: Read + Drop>(
+fn hints_of<L: Log, P: Read + Drop>(
     rt: &HostRuntime,
+    log: &L,
     cnf: HeldBytes,
     proof: P,
     lrat: &mut File,
@@ -123,14 +126,13 @@ fn hints_of<P: Read + Drop>(
 ) -> Result<Verdict, RunFault> {
     let formula = read_formula(rt.alloc(), cnf, lie)?;
     let writer = LratWriter::new(rt.alloc(), formula.len() as u64);
-    let log = logged(rt);
     let out = &mut io::writer(rt);
-    let (verdict, _) = run_lrat(&log, rt.alloc(), &formula, writer, proof, out, lrat)?;
+    let (verdict, _) = run_lrat(log, rt.alloc(), &formula, writer, proof, out, lrat)?;
     Ok(verdict)
 }
 
 /// A variable that has to be true and false, and a proof that has nothing to add.
-fn check_example(rt: &HostRuntime) -> u8 {
+fn check_example(rt: &HostRuntime, call: &Call<'_>) -> u8 {
     let mut checker = Checker::new(rt.alloc());
     for number in [1, -1] {
         if let Some(lit) = Lit::from_dimacs(number)
@@ -139,9 +141,9 @@ fn check_example(rt: &HostRuntime) -> u8 {
             return report(rt, &Err(RunFault::Proof(fault)));
         }
     }
-    let log = logged(rt);
+    let progress = progress_of(rt, call);
     let outcome = run_proof(
-        &log,
+        &progress.asked_log(),
         &mut checker,
         END_ALONE.as_slice(),
         &mut io::writer(rt),
