@@ -214,7 +214,7 @@ refused malformed_formula malformed.cnf 'line 2: bad number' malformed.cnf par10
 refused malformed_hints malformed.lrat 'line 1: malformed line' unit.cnf malformed.lrat
 misused no_arguments 'no file is named for CNF' 'hint_check CNF LRAT'
 expect example 0 's VERIFIED UNSAT' '' --example
-expect help 0 'usage: hint_check CNF LRAT
+expect help 0 'usage: hint_check CNF LRAT [--quiet] [--verbose]
 
 Checks lines of hints over a formula, and says in one line what they show.
 

@@ -34,12 +34,12 @@ if ((${#programs[@]} < 5)); then
 fi
 
 # described NAME: what a program says of itself is whole: each operand and each option of its call has its line, in their order,
-# and no other has, but for what is told beside a verdict; it has an example to run exactly if it says so
+# and no other has; it has an example to run exactly if it says so
 described() {
   local help call options status=0
   help=$("$prefix/bin/$1" --help)
   call=$(sed 's/^usage: [a-z_]* *//;q' <<< "$help")
-  options=$(list options "$help" | grep -xvE -- '--(example|help|version|stats|quiet|verbose)' || true)
+  options=$(list options "$help" | grep -xvE -- '--(example|help|version)' || true)
   same "options of $1" "$(grep -oE -- '--[a-z]+' <<< "$call" || true)" "$options"
   same "operands of $1" "$(sed 's/\[--[^]]*\]//g' <<< "$call" | grep -oE '[A-Z]+')" "$(list operands "$help")"
   same "statuses of $1" $'0\n1\n2\n3' "$(list 'exit status' "$help")"

@@ -3,7 +3,7 @@ use command::{About, Entry, QUIET, STATS, VERBOSE};
 
 /// What `--help` says.
 pub const ABOUT: About<'static> = About {
-    call: "drat_check CNF PROOF [--drat] [--frat] [--lpr] [--lrat FILE] [--core FILE]",
+    call: "drat_check CNF PROOF [--drat] [--frat] [--lpr] [--lrat FILE] [--core FILE] [--stats] [--quiet] [--verbose]",
     does: "Checks a DRAT, DPR, FRAT or LPR proof, text or binary, against a formula, and says in one line what it shows.",
     operands: &[
         Entry {

@@ -3,7 +3,7 @@ use command::{About, Entry, QUIET, VERBOSE};
 
 /// What `--help` says.
 pub const ABOUT: About<'static> = About {
-    call: "hint_check CNF LRAT",
+    call: "hint_check CNF LRAT [--quiet] [--verbose]",
     does: "Checks lines of hints over a formula, and says in one line what they show.",
     operands: &[
         Entry {

@@ -3,7 +3,7 @@ use command::{About, Entry, QUIET, STATS, VERBOSE};
 
 /// What `--help` says.
 pub const ABOUT: About<'static> = About {
-    call: "lrat_check CNF LRAT",
+    call: "lrat_check CNF LRAT [--stats] [--quiet] [--verbose]",
     does: "Checks an LRAT proof against a formula, and says in one line what it shows.",
     operands: &[
         Entry {

@@ -3,7 +3,7 @@ use command::{About, Entry, QUIET, VERBOSE};
 
 /// What `--help` says.
 pub const ABOUT: About<'static> = About {
-    call: "varisat_check CNF PROOF [LRAT]",
+    call: "varisat_check CNF PROOF [LRAT] [--quiet] [--verbose]",
     does: "Checks a proof in this project's bytes against a formula, and says in one line what it shows. \
         Without arguments it checks a small fixed example.",
     operands: &[
