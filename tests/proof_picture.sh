@@ -49,6 +49,18 @@ if ! grep -qx "c proof: $lines steps, 0 of them RAT; .*" said || ! grep -qx "c h
   wrong=1
 fi
 
+# where nobody reads on, the picture is written, and nothing is said
+for words in 'six.cnf six.lrat read.svg' --help; do
+  status=0
+  # shellcheck disable=SC2086
+  { sleep 0.1 && "$picture" $words 2> err; } | true || status=${PIPESTATUS[0]}
+  if [[ $status != 0 || -s err ]]; then
+    printf 'proof_picture %s into a closed pipe: status %d, %s\n' "$words" "$status" "$(cat err)"
+    wrong=1
+  fi
+done
+cmp -s six.svg read.svg || wrong=1
+
 # Files that are none, and wrong calls. A picture that was there stays.
 cp six.svg before
 says 1 'six.cnf: line 2: no line of LRAT text' six.cnf six.cnf six.svg
