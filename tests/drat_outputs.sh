@@ -49,6 +49,30 @@ empty() {
   done
 }
 
+# keep FILE..: something stands in the files
+keep() {
+  local file
+  for file; do
+    printf kept > "$file"
+  done
+}
+
+# kept WHAT FILE..: that stands there still
+kept() {
+  local file
+  for file in "${@:2}"; do
+    [[ $(cat "$file") == kept ]] || fault "$1: $file is not as it was"
+  done
+}
+
+# alone WHAT FILE..: no file stands beside these that is not whole
+alone() {
+  local file
+  for file in "${@:2}"; do
+    [[ ! -e $file.new ]] || fault "$1: $file.new is left"
+  done
+}
+
 # clauses FILE: the clauses of a text with one on each line, in the order of their text
 clauses() {
   grep -v '^[pc]' "$1" | sort
@@ -114,10 +138,75 @@ formula pairs 4 > pairs.cnf
 formula pair_exchanges 4 > pairs.dpr
 outputs 'pair_exchanges 4' pairs.cnf pairs.dpr
 
-# an interrupt leaves a beginning of what is written, here nothing; a beginning of the lines is no proof, and one of the
-# clauses is not what its header says
-timeout -s INT 0.5 "$check" f - --lrat l --core c < <(sleep 1) > out 2> err || true
-empty l c
+# what is written has its name once it is whole: a run that is killed leaves what stood there, and the next one takes away what the
+# killed one left; here nothing is written yet
+for signal in INT KILL; do
+  keep l c
+  timeout -s "$signal" 0.5 "$check" f - --lrat l --core c < <(sleep 1) > out 2> err || true
+  kept "$signal" l c
+  [[ -f l.new && -f c.new && ! -s out ]] || fault "$signal: no run was killed"
+  wants 0 's VERIFIED UNSAT' '' f p --lrat l --core c
+  alone "after $signal" l c
+  [[ $("$lrat_check" f l) == 's VERIFIED UNSAT' ]] || fault "the lines after $signal"
+done
+# here the lines are written in part, and here whole, and the clauses in part: a file may not be longer, and a pipe is full. Each
+# clause makes the next variable true, so one step is the proof, and its lines and the core are long.
+awk 'BEGIN { n = 20000; print "p cnf", n, n + 1; print "1 0"; for (i = 1; i < n; i++) print -i, i + 1, 0; print -n, 0 }' > chain.cnf
+printf '0\n' > end
+keep l c
+(ulimit -f 16 && exec "$check" chain.cnf end --lrat l --core c) > out 2> err || true
+kept 'cut off' l c
+[[ ! -s out ]] || fault 'a verdict beside lines that are cut off'
+rm -f l.new c.new
+mkfifo hold
+exec 6<> hold
+for signal in INT KILL; do
+  keep l
+  # in the background a shell has a program ignore INT
+  env --default-signal=INT "$check" chain.cnf end --lrat l --core hold > out 2> err &
+  run=$!
+  for ((tries = 0; tries < 200; tries++)); do
+    [[ ! -s l.new || $(tail -n 1 l.new) != *' 0' ]] || break
+    sleep 0.05
+  done
+  kill -s "$signal" "$run"
+  wait "$run" 2> said || true
+  kept "$signal at the core" l
+  [[ $("$lrat_check" chain.cnf l.new) == 's VERIFIED UNSAT' && ! -s out ]] || fault "$signal: the run was not killed at the core"
+done
+exec 6>&-
+"$check" chain.cnf end --lrat l > out
+[[ $("$lrat_check" chain.cnf l) == 's VERIFIED UNSAT' ]] || fault 'the lines of the chain'
+alone 'the chain' l
+
+# links lead to the file that is written, which keeps its permissions
+rm -f l real
+keep real
+chmod 600 real
+ln -s real l
+wants 0 's VERIFIED UNSAT' '' f p --lrat l
+[[ -L l && $("$lrat_check" f real) == 's VERIFIED UNSAT' && $(stat -c %a real) == 600 ]] || fault 'the lines behind a link'
+alone 'a link' l real
+rm l
+
+# of two runs that write one name at once, that which comes later has no verdict
+mkfifo slow
+"$check" f slow --lrat l > out.slow 2> err.slow &
+run=$!
+exec 7> slow
+for ((tries = 0; tries < 200; tries++)); do
+  [[ ! -e l.new ]] || break
+  sleep 0.05
+done
+wants 0 's VERIFIED UNSAT' '' f p --lrat l
+cat p >&7
+exec 7>&-
+status=0
+wait "$run" || status=$?
+[[ $status == 1 && ! -s out.slow && $(head -n 1 err.slow) == 'cannot rename l.new as l' ]] || fault "two runs at once: status $status, $(cat out.slow err.slow)"
+[[ $("$lrat_check" f l) == 's VERIFIED UNSAT' ]] || fault 'the lines of two runs at once'
+
+# a beginning of the lines is no proof, and one of the clauses is not what its header says
 "$check" f p --lrat l --core c > out
 head -n -1 l > begun.lines
 head -n -1 c > begun.clauses
@@ -126,19 +215,21 @@ said=$("$lrat_check" f begun.lines) || true
 "$check" begun.clauses p > out 2> err || true
 grep -q '^warning: the header of begun.clauses is ' err || fault "a beginning of the clauses: $(cat out err)"
 
-# nothing is written where the proof shows nothing, or is refused before a line is made
+# nothing is written where the proof shows nothing, or is refused before a line is made; then what stood there stays
 printf '1 x 0\n' > malformed
 printf 'd 1 2 0\n1 0\n' > unfounded
 printf '' > open
 wants 3 's NOT VERIFIED' '' f open --lrat l --core c
 empty l c
+keep l c
 wants 1 '' $'proof: step 1: malformed\nin malformed' f malformed --lrat l --core c
-empty l c
+kept malformed l c
 wants 1 '' $'proof: step 2: clause neither follows nor is redundant by its first literal\nin unfounded' \
   f unfounded --core c --lrat l
-empty l c
+kept unfounded l c
 wants 1 '' $'formula: line 1: bad number\nin malformed' malformed p --lrat l --core c
-empty l c
+kept 'no formula' l c
+alone 'no verdict' l c
 
 # an output that is a file that is read, or the other output
 for output in f p ./f ./p "$PWD/p" hard soft; do
@@ -159,13 +250,21 @@ for output in same ./same other; do
   [[ $(cat same) == kept ]] || fault "one file is emptied: $output"
 done
 wants 2 '' $'cannot open ./new\nboth outputs are one file' f p --lrat new --core ./new
+wants 2 '' $'cannot open same.new\nboth outputs are one file' f p --lrat same --core same.new
+wants 2 '' $'cannot open same\nboth outputs are one file' f p --lrat same.new --core same
+cp p same.new
+wants 2 '' $'cannot open same.new\nthe output is a file that is read' f same.new --lrat same
+kept 'names in conflict' same
+cmp -s p same.new || fault 'a proof is taken away'
+alone 'outputs that are refused' l same.new new
+rm same.new
 wants 2 '' $'cannot open /dev/null\nboth outputs are one file' f p --lrat /dev/null --core /dev/null
 wants 0 's VERIFIED UNSAT' '' f p --lrat /dev/null --core c
 
 # a disk that is full: no line of a verdict, and the file is named
 wants 1 '' $'error writing: No space left on device (os error 28)\nin /dev/full' f p --lrat /dev/full --core c
 wants 1 '' $'error writing: No space left on device (os error 28)\nin /dev/full' f p --core /dev/full --lrat l
-[[ $("$lrat_check" f l) == 's VERIFIED UNSAT' ]] || fault 'the lines before a core that can not be written'
+alone 'no verdict' l c
 
 # calls that can't be read, and others of the same words
 while IFS=: read -r arguments why; do

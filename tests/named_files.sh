@@ -227,6 +227,36 @@ if [[ -e never || -e never.too ]]; then
   wrong=1
 fi
 
+# an output has its name once it is whole: a run that fails, that is killed before it writes, or whose file may not be longer, leaves
+# what stood there; the next one takes away what a killed one left
+kept() {
+  if [[ $(cat new) != kept || -s out ]]; then
+    echo "WRONG $*: the output is not as it was, or there is a verdict"
+    wrong=1
+  fi
+}
+printf 'kept' > new
+for signal in INT KILL; do
+  timeout -s "$signal" 0.5 "$check" f - new < <(sleep 1) > out 2> err || true
+  kept varisat_check "$signal"
+  timeout -s "$signal" 0.5 "$convert" f - new < <(sleep 1) > out 2> err || true
+  kept lrat_to_proof "$signal"
+done
+(ulimit -f 1 && exec "$check" f p new) > out 2> err || true
+kept varisat_check cut off
+(ulimit -f 1 && exec "$convert" f l new) > out 2> err || true
+kept lrat_to_proof cut off
+wants 1 '' $'proof: line 1: id is taken\nin ends' "$convert" f ends new
+kept lrat_to_proof refused
+wants 0 's UNSATISFIABLE' '' "$check" f p new
+wants 0 's VERIFIED UNSAT' '' "$hint_check" f new
+wants 0 '' '' "$convert" f l new
+wants 0 's UNSATISFIABLE' '' "$check" f new
+if [[ -e new.new ]]; then
+  echo 'WRONG a file is left that is not whole'
+  wrong=1
+fi
+
 # names that were exchanged are asked about, where a file begins as the other one should
 order='arguments in the wrong order?'
 printf 'a\x02\x00' > binary

@@ -105,6 +105,25 @@ u32 Z_hostZ_close(host *it, u32 file) {
     return close((int)file) ? (u32)-errno : 0;
 }
 
+u32 Z_hostZ_rename(host *it, u64 from, u64 from_length, u64 to, u64 to_length) {
+    static char other[sizeof room];
+    char *name = name_at(it, from, from_length);
+    if (!name)
+        return (u32)-ENAMETOOLONG;
+    memcpy(other, name, from_length + 1);
+    name = name_at(it, to, to_length);
+    if (!name)
+        return (u32)-ENAMETOOLONG;
+    return rename(other, name) ? (u32)-errno : 0;
+}
+
+u32 Z_hostZ_remove(host *it, u64 at, u64 length) {
+    char *name = name_at(it, at, length);
+    if (!name)
+        return (u32)-ENAMETOOLONG;
+    return unlink(name) ? (u32)-errno : 0;
+}
+
 u32 Z_hostZ_stat(host *it, u32 file, u64 at, u64 length, u64 to) {
     struct stat found;
     char *name = name_at(it, at, length);

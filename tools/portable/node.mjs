@@ -1,6 +1,6 @@
 
 // node cefindrato.mjs NAME WORD..: the program NAME.wasm beside this file, as it is called anywhere else
-import { closeSync, fstatSync, openSync, readFileSync, readSync, statSync, writeSync } from 'node:fs'
+import { closeSync, fstatSync, openSync, readFileSync, readSync, renameSync, statSync, unlinkSync, writeSync } from 'node:fs'
 
 const tried = (call) => {
   try {
@@ -15,6 +15,8 @@ const system = {
   write: (file, from) => tried(() => writeSync(file, from)),
   open: (name, flags) => tried(() => openSync(name, flags & WRITES ? 'w' : 'r')),
   close: (file) => tried(() => closeSync(file) ?? 0),
+  rename: (from, to) => tried(() => renameSync(from, to) ?? 0),
+  remove: (name) => tried(() => unlinkSync(name) ?? 0),
   stat: (file, name) => tried(() => {
     const it = name ? statSync(name, { bigint: true }) : fstatSync(file, { bigint: true })
     return [it.mode, it.dev, it.ino, it.size]

@@ -10,6 +10,8 @@ long HOST(read)(int file, u8 *to, usize size);
 long HOST(write)(int file, const u8 *from, usize size);
 int HOST(open)(const u8 *name, usize length, int flags);
 int HOST(close)(int file);
+int HOST(rename)(const u8 *from, usize from_length, const u8 *to, usize to_length);
+int HOST(remove)(const u8 *name, usize length);
 /* of the file that is open where the name is empty; what is found is the mode, the device, the node and the size */
 int HOST(stat)(int file, const u8 *name, usize length, usize found[4]);
 /* the length of what was put, -1 where there is none, -2 where it is longer than the room */
@@ -190,6 +192,27 @@ int open(const u8 *name, int flags, ...) {
 
 int close(int file) {
     return file < SECOND ? (int)told(host_close(file)) : 0;
+}
+
+int rename(const u8 *from, const u8 *to) {
+    return (int)told(host_rename(from, length_of(from), to, length_of(to)));
+}
+
+int unlink(const u8 *name) {
+    return (int)told(host_remove(name, length_of(name)));
+}
+
+/* A host gives each file the permissions that it gives a new one. */
+int fchmod(int file, unsigned mode) {
+    (void)file, (void)mode;
+    return 0;
+}
+
+/* A host leads through links by itself, and tells of none. */
+u8 *realpath(const u8 *name, u8 *to) {
+    (void)name, (void)to;
+    told(-38);
+    return NULL;
 }
 
 long lseek(int file, long to, int whence) {

@@ -2,6 +2,7 @@
 // covers this. A system's functions answer a number below 0, -N, where Linux has the error N:
 //   read(file, bytes), write(file, bytes)    how many bytes; 0 to 2 are standard input, output and errors
 //   open(name, flags), close(file)           a number above 2; 0
+//   rename(name, name), remove(name)         0
 //   stat(file, name)                         [mode, device, node, size]; of the open file where the name is empty
 //   environment(name)                        a text, or undefined
 export function runProgram(module, words, system) {
@@ -21,6 +22,8 @@ export function runProgram(module, words, system) {
     write: (file, from, size) => BigInt(system.write(file, bytes(from, size))),
     open: (at, length, flags) => system.open(name(at, length), flags),
     close: (file) => system.close(file),
+    rename: (from, length, to, size) => system.rename(name(from, length), name(to, size)),
+    remove: (at, length) => system.remove(name(at, length)),
     stat: (file, at, length, to) => {
       const found = system.stat(file, name(at, length))
       if (typeof found === 'number') return found

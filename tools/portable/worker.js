@@ -46,6 +46,8 @@ function systemOver(files, tell) {
       return last
     },
     close: (file) => (opened.delete(file) ? 0 : -9),
+    rename: () => -13,
+    remove: () => -13,
     stat: (file, name) => {
       const it = name ? files[name] : opened.get(file)?.file
       return it ? [0o100644, 0, 1 + names.findIndex((other) => files[other] === it), it.size] : -2

@@ -2,3 +2,4 @@ pub mod Calls
 pub mod Inputs
 pub mod Kinds
 pub mod Held
+pub mod Written

@@ -1,5 +1,5 @@
-//! Files by their names: which one is opened, read, made or refused. What a clause can't say of a
-//! handle is believed by reading this file.
+//! Files that are read, by their names: which one is opened or refused. What a clause can't say of
+//! a handle is believed by reading this file.
 ghost use Rattle.std.specs.Prelude.{◌≡◌, ◌⊎◌, ◌↔◌, IfOk, IfSome, IsNone, IsSome, IsTrue, codes};
 ghost use Rattle.command.specs.Inputs.{IsOpenedBy, is_standard_input};
 
@@ -11,7 +11,7 @@ use std::os::unix::fs::MetadataExt;
 use std::{fs, io};
 
 /// The name that stands for standard input.
-const STANDARD_INPUT: &str = "-";
+pub(crate) const STANDARD_INPUT: &str = "-";
 
 /// What is read: a file that was opened by its name, or descriptor 0, from where it stands.
 #[derive(Drop)]
@@ -102,103 +102,13 @@ fn open_input<'a>(rt: &HostRuntime, name: &'a str) -> Option<Input<'a>>
     }
 }
 
-/// Makes a file for writing, or empties the one that is there.
-///
-/// Refused, and left as it is, is what `refusal_of` says. Where it can't be opened, a line on
-/// standard error says so, and a second one why.
-pub fn create_output(
-    rt: &HostRuntime,
-    name: &str,
-    first: &Input<'_>,
-    second: &Input<'_>,
-) -> Option<File>
-    ensures dash { name.now ≡ codes "-" → IsNone result }
-    ensures named { (name.now ≡ first.now.name.now) ⊎ (name.now ≡ second.now.name.now)
-        → IsNone result }
-{
-    match refusal_of(rt, name, first, second) {
-        Some(why) => refuse(rt, name, why),
-        None => create(rt, name),
-    }
-}
-
-/// Makes two files for writing, or empties those that are there.
-///
-/// Where one of them is refused, or they are one file, both are left as they are. Only where two
-/// names lead to one file that is not there yet, it is made, and left empty. Where one can't be
-/// opened, a line on standard error says so, and a second one why.
-pub fn create_two_outputs(
-    rt: &HostRuntime,
-    one: &str,
-    other: &str,
-    first: &Input<'_>,
-    second: &Input<'_>,
-) -> Option<(File, File)>
-    ensures same { one.now ≡ other.now → IsNone result }
-    ensures dash { (one.now ≡ codes "-") ⊎ (other.now ≡ codes "-") → IsNone result }
-    ensures one { (one.now ≡ first.now.name.now) ⊎ (one.now ≡ second.now.name.now)
-        → IsNone result }
-    ensures other { (other.now ≡ first.now.name.now) ⊎ (other.now ≡ second.now.name.now)
-        → IsNone result }
-{
-    if one == other || is_one_file(&fs::metadata(rt, one), &fs::metadata(rt, other)) {
-        return refuse(rt, other, "both outputs are one file");
-    }
-    if let Some(why) = refusal_of(rt, one, first, second) {
-        return refuse(rt, one, why);
-    }
-    if let Some(why) = refusal_of(rt, other, first, second) {
-        return refuse(rt, other, why);
-    }
-    let made = create(rt, one)?;
-    if is_one_file(&fs::metadata(rt, other), &made.metadata()) {
-        return refuse(rt, other, "both outputs are one file");
-    }
-    Some((made, create(rt, other)?))
-}
-
-/// Why a name may not be written: it is `-`, one of the inputs has it, or where the system tells
-/// it, it leads to the regular file of an input, of standard output or of standard error.
-fn refusal_of(
-    rt: &HostRuntime,
-    name: &str,
-    first: &Input<'_>,
-    second: &Input<'_>,
-) -> Option<&'static str>
-    ensures dash { name.now ≡ codes "-" → IsSome result }
-    ensures named { (name.now ≡ first.now.name.now) ⊎ (name.now ≡ second.now.name.now)
-        → IsSome result }
-{
-    let there = fs::metadata(rt, name);
-    let is_read = is_one_file(&there, &first.file.metadata(rt))
-        || is_one_file(&there, &second.file.metadata(rt));
-    if name == STANDARD_INPUT {
-        Some("- stands for standard input, and nothing is written to that")
-    } else if name == first.name || name == second.name || is_read {
-        Some("the output is a file that is read")
-    } else if is_one_file(&there, &fs::metadata(rt, "/proc/self/fd/1")) {
-        Some("the output is the file of standard output")
-    } else if is_one_file(&there, &fs::metadata(rt, "/proc/self/fd/2")) {
-        Some("the output is the file of standard error")
-    } else {
-        None
-    }
-}
-
 /// Whether both are told, and are of one regular file.
-fn is_one_file(one: &io::Result<Metadata>, other: &io::Result<Metadata>) -> bool {
+pub(crate) fn is_one_file(one: &io::Result<Metadata>, other: &io::Result<Metadata>) -> bool {
     match (one, other) {
         (Ok(one), Ok(other)) => {
             one.is_file() && one.dev() == other.dev() && one.ino() == other.ino()
         }
         _ => false,
-    }
-}
-
-fn create(rt: &HostRuntime, name: &str) -> Option<File> {
-    match File::create(rt, name) {
-        Ok(file) => Some(file),
-        Err(fault) => refuse(rt, name, fault),
     }
 }
 
@@ -223,7 +133,7 @@ pub fn warn_of_header<L: Display>(rt: &HostRuntime, name: &str, lie: &Option<L>)
 }
 
 /// Says that a file can't be opened, and on a second line why.
-fn refuse<T, D: Display + Drop>(rt: &HostRuntime, name: &str, why: D) -> Option<T>
+pub(crate) fn refuse<T, D: Display + Drop>(rt: &HostRuntime, name: &str, why: D) -> Option<T>
     ensures { IsNone result }
 {
     let _ = eprintln!(rt; "cannot open {name}");

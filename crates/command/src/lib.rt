@@ -10,15 +10,15 @@ mod held;
 mod kind;
 mod places;
 mod status;
+mod written;
 
 pub use about::{About, Entry, QUIET, STATS, VERBOSE};
 pub use begin::{misused, start, unnamed};
 pub use call::{Call, Misuse, Setting, read_words};
 pub use cost::{Cost, say_figure};
-pub use files::{
-    Input, Source, create_output, create_two_outputs, open_again, open_inputs, warn_of_header,
-};
+pub use files::{Input, Source, open_again, open_inputs, warn_of_header};
 pub use held::{HeldBytes, hold_input};
 pub use kind::{Kind, kind_of};
 pub use places::{say_answer, say_drat_proof, say_formula, say_proof, say_unread};
 pub use status::{FAILED, NOT_RUN};
+pub use written::{OutputAfterFiles, WrittenFiles};

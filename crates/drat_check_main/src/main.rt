@@ -14,7 +14,7 @@ mod about;
 
 use crate::about::ABOUT;
 use command::{
-    Call, Cost, HeldBytes, Input, NOT_RUN, create_output, create_two_outputs, hold_input, misused,
+    Call, Cost, HeldBytes, Input, NOT_RUN, OutputAfterFiles, WrittenFiles, hold_input, misused,
     open_inputs, say_drat_proof, say_figure, say_formula, say_proof, say_unread, start, unnamed,
     warn_of_header,
 };
@@ -65,8 +65,9 @@ fn run(rt: &HostRuntime, call: &Call<'_>) -> u8 {
     }
 }
 
-/// The files that are written are made once both others are open, and before anything is read. The
-/// formula is read whole, and let go once its clauses are taken.
+/// The files that are written are made once both others are open, and before anything is read. They
+/// have their names before the verdict's line is written. The formula is read whole, and let go
+/// once its clauses are taken.
 fn check_files(
     rt: &HostRuntime,
     cnf_name: &str,
@@ -79,7 +80,9 @@ fn check_files(
     let Some((cnf, proof)) = open_inputs(rt, cnf_name, proof_name) else {
         return NOT_RUN;
     };
-    let Some(mut outputs) = create_outputs(rt, lrat_name, core_name, &cnf, &proof) else {
+    let mut files = WrittenFiles::new(rt);
+    let Some(mut outputs) = create_outputs(rt, &mut files, lrat_name, core_name, &cnf, &proof)
+    else {
         return NOT_RUN;
     };
     let cnf = match hold_input(rt, cnf) {
@@ -90,7 +93,8 @@ fn check_files(
         }
     };
     let mut lie = None;
-    let outcome = check_told(rt, cnf, proof, format, call, &mut outputs, &mut lie);
+    let out = &mut OutputAfterFiles::new(&mut files);
+    let outcome = check_told(rt, cnf, proof, format, call, &mut outputs, out, &mut lie);
     let status = report(rt, &outcome);
     match outcome {
         Err(RunFault::Formula(_)) => {
@@ -117,47 +121,45 @@ fn check_told(
     format: ProofFormat,
     call: &Call<'_>,
     outputs: &mut OutputFiles,
+    out: &mut OutputAfterFiles<'_, '_>,
     lie: &mut Option<LyingHeader>,
 ) -> Result<Verdict, RunFault> {
     let (is_quiet, is_verbose) = (call.has("--quiet"), call.has("--verbose"));
     let progress = Progress::of_call(rt, "drat_check", is_quiet, is_verbose);
     let length = proof.length(rt);
     let proof = ToldBytes::new(&progress, proof.file, length);
-    let out = &mut io::writer(rt);
     run_check(&progress, rt.alloc(), cnf, proof, format, outputs, out, lie)
 }
 
 /// Makes the files that are wanted. None of them is one of the inputs, nor is one file made twice.
-fn create_outputs(
+fn create_outputs<'a>(
     rt: &HostRuntime,
-    lrat: Option<&str>,
-    core: Option<&str>,
+    files: &mut WrittenFiles<'a>,
+    lrat: Option<&'a str>,
+    core: Option<&'a str>,
     cnf: &Input<'_>,
     proof: &Input<'_>,
 ) -> Option<OutputFiles> {
-    let (lrat, core) = match (lrat, core) {
-        (Some(lrat), Some(core)) => {
-            let (lrat, core) = create_two_outputs(rt, lrat, core, cnf, proof)?;
-            (Some(lrat), Some(core))
-        }
-        (Some(lrat), None) => (Some(create_output(rt, lrat, cnf, proof)?), None),
-        (None, Some(core)) => (None, Some(create_output(rt, core, cnf, proof)?)),
-        (None, None) => (None, None),
-    };
     Some(Outputs {
-        lrat: buffered(rt, lrat)?,
-        core: buffered(rt, core)?,
+        lrat: create_buffered(rt, files, lrat, cnf, proof)?,
+        core: create_buffered(rt, files, core, cnf, proof)?,
         counts: Cell::default(),
     })
 }
 
-/// A file with a buffer before it, if there is a file. None: there is no memory for the buffer,
-/// and a line says so.
-fn buffered(rt: &HostRuntime, file: Option<File>) -> Option<Option<BufWriter<File>>> {
-    let Some(file) = file else {
+/// A file with a buffer before it, if one is wanted. None: it can't be made, or there is no memory
+/// for the buffer, and a line says so.
+fn create_buffered<'a>(
+    rt: &HostRuntime,
+    files: &mut WrittenFiles<'a>,
+    name: Option<&'a str>,
+    cnf: &Input<'_>,
+    proof: &Input<'_>,
+) -> Option<Option<BufWriter<File>>> {
+    let Some(name) = name else {
         return Some(None);
     };
-    match BufWriter::new(rt.alloc(), file) {
+    match BufWriter::new(rt.alloc(), files.create(name, cnf, proof)?) {
         Ok(writer) => Some(Some(writer)),
         Err(fault) => {
             let _ = eprintln!(rt; "{fault}");

@@ -9,8 +9,8 @@ mod about;
 
 use crate::about::ABOUT;
 use command::{
-    Call, Input, NOT_RUN, Source, create_output, misused, open_inputs, say_formula, say_proof,
-    start, unnamed, warn_of_header,
+    Call, FAILED, Input, NOT_RUN, Source, WrittenFiles, misused, open_inputs, say_formula,
+    say_proof, start, unnamed, warn_of_header,
 };
 use lrat_to_proof::{Conversion, ConvertFault, HashWidth, convert, exit_status};
 use sat_formula::LyingHeader;
@@ -50,7 +50,7 @@ fn width_of(call: &Call<'_>) -> Option<HashWidth> {
 }
 
 /// The third file is made once both others are open, and before anything is read. It is neither of
-/// them.
+/// them, and has its name once it is whole.
 fn convert_files(
     rt: &HostRuntime,
     cnf_name: &str,
@@ -61,10 +61,11 @@ fn convert_files(
     let Some((cnf, lrat)) = open_inputs(rt, cnf_name, lrat_name) else {
         return NOT_RUN;
     };
-    match create_output(rt, proof_name, &cnf, &lrat) {
-        Some(proof) => convert_to(rt, cnf, lrat, proof, width),
-        None => NOT_RUN,
-    }
+    let mut files = WrittenFiles::new(rt);
+    let Some(proof) = files.create(proof_name, &cnf, &lrat) else {
+        return NOT_RUN;
+    };
+    convert_to(rt, cnf, lrat, proof, width, &mut files)
 }
 
 fn convert_to(
@@ -73,11 +74,12 @@ fn convert_to(
     lrat: Input<'_>,
     proof: File,
     width: HashWidth,
+    files: &mut WrittenFiles<'_>,
 ) -> u8 {
     let (cnf_name, lrat_name) = (cnf.name, lrat.name);
     let mut lie = None;
     let outcome = write_proof(rt, cnf.file, lrat.file, proof, width, &mut lie);
-    let status = report(rt, &outcome);
+    let status = report(rt, &outcome, files);
     match outcome {
         Err(ConvertFault::Formula(_)) => {
             say_formula(rt, cnf_name, lrat_name);
@@ -105,10 +107,17 @@ fn write_proof(
     }
 }
 
-/// Says why the proof is not whole, and gives the exit status.
-fn report(rt: &HostRuntime, outcome: &Result<Conversion, ConvertFault>) -> u8 {
+/// Gives a proof that is whole its name, or says why it is not, and gives the exit status.
+fn report(
+    rt: &HostRuntime,
+    outcome: &Result<Conversion, ConvertFault>,
+    files: &mut WrittenFiles<'_>,
+) -> u8 {
     if let Err(fault) = outcome {
         let _ = eprintln!(rt; "{fault}");
+    } else if let Err(fault) = files.finish() {
+        let _ = eprintln!(rt; "error writing: {fault}");
+        return FAILED;
     }
     exit_status(outcome)
 }

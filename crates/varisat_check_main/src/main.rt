@@ -12,8 +12,8 @@ mod about;
 
 use crate::about::ABOUT;
 use command::{
-    Call, HeldBytes, Input, NOT_RUN, create_output, hold_input, open_inputs, say_formula,
-    say_proof, say_unread, start, unnamed, warn_of_header,
+    Call, HeldBytes, Input, NOT_RUN, OutputAfterFiles, WrittenFiles, hold_input, open_inputs,
+    say_formula, say_proof, say_unread, start, unnamed, warn_of_header,
 };
 use log::Log;
 use progress::{Progress, ToldBytes};
@@ -21,7 +21,7 @@ use sat_formula::{DimacsFault, Lit, LyingHeader};
 use sat_hints::LratWriter;
 use std::fs::File;
 use std::io;
-use std::io::Read;
+use std::io::{Read, Write};
 use std::process::ExitCode;
 use varisat_check::{RunFault, Verdict, exit_status, read_formula, run_check, run_lrat, run_proof};
 use varisat_checker::Checker;
@@ -79,7 +79,7 @@ fn progress_of<'a>(rt: &'a HostRuntime, call: &Call<'_>) -> Progress<&'a HostRun
 }
 
 /// The third file is made once both others are open, and before anything is read. It is neither of
-/// them.
+/// them, and has its name before the verdict's line is written.
 fn write_hints(
     rt: &HostRuntime,
     cnf_name: &str,
@@ -90,10 +90,12 @@ fn write_hints(
     let Some((cnf, proof)) = open_inputs(rt, cnf_name, proof_name) else {
         return NOT_RUN;
     };
-    match create_output(rt, lrat_name, &cnf, &proof) {
-        Some(mut lrat) => write_hints_to(rt, cnf, proof, &mut lrat, &progress_of(rt, call)),
-        None => NOT_RUN,
-    }
+    let mut files = WrittenFiles::new(rt);
+    let Some(mut lrat) = files.create(lrat_name, &cnf, &proof) else {
+        return NOT_RUN;
+    };
+    let out = &mut OutputAfterFiles::new(&mut files);
+    write_hints_to(rt, cnf, proof, &mut lrat, out, &progress_of(rt, call))
 }
 
 fn write_hints_to(
@@ -101,6 +103,7 @@ fn write_hints_to(
     cnf: Input<'_>,
     proof: Input<'_>,
     lrat: &mut File,
+    out: &mut OutputAfterFiles<'_, '_>,
     progress: &Progress<&HostRuntime>,
 ) -> u8 {
     let (cnf_name, proof_name) = (cnf.name, proof.name);
@@ -112,21 +115,21 @@ fn write_hints_to(
     let proof = ToldBytes::new(progress, proof.file, length);
     let log = progress.asked_log();
     let mut lie = None;
-    let outcome = hints_of(rt, &log, cnf, proof, lrat, &mut lie);
+    let outcome = hints_of(rt, &log, cnf, proof, lrat, out, &mut lie);
     report_files(rt, &outcome, cnf_name, &lie, proof_name)
 }
 
-fn hints_of<L: Log, P: Read + Drop>(
+fn hints_of<L: Log, P: Read + Drop, W: Write>(
     rt: &HostRuntime,
     log: &L,
     cnf: HeldBytes,
     proof: P,
     lrat: &mut File,
+    out: &mut W,
     lie: &mut Option<LyingHeader>,
 ) -> Result<Verdict, RunFault> {
     let formula = read_formula(rt.alloc(), cnf, lie)?;
     let writer = LratWriter::new(rt.alloc(), formula.len() as u64);
-    let out = &mut io::writer(rt);
     let (verdict, _) = run_lrat(log, rt.alloc(), &formula, writer, proof, out, lrat)?;
     Ok(verdict)
 }

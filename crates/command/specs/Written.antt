@@ -1,0 +1,15 @@
+-- Files that are written.
+--     names_of files      the names of those that were made, in their order
+--     is_among name files      whether this name is that of one of them
+use Rattle.std.specs.Prelude.{ℕ, Bool, List, map}
+use Rattle.std.specs.List.{list_any}
+use Rattle.std.specs.Str.{bytes_eq}
+use Rattle.command.specs.declared.written.WrittenFiles.{WrittenFiles}
+
+-- the names of the files that were made, as their call has them
+abbrev pub names_of : WrittenFiles → List (List ℕ)
+names_of files = map (λ name. name.now) files.names.items
+
+-- whether one of them has this name
+abbrev pub is_among : List ℕ → WrittenFiles → Bool
+is_among name files = list_any (λ taken. bytes_eq taken.now name) files.names.items

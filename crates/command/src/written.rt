@@ -1,0 +1,288 @@
+//! Files that are written: each under another name, until it is whole. What a clause can't say of a
+//! handle is believed by reading this file.
+ghost use Rattle.std.specs.Prelude.{◌≡◌, ◌∷◌, ◌++◌, [], true, ◌⊎◌, IfSome, IsNone, IsSome, codes};
+ghost use Rattle.command.specs.Written.{is_among, names_of};
+
+use crate::files::{Input, STANDARD_INPUT, is_one_file, refuse};
+use std::fs::File;
+use std::io::Write;
+use std::os::unix::fs::MetadataExt;
+use std::{fs, io};
+
+/// What stands behind the name of a file that is not whole.
+const UNFINISHED: &str = ".new";
+
+const ONE_FILE: &str = "both outputs are one file";
+
+/// The files that a call writes.
+///
+/// A regular file, and one that is not there yet, is written as a new file, with `.new` behind its
+/// name, and gets its own name once all are whole. What stood there before stays until then. Where
+/// that does not come, the new file is taken away. What else a name leads to, as a pipe or a
+/// device, is written in place.
+pub struct WrittenFiles<'a> {
+    rt: &'a HostRuntime,
+    /// The names of all, as the call has them.
+    names: Vec<&'a str>,
+    /// Those that don't have their own names yet.
+    unfinished: Vec<Unfinished>,
+}
+
+/// A file that does not have its own name yet.
+#[derive(Drop)]
+struct Unfinished {
+    name: String,
+    own_name: String,
+    /// What the system knows it by.
+    device: u64,
+    number: u64,
+}
+
+impl<'a> WrittenFiles<'a> {
+    /// No file yet.
+    pub fn new(rt: &'a HostRuntime) -> WrittenFiles<'a>
+        ensures { names_of result ≡ [] }
+    {
+        WrittenFiles {
+            rt,
+            names: Vec::new(rt.alloc()),
+            unfinished: Vec::new(rt.alloc()),
+        }
+    }
+
+    /// Makes one more file for writing.
+    ///
+    /// Refused is what `refusal_of` says, and a file that is another one of these. Where it is, or
+    /// can't be opened, nothing of its name is changed; a line on standard error says so, and a
+    /// second one why.
+    pub fn create(&mut self, name: &'a str, first: &Input<'_>, second: &Input<'_>) -> Option<File>
+        ensures same { is_among name.now self.old ≡ true → IsNone result }
+        ensures dash { name.now ≡ codes "-" → IsNone result }
+        ensures named { (name.now ≡ first.now.name.now) ⊎ (name.now ≡ second.now.name.now)
+            → IsNone result }
+        ensures names { IfSome result (λ file. names_of self.new
+            ≡ names_of self.old ++ name.now ∷ []) }
+    {
+        if self.has(name) || self.is_written(name) {
+            return refuse(self.rt, name, ONE_FILE);
+        }
+        if let Some(why) = refusal_of(self.rt, name, first, second) {
+            return refuse(self.rt, name, why);
+        }
+        if self.names.push(name).is_err() {
+            return refuse(self.rt, name, "out of memory");
+        }
+        match place_of(self.rt, name) {
+            Ok(Some(place)) => self.create_new(place, first, second),
+            Ok(None) => opened(self.rt, name, File::create(self.rt, name)),
+            Err(fault) => refuse(self.rt, name, fault),
+        }
+    }
+
+    /// Makes a file for what is to have this name.
+    fn create_new(
+        &mut self,
+        own_name: String,
+        first: &Input<'_>,
+        second: &Input<'_>,
+    ) -> Option<File>
+        ensures { names_of self.new ≡ names_of self.old }
+    {
+        let rt = self.rt;
+        let name = match format!(in rt.alloc(); "{own_name}{UNFINISHED}") {
+            Ok(name) => name,
+            Err(fault) => return refuse(rt, own_name.as_str(), fault),
+        };
+        if self.is_written(name.as_str()) {
+            return refuse(rt, own_name.as_str(), ONE_FILE);
+        }
+        if let Some(why) = refusal_of(rt, name.as_str(), first, second) {
+            return refuse(rt, name.as_str(), why);
+        }
+        let file = opened(
+            rt,
+            name.as_str(),
+            new_file(rt, name.as_str(), own_name.as_str()),
+        )?;
+        match file.metadata() {
+            Ok(made) => self.add(Unfinished {
+                name,
+                own_name,
+                device: made.dev(),
+                number: made.ino(),
+            })?,
+            Err(fault) => return refuse(rt, name.as_str(), fault),
+        }
+        Some(file)
+    }
+
+    /// Has one more file that does not have its own name.
+    fn add(&mut self, file: Unfinished) -> Option<()>
+        ensures { names_of self.new ≡ names_of self.old }
+    {
+        match self.unfinished.push(file) {
+            Ok(()) => Some(()),
+            Err(_) => refuse(self.rt, "an output", "out of memory"),
+        }
+    }
+
+    /// Whether one of these has a name, as the call has it.
+    fn has(&self, name: &str) -> bool
+        ensures { result ≡ is_among name.now self.now }
+    {
+        for taken in &self.names {
+            if *taken == name {
+                return true;
+            }
+        }
+        false
+    }
+
+    /// Whether a name is that which one of these will have, or the system says that it leads to one
+    /// of these, or to the regular file that one will take the place of.
+    fn is_written(&self, name: &str) -> bool {
+        let there = fs::metadata(self.rt, name);
+        self.unfinished.iter().any(|file| {
+            file.own_name.as_str() == name
+                || is_one_file(&there, &fs::metadata(self.rt, file.name.as_str()))
+                || is_one_file(&there, &fs::metadata(self.rt, file.own_name.as_str()))
+        })
+    }
+
+    /// Gives each file its own name, where it does not have it yet.
+    ///
+    /// Where that fails, a line on standard error says of which one.
+    pub fn finish(&mut self) -> io::Result<()>
+        ensures { names_of self.new ≡ names_of self.old }
+    {
+        for file in &self.unfinished {
+            if let Err(fault) = file.take_own_name(self.rt) {
+                let (name, own_name) = (file.name.as_str(), file.own_name.as_str());
+                let _ = eprintln!(self.rt; "cannot rename {name} as {own_name}");
+                return Err(fault);
+            }
+        }
+        self.unfinished = Vec::new(self.rt.alloc());
+        Ok(())
+    }
+}
+
+impl Drop for WrittenFiles<'_> {
+    fn drop(self) {
+        let WrittenFiles {
+            rt,
+            names: _,
+            unfinished,
+        } = self;
+        for file in &unfinished {
+            if file.is_there(rt) {
+                let _ = fs::remove_file(rt, file.name.as_str());
+            }
+        }
+    }
+}
+
+impl Unfinished {
+    /// Whether it still has the name that it was made with.
+    fn is_there(&self, rt: &HostRuntime) -> bool {
+        match fs::symlink_metadata(rt, self.name.as_str()) {
+            Ok(there) => there.dev() == self.device && there.ino() == self.number,
+            Err(_) => false,
+        }
+    }
+
+    fn take_own_name(&self, rt: &HostRuntime) -> io::Result<()> {
+        if !self.is_there(rt) {
+            return Err(io::Error::from(io::ErrorKind::NotFound));
+        }
+        fs::rename(rt, self.name.as_str(), self.own_name.as_str())
+    }
+}
+
+/// Standard output, to which nothing is written before each file of a call has its own name.
+#[derive(Drop)]
+pub struct OutputAfterFiles<'a, 'b> {
+    files: &'b mut WrittenFiles<'a>,
+}
+
+impl<'a, 'b> OutputAfterFiles<'a, 'b> {
+    /// Standard output after these files.
+    pub fn new(files: &'b mut WrittenFiles<'a>) -> OutputAfterFiles<'a, 'b> {
+        OutputAfterFiles { files }
+    }
+}
+
+impl Write for OutputAfterFiles<'_, '_> {
+    fn write(&mut self, buf: &[u8]) -> io::Result<usize> {
+        self.files.finish()?;
+        io::writer(self.files.rt).write(buf)
+    }
+
+    fn flush(&mut self) -> io::Result<()> {
+        io::writer(self.files.rt).flush()
+    }
+}
+
+/// The name that a regular file is to have, or one that is not there yet: where links lead, if they
+/// lead to one. None: something else is there.
+fn place_of(rt: &HostRuntime, name: &str) -> io::Result<Option<String>> {
+    if let Ok(there) = fs::metadata(rt, name) {
+        if !there.is_file() {
+            return Ok(None);
+        }
+        if fs::symlink_metadata(rt, name)?.is_symlink() {
+            return Ok(Some(fs::canonicalize(rt, name)?.into_string()));
+        }
+    }
+    Ok(Some(String::from_str(rt.alloc(), name)?))
+}
+
+/// Makes a file that is not there, with the permissions of that which it will take the place of.
+/// One that an earlier run has left is taken away.
+fn new_file(rt: &HostRuntime, name: &str, own_name: &str) -> io::Result<File> {
+    match fs::remove_file(rt, name) {
+        Err(fault) if fault.kind() != io::ErrorKind::NotFound => return Err(fault),
+        Ok(()) | Err(_) => {}
+    }
+    let file = File::create_new(rt, name)?;
+    if let Ok(there) = fs::metadata(rt, own_name) {
+        file.set_permissions(there.permissions())?;
+    }
+    Ok(file)
+}
+
+/// Says of a file that can't be opened why.
+fn opened(rt: &HostRuntime, name: &str, file: io::Result<File>) -> Option<File> {
+    match file {
+        Ok(file) => Some(file),
+        Err(fault) => refuse(rt, name, fault),
+    }
+}
+
+/// Why a name may not be written: it is `-`, one of the inputs has it, or where the system tells
+/// it, it leads to the regular file of an input, of standard output or of standard error.
+fn refusal_of(
+    rt: &HostRuntime,
+    name: &str,
+    first: &Input<'_>,
+    second: &Input<'_>,
+) -> Option<&'static str>
+    ensures dash { name.now ≡ codes "-" → IsSome result }
+    ensures named { (name.now ≡ first.now.name.now) ⊎ (name.now ≡ second.now.name.now)
+        → IsSome result }
+{
+    let there = fs::metadata(rt, name);
+    let is_read = is_one_file(&there, &first.file.metadata(rt))
+        || is_one_file(&there, &second.file.metadata(rt));
+    if name == STANDARD_INPUT {
+        Some("- stands for standard input, and nothing is written to that")
+    } else if name == first.name || name == second.name || is_read {
+        Some("the output is a file that is read")
+    } else if is_one_file(&there, &fs::metadata(rt, "/proc/self/fd/1")) {
+        Some("the output is the file of standard output")
+    } else if is_one_file(&there, &fs::metadata(rt, "/proc/self/fd/2")) {
+        Some("the output is the file of standard error")
+    } else {
+        None
+    }
+}
