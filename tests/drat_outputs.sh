@@ -154,7 +154,7 @@ done
 awk 'BEGIN { n = 20000; print "p cnf", n, n + 1; print "1 0"; for (i = 1; i < n; i++) print -i, i + 1, 0; print -n, 0 }' > chain.cnf
 printf '0\n' > end
 keep l c
-(ulimit -f 16 && exec "$check" chain.cnf end --lrat l --core c) > out 2> err || true
+(ulimit -c 0 -f 16 && exec "$check" chain.cnf end --lrat l --core c) > out 2> err || true
 kept 'cut off' l c
 [[ ! -s out ]] || fault 'a verdict beside lines that are cut off'
 rm -f l.new c.new
@@ -162,6 +162,7 @@ mkfifo hold
 exec 6<> hold
 for signal in INT KILL; do
   keep l
+  rm -f l.new
   # in the background a shell has a program ignore INT
   env --default-signal=INT "$check" chain.cnf end --lrat l --core hold > out 2> err &
   run=$!
@@ -198,6 +199,7 @@ for ((tries = 0; tries < 200; tries++)); do
   [[ ! -e l.new ]] || break
   sleep 0.05
 done
+sleep 0.2
 wants 0 's VERIFIED UNSAT' '' f p --lrat l
 cat p >&7
 exec 7>&-

@@ -242,9 +242,9 @@ for signal in INT KILL; do
   timeout -s "$signal" 0.5 "$convert" f - new < <(sleep 1) > out 2> err || true
   kept lrat_to_proof "$signal"
 done
-(ulimit -f 1 && exec "$check" f p new) > out 2> err || true
+(ulimit -c 0 -f 1 && exec "$check" f p new) > out 2> err || true
 kept varisat_check cut off
-(ulimit -f 1 && exec "$convert" f l new) > out 2> err || true
+(ulimit -c 0 -f 1 && exec "$convert" f l new) > out 2> err || true
 kept lrat_to_proof cut off
 wants 1 '' $'proof: line 1: id is taken\nin ends' "$convert" f ends new
 kept lrat_to_proof refused
