@@ -7,3 +7,4 @@ pub mod StandLemmas
 pub mod FormulaLemmas
 pub mod TextLemmas
 pub mod ReadingLemmas
+pub mod NameLemmas

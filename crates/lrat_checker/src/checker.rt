@@ -1,8 +1,11 @@
 //! The checker of LRAT proofs.
-ghost use Rattle.std.specs.Prelude.{◌≡◌, ◌∷◌, ◌++◌, ◌||◌, ◌&&◌, ℕ, Bool, true, false, [], List, None, Some, Err, IfErr, IfOk, OnOk, OnErr};
+ghost use Rattle.std.specs.Prelude.{◌≡◌, ◌∷◌, ◌++◌, ◌||◌, ◌&&◌, ◌↔◌, ℕ, Bool, true, false, [], List, None, Some, Err, IfErr, IfOk, IsTrue, OnOk, OnErr};
 ghost use Rattle.sat_rules.specs.Clauses.{all_true};
+ghost use Rattle.sat_rules.specs.Named.{NamedBy};
 ghost use Rattle.lrat_rules.specs.Lines.{Line, adds_empty};
+ghost use Rattle.lrat_rules.specs.Stores.{find};
 ghost use Rattle.lrat_rules.specs.Tables.{cause_by_table, table_after};
+ghost use Rattle.piece_rules.specs.Carrying.{Carries};
 ghost use Rattle.lrat_checker.specs.Causes.{IsCause};
 ghost use Rattle.lrat_checker.specs.declared.fault.LineFault.TheVariants.{Failed};
 ghost use Rattle.lrat_checker.specs.declared.fault.LratFault.TheVariants as texts;
@@ -71,6 +74,24 @@ impl LratChecker {
             → result ≡ true → (a : ℕ → Bool) → all_true a formula ≡ true → ⊥ }
     {
         self.refuted // it stays true after a refusal
+    }
+
+    /// Whether each of these clauses is stored under the id at its place, with its literals in the
+    /// same order. Then the formula carries to them: the lines so far need not refute it.
+    ///
+    /// It is false after a line that was not accepted.
+    pub fn holds(&self, wanted: &CnfFormula, ids: &[u64]) -> bool
+        ensures stored { (formula : List (List ℕ)) (lines : List Line)
+            → (ready : IsReady formula lines self.now)
+            → IsTrue result ↔ NamedBy (find ready.accepted.store) ids.now wanted.now }
+        ensures carries { (formula : List (List ℕ)) (lines : List Line)
+            → IsReady formula lines self.now → result ≡ true → Carries formula wanted.now }
+        ensures failed { has_failed self.now ≡ true → result ≡ false }
+    {
+        if self.failed {
+            return false;
+        }
+        self.clauses.are_named(wanted, ids)
     }
 
     /// Checks one line after those of earlier calls, and does what it says.

@@ -1,7 +1,8 @@
 //! The stored clauses.
-ghost use Rattle.std.specs.Prelude.{◌≡◌, ◌==◌, ◌+◌, ◌-◌, ◌*◌, ◌≤◌, ◌^◌, ◌&&◌, ℕ, None, Some, true, false, if◌then◌else◌, is_some, length, min, nat_eq, IfOk, OnOk};
+ghost use Rattle.std.specs.Prelude.{◌≡◌, ◌↔◌, ◌==◌, ◌+◌, ◌-◌, ◌*◌, ◌≤◌, ◌^◌, ◌&&◌, ℕ, IsTrue, None, Some, true, false, if◌then◌else◌, is_some, length, min, nat_eq, IfOk, OnOk};
 ghost use Rattle.std.specs.Option.{option_copied};
 ghost use Rattle.std.specs.HashMap.{get};
+ghost use Rattle.sat_rules.specs.Named.{NamedBy};
 ghost use Rattle.lrat_rules.specs.Tables.{drop_all, drop_one, empty_table, put};
 ghost use Rattle.clause_table.specs.Near.{IsTight, has_room, near_clause, place_count};
 ghost use Rattle.clause_table.specs.Room.{gets_place, spare_places};
@@ -9,7 +10,7 @@ ghost use Rattle.lrat_checker.specs.Far.{far_clause};
 
 use crate::counts::LitCounts;
 use clause_table::{NearClauses, gets_place};
-use sat_formula::Lit;
+use sat_formula::{CnfFormula, Lit};
 use std::alloc::{AllocError, Global};
 use std::collections::HashMap;
 
@@ -67,6 +68,33 @@ impl Clauses {
         ensures { result ≡ is_some ((table_of self.now).named id) }
     {
         self.get(id).is_some()
+    }
+
+    /// Whether the ids name these clauses, one each, in this order.
+    pub(crate) fn are_named(&self, wanted: &CnfFormula, ids: &[u64]) -> bool
+        ensures { IsTrue result ↔ NamedBy (table_of self.now).named ids.now wanted.now }
+    {
+        let mut left = ids;
+        for clause in wanted {
+            let Some((id, rest)) = left.split_first() else {
+                return false;
+            };
+            if !self.is_named(*id, clause) {
+                return false;
+            }
+            left = rest;
+        }
+        left.is_empty()
+    }
+
+    /// Whether the id names this clause, its literals in this order.
+    fn is_named(&self, id: u64, clause: &[Lit]) -> bool
+        ensures { IsTrue result ↔ ((table_of self.now).named id ≡ Some clause.now) }
+    {
+        match self.get(id) {
+            Some(stored) => stored == clause,
+            None => false,
+        }
     }
 
     /// For how many literals there may be places.
