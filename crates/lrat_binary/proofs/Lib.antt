@@ -1,0 +1,6 @@
+pub mod Takings
+pub mod GroupLemmas
+pub mod DraftLemmas
+pub mod ReaderLemmas
+pub mod TellLemmas
+pub mod FirstLemmas

@@ -1,0 +1,119 @@
+-- Bytes, one after the other.
+use Rattle.std.proofs.Common.{◌≡◌, ℕ, List, [], ◌∷◌, Option, Result, Err, refl, sym, ap, ◌∙◌, subst, append-nil}
+use Rattle.std.specs.Prelude.{IsErrAnd}
+use Rattle.std.proofs.lemmas.Result.{err_from_is_err_and}
+use Rattle.std.specs.Io.KnownBytes.{Consumes, Keeps, IsAtEnd}
+use Rattle.std.proofs.KnownBytes.{Consumes-nil, Consumes-kept}
+use Rattle.sat_formula.specs.declared.source.NoByte.{NoByte}
+use Rattle.sat_formula.specs.declared.source.NoByte.TheVariants as reasons
+use Rattle.sat_formula.specs.declared.source.Source.{Source}
+use Rattle.sat_formula.specs.Outcome.{next_line}
+use Rattle.sat_formula.specs.Source.{TakesNone, IsStopped}
+use Rattle.lrat_text.specs.Taking.{Leads, EndsAll}
+use Rattle.lrat_text.specs.Texts.{Outcome, Ended, Faulty}
+use Rattle.lrat_text.specs.declared.fault.LineKind.{LineKind}
+use Rattle.lrat_text.specs.declared.fault.LineKind.TheVariants.{Unfinished}
+use Rattle.lrat_text.proofs.LineLemmas.{ends_on, leads_on}
+use Rattle.lrat_binary.specs.declared.fault.Stop.{Stop}
+use Rattle.lrat_binary.specs.declared.fault.Stop.TheVariants as stops
+use Rattle.lrat_binary.specs.declared.ids.Ids.{Ids}
+use Rattle.lrat_binary.specs.Lines.{at_end, outcome_at}
+use Rattle.lrat_binary.specs.Places.{Place, After, Goes, Stops, after}
+use Rattle.lrat_binary.specs.Reading.{goes_on}
+use Rattle.lrat_binary.specs.Stops.{stop_of}
+use Rattle.lrat_binary.specs.Taking.{Fails, Stopped, Takes, TakesWithin, by_byte, by_end}
+
+abbrev pub Known : Type 0
+Known = Option (List ℕ)
+
+abbrev pub Tells : Type 0
+Tells = List ℕ → Outcome
+
+-- nothing is taken
+pub leads_nil : (a : Known) (f : Tells) → Leads a a f f
+leads_nil a f = record { taken = []; consumed = Consumes-nil a; same = λ m. refl }
+
+pub leads_as : {a b : Known} {f g h : Tells} → Leads a b f g → ((m : List ℕ) → g m ≡ h m) → Leads a b f h
+leads_as p e = record { taken = p.taken; consumed = p.consumed; same = λ m. p.same m ∙ e m }
+
+fails_on : {a b c : Known} {f g : Tells} {number : ℕ} {kind : LineKind} → Leads a b f g → Fails b c g number kind → Fails a c f number kind
+fails_on p (by_byte q) = by_byte (leads_on p q)
+fails_on p (by_end q) = by_end (ends_on p q)
+
+pub stopped_on : {R : Type 0} {a b : Known} (c : Known) {f g : Tells} (ids : Ids) (before : ℕ) (source : Source R) (stop : Stop) →
+    Leads a b f g → Stopped ids before b c g source stop → Stopped ids before a c f source stop
+stopped_on c ids before source stops.End p q = ends_on p q
+stopped_on c ids before source stops.Read p q = (record { place = q.0.place; leads = leads_on p q.0.leads }, q.1)
+stopped_on c ids before source (stops.Wrong kind) p q = fails_on p q
+stopped_on c ids before source stops.OutOfMemory p q = tt
+
+-- ---- a byte
+
+module _ (ids : Ids) (before : ℕ) where
+  one_byte : {b c : Known} (p : Place) (x : ℕ) (d : After) → after ids p x ≡ d → Consumes b c (x ∷ []) → Leads b c (outcome_at ids before p) (goes_on ids before d)
+  unfolding outcome_at
+  one_byte p x d e h = record { taken = x ∷ []; consumed = h; same = λ m. ap (λ (d : After). goes_on ids before d m) e }
+
+  pub byte_on : {a b c : Known} {f : Tells} (p : Place) (x : ℕ) {d : After} → Leads a b f (outcome_at ids before p) → Consumes b c (x ∷ []) → after ids p x ≡ d →
+      Leads a c f (goes_on ids before d)
+  byte_on p x {d} l h e = leads_on l (one_byte p x d e h)
+
+  pub byte_goes : {a b c : Known} {f : Tells} (p : Place) {q : Place} (x : ℕ) → Leads a b f (outcome_at ids before p) → Consumes b c (x ∷ []) → after ids p x ≡ Goes q →
+      Leads a c f (outcome_at ids before q)
+  byte_goes p {q} x l h e = byte_on p x {d = Goes q} l h e
+
+  pub byte_stops : {a b c : Known} {f : Tells} (p : Place) {kind : LineKind} (x : ℕ) → Leads a b f (outcome_at ids before p) → Consumes b c (x ∷ []) → after ids p x ≡ Stops kind →
+      Fails a c f (next_line before) kind
+  byte_stops p {kind} x l h e = by_byte (byte_on p x {d = Stops kind} l h e)
+
+  -- what comes next is known
+  pub on_as : {a b : Known} {f : Tells} {d e : After} → Leads a b f (goes_on ids before d) → d ≡ e → Leads a b f (goes_on ids before e)
+  on_as l e = leads_as l (λ m. ap (λ (d : After). goes_on ids before d m) e)
+
+-- ---- no byte
+
+kept_on : {a b c : Known} {f g : Tells} → Leads a b f g → Keeps b c → Leads a c f g
+kept_on {a} {b} {c} p k = record { taken = p.taken; consumed = Consumes-kept a b c p.taken p.consumed k; same = p.same }
+
+end_here : {a b c : Known} {f g : Tells} → Leads a b f g → Keeps b c → IsAtEnd c → EndsAll a c f g
+end_here {a} {b} {c} {f} p k e = record {
+  taken = p.taken;
+  consumed = Consumes-kept a b c p.taken p.consumed k;
+  at_end = e;
+  same = ap f (sym (append-nil p.taken)) ∙ p.same [];
+}
+
+module _ (ids : Ids) (before : ℕ) (p : Place) where
+  end_at : {a b c : Known} {f : Tells} {o : Outcome} → Leads a b f (outcome_at ids before p) → Keeps b c × IsAtEnd c → at_end before p ≡ o → EndsAll a c f (λ more. o)
+  unfolding outcome_at
+  end_at l k e = let q = end_here l k.0 k.1 in record { taken = q.taken; consumed = q.consumed; at_end = q.at_end; same = q.same ∙ e }
+
+  -- the input ends where it may
+  pub no_byte : {R : Type 0} {a b : Known} (c : Known) {f : Tells} (source : Source R) (stop : Stop) → at_end before p ≡ ([], Ended) →
+      Leads a b f (outcome_at ids before p) → Takes b c source (Err stop) → Stopped ids before a c f source stop
+  no_byte c source stops.End e l t = end_at l t e
+  no_byte c source stops.Read e l t = (record { place = p; leads = kept_on l t.0 }, t.1)
+  no_byte c source (stops.Wrong kind) e l t = absurd t
+  no_byte c source stops.OutOfMemory e l t = tt
+
+  -- the input ends within a line
+  pub cut_short : {R : Type 0} {a b : Known} (c : Known) {f : Tells} (source : Source R) (stop : Stop) → at_end before p ≡ ([], Faulty (next_line before) Unfinished) →
+      Leads a b f (outcome_at ids before p) → TakesWithin b c source (Err stop) → Stopped ids before a c f source stop
+  cut_short c source stops.End e l t = absurd t
+  cut_short c source stops.Read e l t = (record { place = p; leads = kept_on l t.0 }, t.1)
+  cut_short c source (stops.Wrong kind) e l t = by_end (end_at l (t.0, t.1) (e ∙ ap (λ (k : LineKind). faulty k) (sym t.2)))
+    where
+      faulty : LineKind → Outcome
+      faulty k = ([], Faulty (next_line before) k)
+  cut_short c source stops.OutOfMemory e l t = tt
+
+-- the source gave no byte
+pub source_none : {R : Type 0} (a b : Known) (source : Source R) (reason : NoByte) → TakesNone a b reason → (reason ≡ reasons.Read → IsStopped source) → Takes a b source (Err (stop_of reason))
+source_none a b source reasons.End t stopped = (t.kept, t.at_end refl)
+source_none a b source reasons.Read t stopped = (t.kept, stopped refl)
+source_none a b source reasons.OutOfMemory t stopped = tt
+
+-- ---- the exit of a `?`
+
+pub exits : {X : Type 0} (P : Result X Stop → Type 0) (r : Result X Stop) (e : Stop) → IsErrAnd r (λ d. d ≡ e) → P (Err e) → P r
+exits P r e h p = let q = err_from_is_err_and r h in subst P (sym (q.1 ∙ ap (λ (d : Stop). Err d) q.2)) p

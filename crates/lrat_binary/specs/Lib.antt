@@ -1,0 +1,11 @@
+pub mod Stops
+pub mod Numbers
+pub mod Places
+pub mod Lines
+pub mod Taking
+pub mod Drafts
+pub mod Reading
+pub mod NextLine
+pub mod Telling
+pub mod First
+pub mod Proofs

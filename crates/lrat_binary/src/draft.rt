@@ -1,0 +1,164 @@
+//! The line that is read.
+ghost use Rattle.std.specs.Prelude.{◌≡◌};
+ghost use Rattle.lrat_binary.specs.Drafts.{slot_of, line_of, BeginsLine, TakesNumber};
+ghost use Rattle.lrat_binary.specs.Places.{begun, said};
+ghost use Rattle.lrat_binary.specs.declared.draft.Due.TheVariants as dues;
+ghost use Rattle.lrat_binary.specs.declared.ids.Ids.{Ids};
+ghost use Rattle.lrat_text.specs.NextLine.{view};
+
+use crate::fault::Stop;
+use crate::ids::Ids;
+use crate::number::{hint_said, id_said, lit_said};
+use lrat_text::{Hint, LineKind, LratLine};
+use sat_formula::Lit;
+use std::alloc::Global;
+
+/// What is due next in a line.
+#[derive(Clone, Copy)]
+pub(crate) enum Due {
+    /// The id of its clause.
+    Id,
+    /// A literal of the clause of this id, or the 0 after the last.
+    Lit(u64),
+    /// A hint of this clause, or the 0 after the last.
+    Hint(u64),
+    /// An id that is deleted, or the 0 after the last.
+    Deleted,
+}
+
+/// A line that has ended, without its lists.
+#[derive(Clone, Copy)]
+pub(crate) enum Head {
+    Add { id: u64 },
+    Delete,
+}
+
+/// What was read of a line.
+#[derive(Drop)]
+pub(crate) struct Draft {
+    due: Due,
+    lits: Vec<Lit>,
+    hints: Vec<Hint>,
+    deleted: Vec<u64>,
+}
+
+impl Draft {
+    /// No line is begun.
+    pub(crate) fn new(alloc: Global) -> Draft {
+        Draft {
+            due: Due::Id,
+            lits: Vec::new(alloc),
+            hints: Vec::new(alloc),
+            deleted: Vec::new(alloc),
+        }
+    }
+
+    /// Begins a line by its letter, in place of the line before.
+    pub(crate) fn begin(&mut self, letter: u8) -> Result<(), Stop>
+        ensures { BeginsLine self.new (begun letter) result }
+    {
+        match letter {
+            b'a' => self.due = Due::Id,
+            b'd' => {
+                self.due = Due::Deleted;
+                self.deleted.clear();
+            }
+            _ => return Err(Stop::Wrong(LineKind::Malformed)),
+        }
+        Ok(())
+    }
+
+    /// Takes the next number. The answer is the line where it has ended by it.
+    #[inline(always)]
+    pub(crate) fn take(&mut self, ids: Ids, number: u64) -> Result<Option<Head>, Stop>
+        ensures { TakesNumber self.new (said ids (slot_of self.old) number) result }
+    {
+        match self.due {
+            Due::Hint(id) => self.take_hint(id, number),
+            Due::Lit(id) => self.take_lit(id, ids, number),
+            Due::Deleted => self.take_deleted(ids, number),
+            Due::Id => self.take_id(ids, number),
+        }
+    }
+
+    /// Takes the id of a clause.
+    fn take_id(&mut self, ids: Ids, number: u64) -> Result<Option<Head>, Stop>
+        requires { self.old.due ≡ dues.Id }
+        ensures { TakesNumber self.new (said ids (slot_of self.old) number) result }
+    {
+        match id_said(ids, number) {
+            Ok(Some(id)) => {
+                self.due = Due::Lit(id);
+                self.lits.clear();
+                Ok(None)
+            }
+            Ok(None) => Err(Stop::Wrong(LineKind::Malformed)),
+            Err(kind) => Err(Stop::Wrong(kind)),
+        }
+    }
+
+    /// Takes a literal of a clause, or the 0 after the last.
+    #[inline(always)]
+    fn take_lit(&mut self, id: u64, ids: Ids, number: u64) -> Result<Option<Head>, Stop>
+        requires { self.old.due ≡ dues.Lit id }
+        ensures { TakesNumber self.new (said ids (slot_of self.old) number) result }
+    {
+        match lit_said(number) {
+            Ok(Some(lit)) => {
+                self.lits.push(lit)?;
+                Ok(None)
+            }
+            Ok(None) => {
+                self.due = Due::Hint(id);
+                self.hints.clear();
+                Ok(None)
+            }
+            Err(kind) => Err(Stop::Wrong(kind)),
+        }
+    }
+
+    /// Takes a hint, or the 0 after the last.
+    #[inline(always)]
+    fn take_hint(&mut self, id: u64, number: u64) -> Result<Option<Head>, Stop>
+        requires { self.old.due ≡ dues.Hint id }
+        ensures { (ids : Ids) → TakesNumber self.new (said ids (slot_of self.old) number) result }
+    {
+        match hint_said(number) {
+            Ok(Some(hint)) => {
+                self.hints.push(hint)?;
+                Ok(None)
+            }
+            Ok(None) => Ok(Some(Head::Add { id })),
+            Err(kind) => Err(Stop::Wrong(kind)),
+        }
+    }
+
+    /// Takes an id that is deleted, or the 0 after the last.
+    fn take_deleted(&mut self, ids: Ids, number: u64) -> Result<Option<Head>, Stop>
+        requires { self.old.due ≡ dues.Deleted }
+        ensures { TakesNumber self.new (said ids (slot_of self.old) number) result }
+    {
+        match id_said(ids, number) {
+            Ok(Some(id)) => {
+                self.deleted.push(id)?;
+                Ok(None)
+            }
+            Ok(None) => Ok(Some(Head::Delete)),
+            Err(kind) => Err(Stop::Wrong(kind)),
+        }
+    }
+
+    /// The line that has ended.
+    pub(crate) fn line(&self, head: Head) -> LratLine<'_>
+        ensures { view result ≡ line_of self.now head }
+    {
+        match head {
+            Head::Add { id } => LratLine::Add {
+                id,
+                clause: &self.lits,
+                hints: &self.hints,
+            },
+            Head::Delete => LratLine::Delete { ids: &self.deleted },
+        }
+    }
+}

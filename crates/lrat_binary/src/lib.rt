@@ -1,0 +1,20 @@
+//! LRAT proofs as solvers write them, text or binary: lines that add a clause with its hints, or
+//! delete clauses.
+#![tactic(auto)]
+
+mod binary;
+mod bytes;
+mod draft;
+mod fault;
+mod first;
+mod ids;
+mod number;
+mod proof;
+mod reader;
+mod seeing;
+mod telling;
+
+pub use first::FirstBytes;
+pub use ids::{Ids, LratForm};
+pub use proof::{LratReader, open_proof};
+pub use reader::BinaryReader;
