@@ -321,8 +321,10 @@ groups failing 1 '' 'proof: line 2: hints of a group end without a conflict' '5 
 # what holds the negation is deleted, so no group is needed, and one that is there is not read
 groups of_no_clause 0 's VERIFIED UNSAT' '' '5 3 1 0 0' '5 d 5 0' '6 -3 -1 0 -5 9 0' '7 1 0 1 2 0' '8 0 7 3 4 0'
 
-# files that are no LRAT text: nothing, binary LRAT, DRAT text, compressed text, a formula, a byte order mark
-printf 'a\x0a\x02\x00\x02\x04\x00' > "$work/files/binary.lrat"
+# files that are no LRAT text: nothing, binary LRAT of either form of ids, binary DRAT, DRAT text, compressed text, a formula, a byte order mark
+printf 'a\x0a\x02\x00\x02\x04\x00a\x0c\x00\x0a\x06\x08\x00' > "$work/files/doubled.lrat"
+printf 'a\x05\x02\x00\x02\x04\x00a\x06\x00\x0a\x06\x08\x00' > "$work/files/plain.lrat"
+printf 'a\x02\x00a\x00' > "$work/files/binary.drat"
 printf '1 0\nd 1 2 0\n0\n' > "$work/files/drat.lrat"
 printf '5 1 0 1 2 0\n' | gzip -n > "$work/files/compressed.lrat"
 printf '\xef\xbb\xbf5 1 0 1 2 0\n' > "$work/files/mark.lrat"
@@ -335,7 +337,11 @@ for file in mark.lrat malformed.lrat; do
   refused "read_${file%.*}" "$file" 'proof: line 1: malformed line' four.cnf "$file"
 done
 expect read_four 1 '' $'proof: line 1: malformed line\nfour.cnf begins as a formula\narguments in the wrong order?' four.cnf four.cnf
-begun_as read_binary binary.lrat 'binary LRAT or binary DRAT' 'proof: line 1: malformed line' four.cnf binary.lrat
+expect read_plain 0 's VERIFIED UNSAT' '' four.cnf plain.lrat
+expect read_doubled 0 's VERIFIED UNSAT' '' four.cnf doubled.lrat
+expect read_doubled_ids 0 's VERIFIED UNSAT' '' --ids doubled four.cnf doubled.lrat
+begun_as read_other_ids plain.lrat 'binary LRAT or binary DRAT' 'proof: line 1: malformed line' --ids=doubled four.cnf plain.lrat
+begun_as read_binary_drat binary.drat 'binary LRAT or binary DRAT' 'proof: line 1: id is taken' four.cnf binary.drat
 begun_as read_drat drat.lrat 'DRAT text' 'proof: line 1: malformed line' four.cnf drat.lrat
 begun_as read_compressed compressed.lrat 'a gzip file' 'proof: line 1: malformed line' four.cnf compressed.lrat
 # a formula may begin as DRAT text does
@@ -346,11 +352,12 @@ refused malformed_formula malformed.cnf 'formula: line 2: bad number' malformed.
 refused folder / 'formula: error reading formula: Is a directory (os error 21)' / par10.lrat
 refused folder_as_proof / 'proof: error reading proof: Is a directory (os error 21)' four.cnf /
 refused unreadable_proof /proc/self/mem 'proof: error reading proof: Input/output error (os error 5)' four.cnf /proc/self/mem
-misused no_arguments 'no file is named for CNF' 'lrat_check CNF LRAT'
+misused no_arguments 'no file is named for CNF' 'lrat_check CNF LRAT [--ids WAY]'
 expect example 0 's VERIFIED UNSAT' '' --example
 expect version 0 'lrat_check 0.3.0 (varisat-checker 0.2.2)' '' --version
-misused one_argument 'no file is named for LRAT' 'lrat_check CNF LRAT' four.cnf
-misused three_arguments 'a file too many: more.lrat' 'lrat_check CNF LRAT' four.cnf par10.lrat more.lrat
+misused one_argument 'no file is named for LRAT' 'lrat_check CNF LRAT [--ids WAY]' four.cnf
+misused three_arguments 'a file too many: more.lrat' 'lrat_check CNF LRAT [--ids WAY]' four.cnf par10.lrat more.lrat
+misused other_ids '--ids takes plain or doubled' 'lrat_check CNF LRAT [--ids WAY]' --ids odd four.cnf par10.lrat
 expect missing_formula 2 '' $'cannot open absent.cnf\nNo such file or directory (os error 2)' absent.cnf absent.lrat
 expect missing_proof 2 '' $'cannot open absent.lrat\nNo such file or directory (os error 2)' malformed.cnf absent.lrat
 run_cases lrat_check_main

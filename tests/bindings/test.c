@@ -182,11 +182,13 @@ int main(int count, char **names) {
     const char *good = "5 1 0 1 2 0\n6 0 5 3 4 0\n";
     const char *open_end = "5 1 0 1 2 0\n";
     const char *bad = "5 1 0 1 2 0\n6 0 5 3 0\n";
+    const char binary[] = "a\5\2\0\2\4\0a\6\0\12\6\10"; /* its last 0 is the end of the string */
     const char *cause = "proof: line 2: hints end without a conflict";
     char room[80];
     size_t cnf_len = strlen(cnf);
 
     expect("good", cefindrato_check(cnf, cnf_len, good, strlen(good), room, sizeof room), CEFINDRATO_VERIFIED, "", room);
+    expect("binary", cefindrato_check(cnf, cnf_len, binary, sizeof binary, room, sizeof room), CEFINDRATO_VERIFIED, "", room);
     expect("open", cefindrato_check(cnf, cnf_len, open_end, strlen(open_end), room, sizeof room), CEFINDRATO_NOT_VERIFIED,
            "", room);
     expect("bad", cefindrato_check(cnf, cnf_len, bad, strlen(bad), room, sizeof room), CEFINDRATO_FAULT, cause, room);

@@ -62,6 +62,7 @@ def of_bytes(cnf_name, text):
         assert cefindrato.check(kind(b""), kind(b"")) is False
     held = bytearray(FOUR)
     assert cefindrato.check(held, b"5 1 0 1 2 0\n6 0 5 3 4 0\n") is True
+    assert cefindrato.check(held, b"a\x05\x02\0\x02\x04\0a\x06\0\x0a\x06\x08\0") is True
     held.extend(b" ")
     for wrong in (FOUR.decode(), 5, None, [1], memoryview(FOUR)[::2]):
         try:

@@ -1,5 +1,6 @@
-"""Tries random and damaged LRAT texts on the programs, and on checkers with faults that must be noticed."""
+"""Tries random and damaged LRAT, text and binary, on the programs, and on checkers with faults that must be noticed."""
 import argparse
+import itertools
 import random
 import subprocess
 import sys
@@ -7,6 +8,7 @@ import tempfile
 from concurrent.futures import ThreadPoolExecutor
 from pathlib import Path
 
+import binary
 import rules
 import texts
 
@@ -15,6 +17,7 @@ VERIFIED = "s VERIFIED UNSAT\n"
 OPEN = "s NOT VERIFIED\n"
 SHOWN = "s UNSATISFIABLE\n"
 NOT_SHOWN = "s NOT SHOWN\n"
+PREFIXES = (64, 256, 1024, 4096, 65536)
 
 
 def built(name):
@@ -52,12 +55,14 @@ class Programs:
 
     def differences(self, seed):
         """What the programs say of a text that they must not say."""
-        formula, text = texts.random_case(random.Random(seed))
+        rng = random.Random(seed)
+        formula, text = texts.random_case(rng)
         with tempfile.TemporaryDirectory() as folder:
             cnf, lrat, proof = (Path(folder) / name for name in ("cnf", "lrat", "proof"))
             cnf.write_text(dimacs(formula))
             lrat.write_bytes(text)
             found = list(self.compare(formula, text, cnf, lrat, proof))
+            found += self.compare_binary(rng, formula, text, cnf, lrat)
         return [f"seed {seed}: {what}" for what in found]
 
     def compare(self, formula, text, cnf, lrat, proof):
@@ -82,6 +87,48 @@ class Programs:
         expected = (0, SHOWN, "") if wanted.status == 0 else (3, NOT_SHOWN, "")
         if agreeing and shown != expected:
             yield f"varisat_check does not agree with {checked}: {shown}"
+
+
+    def compare_binary(self, rng, formula, text, cnf, lrat):
+        """The same of the text's lines as binary ones, some of them damaged: the form of the ids is given, and told."""
+        lines = [read for _, read in rules.lines_of(text)]
+        doubled = rng.random() < 0.5
+        data = binary.written([read for read in lines if read != "unread"], doubled)
+        if data and rng.random() < 0.4:
+            data = binary.damaged(rng, data)
+        lrat.write_bytes(data)
+        told = binary.are_doubled(data, len(formula))
+        for way, words in ((doubled, ["--ids", "doubled" if doubled else "plain"]), (told, [])):
+            if binary.is_binary(data):
+                right = rules.judge(formula, data, read_lines=lambda data: binary.lines_of(data, way))
+            else:
+                right = rules.judge(formula, data)
+            checked = run(self.check, *words, cnf, lrat)
+            if "VERIFIED UNSAT" in checked[1] and texts.is_satisfiable(formula):
+                yield f"lrat_check {words} has a verdict over a satisfiable formula on {data}: {checked}"
+            if not is_as(right, checked, {0: VERIFIED, 3: OPEN}):
+                yield f"lrat_check {words} must answer {right} to {data}: {checked}"
+
+
+def read_formula(path):
+    return [[int(word) for word in line.split()[:-1]] for line in path.read_text().splitlines() if line[:1] not in "cp"]
+
+
+def prefix_differences(check):
+    """What `lrat_check` must not say of beginnings of the texts of solvers, as binary lines of either form."""
+    for path in sorted((TOP / "tests" / "data").glob("*.lrat")):
+        cnf = path.with_suffix(".cnf")
+        formula = read_formula(cnf)
+        lines = [read for _, read in rules.lines_of(path.read_bytes())]
+        for doubled, size in itertools.product((False, True), PREFIXES):
+            data = binary.written(lines, doubled)[:size]
+            right = rules.judge(formula, data, read_lines=lambda data: binary.lines_of(data, doubled))
+            with tempfile.NamedTemporaryFile() as lrat:
+                lrat.write(data)
+                lrat.flush()
+                checked = run(check, cnf, lrat.name)
+            if not is_as(right, checked, {0: VERIFIED, 3: OPEN}):
+                yield f"{path.name}, {'doubled' if doubled else 'plain'}, {size} bytes: lrat_check must answer {right}: {checked}"
 
 
 def unnoticed(fault, count):
@@ -110,6 +157,9 @@ def main():
         words.lrat_to_proof or built("lrat_to_proof"),
         words.varisat_check or built("varisat_check"),
     )
+    for what in prefix_differences(programs.check):
+        print(f"WRONG {what}")
+        wrong += 1
     with ThreadPoolExecutor() as pool:
         for found in pool.map(programs.differences, range(words.first, words.first + words.texts)):
             for what in found:

@@ -150,13 +150,13 @@ def check_groups(held, true, clause, groups, fault):
         raise Refused("no group for a clause with the negation of the first literal")
 
 
-def judge(formula, text, fault=None):
+def judge(formula, text, fault=None, read_lines=lines_of):
     """What `lrat_check` must answer."""
     held = dict(enumerate(formula, 1))
     redundant = False
     if [] in formula:
         return Answer(0)
-    for number, read in lines_of(text):
+    for number, read in read_lines(text):
         if read == "unread":
             return Answer(1, number, None, redundant)
         if len(read) == 1:

@@ -5,7 +5,7 @@
     cefindrato.check_unsat("formula.cnf", "proof.lrat", kind="lrat")
     cefindrato.check_sat([[1, 2], [-1, 3]], [1, -2, 3])                          # a model, as PySAT's get_model() gives it
 
-These two run the proved programs, over files, texts or lists. In this process, by the library, `check` checks an LRAT text against a
+These two run the proved programs, over files, texts or lists. In this process, by the library, `check` checks an LRAT proof against a
 formula's text, `check_drat` a DRAT or FRAT proof, and `check_model` a solver's answer. `Running` checks a proof that is still being
 written. A Fault says why there is no verdict.
 """

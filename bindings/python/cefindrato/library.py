@@ -118,7 +118,7 @@ def _is_verified(answer, room) -> bool:
 
 
 def check(cnf: Text, proof: Text) -> bool:
-    """Whether the LRAT text shows that no assignment satisfies the formula; a Fault where it is refused."""
+    """Whether the LRAT proof, text or binary, shows that no assignment satisfies the formula; a Fault where it is refused."""
     room = ctypes.create_string_buffer(_ROOM)
     with _held(cnf) as formula, _held(proof) as lines:
         answer = _library().cefindrato_lrat_check(*formula, *lines, ctypes.addressof(room), _ROOM)

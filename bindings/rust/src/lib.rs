@@ -96,7 +96,7 @@ pub struct DratAnswer {
     pub core: Option<Vec<u8>>,
 }
 
-/// Checks an LRAT text against a DIMACS text.
+/// Checks an LRAT proof, text or binary, against a DIMACS text.
 pub fn check(cnf: &[u8], proof: &[u8]) -> Result<Verdict, Fault> {
     let mut room = library::text_room();
     let answer = library::lrat_check(cnf, proof, &mut room);

@@ -1,5 +1,5 @@
 //! LRAT proofs.
-ghost use Rattle.std.specs.Prelude.{◌≡◌, ℕ, IfOk, List, Result, Some};
+ghost use Rattle.std.specs.Prelude.{◌≡◌, ℕ, IfOk, List, None, Result, Some};
 ghost use Rattle.sat_formula.specs.Refuted.{IsRefuted};
 ghost use Rattle.lrat_check.specs.Runs.{IsCheckRun};
 ghost use Rattle.c_library.specs.Rooms.{IsNothing, IsPlaced};
@@ -24,8 +24,8 @@ pub struct LratAnswer {
     pub text: Placed,
 }
 
-/// Checks an LRAT text against a DIMACS text. Where the status is 0, no assignment satisfies the
-/// clauses of the formula's text.
+/// Checks an LRAT proof, text or binary, against a DIMACS text. Where the status is 0, no
+/// assignment satisfies the clauses of the formula's text.
 ///
 /// `text` gets a fault's text, and nothing beside a verdict.
 #[unsafe(no_mangle)]
@@ -37,11 +37,11 @@ pub extern "C" fn cefindrato_lrat_check(
 ) -> LratAnswer
     ensures refutes { result.status ≡ 0 → IsRefuted cnf.now }
     ensures run { (r : Result Verdict RunFault)
-        × IsCheckRun (Some cnf.now) (Some proof.now) r × (result.status ≡ lrat_status r)
+        × IsCheckRun None (Some cnf.now) (Some proof.now) r × (result.status ≡ lrat_status r)
         × IfOk r (λ verdict. IsNothing text.old text.new result.text) }
     ensures text { (said : List ℕ) × IsPlaced said text.old text.new result.text }
 {
-    let outcome = run_check(alloc, cnf, proof, &mut sink(), &mut None);
+    let outcome = run_check(alloc, cnf, proof, None, &mut sink(), &mut None);
     answer_to(alloc, &outcome, text)
 }
 

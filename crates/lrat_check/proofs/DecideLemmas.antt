@@ -1,4 +1,4 @@
--- What the checker's answer says of the whole text of a proof.
+-- What the checker's answer says of a whole proof.
 use Rattle.std.proofs.Common.{◌≡◌, ℕ, Bool, true, false, List, [], ◌∷◌, ◌++◌, Option, Some, None, Result, Ok, Err, refl, sym, ap, ◌∙◌, append_assoc}
 use Rattle.std.specs.Prelude.{◌||◌, IfSome}
 use Rattle.sat_rules.specs.Named.{Item}
@@ -8,7 +8,8 @@ use Rattle.lrat_rules.specs.Refusals.{cause_of_line}
 use Rattle.lrat_rules.specs.Stores.{formula_store}
 use Rattle.lrat_rules.proofs.Refusing.{causes_exact}
 use Rattle.lrat_rules.proofs.Running.{runs_join}
-use Rattle.lrat_text.specs.Texts.{Outcome, outcome_of}
+use Rattle.lrat_text.specs.Texts.{Outcome}
+use Rattle.lrat_binary.specs.declared.ids.Ids.{Ids}
 use Rattle.lrat_checker.specs.Causes.{cause_of}
 use Rattle.lrat_checker.specs.Standing.{HasAccepted, has_refuted}
 use Rattle.lrat_checker.specs.TextAnswers.{said}
@@ -16,6 +17,7 @@ use Rattle.lrat_checker.proofs.StandLemmas.{or_assoc}
 use Rattle.lrat_checker.specs.declared.checker.LratChecker.{LratChecker}
 use Rattle.lrat_checker.specs.declared.fault.LratFault.{LratFault}
 use Rattle.lrat_checker.specs.declared.fault.LratFault.TheVariants as lrat
+use Rattle.lrat_check.specs.Answers.{proof_says}
 use Rattle.lrat_check.specs.Runs.{Decides, Refutes, shows}
 
 said-append : (ls ms : List (ℕ × Line)) → said (ls ++ ms) ≡ said ls ++ said ms
@@ -30,7 +32,7 @@ refused_ends st l ls k e = go (accepts st l) refl
     go false is = rw is refl
     go true is = let none = (causes_exact st l).1 is in absurd cc
 
-module _ (formula : List (List ℕ)) where
+module _ (ids : Option Ids) (formula : List (List ℕ)) where
   -- lines that were accepted, and those after them
   found : (lines later : List (ℕ × Line)) (c : LratChecker) (p : HasAccepted formula (said lines) c)
       → is_refuted formula (said (lines ++ later)) ≡ (has_refuted c || refutes p.store (said later))
@@ -40,7 +42,7 @@ module _ (formula : List (List ℕ)) where
       ∙ or_assoc (has_empty formula) (refutes (formula_store formula) (said lines)) (refutes p.store (said later))
       ∙ ap (λ b. b || refutes p.store (said later)) (sym p.refuted)
 
-  shows-of : (text : List ℕ) (o : Outcome) → outcome_of text ≡ o → shows formula text ≡ is_refuted formula (said o.0)
+  shows-of : (text : List ℕ) (o : Outcome) → proof_says ids formula text ≡ o → shows ids formula text ≡ is_refuted formula (said o.0)
   shows-of text o e = ap (λ (p : Outcome). is_refuted formula (said p.0)) e
 
   -- the formula has the empty clause, or one of the lines that were accepted adds it
@@ -56,7 +58,7 @@ module _ (formula : List (List ℕ)) where
       ∙ ap (λ b. b || refutes p.store (line ∷ said later)) e
       ∙ refused_ends p.store line (said later) k refused
 
-  decides : (text : List ℕ) (r : Result Bool LratFault) → Refutes formula (Some text) r → Decides formula text r
+  decides : (text : List ℕ) (r : Result Bool LratFault) → Refutes ids formula (Some text) r → Decides ids formula text r
   decides text (Ok true) p =
       let a = p.answer in
       shows-of text _ a.text.1 ∙ shows-refuted a.lines a.text.0.0 p.checker a.ready.accepted (sym a.answer)
@@ -74,6 +76,6 @@ module _ (formula : List (List ℕ)) where
   decides text (Err lrat.OutOfMemory) p = tt
   decides text (Err lrat.Failed) p = tt
 
-  pub decided : (known : Option (List ℕ)) (r : Result Bool LratFault) → Refutes formula known r → IfSome known (λ text. Decides formula text r)
+  pub decided : (known : Option (List ℕ)) (r : Result Bool LratFault) → Refutes ids formula known r → IfSome known (λ text. Decides ids formula text r)
   decided None r p = tt
   decided (Some text) r p = decides text r p

@@ -1,2 +1,4 @@
+pub mod ReadLemmas
+pub mod LineLemmas
 pub mod DecideLemmas
 pub mod RunLemmas

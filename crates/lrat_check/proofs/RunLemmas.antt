@@ -1,16 +1,27 @@
 -- Runs, by what the checker answers.
---     refutes_by      the checker's answer
+--     refuted_at_once, not_opened, refuted_in      the checker's answer
 --     formula_refuted      a formula that is refuted
---     verdict_decided, fault_decided      what a verdict and a fault say of the proof's text
-use Rattle.std.proofs.Common.{◌≡◌, ℕ, Bool, true, false, List, [], Option, Some, None, Result, Ok, Err, refl, sym, ap, ◌∙◌}
-use Rattle.std.specs.Prelude.{IfSome, OnErr}
+--     verdict_decided, fault_decided      what a verdict and a fault say of the proof
+use Rattle.std.proofs.Common.{◌≡◌, ℕ, ◌-◌, Bool, true, false, List, [], ◌∷◌, ◌++◌, length, take, Option, Some, None, Result, Ok, Err, refl, sym, ap, ◌∙◌, arith}
+use Rattle.std.specs.Prelude.{IfSome, OnErr, ◌^◌, min, if◌then◌else◌}
 use Rattle.sat_rules.specs.Clauses.{all_true}
+use Rattle.lrat_rules.specs.Lines.{Line}
 use Rattle.lrat_rules.proofs.Running.{runs_refute}
-use Rattle.lrat_checker.specs.Standing.{has_refuted}
-use Rattle.lrat_checker.specs.TextAnswers.{IsTextAnswer, said}
+use Rattle.lrat_text.specs.Texts.{Ended, Ending, Faulty, Outcome}
+use Rattle.lrat_text.specs.declared.fault.LratTextFault.{LratTextFault}
+use Rattle.lrat_text.specs.declared.fault.LratTextFault.TheVariants as reads
+use Rattle.lrat_binary.specs.Proofs.{IsNoLine, outcome_in}
+use Rattle.lrat_binary.specs.Telling.{form_of, ids_by, is_binary, next_id, told_before}
+use Rattle.lrat_binary.specs.declared.ids.Ids.{Ids}
+use Rattle.lrat_binary.specs.declared.ids.LratForm.{LratForm}
+use Rattle.lrat_binary.specs.declared.ids.LratForm.TheVariants as forms
+use Rattle.lrat_checker.specs.Faults.{of_text}
+use Rattle.lrat_checker.specs.Standing.{IsReady, has_refuted}
+use Rattle.lrat_checker.specs.TextAnswers.{said}
 use Rattle.lrat_checker.specs.declared.checker.LratChecker.{LratChecker}
 use Rattle.lrat_checker.specs.declared.fault.LratFault.{LratFault}
 use Rattle.lrat_checker.specs.declared.fault.LratFault.TheVariants as lrat
+use Rattle.lrat_check.specs.Answers.{BeginsWith, IsLratAnswer, SaysAll, proof_says}
 use Rattle.lrat_check.specs.Runs.{Decides, IsDecided, Refutes}
 use Rattle.verdicts.specs.Verdicts.{verdict_of}
 use Rattle.lrat_check.specs.declared.fault.RunFault.TheVariants.{Proof}
@@ -21,33 +32,105 @@ use Rattle.lrat_check.proofs.DecideLemmas.{decided}
 abbrev Known : Type 0
 Known = Option (List ℕ)
 
-pub refutes_by : (formula : List (List ℕ)) (known : Known) (checker : LratChecker) (r : Result Bool LratFault) → IsTextAnswer true known formula [] checker r → OnErr r (has_refuted checker ≡ false)
-    → Refutes formula known r
-refutes_by formula known checker (Ok refuted) p q = record { checker = checker; answer = p; stops = q }
-refutes_by formula known checker (Err (lrat.Read cause)) p q = record { checker = checker; answer = p; stops = q }
-refutes_by formula known checker (Err (lrat.Unread line kind)) p q = record { checker = checker; answer = p; stops = q }
-refutes_by formula known checker (Err (lrat.Refused line cause)) p q = record { checker = checker; answer = p; stops = q }
-refutes_by formula known checker (Err lrat.OutOfMemory) p q = tt
-refutes_by formula known checker (Err lrat.Failed) p q = absurd p
+-- ---- in the form that the bytes tell
 
-module _ (formula : List (List ℕ)) (known : Known) where
+next_capped : (n : ℕ) → next_id (min n (2 ^ 64 - 1)) ≡ next_id n
+next_capped n = omega arith
+
+ids_alike : (ids : Option Ids) (n m : ℕ) (first : List ℕ) → next_id n ≡ next_id m → ids_by ids n first ≡ ids_by ids m first
+ids_alike (Some i) n m first e = refl
+ids_alike None n m first e = ap (λ (k : ℕ). told_before k first) e
+
+forms_alike : (ids : Option Ids) (n m : ℕ) (bytes : List ℕ) → next_id n ≡ next_id m → form_of ids n bytes ≡ form_of ids m bytes
+forms_alike ids n m bytes e = ap (λ (i : Ids). if is_binary (take 4096 bytes) then forms.Binary i else forms.Text) (ids_alike ids n m (take 4096 bytes) e)
+
+-- what the bytes say is what they say in the form in which they are read
+says_so : (ids : Option Ids) (formula : List (List ℕ)) (count : ℕ) (form : LratForm) (known : Known) → count ≡ min (length formula) (2 ^ 64 - 1) →
+    IfSome known (λ bytes. form ≡ form_of ids count bytes) → IfSome known (λ bytes. proof_says ids formula bytes ≡ outcome_in form bytes)
+says_so ids formula count form None counted is = tt
+says_so ids formula count form (Some bytes) counted is =
+    let same : next_id count ≡ next_id (length formula) = ap next_id counted ∙ next_capped (length formula) in
+    ap (λ (f : LratForm). outcome_in f bytes) (sym (is ∙ forms_alike ids count (length formula) bytes same))
+
+module _ (f g : List ℕ → Outcome) (formula : List (List ℕ)) (c : LratChecker) where
+  all_as : (known : Known) (ls : List (ℕ × Line)) (e : Ending) → IfSome known (λ bytes. g bytes ≡ f bytes) → SaysAll f known ls e → SaysAll g known ls e
+  all_as None ls e same p = tt
+  all_as (Some bytes) ls e same p = same ∙ p
+
+  begins_as : (known : Known) (ls : List (ℕ × Line)) → IfSome known (λ bytes. g bytes ≡ f bytes) → BeginsWith f known ls → BeginsWith g known ls
+  begins_as None ls same p = (p.0, tt)
+  begins_as (Some bytes) ls same p = (p.0, same ∙ p.1)
+
+  answer_as : (known : Known) → IfSome known (λ bytes. g bytes ≡ f bytes) → (r : Result Bool LratFault) → IsLratAnswer f known formula c r → IsLratAnswer g known formula c r
+  answer_as known same (Ok true) p = record { lines = p.lines; text = begins_as known p.lines same p.text; ready = p.ready; answer = p.answer }
+  answer_as known same (Ok false) p = record { lines = p.lines; text = all_as known p.lines Ended same p.text; ready = p.ready; answer = p.answer }
+  answer_as known same (Err (lrat.Read cause)) p = record { lines = p.lines; text = begins_as known p.lines same p.text; accepted = p.accepted }
+  answer_as known same (Err (lrat.Unread line kind)) p = record { lines = p.lines; text = all_as known p.lines (Faulty line kind) same p.text; accepted = p.accepted }
+  answer_as known same (Err (lrat.Refused line cause)) p =
+      record { lines = p.lines; line = p.line; text = begins_as known (p.lines ++ (line, p.line) ∷ []) same p.text; accepted = p.accepted; refused = p.refused }
+  answer_as known same (Err lrat.OutOfMemory) p = record { lines = p.lines; text = begins_as known p.lines same p.text; accepted = p.accepted }
+  answer_as known same (Err lrat.Failed) p = p
+
+refutes_by : (ids : Option Ids) (formula : List (List ℕ)) (known : Known) (checker : LratChecker) (r : Result Bool LratFault) → IsLratAnswer (proof_says ids formula) known formula checker r →
+    OnErr r (has_refuted checker ≡ false) → Refutes ids formula known r
+refutes_by ids formula known checker (Ok refuted) p q = record { checker = checker; answer = p; stops = q }
+refutes_by ids formula known checker (Err (lrat.Read cause)) p q = record { checker = checker; answer = p; stops = q }
+refutes_by ids formula known checker (Err (lrat.Unread line kind)) p q = record { checker = checker; answer = p; stops = q }
+refutes_by ids formula known checker (Err (lrat.Refused line cause)) p q = record { checker = checker; answer = p; stops = q }
+refutes_by ids formula known checker (Err lrat.OutOfMemory) p q = tt
+refutes_by ids formula known checker (Err lrat.Failed) p q = absurd p
+
+module _ (ids : Option Ids) (formula : List (List ℕ)) (known : Known) (c : LratChecker) where
+  -- the formula has the empty clause
+  pub refuted_at_once : IsReady formula [] c → has_refuted c ≡ true → Refutes ids formula known (Ok true)
+  refuted_at_once ready is = record {
+    checker = c;
+    answer = record { lines = []; text = begins known; ready = ready; answer = sym is };
+    stops = tt;
+  }
+    where
+      begins : (k : Known) → BeginsWith (proof_says ids formula) k []
+      begins None = (([], Ended), tt)
+      begins (Some bytes) = (proof_says ids formula bytes, refl)
+
+  -- the first bytes could not be read
+  pub not_opened : (fault : LratTextFault) → IsNoLine fault → IsReady formula [] c → has_refuted c ≡ false → Refutes ids formula known (Err (of_text fault))
+  not_opened (reads.Read cause) is ready stops = record {
+    checker = c;
+    answer = record { lines = []; text = begins known; accepted = ready.accepted };
+    stops = stops;
+  }
+    where
+      begins : (k : Known) → BeginsWith (proof_says ids formula) k []
+      begins None = (([], Ended), tt)
+      begins (Some bytes) = (proof_says ids formula bytes, refl)
+  not_opened (reads.Line n kind) is ready stops = absurd is
+  not_opened reads.OutOfMemory is ready stops = tt
+
+  -- the lines were read in a form
+  pub refuted_in : (count : ℕ) (form : LratForm) → count ≡ min (length formula) (2 ^ 64 - 1) → IfSome known (λ bytes. form ≡ form_of ids count bytes) →
+      (r : Result Bool LratFault) → IsLratAnswer (outcome_in form) known formula c r → OnErr r (has_refuted c ≡ false) → Refutes ids formula known r
+  refuted_in count form counted is r answer stops =
+      refutes_by ids formula known c r (answer_as (outcome_in form) (proof_says ids formula) formula c known (says_so ids formula count form known counted is) r answer) stops
+
+module _ (ids : Option Ids) (formula : List (List ℕ)) (known : Known) where
   not_true : (b : Bool) → (b ≡ true → ⊥) → b ≡ false
   not_true true h = absurd (h refl)
   not_true false h = refl
 
-  pub formula_refuted : (refuted : Bool) → Refutes formula known (Ok refuted) → verdict_of refuted ≡ Verified → (a : ℕ → Bool) → all_true a formula ≡ false
+  pub formula_refuted : (refuted : Bool) → Refutes ids formula known (Ok refuted) → verdict_of refuted ≡ Verified → (a : ℕ → Bool) → all_true a formula ≡ false
   formula_refuted false p e a = absurd cc
   formula_refuted true p e a =
       let run = p.answer in
       not_true (all_true a formula) (runs_refute formula (said run.lines) (sym (run.answer ∙ run.ready.accepted.refuted)) a)
 
   -- a verdict that was written, or not
-  pub verdict_decided : (refuted : Bool) (verdict : Verdict) → verdict ≡ verdict_of refuted → Refutes formula known (Ok refuted) → IfSome known (λ text. IsDecided formula text (Ok verdict))
-  verdict_decided refuted verdict is p = by known (decided formula known (Ok refuted) p)
+  pub verdict_decided : (refuted : Bool) (verdict : Verdict) → verdict ≡ verdict_of refuted → Refutes ids formula known (Ok refuted) → IfSome known (λ text. IsDecided ids formula text (Ok verdict))
+  verdict_decided refuted verdict is p = by known (decided ids formula known (Ok refuted) p)
     where
-      by : (k : Known) → IfSome k (λ text. Decides formula text (Ok refuted)) → IfSome k (λ text. IsDecided formula text (Ok verdict))
+      by : (k : Known) → IfSome k (λ text. Decides ids formula text (Ok refuted)) → IfSome k (λ text. IsDecided ids formula text (Ok verdict))
       by None h = tt
       by (Some text) h = is ∙ ap verdict_of (sym h)
 
-  pub fault_decided : (fault : LratFault) → Refutes formula known (Err fault) → IfSome known (λ text. IsDecided formula text (Err (Proof fault)))
-  fault_decided fault p = decided formula known (Err fault) p
+  pub fault_decided : (fault : LratFault) → Refutes ids formula known (Err fault) → IfSome known (λ text. IsDecided ids formula text (Err (Proof fault)))
+  fault_decided fault p = decided ids formula known (Err fault) p

@@ -1,16 +1,36 @@
-//! The clauses of a formula, given to the checker as they are read.
+//! The clauses of a formula, given to the checker, and how many there are.
 ghost use Rattle.std.specs.Prelude.{ℕ, List, IfErr, IfOk};
 ghost use Rattle.std.specs.Option.{option_map};
 ghost use Rattle.sat_formula.specs.Lines.{outcome_of};
 ghost use Rattle.sat_formula.specs.Outcome.{Ended};
 ghost use Rattle.sat_formula.specs.Whole.{FailsAfter, IsOutcome};
-ghost use Rattle.lrat_checker.specs.Standing.{HoldsFormula};
+ghost use Rattle.lrat_check.specs.Held.{HoldsCounted};
 ghost use Rattle.whole_formulas.specs.Lies.{TellsLie};
 
 use lrat_checker::LratFormula;
-use sat_formula::{DimacsFault, DimacsReader, LyingHeader};
-use std::alloc::Global;
+use sat_formula::{CnfFormula, DimacsFault, DimacsReader, LyingHeader};
+use std::alloc::{AllocError, Global};
 use std::io::Read;
+
+/// The clauses of a formula, given to the checker.
+#[derive(Drop)]
+pub(crate) struct Held {
+    pub(crate) clauses: LratFormula,
+    /// How many there are. The number stays at `u64::MAX`.
+    pub(crate) count: u64,
+}
+
+impl Held {
+    /// The clauses of a formula that stands in memory.
+    pub(crate) fn of(alloc: Global, formula: &CnfFormula) -> Result<Held, AllocError>
+        ensures { IfOk result (λ held. HoldsCounted formula.now held) }
+    {
+        Ok(Held {
+            clauses: LratFormula::of(alloc, formula)?,
+            count: formula.len() as u64,
+        })
+    }
+}
 
 /// The clauses of a text in DIMACS CNF, the whole of it, or its first fault. They stand here alone.
 /// `lie` tells what the header lies about; after a fault that is nothing.
@@ -18,10 +38,10 @@ pub(crate) fn read_held<F: Read + Drop>(
     alloc: Global,
     cnf: F,
     lie: &mut Option<LyingHeader>,
-) -> Result<LratFormula, DimacsFault>
+) -> Result<Held, DimacsFault>
     ensures whole { IfOk result (λ held. (formula : List (List ℕ))
         × IsOutcome (option_map outcome_of (F.remaining cnf)) (formula, Ended)
-        × HoldsFormula formula held) }
+        × HoldsCounted formula held) }
     ensures fault { IfErr result (λ fault. (clauses : List (List ℕ))
         × FailsAfter (option_map outcome_of (F.remaining cnf)) clauses fault) }
     ensures lie { TellsLie (F.remaining cnf) result lie.new }
@@ -39,5 +59,8 @@ pub(crate) fn read_held<F: Read + Drop>(
         }
     }
     *lie = reader.lying_header();
-    Ok(held)
+    Ok(Held {
+        clauses: held,
+        count: reader.clause_count(),
+    })
 }

@@ -4,14 +4,16 @@ ghost use Rattle.std.specs.Io.KnownBytes.{Appends};
 ghost use Rattle.sat_rules.specs.Clauses.{all_true};
 ghost use Rattle.sat_formula.specs.Refuted.{IsRefuted};
 ghost use Rattle.whole_writes.specs.Beginnings.{AppendsBeginning};
-ghost use Rattle.lrat_checker.specs.Standing.{HoldsFormula};
-ghost use Rattle.lrat_check.specs.Runs.{BeginsLine, BeginsLineAfter, IsCheckRun, IsDecided, IsProofRun, IsRefusedRun, IsUnwritten, Refutes, RunTellsLie};
+ghost use Rattle.lrat_check.specs.Held.{HoldsCounted};
+ghost use Rattle.lrat_check.specs.Runs.{BeginsLine, BeginsLineAfter, IsCheckRun, IsDecided, IsProofRun, IsRefusedRun, IsUnwritten, RunTellsLie};
 ghost use Rattle.verdicts.specs.Verdicts.{shown_line};
 ghost use Rattle.verdicts.specs.declared.verdict.Verdict.TheVariants.{Verified};
 
 use crate::fault::RunFault;
-use crate::formula::read_held;
-use lrat_checker::{LratFault, LratFormula};
+use crate::formula::{Held, read_held};
+use crate::refuting::refute;
+use lrat_binary::Ids;
+use lrat_checker::LratFault;
 use sat_formula::{CnfFormula, LyingHeader};
 use std::alloc::Global;
 use std::io;
@@ -22,25 +24,29 @@ use verdicts::{Verdict, write_line};
 /// verdict's line. What stands after that line is not read. Nothing is where the formula has the
 /// empty clause.
 ///
+/// The proof is text or binary, as its first bytes tell. How the ids stand in binary lines is told
+/// by them too, where `ids` does not say it.
+///
 /// Nothing is written where a line is refused or can't be read. Where the verdict's line can't be
 /// written whole, the verdict stood, and a beginning of the line is written.
 pub fn run_proof<P: Read + Drop, W: Write>(
     alloc: Global,
     formula: &CnfFormula,
     proof: P,
+    ids: Option<Ids>,
     out: &mut W,
 ) -> Result<Verdict, RunFault>
-    ensures run { IsProofRun formula.now (P.remaining proof) result }
-    ensures decided { IfSome (P.remaining proof) (λ text. IsDecided formula.now text result) }
+    ensures run { IsProofRun ids formula.now (P.remaining proof) result }
+    ensures decided { IfSome (P.remaining proof) (λ text. IsDecided ids formula.now text result) }
     ensures line { IfOk result (λ verdict.
         Appends (W.contents out.old) (W.contents out.new) (shown_line verdict)) }
     ensures silent { IsRefusedRun result → out.new ≡ out.old }
-    ensures unwritten { IsUnwritten result → BeginsLine formula.now (P.remaining proof)
+    ensures unwritten { IsUnwritten result → BeginsLine ids formula.now (P.remaining proof)
         (W.contents out.old) (W.contents out.new) }
     ensures refutes { result ≡ Ok Verified → (a : ℕ → Bool) → all_true a formula.now ≡ false }
 {
-    match LratFormula::of(alloc, formula) {
-        Ok(held) => run_after(held, proof, out),
+    match Held::of(alloc, formula) {
+        Ok(held) => run_after(alloc, held, proof, ids, out),
         Err(_) => Err(RunFault::Proof(LratFault::OutOfMemory)),
     }
 }
@@ -54,45 +60,48 @@ pub fn run_check<F: Read + Drop, P: Read + Drop, W: Write>(
     alloc: Global,
     cnf: F,
     proof: P,
+    ids: Option<Ids>,
     out: &mut W,
     lie: &mut Option<LyingHeader>,
 ) -> Result<Verdict, RunFault>
-    ensures run { IsCheckRun (F.remaining cnf) (P.remaining proof) result }
+    ensures run { IsCheckRun ids (F.remaining cnf) (P.remaining proof) result }
     ensures line { IfOk result (λ verdict.
         Appends (W.contents out.old) (W.contents out.new) (shown_line verdict)) }
     ensures silent { IsRefusedRun result → out.new ≡ out.old }
-    ensures unwritten { IsUnwritten result → BeginsLineAfter (F.remaining cnf)
+    ensures unwritten { IsUnwritten result → BeginsLineAfter ids (F.remaining cnf)
         (P.remaining proof) (W.contents out.old) (W.contents out.new) }
     ensures refutes { (text : List ℕ) → F.remaining cnf ≡ Some text
         → result ≡ Ok Verified → IsRefuted text }
     ensures lie { RunTellsLie (F.remaining cnf) result lie.new }
 {
     match read_held(alloc, cnf, lie) {
-        Ok(read) => run_after(read, proof, out),
+        Ok(read) => run_after(alloc, read, proof, ids, out),
         Err(fault) => Err(RunFault::Formula(fault)),
     }
 }
 
 /// Checks a proof after the clauses of a formula that were given, and writes the verdict's line.
 fn run_after<P: Read + Drop, W: Write>(
-    held: LratFormula,
+    alloc: Global,
+    held: Held,
     proof: P,
+    ids: Option<Ids>,
     out: &mut W,
 ) -> Result<Verdict, RunFault>
-    ensures run { (formula : List (List ℕ)) → HoldsFormula formula held
-        → IsProofRun formula (P.remaining proof) result }
-    ensures decided { (formula : List (List ℕ)) → HoldsFormula formula held
-        → IfSome (P.remaining proof) (λ text. IsDecided formula text result) }
+    ensures run { (formula : List (List ℕ)) → HoldsCounted formula held
+        → IsProofRun ids formula (P.remaining proof) result }
+    ensures decided { (formula : List (List ℕ)) → HoldsCounted formula held
+        → IfSome (P.remaining proof) (λ text. IsDecided ids formula text result) }
     ensures line { IfOk result (λ verdict.
         Appends (W.contents out.old) (W.contents out.new) (shown_line verdict)) }
     ensures silent { IsRefusedRun result → out.new ≡ out.old }
-    ensures unwritten { (formula : List (List ℕ)) → HoldsFormula formula held
-        → IsUnwritten result → BeginsLine formula (P.remaining proof)
+    ensures unwritten { (formula : List (List ℕ)) → HoldsCounted formula held
+        → IsUnwritten result → BeginsLine ids formula (P.remaining proof)
         (W.contents out.old) (W.contents out.new) }
-    ensures refutes { (formula : List (List ℕ)) → HoldsFormula formula held
+    ensures refutes { (formula : List (List ℕ)) → HoldsCounted formula held
         → result ≡ Ok Verified → (a : ℕ → Bool) → all_true a formula ≡ false }
 {
-    let verdict = match refute(held, proof) {
+    let verdict = match refute(alloc, held, proof, ids) {
         Ok(refuted) => Verdict::of(refuted),
         Err(fault) => return Err(RunFault::Proof(fault)),
     };
@@ -100,13 +109,4 @@ fn run_after<P: Read + Drop, W: Write>(
         Ok(()) => Ok(verdict),
         Err(fault) => Err(RunFault::Write(fault)),
     }
-}
-
-/// Whether the proof shows that no assignment satisfies the formula that was given.
-fn refute<P: Read + Drop>(held: LratFormula, proof: P) -> Result<bool, LratFault>
-    ensures { (formula : List (List ℕ)) → HoldsFormula formula held
-        → Refutes formula (P.remaining proof) result }
-{
-    let mut checker = held.checker();
-    checker.refute(proof)
 }

@@ -3,7 +3,7 @@ use command::{About, Entry, QUIET, STATS, VERBOSE};
 
 /// What `--help` says.
 pub const ABOUT: About<'static> = About {
-    call: "lrat_check CNF LRAT [--stats] [--quiet] [--verbose]",
+    call: "lrat_check CNF LRAT [--ids WAY] [--stats] [--quiet] [--verbose]",
     does: "Checks an LRAT proof against a formula, and says in one line what it shows.",
     operands: &[
         Entry {
@@ -12,10 +12,14 @@ pub const ABOUT: About<'static> = About {
         },
         Entry {
             name: "LRAT",
-            text: "the proof, LRAT text; - stands for standard input",
+            text: "the proof, LRAT, text or binary; - stands for standard input",
         },
     ],
     options: &[
+        Entry {
+            name: "--ids WAY",
+            text: "how ids stand in a binary proof: plain or doubled; else its first bytes tell it",
+        },
         STATS,
         QUIET,
         VERBOSE,

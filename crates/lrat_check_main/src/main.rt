@@ -1,5 +1,5 @@
-//! The command `lrat_check CNF LRAT`: checks an LRAT proof against a formula, and says in one line
-//! what it shows.
+//! The command `lrat_check CNF LRAT [--ids WAY]`: checks an LRAT proof against a formula, and says
+//! in one line what it shows.
 //!
 //! `--example` checks a small fixed example, `--help` says how the program is called, and
 //! `--version` of which version it is. The name `-` stands for standard input.
@@ -10,10 +10,10 @@ mod about;
 
 use crate::about::ABOUT;
 use command::{
-    Call, Cost, NOT_RUN, hold_input, open_inputs, say_formula, say_proof, say_unread, start,
-    unnamed, warn_of_header,
+    Call, Cost, NOT_RUN, hold_input, misused, open_inputs, say_formula, say_proof, say_unread,
+    start, unnamed, warn_of_header,
 };
-use lrat_check::{RunFault, Verdict, exit_status, run_check};
+use lrat_check::{Ids, RunFault, Verdict, exit_status, run_check};
 use progress::{Progress, ToldBytes};
 use sat_formula::DimacsFault;
 use std::io;
@@ -40,15 +40,34 @@ fn run(rt: &HostRuntime, call: &Call<'_>) -> u8 {
     if call.has("--example") {
         return check_example(rt);
     }
+    let Some(ids) = ids_of(call) else {
+        return misused(rt, &ABOUT, "--ids takes plain or doubled");
+    };
     match call.operands.as_slice() {
-        [cnf, proof] => check_files(rt, cnf.as_str(), proof.as_str(), call),
+        [cnf, proof] => check_files(rt, cnf.as_str(), proof.as_str(), ids, call),
         operands => unnamed(rt, &ABOUT, operands.len()),
+    }
+}
+
+/// How ids stand in a binary proof, where `--ids` says it. None: it says something else.
+fn ids_of(call: &Call<'_>) -> Option<Option<Ids>> {
+    match call.value("--ids") {
+        None => Some(None),
+        Some("plain") => Some(Some(Ids::Plain)),
+        Some("doubled") => Some(Some(Ids::Doubled)),
+        Some(_) => None,
     }
 }
 
 /// Both files are opened before anything is read. The formula is read whole, and let go once its
 /// clauses are taken.
-fn check_files(rt: &HostRuntime, cnf_name: &str, proof_name: &str, call: &Call<'_>) -> u8 {
+fn check_files(
+    rt: &HostRuntime,
+    cnf_name: &str,
+    proof_name: &str,
+    ids: Option<Ids>,
+    call: &Call<'_>,
+) -> u8 {
     let cost = Cost::from_now(rt);
     let Some((cnf, proof)) = open_inputs(rt, cnf_name, proof_name) else {
         return NOT_RUN;
@@ -65,7 +84,7 @@ fn check_files(rt: &HostRuntime, cnf_name: &str, proof_name: &str, call: &Call<'
     let length = proof.length(rt);
     let mut lie = None;
     let proof = ToldBytes::new(&progress, proof.file, length);
-    let outcome = run_check(rt.alloc(), cnf, proof, &mut io::writer(rt), &mut lie);
+    let outcome = run_check(rt.alloc(), cnf, proof, ids, &mut io::writer(rt), &mut lie);
     let status = report(rt, &outcome);
     match outcome {
         Err(RunFault::Formula(_)) => {
@@ -87,6 +106,7 @@ fn check_example(rt: &HostRuntime) -> u8 {
         rt.alloc(),
         EXAMPLE_FORMULA,
         EXAMPLE_PROOF,
+        None,
         &mut io::writer(rt),
         &mut None,
     );

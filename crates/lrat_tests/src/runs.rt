@@ -15,7 +15,7 @@ const NOT_VERIFIED: &str = "s NOT VERIFIED\n";
 /// A formula and a proof; what is written, the text of the fault, and the exit status.
 type Row = (&'static str, &'static str, &'static str, &'static str, u8);
 
-const RUNS: [Row; 17] = [
+const RUNS: [Row; 21] = [
     (FOUR, "5 1 0 1 2 0\n6 0 5 3 4 0\n", VERIFIED, "", 0),
     (FOUR, "5 1 0 1 2 0\n5 d 1 2 0\n6 0 5 3 4 0", VERIFIED, "", 0),
     (
@@ -83,6 +83,29 @@ const RUNS: [Row; 17] = [
     // the empty clause of a formula
     ("0", "2 0 1 0", VERIFIED, "", 0),
     ("0", "", VERIFIED, "", 0),
+    // binary: ids plain and doubled; hints that end early; a binary DRAT
+    (
+        FOUR,
+        "a\x05\x02\0\x02\x04\0a\x06\0\x0A\x06\x08\0",
+        VERIFIED,
+        "",
+        0,
+    ),
+    (
+        FOUR,
+        "a\x0A\x02\0\x02\x04\0a\x0C\0\x0A\x06\x08\0",
+        VERIFIED,
+        "",
+        0,
+    ),
+    (
+        FOUR,
+        "a\x05\x02\0\x02\x04\0a\x06\0\x0A\x06\0",
+        "",
+        "proof: line 2: hints end without a conflict",
+        1,
+    ),
+    (FOUR, "a\x02\0a\0", "", "proof: line 1: id is taken", 1),
 ];
 
 /// What is run is named so. As much of the line is written as there is room for.
@@ -95,7 +118,7 @@ fn is_answered(
     outcome: Outcome<'_>,
 ) {
     let mut page = Page::of_room(alloc, room);
-    let answer = run_check(alloc, cnf, proof, &mut page, &mut None);
+    let answer = run_check(alloc, cnf, proof, None, &mut page, &mut None);
     let ended = Ended::of(alloc, page, &answer, exit_status(&answer));
     assert_eq!(rt; ended.outcome(), outcome, "{name}");
 }

@@ -26,7 +26,7 @@ fn show(shown: &mut Shown, reader: &mut LineReader<Pieces<'_>>, lines: u32) {
 }
 
 /// The words up to the last one, with single blanks, and without the number before a deletion.
-fn show_line(shown: &mut Shown, line: LratLine<'_>) {
+pub fn show_line(shown: &mut Shown, line: LratLine<'_>) {
     match line {
         LratLine::Add { id, clause, hints } => {
             shown.number("", id);

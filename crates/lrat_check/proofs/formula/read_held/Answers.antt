@@ -1,4 +1,5 @@
-use Rattle.std.proofs.Common.{[], ◌∷◌, ◌++◌, sym, ◌∙◌, subst}
+use Rattle.std.proofs.Common.{[], ◌∷◌, ◌++◌, ap, sym, ◌∙◌, subst}
+use Rattle.sat_formula.specs.declared.counts.Counts.{Counts}
 use Rattle.std.proofs.lemmas.Result.{err_from_is_err_and}
 use Rattle.sat_formula.proofs.Whole.{BeginsWith-given, IsOutcome-ended, FailsAfter-given, outcome_left-new}
 use Rattle.lrat_checker.specs.Standing.{HoldsFormula}
@@ -29,8 +30,12 @@ returns-clause-whole g c =
     let r = c.new-reader in
     let inv = c.clauses.invariant in
     let end = rw c.if-branch.false at c.in_ok-next_clause.ensures.next in
-    rw (← outcome_left-new g.F.Read.remaining r.result _ r.ensures.unread r.ensures.standing r.ensures.ended)
-    (inv.0, IsOutcome-ended g.F.Read.remaining _ c.clauses.reader c.next_clause.new.self _ _ inv.1.given end, inv.2)
+    let counted = rw c.if-branch.false at c.in_ok-next_clause.ensures.clauses in
+    rw (← outcome_left-new g.F.Read.remaining r.result _ r.ensures.unread r.ensures.standing r.ensures.ended) (
+      inv.0,
+      IsOutcome-ended g.F.Read.remaining _ c.clauses.reader c.next_clause.new.self _ _ inv.1.given end,
+      record { held = inv.2; count = c.clause_count.ensures ∙ counted ∙ ap (λ (k : Counts). k.clauses) inv.1.counts },
+    )
 
 pub returns-clause-lie : goal.returns-clause-lie
 returns-clause-lie g c =

@@ -7,16 +7,16 @@ use Rattle.lrat_check.proofs.RunLemmas.{fault_decided, formula_refuted, verdict_
 use Rattle.lrat_check.proofs.run.run_after.Goals as goal
 
 pub returns-in-Err-clause-decided : goal.returns-in-Err-clause-decided
-returns-in-Err-clause-decided g c = λ formula held. fault_decided formula (g.P.Read.remaining c.args.proof) c.in-Err.fault (c.in-Err.ensures formula held)
+returns-in-Err-clause-decided g c = λ formula held. fault_decided c.args.ids formula (g.P.Read.remaining c.args.proof) c.in-Err.fault (c.in-Err.ensures formula held)
 
 pub returns-in-Ok-write_line-clause-decided : goal.returns-in-Ok-write_line-clause-decided
 returns-in-Ok-write_line-clause-decided g c = λ formula held.
-    verdict_decided formula (g.P.Read.remaining c.args.proof) c.in-Ok.refuted c.of-verdict.result c.of-verdict.ensures (c.in-Ok.ensures formula held)
+    verdict_decided c.args.ids formula (g.P.Read.remaining c.args.proof) c.in-Ok.refuted c.of-verdict.result c.of-verdict.ensures (c.in-Ok.ensures formula held)
 
 pub returns-in-Ok-write_line-clause-refutes : goal.returns-in-Ok-write_line-clause-refutes
 returns-in-Ok-write_line-clause-refutes g c = λ formula held e a.
     let is : verdict_of c.in-Ok.refuted ≡ Verified = cc c.of-verdict.ensures in
-    formula_refuted formula (g.P.Read.remaining c.args.proof) c.in-Ok.refuted (c.in-Ok.ensures formula held) is a
+    formula_refuted c.args.ids formula (g.P.Read.remaining c.args.proof) c.in-Ok.refuted (c.in-Ok.ensures formula held) is a
 
 pub returns-in-Err-write_line-clause-unwritten : goal.returns-in-Err-write_line-clause-unwritten
 returns-in-Err-write_line-clause-unwritten g c = λ formula held _.
@@ -26,7 +26,7 @@ returns-in-Err-write_line-clause-unwritten g c = λ formula held _.
     record {
       refuted = c.in-Ok.refuted;
       checked = refutes;
-      decided = decided formula (g.P.Read.remaining c.args.proof) (Ok c.in-Ok.refuted) refutes;
+      decided = decided c.args.ids formula (g.P.Read.remaining c.args.proof) (Ok c.in-Ok.refuted) refutes;
       begins = subst (λ v. AppendsBeginning old new (shown_line v)) c.of-verdict.ensures c.in-Err-write_line.ensures.beginning;
     }
 

@@ -1,0 +1,108 @@
+-- What a reader of either form gave, said in one way.
+--     Goes      after so many lines the proof goes on so, or has ended so
+use Rattle.std.proofs.Common.{◌≡◌, ℕ, Bool, true, false, List, [], Option, Some, None, Result, Ok, Err, refl, sym, ap, ◌∙◌, subst}
+use Rattle.lrat_text.specs.NextLine.{view}
+use Rattle.lrat_text.specs.NextLine as texts
+use Rattle.lrat_text.specs.Taking.{EndsAll, Follows, Leads}
+use Rattle.lrat_text.specs.Texts.{Ended, Faulty, Outcome, with_line}
+use Rattle.lrat_text.specs.declared.fault.LineKind.{LineKind}
+use Rattle.lrat_text.specs.declared.fault.LratTextFault.{LratTextFault}
+use Rattle.lrat_text.specs.declared.fault.LratTextFault.TheVariants as reads
+use Rattle.lrat_text.specs.declared.line.LratLine.{LratLine}
+use Rattle.lrat_binary.specs.NextLine as binaries
+use Rattle.lrat_binary.specs.Lines.{binary_after}
+use Rattle.lrat_binary.specs.Proofs.{Gives, bytes_left, form_now, has_ended, line_number, lines_after}
+use Rattle.lrat_binary.specs.Taking.{Fails, by_byte, by_end}
+use Rattle.lrat_binary.specs.declared.ids.Ids.{Ids}
+use Rattle.lrat_binary.specs.declared.ids.LratForm.{LratForm}
+use Rattle.lrat_binary.specs.declared.ids.LratForm.TheVariants as forms
+use Rattle.lrat_binary.specs.declared.proof.LratReader.{LratReader}
+use Rattle.lrat_binary.specs.declared.proof.LratReader.TheVariants.{Text, Binary}
+
+abbrev pub Known : Type 0
+Known = Option (List ℕ)
+
+abbrev pub Goes : LratForm → Known → Known → ℕ → Bool → (List ℕ → Outcome) → Type 0
+Goes form a b before false rest = Leads a b (lines_after form before) rest
+Goes form a b before true rest = EndsAll a b (lines_after form before) rest
+
+-- an answer, with a line or without one;  a fault
+abbrev answer : Option LratLine → Result (Option LratLine) LratTextFault
+answer o = Ok o
+
+abbrev failure : LratTextFault → Result (Option LratLine) LratTextFault
+failure fault = Err fault
+
+as_goes : (a b : Known) (before : ℕ) (over : Bool) (rest : List ℕ → Outcome) → Follows a b before over rest → Goes forms.Text a b before over rest
+as_goes a b before false rest p = p
+as_goes a b before true rest p = p
+
+module _ {R : Type 0} (remaining : R → Option (List ℕ)) where
+  -- only a reader that has not ended gives something
+  pub open_still : (old new : LratReader R) (r : Result (Option LratLine) LratTextFault) → (r ≡ Ok None → ⊥) → Gives remaining old new r → has_ended old ≡ false
+  open_still (Text old) (Text new) r some gives = go (texts.has_ended old) refl
+    where
+      go : (b : Bool) → texts.has_ended old ≡ b → b ≡ false
+      go true e = absurd (some (gives.stays e).0)
+      go false e = refl
+  open_still (Text old) (Binary new) r some gives = absurd gives
+  open_still (Binary old) (Text new) r some gives = absurd gives
+  open_still (Binary old) (Binary new) r some gives = go (binaries.has_ended old) refl
+    where
+      go : (b : Bool) → binaries.has_ended old ≡ b → b ≡ false
+      go true e = absurd (some (gives.stays e).0)
+      go false e = refl
+
+  -- the form stays
+  pub same_form : (old new : LratReader R) (r : Result (Option LratLine) LratTextFault) → Gives remaining old new r → form_now new ≡ form_now old
+  same_form (Text old) (Text new) r gives = refl
+  same_form (Text old) (Binary new) r gives = absurd gives
+  same_form (Binary old) (Text new) r gives = absurd gives
+  same_form (Binary old) (Binary new) r gives = ap (λ (ids : Ids). forms.Binary ids) gives.ids
+
+  -- a line
+  pub gave_line : (old new : LratReader R) (line : LratLine) → has_ended old ≡ false → Gives remaining old new (Ok (Some line)) →
+      Goes (form_now old) (bytes_left remaining old) (bytes_left remaining new) (line_number old) (has_ended new)
+      (λ more. with_line (line_number new) (view line) (lines_after (form_now old) (line_number new) more))
+  gave_line (Text old) (Text new) line on gives =
+      as_goes (texts.bytes_left remaining old) (texts.bytes_left remaining new) (texts.line_number old) (texts.has_ended new) _ (gives.reads on).0
+  gave_line (Text old) (Binary new) line on gives = absurd gives
+  gave_line (Binary old) (Text new) line on gives = absurd gives
+  gave_line (Binary old) (Binary new) line on gives =
+      let a = gives.reads on in
+      subst (λ (b : Bool). Goes (forms.Binary old.ids) (binaries.bytes_left remaining old) (binaries.bytes_left remaining new) old.number b
+      (λ more. with_line new.number (view line) (binary_after old.ids new.number more))) (sym a.1)
+      (subst (λ (ids : Ids). Leads (binaries.bytes_left remaining old) (binaries.bytes_left remaining new) (binary_after old.ids old.number)
+      (λ more. with_line new.number (view line) (binary_after ids new.number more))) gives.ids a.0)
+
+  -- the end
+  pub gave_end : (old new : LratReader R) → has_ended old ≡ false → Gives remaining old new (Ok None) →
+      Goes (form_now old) (bytes_left remaining old) (bytes_left remaining new) (line_number old) true (λ more. ([], Ended))
+  gave_end (Text old) (Text new) on gives = (gives.reads on).0
+  gave_end (Text old) (Binary new) on gives = absurd gives
+  gave_end (Binary old) (Text new) on gives = absurd gives
+  gave_end (Binary old) (Binary new) on gives = (gives.reads on).0
+
+  fails_so : (ids : Ids) (before : ℕ) (a b : Known) (n : ℕ) (kind : LineKind) → Fails a b (binary_after ids before) n kind →
+      (over : Bool) × Goes (forms.Binary ids) a b before over (λ more. ([], Faulty n kind))
+  fails_so ids before a b n kind (by_byte p) = (false, p)
+  fails_so ids before a b n kind (by_end p) = (true, p)
+
+  -- a fault of a line
+  pub gave_fault : (old new : LratReader R) (n : ℕ) (kind : LineKind) → has_ended old ≡ false → Gives remaining old new (Err (reads.Line n kind)) →
+      (over : Bool) × Goes (form_now old) (bytes_left remaining old) (bytes_left remaining new) (line_number old) over (λ more. ([], Faulty n kind))
+  gave_fault (Text old) (Text new) n kind on gives =
+      let a = gives.reads on in (
+        a.1.0,
+        as_goes (texts.bytes_left remaining old) (texts.bytes_left remaining new) (texts.line_number old) a.1.0 (λ more. ([], Faulty n kind))
+            (subst (λ (m : ℕ). Follows (texts.bytes_left remaining old) (texts.bytes_left remaining new) (texts.line_number old) a.1.0 (λ more. ([], Faulty m kind))) (sym a.0) a.1.1),
+      )
+  gave_fault (Text old) (Binary new) n kind on gives = absurd gives
+  gave_fault (Binary old) (Text new) n kind on gives = absurd gives
+  gave_fault (Binary old) (Binary new) n kind on gives = fails_so old.ids old.number _ _ n kind (gives.reads on).0
+
+  pub is_line : (line : LratLine) → answer (Some line) ≡ answer None → ⊥
+  is_line line e = absurd (cc)
+
+  pub is_fault : (fault : LratTextFault) → failure fault ≡ answer None → ⊥
+  is_fault fault e = absurd (cc)

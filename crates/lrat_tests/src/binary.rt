@@ -1,0 +1,186 @@
+//! What no clause says of binary lines: rows over readers of any cut, the form that first bytes
+//! tell, and reads that fail.
+use crate::texts::show_line;
+use Ids::{Doubled, Plain};
+use lrat_binary::{Ids, LratForm, LratReader, open_proof};
+use std::alloc::Global;
+use std::io::{ErrorKind, Read};
+use std::process::Abort;
+use test_streams::{Pieces, Shown};
+
+/// Bytes, how ids stand in them, and what is shown.
+type Row = (&'static [u8], Ids, &'static str);
+
+const LINES: [Row; 8] = [
+    (
+        b"a\x04\x02\x05\x00\x02\x06\x00",
+        Plain,
+        "4 1 -2 0 1 3 0 @1\nend",
+    ),
+    (
+        b"a\x08\x02\x05\x00\x02\x06\x00",
+        Doubled,
+        "4 1 -2 0 1 3 0 @1\nend",
+    ),
+    (
+        b"a\x08\x02\x00\x0E\x07\x08\x0D\x00",
+        Plain,
+        "8 1 0 7 -3 4 -6 0 @1\nend",
+    ),
+    (
+        b"a\x04\x00\x00d\x07\x82\x01\x00",
+        Plain,
+        "4 0 0 @1\nd 7 130 0 @2\nend",
+    ),
+    (
+        b"a\x04\x00\x00d\x0E\x84\x02\x00",
+        Doubled,
+        "2 0 0 @1\nd 7 130 0 @2\nend",
+    ),
+    (b"a\x81\x00\x00\x00", Plain, "1 0 0 @1\nend"),
+    (
+        b"a\xFF\xFF\xFF\xFF\xFF\xFF\xFF\xFF\x7F\x80\x80\x80\x80\x02\x00\x00",
+        Plain,
+        "9223372036854775807 268435456 0 0 @1\nend",
+    ),
+    (
+        b"a\x04\x00\xFF\xFF\xFF\xFF\xFF\xFF\xFF\xFF\x7F\x00",
+        Doubled,
+        "2 0 -4611686018427387903 0 @1\nend",
+    ),
+];
+
+const FAULTS: [Row; 15] = [
+    (b"a\x00\x00\x00", Plain, "line 1: malformed line\nend"),
+    (b"a\x05\x00\x00", Doubled, "line 1: malformed line\nend"),
+    (b"a\x04\x01\x00\x00", Plain, "line 1: malformed line\nend"),
+    (b"a\x04\x00\x01\x00", Plain, "line 1: malformed line\nend"),
+    (
+        b"a\x04\x00\x00x",
+        Plain,
+        "4 0 0 @1\nline 2: malformed line\nend",
+    ),
+    (
+        b"a\x04\x00\x00\x00",
+        Plain,
+        "4 0 0 @1\nline 2: malformed line\nend",
+    ),
+    (
+        b"a\x04\x00\x00d\x07\x00",
+        Doubled,
+        "2 0 0 @1\nline 2: malformed line\nend",
+    ),
+    (
+        b"a\x04\x82\x80\x80\x80\x02\x00\x00",
+        Plain,
+        "line 1: number too large\nend",
+    ),
+    (
+        b"a\xFF\xFF\xFF\xFF\xFF\xFF\xFF\xFF\xFF\x00\x00\x00",
+        Plain,
+        "line 1: number too large\nend",
+    ),
+    (
+        b"a\x04\x00\x80\x80\x80\x80\x80\x80\x80\x80\x80\x00",
+        Plain,
+        "line 1: number too large\nend",
+    ),
+    (b"a", Plain, "line 1: unfinished line\nend"),
+    (b"a\x04", Plain, "line 1: unfinished line\nend"),
+    (b"a\x04\x00", Plain, "line 1: unfinished line\nend"),
+    (b"a\x04\x00\x82", Plain, "line 1: unfinished line\nend"),
+    (
+        b"a\x04\x00\x00d\x07",
+        Plain,
+        "4 0 0 @1\nline 2: unfinished line\nend",
+    ),
+];
+
+/// First bytes, how many clauses the formula has, and the form that they tell.
+const FORMS: [(&[u8], u64, LratForm); 14] = [
+    (b"", 3, LratForm::Text),
+    (b"4 0 1 0\n", 3, LratForm::Text),
+    (b"c a\n", 3, LratForm::Text),
+    (b"d 1 2 0\n", 3, LratForm::Text),
+    (b"d\x01\x00", 3, LratForm::Binary(Plain)),
+    (b"d\x02\x00", 3, LratForm::Binary(Doubled)),
+    (b"a\x04\x00\x00", 3, LratForm::Binary(Plain)),
+    (b"a\x08\x00\x00", 3, LratForm::Binary(Doubled)),
+    (b"a\x06\x00\x00a\x07\x00\x00", 3, LratForm::Binary(Plain)),
+    (b"a\x88\x01\x03\x00\x05\x00", 67, LratForm::Binary(Doubled)),
+    (b"a\x88\x01\x03\x00\x05\x00", 135, LratForm::Binary(Plain)),
+    (b"a\x08\x00\x00d\x06\x03\x00", 3, LratForm::Binary(Plain)),
+    (
+        b"a\x08\x03\x00\x07\x00d\x06\x00x\x03",
+        3,
+        LratForm::Binary(Doubled),
+    ),
+    (b"a", 3, LratForm::Binary(Doubled)),
+];
+
+/// Shows each line and its number, and the text of a fault, to the end.
+fn show<R: Read>(shown: &mut Shown, reader: &mut LratReader<R>) {
+    for _ in 0..100 {
+        match reader.next_line() {
+            Ok(Some(line)) => show_line(shown, line),
+            Ok(None) => {
+                shown.words("end");
+                break;
+            }
+            Err(fault) => {
+                shown.value(&fault);
+                shown.words("\n");
+                continue;
+            }
+        }
+        shown.number(" 0 @", reader.line());
+        shown.words("\n");
+    }
+}
+
+fn are_shown(rt: &impl Abort, alloc: Global, rows: &[Row]) {
+    for (bytes, ids, expected) in rows {
+        for size in [1, 2, 3, 100] {
+            let mut shown = Shown::new(alloc);
+            let pieces = Pieces::of_size(bytes, size);
+            match open_proof(alloc, pieces, Some(*ids), 3) {
+                Ok(mut reader) => show(&mut shown, &mut reader),
+                Err(fault) => shown.value(&fault),
+            }
+            assert_eq!(rt; shown.text(), *expected);
+        }
+    }
+}
+
+#[test]
+fn lines(rt: HostRuntime) {
+    are_shown(&rt, rt.alloc(), &LINES);
+    are_shown(&rt, rt.alloc(), &FAULTS);
+}
+
+#[test]
+fn forms(rt: HostRuntime) {
+    let alloc = rt.alloc();
+    for (bytes, clauses, form) in &FORMS {
+        for size in [1, 100] {
+            let pieces = Pieces::of_size(bytes, size);
+            let told = match open_proof(alloc, pieces, None, *clauses) {
+                Ok(reader) => reader.form() == *form,
+                Err(_) => false,
+            };
+            assert!(rt; told, "{clauses}");
+        }
+    }
+}
+
+#[test]
+fn reads_that_fail(rt: HostRuntime) {
+    let alloc = rt.alloc();
+    let broken = Pieces::broken(b"a\x04\x00\x00a", ErrorKind::ConnectionReset);
+    let mut shown = Shown::new(alloc);
+    match open_proof(alloc, broken, None, 3) {
+        Ok(mut reader) => show(&mut shown, &mut reader),
+        Err(fault) => shown.value(&fault),
+    }
+    assert_eq!(rt; shown.text(), "error reading proof: broken");
+}
