@@ -3,19 +3,21 @@
 #
 #   benches/drat_list.sh [OTHER.cc] [NAME..]
 #
-# A line for each proof of LIST below, or for those that are named: its bytes as text, seconds of a processor and megabytes
-# at most, instructions in millions where the proof has at most COUNTED bytes (5,000,000 where that is not set), and the same of
-# OTHER.cc, compiled by `g++ -O2` and called with a formula, a proof, and `--chains`; without it, of `drat_check` alone.
+# A line for each proof of LIST below, or for those that are named: its bytes as text, the seconds of a processor that the
+# solver took to find it, where one did; then seconds and megabytes at most of `drat_check`, instructions in millions where the
+# proof has at most COUNTED bytes (5,000,000 where that is not set), and the same of OTHER.cc, compiled by `g++ -O2` and called
+# with a formula, a proof, and `--chains`; without it, of `drat_check` alone.
 # Text and binary must be verified, give the same LRAT lines, and `lrat_check` must accept these: else the line says what
 # was wrong, and the script ends with status 1. A proof of more than 40 MB, or that a solver needs more than LIMIT seconds for
 # (300), is left out.
 #
-# Formulas and proofs are kept in FOLDER, where that is set. The programs are those that `rt run` left in out/. It needs
-# python3, valgrind, Debian's `time`, and cadical, picosat and cryptominisat for their proofs.
+# Formulas, proofs and the solver's seconds are kept in FOLDER, where that is set. The programs are those that `rt run` left in
+# out/; PROGRAM and LRAT_CHECK may name others. It needs python3, valgrind, Debian's `time`, and cadical, picosat and
+# cryptominisat for their proofs.
 set -euo pipefail
 top=$(cd "$(dirname "$0")/.." && pwd)
 check=${PROGRAM:-$top/crates/drat_check_main/out/drat_check_main}
-lrat_check=$top/crates/lrat_check_main/out/lrat_check_main
+lrat_check=${LRAT_CHECK:-$top/crates/lrat_check_main/out/lrat_check_main}
 work=$(mktemp -d)
 trap 'rm -rf "$work"' EXIT
 folder=${FOLDER:-$work}
@@ -62,10 +64,11 @@ made() {
   python3 -B "$top/benches/drat_formulas.py" "$@"
 }
 
-# solved SOLVER ARGUMENT..: whether it answers "unsatisfiable" in time
+# solved SOLVER ARGUMENT..: whether it answers "unsatisfiable" in time. Its seconds are kept.
 solved() {
   local status=0
-  timeout "${LIMIT:-300}" "$@" > "$work/said" 2>&1 || status=$?
+  /usr/bin/time -o "$work/solver" -f '%U %S' timeout "${LIMIT:-300}" "$@" > "$work/said" 2>&1 || status=$?
+  awk 'NF == 2 { printf "%.2f", $1 + $2 }' "$work/solver" > "$work/solved"
   ((status == 20))
 }
 
@@ -121,12 +124,15 @@ measured() {
 
 # row NAME CNF DRAT: a line; the status says whether all was as it should be
 row() {
-  local cnf=$2 drat=$3 size counts=0
+  local cnf=$2 drat=$3 size solver=- counts=0
   size=$(stat -c %s "$drat")
   if ((size <= ${COUNTED:-5000000})); then
     counts=1
   fi
-  printf '%-8s %9d %s' "$1" "$size" "$(measured $counts "$check" "$cnf" "$drat")"
+  if [[ -s ${drat%.drat}.solved ]]; then
+    solver=$(< "${drat%.drat}.solved")
+  fi
+  printf '%-8s %9d %7s %s' "$1" "$size" "$solver" "$(measured $counts "$check" "$cnf" "$drat")"
   if [[ -n $other ]]; then
     printf ' %s' "$(measured $counts "$work/other" "$cnf" "$drat" --chains)"
   fi
@@ -154,7 +160,7 @@ if [[ ${1:-} == *.cc || ${1:-} == *.cpp ]]; then
   shift
 fi
 wrong=0
-printf '%-8s %9s %7s %7s %7s %s%9s\n' proof bytes seconds MB 'Minstr' "${other:+   other:  seconds, MB, Minstr }" 'LRAT bytes'
+printf '%-8s %9s %7s %7s %7s %7s %s%9s\n' proof bytes solver seconds MB 'Minstr' "${other:+   other:  seconds, MB, Minstr }" 'LRAT bytes'
 while IFS='|' read -r name formula how; do
   read -r name <<< "$name"
   if [[ -z $name || ($# -gt 0 && " $* " != *" $name "*) ]]; then
@@ -164,10 +170,14 @@ while IFS='|' read -r name formula how; do
   read -ra how <<< "$how"
   cnf=$folder/$name.cnf drat=$folder/$name.drat
   [[ -s $cnf ]] || made "${formula[@]}" > "$cnf"
-  if [[ ! -s $drat ]] && ! prove "$cnf" "${how[@]}" > "$drat"; then
-    rm -f "$drat"
-    printf '%-8s no proof in time\n' "$name"
-    continue
+  if [[ ! -s $drat ]]; then
+    : > "$work/solved"
+    if ! prove "$cnf" "${how[@]}" > "$drat"; then
+      rm -f "$drat"
+      printf '%-8s no proof in time\n' "$name"
+      continue
+    fi
+    cp "$work/solved" "$folder/$name.solved"
   fi
   if (($(stat -c %s "$drat") > 40000000)); then
     printf '%-8s %9d left out\n' "$name" "$(stat -c %s "$drat")"

@@ -11,8 +11,8 @@ import sys
 
 HERE = os.path.dirname(os.path.abspath(__file__))
 PICTURE = os.path.join(HERE, "times.svg")
-ROW = re.compile(r"^\| `(\w+)` \| ([\d,]+) \| ([\d.]+) / ([\d.]+) \| [\d.]+ / [\d.]+ \|", re.MULTILINE)
-HEAD = "| proof | bytes | seconds | MB at most |"
+ROW = re.compile(r"^\| `(\w+)` \| ([\d,]+) \| [\d.–]+ \| ([\d.]+) / ([\d.]+) \| [\d.]+ / [\d.]+ \|", re.MULTILINE)
+HEAD = "| proof | bytes | solver | seconds | MB at most |"
 
 WIDTH, HEIGHT, LEFT, TOP, RIGHT, BOTTOM = 820, 430, 70, 46, 36, 50
 BYTES, SECONDS = (1e5, 1e8), (0.01, 30)
