@@ -140,8 +140,8 @@ expect not_shown 3 's NOT SHOWN' '' unit.cnf end.proof
 refused no_proof nothing.proof 'step 1: Unexpected end of proof file' unit.cnf nothing.proof
 expect no_arguments 0 's UNSATISFIABLE' ''
 expect version 0 'varisat_check 0.3.0 (varisat-checker 0.2.2)' '' --version
-misused one_argument 'no file is named for PROOF' 'varisat_check CNF PROOF [LRAT]' unit.cnf
-misused four_arguments 'a file too many: more.lrat' 'varisat_check CNF PROOF [LRAT]' unit.cnf end.proof hints.lrat more.lrat
+misused one_argument 'no file is named for PROOF' 'varisat_check CNF PROOF [LRAT] [--quiet] [--verbose]' unit.cnf
+misused four_arguments 'a file too many: more.lrat' 'varisat_check CNF PROOF [LRAT] [--quiet] [--verbose]' unit.cnf end.proof hints.lrat more.lrat
 expect hints 0 's UNSATISFIABLE' '' par10.cnf par10.whole.proof hints.lrat
 refused hints_of_a_refused_proof nothing.proof 'step 1: Unexpected end of proof file' unit.cnf nothing.proof hints.lrat
 expect missing_formula 2 '' $'cannot open absent.cnf\nNo such file or directory (os error 2)' absent.cnf absent.proof
@@ -212,7 +212,7 @@ refuted board6 board6.cnf
 printf '5 0 1\n' > "$work/files/malformed.lrat"
 refused malformed_formula malformed.cnf 'line 2: bad number' malformed.cnf par10.lrat
 refused malformed_hints malformed.lrat 'line 1: malformed line' unit.cnf malformed.lrat
-misused no_arguments 'no file is named for CNF' 'hint_check CNF LRAT'
+misused no_arguments 'no file is named for CNF' 'hint_check CNF LRAT [--quiet] [--verbose]'
 expect example 0 's VERIFIED UNSAT' '' --example
 expect help 0 'usage: hint_check CNF LRAT [--quiet] [--verbose]
 
@@ -244,8 +244,8 @@ examples:
   checks a proof in bytes, and once more by its hints:
       varisat_check formula.cnf proof.bytes proof.lrat && hint_check formula.cnf proof.lrat' '' --help
 expect version 0 'hint_check 0.3.0 (varisat-checker 0.2.2)' '' --version
-misused one_argument 'no file is named for LRAT' 'hint_check CNF LRAT' unit.cnf
-misused three_arguments 'a file too many: more.lrat' 'hint_check CNF LRAT' unit.cnf par10.lrat more.lrat
+misused one_argument 'no file is named for LRAT' 'hint_check CNF LRAT [--quiet] [--verbose]' unit.cnf
+misused three_arguments 'a file too many: more.lrat' 'hint_check CNF LRAT [--quiet] [--verbose]' unit.cnf par10.lrat more.lrat
 expect missing_formula 2 '' $'cannot open absent.cnf\nNo such file or directory (os error 2)' absent.cnf absent.lrat
 expect missing_hints 2 '' $'cannot open absent.lrat\nNo such file or directory (os error 2)' malformed.cnf absent.lrat
 run_cases hint_check_main
@@ -352,12 +352,12 @@ refused malformed_formula malformed.cnf 'formula: line 2: bad number' malformed.
 refused folder / 'formula: error reading formula: Is a directory (os error 21)' / par10.lrat
 refused folder_as_proof / 'proof: error reading proof: Is a directory (os error 21)' four.cnf /
 refused unreadable_proof /proc/self/mem 'proof: error reading proof: Input/output error (os error 5)' four.cnf /proc/self/mem
-misused no_arguments 'no file is named for CNF' 'lrat_check CNF LRAT [--ids WAY]'
+misused no_arguments 'no file is named for CNF' 'lrat_check CNF LRAT [--ids WAY] [--stats] [--quiet] [--verbose]'
 expect example 0 's VERIFIED UNSAT' '' --example
 expect version 0 'lrat_check 0.3.0 (varisat-checker 0.2.2)' '' --version
-misused one_argument 'no file is named for LRAT' 'lrat_check CNF LRAT [--ids WAY]' four.cnf
-misused three_arguments 'a file too many: more.lrat' 'lrat_check CNF LRAT [--ids WAY]' four.cnf par10.lrat more.lrat
-misused other_ids '--ids takes plain or doubled' 'lrat_check CNF LRAT [--ids WAY]' --ids odd four.cnf par10.lrat
+misused one_argument 'no file is named for LRAT' 'lrat_check CNF LRAT [--ids WAY] [--stats] [--quiet] [--verbose]' four.cnf
+misused three_arguments 'a file too many: more.lrat' 'lrat_check CNF LRAT [--ids WAY] [--stats] [--quiet] [--verbose]' four.cnf par10.lrat more.lrat
+misused other_ids '--ids takes plain or doubled' 'lrat_check CNF LRAT [--ids WAY] [--stats] [--quiet] [--verbose]' --ids odd four.cnf par10.lrat
 expect missing_formula 2 '' $'cannot open absent.cnf\nNo such file or directory (os error 2)' absent.cnf absent.lrat
 expect missing_proof 2 '' $'cannot open absent.lrat\nNo such file or directory (os error 2)' malformed.cnf absent.lrat
 run_cases lrat_check_main
@@ -405,7 +405,7 @@ unit.cnf nothing.lrat refused --example:there is no option --example
 END
 expect missing_formula 2 '' $'cannot open absent.cnf\nNo such file or directory (os error 2)' absent.cnf absent.lrat refused
 expect missing_proof 2 '' $'cannot open absent.lrat\nNo such file or directory (os error 2)' unit.cnf absent.lrat refused
-expect missing_folder 2 '' $'cannot open absent/proof\nNo such file or directory (os error 2)' unit.cnf nothing.lrat absent/proof
+expect missing_folder 2 '' $'cannot open absent/proof.new\nNo such file or directory (os error 2)' unit.cnf nothing.lrat absent/proof
 run_cases lrat_to_proof_main
 compare
 
