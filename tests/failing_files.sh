@@ -128,9 +128,11 @@ name_unmet() {
   done
 }
 
-# Where a line or the lines of hints can't be written whole, the status is 1 and the fault is told.
+# Where a line or the lines of hints can't be written whole, the status is 1 and the fault is told. A file is not left then; into a
+# pipe came the lines up to the failed write.
 fail_writes() {
-  local full='error writing: No space left on device (os error 28)' write
+  local full='error writing: No space left on device (os error 28)' write reader
+  mkfifo "$work/way"
   failing 'FAIL_WRITE=1' "$check" "$cnf" "$proof"
   wants 'the line' 1 '' "$full"
   failing 'FAIL_WRITE=2' "$check" "$cnf" "$proof"
@@ -140,7 +142,16 @@ fail_writes() {
   for ((write = 1; write <= $(stat -c %s "$work/whole"); write += 97)); do
     failing "SHORT_WRITES=1 FAIL_WRITE=$write" "$check" "$cnf" "$proof" "$work/hints"
     wants "byte $write of the hints" 1 '' "$full"
-    head -c $((write - 1)) "$work/whole" | cmp "$work/hints" - || wrong=1
+    if [[ -e $work/hints || -e $work/hints.new ]]; then
+      echo "WRONG byte $write of the hints: a file is left"
+      wrong=1
+    fi
+    cat "$work/way" > "$work/begun" &
+    reader=$!
+    failing "SHORT_WRITES=1 FAIL_WRITE=$write" "$check" "$cnf" "$proof" "$work/way"
+    wants "byte $write of the hints into a pipe" 1 '' "$full"
+    wait "$reader"
+    head -c $((write - 1)) "$work/whole" | cmp "$work/begun" - || wrong=1
   done
   for most in 1 7 1000; do
     failing "SHORT_WRITES=$most" "$check" "$cnf" "$proof" "$work/hints"
