@@ -1,5 +1,5 @@
 //! The checker of LRAT proofs.
-ghost use Rattle.std.specs.Prelude.{◌≡◌, ◌∷◌, ◌++◌, ◌||◌, ◌&&◌, ◌↔◌, ℕ, Bool, true, false, [], List, None, Some, Err, IfErr, IfOk, IsTrue, OnOk, OnErr};
+ghost use Rattle.std.specs.Prelude.{◌≡◌, ◌∷◌, ◌++◌, ◌||◌, ◌&&◌, ◌↔◌, ℕ, Bool, true, false, [], List, None, Some, Err, IfErr, IfOk, IsTrue, OnOk, OnErr, option_copied};
 ghost use Rattle.sat_rules.specs.Clauses.{all_true};
 ghost use Rattle.sat_rules.specs.Named.{NamedBy};
 ghost use Rattle.lrat_rules.specs.Lines.{Line, adds_empty};
@@ -18,7 +18,7 @@ use crate::formula::LratFormula;
 use crate::judging::judge;
 use crate::work::Work;
 use lrat_text::{LineReader, LratLine, LratTextFault};
-use sat_formula::CnfFormula;
+use sat_formula::{CnfFormula, Lit};
 use std::alloc::{AllocError, Global};
 use std::io::Read;
 
@@ -74,6 +74,15 @@ impl LratChecker {
             → result ≡ true → (a : ℕ → Bool) → all_true a formula ≡ true → ⊥ }
     {
         self.refuted // it stays true after a refusal
+    }
+
+    /// The literals of the clause that is stored under an id.
+    pub fn clause(&self, id: u64) -> Option<&[Lit]>
+        ensures { (formula : List (List ℕ)) (lines : List Line)
+            → (ready : IsReady formula lines self.now)
+            → option_copied result ≡ find ready.accepted.store id }
+    {
+        self.clauses.get(id)
     }
 
     /// Whether each of these clauses is stored under the id at its place, with its literals in the
