@@ -1,3 +1,4 @@
+pub mod DratTexts
 pub mod FormulaTexts
 pub mod LratTexts
 pub mod Words

@@ -4,7 +4,8 @@ ghost use Rattle.std.specs.Io.KnownBytes.{Appends};
 ghost use Rattle.sat_output.specs.FormulaTexts.{clause_text, clauses_text, formula_text, header_text};
 ghost use Rattle.whole_writes.specs.Beginnings.{AppendsBeginning};
 
-use crate::words::{push_literals, push_number};
+use crate::step::push_addition;
+use crate::words::push_number;
 use itoa::Buffer;
 use sat_formula::{CnfFormula, Lit};
 use std::alloc::{AllocError, Global};
@@ -79,7 +80,6 @@ fn clause_line(alloc: Global, clause: &[Lit]) -> Result<Vec<u8>, AllocError>
     ensures { IfOk result (λ text. text.items ≡ clause_text clause.now ++ 10 ∷ []) }
 {
     let mut text = Vec::new(alloc);
-    push_literals(&mut text, clause)?;
-    text.extend_from_slice(b"0\n")?;
+    push_addition(&mut text, clause)?;
     Ok(text)
 }
