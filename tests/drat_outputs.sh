@@ -1,6 +1,7 @@
 #!/usr/bin/env bash
-# What `drat_check` writes by its options --lrat and --core: the lines are accepted by `lrat_check`, and the clauses are
-# some of the formula's, as their header says, and refuted by the same proof. And which files it refuses to write.
+# What `drat_check` writes by its options --lrat, --trim and --core: the lines are accepted by `lrat_check`, the steps are those
+# of the lines, and verified after the formula and after the clauses that are used, and these are some of the formula's, as
+# their header says, and refuted by the same proof. And which files it refuses to write.
 #
 # The programs must be built: `rt ci` does it, or `rt run` in their folders.
 set -euo pipefail
@@ -99,8 +100,8 @@ counts() {
 # outputs NAME CNF PROOF: both outputs, and each alone, say what they should
 outputs() {
   local name=$1 said
-  rm -f lrat core lrat.alone core.alone
-  said=$("$check" "$2" "$3" --lrat lrat --core core --stats 2> err) || true
+  rm -f lrat trim core lrat.alone trim.alone core.alone
+  said=$("$check" "$2" "$3" --lrat lrat --trim trim --core core --stats 2> err) || true
   [[ $said == 's VERIFIED UNSAT' ]] || fault "$name: $said $(cat err)"
   [[ $(grep -Ev '^c (steps|seconds|memory_kb) ' err) == "$(counts)" ]] || fault "$name: counted $(cat err), and not $(counts)"
   said=$("$lrat_check" "$2" lrat 2> err) || true
@@ -109,6 +110,14 @@ outputs() {
   [[ $(awk '$1 == "p" { print $4 }' core) == $(clauses core | wc -l) ]] || fault "$name: the core's header"
   said=$("$check" core "$3" 2> err) || true
   [[ $said == 's VERIFIED UNSAT' ]] || fault "$name, its core by the same proof: $said $(cat err)"
+  python3 -B "$top/tests/drat/trimmed.py" "$2" lrat | cmp -s - trim || fault "$name: the steps are not those of the lines"
+  said=$("$check" "$2" trim 2> err) || true
+  [[ $said == 's VERIFIED UNSAT' ]] || fault "$name, its steps: $said $(cat err)"
+  said=$("$check" core trim --trim trim.alone 2> err) || true
+  [[ $said == 's VERIFIED UNSAT' ]] || fault "$name, its steps after the core: $said $(cat err)"
+  (($(grep -vc '^d' trim.alone) <= $(grep -vc '^d' trim))) || fault "$name: more steps than those that were given"
+  said=$("$check" "$2" "$3" --trim trim.alone 2> err) || true
+  [[ $said == 's VERIFIED UNSAT' ]] && cmp -s trim trim.alone || fault "$name, the steps alone: $said $(cat err)"
   said=$("$check" "$2" "$3" --core core.alone 2> err) || true
   [[ $said == 's VERIFIED UNSAT' ]] && cmp -s core core.alone || fault "$name, the core alone: $said $(cat err)"
   said=$("$check" "$2" "$3" --lrat lrat.alone 2> err) || true
@@ -134,9 +143,18 @@ for holes in 6 9; do
     outputs "$family $holes" pigeons.cnf pigeons.drat
   done
 done
+# a clause that is not used, and without which alone a step is redundant
+formula pigeons 4 > pigeons.cnf
+formula extended 4 > pigeons.drat
+(sed '1s/.*/p cnf 99 46/' pigeons.cnf && echo '-21 99 0') > away.cnf
+(echo 'd -21 99 0' && cat pigeons.drat) > away.drat
+outputs 'a clause that is away' away.cnf away.drat
+[[ $(clauses core) != *'-21 99 0'* ]] || fault 'a clause that is away stands in the core'
 formula pairs 4 > pairs.cnf
 formula pair_exchanges 4 > pairs.dpr
 outputs 'pair_exchanges 4' pairs.cnf pairs.dpr
+printf 'o 1 1 2 0\no 2 1 -2 0\no 3 -1 2 0\no 4 -1 -2 0\na 6 1 0\nd 1 1 2 0\na 7 0\n' > four.frat
+outputs 'four as FRAT' f four.frat
 
 # what is written has its name once it is whole: a run that is killed leaves what stood there, and the next one takes away what the
 # killed one left; here nothing is written yet
@@ -271,7 +289,7 @@ alone 'no verdict' l c
 # calls that can't be read, and others of the same words
 while IFS=: read -r arguments why; do
   # shellcheck disable=SC2086
-  wants 2 '' "$why"$'\nusage: drat_check CNF PROOF [--drat] [--frat] [--lpr] [--lrat FILE] [--core FILE] [--stats] [--quiet] [--verbose]\ndrat_check --help says more' $arguments
+  wants 2 '' "$why"$'\nusage: drat_check CNF PROOF [--drat] [--frat] [--lpr] [--lrat FILE] [--trim FILE] [--core FILE] [--stats] [--quiet] [--verbose]\ndrat_check --help says more' $arguments
 done << 'END'
 :no file is named for CNF
 f:no file is named for PROOF

@@ -14,7 +14,7 @@ import sys
 import tempfile
 
 from formulas import binary_drat, dimacs, drat
-from fuzz import Case, is_redundant, is_right, is_satisfiable, is_tautology, propagate, unit_reason
+from fuzz import Case, is_redundant, is_right, is_satisfiable, is_tautology, propagate, unit_reason, wrong_steps
 from refusal import parts
 
 
@@ -163,6 +163,8 @@ def try_case(program, lrat_check, seed, folder, counts):
     again = run(lrat_check, cnf, lines)
     if again.stdout != "s VERIFIED UNSAT\n":
         return f"its lines: {again.stdout}{again.stderr}"
+    if why := wrong_steps(program, folder, [program, cnf, proof, *["--lpr"] * as_lpr]):
+        return why
     with open(lines) as file:
         fresh = max(abs(it) for _, clause in case.steps + [(False, sum(case.formula, []))] for it in clause) + 1
         counts["verified by a witness"] += any(f" {fresh} " in line or f" -{fresh} " in line for line in (it.split(" 0 ")[0] + " " for it in file))

@@ -229,6 +229,22 @@ class Sparse(Case):
         self.steps = [it for it in self.steps if self.draw.random() < 0.15 and not it[0]] + [(False, [])]
 
 
+def wrong_steps(program, folder, call, steps=None):
+    """What is wrong with the steps that `--trim` writes, if anything: they have to be verified after the formula and after its
+    used clauses, and where the steps before are given, there are no more of them."""
+    trim, core = f"{folder}/trim", f"{folder}/core"
+    subprocess.run([*call, "--trim", trim, "--core", core], capture_output=True, timeout=60)
+    for cnf in (f"{folder}/a.cnf", core):
+        ran = subprocess.run([program, cnf, trim], capture_output=True, text=True, timeout=60)
+        if ran.stdout != "s VERIFIED UNSAT\n":
+            return f"its needed steps after {cnf}: {ran.stdout}{ran.stderr}"
+    with open(trim) as file:
+        needed = sum(not line.startswith("d") for line in file)
+    if steps is not None and needed > sum(not gone for gone, _ in steps):
+        return f"{needed} steps are needed, which are more than there are"
+    return None
+
+
 def try_case(program, seed, folder, counts):
     """What is wrong with the answer, if anything."""
     case = Sparse(seed) if seed % 4 == 1 else Case(seed)
@@ -256,6 +272,8 @@ def try_case(program, seed, folder, counts):
     met, plain = meets_definition(case.formula, case.steps)
     if met and plain and not is_cut and not is_verified:
         return f"not verified: {ran.stdout}{ran.stderr}"
+    if is_verified and (why := wrong_steps(program, folder, call, case.steps)):
+        return why
     if not is_right(f"{folder}/a.cnf", f"{folder}/a.drat", ran, refusal.drat_steps):
         return f"refused, and it is not shown why: {ran.stdout}{ran.stderr}"
     if met or is_cut or is_satisfiable(case.formula):

@@ -5,7 +5,7 @@ use Rattle.sat_output.specs.LratTexts.{lines_text}
 use Rattle.std.specs.Global.{Vec}
 use Rattle.verdicts.specs.declared.verdict.Verdict.{Verdict}
 use Rattle.verdicts.specs.declared.verdict.Verdict.TheVariants.{Verified, NotVerified}
-use Rattle.drat_check.specs.Outputs.{BothWritten, WritesOutputs, WroteCore, WroteProof, bytes_in}
+use Rattle.drat_check.specs.Outputs.{AllWritten, WritesOutputs, WroteCore, WroteProof, bytes_in}
 use Rattle.drat_check.specs.Runs.{HasNoFormula, OfFormula}
 use Rattle.drat_check.specs.declared.fault.RunFault.{RunFault}
 use Rattle.drat_check.specs.declared.outputs.Outputs.{Outputs}
@@ -18,13 +18,13 @@ abbrev held : Vec ℕ → Option (List ℕ)
 held v = Some v.items
 
 -- a text that was empty, and into which lines were written that refute the formula, was put
-pub places_lrat : (formula : List (List ℕ)) (old new : List ℕ) (placed : Placed) (before after : Option (Vec ℕ))
+pub places_lrat : (formula : List (List ℕ)) (old new : List ℕ) (placed : Placed) (before after : Option (Vec ℕ)) (trim trim' : Option (List ℕ))
     → IsSomeAnd before (λ v. v.items ≡ [])
-    → WroteProof formula (bytes_in held before) (bytes_in held after)
+    → WroteProof formula (bytes_in held before) (bytes_in held after) trim trim'
     → IfSome after (λ v. IsPlaced v.items old new placed) → PlacesLrat formula old new placed
-places_lrat formula old new placed None after empty wrote is = absurd empty
-places_lrat formula old new placed (Some v) None empty wrote is = absurd wrote.text
-places_lrat formula old new placed (Some v) (Some w) empty wrote is = record {
+places_lrat formula old new placed None after trim trim' empty wrote is = absurd empty
+places_lrat formula old new placed (Some v) None trim trim' empty wrote is = absurd wrote.text
+places_lrat formula old new placed (Some v) (Some w) trim trim' empty wrote is = record {
   lines = wrote.lines;
   refuted = wrote.refuted;
   text = subst (λ t. IsPlaced t old new placed) (wrote.text ∙ ap (λ t. t ++ lines_text (length formula) wrote.lines) empty) is;
@@ -47,7 +47,7 @@ places_core formula old new placed (Some v) (Some w) empty wrote is = record {
 pub both_written : {O : Type 0} (line : O → Option (List ℕ)) (out out' : O) (cnf : Option (List ℕ)) (before after : Outputs (Vec ℕ) (Vec ℕ))
     (r : Result Verdict RunFault) → r ≡ Ok Verified
     → OfFormula cnf (λ formula. WritesOutputs formula held held before after line out out' r) ⊎ HasNoFormula r
-    → OfFormula cnf (λ formula. BothWritten formula held held before after)
+    → OfFormula cnf (λ formula. AllWritten formula held held before after)
 both_written line out out' cnf before after (Ok Verified) is (inl wrote) = wrote
 both_written line out out' cnf before after (Ok Verified) is (inr none) = absurd none
 both_written line out out' cnf before after (Ok NotVerified) is wrote = absurd cc

@@ -84,6 +84,7 @@ drat_status (Ok verdict) = status_of {E = drat.RunFault} (Ok verdict)
 drat_status (Err (drat_fault.Formula fault)) = formula_status fault
 drat_status (Err (drat_fault.Proof fault)) = proof_status fault
 drat_status (Err (drat_fault.Lrat cause)) = 4
+drat_status (Err (drat_fault.Trim cause)) = 4
 drat_status (Err (drat_fault.Core cause)) = 4
 drat_status (Err (drat_fault.Write cause)) = 1
 

@@ -82,6 +82,7 @@ pub extern "C" fn cefindrato_drat_check(
     };
     let mut outputs = Outputs {
         lrat: output(alloc, options.lrat),
+        trim: None,
         core: output(alloc, options.core),
         counts: Cell::default(),
     };
@@ -175,7 +176,7 @@ fn status(outcome: &Result<Verdict, RunFault>) -> u8
         Ok(_) => exit_status(outcome),
         Err(RunFault::Formula(fault)) => of_formula(fault),
         Err(RunFault::Proof(fault)) => of_proof(fault),
-        Err(RunFault::Lrat(_) | RunFault::Core(_)) => OUT_OF_MEMORY,
+        Err(RunFault::Lrat(_) | RunFault::Trim(_) | RunFault::Core(_)) => OUT_OF_MEMORY,
         Err(RunFault::Write(_)) => FAULT,
     }
 }

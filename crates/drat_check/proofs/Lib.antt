@@ -1,3 +1,4 @@
+pub mod DeletedClauses
 pub mod UsedClauses
 pub mod WrittenCores
 pub mod WrittenLines

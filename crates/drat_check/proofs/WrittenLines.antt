@@ -1,19 +1,22 @@
--- Lines that are accepted and written in turn.
-use Rattle.std.proofs.Common.{◌≡◌, ℕ, true, List, [], ◌∷◌, ◌++◌, length, Option, Result, Ok, Err, refl, sym, ap, ◌∙◌, subst, append_assoc}
+-- Lines that are accepted and written in turn, and their steps.
+use Rattle.std.proofs.Common.{◌≡◌, ℕ, Bool, true, false, ◌||◌, if◌then◌else◌, List, [], ◌∷◌, ◌++◌, length, Option, Some, None, arith, Result, Ok, Err, refl, sym, ap, ◌∙◌, subst, append_assoc, append-nil}
+use Rattle.std.proofs.lemmas.Option.{cond_some, none-some}
 use Rattle.std.specs.Io.KnownBytes.{Appends, Keeps}
 use Rattle.std.proofs.KnownBytes.{Appends-kept, Appends-nil, Appends-trans}
 use Rattle.std.specs.Prelude.{OnErr, OnOk}
 use Rattle.whole_writes.specs.Beginnings.{AppendsBeginning}
-use Rattle.lrat_rules.specs.Lines.{Line}
+use Rattle.sat_rules.specs.Named.{Item}
+use Rattle.lrat_rules.specs.Lines.{Line, accepts, after, run, then_run}
 use Rattle.lrat_rules.specs.Stores.{formula_store}
 use Rattle.lrat_checker.specs.Standing.{IsReady, has_refuted}
 use Rattle.lrat_checker.specs.declared.checker.LratChecker.{LratChecker}
+use Rattle.sat_output.specs.DratTexts.{adds_clause, step_text, steps_text}
 use Rattle.sat_output.specs.LratTexts.{last_after, line_text, lines_text, words_before_end}
-use Rattle.sat_output.proofs.Beginnings.{begins_nothing, begins_past, begins_whole}
+use Rattle.sat_output.proofs.Beginnings.{begins_front, begins_nothing, begins_past, begins_whole}
 use Rattle.drat_check.specs.declared.fault.ProofFault.{ProofFault}
 use Rattle.drat_check.specs.declared.fault.RunFault.TheVariants.{Proof}
 use Rattle.drat_check.specs.declared.outputs.Outputs.{Outputs}
-use Rattle.drat_check.specs.Outputs.{BeganLines, WritesBefore, WroteProof, bytes_in}
+use Rattle.drat_check.specs.Outputs.{BeganLines, IfWanted, WritesBefore, WroteProof, bytes_in}
 
 abbrev Known : Type 0
 Known = Option (List ℕ)
@@ -37,62 +40,159 @@ lines_text-more last (y ∷ xs) x =
     ap (λ t. line ++ 10 ∷ t) (lines_text-more next xs x)
     ∙ sym (append_assoc line (10 ∷ lines_text next xs) (lines_text (last_of next xs) (x ∷ [])))
 
+-- ---- steps of lines
+
+-- a run goes on after its first line, which is accepted
+run-rest : (b : Bool) (st su : List Item) (y : Line) (xs : List Line) → then_run (if b then Some (after st y) else None) (λ s. run s xs) ≡ Some su →
+    run (after st y) xs ≡ Some su
+run-rest true st su y xs e = e
+run-rest false st su y xs e = absurd (none-some su e)
+
+-- whether a line added a clause, or one before had
+pub begun_of : Bool → List Line → Bool
+begun_of begun [] = begun
+begun_of begun (x ∷ xs) = begun_of (begun || adds_clause x) xs
+
+begun_of-more : (begun : Bool) (xs : List Line) (x : Line) → begun_of begun (xs ++ x ∷ []) ≡ (begun_of begun xs || adds_clause x)
+unfolding begun_of
+begun_of-more begun [] x = refl
+begun_of-more begun (y ∷ xs) x = begun_of-more (begun || adds_clause y) xs x
+
+steps_text-more : (begun : Bool) (st su : List Item) (xs : List Line) (x : Line) → run st xs ≡ Some su →
+    steps_text begun st (xs ++ x ∷ []) ≡ steps_text begun st xs ++ step_text (begun_of begun xs) su x
+unfolding begun_of
+steps_text-more begun st su [] x ran =
+    append-nil (step_text begun st x) ∙ ap (λ s. step_text begun s x) (cond_some true st su ran).1
+steps_text-more begun st su (y ∷ xs) x ran =
+    let next = begun || adds_clause y in
+    ap (λ t. step_text begun st y ++ t) (steps_text-more next (after st y) su xs x (run-rest (accepts st y) st su y xs ran))
+    ∙ sym (append_assoc (step_text begun st y) (steps_text next (after st y) xs) (step_text (begun_of next xs) su x))
+
+-- steps that are made where they are wanted are appended
+pub appends_wanted : {L : Type 0} (contents : L → Known) (trim trim' : Option L) (text steps : List ℕ) → IfWanted trim (text ≡ steps) →
+    Appends (bytes_in contents trim) (bytes_in contents trim') text → Appends (bytes_in contents trim) (bytes_in contents trim') steps
+appends_wanted contents None trim' text steps is_made p = tt
+appends_wanted contents (Some w) trim' text steps is_made p = subst (Appends (contents w) (bytes_in contents trim')) is_made p
+
+pub begins_wanted : {L : Type 0} (contents : L → Known) (trim trim' : Option L) (text steps : List ℕ) → IfWanted trim (text ≡ steps) →
+    AppendsBeginning (bytes_in contents trim) (bytes_in contents trim') text → AppendsBeginning (bytes_in contents trim) (bytes_in contents trim') steps
+begins_wanted contents None trim' text steps is_made p = record { count = 0; within = omega arith; appended = tt }
+begins_wanted contents (Some w) trim' text steps is_made p = subst (AppendsBeginning (contents w) (bytes_in contents trim')) is_made p
+
 -- ---- lines in turn
 
--- the checker has accepted some lines, which are written
-pub record SoFar (formula : List (List ℕ)) (old now : Known) (checker : LratChecker) (last : ℕ) : Type 0 where
+-- the checker has accepted some lines, which are written, and so are their steps
+pub record SoFar (formula : List (List ℕ)) (lrat lrat' trim trim' : Known) (checker : LratChecker) (last : ℕ) (begun : Bool) : Type 0 where
   pub lines : List Line
   pub ready : IsReady formula lines checker
-  pub text : Appends old now (lines_text (length formula) lines)
+  pub text : Appends lrat lrat' (lines_text (length formula) lines)
+  pub trimmed : Appends trim trim' (steps_text false (formula_store formula) lines)
   pub number : last ≡ last_of (length formula) lines
+  pub has_begun : begun ≡ begun_of false lines
 
-pub none_yet : (formula : List (List ℕ)) (old : Known) (checker : LratChecker) (last : ℕ) → IsReady formula [] checker → last ≡ length formula →
-    SoFar formula old old checker last
-none_yet formula old checker last ready number = record { lines = []; ready = ready; text = Appends-nil old; number = number }
+pub none_yet : (formula : List (List ℕ)) (lrat trim : Known) (checker : LratChecker) (last : ℕ) (begun : Bool) → IsReady formula [] checker →
+    last ≡ length formula → begun ≡ false → SoFar formula lrat lrat trim trim checker last begun
+unfolding begun_of
+none_yet formula lrat trim checker last begun ready number has_begun = record {
+  lines = [];
+  ready = ready;
+  text = Appends-nil lrat;
+  trimmed = Appends-nil trim;
+  number = number;
+  has_begun = has_begun;
+}
 
-module _ (formula : List (List ℕ)) (old now new : Known) (checker next : LratChecker) (last : ℕ) (x : Line) (p : SoFar formula old now checker last) where
+module _ (formula : List (List ℕ)) (lrat lrat' lrat'' trim trim' trim'' : Known) (checker next : LratChecker) (last : ℕ) (begun : Bool) (x : Line)
+    (p : SoFar formula lrat lrat' trim trim' checker last begun) where
+  abbrev store : List Item
+  store = formula_store formula
+
+  -- the steps of the line
+  abbrev pub steps : List ℕ
+  steps = step_text begun p.ready.accepted.store x
+
   with_line : lines_text (length formula) p.lines ++ lines_text last (x ∷ []) ≡ lines_text (length formula) (p.lines ++ x ∷ [])
   with_line =
       ap (λ n. lines_text (length formula) p.lines ++ lines_text n (x ∷ [])) p.number
       ∙ sym (lines_text-more (length formula) p.lines x)
 
-  pub one_more : (later : ℕ) → IsReady formula (p.lines ++ x ∷ []) next → Appends now new (lines_text last (x ∷ [])) → later ≡ last_after last x →
-      SoFar formula old new next later
-  one_more later ready line number = record {
+  with_steps : steps_text false store p.lines ++ steps ≡ steps_text false store (p.lines ++ x ∷ [])
+  with_steps =
+      ap (λ b. steps_text false store p.lines ++ step_text b p.ready.accepted.store x) p.has_begun
+      ∙ sym (steps_text-more false store p.ready.accepted.store p.lines x p.ready.accepted.ran)
+
+  line_written : Appends lrat' lrat'' (lines_text last (x ∷ [])) → Appends lrat lrat'' (lines_text (length formula) (p.lines ++ x ∷ []))
+  line_written line =
+      subst (Appends lrat lrat'') with_line (Appends-trans lrat lrat' lrat'' (lines_text (length formula) p.lines) (lines_text last (x ∷ [])) p.text line)
+
+  pub one_more : (later : ℕ) (now : Bool) → IsReady formula (p.lines ++ x ∷ []) next → Appends lrat' lrat'' (lines_text last (x ∷ [])) →
+      Appends trim' trim'' steps → later ≡ last_after last x → now ≡ (begun || adds_clause x) → SoFar formula lrat lrat'' trim trim'' next later now
+  one_more later now ready line written number is = record {
     lines = p.lines ++ x ∷ [];
     ready = ready;
-    text = subst (Appends old new) with_line (Appends-trans old now new (lines_text (length formula) p.lines) (lines_text last (x ∷ [])) p.text line);
+    text = line_written line;
+    trimmed = subst (Appends trim trim'') with_steps (Appends-trans trim trim' trim'' (steps_text false store p.lines) steps p.trimmed written);
     number = number ∙ ap (λ n. last_after n x) p.number ∙ sym (last_of-more (length formula) p.lines x);
+    has_begun = is ∙ ap (λ b. b || adds_clause x) p.has_begun ∙ sym (begun_of-more false p.lines x);
   }
 
-  pub began_line : IsReady formula (p.lines ++ x ∷ []) next → AppendsBeginning now new (lines_text last (x ∷ [])) → BeganLines formula old new
+  -- a beginning of the line is written, and none of its steps
+  pub began_line : IsReady formula (p.lines ++ x ∷ []) next → AppendsBeginning lrat' lrat'' (lines_text last (x ∷ [])) → BeganLines formula lrat lrat'' trim trim'
   began_line ready line = record {
     lines = p.lines ++ x ∷ [];
     store = ready.accepted.store;
     accepted = ready.accepted.ran;
-    text = subst (AppendsBeginning old new) with_line (begins_past old now new (lines_text (length formula) p.lines) (lines_text last (x ∷ [])) p.text line);
+    text = subst (AppendsBeginning lrat lrat'') with_line (begins_past lrat lrat' lrat'' (lines_text (length formula) p.lines) (lines_text last (x ∷ [])) p.text line);
+    trimmed = subst (AppendsBeginning trim trim') with_steps (begins_front trim trim' (steps_text false store p.lines) steps
+        (begins_whole trim trim' (steps_text false store p.lines) p.trimmed));
   }
 
-module _ (formula : List (List ℕ)) (old now new : Known) (checker : LratChecker) (last : ℕ) (p : SoFar formula old now checker last) where
+  -- the line is written, and a beginning of its steps
+  pub began_steps : IsReady formula (p.lines ++ x ∷ []) next → Appends lrat' lrat'' (lines_text last (x ∷ [])) → AppendsBeginning trim' trim'' steps →
+      BeganLines formula lrat lrat'' trim trim''
+  began_steps ready line written = record {
+    lines = p.lines ++ x ∷ [];
+    store = ready.accepted.store;
+    accepted = ready.accepted.ran;
+    text = begins_whole lrat lrat'' (lines_text (length formula) (p.lines ++ x ∷ [])) (line_written line);
+    trimmed = subst (AppendsBeginning trim trim'') with_steps (begins_past trim trim' trim'' (steps_text false store p.lines) steps p.trimmed written);
+  }
+
+module _ (formula : List (List ℕ)) (lrat lrat' lrat'' trim trim' trim'' : Known) (checker : LratChecker) (last : ℕ) (begun : Bool)
+    (p : SoFar formula lrat lrat' trim trim' checker last begun) where
+  abbrev text : List ℕ
+  text = lines_text (length formula) p.lines
+
+  abbrev steps_before : List ℕ
+  steps_before = steps_text false (formula_store formula) p.lines
+
   -- no more is written
-  pub began : Keeps now new → BeganLines formula old new
-  began kept = record {
+  pub began : Keeps lrat' lrat'' → Keeps trim' trim'' → BeganLines formula lrat lrat'' trim trim''
+  began kept kept' = record {
     lines = p.lines;
     store = p.ready.accepted.store;
     accepted = p.ready.accepted.ran;
-    text = begins_whole old new (lines_text (length formula) p.lines) (Appends-kept old now new (lines_text (length formula) p.lines) p.text kept);
+    text = begins_whole lrat lrat'' text (Appends-kept lrat lrat' lrat'' text p.text kept);
+    trimmed = begins_whole trim trim'' steps_before (Appends-kept trim trim' trim'' steps_before p.trimmed kept');
   }
 
-  pub wrote : has_refuted checker ≡ true → Keeps now new → WroteProof formula old new
-  wrote refuted kept = record {
+  pub wrote : has_refuted checker ≡ true → Keeps lrat' lrat'' → Keeps trim' trim'' → WroteProof formula lrat lrat'' trim trim''
+  wrote refuted kept kept' = record {
     lines = p.lines;
     refuted = sym p.ready.accepted.refuted ∙ refuted;
-    text = Appends-kept old now new (lines_text (length formula) p.lines) p.text kept;
+    text = Appends-kept lrat lrat' lrat'' text p.text kept;
+    trimmed = Appends-kept trim trim' trim'' steps_before p.trimmed kept';
   }
 
 -- no line was made
-pub began_none : (formula : List (List ℕ)) (old : Known) → BeganLines formula old old
-began_none formula old = record { lines = []; store = formula_store formula; accepted = refl; text = begins_nothing old [] }
+pub began_none : (formula : List (List ℕ)) (lrat trim : Known) → BeganLines formula lrat lrat trim trim
+began_none formula lrat trim = record {
+  lines = [];
+  store = formula_store formula;
+  accepted = refl;
+  text = begins_nothing lrat [];
+  trimmed = begins_nothing trim [];
+}
 
 -- what is so in any case
 pub on_ok : {A E : Type 0} (P : Type 0) (r : Result A E) → P → OnOk r P
@@ -106,4 +206,4 @@ on_err P (Err e) p = p
 -- a refusal before a line was made
 pub refused : {L C : Type 0} (formula : List (List ℕ)) (lrat : L → Known) (core : C → Known) (s : Outputs L C) (fault : ProofFault) →
     WritesBefore formula lrat core s s (Err (Proof fault))
-refused formula lrat core s fault = (began_none formula (bytes_in lrat s.lrat), refl)
+refused formula lrat core s fault = (began_none formula (bytes_in lrat s.lrat) (bytes_in lrat s.trim), refl)

@@ -1,7 +1,8 @@
 -- What a run writes.
 --     bytes_in contents w      the bytes that a writer holds, where there is one
 --     IsPartOf used formula      some of the formula's clauses, in their order
---     WroteProof, BeganLines      lines that refute the formula were written, or a beginning of lines that were accepted
+--     IfWanted w P      where there is a writer
+--     WroteProof, BeganLines      lines that refute the formula were written, and their steps, or beginnings for lines that were accepted
 --     WroteCore, BeganCore      a part of the formula was written as a formula, or a beginning of that
 --     IsLineFault r      the fault of making and writing lines
 --     WritesBefore      what a run wrote beside its verdict's line, before that
@@ -11,6 +12,7 @@ use Rattle.std.specs.Io.KnownBytes.{Appends}
 use Rattle.sat_rules.specs.Named.{Item}
 use Rattle.lrat_rules.specs.Lines.{Line, is_refuted, run}
 use Rattle.lrat_rules.specs.Stores.{formula_store}
+use Rattle.sat_output.specs.DratTexts.{steps_text}
 use Rattle.sat_output.specs.FormulaTexts.{formula_text}
 use Rattle.sat_output.specs.LratTexts.{lines_text}
 use Rattle.whole_writes.specs.Beginnings.{AppendsBeginning}
@@ -18,7 +20,7 @@ use Rattle.verdicts.specs.Verdicts.{shown_line}
 use Rattle.verdicts.specs.declared.verdict.Verdict.{Verdict}
 use Rattle.verdicts.specs.declared.verdict.Verdict.TheVariants.{Verified, NotVerified}
 use Rattle.drat_check.specs.declared.fault.RunFault.{RunFault}
-use Rattle.drat_check.specs.declared.fault.RunFault.TheVariants.{Formula, Proof, Lrat, Core, Write}
+use Rattle.drat_check.specs.declared.fault.RunFault.TheVariants.{Formula, Proof, Lrat, Trim, Core, Write}
 use Rattle.drat_check.specs.declared.outputs.Outputs.{Outputs}
 use Rattle.drat_check.specs.Runs.{IsShown}
 
@@ -27,20 +29,27 @@ abbrev pub bytes_in : {W : Type 0} → (W → Option (List ℕ)) → Option W �
 bytes_in contents None = None
 bytes_in contents (Some w) = contents w
 
+-- where there is a writer
+abbrev pub IfWanted : {W : Type 0} → Option W → Type 0 → Type 0
+IfWanted None P = Unit {0}
+IfWanted (Some w) P = P
+
 -- ---- the proof's lines
 
--- lines of which the checker's rules say that they refute the formula were written
-pub record WroteProof (formula : List (List ℕ)) (old new : Option (List ℕ)) : Type 0 where
+-- lines of which the checker's rules say that they refute the formula were written, and to another writer the steps of DRAT that they are
+pub record WroteProof (formula : List (List ℕ)) (lrat lrat' trim trim' : Option (List ℕ)) : Type 0 where
   pub lines : List Line
   pub refuted : is_refuted formula lines ≡ true
-  pub text : Appends old new (lines_text (length formula) lines)
+  pub text : Appends lrat lrat' (lines_text (length formula) lines)
+  pub trimmed : Appends trim trim' (steps_text false (formula_store formula) lines)
 
--- of lines that these rules accept after the formula, a beginning was written, or all
-pub record BeganLines (formula : List (List ℕ)) (old new : Option (List ℕ)) : Type 0 where
+-- of lines that these rules accept after the formula, a beginning was written, or all, and so of their steps
+pub record BeganLines (formula : List (List ℕ)) (lrat lrat' trim trim' : Option (List ℕ)) : Type 0 where
   pub lines : List Line
   pub store : List Item
   pub accepted : run (formula_store formula) lines ≡ Some store
-  pub text : AppendsBeginning old new (lines_text (length formula) lines)
+  pub text : AppendsBeginning lrat lrat' (lines_text (length formula) lines)
+  pub trimmed : AppendsBeginning trim trim' (steps_text false (formula_store formula) lines)
 
 -- ---- the used clauses
 
@@ -75,24 +84,27 @@ IsLineFault (Ok x) = Unit {0}
 IsLineFault (Err (Formula fault)) = ⊥
 IsLineFault (Err (Proof fault)) = Unit {0}
 IsLineFault (Err (Lrat cause)) = Unit {0}
+IsLineFault (Err (Trim cause)) = Unit {0}
 IsLineFault (Err (Core cause)) = ⊥
 IsLineFault (Err (Write cause)) = ⊥
 
 module _ {L C : Type 0} (formula : List (List ℕ)) (lrat : L → Option (List ℕ)) (core : C → Option (List ℕ))
     (s s' : Outputs L C) where
-  -- lines that refute the formula are written whole, and a part of the formula
-  abbrev pub BothWritten : Type 0
-  BothWritten = WroteProof formula (bytes_in lrat s.lrat) (bytes_in lrat s'.lrat)
+  -- lines that refute the formula are written whole, with their steps, and a part of the formula
+  abbrev pub AllWritten : Type 0
+  AllWritten = WroteProof formula (bytes_in lrat s.lrat) (bytes_in lrat s'.lrat)
+      (bytes_in lrat s.trim) (bytes_in lrat s'.trim)
       × WroteCore formula (bytes_in core s.core) (bytes_in core s'.core)
 
-  -- of the lines a beginning was written, and of the part nothing
+  -- of the lines a beginning was written, and so of their steps, and of the part nothing
   abbrev pub LinesBegan : Type 0
   LinesBegan = BeganLines formula (bytes_in lrat s.lrat) (bytes_in lrat s'.lrat)
+      (bytes_in lrat s.trim) (bytes_in lrat s'.trim)
       × (s'.core ≡ s.core)
 
   -- what the verdict stands on was written, where it says anything
   abbrev pub WritesFor : Verdict → Type 0
-  WritesFor Verified = BothWritten
+  WritesFor Verified = AllWritten
   WritesFor NotVerified = s' ≡ s
 
   -- what was written before the verdict's line
@@ -101,8 +113,10 @@ module _ {L C : Type 0} (formula : List (List ℕ)) (lrat : L → Option (List �
   WritesBefore (Err (Formula fault)) = s' ≡ s
   WritesBefore (Err (Proof fault)) = LinesBegan
   WritesBefore (Err (Lrat cause)) = LinesBegan
+  WritesBefore (Err (Trim cause)) = LinesBegan
   WritesBefore (Err (Core cause)) =
       WroteProof formula (bytes_in lrat s.lrat) (bytes_in lrat s'.lrat)
+      (bytes_in lrat s.trim) (bytes_in lrat s'.trim)
       × BeganCore formula (bytes_in core s.core) (bytes_in core s'.core)
   WritesBefore (Err (Write cause)) = ⊥
 
@@ -119,5 +133,6 @@ module _ {L C : Type 0} (formula : List (List ℕ)) (lrat : L → Option (List �
   WritesOutputs line w w' (Err (Formula fault)) = WritesBefore (Err (Formula fault))
   WritesOutputs line w w' (Err (Proof fault)) = WritesBefore (Err (Proof fault))
   WritesOutputs line w w' (Err (Lrat cause)) = WritesBefore (Err (Lrat cause))
+  WritesOutputs line w w' (Err (Trim cause)) = WritesBefore (Err (Trim cause))
   WritesOutputs line w w' (Err (Core cause)) = WritesBefore (Err (Core cause))
   WritesOutputs line w w' (Err (Write cause)) = LeftUnwritten (line w) (line w')

@@ -16,7 +16,7 @@ use Rattle.whole_formulas.specs.Lies.{IsLie}
 use Rattle.verdicts.specs.declared.verdict.Verdict.{Verdict}
 use Rattle.verdicts.specs.declared.verdict.Verdict.TheVariants.{Verified, NotVerified}
 use Rattle.drat_check.specs.declared.fault.RunFault.{RunFault}
-use Rattle.drat_check.specs.declared.fault.RunFault.TheVariants.{Formula, Proof, Lrat, Core, Write}
+use Rattle.drat_check.specs.declared.fault.RunFault.TheVariants.{Formula, Proof, Lrat, Trim, Core, Write}
 
 -- no assignment satisfies the formula
 abbrev pub IsUnsatisfiable : List (List ℕ) → Type 0
@@ -33,6 +33,7 @@ IsProofRun formula (Ok verdict) = IsShown formula verdict
 IsProofRun formula (Err (Formula fault)) = ⊥
 IsProofRun formula (Err (Proof fault)) = Unit {0}
 IsProofRun formula (Err (Lrat cause)) = Unit {0}
+IsProofRun formula (Err (Trim cause)) = Unit {0}
 IsProofRun formula (Err (Core cause)) = Unit {0}
 IsProofRun formula (Err (Write cause)) = Unit {0}
 
@@ -49,6 +50,7 @@ IsCheckRun cnf (Err (Formula fault)) = (clauses : List (List ℕ))
     × FailsAfter (option_map dimacs.outcome_of cnf) clauses fault
 IsCheckRun cnf (Err (Proof fault)) = OfFormula cnf (λ formula. Unit {0})
 IsCheckRun cnf (Err (Lrat cause)) = OfFormula cnf (λ formula. Unit {0})
+IsCheckRun cnf (Err (Trim cause)) = OfFormula cnf (λ formula. Unit {0})
 IsCheckRun cnf (Err (Core cause)) = OfFormula cnf (λ formula. Unit {0})
 IsCheckRun cnf (Err (Write cause)) = OfFormula cnf (λ formula. Unit {0})
 
@@ -58,6 +60,7 @@ IsEarly (Ok verdict) = Unit {0}
 IsEarly (Err (Formula fault)) = ⊥
 IsEarly (Err (Proof fault)) = Unit {0}
 IsEarly (Err (Lrat cause)) = Unit {0}
+IsEarly (Err (Trim cause)) = Unit {0}
 IsEarly (Err (Core cause)) = Unit {0}
 IsEarly (Err (Write cause)) = ⊥
 
@@ -67,6 +70,7 @@ IsSilent (Ok verdict) = ⊥
 IsSilent (Err (Formula fault)) = Unit {0}
 IsSilent (Err (Proof fault)) = Unit {0}
 IsSilent (Err (Lrat cause)) = Unit {0}
+IsSilent (Err (Trim cause)) = Unit {0}
 IsSilent (Err (Core cause)) = Unit {0}
 IsSilent (Err (Write cause)) = ⊥
 
@@ -76,6 +80,7 @@ HasNoFormula (Ok verdict) = ⊥
 HasNoFormula (Err (Formula fault)) = Unit {0}
 HasNoFormula (Err (Proof fault)) = ⊥
 HasNoFormula (Err (Lrat cause)) = ⊥
+HasNoFormula (Err (Trim cause)) = ⊥
 HasNoFormula (Err (Core cause)) = ⊥
 HasNoFormula (Err (Write cause)) = ⊥
 
@@ -85,5 +90,6 @@ RunTellsLie cnf (Ok verdict) told = IsLie cnf told
 RunTellsLie cnf (Err (Formula fault)) told = told ≡ None
 RunTellsLie cnf (Err (Proof fault)) told = IsLie cnf told
 RunTellsLie cnf (Err (Lrat cause)) told = IsLie cnf told
+RunTellsLie cnf (Err (Trim cause)) told = IsLie cnf told
 RunTellsLie cnf (Err (Core cause)) told = IsLie cnf told
 RunTellsLie cnf (Err (Write cause)) told = IsLie cnf told

@@ -45,6 +45,9 @@ pub enum RunFault {
     /// The lines of the LRAT proof could not be written.
     #[error("error writing: {0}")]
     Lrat(io::Error),
+    /// The steps of the trimmed proof could not be written.
+    #[error("error writing: {0}")]
+    Trim(io::Error),
     /// The used clauses could not be written.
     #[error("error writing: {0}")]
     Core(io::Error),

@@ -11,6 +11,7 @@ mod progress;
 mod proof;
 mod reader;
 mod run;
+mod trimmed;
 
 pub use counts::RunCounts;
 pub use fault::{ProofFault, RunFault};

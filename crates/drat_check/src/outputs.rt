@@ -1,5 +1,5 @@
-//! What a run writes beside its verdict: the lines that the checker accepted, and the clauses of
-//! the formula that they use.
+//! What a run writes beside its verdict: the lines that the checker accepted, as LRAT and as DRAT,
+//! and the clauses of the formula that they use.
 ghost use Rattle.std.specs.Prelude.{◌≡◌, ◌∷◌, [], IfOk, OnErr, OnOk};
 ghost use Rattle.std.specs.Io.KnownBytes.{Appends, Keeps};
 ghost use Rattle.lrat_text.specs.NextLine.{view};
@@ -12,6 +12,7 @@ ghost use Rattle.drat_check.specs.Runs.{IsUnsatisfiable};
 use crate::counts::{RunCounts, count_line};
 use crate::fault::{ProofFault, RunFault};
 use crate::proof::line_fault;
+use crate::trimmed::{begun_by, steps_of, write_steps};
 use drat_elaborate::Elaborator;
 use lrat_checker::LratChecker;
 use lrat_text::LratLine;
@@ -27,6 +28,8 @@ use std::io::Write;
 pub struct Outputs<L, C> {
     /// The lines of the LRAT proof.
     pub lrat: Option<L>,
+    /// The steps of DRAT that they are, without ids and hints.
+    pub trim: Option<L>,
     /// The clauses of the formula that they use.
     pub core: Option<C>,
     /// What was counted so far. No clause speaks of it.
@@ -34,19 +37,22 @@ pub struct Outputs<L, C> {
 }
 
 /// Hands the elaborated lines to a checker that holds the formula, up to the empty clause, and
-/// writes each that it accepts.
+/// writes each that it accepts, and the steps of DRAT that it is.
 pub(crate) fn write_lines<L: Write>(
     alloc: Global,
     formula: &CnfFormula,
     elaborator: &mut Elaborator,
     lrat: &mut Option<L>,
+    trim: &mut Option<L>,
     counts: &Cell<RunCounts>,
 ) -> Result<(), RunFault>
     ensures shown { OnOk result (IsUnsatisfiable formula.now) }
     ensures whole { OnOk result (WroteProof formula.now
-        (bytes_in L.contents lrat.old) (bytes_in L.contents lrat.new)) }
+        (bytes_in L.contents lrat.old) (bytes_in L.contents lrat.new)
+        (bytes_in L.contents trim.old) (bytes_in L.contents trim.new)) }
     ensures beginning { OnErr result (BeganLines formula.now
-        (bytes_in L.contents lrat.old) (bytes_in L.contents lrat.new)) }
+        (bytes_in L.contents lrat.old) (bytes_in L.contents lrat.new)
+        (bytes_in L.contents trim.old) (bytes_in L.contents trim.new)) }
     ensures fault { IsLineFault result }
 {
     let mut checker = match LratChecker::new(alloc, formula) {
@@ -54,19 +60,28 @@ pub(crate) fn write_lines<L: Write>(
         Err(fault) => return Err(RunFault::Proof(ProofFault::from(fault))),
     };
     let mut last = formula.len() as u64;
+    let mut has_begun = false;
     'lines: for line in 1..u64::MAX {
         if checker.refuted() {
-            return end_lines(lrat);
+            return end_lines(lrat, trim);
         }
         match elaborator.next_line() {
             Ok(Some(entry)) => {
+                let steps = match steps_of(alloc, trim, has_begun, &checker, entry) {
+                    Ok(steps) => steps,
+                    Err(fault) => return Err(RunFault::Trim(io::Error::from(fault))),
+                };
                 if let Err(fault) = checker.check_line(entry) {
                     return Err(RunFault::Proof(line_fault(line, fault)));
                 }
                 if let Err(fault) = write_accepted(alloc, lrat, last, entry) {
                     return Err(RunFault::Lrat(fault));
                 }
+                if let Err(fault) = write_steps(trim, &steps) {
+                    return Err(RunFault::Trim(fault));
+                }
                 last = number_after(last, entry);
+                has_begun = begun_by(has_begun, entry);
                 count_line(counts, entry);
             }
             Ok(None) => return Err(RunFault::Proof(ProofFault::Unfinished)),
@@ -94,14 +109,18 @@ fn write_accepted<L: Write>(
     }
 }
 
-/// Writes what a writer of lines holds back.
-fn end_lines<L: Write>(lrat: &mut Option<L>) -> Result<(), RunFault>
-    ensures kept { Keeps (bytes_in L.contents lrat.old) (bytes_in L.contents lrat.new) }
+/// Writes what the writers of lines and of steps hold back.
+fn end_lines<L: Write>(lrat: &mut Option<L>, trim: &mut Option<L>) -> Result<(), RunFault>
+    ensures lrat { Keeps (bytes_in L.contents lrat.old) (bytes_in L.contents lrat.new) }
+    ensures trim { Keeps (bytes_in L.contents trim.old) (bytes_in L.contents trim.new) }
     ensures fault { IsLineFault result }
 {
-    match flush(lrat) {
+    if let Err(fault) = flush(lrat) {
+        return Err(RunFault::Lrat(fault));
+    }
+    match flush(trim) {
         Ok(()) => Ok(()),
-        Err(fault) => Err(RunFault::Lrat(fault)),
+        Err(fault) => Err(RunFault::Trim(fault)),
     }
 }
 

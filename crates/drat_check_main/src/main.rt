@@ -1,9 +1,11 @@
-//! The command `drat_check CNF PROOF [--drat] [--frat] [--lpr] [--lrat FILE] [--core FILE]`:
-//! checks a DRAT, DPR, FRAT or LPR proof against a formula, and says in one line what it shows.
+//! The command `drat_check CNF PROOF [--drat] [--frat] [--lpr] [--lrat FILE] [--trim FILE]
+//! [--core FILE]`: checks a DRAT, DPR, FRAT or LPR proof against a formula, and says in one line
+//! what it shows.
 //!
 //! Which of them the proof is, is told by its first bytes, or by `--drat`, `--frat` or `--lpr`.
-//! With `--lrat` the lines that the checker of LRAT proofs accepted are written to a file, and with
-//! `--core` the clauses of the formula that they use.
+//! With `--lrat` the lines that the checker of LRAT proofs accepted are written to a file, with
+//! `--trim` the steps of DRAT that they are, and with `--core` the clauses of the formula that they
+//! use.
 //! `--example` checks a small fixed example, `--help` says how the program is called, and
 //! `--version` of which version it is. The name `-` of a file that is read stands for standard
 //! input. What `RUST_LOG` asks for, as `RUST_LOG=info`, is logged to standard error; else nothing
@@ -76,13 +78,11 @@ fn check_files(
     call: &Call<'_>,
 ) -> u8 {
     let cost = Cost::from_now(rt);
-    let (lrat_name, core_name) = (call.value("--lrat"), call.value("--core"));
     let Some((cnf, proof)) = open_inputs(rt, cnf_name, proof_name) else {
         return NOT_RUN;
     };
     let mut files = WrittenFiles::new(rt);
-    let Some(mut outputs) = create_outputs(rt, &mut files, lrat_name, core_name, &cnf, &proof)
-    else {
+    let Some(mut outputs) = create_outputs(rt, &mut files, call, &cnf, &proof) else {
         return NOT_RUN;
     };
     let cnf = match hold_input(rt, cnf) {
@@ -102,8 +102,9 @@ fn check_files(
             return status;
         }
         Err(RunFault::Proof(_)) => say_steps(rt, proof_name, format),
-        Err(RunFault::Lrat(_)) => say_output(rt, lrat_name),
-        Err(RunFault::Core(_)) => say_output(rt, core_name),
+        Err(RunFault::Lrat(_)) => say_output(rt, call.value("--lrat")),
+        Err(RunFault::Trim(_)) => say_output(rt, call.value("--trim")),
+        Err(RunFault::Core(_)) => say_output(rt, call.value("--core")),
         Err(RunFault::Write(_)) | Ok(_) => {}
     }
     warn_of_header(rt, cnf_name, &lie);
@@ -135,14 +136,14 @@ fn check_told(
 fn create_outputs<'a>(
     rt: &HostRuntime,
     files: &mut WrittenFiles<'a>,
-    lrat: Option<&'a str>,
-    core: Option<&'a str>,
+    call: &'a Call<'_>,
     cnf: &Input<'_>,
     proof: &Input<'_>,
 ) -> Option<OutputFiles> {
     Some(Outputs {
-        lrat: create_buffered(rt, files, lrat, cnf, proof)?,
-        core: create_buffered(rt, files, core, cnf, proof)?,
+        lrat: create_buffered(rt, files, call.value("--lrat"), cnf, proof)?,
+        trim: create_buffered(rt, files, call.value("--trim"), cnf, proof)?,
+        core: create_buffered(rt, files, call.value("--core"), cnf, proof)?,
         counts: Cell::default(),
     })
 }
@@ -171,6 +172,7 @@ fn create_buffered<'a>(
 fn check_example(rt: &HostRuntime) -> u8 {
     let mut outputs: OutputFiles = Outputs {
         lrat: None,
+        trim: None,
         core: None,
         counts: Cell::default(),
     };

@@ -136,6 +136,7 @@ fn is_answered(
     let mut page = Page::of_room(alloc, room);
     let mut outputs: Outputs<Page, Page> = Outputs {
         lrat: None,
+        trim: None,
         core: None,
         counts: Cell::default(),
     };

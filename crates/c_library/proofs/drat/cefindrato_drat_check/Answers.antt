@@ -15,7 +15,7 @@ returns-clause-outputs c = λ is.
       formula = written.formula;
       whole = written.whole;
       holds = (
-        λ wanted. places_lrat written.formula _ _ _ _ _ (c.output.ensures wanted) written.holds.0 (c.answer_to.ensures.lrat verified wanted),
+        λ wanted. places_lrat written.formula _ _ _ _ _ _ _ (c.output.ensures wanted) written.holds.0 (c.answer_to.ensures.lrat verified wanted),
         λ wanted. places_core written.formula _ _ _ _ _ (c.output-2.ensures wanted) written.holds.1 (c.answer_to.ensures.core verified wanted),
       );
     }

@@ -1,0 +1,14 @@
+use Rattle.std.proofs.Common.{refl}
+use Rattle.drat_check.proofs.DeletedClauses.{wanted}
+use Rattle.drat_check.proofs.trimmed.steps_of.Goals as goal
+use Rattle.drat_check.proofs.trimmed.steps_of.Goals.{in-Add+in_ok-push_addition-in-Add, in-Delete+in_ok-push_deletions-in-Delete, in-Delete+else-has_begun}
+
+pub returns : goal.returns
+returns g c = λ formula lines ready. wanted c.args.trim.now _ (elim c.match-line.branch [
+  | in-Add+in_ok-push_addition-in-Add w ↦
+      rw (w.in-Add.is, w.text-is, w.in_ok-push_addition-in-Add.ensures, c.new-text.ensures.items) refl
+  | in-Delete+in_ok-push_deletions-in-Delete w ↦
+      rw (w.in-Delete.is, w.if-has_begun.true, w.text-is, w.in_ok-push_deletions-in-Delete.ensures formula lines ready, c.new-text.ensures.items) refl
+  | in-Delete+else-has_begun w ↦
+      rw (w.in-Delete.is, w.if-has_begun.false, w.text-is, c.new-text.ensures.items) refl
+])
