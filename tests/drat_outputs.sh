@@ -284,6 +284,7 @@ wants 0 's VERIFIED UNSAT' '' f p --lrat /dev/null --core c
 # a disk that is full: no line of a verdict, and the file is named
 wants 1 '' $'error writing: No space left on device (os error 28)\nin /dev/full' f p --lrat /dev/full --core c
 wants 1 '' $'error writing: No space left on device (os error 28)\nin /dev/full' f p --core /dev/full --lrat l
+wants 1 '' $'error writing: No space left on device (os error 28)\nin /dev/full' f p --trim /dev/full --lrat l
 alone 'no verdict' l c
 
 # calls that can't be read, and others of the same words

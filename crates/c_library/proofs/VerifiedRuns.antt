@@ -84,6 +84,7 @@ drat_verified (Ok NotVerified) is = absurd (omega arith)
 drat_verified (Err (drat_fault.Formula fault)) is = absurd (formula_fault fault is)
 drat_verified (Err (drat_fault.Proof fault)) is = absurd (proof_fault fault is)
 drat_verified (Err (drat_fault.Lrat cause)) is = absurd (omega arith)
+drat_verified (Err (drat_fault.Trim cause)) is = absurd (omega arith)
 drat_verified (Err (drat_fault.Core cause)) is = absurd (omega arith)
 drat_verified (Err (drat_fault.Write cause)) is = absurd (omega arith)
 

@@ -78,11 +78,15 @@ fn check_files(
     call: &Call<'_>,
 ) -> u8 {
     let cost = Cost::from_now(rt);
+    let (lrat_name, trim_name) = (call.value("--lrat"), call.value("--trim"));
+    let core_name = call.value("--core");
     let Some((cnf, proof)) = open_inputs(rt, cnf_name, proof_name) else {
         return NOT_RUN;
     };
     let mut files = WrittenFiles::new(rt);
-    let Some(mut outputs) = create_outputs(rt, &mut files, call, &cnf, &proof) else {
+    let Some(mut outputs) = create_outputs(
+        rt, &mut files, lrat_name, trim_name, core_name, &cnf, &proof,
+    ) else {
         return NOT_RUN;
     };
     let cnf = match hold_input(rt, cnf) {
@@ -102,9 +106,9 @@ fn check_files(
             return status;
         }
         Err(RunFault::Proof(_)) => say_steps(rt, proof_name, format),
-        Err(RunFault::Lrat(_)) => say_output(rt, call.value("--lrat")),
-        Err(RunFault::Trim(_)) => say_output(rt, call.value("--trim")),
-        Err(RunFault::Core(_)) => say_output(rt, call.value("--core")),
+        Err(RunFault::Lrat(_)) => say_output(rt, lrat_name),
+        Err(RunFault::Trim(_)) => say_output(rt, trim_name),
+        Err(RunFault::Core(_)) => say_output(rt, core_name),
         Err(RunFault::Write(_)) | Ok(_) => {}
     }
     warn_of_header(rt, cnf_name, &lie);
@@ -136,14 +140,16 @@ fn check_told(
 fn create_outputs<'a>(
     rt: &HostRuntime,
     files: &mut WrittenFiles<'a>,
-    call: &'a Call<'_>,
+    lrat: Option<&'a str>,
+    trim: Option<&'a str>,
+    core: Option<&'a str>,
     cnf: &Input<'_>,
     proof: &Input<'_>,
 ) -> Option<OutputFiles> {
     Some(Outputs {
-        lrat: create_buffered(rt, files, call.value("--lrat"), cnf, proof)?,
-        trim: create_buffered(rt, files, call.value("--trim"), cnf, proof)?,
-        core: create_buffered(rt, files, call.value("--core"), cnf, proof)?,
+        lrat: create_buffered(rt, files, lrat, cnf, proof)?,
+        trim: create_buffered(rt, files, trim, cnf, proof)?,
+        core: create_buffered(rt, files, core, cnf, proof)?,
         counts: Cell::default(),
     })
 }
