@@ -215,7 +215,7 @@ if [[ $(cat out) != 's VERIFIED UNSAT' ]] || ! grep -q '^p cnf' kept || grep -q 
   wrong=1
 fi
 wants 0 's VERIFIED UNSAT' '' "$lrat_check" f lines
-for output in '--lrat never' '--core never' '--lrat never --core never.too'; do
+for output in '--lrat never' '--trim never' '--core never' '--lrat never --core never.too'; do
   read -r -a words <<< "$output"
   wants 2 '' $'cannot open absent\nNo such file or directory (os error 2)' "$drat_check" f absent "${words[@]}"
   wants 2 '' $'cannot open absent\nNo such file or directory (os error 2)' "$drat_check" absent d "${words[@]}"
