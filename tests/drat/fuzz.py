@@ -231,7 +231,7 @@ class Sparse(Case):
 
 def wrong_steps(program, folder, call, steps=None):
     """What is wrong with the steps that `--trim` writes, if anything: they have to be verified after the formula and after its
-    used clauses, and where the steps before are given, there are no more of them."""
+    used clauses, and where the steps before are given, there are no more of them beside the empty clause."""
     trim, core = f"{folder}/trim", f"{folder}/core"
     subprocess.run([*call, "--trim", trim, "--core", core], capture_output=True, timeout=60)
     for cnf in (f"{folder}/a.cnf", core):
@@ -239,8 +239,8 @@ def wrong_steps(program, folder, call, steps=None):
         if ran.stdout != "s VERIFIED UNSAT\n":
             return f"its needed steps after {cnf}: {ran.stdout}{ran.stderr}"
     with open(trim) as file:
-        needed = sum(not line.startswith("d") for line in file)
-    if steps is not None and needed > sum(not gone for gone, _ in steps):
+        needed = sum(line != "0\n" and not line.startswith("d") for line in file)
+    if steps is not None and needed > sum(bool(clause) and not gone for gone, clause in steps):
         return f"{needed} steps are needed, which are more than there are"
     return None
 
