@@ -132,7 +132,7 @@ if command -v cadical > "$work/where"; then
     cadical -q "$work/long.cnf" "$work/long.drat" > "$work/said" 2>&1 || true
     begun=${EPOCHREALTIME/./}
     "$top/crates/drat_check_main/out/drat_check_main" --verbose "$work"/long.{cnf,drat} > "$work/out" 2> "$work/err" || true
-    if ((${EPOCHREALTIME/./} - begun > 2000000)); then
+    if ((${EPOCHREALTIME/./} - begun > 1200000)); then
       break
     fi
   done
