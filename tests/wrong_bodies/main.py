@@ -135,33 +135,16 @@ def stale(crate):
     return not is_of(crate, record)
 
 
-def waiting():
-    """The crates whose wrong bodies are known to be untried since they changed, by `tests/wrong_bodies/waiting.txt`, which may be missing."""
-    path = f"{ROOT}/tests/wrong_bodies/waiting.txt"
-    if not os.path.exists(path):
-        return []
-    with open(path, encoding="utf-8") as file:
-        return file.read().split()
-
-
 def check_records():
-    """Fails where a crate's own words have changed, unless it is known to wait, and where one that waits has been tried. Where words of a
-    definition below have changed, or the kinds were not told, it says so."""
-    names, known = crates_with_wrong_bodies(), waiting()
+    """Fails where a crate's own words have changed. Where those of a definition below have, or the kinds were not told, it says so."""
+    names = crates_with_wrong_bodies()
     own = [it for it in names if not is_of(f"{ROOT}/crates/{it}", head)]
-    wait = [it for it in own if it in known]
-    if wait:
-        print("wrong bodies that wait to be tried since these changed:", *wait)
-    untold = [it for it in own if it not in known]
-    if untold:
-        print("wrong bodies were not tried since these changed; run: tests/wrong_bodies.sh", *untold)
-    tried = [it for it in known if it not in own]
-    if tried:
-        print("these do not wait any more, so tests/wrong_bodies/waiting.txt has to leave them out:", *tried)
+    if own:
+        print("wrong bodies were not tried since these changed; run: tests/wrong_bodies.sh", *own)
     below = [it for it in names if it not in own and stale(f"{ROOT}/crates/{it}")]
     if below:
         print("wrong bodies are to be tried again over the definitions below, by --stale:", *below)
-    return 1 if untold or tried else 0
+    return 1 if own else 0
 
 
 def write_copies(crate, wrongs, room):
