@@ -89,7 +89,7 @@ impl Listing {
         if id <= self.greatest {
             return Err(LineFault::IdNotGreater);
         }
-        values.allow(self.stored);
+        values.allow(self.stored.saturating_add(clause.len() as u64));
         values.negate(clause)?;
         self.try_hints(values, hints)?;
         self.put(id, clause)?;

@@ -62,10 +62,10 @@ impl LitCounts {
         ensures stored { OnOk result
             (self.new.stored ≡ min (self.old.stored + length clause.now) (2 ^ 64 - 1)) }
     {
+        self.stored = self.stored.saturating_add(clause.len() as u64);
         for lit in clause {
             self.add_one(*lit)?;
         }
-        self.stored = self.stored.saturating_add(clause.len() as u64);
         Ok(())
     }
 

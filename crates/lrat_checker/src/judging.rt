@@ -36,7 +36,8 @@ pub(crate) fn judge(
     if clauses.contains(id) {
         return Err(Stop::Refused(LratCause::IdTaken));
     }
-    work.values.allow(clauses.lits_stored());
+    let lits = clauses.lits_stored().saturating_add(clause.len() as u64);
+    work.values.allow(lits);
     work.values.clear();
     work.values.negate(clause, None)?;
     match propagate(clauses, &mut work.values, hints)? {
