@@ -70,6 +70,11 @@ impl Backward {
         self.record(ClauseLink::none())
     }
 
+    /// No line of the empty clause: clauses are wanted that are used already.
+    pub(crate) fn begin_piece(&mut self, formula_len: usize) {
+        self.formula_len = formula_len;
+    }
+
     /// Gives back the memory that is of use only while clauses are checked.
     pub(crate) fn end(&mut self) {
         self.check = Check::new(self.alloc);

@@ -3,7 +3,8 @@ use crate::backward::Backward;
 use crate::clauses::ClauseIndex;
 use crate::fault::ElaborateFault;
 use crate::forward::Forward;
-use crate::lines::Lines;
+use crate::lines::{Lines, id_in};
+use crate::wanted::Wanted;
 use lrat_text::LratLine;
 use sat_formula::Lit;
 use std::alloc::Global;
@@ -33,6 +34,7 @@ pub struct Elaborator {
     pub(crate) forward: Forward,
     pub(crate) backward: Backward,
     lines: Lines,
+    wanted: Wanted,
 }
 
 impl Elaborator {
@@ -43,6 +45,7 @@ impl Elaborator {
             forward: Forward::new(alloc),
             backward: Backward::new(alloc),
             lines: Lines::new(alloc),
+            wanted: Wanted::new(alloc),
         }
     }
 
@@ -92,6 +95,32 @@ impl Elaborator {
         self.forward.conflict.is_some()
     }
 
+    /// The steps are a piece of a proof: it need not come to a conflict, and the clauses that are
+    /// wanted behind it are checked.
+    pub fn end_piece(&mut self) {
+        self.wanted.is_piece = true;
+    }
+
+    /// Wants a clause behind the last step. The answer is whether one with just these literals, in
+    /// any order, is there. After a conflict, and once the steps are checked, none is.
+    pub fn want(&mut self, lits: &[Lit]) -> Result<bool, ElaborateFault> {
+        self.begin_proof()?;
+        if self.phase != Phase::Proof || self.is_refuted() {
+            return Ok(false);
+        }
+        self.wanted.want(&mut self.forward, lits)
+    }
+
+    /// The id of the clause that was wanted at a place, once all lines were told.
+    pub fn wanted_id(&self, place: usize) -> Option<u64> {
+        id_in(&self.lines.ids, self.wanted.get(place)?).ok()
+    }
+
+    /// The id of the last clause that a line added, or else of the formula's last one.
+    pub fn last_id(&self) -> u64 {
+        self.lines.last_id
+    }
+
     /// Checks the steps that the conflict needs, the last first. A call goes over as many steps as
     /// it is told, and the answer is whether none is left; then the lines may be asked for.
     ///
@@ -122,6 +151,12 @@ impl Elaborator {
             return Ok(());
         }
         let Some(conflict) = self.forward.conflict else {
+            if self.wanted.is_piece {
+                self.phase = Phase::Checking;
+                self.forward.end();
+                self.backward.begin_piece(self.forward.formula_len);
+                return Ok(());
+            }
             return Err(ElaborateFault::NoConflict {
                 steps: self.steps_left(),
             });

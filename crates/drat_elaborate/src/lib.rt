@@ -34,6 +34,7 @@ mod steps;
 mod sweep;
 mod trail;
 mod variables;
+mod wanted;
 mod watches;
 mod witness_lines;
 mod witnesses;

@@ -78,7 +78,12 @@ impl ClauseTable {
         Ok(())
     }
 
-    fn enter(&mut self, clauses: &mut Clauses, clause: ClauseIndex) -> Result<(), ElaborateFault> {
+    /// Enters a clause that is there and is not found yet.
+    pub(crate) fn enter(
+        &mut self,
+        clauses: &mut Clauses,
+        clause: ClauseIndex,
+    ) -> Result<(), ElaborateFault> {
         let hash = hash(clauses.lits(clause)?);
         let bucket = bucket_of(&mut self.buckets, hash)?;
         clauses.get_mut(clause)?.next = *bucket;
