@@ -21,6 +21,7 @@ WAYS = {
     "hint_check": ("hint_checker", "hint_check"),
     "varisat_check": ("proof_bytes", "checker_steps", "clause_store", "varisat_checker", "varisat_check"),
     "model_check": ("answer_text", "model_check"),
+    "drat_cut": ("drat_text", "drat_cut"),
     "lrat_to_proof": ("lrat_text", "lrat_to_proof"),
 }
 

@@ -1,0 +1,50 @@
+//! What the program says of itself.
+use command::{About, Entry, QUIET, VERBOSE};
+
+/// What `--help` says.
+pub const ABOUT: About<'static> = About {
+    call: "drat_cut CNF PROOF PREFIX [--lemmas N] [--live N] [--quiet] [--verbose]",
+    does: "Cuts a DRAT proof into pieces where few clauses live, while it is read. It judges nothing.",
+    operands: &[
+        Entry {
+            name: "CNF",
+            text: "the formula, DIMACS text; - stands for standard input",
+        },
+        Entry {
+            name: "PROOF",
+            text: "the proof, DRAT, text or binary; - stands for standard input",
+        },
+        Entry {
+            name: "PREFIX",
+            text: "what the names of the files begin with: PREFIX1.cnf, PREFIX1.drat, PREFIX2.cnf and so on",
+        },
+    ],
+    options: &[
+        Entry {
+            name: "--lemmas N",
+            text: "a piece has at least so many lemmas, but for the last one; without it 20000",
+        },
+        Entry {
+            name: "--live N",
+            text: "it ends where at most so many clauses live; without it twice as many as it has lemmas",
+        },
+        QUIET,
+        VERBOSE,
+    ],
+    verified: "the pieces are written, and propagation behind the last one leads to a conflict",
+    open: "the pieces are written, and the proof ends without a conflict",
+    environment: &[Entry {
+        name: "RUST_LOG",
+        text: "what is logged to standard error, as info; without it nothing is",
+    }],
+    examples: &[
+        Entry {
+            name: "drat_cut formula.cnf proof.drat piece.",
+            text: "cuts a proof",
+        },
+        Entry {
+            name: "cadical -q formula.cnf - | drat_cut formula.cnf - piece.",
+            text: "cuts a proof as the solver writes it, and says of each piece when it is whole",
+        },
+    ],
+};

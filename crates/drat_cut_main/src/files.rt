@@ -1,0 +1,87 @@
+//! The files of the pieces. Each has its name once it is whole.
+use crate::fault::CutFailure;
+use command::{Input, Source, WrittenFiles, open_again};
+use drat_cut::Cutter;
+use log::Log;
+use std::alloc::AllocError;
+use std::fs::File;
+use std::io;
+use std::io::{BufWriter, Write};
+
+/// Where the pieces go.
+#[derive(Drop)]
+pub struct PieceFiles<'a> {
+    pub rt: &'a HostRuntime,
+    prefix: &'a str,
+    cnf: Input<'a>,
+    proof: Input<'a>,
+}
+
+impl<'a> PieceFiles<'a> {
+    /// No file yet. None of them is one of these that are read.
+    pub fn new(
+        rt: &'a HostRuntime,
+        prefix: &'a str,
+        cnf_name: &'a str,
+        proof_name: &'a str,
+    ) -> PieceFiles<'a> {
+        PieceFiles {
+            rt,
+            prefix,
+            cnf: as_known(rt, cnf_name),
+            proof: as_known(rt, proof_name),
+        }
+    }
+
+    /// The name of a file of a piece; `ending` says which one it is.
+    pub fn name(&self, piece: u64, ending: &str) -> Result<String, AllocError> {
+        let prefix = self.prefix;
+        format!(in self.rt.alloc(); "{prefix}{piece}.{ending}")
+    }
+
+    /// Makes a file for a piece.
+    pub fn create<'b>(
+        &self,
+        files: &mut WrittenFiles<'b>,
+        name: &'b str,
+    ) -> Result<BufWriter<File>, CutFailure> {
+        match files.create(name, &self.cnf, &self.proof) {
+            Some(file) => Ok(BufWriter::new(self.rt.alloc(), file)?),
+            None => Err(CutFailure::Unopened),
+        }
+    }
+
+    /// Writes the clauses that live before a piece.
+    pub fn write_live(&self, piece: u64, cutter: &mut Cutter) -> Result<(), CutFailure> {
+        let name = self.name(piece, "cnf")?;
+        let mut files = WrittenFiles::new(self.rt);
+        let mut out = self.create(&mut files, name.as_str())?;
+        cutter.write_live(&mut out)?;
+        finish(out, &mut files)
+    }
+
+    /// Says that a piece is whole. What is told of the run is taken back before.
+    pub fn say<L: Log>(&self, told: &L, piece: u64, lemmas: u64, live: usize) -> io::Result<()> {
+        told.flush();
+        println!(self.rt; "piece {piece}: {lemmas} lemmas, {live} clauses live behind it")
+    }
+}
+
+/// What was written is whole, and its file gets its name.
+pub fn finish(out: BufWriter<File>, files: &mut WrittenFiles<'_>) -> Result<(), CutFailure> {
+    let mut out = out;
+    out.flush()?;
+    drop(out);
+    files.finish()?;
+    Ok(())
+}
+
+/// A file that is read, as it is known by its name alone: its reader is elsewhere. Where its bytes
+/// come only once it is no regular file, and nothing can be written over it.
+fn as_known<'a>(rt: &HostRuntime, name: &'a str) -> Input<'a> {
+    let file = match open_again(rt, name) {
+        Some(file) => Source::File(file),
+        None => Source::StandardInput(rt.stdin()),
+    };
+    Input { name, file }
+}
