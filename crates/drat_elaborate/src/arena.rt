@@ -48,6 +48,9 @@ pub(crate) struct Arena {
 }
 
 impl Arena {
+    /// No clause has a number with this bit.
+    const MARK: u32 = 1 << 31;
+
     pub(crate) fn new(alloc: Global) -> Arena {
         Arena {
             words: Vec::new(alloc),
@@ -141,6 +144,17 @@ impl Arena {
         }
     }
 
+    /// Marks a block, or takes the mark off. While it is marked its number is that of no clause.
+    pub(crate) fn turn_mark(&mut self, block: Block) -> Result<(), ElaborateFault> {
+        match self.words.get_mut(block.0 as usize) {
+            Some(word) => {
+                *word = LocalLit::from_code(word.code() ^ Arena::MARK);
+                Ok(())
+            }
+            None => Err(ElaborateFault::Internal),
+        }
+    }
+
     /// The number of a clause.
     pub(crate) fn clause(&self, block: Block) -> Result<ClauseIndex, ElaborateFault> {
         match self.words.get(block.0 as usize) {
@@ -161,11 +175,10 @@ impl Arena {
         }
     }
 
-    /// The words from a block on: its number, its length, its literals, and the blocks behind it.
+    /// All the words.
     #[inline(always)]
-    pub(crate) fn words_from(&mut self, block: Block) -> &mut [LocalLit] {
-        let start = (block.0 as usize).min(self.words.len());
-        &mut self.words[start..]
+    pub(crate) fn words_mut(&mut self) -> &mut [LocalLit] {
+        self.words.as_mut_slice()
     }
 
     #[inline(always)]

@@ -21,13 +21,15 @@ impl Propagator {
     /// Watches the first two literals of a clause no longer.
     pub(crate) fn unwatch(&mut self, clause: &Clause) -> Result<(), ElaborateFault> {
         let (first, second, _) = self.watched(clause.block)?;
-        let lists = self.lists_of(clause.used);
-        lists.remove(first, clause.block)?;
-        lists.remove(second, clause.block)
+        self.unwatch_by(clause, first)?;
+        self.unwatch_by(clause, second)
     }
 
     /// The watched literals, and whether the clause has no more.
-    fn watched(&self, block: Block) -> Result<(LocalLit, LocalLit, bool), ElaborateFault> {
+    pub(crate) fn watched(
+        &self,
+        block: Block,
+    ) -> Result<(LocalLit, LocalLit, bool), ElaborateFault> {
         match self.clauses.arena.lits(block)? {
             [first, second, rest @ ..] => Ok((*first, *second, rest.is_empty())),
             _ => Err(ElaborateFault::Internal),
@@ -35,7 +37,7 @@ impl Propagator {
     }
 
     /// The watches of the clauses that are used so much.
-    fn lists_of(&mut self, used: Use) -> &mut Watches {
+    pub(crate) fn lists_of(&mut self, used: Use) -> &mut Watches {
         match used {
             Use::Never => &mut self.unused,
             Use::Before => &mut self.used,
@@ -44,6 +46,7 @@ impl Propagator {
     }
 
     /// The clause is used from here on. The answer is whether it was not before.
+    #[inline(always)]
     pub(crate) fn make_core(&mut self, clause: ClauseIndex) -> Result<bool, ElaborateFault> {
         let found = self.clauses.get_mut(clause)?;
         let used = found.used;
@@ -51,6 +54,12 @@ impl Propagator {
             found.used = Use::Now;
             return Ok(used == Use::Never);
         }
+        self.watch_lately(clause, used)
+    }
+
+    /// A watched clause that was not used lately is watched among those that were. The answer is
+    /// whether it was never used.
+    fn watch_lately(&mut self, clause: ClauseIndex, used: Use) -> Result<bool, ElaborateFault> {
         self.recent.remove(clause);
         self.change_use(clause, Use::Now)?;
         self.used_lately.push(clause)?;
@@ -167,8 +176,11 @@ impl Propagator {
     }
 }
 
-/// Puts the two literals first that are best to be watched.
+/// Puts the two literals first that are best to be watched. While all are free, any two are.
 fn choose_watches(lits: &mut [LocalLit], trail: &Trail) {
+    if trail.len() == 0 {
+        return;
+    }
     for place in 0..2 {
         let best = best_from(lits, place, trail);
         if place < lits.len() && best < lits.len() {

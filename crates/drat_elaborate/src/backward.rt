@@ -110,7 +110,9 @@ impl Backward {
         if let Some(len) = steps.pop_growth() {
             propagator.trail.cut(len);
         }
-        if propagator.detach(clause)?.is_core() {
+        let is_used = propagator.detach(clause)?.is_core();
+        propagator.recent.pass(is_used);
+        if is_used {
             if !self.check_clause(propagator, clause)? {
                 return Err(self.refusal(clause, steps.len().saturating_add(1)));
             }

@@ -36,7 +36,7 @@ pub(crate) struct Check {
     pub(crate) by_witness: LitSet,
     /// The places of the trail whose reasons are wanted.
     pub(crate) wanted: PlaceSet,
-    /// The hints before the groups.
+    /// The hints before the groups, the last one first.
     pub(crate) leading: Vec<ClauseIndex>,
     pub(crate) groups: Vec<PackedHint>,
     /// The clauses that were not used before.
@@ -117,12 +117,8 @@ impl Check {
         self.wanted.make_room(propagator.trail.len())?;
         self.want_negated(propagator, conflict, Assumed::Clause)?;
         let conflict = self.use_clause(propagator, conflict)?;
-        self.walk(propagator, 0, Assumed::Clause, After::Forget)?;
-        for reason in self.walked.iter().rev() {
-            self.leading.push(*reason)?;
-        }
         self.leading.push(conflict)?;
-        Ok(())
+        self.explain_wanted(propagator)
     }
 
     /// The leading hints that force what is wanted on the trail.
@@ -131,9 +127,7 @@ impl Check {
         propagator: &mut Propagator,
     ) -> Result<(), ElaborateFault> {
         self.walk(propagator, 0, Assumed::Clause, After::Forget)?;
-        for reason in self.walked.iter().rev() {
-            self.leading.push(*reason)?;
-        }
+        self.leading.extend_from_slice(&self.walked)?;
         Ok(())
     }
 

@@ -84,6 +84,16 @@ pub(crate) enum Use {
     Now,
 }
 
+impl Use {
+    /// Whether clauses that are used so much are watched in the same lists.
+    pub(crate) fn shares_lists(self, other: Use) -> bool {
+        match self {
+            Use::Never | Use::Before => self == other,
+            Use::Lately | Use::Now => other == Use::Lately || other == Use::Now,
+        }
+    }
+}
+
 /// What is known of a clause besides its literals.
 #[derive(Clone, Copy)]
 pub(crate) struct Clause {

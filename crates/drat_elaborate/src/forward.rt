@@ -179,12 +179,10 @@ impl Forward {
         let mut is_tautology = false;
         for lit in lits {
             let lit = self.variables.local(*lit)?;
-            if self.set.contains(lit) {
-                continue;
+            if self.set.insert(lit)? {
+                self.lits.push(lit)?;
+                is_tautology = is_tautology || self.set.contains(!lit);
             }
-            self.set.insert(lit)?;
-            self.lits.push(lit)?;
-            is_tautology = is_tautology || self.set.contains(!lit);
         }
         self.propagator.make_room(self.variables.len())?;
         Ok(is_tautology)

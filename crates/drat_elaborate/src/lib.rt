@@ -29,6 +29,7 @@ mod recent;
 mod records;
 mod redundancy;
 mod room;
+mod stale;
 mod standing;
 mod steps;
 mod sweep;

@@ -24,18 +24,25 @@ impl LitSet {
         Ok(())
     }
 
+    #[inline(always)]
     pub(crate) fn contains(&self, lit: LocalLit) -> bool {
         self.stamps.get(lit.place()).copied().unwrap_or(0) == self.now
     }
 
-    pub(crate) fn insert(&mut self, lit: LocalLit) -> Result<(), ElaborateFault> {
+    /// Puts a literal in. The answer is whether it was not in the set before.
+    #[inline(always)]
+    pub(crate) fn insert(&mut self, lit: LocalLit) -> Result<bool, ElaborateFault> {
         let place = lit.place();
         if self.stamps.len() <= place {
             self.stamps.resize(place.saturating_add(1), 0)?;
         }
-        if let Some(stamp) = self.stamps.get_mut(place) {
-            *stamp = self.now;
+        match self.stamps.get_mut(place) {
+            Some(stamp) => {
+                let is_new = *stamp != self.now;
+                *stamp = self.now;
+                Ok(is_new)
+            }
+            None => Err(ElaborateFault::Internal),
         }
-        Ok(())
     }
 }

@@ -34,6 +34,12 @@ impl LocalLit {
         (self.0 / 2) as usize
     }
 
+    /// The other one of two literals, one of which is `known`.
+    #[inline(always)]
+    pub(crate) fn other_of(first: LocalLit, second: LocalLit, known: LocalLit) -> LocalLit {
+        LocalLit(first.0 ^ second.0 ^ known.0)
+    }
+
     pub(crate) fn is_negative(self) -> bool {
         self.0 % 2 == 1
     }

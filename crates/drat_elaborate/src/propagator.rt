@@ -4,8 +4,9 @@ use crate::clauses::{ClauseIndex, Clauses};
 use crate::fault::ElaborateFault;
 use crate::local::LocalLit;
 use crate::recent::Recent;
+use crate::stale::StaleLists;
 use crate::standing::Standing;
-use crate::sweep::{Sweep, Until, sweep_list};
+use crate::sweep::{Sweep, sweep_list, sweep_whole};
 use crate::trail::{Reason, Trail};
 use crate::watches::Watches;
 use std::alloc::{AllocError, Global};
@@ -28,6 +29,7 @@ pub(crate) struct Propagator {
     /// The clauses that are watched in `lately`.
     pub(crate) used_lately: Vec<ClauseIndex>,
     pub(crate) recent: Recent,
+    pub(crate) stale: StaleLists,
 }
 
 /// How far the trail has been propagated in clauses that are gone through up to a unit.
@@ -83,6 +85,7 @@ impl Propagator {
             unused: Watches::new(alloc),
             used_lately: Vec::new(alloc),
             recent: Recent::new(alloc),
+            stale: StaleLists::new(alloc),
         }
     }
 
@@ -96,6 +99,7 @@ impl Propagator {
         self.unused = Watches::new(self.alloc);
         self.used_lately = Vec::new(self.alloc);
         self.recent = Recent::new(self.alloc);
+        self.stale = StaleLists::new(self.alloc);
     }
 
     /// Makes room for so many variables.
@@ -111,15 +115,17 @@ impl Propagator {
 
     /// Propagates the trail from a place on. The answer is the clause of a conflict.
     pub(crate) fn propagate(&mut self, from: usize) -> Result<Option<Block>, ElaborateFault> {
+        if !self.stale.is_empty() {
+            self.refresh()?;
+        }
         let mut heads = Heads {
             lately: from,
             used: Head::at(from),
             unused: Head::at(from),
             recent: from,
         };
-        // Each step takes a literal of the trail off one of three heads, or makes one true.
-        let bound = self.trail.lit_count().saturating_mul(2);
-        for _ in 0..bound.saturating_add(1) {
+        // Each step but the last makes a literal true.
+        for _ in 0..self.trail.lit_count().saturating_add(1) {
             match self.advance(&mut heads)? {
                 Progress::Going => {}
                 Progress::Done => return Ok(None),
@@ -131,47 +137,57 @@ impl Propagator {
 
     #[inline(always)]
     fn advance(&mut self, heads: &mut Heads) -> Result<Progress, ElaborateFault> {
-        if let Some(lit) = self.trail.get(heads.lately) {
-            heads.lately = heads.lately.saturating_add(1);
-            return self.advance_lately(!lit);
+        if let Some(block) = self.advance_lately(heads)? {
+            return Ok(Progress::Conflict(block));
         }
         let (arena, trail) = (&mut self.clauses.arena, &mut self.trail);
-        if let Some(lit) = trail.get(heads.used.place) {
-            return sweep_to_unit(arena, trail, &mut self.used, !lit, &mut heads.used);
+        match advance_to_unit(arena, trail, &mut self.used, &mut heads.used)? {
+            Progress::Done => {}
+            progress => return Ok(progress),
         }
-        let Some(lit) = trail.get(heads.unused.place) else {
-            return Ok(Progress::Done);
-        };
-        if heads.recent < self.trail.len() {
+        if heads.unused.place < self.trail.len() && heads.recent < self.trail.len() {
             if let Some(progress) = self.advance_recent()? {
                 return Ok(progress);
             }
             heads.recent = self.trail.len();
         }
         let (arena, trail) = (&mut self.clauses.arena, &mut self.trail);
-        sweep_to_unit(arena, trail, &mut self.unused, !lit, &mut heads.unused)
+        advance_to_unit(arena, trail, &mut self.unused, &mut heads.unused)
+    }
+
+    /// Propagates the trail to its end in the clauses that were used lately. The answer is the
+    /// clause of a conflict.
+    #[inline(always)]
+    fn advance_lately(&mut self, heads: &mut Heads) -> Result<Option<Block>, ElaborateFault> {
+        for place in heads.lately..self.trail.lit_count() {
+            let Some(lit) = self.trail.get(place) else {
+                break;
+            };
+            heads.lately = place.saturating_add(1);
+            if self.lately.is_watched_by(!lit) {
+                if let Some(block) = self.sweep_lately(!lit)? {
+                    return Ok(Some(block));
+                }
+            }
+        }
+        Ok(None)
     }
 
     /// Goes through all the clauses used lately that watch a literal.
-    #[inline(always)]
-    fn advance_lately(&mut self, falsified: LocalLit) -> Result<Progress, ElaborateFault> {
+    #[inline(never)]
+    fn sweep_lately(&mut self, falsified: LocalLit) -> Result<Option<Block>, ElaborateFault> {
         let Some(mut watches) = self.lately.take(falsified) else {
-            return Ok(Progress::Going);
+            return Ok(None);
         };
-        let swept = sweep_list(
+        let swept = sweep_whole(
             &mut self.clauses.arena,
             &mut self.trail,
             &mut self.lately,
             &mut watches,
-            0,
             falsified,
-            Until::End,
         );
         self.lately.put(falsified, watches);
-        match swept? {
-            Sweep::Conflict(block) => Ok(Progress::Conflict(block)),
-            Sweep::Unit { .. } | Sweep::End => Ok(Progress::Going),
-        }
+        swept
     }
 
     /// Looks at the recent lemmas, up to the first that forces a literal or is false.
@@ -212,33 +228,45 @@ impl Propagator {
     }
 }
 
-/// Goes on in the list of a literal, up to the first clause that is unit.
+/// Goes on along the trail, up to the first clause that is unit.
 #[inline(always)]
-fn sweep_to_unit(
+fn advance_to_unit(
     arena: &mut Arena,
     trail: &mut Trail,
     lists: &mut Watches,
-    falsified: LocalLit,
     head: &mut Head,
 ) -> Result<Progress, ElaborateFault> {
-    let Some(mut watches) = lists.take(falsified) else {
-        head.pass();
-        return Ok(Progress::Going);
-    };
-    let swept = sweep_list(
-        arena,
-        trail,
-        lists,
-        &mut watches,
-        head.next,
-        falsified,
-        Until::Unit,
-    );
-    lists.put(falsified, watches);
-    match swept? {
-        Sweep::Conflict(block) => return Ok(Progress::Conflict(block)),
-        Sweep::Unit { next } => head.next = next,
-        Sweep::End => head.pass(),
+    for place in head.place..trail.lit_count() {
+        let Some(lit) = trail.get(place) else {
+            break;
+        };
+        match sweep_from(arena, trail, lists, !lit, head.next)? {
+            Sweep::End => head.pass(),
+            Sweep::Conflict(block) => return Ok(Progress::Conflict(block)),
+            Sweep::Unit { lit, block, next } => {
+                head.next = next;
+                trail.assign(lit, Reason::clause(block))?;
+                return Ok(Progress::Going);
+            }
+        }
     }
-    Ok(Progress::Going)
+    Ok(Progress::Done)
+}
+
+/// Goes on in the list of a literal from a place on, up to the first clause that is unit.
+#[inline(always)]
+fn sweep_from(
+    arena: &mut Arena,
+    trail: &Trail,
+    lists: &mut Watches,
+    falsified: LocalLit,
+    from: usize,
+) -> Result<Sweep, ElaborateFault> {
+    let Some(mut watches) = lists.take(falsified) else {
+        return Ok(Sweep::End);
+    };
+    let (words, values) = (arena.words_mut(), trail.values());
+    let swept = sweep_list(words, values, lists.all(), &mut watches, from, falsified);
+    lists.put(falsified, watches);
+    swept
 }

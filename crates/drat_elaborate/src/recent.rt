@@ -1,7 +1,8 @@
 //! The lemmas right before the one that is checked.
 //!
 //! An unused clause that a check needs is mostly one of them. So they are looked at one by one
-//! before the watches of all unused clauses are gone through.
+//! before the watches of all unused clauses are gone through. In a proof of which little is needed
+//! that brings lemmas into use that others would have spared: there they are left alone.
 
 use crate::clauses::ClauseIndex;
 use std::alloc::{AllocError, Global};
@@ -14,6 +15,15 @@ const PAY: u32 = 24;
 
 /// More credit is not kept, so that a look ends soon after it stopped being worth it.
 const MOST_CREDIT: u32 = 4096;
+
+/// A period has so many lemmas.
+const PERIOD: u32 = 4096;
+
+/// Its first ones are a sample, during which none is looked at.
+const SAMPLE: u32 = 512;
+
+/// Where so many of them are used, lemmas are looked at in the rest of the period.
+const MANY_USED: u32 = SAMPLE / 5 * 2;
 
 /// Which lemmas are looked at, and how many may be.
 ///
@@ -28,6 +38,10 @@ pub(crate) struct Recent {
     /// Of the 64 numbers before it, the last one as the highest bit, those that may be looked at.
     within: u64,
     credit: u32,
+    /// How many lemmas of this period were gone over, and how many of the sample are used.
+    passed: u32,
+    used: u32,
+    is_worth_it: bool,
 }
 
 impl Recent {
@@ -38,6 +52,9 @@ impl Recent {
             end: 0,
             within: 0,
             credit: MOST_CREDIT,
+            passed: SAMPLE,
+            used: 0,
+            is_worth_it: true,
         }
     }
 
@@ -61,6 +78,20 @@ impl Recent {
         }
     }
 
+    /// The last lemma that there is was gone over. It is checked if it is used.
+    pub(crate) fn pass(&mut self, is_used: bool) {
+        if self.passed == PERIOD {
+            self.passed = 0;
+            self.used = 0;
+            self.is_worth_it = false;
+        }
+        self.passed = self.passed.saturating_add(1);
+        self.used = self.used.saturating_add(is_used as u32);
+        if self.passed == SAMPLE {
+            self.is_worth_it = self.used >= MANY_USED;
+        }
+    }
+
     /// The lemma of this number is checked next; those before `formula_len` are no lemmas. Each
     /// check gives a little credit, so that looking is tried again.
     pub(crate) fn begin(&mut self, lemma: usize, formula_len: usize) {
@@ -74,7 +105,7 @@ impl Recent {
     /// highest.
     #[inline(always)]
     pub(crate) fn lemmas(&self) -> u64 {
-        if self.credit == 0 {
+        if self.credit == 0 || !self.is_worth_it {
             return 0;
         }
         let (word, shift) = (self.end / 64, (self.end % 64) as u32);

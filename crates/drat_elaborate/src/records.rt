@@ -72,7 +72,7 @@ impl Records {
         }
     }
 
-    /// Keeps what was found of a clause, each list from its end on.
+    /// Keeps what was found of a clause, each list from its end on. The leading hints are given so.
     pub(crate) fn push(
         &mut self,
         clause: ClauseLink,
@@ -89,7 +89,7 @@ impl Records {
             self.push_hint(base, *hint)?;
         }
         self.numbers.push(narrow(groups.len())?)?;
-        for hint in leading.iter().rev() {
+        for hint in leading {
             self.numbers.push(base.wrapping_sub(hint.number()))?;
         }
         self.numbers.push(narrow(leading.len())?)?;

@@ -3,22 +3,18 @@ use crate::arena::{Arena, Block};
 use crate::fault::ElaborateFault;
 use crate::local::LocalLit;
 use crate::trail::{Reason, Trail, Value, value_in};
-use crate::watches::{Watch, Watches};
+use crate::watches::{Watch, Watches, push_watch};
 
-/// How far a list is gone through.
-#[derive(Clone, Copy, PartialEq, Eq)]
-pub(crate) enum Until {
-    End,
-    /// Up to the first clause that forces a literal.
-    Unit,
-}
-
-/// Where a list was left.
+/// What a list came to, up to the first clause that is unit or false.
 #[derive(Clone, Copy)]
 pub(crate) enum Sweep {
     End,
-    /// Before this place of the list, after a clause that forced a literal.
-    Unit { next: usize },
+    /// The clause forces the literal. The list goes on at this place.
+    Unit {
+        lit: LocalLit,
+        block: Block,
+        next: usize,
+    },
     Conflict(Block),
 }
 
@@ -33,27 +29,22 @@ enum Found {
     Conflict,
 }
 
-/// Goes through a list from a place on. What a clause forces is made true. Clauses with a second
-/// literal that is free move to the list of that one. Where a literal is true, the clause stays:
-/// what one propagation makes true becomes free all at once.
+/// Goes through a list from a place on, up to the first clause that is unit or false. Clauses with
+/// a second literal that is free move to the list of that one. Where a literal is true, the clause
+/// stays: what one propagation makes true becomes free all at once.
 #[inline(always)]
 pub(crate) fn sweep_list(
-    arena: &mut Arena,
-    trail: &mut Trail,
-    lists: &mut Watches,
+    words: &mut [LocalLit],
+    values: &[Value],
+    lists: &mut [Vec<Watch>],
     watches: &mut Vec<Watch>,
     from: usize,
     falsified: LocalLit,
-    until: Until,
 ) -> Result<Sweep, ElaborateFault> {
     let mut at = from;
-    // Each step goes on by one place, or takes one out.
-    for _ in from..watches.len() {
-        if at >= watches.len() {
-            break;
-        }
+    while at < watches.len() {
         let watch = watches[at];
-        let value = trail.value(watch.blocker);
+        let value = value_in(values, watch.blocker);
         if value == Value::True {
             at += 1;
             continue;
@@ -61,7 +52,7 @@ pub(crate) fn sweep_list(
         let found = if watch.is_binary() {
             forced(watch.blocker, value)
         } else {
-            look(arena.words_from(watch.block()), falsified, trail.values())?
+            look(words, watch.block(), falsified, values)?
         };
         match found {
             Found::True(blocker) => {
@@ -69,20 +60,51 @@ pub(crate) fn sweep_list(
                 at += 1;
             }
             Found::Moved(to, blocker) => {
-                lists.push(to, watch.with_blocker(blocker))?;
+                push_watch(lists, to, watch.with_blocker(blocker))?;
                 watches.swap_remove(at);
             }
             Found::Unit(lit) => {
-                trail.assign(lit, Reason::clause(watch.block()))?;
-                at += 1;
-                if until == Until::Unit {
-                    return Ok(Sweep::Unit { next: at });
-                }
+                let block = watch.block();
+                return Ok(Sweep::Unit {
+                    lit,
+                    block,
+                    next: at + 1,
+                });
             }
             Found::Conflict => return Ok(Sweep::Conflict(watch.block())),
         }
     }
     Ok(Sweep::End)
+}
+
+/// Goes through a whole list. What its clauses force is made true. The answer is the clause of a
+/// conflict.
+#[inline(always)]
+pub(crate) fn sweep_whole(
+    arena: &mut Arena,
+    trail: &mut Trail,
+    lists: &mut Watches,
+    watches: &mut Vec<Watch>,
+    falsified: LocalLit,
+) -> Result<Option<Block>, ElaborateFault> {
+    let (words, lists) = (arena.words_mut(), lists.all());
+    let mut next = 0;
+    // Each step but the last goes on by one place or more.
+    for _ in 0..watches.len().saturating_add(1) {
+        match sweep_list(words, trail.values(), lists, watches, next, falsified)? {
+            Sweep::End => return Ok(None),
+            Sweep::Conflict(block) => return Ok(Some(block)),
+            Sweep::Unit {
+                lit,
+                block,
+                next: after,
+            } => {
+                trail.assign(lit, Reason::clause(block))?;
+                next = after;
+            }
+        }
+    }
+    Err(ElaborateFault::Internal)
 }
 
 /// What a clause comes to of which all literals but one are false. That one is not true.
@@ -100,31 +122,34 @@ fn forced(lit: LocalLit, value: Value) -> Found {
 #[inline(always)]
 fn look(
     words: &mut [LocalLit],
+    block: Block,
     falsified: LocalLit,
     values: &[Value],
 ) -> Result<Found, ElaborateFault> {
-    let [_, len, first, second, rest @ ..] = words else {
-        return Err(ElaborateFault::Internal);
-    };
-    let count = len.code().wrapping_sub(2) as usize;
-    if count > rest.len() {
+    // Its literals begin behind its number and its length.
+    let start = block.code() as usize + 2;
+    if start + 2 > words.len() {
         return Err(ElaborateFault::Internal);
     }
-    let other = if *first == falsified { *second } else { *first };
+    let end = start + words[start - 1].code() as usize;
+    if end > words.len() {
+        return Err(ElaborateFault::Internal);
+    }
+    let other = LocalLit::other_of(words[start], words[start + 1], falsified);
     let value = value_in(values, other);
     if value == Value::True {
         return Ok(Found::True(other));
     }
-    for lit in &mut rest[..count] {
-        match value_in(values, *lit) {
+    for place in start + 2..end {
+        let lit = words[place];
+        match value_in(values, lit) {
             Value::False => {}
-            Value::True => return Ok(Found::True(*lit)),
+            Value::True => return Ok(Found::True(lit)),
             Value::Free => {
-                let free = *lit;
-                *lit = falsified;
-                *first = other;
-                *second = free;
-                return Ok(Found::Moved(free, other));
+                words[place] = falsified;
+                words[start] = other;
+                words[start + 1] = lit;
+                return Ok(Found::Moved(lit, other));
             }
         }
     }

@@ -120,8 +120,7 @@ impl Trail {
     pub(crate) fn assign(&mut self, lit: LocalLit, reason: Reason) -> Result<(), ElaborateFault> {
         let place = narrow(self.lits.len())?;
         self.lits.push(lit)?;
-        set_value(&mut self.values, lit, Value::True);
-        set_value(&mut self.values, !lit, Value::False);
+        set_values(self.values.as_mut_slice(), lit, Value::True, Value::False);
         match self.causes.get_mut(lit.variable()) {
             Some(cause) => *cause = Cause { reason, place },
             None => return Err(ElaborateFault::Internal),
@@ -131,9 +130,9 @@ impl Trail {
 
     /// The literals from a place on are free again.
     pub(crate) fn cut(&mut self, len: usize) {
-        for lit in self.lits.iter().skip(len) {
-            set_value(&mut self.values, *lit, Value::Free);
-            set_value(&mut self.values, !*lit, Value::Free);
+        let values = self.values.as_mut_slice();
+        for lit in self.lits.get(len..).unwrap_or(&[]) {
+            set_values(values, *lit, Value::Free, Value::Free);
         }
         self.lits.truncate(len);
     }
@@ -162,9 +161,20 @@ pub(crate) fn value_in(values: &[Value], lit: LocalLit) -> Value {
     values.get(lit.place()).copied().unwrap_or(Value::Free)
 }
 
+/// Sets what is known of a literal, and of its negation.
 #[inline(always)]
-fn set_value(values: &mut Vec<Value>, lit: LocalLit, value: Value) {
-    if let Some(found) = values.get_mut(lit.place()) {
-        *found = value;
+fn set_values(values: &mut [Value], lit: LocalLit, value: Value, of_negation: Value) {
+    let start = lit.variable().saturating_mul(2);
+    let Some(pair) = values.get_mut(start..start.saturating_add(2)) else {
+        return;
+    };
+    if let [positive, negative] = pair {
+        if lit.is_negative() {
+            *positive = of_negation;
+            *negative = value;
+        } else {
+            *positive = value;
+            *negative = of_negation;
+        }
     }
 }

@@ -5,6 +5,12 @@ use crate::local::LocalLit;
 use std::alloc::{AllocError, Global};
 use std::mem;
 
+/// A clause is sought among so many watches at the end of a list,
+const NEAR: usize = 1024;
+
+/// or in the last one of so many parts of it.
+const FAR_SHARE: usize = 8;
+
 /// A clause that watches a literal, and another literal of it: where that is true, the clause is.
 #[derive(Clone, Copy)]
 pub(crate) struct Watch {
@@ -68,20 +74,32 @@ impl Watches {
         Ok(())
     }
 
-    #[inline(always)]
     pub(crate) fn push(&mut self, lit: LocalLit, watch: Watch) -> Result<(), ElaborateFault> {
-        match self.lists.get_mut(lit.place()) {
-            Some(list) => list.push(watch)?,
-            None => return Err(ElaborateFault::Internal),
-        }
-        Ok(())
+        push_watch(self.lists.as_mut_slice(), lit, watch)
     }
 
-    /// Takes a clause out of the list of a literal.
-    pub(crate) fn remove(&mut self, lit: LocalLit, block: Block) -> Result<(), ElaborateFault> {
+    /// The lists, by literal.
+    #[inline(always)]
+    pub(crate) fn all(&mut self) -> &mut [Vec<Watch>] {
+        self.lists.as_mut_slice()
+    }
+
+    /// Takes a clause out of the list of a literal, if it is not far from its end. The answer is
+    /// whether it was.
+    #[inline(always)]
+    pub(crate) fn remove(&mut self, lit: LocalLit, block: Block) -> Result<bool, ElaborateFault> {
         match self.lists.get_mut(lit.place()) {
-            Some(list) => remove_from(list, block),
+            Some(list) => Ok(remove_from(list, block)),
             None => Err(ElaborateFault::Internal),
+        }
+    }
+
+    /// Whether a clause watches a literal.
+    #[inline(always)]
+    pub(crate) fn is_watched_by(&self, lit: LocalLit) -> bool {
+        match self.lists.get(lit.place()) {
+            Some(list) => !list.is_empty(),
+            None => false,
         }
     }
 
@@ -103,13 +121,30 @@ impl Watches {
     }
 }
 
-/// Takes the last watch of a clause out of a list.
-fn remove_from(list: &mut Vec<Watch>, block: Block) -> Result<(), ElaborateFault> {
-    for index in (0..list.len()).rev() {
+/// Puts a watch to the list of a literal.
+#[inline(always)]
+pub(crate) fn push_watch(
+    lists: &mut [Vec<Watch>],
+    lit: LocalLit,
+    watch: Watch,
+) -> Result<(), ElaborateFault> {
+    match lists.get_mut(lit.place()) {
+        Some(list) => list.push(watch)?,
+        None => return Err(ElaborateFault::Internal),
+    }
+    Ok(())
+}
+
+/// Takes the last watch of a clause out of a list, if it is not far from its end. The answer is
+/// whether it was.
+#[inline(always)]
+fn remove_from(list: &mut Vec<Watch>, block: Block) -> bool {
+    let reach = (list.len() / FAR_SHARE).max(NEAR);
+    for index in (list.len().saturating_sub(reach)..list.len()).rev() {
         if list[index].block() == block {
             list.swap_remove(index);
-            return Ok(());
+            return true;
         }
     }
-    Err(ElaborateFault::Internal)
+    false
 }

@@ -1,0 +1,139 @@
+//! Lists of watches that still have clauses which went.
+//!
+//! To take a clause out of a list costs a look at each watch behind it. Where a list is long and
+//! the clause far from its end, it is left there, and so is what goes from that list next. Before
+//! anything is propagated such lists are put right, each in one pass.
+use crate::arena::Block;
+use crate::clauses::{Clause, Use};
+use crate::fault::ElaborateFault;
+use crate::lit_set::LitSet;
+use crate::local::LocalLit;
+use crate::propagator::Propagator;
+use crate::watches::Watch;
+use std::alloc::Global;
+
+/// The literals whose lists have clauses that went.
+#[derive(Drop)]
+pub(crate) struct StaleLists {
+    lits: Vec<LocalLit>,
+    set: LitSet,
+}
+
+impl StaleLists {
+    pub(crate) fn new(alloc: Global) -> StaleLists {
+        StaleLists {
+            lits: Vec::new(alloc),
+            set: LitSet::new(alloc),
+        }
+    }
+
+    #[inline(always)]
+    pub(crate) fn is_empty(&self) -> bool {
+        self.lits.is_empty()
+    }
+
+    /// The lists of a literal, which are not stale yet.
+    fn insert(&mut self, lit: LocalLit) -> Result<(), ElaborateFault> {
+        self.set.insert(lit)?;
+        self.lits.push(lit)?;
+        Ok(())
+    }
+}
+
+impl Propagator {
+    /// A clause is no longer watched by a literal.
+    #[inline(always)]
+    pub(crate) fn unwatch_by(
+        &mut self,
+        clause: &Clause,
+        lit: LocalLit,
+    ) -> Result<(), ElaborateFault> {
+        if self.stale.set.contains(lit) {
+            return Ok(());
+        }
+        if !self.lists_of(clause.used).remove(lit, clause.block)? {
+            self.stale.insert(lit)?;
+        }
+        Ok(())
+    }
+
+    /// Puts the stale lists right.
+    #[inline(never)]
+    pub(crate) fn refresh(&mut self) -> Result<(), ElaborateFault> {
+        for place in 0..self.stale.lits.len() {
+            if let Some(lit) = self.stale.lits.get(place).copied() {
+                self.refresh_list(Use::Never, lit)?;
+                self.refresh_list(Use::Before, lit)?;
+                self.refresh_list(Use::Now, lit)?;
+            }
+        }
+        self.stale.lits.clear();
+        self.stale.set.clear()
+    }
+
+    /// Puts the list right that a literal has for clauses used so much.
+    fn refresh_list(&mut self, used: Use, lit: LocalLit) -> Result<(), ElaborateFault> {
+        let Some(mut watches) = self.lists_of(used).take(lit) else {
+            return Ok(());
+        };
+        self.keep_current(&mut watches, used, lit)?;
+        for watch in &watches {
+            self.clauses.arena.turn_mark(watch.block())?;
+        }
+        self.lists_of(used).put(lit, watches);
+        Ok(())
+    }
+
+    /// Keeps one watch of each clause that is watched so. Their blocks are marked.
+    fn keep_current(
+        &mut self,
+        watches: &mut Vec<Watch>,
+        used: Use,
+        lit: LocalLit,
+    ) -> Result<(), ElaborateFault> {
+        let mut at = 0;
+        // Each step goes on by one place, or takes one out.
+        for _ in 0..watches.len() {
+            if at >= watches.len() {
+                break;
+            }
+            let block = watches[at].block();
+            match self.current(block, used, lit)? {
+                Some(watch) => {
+                    self.clauses.arena.turn_mark(block)?;
+                    watches[at] = watch;
+                    at += 1;
+                }
+                None => {
+                    watches.swap_remove(at);
+                }
+            }
+        }
+        Ok(())
+    }
+
+    /// How a block's clause is watched by a literal among those used so much, if it is. A block
+    /// that is marked, or free, has the number of no clause that is there.
+    fn current(
+        &self,
+        block: Block,
+        used: Use,
+        lit: LocalLit,
+    ) -> Result<Option<Watch>, ElaborateFault> {
+        let Ok(found) = self.clauses.get(self.clauses.arena.clause(block)?) else {
+            return Ok(None);
+        };
+        let is_watched = found.block == block && found.is_active && found.is_watched;
+        if !is_watched || !found.used.shares_lists(used) {
+            return Ok(None);
+        }
+        let (first, second, is_binary) = self.watched(block)?;
+        Ok(if lit == first {
+            Some(Watch::new(block, second, is_binary))
+        } else if lit == second {
+            Some(Watch::new(block, first, is_binary))
+        } else {
+            None
+        })
+    }
+}
