@@ -5,6 +5,7 @@ drat_hostile.py CASE CNF DRAT     writes the two files of a case
 """
 
 import itertools
+import random
 import sys
 
 LAST = 1 << 28
@@ -82,10 +83,26 @@ def equal_clauses():
     return text(FOUR), text(same) + deletions(same) + text([[1]])
 
 
-def one_literal():
-    """30,000 clauses that watch one literal, the oldest deleted first."""
-    some = [[3, 4 + place] for place in range(30_000)]
+def clauses_of_one_literal(count):
+    return [[3, 4 + place] for place in range(count)]
+
+
+def one_literal_100000():
+    """100,000 clauses that watch one literal, the oldest deleted first."""
+    some = clauses_of_one_literal(100_000)
     return text(FOUR), text(some) + deletions(some) + text([[1]])
+
+
+def one_literal_200000():
+    """200,000 clauses that watch one literal, the oldest deleted first."""
+    some = clauses_of_one_literal(200_000)
+    return text(FOUR), text(some) + deletions(some) + text([[1]])
+
+
+def one_literal_at_random():
+    """100,000 clauses that watch one literal, deleted in any order."""
+    some = clauses_of_one_literal(100_000)
+    return text(FOUR), text(some) + deletions(random.Random(1).sample(some, len(some))) + text([[1]])
 
 
 def sums_of_one_hash():
@@ -161,7 +178,9 @@ CASES = {
         long_deletion,
         repeated_literal,
         equal_clauses,
-        one_literal,
+        one_literal_100000,
+        one_literal_200000,
+        one_literal_at_random,
         sums_of_one_hash,
         long_trail,
         chain_25000,

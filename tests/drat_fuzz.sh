@@ -1,6 +1,6 @@
 #!/usr/bin/env bash
 # Some hundred random formulas and DRAT proofs, and as many with DPR proofs, half of them damaged, by `drat_check` and by the
-# definitions of DRAT and DPR.
+# definitions of DRAT and DPR; and a few that delete many clauses with one literal.
 #
 #   tests/drat_fuzz.sh [COUNT [SEED]]
 #
@@ -19,4 +19,5 @@ done
 wrong=0
 python3 -B "$top/tests/drat/fuzz.py" "$check" "${1:-400}" "${2:-1}" || wrong=1
 python3 -B "$top/tests/drat/dpr.py" "$check" "$lrat_check" "${1:-400}" "${2:-1}" || wrong=1
+python3 -B "$top/tests/drat/long_lists.py" "$check" || wrong=1
 exit "$wrong"
