@@ -4,3 +4,5 @@ pub mod DraftLemmas
 pub mod ReaderLemmas
 pub mod TellLemmas
 pub mod FirstLemmas
+pub mod ReadLemmas
+pub mod GivenLines

@@ -1,11 +1,13 @@
 -- What the bytes of a proof say in a form, and what a reader of either form knows and answers.
 --     outcome_in form bytes      the lines of a proof, each with its number, up to the end or to the first fault with its line
+--     SaysAll says known ls e, BeginsWith says known ls      a proof says these lines and ends so;  it begins with these lines
 --     bytes_left, line_number, has_ended, work_left, form_now      what a caller knows of a reader
 --     Gives      what a call gave, and the reader after it
-use Rattle.std.specs.Prelude.{◌≡◌, ℕ, Bool, false, List, Option, Result}
+use Rattle.std.specs.Prelude.{◌≡◌, ℕ, ◌+◌, ◌-◌, ◌^◌, ◌≤◌, Bool, false, List, ◌++◌, Option, IfSome, Result}
 use Rattle.std.specs.Io.KnownBytes.{Keeps}
+use Rattle.lrat_rules.specs.Lines.{Line}
 use Rattle.lrat_text.specs.NextLine as texts
-use Rattle.lrat_text.specs.Texts.{Outcome, outcome_after}
+use Rattle.lrat_text.specs.Texts.{Ending, Outcome, outcome_after}
 use Rattle.lrat_text.specs.declared.fault.LratTextFault.{LratTextFault}
 use Rattle.lrat_text.specs.declared.fault.LratTextFault.TheVariants as faults
 use Rattle.lrat_text.specs.declared.line.LratLine.{LratLine}
@@ -24,6 +26,18 @@ lines_after (forms.Binary ids) before bytes = binary_after ids before bytes
 -- the whole proof; its lines count from 1
 abbrev pub outcome_in : LratForm → List ℕ → Outcome
 outcome_in form bytes = lines_after form 0 bytes
+
+-- an outcome behind these lines
+abbrev pub with_lines : List (ℕ × Line) → Outcome → Outcome
+with_lines ls o = (ls ++ o.0, o.1)
+
+-- the proof, where its bytes are known, says these lines and ends so
+abbrev pub SaysAll : (List ℕ → Outcome) → Option (List ℕ) → List (ℕ × Line) → Ending → Type 0
+SaysAll says known ls e = IfSome known (λ bytes. says bytes ≡ (ls, e))
+
+-- it begins with these lines
+abbrev pub BeginsWith : (List ℕ → Outcome) → Option (List ℕ) → List (ℕ × Line) → Type 0
+BeginsWith says known ls = (o : Outcome) × IfSome known (λ bytes. says bytes ≡ with_lines ls o)
 
 -- ---- a reader
 
@@ -52,6 +66,11 @@ abbrev pub form_now : {R : Type 0} → LratReader R → LratForm
 form_now (Text r) = forms.Text
 form_now (Binary r) = forms.Binary (binaries.ids_of r)
 
+-- the lines of a text, with those that its bytes still have room for, are fewer than a number can count
+abbrev pub IsCounted : {R : Type 0} → LratReader R → Type 0
+IsCounted (Text r) = texts.line_number r + texts.room_left r ≤ 2 ^ 64 - 2
+IsCounted (Binary r) = Unit {0}
+
 -- no line was read yet of these bytes, in this form
 pub record IsFresh {R : Type 0} (remaining : R → Option (List ℕ)) (known : Option (List ℕ))
     (in_form : LratForm) (r : LratReader R) : Type 0 where
@@ -59,6 +78,7 @@ pub record IsFresh {R : Type 0} (remaining : R → Option (List ℕ)) (known : O
   pub form : form_now r ≡ in_form
   pub line : line_number r ≡ 0
   pub ended : has_ended r ≡ false
+  pub counted : IsCounted r
 
 -- no fault of a line
 abbrev pub IsNoLine : LratTextFault → Type 0

@@ -23,7 +23,7 @@ pub enum LratReader<R> {
 }
 
 impl<R: Read> LratReader<R> {
-    ghost use Rattle.lrat_binary.specs.Proofs.{Gives, bytes_left, form_now, line_number, has_ended};
+    ghost use Rattle.lrat_binary.specs.Proofs.{Gives, IsCounted, bytes_left, form_now, line_number, has_ended};
     ghost use Rattle.lrat_binary.specs.contracts.proof.LratReader.{the_row};
 
     /// A reader at the start of a proof of this form. It takes no memory and reads nothing yet.
@@ -32,6 +32,7 @@ impl<R: Read> LratReader<R> {
         ensures form { form_now result ≡ form }
         ensures line { line_number result ≡ 0 }
         ensures ended { has_ended result ≡ false }
+        ensures counted { IsCounted result }
     {
         match form {
             LratForm::Text => LratReader::Text(LineReader::new(alloc, input)),

@@ -1,4 +1,3 @@
-pub mod ReadLemmas
 pub mod LineLemmas
 pub mod DecideLemmas
 pub mod RunLemmas

@@ -7,21 +7,22 @@ use Rattle.std.specs.Prelude.{IfSome, OnErr, ◌^◌, min, if◌then◌else◌}
 use Rattle.sat_rules.specs.Clauses.{all_true}
 use Rattle.lrat_rules.specs.Lines.{Line}
 use Rattle.lrat_rules.proofs.Running.{runs_refute}
-use Rattle.lrat_text.specs.Texts.{Ended, Ending, Faulty, Outcome}
+use Rattle.lrat_text.specs.Texts.{Ended, Faulty, Outcome}
 use Rattle.lrat_text.specs.declared.fault.LratTextFault.{LratTextFault}
 use Rattle.lrat_text.specs.declared.fault.LratTextFault.TheVariants as reads
-use Rattle.lrat_binary.specs.Proofs.{IsNoLine, outcome_in}
+use Rattle.lrat_binary.specs.Proofs.{BeginsWith, IsNoLine, outcome_in}
 use Rattle.lrat_binary.specs.Telling.{form_of, ids_by, is_binary, next_id, told_before}
 use Rattle.lrat_binary.specs.declared.ids.Ids.{Ids}
 use Rattle.lrat_binary.specs.declared.ids.LratForm.{LratForm}
 use Rattle.lrat_binary.specs.declared.ids.LratForm.TheVariants as forms
+use Rattle.lrat_binary.proofs.GivenLines.{begins_as, says_as}
 use Rattle.lrat_checker.specs.Faults.{of_text}
 use Rattle.lrat_checker.specs.Standing.{IsReady, has_refuted}
 use Rattle.lrat_checker.specs.TextAnswers.{said}
 use Rattle.lrat_checker.specs.declared.checker.LratChecker.{LratChecker}
 use Rattle.lrat_checker.specs.declared.fault.LratFault.{LratFault}
 use Rattle.lrat_checker.specs.declared.fault.LratFault.TheVariants as lrat
-use Rattle.lrat_check.specs.Answers.{BeginsWith, IsLratAnswer, SaysAll, proof_says}
+use Rattle.lrat_check.specs.Answers.{IsLratAnswer, proof_says}
 use Rattle.lrat_check.specs.Runs.{Decides, IsDecided, Refutes}
 use Rattle.verdicts.specs.Verdicts.{verdict_of}
 use Rattle.lrat_check.specs.declared.fault.RunFault.TheVariants.{Proof}
@@ -53,22 +54,14 @@ says_so ids formula count form (Some bytes) counted is =
     ap (λ (f : LratForm). outcome_in f bytes) (sym (is ∙ forms_alike ids count (length formula) bytes same))
 
 module _ (f g : List ℕ → Outcome) (formula : List (List ℕ)) (c : LratChecker) where
-  all_as : (known : Known) (ls : List (ℕ × Line)) (e : Ending) → IfSome known (λ bytes. g bytes ≡ f bytes) → SaysAll f known ls e → SaysAll g known ls e
-  all_as None ls e same p = tt
-  all_as (Some bytes) ls e same p = same ∙ p
-
-  begins_as : (known : Known) (ls : List (ℕ × Line)) → IfSome known (λ bytes. g bytes ≡ f bytes) → BeginsWith f known ls → BeginsWith g known ls
-  begins_as None ls same p = (p.0, tt)
-  begins_as (Some bytes) ls same p = (p.0, same ∙ p.1)
-
   answer_as : (known : Known) → IfSome known (λ bytes. g bytes ≡ f bytes) → (r : Result Bool LratFault) → IsLratAnswer f known formula c r → IsLratAnswer g known formula c r
-  answer_as known same (Ok true) p = record { lines = p.lines; text = begins_as known p.lines same p.text; ready = p.ready; answer = p.answer }
-  answer_as known same (Ok false) p = record { lines = p.lines; text = all_as known p.lines Ended same p.text; ready = p.ready; answer = p.answer }
-  answer_as known same (Err (lrat.Read cause)) p = record { lines = p.lines; text = begins_as known p.lines same p.text; accepted = p.accepted }
-  answer_as known same (Err (lrat.Unread line kind)) p = record { lines = p.lines; text = all_as known p.lines (Faulty line kind) same p.text; accepted = p.accepted }
+  answer_as known same (Ok true) p = record { lines = p.lines; text = begins_as known f g same p.lines p.text; ready = p.ready; answer = p.answer }
+  answer_as known same (Ok false) p = record { lines = p.lines; text = says_as known f g same p.lines Ended p.text; ready = p.ready; answer = p.answer }
+  answer_as known same (Err (lrat.Read cause)) p = record { lines = p.lines; text = begins_as known f g same p.lines p.text; accepted = p.accepted }
+  answer_as known same (Err (lrat.Unread line kind)) p = record { lines = p.lines; text = says_as known f g same p.lines (Faulty line kind) p.text; accepted = p.accepted }
   answer_as known same (Err (lrat.Refused line cause)) p =
-      record { lines = p.lines; line = p.line; text = begins_as known (p.lines ++ (line, p.line) ∷ []) same p.text; accepted = p.accepted; refused = p.refused }
-  answer_as known same (Err lrat.OutOfMemory) p = record { lines = p.lines; text = begins_as known p.lines same p.text; accepted = p.accepted }
+      record { lines = p.lines; line = p.line; text = begins_as known f g same (p.lines ++ (line, p.line) ∷ []) p.text; accepted = p.accepted; refused = p.refused }
+  answer_as known same (Err lrat.OutOfMemory) p = record { lines = p.lines; text = begins_as known f g same p.lines p.text; accepted = p.accepted }
   answer_as known same (Err lrat.Failed) p = p
 
 refutes_by : (ids : Option Ids) (formula : List (List ℕ)) (known : Known) (checker : LratChecker) (r : Result Bool LratFault) → IsLratAnswer (proof_says ids formula) known formula checker r →

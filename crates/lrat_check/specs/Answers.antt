@@ -1,15 +1,15 @@
 -- What the check of a proof answers, up to the first line that adds the empty clause. `says` is what the proof's bytes say.
 --     proof_says ids formula bytes      in the form that the bytes tell, where that of the ids is not given
 --     IsLratAnswer says known formula c r      the answer, and what the checker has accepted then
-use Rattle.std.specs.Prelude.{◌≡◌, ℕ, Bool, List, [], ◌∷◌, ◌++◌, length, Option, IfSome, MatchBool, Result, Ok, Err}
+use Rattle.std.specs.Prelude.{◌≡◌, ℕ, Bool, List, [], ◌∷◌, ◌++◌, length, Option, MatchBool, Result, Ok, Err}
 use Rattle.lrat_rules.specs.Lines.{Line}
 use Rattle.lrat_text.specs.Texts.{Ended, Ending, Faulty, Outcome}
 use Rattle.lrat_text.specs.declared.fault.LineKind.{LineKind}
-use Rattle.lrat_binary.specs.Proofs.{outcome_in}
+use Rattle.lrat_binary.specs.Proofs.{BeginsWith, SaysAll, outcome_in}
 use Rattle.lrat_binary.specs.Telling.{form_of}
 use Rattle.lrat_binary.specs.declared.ids.Ids.{Ids}
 use Rattle.lrat_checker.specs.Standing.{HasAccepted, IsAnswer, IsReady, has_refuted}
-use Rattle.lrat_checker.specs.TextAnswers.{said, with_lines}
+use Rattle.lrat_checker.specs.TextAnswers.{said}
 use Rattle.lrat_checker.specs.declared.checker.LratChecker.{LratChecker}
 use Rattle.lrat_checker.specs.declared.fault.LratCause.{LratCause}
 use Rattle.lrat_checker.specs.declared.fault.LineFault.TheVariants as line_faults
@@ -19,14 +19,6 @@ use Rattle.lrat_checker.specs.declared.fault.LratFault.TheVariants.{Failed, OutO
 -- the lines of a proof after a formula, each with its number, up to the end or the first fault
 abbrev pub proof_says : Option Ids → List (List ℕ) → List ℕ → Outcome
 proof_says ids formula bytes = outcome_in (form_of ids (length formula) bytes) bytes
-
--- the proof, where its bytes are known, says these lines and ends so
-abbrev pub SaysAll : (List ℕ → Outcome) → Option (List ℕ) → List (ℕ × Line) → Ending → Type 0
-SaysAll says known ls e = IfSome known (λ bytes. says bytes ≡ (ls, e))
-
--- it begins with these lines
-abbrev pub BeginsWith : (List ℕ → Outcome) → Option (List ℕ) → List (ℕ × Line) → Type 0
-BeginsWith says known ls = (o : Outcome) × IfSome known (λ bytes. says bytes ≡ with_lines ls o)
 
 -- all lines were accepted, or those up to the empty clause
 pub record IsChecked (says : List ℕ → Outcome) (known : Option (List ℕ))

@@ -1,4 +1,4 @@
-use Rattle.std.proofs.Common.{refl, Err, sym, ◌∙◌, ap, subst}
+use Rattle.std.proofs.Common.{Err, sym, ◌∙◌, ap, subst}
 use Rattle.lrat_binary.specs.Proofs.{form_now, outcome_in}
 use Rattle.lrat_checker.specs.Faults.{in_line}
 use Rattle.lrat_checker.specs.TextAnswers.{said}
@@ -8,7 +8,7 @@ use Rattle.lrat_check.proofs.refuting.refute_lines.Goals as goal
 
 pub lines-init : goal.lines-init
 lines-init g c = λ formula known ready fresh.
-    so_far_start g.R.Read.remaining known (form_now c.args.reader.now) c.args.reader.now formula c.args.checker.now refl fresh ready
+    so_far_start g.R.Read.remaining known (form_now c.args.reader.now) c.args.reader.now formula c.args.checker.now fresh ready
 
 pub lines-preserved : goal.lines-preserved
 lines-preserved g c = λ formula known ready fresh.

@@ -1,6 +1,7 @@
 -- What a reader of either form gave, said in one way.
 --     Goes      after so many lines the proof goes on so, or has ended so
-use Rattle.std.proofs.Common.{◌≡◌, ℕ, Bool, true, false, List, [], Option, Some, None, Result, Ok, Err, refl, sym, ap, ◌∙◌, subst}
+--     IsExact form n      the number of a line of text is exact
+use Rattle.std.proofs.Common.{◌≡◌, ℕ, ◌+◌, ◌-◌, ◌^◌, ◌<◌, Bool, true, false, List, [], Option, Some, None, Result, Ok, Err, refl, sym, ap, ◌∙◌, subst, arith}
 use Rattle.lrat_text.specs.NextLine.{view}
 use Rattle.lrat_text.specs.NextLine as texts
 use Rattle.lrat_text.specs.Taking.{EndsAll, Follows, Leads}
@@ -11,7 +12,7 @@ use Rattle.lrat_text.specs.declared.fault.LratTextFault.TheVariants as reads
 use Rattle.lrat_text.specs.declared.line.LratLine.{LratLine}
 use Rattle.lrat_binary.specs.NextLine as binaries
 use Rattle.lrat_binary.specs.Lines.{binary_after}
-use Rattle.lrat_binary.specs.Proofs.{Gives, bytes_left, form_now, has_ended, line_number, lines_after}
+use Rattle.lrat_binary.specs.Proofs.{Gives, IsCounted, bytes_left, form_now, has_ended, line_number, lines_after}
 use Rattle.lrat_binary.specs.Taking.{Fails, by_byte, by_end}
 use Rattle.lrat_binary.specs.declared.ids.Ids.{Ids}
 use Rattle.lrat_binary.specs.declared.ids.LratForm.{LratForm}
@@ -25,6 +26,11 @@ Known = Option (List ℕ)
 abbrev pub Goes : LratForm → Known → Known → ℕ → Bool → (List ℕ → Outcome) → Type 0
 Goes form a b before false rest = Leads a b (lines_after form before) rest
 Goes form a b before true rest = EndsAll a b (lines_after form before) rest
+
+-- the number of a line of text is exact;  that of a binary line is the one that the proof's lines have
+abbrev pub IsExact : LratForm → ℕ → Type 0
+IsExact forms.Text n = n < 2 ^ 64 - 1
+IsExact (forms.Binary ids) n = Unit {0}
 
 -- an answer, with a line or without one;  a fault
 abbrev answer : Option LratLine → Result (Option LratLine) LratTextFault
@@ -106,3 +112,26 @@ module _ {R : Type 0} (remaining : R → Option (List ℕ)) where
 
   pub is_fault : (fault : LratTextFault) → failure fault ≡ answer None → ⊥
   is_fault fault e = absurd (cc)
+
+  -- the bytes that were taken bound the number of a line
+  pub still_counted : (old new : LratReader R) (line : LratLine) → Gives remaining old new (Ok (Some line)) → IsCounted old → IsCounted new
+  still_counted (Text old) (Text new) line gives few =
+      let more = gives.counts (open_still (Text old) (Text new) (Ok (Some line)) (is_line line) gives) in omega arith
+  still_counted (Text old) (Binary new) line gives few = tt
+  still_counted (Binary old) (Text new) line gives few = absurd gives
+  still_counted (Binary old) (Binary new) line gives few = tt
+
+  pub line_exact : (old new : LratReader R) (line : LratLine) → Gives remaining old new (Ok (Some line)) → IsCounted old → IsExact (form_now old) (line_number new)
+  line_exact (Text old) (Text new) line gives few =
+      let more = gives.counts (open_still (Text old) (Text new) (Ok (Some line)) (is_line line) gives) in omega arith
+  line_exact (Text old) (Binary new) line gives few = absurd gives
+  line_exact (Binary old) new line gives few = tt
+
+  pub fault_exact : (old new : LratReader R) (n : ℕ) (kind : LineKind) → Gives remaining old new (Err (reads.Line n kind)) → IsCounted old → IsExact (form_now old) n
+  fault_exact (Text old) (Text new) n kind gives few =
+      let on = open_still (Text old) (Text new) (Err (reads.Line n kind)) (is_fault (reads.Line n kind)) gives in
+      let more = gives.counts on in
+      let number = (gives.reads on).0 in
+      omega arith
+  fault_exact (Text old) (Binary new) n kind gives few = absurd gives
+  fault_exact (Binary old) new n kind gives few = tt
