@@ -171,6 +171,15 @@ expect folder_for_hints 2 '' $'cannot open /\nIs a directory (os error 21)' unit
 run_cases varisat_check_main
 compare
 
+# four clauses, one against each pair of values of two variables; binary LRAT that refutes them, with ids of either form, and cut
+# off; and binary DRAT
+printf 'p cnf 2 4\n1 2 0\n1 -2 0\n-1 2 0\n-1 -2 0\n' > "$work/files/four.cnf"
+printf 'a\x0a\x02\x00\x02\x04\x00a\x0c\x00\x0a\x06\x08\x00' > "$work/files/doubled.lrat"
+printf 'a\x05\x02\x00\x02\x04\x00a\x06\x00\x0a\x06\x08\x00' > "$work/files/plain.lrat"
+printf 'a\x02\x00a\x00' > "$work/files/binary.drat"
+printf 'a\x05\x02\x00\x02\x04\x00a\x06\x00\x0a' > "$work/files/cut.lrat"
+binaries='binary LRAT or binary DRAT'
+
 # The hints of each proof, written to standard error.
 begin
 proofs=()
@@ -212,17 +221,24 @@ refuted board6 board6.cnf
 printf '5 0 1\n' > "$work/files/malformed.lrat"
 refused malformed_formula malformed.cnf 'line 2: bad number' malformed.cnf par10.lrat
 refused malformed_hints malformed.lrat 'line 1: malformed line' unit.cnf malformed.lrat
-misused no_arguments 'no file is named for CNF' 'hint_check CNF LRAT [--quiet] [--verbose]'
+expect read_plain 0 's VERIFIED UNSAT' '' four.cnf plain.lrat
+expect read_doubled 0 's VERIFIED UNSAT' '' four.cnf doubled.lrat
+expect read_plain_ids 0 's VERIFIED UNSAT' '' --ids plain four.cnf plain.lrat
+begun_as read_other_ids plain.lrat "$binaries" 'line 1: malformed line' --ids=doubled four.cnf plain.lrat
+begun_as read_cut cut.lrat "$binaries" 'line 2: malformed line' four.cnf cut.lrat
+begun_as read_binary_drat binary.drat "$binaries" 'line 1: malformed line' four.cnf binary.drat
+misused no_arguments 'no file is named for CNF' 'hint_check CNF LRAT [--ids WAY] [--quiet] [--verbose]'
 expect example 0 's VERIFIED UNSAT' '' --example
-expect help 0 'usage: hint_check CNF LRAT [--quiet] [--verbose]
+expect help 0 'usage: hint_check CNF LRAT [--ids WAY] [--quiet] [--verbose]
 
 Checks lines of hints over a formula, and says in one line what they show.
 
 operands:
   CNF           the formula, DIMACS text; - stands for standard input
-  LRAT          the lines, LRAT text; - stands for standard input
+  LRAT          the lines, LRAT, text or binary; - stands for standard input
 
 options:
+  --ids WAY     how ids stand in a binary proof: plain or doubled; else its first bytes tell it
   --quiet       says nothing of how far a long run has come, on a terminal neither
   --verbose     says twice a second on standard error how far a run has come, as it does on a terminal
   --example     checks a small fixed example, in place of files
@@ -244,8 +260,9 @@ examples:
   checks a proof in bytes, and once more by its hints:
       varisat_check formula.cnf proof.bytes proof.lrat && hint_check formula.cnf proof.lrat' '' --help
 expect version 0 'hint_check 0.3.0 (varisat-checker 0.2.2)' '' --version
-misused one_argument 'no file is named for LRAT' 'hint_check CNF LRAT [--quiet] [--verbose]' unit.cnf
-misused three_arguments 'a file too many: more.lrat' 'hint_check CNF LRAT [--quiet] [--verbose]' unit.cnf par10.lrat more.lrat
+misused one_argument 'no file is named for LRAT' 'hint_check CNF LRAT [--ids WAY] [--quiet] [--verbose]' unit.cnf
+misused three_arguments 'a file too many: more.lrat' 'hint_check CNF LRAT [--ids WAY] [--quiet] [--verbose]' unit.cnf par10.lrat more.lrat
+misused other_ids '--ids takes plain or doubled' 'hint_check CNF LRAT [--ids WAY] [--quiet] [--verbose]' --ids odd unit.cnf par10.lrat
 expect missing_formula 2 '' $'cannot open absent.cnf\nNo such file or directory (os error 2)' absent.cnf absent.lrat
 expect missing_hints 2 '' $'cannot open absent.lrat\nNo such file or directory (os error 2)' malformed.cnf absent.lrat
 run_cases hint_check_main
@@ -311,7 +328,6 @@ groups() {
   fi
 }
 
-printf 'p cnf 2 4\n1 2 0\n1 -2 0\n-1 2 0\n-1 -2 0\n' > "$work/files/four.cnf"
 pivot=' for a clause with the negation of the first literal'
 groups met 0 's VERIFIED UNSAT' '' '5 3 1 0 0' '6 -3 -1 0 -5 0' '7 1 0 1 2 0' '8 0 7 3 4 0'
 groups none 1 '' 'proof: line 2: hints end without a conflict' '5 3 1 0 0' '6 -3 -1 0 0'
@@ -321,10 +337,7 @@ groups failing 1 '' 'proof: line 2: hints of a group end without a conflict' '5 
 # what holds the negation is deleted, so no group is needed, and one that is there is not read
 groups of_no_clause 0 's VERIFIED UNSAT' '' '5 3 1 0 0' '5 d 5 0' '6 -3 -1 0 -5 9 0' '7 1 0 1 2 0' '8 0 7 3 4 0'
 
-# files that are no LRAT text: nothing, binary LRAT of either form of ids, binary DRAT, DRAT text, compressed text, a formula, a byte order mark
-printf 'a\x0a\x02\x00\x02\x04\x00a\x0c\x00\x0a\x06\x08\x00' > "$work/files/doubled.lrat"
-printf 'a\x05\x02\x00\x02\x04\x00a\x06\x00\x0a\x06\x08\x00' > "$work/files/plain.lrat"
-printf 'a\x02\x00a\x00' > "$work/files/binary.drat"
+# files that are no LRAT text: nothing, DRAT text, compressed text, a formula, a byte order mark
 printf '1 0\nd 1 2 0\n0\n' > "$work/files/drat.lrat"
 printf '5 1 0 1 2 0\n' | gzip -n > "$work/files/compressed.lrat"
 printf '\xef\xbb\xbf5 1 0 1 2 0\n' > "$work/files/mark.lrat"
@@ -340,8 +353,8 @@ expect read_four 1 '' $'proof: line 1: malformed line\nfour.cnf begins as a form
 expect read_plain 0 's VERIFIED UNSAT' '' four.cnf plain.lrat
 expect read_doubled 0 's VERIFIED UNSAT' '' four.cnf doubled.lrat
 expect read_doubled_ids 0 's VERIFIED UNSAT' '' --ids doubled four.cnf doubled.lrat
-begun_as read_other_ids plain.lrat 'binary LRAT or binary DRAT' 'proof: line 1: malformed line' --ids=doubled four.cnf plain.lrat
-begun_as read_binary_drat binary.drat 'binary LRAT or binary DRAT' 'proof: line 1: id is taken' four.cnf binary.drat
+begun_as read_other_ids plain.lrat "$binaries" 'proof: line 1: malformed line' --ids=doubled four.cnf plain.lrat
+begun_as read_binary_drat binary.drat "$binaries" 'proof: line 1: id is taken' four.cnf binary.drat
 begun_as read_drat drat.lrat 'DRAT text' 'proof: line 1: malformed line' four.cnf drat.lrat
 begun_as read_compressed compressed.lrat 'a gzip file' 'proof: line 1: malformed line' four.cnf compressed.lrat
 # a formula may begin as DRAT text does
@@ -363,7 +376,7 @@ expect missing_proof 2 '' $'cannot open absent.lrat\nNo such file or directory (
 run_cases lrat_check_main
 compare
 
-# LRAT text as proof bytes, of which each proof is checked again: the text of other programs, and the hints of each proof.
+# LRAT as proof bytes, of which each proof is checked again: the text of other programs, and the hints of each proof.
 # converts NAME CNF LRAT [ARGUMENT..]: the text is converted whole
 converts() {
   local name=$1 cnf=$2 lrat=$3
@@ -377,6 +390,11 @@ for lrat in "${lrats[@]}"; do
   converts "$lrat" "${lrat%%_*}.cnf" "$lrat.lrat"
 done
 converts narrow par10.cnf par10.lrat --width 20
+converts plain four.cnf plain.lrat
+converts doubled four.cnf doubled.lrat --ids doubled
+begun_as read_other_ids plain.lrat "$binaries" 'proof: line 1: malformed line' --ids=doubled four.cnf plain.lrat "$work/files/refused"
+begun_as read_cut cut.lrat "$binaries" 'proof: line 2: unfinished line' four.cnf cut.lrat "$work/files/refused"
+begun_as read_binary_drat binary.drat "$binaries" 'proof: line 1: id is taken' four.cnf binary.drat "$work/files/refused"
 : > "$work/files/nothing.lrat"
 printf 'c a clause that is only redundant\n2 2 0 -1 0\n' > "$work/files/redundant.lrat"
 printf '2 1 0 7 0\n' > "$work/files/unknown.lrat"
@@ -386,7 +404,7 @@ refused unknown unknown.lrat 'proof: line 1: no clause has the id of a hint' uni
 refused malformed_formula malformed.cnf 'formula: line 2: bad number' malformed.cnf par10.lrat "$work/files/refused"
 refused malformed_proof malformed.lrat 'proof: line 1: malformed line' unit.cnf malformed.lrat "$work/files/refused"
 expect version 0 'lrat_to_proof 0.3.0 (varisat-checker 0.2.2)' '' --version
-convert_call='lrat_to_proof CNF LRAT PROOF [--width N]'
+convert_call='lrat_to_proof CNF LRAT PROOF [--ids WAY] [--width N]'
 while IFS=: read -r words why; do
   read -ra arguments <<< "$words"
   misused "usage_of_${#names[@]}" "$why" "$convert_call" "${arguments[@]}"
@@ -398,6 +416,7 @@ unit.cnf nothing.lrat refused --width:--width has no value
 unit.cnf nothing.lrat refused --width 0:--width takes a number from 1 to 64
 unit.cnf nothing.lrat refused --width=65:--width takes a number from 1 to 64
 unit.cnf nothing.lrat refused --width x:--width takes a number from 1 to 64
+unit.cnf nothing.lrat refused --ids odd:--ids takes plain or doubled
 unit.cnf nothing.lrat refused --bits 9:there is no option --bits
 unit.cnf nothing.lrat refused --width 9 --width=9:--width stands twice
 unit.cnf nothing.lrat refused --width 9 9:a file too many: 9
@@ -414,6 +433,8 @@ for lrat in "${lrats[@]}"; do
   expect "$lrat" 0 's UNSATISFIABLE' '' "${lrat%%_*}.cnf" "$lrat.converted"
 done
 expect narrow 0 's UNSATISFIABLE' '' par10.cnf narrow.converted
+expect plain 0 's UNSATISFIABLE' '' four.cnf plain.converted
+expect doubled 0 's UNSATISFIABLE' '' four.cnf doubled.converted
 expect open 3 's NOT SHOWN' '' unit.cnf open.converted
 run_cases varisat_check_main
 compare

@@ -1,7 +1,7 @@
 #!/usr/bin/env bash
 # Tries random and damaged LRAT texts on the programs: no verdict over a formula that can be satisfied, every answer of
-# `lrat_check` and `lrat_to_proof` as the rules say, and where there is no RAT step, `varisat_check` agrees. `lrat_check` also
-# gets the lines as binary ones, with plain or doubled ids, damaged too, and beginnings of the texts of solvers as such.
+# `lrat_check`, `hint_check` and `lrat_to_proof` as the rules say, and where there is no RAT step, `varisat_check` agrees. They
+# also get the lines as binary ones, with plain or doubled ids, damaged too, and beginnings of the texts of solvers as such.
 #
 #   tests/lrat_fuzz.sh [--texts N] [--first SEED] [--lrat-check PROGRAM] ..    the seeds are fixed; a minute at most
 #

@@ -33,7 +33,7 @@ def run(program, *names):
     return done.returncode, done.stdout, done.stderr.split("\n", 1)[0]
 
 
-def is_as(answer, ran, lines):
+def is_as(answer, ran, lines, place="proof: line"):
     """Whether a program did what an answer says. The lines are those that it writes with status 0 and 3."""
     status, output, error = ran
     if status != answer.status or output != lines.get(status, ""):
@@ -41,7 +41,7 @@ def is_as(answer, ran, lines):
     if status != 1:
         return error == ""
     causes = rules.UNREAD if answer.cause is None else (answer.cause,)
-    return error in {f"proof: line {answer.line}: {cause}" for cause in causes}
+    return error in {f"{place} {answer.line}: {cause}" for cause in causes}
 
 
 def dimacs(formula):
@@ -50,8 +50,8 @@ def dimacs(formula):
 
 
 class Programs:
-    def __init__(self, check, convert, check_bytes):
-        self.check, self.convert, self.check_bytes = check, convert, check_bytes
+    def __init__(self, check, convert, check_bytes, check_hints):
+        self.check, self.convert, self.check_bytes, self.check_hints = check, convert, check_bytes, check_hints
 
     def differences(self, seed):
         """What the programs say of a text that they must not say."""
@@ -62,7 +62,7 @@ class Programs:
             cnf.write_text(dimacs(formula))
             lrat.write_bytes(text)
             found = list(self.compare(formula, text, cnf, lrat, proof))
-            found += self.compare_binary(rng, formula, text, cnf, lrat)
+            found += self.compare_binary(rng, formula, text, cnf, lrat, proof)
         return [f"seed {seed}: {what}" for what in found]
 
     def compare(self, formula, text, cnf, lrat, proof):
@@ -73,6 +73,7 @@ class Programs:
             yield f"lrat_check has a verdict over a satisfiable formula: {checked}"
         if not is_as(right, checked, {0: VERIFIED, 3: OPEN}):
             yield f"lrat_check must answer {right}: {checked}"
+        yield from self.differences_of_hints(refutable, rules.judge_hints(formula, text), [cnf, lrat])
         wanted = rules.convert(formula, text)
         converted = run(self.convert, cnf, lrat, proof)
         if not is_as(wanted, converted, {}):
@@ -88,8 +89,15 @@ class Programs:
         if agreeing and shown != expected:
             yield f"varisat_check does not agree with {checked}: {shown}"
 
+    def differences_of_hints(self, refutable, right, words):
+        """What `hint_check` says of these files that it must not say."""
+        checked = run(self.check_hints, *words)
+        if "VERIFIED UNSAT" in checked[1] and not refutable:
+            yield f"hint_check has a verdict over a satisfiable formula: {checked}"
+        if not is_as(right, checked, {0: VERIFIED, 3: OPEN}, "line"):
+            yield f"hint_check must answer {right}: {checked}"
 
-    def compare_binary(self, rng, formula, text, cnf, lrat):
+    def compare_binary(self, rng, formula, text, cnf, lrat, proof):
         """The same of the text's lines as binary ones, some of them damaged: the form of the ids is given, and told."""
         lines = [read for _, read in rules.lines_of(text)]
         doubled = rng.random() < 0.5
@@ -98,37 +106,45 @@ class Programs:
             data = binary.damaged(rng, data)
         lrat.write_bytes(data)
         told = binary.are_doubled(data, len(formula))
+        refutable = not texts.is_satisfiable(formula)
         for way, words in ((doubled, ["--ids", "doubled" if doubled else "plain"]), (told, [])):
-            if binary.is_binary(data):
-                right = rules.judge(formula, data, read_lines=lambda data: binary.lines_of(data, way))
-            else:
-                right = rules.judge(formula, data)
-            checked = run(self.check, *words, cnf, lrat)
-            if "VERIFIED UNSAT" in checked[1] and texts.is_satisfiable(formula):
-                yield f"lrat_check {words} has a verdict over a satisfiable formula on {data}: {checked}"
-            if not is_as(right, checked, {0: VERIFIED, 3: OPEN}):
-                yield f"lrat_check {words} must answer {right} to {data}: {checked}"
+            read_lines = (lambda data: binary.lines_of(data, way)) if binary.is_binary(data) else rules.lines_of
+            for what in self.compare_form(refutable, formula, data, read_lines, words, cnf, lrat, proof):
+                yield f"{data} {words}: {what}"
+
+    def compare_form(self, refutable, formula, data, read_lines, words, cnf, lrat, proof):
+        """What the programs say of lines that are read so, called with these words, that they must not say."""
+        right = rules.judge(formula, data, read_lines=read_lines)
+        checked = run(self.check, *words, cnf, lrat)
+        if "VERIFIED UNSAT" in checked[1] and not refutable:
+            yield f"lrat_check has a verdict over a satisfiable formula: {checked}"
+        if not is_as(right, checked, {0: VERIFIED, 3: OPEN}):
+            yield f"lrat_check must answer {right}: {checked}"
+        yield from self.differences_of_hints(refutable, rules.judge_hints(formula, data, read_lines), [*words, cnf, lrat])
+        wanted = rules.convert(formula, data, read_lines)
+        converted = run(self.convert, *words, cnf, lrat, proof)
+        if not is_as(wanted, converted, {}):
+            yield f"lrat_to_proof must answer {wanted}: {converted}"
 
 
 def read_formula(path):
     return [[int(word) for word in line.split()[:-1]] for line in path.read_text().splitlines() if line[:1] not in "cp"]
 
 
-def prefix_differences(check):
-    """What `lrat_check` must not say of beginnings of the texts of solvers, as binary lines of either form."""
+def prefix_differences(programs):
+    """What the programs must not say of beginnings of the texts of solvers, as binary lines of either form."""
     for path in sorted((TOP / "tests" / "data").glob("*.lrat")):
         cnf = path.with_suffix(".cnf")
         formula = read_formula(cnf)
         lines = [read for _, read in rules.lines_of(path.read_bytes())]
         for doubled, size in itertools.product((False, True), PREFIXES):
             data = binary.written(lines, doubled)[:size]
-            right = rules.judge(formula, data, read_lines=lambda data: binary.lines_of(data, doubled))
-            with tempfile.NamedTemporaryFile() as lrat:
-                lrat.write(data)
-                lrat.flush()
-                checked = run(check, cnf, lrat.name)
-            if not is_as(right, checked, {0: VERIFIED, 3: OPEN}):
-                yield f"{path.name}, {'doubled' if doubled else 'plain'}, {size} bytes: lrat_check must answer {right}: {checked}"
+            with tempfile.TemporaryDirectory() as folder:
+                lrat, proof = Path(folder) / "lrat", Path(folder) / "proof"
+                lrat.write_bytes(data)
+                read_lines = lambda data: binary.lines_of(data, doubled)
+                for what in programs.compare_form(True, formula, data, read_lines, [], cnf, lrat, proof):
+                    yield f"{path.name}, {'doubled' if doubled else 'plain'}, {size} bytes: {what}"
 
 
 def unnoticed(fault, count):
@@ -144,7 +160,7 @@ def main():
     parser = argparse.ArgumentParser(description=__doc__)
     parser.add_argument("--texts", type=int, default=1500)
     parser.add_argument("--first", type=int, default=0, help="the first seed")
-    for name in ("lrat_check", "lrat_to_proof", "varisat_check"):
+    for name in ("lrat_check", "lrat_to_proof", "varisat_check", "hint_check"):
         parser.add_argument(f"--{name.replace('_', '-')}", help="another program in place of the one that is built")
     words = parser.parse_args()
     wrong = 0
@@ -156,8 +172,9 @@ def main():
         words.lrat_check or built("lrat_check"),
         words.lrat_to_proof or built("lrat_to_proof"),
         words.varisat_check or built("varisat_check"),
+        words.hint_check or built("hint_check"),
     )
-    for what in prefix_differences(programs.check):
+    for what in prefix_differences(programs):
         print(f"WRONG {what}")
         wrong += 1
     with ThreadPoolExecutor() as pool:

@@ -190,7 +190,41 @@ def refutes(clause, units):
     return not clause
 
 
-def convert(formula, text):
+def conflict_of_hints(held, true, hints):
+    """Why hints in the stricter reading of `hint_check` are refused, or None: all but the last are unit, and the last is falsified."""
+    for place, hint in enumerate(hints, 1):
+        if hint not in held:
+            return "no clause has the id of a hint"
+        left = {lit for lit in held[hint] if -lit not in true}
+        if place == len(hints):
+            return "hints end without a conflict" if left else None
+        if len(left) != 1 or left & true:
+            return "clause of a hint is not unit"
+        true |= left
+    return "hints end without a conflict"
+
+
+def judge_hints(formula, text, read_lines=lines_of):
+    """What `hint_check` must answer. It reads to the end."""
+    held, greatest, refuted = dict(enumerate(formula, 1)), len(formula), False
+    for number, read in read_lines(text):
+        if read != "unread" and len(read) == 1:
+            for gone in read[0]:
+                held.pop(gone, None)
+            continue
+        if read == "unread" or any(hint < 0 for hint in read[2]):
+            return Answer(1, number, "malformed line")
+        name, clause, hints = read
+        if name <= greatest:
+            return Answer(1, number, "id is not greater than those before")
+        cause = conflict_of_hints(held, {-lit for lit in clause}, hints)
+        if cause:
+            return Answer(1, number, cause)
+        held[name], greatest, refuted = clause, name, refuted or not clause
+    return Answer(0 if refuted else 3)
+
+
+def convert(formula, text, read_lines=lines_of):
     """What `lrat_to_proof` must answer. With status 0 the line is the last one that is written."""
     held, units, refuted = set(), set(), False
     for number, clause in enumerate(formula, 1):
@@ -198,7 +232,7 @@ def convert(formula, text):
         refuted = refutes(set(clause), units) or refuted
     if refuted:
         return Answer(0)
-    for number, read in lines_of(text):
+    for number, read in read_lines(text):
         if read == "unread":
             return Answer(1, number)
         if len(read) == 1:

@@ -1,50 +1,60 @@
--- Runs over a formula and a text of hints.
---     AcceptsHints, ChecksHints      all lines were accepted; the answer of checking a text of hints over a formula
+-- Runs over a formula and a proof in lines of hints. `ids` is how ids stand in binary lines, where it is given.
+--     AcceptsHints, RefusesHints, ChecksHints      all lines were accepted;  one was refused;  the answer of checking them over a formula
 --     IsUnread cause fault      what is answered where a read failed
---     CheckRun cnf lrat r      the run over both texts
+--     CheckRun ids cnf lrat r      the run over both texts
 --     IsRefusedRun r      the formula or the hints were not accepted
 --     IsUnwritten r, BeginsLine      the verdict's line was not written whole, and what was written then
 --     RunTellsLie cnf r told      this is told of the formula's header
-use Rattle.std.specs.Prelude.{◌≡◌, ◌≢◌, ℕ, Bool, false, List, Option, None, Result, Ok, Err}
+use Rattle.std.specs.Prelude.{◌≡◌, ◌≢◌, ℕ, Bool, false, List, length, Option, None, Result, Ok, Err}
 use Rattle.std.specs.IoError.{error_kind}
 use Rattle.std.specs.Option.{option_map}
 use Rattle.std.specs.declared.io.Error.{Error}
 use Rattle.std.specs.declared.io.ErrorKind.TheVariants.{OutOfMemory}
 use Rattle.sat_rules.specs.Clauses.{all_true}
-use Rattle.sat_rules.specs.HintLines.{Listed, listing}
+use Rattle.sat_rules.specs.HintLines.{listing}
 use Rattle.sat_formula.specs.declared.counts.LyingHeader.{LyingHeader}
 use Rattle.sat_formula.specs.Lines.{outcome_of}
 use Rattle.sat_formula.specs.Outcome.{Ended}
 use Rattle.sat_formula.specs.Whole.{FailsAfter, IsOutcome}
-use Rattle.hint_checker.specs.Checked.{Accepts, IsRefusal}
-use Rattle.hint_checker.specs.Streams.{GivesText}
+use Rattle.lrat_binary.specs.declared.ids.Ids.{Ids}
+use Rattle.lrat_binary.specs.declared.ids.LratForm.{LratForm}
+use Rattle.hint_checker.specs.declared.fault.HintFault.{HintFault}
 use Rattle.hint_checker.specs.declared.fault.HintFault.TheVariants as hints
+use Rattle.hint_checker.specs.declared.fault.HintTextFault.TheVariants.{Refused}
 use Rattle.whole_formulas.specs.Lies.{IsLie}
 use Rattle.whole_writes.specs.Beginnings.{AppendsBeginning}
 use Rattle.verdicts.specs.Verdicts.{shown_line, verdict_of}
+use Rattle.hint_check.specs.Proofs.{AcceptsProof, IsProofRefusal, IsToldForm}
 use Rattle.hint_check.specs.declared.fault.RunFault.{RunFault}
 use Rattle.hint_check.specs.declared.fault.RunFault.TheVariants.{Formula, Hints, Read, Write}
 use Rattle.verdicts.specs.declared.verdict.Verdict.{Verdict}
 use Rattle.verdicts.specs.declared.verdict.Verdict.TheVariants.{Verified}
 
--- all lines of a text are accepted after a formula's clauses; the verdict says whether one adds the empty clause, and then no assignment satisfies the formula
-pub record AcceptsHints (lrat : Option (List ℕ)) (formula : List (List ℕ))
+-- all lines of a proof are accepted after a formula's clauses; the verdict says whether one adds the empty clause, and then no assignment satisfies the formula
+pub record AcceptsHints (ids : Option Ids) (lrat : Option (List ℕ)) (formula : List (List ℕ))
     (verdict : Verdict) : Type 0 where
-  pub text : List ℕ
-  pub gives : GivesText lrat text
-  pub held : Listed
-  pub accepts : Accepts (listing formula) text held
-  pub verdict_is : verdict ≡ verdict_of held.added_empty
+  pub form : LratForm
+  pub told : IsToldForm ids (length formula) lrat form
+  pub refuted : Bool
+  pub accepts : AcceptsProof form lrat (listing formula) refuted
+  pub verdict_is : verdict ≡ verdict_of refuted
   pub refutes : verdict ≡ Verified → (a : ℕ → Bool) → all_true a formula ≡ false
 
+-- a line of the proof is the first that is not accepted, or there was no memory
+pub record RefusesHints (ids : Option Ids) (lrat : Option (List ℕ)) (formula : List (List ℕ))
+    (fault : HintFault) : Type 0 where
+  pub form : LratForm
+  pub told : IsToldForm ids (length formula) lrat form
+  pub refusal : IsProofRefusal form lrat (listing formula) (Refused fault)
+
 -- all lines are accepted, or the first that is not is named; a failed read wanted no memory
-abbrev pub ChecksHints : Option (List ℕ) → List (List ℕ) → Result Verdict RunFault → Type 0
-ChecksHints lrat formula (Ok verdict) = AcceptsHints lrat formula verdict
-ChecksHints lrat formula (Err (Hints fault)) = (text : List ℕ) × GivesText lrat text
-    × IsRefusal (listing formula) text fault
-ChecksHints lrat formula (Err (Read cause)) = error_kind cause ≢ OutOfMemory
-ChecksHints lrat formula (Err (Formula fault)) = ⊥
-ChecksHints lrat formula (Err (Write cause)) = ⊥
+abbrev pub ChecksHints : Option Ids → Option (List ℕ) → List (List ℕ) → Result Verdict RunFault →
+    Type 0
+ChecksHints ids lrat formula (Ok verdict) = AcceptsHints ids lrat formula verdict
+ChecksHints ids lrat formula (Err (Hints fault)) = RefusesHints ids lrat formula fault
+ChecksHints ids lrat formula (Err (Read cause)) = error_kind cause ≢ OutOfMemory
+ChecksHints ids lrat formula (Err (Formula fault)) = ⊥
+ChecksHints ids lrat formula (Err (Write cause)) = ⊥
 
 -- a failed read wanted memory, or its error is answered
 abbrev pub IsUnread : Error → RunFault → Type 0
@@ -53,22 +63,23 @@ IsUnread cause (Read error) = (error_kind cause ≢ OutOfMemory) × (error ≡ c
 IsUnread cause (Formula fault) = ⊥
 IsUnread cause (Write error) = ⊥
 
--- the formula's text was read whole, and the text of hints was checked over its clauses with this answer
-pub record ReadAndChecked (cnf lrat : Option (List ℕ)) (r : Result Verdict RunFault) : Type
-    0 where
+-- the formula's text was read whole, and the proof was checked over its clauses with this answer
+pub record ReadAndChecked (ids : Option Ids) (cnf lrat : Option (List ℕ))
+    (r : Result Verdict RunFault) : Type 0 where
   pub clauses : List (List ℕ)
   pub whole : IsOutcome (option_map outcome_of cnf) (clauses, Ended)
-  pub checks : ChecksHints lrat clauses r
+  pub checks : ChecksHints ids lrat clauses r
 
 -- a formula that was not read whole is answered, and else the check
-abbrev pub CheckRun : Option (List ℕ) → Option (List ℕ) → Result Verdict RunFault → Type 0
-CheckRun cnf lrat (Ok verdict) = ReadAndChecked cnf lrat (Ok verdict)
-CheckRun cnf lrat (Err (Hints fault)) = ReadAndChecked cnf lrat (Err (Hints fault))
-CheckRun cnf lrat (Err (Read cause)) = ReadAndChecked cnf lrat (Err (Read cause))
-CheckRun cnf lrat (Err (Formula fault)) = (clauses : List (List ℕ))
+abbrev pub CheckRun : Option Ids → Option (List ℕ) → Option (List ℕ) → Result Verdict RunFault →
+    Type 0
+CheckRun ids cnf lrat (Ok verdict) = ReadAndChecked ids cnf lrat (Ok verdict)
+CheckRun ids cnf lrat (Err (Hints fault)) = ReadAndChecked ids cnf lrat (Err (Hints fault))
+CheckRun ids cnf lrat (Err (Read cause)) = ReadAndChecked ids cnf lrat (Err (Read cause))
+CheckRun ids cnf lrat (Err (Formula fault)) = (clauses : List (List ℕ))
     × FailsAfter (option_map outcome_of cnf) clauses fault
-CheckRun cnf lrat (Err (Write cause)) =
-    (verdict : Verdict) × ReadAndChecked cnf lrat (Ok verdict)
+CheckRun ids cnf lrat (Err (Write cause)) =
+    (verdict : Verdict) × ReadAndChecked ids cnf lrat (Ok verdict)
 
 -- the formula or the hints were not accepted
 abbrev pub IsRefusedRun : Result Verdict RunFault → Type 0
@@ -87,9 +98,9 @@ IsUnwritten (Err (Hints fault)) = ⊥
 IsUnwritten (Err (Read cause)) = ⊥
 
 -- both texts were read and checked with this verdict, and an output grew by a beginning of its line
-pub record BeginsLine (cnf lrat old new : Option (List ℕ)) : Type 0 where
+pub record BeginsLine (ids : Option Ids) (cnf lrat old new : Option (List ℕ)) : Type 0 where
   pub verdict : Verdict
-  pub checked : ReadAndChecked cnf lrat (Ok verdict)
+  pub checked : ReadAndChecked ids cnf lrat (Ok verdict)
   pub begins : AppendsBeginning old new (shown_line verdict)
 
 -- what the header lies about, where the formula was read whole; else nothing

@@ -10,7 +10,7 @@ pub enum RunFault {
     /// The formula was not read whole.
     #[error("{0}")]
     Formula(DimacsFault),
-    /// The text of hints was not read whole, and not for want of memory.
+    /// The proof was not read whole, though there was memory.
     #[error("error reading hints: {0}")]
     Read(io::Error),
     /// A line of hints was refused, or memory was wanting.

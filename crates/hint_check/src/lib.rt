@@ -1,11 +1,13 @@
-//! Whether a text of hints shows a formula to be unsatisfiable, said in one line.
+//! Whether a proof in lines of hints shows a formula to be unsatisfiable, said in one line.
 //!
 //! The checker of proofs takes no part in it.
 #![tactic(auto)]
 
+mod checking;
 mod fault;
 mod run;
 
 pub use fault::RunFault;
+pub use lrat_binary::Ids;
 pub use run::run_check;
 pub use verdicts::{Verdict, exit_status};

@@ -1,4 +1,4 @@
-//! Runs: a text of hints is checked over a formula, and the verdict is written.
+//! Runs: a proof is checked by its hints over a formula, and the verdict is written.
 ghost use Rattle.std.specs.Prelude.{◌≡◌, ◌↔◌, List, ℕ, Some, Ok, IfOk, OnErr, OnOk, IsTrue};
 ghost use Rattle.std.specs.IoError.{error_kind};
 ghost use Rattle.std.specs.Io.KnownBytes.{Appends};
@@ -8,8 +8,10 @@ ghost use Rattle.hint_check.specs.Runs.{BeginsLine, ChecksHints, CheckRun, IsRef
 ghost use Rattle.verdicts.specs.Verdicts.{shown_line};
 ghost use Rattle.verdicts.specs.declared.verdict.Verdict.TheVariants.{Verified};
 
+use crate::checking::check_proof;
 use crate::fault::RunFault;
 use hint_checker::{HintChecker, HintFault, HintTextFault};
+use lrat_binary::Ids;
 use sat_formula::{CnfFormula, LyingHeader};
 use std::alloc::Global;
 use std::io;
@@ -17,8 +19,11 @@ use std::io::{ErrorKind, Read, Write};
 use verdicts::{Verdict, write_line};
 use whole_formulas::read_formula;
 
-/// Reads a formula as DIMACS text and a text of hints, checks the hints over the formula, and
+/// Reads a formula as DIMACS text and a proof in lines of hints, checks them over the formula, and
 /// writes the verdict's line.
+///
+/// The proof is text or binary, as its first bytes tell. How the ids stand in binary lines is told
+/// by them too, where `ids` does not say it.
 ///
 /// Nothing is written unless all lines are accepted. Where the line can't be written whole, the
 /// verdict stood, and a beginning of the line is written. The checker of proofs takes no part in
@@ -28,15 +33,16 @@ pub fn run_check<F: Read + Drop, H: Read + Drop, W: Write>(
     alloc: Global,
     cnf: F,
     hints: H,
+    ids: Option<Ids>,
     out: &mut W,
     lie: &mut Option<LyingHeader>,
 ) -> Result<Verdict, RunFault>
-    ensures run { CheckRun (F.remaining cnf) (H.remaining hints) result }
+    ensures run { CheckRun ids (F.remaining cnf) (H.remaining hints) result }
     ensures line { IfOk result (λ verdict.
         Appends (W.contents out.old) (W.contents out.new) (shown_line verdict)) }
     ensures silent { IsRefusedRun result → out.new ≡ out.old }
-    ensures unwritten { IsUnwritten result → BeginsLine (F.remaining cnf) (H.remaining hints)
-        (W.contents out.old) (W.contents out.new) }
+    ensures unwritten { IsUnwritten result → BeginsLine ids (F.remaining cnf)
+        (H.remaining hints) (W.contents out.old) (W.contents out.new) }
     ensures refutes { (text : List ℕ) → F.remaining cnf ≡ Some text
         → result ≡ Ok Verified → IsRefuted text }
     ensures lie { RunTellsLie (F.remaining cnf) result lie.new }
@@ -45,7 +51,7 @@ pub fn run_check<F: Read + Drop, H: Read + Drop, W: Write>(
         Ok(formula) => formula,
         Err(fault) => return Err(RunFault::Formula(fault)),
     };
-    let verdict = match check_hints(alloc, formula, hints) {
+    let verdict = match check_hints(alloc, formula, hints, ids) {
         Ok(verdict) => verdict,
         Err(fault) => return Err(fault),
     };
@@ -55,21 +61,23 @@ pub fn run_check<F: Read + Drop, H: Read + Drop, W: Write>(
     }
 }
 
-/// Checks a text of hints over a formula, as it is read.
+/// Checks a proof by its hints over a formula, as it is read.
 fn check_hints<H: Read + Drop>(
     alloc: Global,
     formula: CnfFormula,
     hints: H,
+    ids: Option<Ids>,
 ) -> Result<Verdict, RunFault>
-    ensures { ChecksHints (H.remaining hints) formula result }
+    ensures { ChecksHints ids (H.remaining hints) formula result }
 {
-    let mut checker = match HintChecker::new(alloc, &formula) {
+    let clauses = formula.len() as u64;
+    let checker = match HintChecker::new(alloc, &formula) {
         Ok(checker) => checker,
         Err(fault) => return Err(RunFault::Hints(fault)),
     };
     // The checker has clauses of its own.
     drop(formula);
-    match checker.check_reader(hints) {
+    match check_proof(alloc, checker, hints, ids, clauses) {
         Ok(refuted) => Ok(Verdict::of(refuted)),
         Err(HintTextFault::Refused(fault)) => Err(RunFault::Hints(fault)),
         Err(HintTextFault::Read(fault)) => Err(unread(fault)),

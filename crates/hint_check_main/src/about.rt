@@ -3,7 +3,7 @@ use command::{About, Entry, QUIET, VERBOSE};
 
 /// What `--help` says.
 pub const ABOUT: About<'static> = About {
-    call: "hint_check CNF LRAT [--quiet] [--verbose]",
+    call: "hint_check CNF LRAT [--ids WAY] [--quiet] [--verbose]",
     does: "Checks lines of hints over a formula, and says in one line what they show.",
     operands: &[
         Entry {
@@ -12,10 +12,14 @@ pub const ABOUT: About<'static> = About {
         },
         Entry {
             name: "LRAT",
-            text: "the lines, LRAT text; - stands for standard input",
+            text: "the lines, LRAT, text or binary; - stands for standard input",
         },
     ],
     options: &[
+        Entry {
+            name: "--ids WAY",
+            text: "how ids stand in a binary proof: plain or doubled; else its first bytes tell it",
+        },
         QUIET,
         VERBOSE,
         Entry {

@@ -1,5 +1,5 @@
-//! The command `hint_check CNF LRAT`: checks lines of hints over a formula, and says in one line
-//! what they show.
+//! The command `hint_check CNF LRAT [--ids WAY]`: checks lines of hints over a formula, and says in
+//! one line what they show.
 //!
 //! `--example` checks a small fixed example, `--help` says how the program is called, and
 //! `--version` of which version it is. The name `-` stands for standard input.
@@ -9,10 +9,10 @@ mod about;
 
 use crate::about::ABOUT;
 use command::{
-    Call, NOT_RUN, hold_input, open_inputs, say_formula, say_proof, say_unread, start, unnamed,
-    warn_of_header,
+    Call, NOT_RUN, hold_input, misused, open_inputs, say_formula, say_proof, say_unread, start,
+    unnamed, warn_of_header,
 };
-use hint_check::{RunFault, Verdict, exit_status, run_check};
+use hint_check::{Ids, RunFault, Verdict, exit_status, run_check};
 use progress::{Progress, ToldBytes};
 use sat_formula::DimacsFault;
 use std::io;
@@ -33,15 +33,34 @@ fn run(rt: &HostRuntime, call: &Call<'_>) -> u8 {
     if call.has("--example") {
         return check_example(rt);
     }
+    let Some(ids) = ids_of(call) else {
+        return misused(rt, &ABOUT, "--ids takes plain or doubled");
+    };
     match call.operands.as_slice() {
-        [cnf, lrat] => check_files(rt, cnf.as_str(), lrat.as_str(), call),
+        [cnf, lrat] => check_files(rt, cnf.as_str(), lrat.as_str(), ids, call),
         operands => unnamed(rt, &ABOUT, operands.len()),
+    }
+}
+
+/// How ids stand in a binary proof, where `--ids` says it. None: it says something else.
+fn ids_of(call: &Call<'_>) -> Option<Option<Ids>> {
+    match call.value("--ids") {
+        None => Some(None),
+        Some("plain") => Some(Some(Ids::Plain)),
+        Some("doubled") => Some(Some(Ids::Doubled)),
+        Some(_) => None,
     }
 }
 
 /// Both files are opened before anything is read. The formula is read whole, and let go once its
 /// clauses are taken.
-fn check_files(rt: &HostRuntime, cnf_name: &str, lrat_name: &str, call: &Call<'_>) -> u8 {
+fn check_files(
+    rt: &HostRuntime,
+    cnf_name: &str,
+    lrat_name: &str,
+    ids: Option<Ids>,
+    call: &Call<'_>,
+) -> u8 {
     let Some((cnf, lrat)) = open_inputs(rt, cnf_name, lrat_name) else {
         return NOT_RUN;
     };
@@ -57,7 +76,7 @@ fn check_files(rt: &HostRuntime, cnf_name: &str, lrat_name: &str, call: &Call<'_
     let length = lrat.length(rt);
     let mut lie = None;
     let lrat = ToldBytes::new(&progress, lrat.file, length);
-    let outcome = run_check(rt.alloc(), cnf, lrat, &mut io::writer(rt), &mut lie);
+    let outcome = run_check(rt.alloc(), cnf, lrat, ids, &mut io::writer(rt), &mut lie);
     let status = report(rt, &outcome);
     match outcome {
         Err(RunFault::Formula(_)) => {
@@ -75,7 +94,7 @@ fn check_files(rt: &HostRuntime, cnf_name: &str, lrat_name: &str, call: &Call<'_
 fn check_example(rt: &HostRuntime) -> u8 {
     let cnf = "1 0\n-1 0\n".as_bytes();
     let lrat = "3 0 1 2 0\n".as_bytes();
-    let outcome = run_check(rt.alloc(), cnf, lrat, &mut io::writer(rt), &mut None);
+    let outcome = run_check(rt.alloc(), cnf, lrat, None, &mut io::writer(rt), &mut None);
     report(rt, &outcome)
 }
 

@@ -1,19 +1,20 @@
 -- What the outcome of LRAT text says of the same lines as lines of hints.
 --     Run h xs k      the lines that a reader gives are accepted after h, and lead to k
---     all_accepted      then so are the lines of the text
+--     run_leads      then they are lines of hints that are accepted
+--     all_accepted      and so are the lines of the text
 --     stopped_at      a line that is refused, or malformed, after them is one of the text's
 use Rattle.std.proofs.Common.{◌≡◌, ℕ, zero, suc, ◌+◌, ◌-◌, ◌^◌, ◌<◌, ◌≤◌, List, [], ◌∷◌, ◌++◌, length, Option, Some, None, Result, Ok, Err, refl, sym, ap, ◌∙◌, subst, arith}
 use Rattle.std.specs.Option.{option_map}
 use Rattle.std.proofs.lemmas.Option.{none-some}
-use Rattle.sat_rules.specs.HintLines.{Follows, HintCause, HintLine, Listed, line_cause}
+use Rattle.sat_rules.specs.HintLines.{HintCause, HintLine, Listed, line_cause}
 use Rattle.sat_formula.specs.Lines.{words_of}
 use Rattle.sat_formula.specs.Outcome.{next_line}
 use Rattle.lrat_rules.specs.Lines.{Line, adds, deletes}
 use Rattle.lrat_text.specs.Grammar.{says}
 use Rattle.lrat_text.specs.Texts.{Ended, Ending, Faulty, line_then, lines_from, short_before}
 use Rattle.lrat_text.specs.declared.fault.LineKind.{LineKind}
-use Rattle.hint_checker.specs.Checked.{after_said, cause_of, joined, refusal, said_all}
-use Rattle.hint_checker.specs.Given.{as_hints}
+use Rattle.hint_checker.specs.Checked.{Leads, after_said, cause_of, joined, refusal, said_all}
+use Rattle.hint_checker.specs.Given.{Stops, as_hints, lines_said}
 use Rattle.hint_checker.specs.Text as text
 use Rattle.hint_checker.specs.Text.{Said, in_front, said_by}
 use Rattle.hint_checker.specs.declared.fault.LineFault.{LineFault}
@@ -39,27 +40,30 @@ same_after : (h : Listed) (line : Line) (s : Said) → SaysAlike (Ok (Some line)
 same_after h (adds id c hs) s e = ap (after_said h) e
 same_after h (deletes ids) s e = ap (after_said h) e.1
 
--- ---- lines of text
-
--- the lines of text are accepted after h, and lead to k
-pub record Accepted (raw : List (List ℕ)) (h k : Listed) : Type 0 where
-  pub lines : List HintLine
-  pub said : said_all raw ≡ Some lines
-  pub follow : Follows h lines k
-
 none_of : (o : Option HintCause) → option_map cause_of o ≡ None → o ≡ None
 none_of None e = refl
 none_of (Some cause) e = absurd (none-some (cause_of cause) (sym e))
 
 -- one more in front
+joined_front : (s : Said) (rest : Option (List HintLine)) (h k : Listed) → refusal h s ≡ None → Leads rest (after_said h s) k → Leads (joined s rest) h k
+joined_front text.Nothing rest h k r a = a
+joined_front (text.Line x) rest h k r a = record { lines = x ∷ a.lines; all = ap (in_front x) a.all; follow = (none_of (line_cause h x) r, a.follow) }
+joined_front text.Malformed rest h k r a = absurd (none-some causes.Malformed (sym r))
+
+-- lines that are given are lines of hints
+pub run_leads : (h k : Listed) (xs : List (ℕ × Line)) → Run h xs k → Leads (lines_said xs) h k
+run_leads h k [] run = record { lines = []; all = refl; follow = run }
+run_leads h k (x ∷ xs) run = joined_front (as_hints x.1) (lines_said xs) h k run.0 (run_leads (after_said h (as_hints x.1)) k xs run.1)
+
+-- ---- lines of text
+
+-- the lines of text are accepted after h, and lead to k
+abbrev pub Accepted : List (List ℕ) → Listed → Listed → Type 0
+Accepted raw h k = Leads (said_all raw) h k
+
+-- one more in front
 accepted_front : (l : List ℕ) (raw : List (List ℕ)) (h k : Listed) (s : Said) → said_by l ≡ s → refusal h s ≡ None → Accepted raw (after_said h s) k → Accepted (l ∷ raw) h k
-accepted_front l raw h k text.Nothing is r a = record { lines = a.lines; said = ap (λ x. joined x (said_all raw)) is ∙ a.said; follow = a.follow }
-accepted_front l raw h k (text.Line x) is r a = record {
-  lines = x ∷ a.lines;
-  said = ap (λ y. joined y (said_all raw)) is ∙ ap (in_front x) a.said;
-  follow = (none_of (line_cause h x) r, a.follow);
-}
-accepted_front l raw h k text.Malformed is r a = absurd (none-some causes.Malformed (sym r))
+accepted_front l raw h k s is r a = subst (λ x. Leads (joined x (said_all raw)) h k) (sym is) (joined_front s (said_all raw) h k r a)
 
 given_front : (l : List ℕ) (raw : List (List ℕ)) (h k : Listed) (line : Line) → SaysAlike (Ok (Some line)) (said_by l) → refusal h (as_hints line) ≡ None →
     Accepted raw (after_said h (as_hints line)) k → Accepted (l ∷ raw) h k
@@ -67,7 +71,7 @@ given_front l raw h k line alike r a =
     accepted_front l raw h k (said_by l) refl (same_refusal h line (said_by l) alike ∙ r) (subst (λ s. Accepted raw s k) (sym (same_after h line (said_by l) alike)) a)
 
 pub all_accepted : (n : ℕ) (raw : List (List ℕ)) (h k : Listed) → (lines_from n raw).1 ≡ Ended → Run h (lines_from n raw).0 k → Accepted raw h k
-all_accepted n [] h k e run = record { lines = []; said = refl; follow = run }
+all_accepted n [] h k e run = record { lines = []; all = refl; follow = run }
 all_accepted n (l ∷ raw) h k e run = go (all_accepted (next_line n) raw) (says (short_before raw) (words_of l)) (says_alike (short_before raw) (words_of l)) e run
   where
     Rest : Type 0
@@ -108,12 +112,6 @@ pub record StoppedAt (raw : List (List ℕ)) (h : Listed) (n m : ℕ) (fault : L
   pub accepted : Accepted before h held
   pub refused : refusal held (said_by line) ≡ Some fault
 
--- a line that is given next is refused, or the next one is malformed
-abbrev pub Stops : Listed → List (ℕ × Line) → Ending → ℕ → LineFault → Type 0
-Stops k [] Ended m fault = ⊥
-Stops k [] (Faulty number kind) m fault = (m ≡ number) × (fault ≡ causes.Malformed)
-Stops k (x ∷ xs) ending m fault = (m ≡ x.0) × (refusal k (as_hints x.1) ≡ Some fault)
-
 stops_first : (l : List ℕ) (raw : List (List ℕ)) (h : Listed) (n m : ℕ) (fault : LineFault) → m ≡ next_line n → refusal h (said_by l) ≡ Some fault → StoppedAt (l ∷ raw) h n m fault
 stops_first l raw h n m fault number r = record {
   before = [];
@@ -122,7 +120,7 @@ stops_first l raw h n m fault number r = record {
   cut = refl;
   number = number;
   held = h;
-  accepted = record { lines = []; said = refl; follow = refl };
+  accepted = record { lines = []; all = refl; follow = refl };
   refused = r;
 }
 

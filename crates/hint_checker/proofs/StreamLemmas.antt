@@ -15,13 +15,13 @@ use Rattle.lrat_text.specs.declared.fault.LratTextFault.TheVariants as reads
 use Rattle.lrat_text.specs.declared.line.LratLine.{LratLine}
 use Rattle.lrat_text.specs.declared.reader.LineReader.{LineReader}
 use Rattle.lrat_text.proofs.LineLemmas.{ends_on, leads_on}
-use Rattle.hint_checker.specs.Checked.{Accepts, IsCause, IsRefusal, Refuses, after_said, in_line, refusal}
-use Rattle.hint_checker.specs.Given.{as_hints, of_text}
+use Rattle.hint_checker.specs.Checked.{Accepts, IsCause, IsRefusalBy, Refuses, after_said, in_line, refusal}
+use Rattle.hint_checker.specs.Given.{Stops, as_hints, of_text}
 use Rattle.hint_checker.specs.Streams.{GivesText, IsCutOff, IsTextRefusal}
 use Rattle.hint_checker.specs.declared.fault.HintTextFault.TheVariants.{Refused}
 use Rattle.hint_checker.specs.declared.fault.LineFault.{LineFault}
 use Rattle.hint_checker.specs.declared.fault.LineFault.TheVariants as causes
-use Rattle.hint_checker.proofs.OutcomeLemmas.{Run, Stops, all_accepted, numbered-exact, run_more, stopped_at}
+use Rattle.hint_checker.proofs.OutcomeLemmas.{Run, all_accepted, numbered-exact, run_more, stopped_at}
 
 abbrev Known : Type 0
 Known = Option (List ℕ)
@@ -64,6 +64,15 @@ goes_on : (known left new : Known) (n : ℕ) (over : Bool) (xs : List (ℕ × Li
 goes_on known left new n false xs g e f = leads_on e (record { taken = f.taken; consumed = f.consumed; same = λ more. ap (behind xs) (f.same more) })
 goes_on known left new n true xs g e f = ends_on e (record { taken = f.taken; consumed = f.consumed; at_end = f.at_end; same = ap (behind xs) f.same })
 
+-- the fault of a line, by its cause
+pub by_cause : (refuses : ℕ → LineFault → Type 0) (m : ℕ) (fault : LineFault) (o : Option LineFault) → IsCause fault o → ((g : LineFault) → o ≡ Some g → refuses m g) → IsRefusalBy refuses (in_line fault m)
+by_cause refuses m causes.Malformed o e r = r causes.Malformed e
+by_cause refuses m causes.IdNotGreater o e r = r causes.IdNotGreater e
+by_cause refuses m causes.UnknownId o e r = r causes.UnknownId e
+by_cause refuses m causes.NotUnit o e r = r causes.NotUnit e
+by_cause refuses m causes.NoConflict o e r = r causes.NoConflict e
+by_cause refuses m causes.OutOfMemory o e r = tt
+
 -- ---- the loop over lines
 
 pub record SoFar (known left : Known) (number : ℕ) (over : Bool) (h k : Listed) : Type 0 where
@@ -102,7 +111,7 @@ module _ (known left : Known) (number : ℕ) (h k : Listed) where
   accepts xs run bytes e =
       let all = ap (λ (o : Outcome). o.0) e ∙ append-nil xs in
       let a = all_accepted 0 (lines_of bytes) h k (ap (λ (o : Outcome). o.1) e) (subst (λ (ys : List (ℕ × Line)). Run h ys k) (sym all) run) in
-      record { lines = a.lines; said = a.said; follow = a.follow }
+      record { lines = a.lines; said = a.all; follow = a.follow }
 
   pub so_far_ended : (over : Bool) → SoFar known left number over h k → (new : Known) → (over ≡ false → Follows left new number true (λ more. ([], Ended))) →
       (text : List ℕ) × GivesText known text × Accepts h text k
@@ -142,19 +151,11 @@ module _ (known left : Known) (number : ℕ) (h k : Listed) where
             let exact = numbered-exact (suc (length s.before)) 0 (omega arith) (subst (λ j. j < 2 ^ 64 - 1) s.number below) in
             s.number ∙ exact ∙ omega arith;
         lines = s.accepted.lines;
-        said = s.accepted.said;
+        said = s.accepted.all;
         held = s.held;
         follow = s.accepted.follow;
         refused = s.refused;
       }
-
-  by_cause : (bytes : List ℕ) (m : ℕ) (fault : LineFault) (o : Option LineFault) → IsCause fault o → ((g : LineFault) → o ≡ Some g → Refuses h bytes m g) → IsRefusal h bytes (in_line fault m)
-  by_cause bytes m causes.Malformed o e r = r causes.Malformed e
-  by_cause bytes m causes.IdNotGreater o e r = r causes.IdNotGreater e
-  by_cause bytes m causes.UnknownId o e r = r causes.UnknownId e
-  by_cause bytes m causes.NotUnit o e r = r causes.NotUnit e
-  by_cause bytes m causes.NoConflict o e r = r causes.NoConflict e
-  by_cause bytes m causes.OutOfMemory o e r = tt
 
   pub so_far_refused : (so : SoFar known left number false h k) (new : Known) (over : Bool) (m : ℕ) (line : Line) → Follows left new number over (λ more. with_line m line (outcome_after m more)) →
       m < 2 ^ 64 - 1 → (fault : LineFault) → IsCause fault (refusal k (as_hints line)) → IsTextRefusal known h (Refused (in_line fault m))
@@ -163,7 +164,7 @@ module _ (known left : Known) (number : ℕ) (h k : Listed) where
       let later = outcome_after m f.rest in (
         f.text,
         f.gives,
-        by_cause f.text m fault (refusal k (as_hints line)) cause
+        by_cause (Refuses h f.text) m fault (refusal k (as_hints line)) cause
             (λ g is. stopped so.lines ((m, line) ∷ later.0) later.1 so.run f.text f.says m below g (refl, is)),
       )
 

@@ -1,9 +1,10 @@
 -- What a checker of hints holds, and what it answers to a text.
 --     said_all ls      the lines of hints that lines of text say
+--     Leads said h k      lines of hints are accepted after h, and lead to k
 --     Accepts h text k      all lines of the text are accepted after h, and lead to k
 --     refusal h said      why what a line says is refused
 --     Refuses h text n f      line n is the first that is refused, and why
---     IsRefusal h text f      a fault of the checker is that of the text, or want of memory
+--     IsRefusalBy refuses f, IsRefusal h text f      a fault of the checker is that of the text, or want of memory
 --     IsCause f o, in_line f n      a cause of the code, and the fault that it is in line n
 --     adds_empty x      whether a line adds the empty clause
 --     AcceptsAfter cs xs text o b      the same after a formula's clauses and earlier lines
@@ -29,6 +30,12 @@ joined text.Malformed rest = None
 abbrev pub said_all : List (List ℕ) → Option (List HintLine)
 said_all [] = Some []
 said_all (l ∷ ls) = joined (said_by l) (said_all ls)
+
+-- these lines of hints are accepted after h, and lead to k
+pub record Leads (said : Option (List HintLine)) (h k : Listed) : Type 0 where
+  pub lines : List HintLine
+  pub all : said ≡ Some lines
+  pub follow : Follows h lines k
 
 -- all lines of the text are accepted after h, and lead to k
 pub record Accepts (h : Listed) (bytes : List ℕ) (k : Listed) : Type 0 where
@@ -68,14 +75,18 @@ pub record Refuses (h : Listed) (bytes : List ℕ) (n : ℕ) (fault : LineFault)
   pub follow : Follows h lines held
   pub refused : refusal held (said_by line) ≡ Some fault
 
+-- a fault of the checker, where it is known which line is refused and why
+abbrev pub IsRefusalBy : (ℕ → LineFault → Type 0) → HintFault → Type 0
+IsRefusalBy refuses (faults.Malformed n) = refuses n causes.Malformed
+IsRefusalBy refuses (faults.IdNotGreater n) = refuses n causes.IdNotGreater
+IsRefusalBy refuses (faults.UnknownId n) = refuses n causes.UnknownId
+IsRefusalBy refuses (faults.NotUnit n) = refuses n causes.NotUnit
+IsRefusalBy refuses (faults.NoConflict n) = refuses n causes.NoConflict
+IsRefusalBy refuses faults.OutOfMemory = Unit {0}
+
 -- a fault of the checker is that of the first line that is refused, or want of memory
 abbrev pub IsRefusal : Listed → List ℕ → HintFault → Type 0
-IsRefusal h bytes (faults.Malformed n) = Refuses h bytes n causes.Malformed
-IsRefusal h bytes (faults.IdNotGreater n) = Refuses h bytes n causes.IdNotGreater
-IsRefusal h bytes (faults.UnknownId n) = Refuses h bytes n causes.UnknownId
-IsRefusal h bytes (faults.NotUnit n) = Refuses h bytes n causes.NotUnit
-IsRefusal h bytes (faults.NoConflict n) = Refuses h bytes n causes.NoConflict
-IsRefusal h bytes faults.OutOfMemory = Unit {0}
+IsRefusal h bytes fault = IsRefusalBy (Refuses h bytes) fault
 
 -- a cause of the code is why it is refused, or want of memory
 abbrev pub IsCause : LineFault → Option LineFault → Type 0

@@ -1,14 +1,17 @@
 -- What a reader of LRAT gives, as lines of hints.
 --     ids_along hints      the ids of hints, unless one is against
---     as_hints line      the line of hints that a line is, or none
+--     as_hints line, lines_said ls      the line of hints that a line is, or none;  the lines of hints that lines are
+--     Stops k ls ending n fault      what comes next is refused, or can't be read
 --     of_text fault      the fault of a text that can't be read
 --     of_bytes fault      that of a text in memory
 --     CollectsIds ids r hints      the ids were collected, or why they were not
 use Rattle.std.specs.Prelude.{◌≡◌, ℕ, List, [], ◌∷◌, Option, Some, None, Result, Ok, Err}
-use Rattle.sat_rules.specs.HintLines.{deletes_clauses}
+use Rattle.sat_rules.specs.HintLines.{HintLine, Listed, deletes_clauses}
 use Rattle.lrat_rules.specs.Lines.{Hint, Line, adds, against, along, deletes}
+use Rattle.lrat_text.specs.Texts.{Ended, Ending, Faulty}
 use Rattle.lrat_text.specs.declared.fault.LratTextFault.{LratTextFault}
 use Rattle.lrat_text.specs.declared.fault.LratTextFault.TheVariants as reads
+use Rattle.hint_checker.specs.Checked.{joined, refusal}
 use Rattle.hint_checker.specs.Text as text
 use Rattle.hint_checker.specs.Text.{Said, addition, in_front, said}
 use Rattle.hint_checker.specs.declared.fault.HintFault.{HintFault}
@@ -28,6 +31,17 @@ ids_along (against d ∷ hs) = None
 abbrev pub as_hints : Line → Said
 as_hints (adds id c hs) = said (addition id c (ids_along hs))
 as_hints (deletes ids) = text.Line (deletes_clauses 0 ids)
+
+-- the lines of hints, unless one has a hint against
+abbrev pub lines_said : List (ℕ × Line) → Option (List HintLine)
+lines_said [] = Some []
+lines_said (x ∷ xs) = joined (as_hints x.1) (lines_said xs)
+
+-- what comes next is a line of this number that is refused, or one that can't be read
+abbrev pub Stops : Listed → List (ℕ × Line) → Ending → ℕ → LineFault → Type 0
+Stops k [] Ended n fault = ⊥
+Stops k [] (Faulty number kind) n fault = (n ≡ number) × (fault ≡ Malformed)
+Stops k (x ∷ xs) ending n fault = (n ≡ x.0) × (refusal k (as_hints x.1) ≡ Some fault)
 
 -- the fault of a text that can't be read: whatever is wrong with a line, it is malformed
 abbrev pub of_text : LratTextFault → HintTextFault

@@ -11,6 +11,7 @@ ghost use Rattle.hint_checker.specs.Held.{HoldsLittle, IsSmall, held_by, holds};
 ghost use Rattle.hint_checker.specs.Streams.{GivesText, IsTextRefusal, ReadsAccepted};
 ghost use Rattle.hint_checker.specs.declared.fault.HintFault.TheVariants.{Malformed, OutOfMemory};
 ghost use Rattle.hint_checker.specs.declared.fault.HintTextFault.TheVariants.{Refused};
+ghost use Rattle.hint_checker.specs.declared.fault.LineFault.TheVariants as lines;
 
 use crate::fault::{HintFault, HintTextFault, LineFault};
 use crate::listing::Listing;
@@ -113,6 +114,37 @@ impl HintChecker {
                 Err(fault)
             }
         }
+    }
+
+    /// Checks a line after those of earlier calls.
+    ///
+    /// After a fault every later call answers `Malformed`.
+    pub fn check_line(&mut self, line: LratLine<'_>) -> Result<(), LineFault>
+        ensures failed { holds self.old ≡ None → (result ≡ Err lines.Malformed)
+            × (holds self.new ≡ None) }
+        ensures accepted { (h : Listed) → holds self.old ≡ Some h
+            → OnOk result ((refusal h (as_hints (view line.entry)) ≡ None)
+            × (holds self.new ≡ Some (after_said h (as_hints (view line.entry))))) }
+        ensures refused { (h : Listed) → holds self.old ≡ Some h
+            → IfErr result (λ fault. IsCause fault (refusal h (as_hints (view line.entry)))
+            × (holds self.new ≡ None)) }
+        ensures small { HoldsLittle self.old → OnOk result (HoldsLittle self.new) }
+    {
+        if self.faulted {
+            return Err(LineFault::Malformed);
+        }
+        let outcome = check_line(&mut self.held, &mut self.values, &mut self.ids, line);
+        if outcome.is_err() {
+            self.fail();
+        }
+        outcome
+    }
+
+    /// Whether some line so far added the empty clause: then no assignment satisfies the formula.
+    pub fn added_empty(&self) -> bool
+        ensures { (h : Listed) → holds self.now ≡ Some h → result ≡ h.added_empty }
+    {
+        self.held.added_empty()
     }
 
     /// No text is checked from here on.

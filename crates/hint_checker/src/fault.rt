@@ -73,13 +73,19 @@ impl HintTextFault {
 }
 
 /// Why a line is refused, before it is known which line it is.
-#[derive(Clone, Copy)]
-pub(crate) enum LineFault {
+#[derive(Clone, Copy, Debug, PartialEq, Eq)]
+pub enum LineFault {
+    /// The line is no line of hints, or an earlier one was refused.
     Malformed,
+    /// Its id is not greater than all before it.
     IdNotGreater,
+    /// A hint names no clause.
     UnknownId,
+    /// A hint before the last has a clause that is not unit.
     NotUnit,
+    /// There is no hint, or the last has a clause that is not falsified.
     NoConflict,
+    /// There was no memory for what the line says.
     OutOfMemory,
 }
 
@@ -87,7 +93,7 @@ impl LineFault {
     ghost use Rattle.hint_checker.specs.Checked.{in_line};
 
     /// The fault of the line of that number.
-    pub(crate) fn in_line(self, line: u64) -> HintFault
+    pub fn in_line(self, line: u64) -> HintFault
         ensures { result ≡ in_line self line }
     {
         match self {

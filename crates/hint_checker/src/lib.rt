@@ -9,4 +9,4 @@ mod listing;
 mod values;
 
 pub use checker::HintChecker;
-pub use fault::{HintFault, HintTextFault};
+pub use fault::{HintFault, HintTextFault, LineFault};

@@ -1,5 +1,6 @@
 //! Runs with their verdicts, lines and statuses, texts of faults, and reads and writes that fail.
-use hint_check::{exit_status, run_check};
+use Ids::{Doubled, Plain};
+use hint_check::{Ids, exit_status, run_check};
 use std::alloc::Global;
 use std::io::ErrorKind;
 use std::process::Abort;
@@ -47,11 +48,12 @@ fn is_answered(
     alloc: Global,
     name: &str,
     (cnf, hints): (Pieces<'_>, Pieces<'_>),
+    ids: Option<Ids>,
     room: usize,
     outcome: Outcome<'_>,
 ) {
     let mut page = Page::of_room(alloc, room);
-    let answer = run_check(alloc, cnf, hints, &mut page, &mut None);
+    let answer = run_check(alloc, cnf, hints, ids, &mut page, &mut None);
     let ended = Ended::of(alloc, page, &answer, exit_status(&answer));
     assert_eq!(rt; ended.outcome(), outcome, "{name}");
 }
@@ -63,7 +65,7 @@ fn are_answered(rt: &impl Abort, alloc: Global, rows: &[Row]) {
             let cnf = Pieces::of_size(cnf.as_bytes(), size);
             let texts = (cnf, Pieces::of_size(hints.as_bytes(), size));
             let outcome = (*written, *fault, *status);
-            is_answered(rt, alloc, hints, texts, usize::MAX, outcome);
+            is_answered(rt, alloc, hints, texts, None, usize::MAX, outcome);
         }
     }
 }
@@ -71,6 +73,112 @@ fn are_answered(rt: &impl Abort, alloc: Global, rows: &[Row]) {
 #[test]
 fn runs(rt: HostRuntime) {
     are_answered(&rt, rt.alloc(), &RUNS);
+}
+
+/// Binary lines over the four clauses, and how ids stand in them where that is said; what is
+/// written, the text of the fault, and the exit status.
+type BinaryRow = (
+    &'static str,
+    &'static [u8],
+    Option<Ids>,
+    &'static str,
+    &'static str,
+    u8,
+);
+
+/// 1 by the first two clauses, and the empty clause by it and the others.
+const PLAIN: &[u8] = b"a\x05\x02\x00\x02\x04\x00a\x06\x00\x0A\x06\x08\x00";
+
+const DOUBLED: &[u8] = b"a\x0A\x02\x00\x02\x04\x00a\x0C\x00\x0A\x06\x08\x00";
+
+const BINARY: [BinaryRow; 13] = [
+    ("told plain", PLAIN, None, VERIFIED, "", 0),
+    ("plain", PLAIN, Some(Plain), VERIFIED, "", 0),
+    ("told doubled", DOUBLED, None, VERIFIED, "", 0),
+    ("doubled", DOUBLED, Some(Doubled), VERIFIED, "", 0),
+    (
+        "plain read as doubled",
+        PLAIN,
+        Some(Doubled),
+        "",
+        "line 1: malformed line",
+        1,
+    ),
+    (
+        "doubled read as plain",
+        DOUBLED,
+        Some(Plain),
+        "",
+        "line 2: no clause has the id of a hint",
+        1,
+    ),
+    (
+        "a deletion",
+        b"a\x05\x02\x00\x02\x04\x00d\x01\x02\x00a\x06\x00\x0A\x06\x08\x00",
+        None,
+        VERIFIED,
+        "",
+        0,
+    ),
+    (
+        "a clause that is gone",
+        b"a\x05\x02\x00\x02\x04\x00d\x03\x00a\x06\x00\x0A\x06\x08\x00",
+        None,
+        "",
+        "line 3: no clause has the id of a hint",
+        1,
+    ),
+    (
+        "one line",
+        b"a\x05\x02\x00\x02\x04\x00",
+        None,
+        NOT_VERIFIED,
+        "",
+        3,
+    ),
+    (
+        "a hint against",
+        b"a\x05\x02\x00\x03\x00",
+        None,
+        "",
+        "line 1: malformed line",
+        1,
+    ),
+    (
+        "an id again",
+        b"a\x04\x02\x00\x02\x04\x00",
+        Some(Plain),
+        "",
+        "line 1: id is not greater than those before",
+        1,
+    ),
+    (
+        "a line that is cut",
+        b"a\x05\x02\x00\x02\x04\x00a\x06\x00\x0A",
+        None,
+        "",
+        "line 2: malformed line",
+        1,
+    ),
+    (
+        "binary DRAT",
+        b"a\x02\x00a\x00",
+        None,
+        "",
+        "line 1: malformed line",
+        1,
+    ),
+];
+
+#[test]
+fn binary_lines(rt: HostRuntime) {
+    for (name, lines, ids, written, fault, status) in &BINARY {
+        for size in [usize::MAX, 1] {
+            let texts = (Pieces::whole(FOUR.as_bytes()), Pieces::of_size(lines, size));
+            let outcome = (*written, *fault, *status);
+            is_answered(&rt, rt.alloc(), name, texts, *ids, usize::MAX, outcome);
+        }
+    }
 }
 
 const HINTS: &[u8] = b"5 0 1 2 0\n";
@@ -83,13 +191,37 @@ fn reads_and_writes_that_fail(rt: HostRuntime) {
     let hints = Pieces::whole(HINTS);
     let broken = Pieces::broken(UNITS.as_bytes(), ErrorKind::ConnectionReset);
     let outcome = ("", "error reading formula: broken", 1);
-    is_answered(&rt, alloc, "formula", (broken, hints), usize::MAX, outcome);
+    is_answered(
+        &rt,
+        alloc,
+        "formula",
+        (broken, hints),
+        None,
+        usize::MAX,
+        outcome,
+    );
     let broken = Pieces::broken(HINTS, ErrorKind::ConnectionReset);
     let outcome = ("", "error reading hints: broken", 1);
-    is_answered(&rt, alloc, "hints", (units, broken), usize::MAX, outcome);
+    is_answered(
+        &rt,
+        alloc,
+        "hints",
+        (units, broken),
+        None,
+        usize::MAX,
+        outcome,
+    );
     let broken = Pieces::broken(HINTS, ErrorKind::OutOfMemory);
     let outcome = ("", "out of memory", 1);
-    is_answered(&rt, alloc, "memory", (units, broken), usize::MAX, outcome);
+    is_answered(
+        &rt,
+        alloc,
+        "memory",
+        (units, broken),
+        None,
+        usize::MAX,
+        outcome,
+    );
     let outcome = ("", "error writing: full", 1);
-    is_answered(&rt, alloc, "line", (units, hints), 0, outcome);
+    is_answered(&rt, alloc, "line", (units, hints), None, 0, outcome);
 }

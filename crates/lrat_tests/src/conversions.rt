@@ -87,7 +87,7 @@ const OPPOSITE_UNITS: Row = (
     \x0D",
 );
 
-const CONVERTED: [Row; 11] = [
+const CONVERTED: [Row; 14] = [
     (FOUR, REFUTATION, 0, REFUTED),
     WITH_DELETIONS,
     OPPOSITE_UNITS,
@@ -120,6 +120,25 @@ const CONVERTED: [Row; 11] = [
     (TWO, b"3 1 -1 0 0\n4 2 1 0 3 1 2 3 0\n4 d 3 0\n", 3, DERIVED),
     // lines that say nothing
     (TWO, b"c x\n\n3 2 1 0 1 2 0", 3, DERIVED),
+    // the first one in binary lines, with plain ids and with doubled ones
+    (
+        FOUR,
+        b"a\x05\x02\x00\x02\x04\x00a\x06\x00\x0A\x06\x08\x00x",
+        0,
+        REFUTED,
+    ),
+    (
+        FOUR,
+        b"a\x0A\x02\x00\x02\x04\x00a\x0C\x00\x0A\x06\x08\x00",
+        0,
+        REFUTED,
+    ),
+    (
+        TWO,
+        b"a\x03\x04\x02\x00\x02\x04\x00d\x02\x03\x09\x03\x00",
+        3,
+        DERIVED_AND_DELETED,
+    ),
 ];
 
 /// Formulas that are refuted already.
@@ -128,7 +147,7 @@ const REFUTED_FORMULAS: [&[u8]; 3] = [b"0", b"1 2 0 0", b"1 0 2 3 0 -1 -1 0"];
 /// A formula and a proof, and the text of the fault.
 type Refusal = (&'static [u8], &'static [u8], &'static str);
 
-const REFUSED: [Refusal; 10] = [
+const REFUSED: [Refusal; 14] = [
     (
         FOUR,
         b"5 1 0 1 2 0\n6 -1 0 3 -4 2 0\n",
@@ -162,13 +181,26 @@ const REFUSED: [Refusal; 10] = [
         b"5 268435457 0 1 2 0",
         "proof: line 1: number too large",
     ),
+    (
+        FOUR,
+        b"a\x05\x02\x00\x03\x00",
+        "proof: line 1: RAT steps can't be converted",
+    ),
+    (
+        FOUR,
+        b"a\x05\x02\x00\x02\x04\x00a\x06\x00\x0E\x00",
+        "proof: line 2: no clause has the id of a hint",
+    ),
+    (FOUR, b"a\x05\x02\x00\x02", "proof: line 1: unfinished line"),
+    // binary DRAT
+    (FOUR, b"a\x02\x00a\x00", "proof: line 1: id is taken"),
     (b"1 0\n2 x 0", REFUTATION, "formula: line 2: bad number"),
 ];
 
 /// As much of the proof is written as there is room for.
 fn ran(alloc: Global, cnf: Pieces<'_>, proof: Pieces<'_>, width: HashWidth, room: usize) -> Ended {
     let mut page = Page::of_room(alloc, room);
-    let answer = convert(alloc, cnf, proof, width, &mut page, &mut None);
+    let answer = convert(alloc, cnf, proof, None, width, &mut page, &mut None);
     Ended::of(alloc, page, &answer, exit_status(&answer))
 }
 

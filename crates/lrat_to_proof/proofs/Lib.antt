@@ -2,4 +2,3 @@ pub mod HoldingLemmas
 pub mod WrittenLemmas
 pub mod ConvertedLemmas
 pub mod LineLemmas
-pub mod ReadingLemmas

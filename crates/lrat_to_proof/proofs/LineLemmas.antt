@@ -1,22 +1,29 @@
--- The lines of a text in turn.
+-- The lines of a proof in turn.
 --     run-more      one line more at the end
 --     SoFar      the lines that were read so far, all of them converted
-use Rattle.std.proofs.Common.{◌≡◌, ℕ, Bool, true, false, List, [], ◌∷◌, ◌++◌, Option, Result, Ok, Err, MatchBool, refl, sym, ap, ◌∙◌, subst, cond}
-use Rattle.std.specs.Io.KnownBytes.{Appends, Consumes}
-use Rattle.std.proofs.KnownBytes.{Consumes-nil}
+use Rattle.std.proofs.Common.{◌≡◌, ℕ, Bool, true, false, List, [], ◌∷◌, ◌++◌, Option, Some, None, Result, Ok, Err, MatchBool, refl, sym, ap, ◌∙◌, subst, cond}
+use Rattle.std.specs.Prelude.{IfSome}
+use Rattle.std.specs.Io.KnownBytes.{Appends}
 use Rattle.lrat_rules.specs.Lines.{Line}
 use Rattle.proof_bytes.specs.Version2.{text_2}
-use Rattle.lrat_text.specs.Taking.{Follows}
-use Rattle.lrat_text.specs.Texts.{Ended, Faulty, outcome_after, with_line}
-use Rattle.lrat_text.specs.declared.fault.LineKind.{LineKind}
-use Rattle.lrat_checker.specs.TextAnswers.{BeginsWith, SaysAll, said, with_lines}
-use Rattle.lrat_checker.proofs.TextLemmas.{text_begins, text_ended, text_ends, text_more}
+use Rattle.lrat_text.specs.NextLine.{view}
+use Rattle.lrat_text.specs.Texts.{Ended, Faulty, Outcome}
+use Rattle.lrat_text.specs.declared.fault.LratTextFault.{LratTextFault}
+use Rattle.lrat_text.specs.declared.fault.LratTextFault.TheVariants as reads
+use Rattle.lrat_text.specs.declared.line.LratLine.{LratLine}
+use Rattle.lrat_binary.specs.Proofs.{BeginsWith, Gives, IsFresh, IsNoLine, SaysAll, line_number, lines_after, outcome_in}
+use Rattle.lrat_binary.specs.Telling.{form_of}
+use Rattle.lrat_binary.specs.declared.ids.Ids.{Ids}
+use Rattle.lrat_binary.specs.declared.ids.LratForm.{LratForm}
+use Rattle.lrat_binary.specs.declared.proof.LratReader.{LratReader}
+use Rattle.lrat_binary.proofs.GivenLines.{HasGiven, all_said, begins_as, begins_so, given_begun, given_end, given_fault, given_more, given_start, says_as}
+use Rattle.lrat_binary.proofs.ReadLemmas.{Known}
+use Rattle.lrat_checker.specs.TextAnswers.{said}
 use Rattle.lrat_to_proof.specs.Converting.{Converted, next, next_open, run, then_run}
-use Rattle.lrat_to_proof.specs.Faults.{IsCause, IsRefusal, in_line}
-use Rattle.lrat_to_proof.specs.Runs.{ConvertsLines, IsCut, IsStopped, Leads}
-use Rattle.lrat_to_proof.specs.Standing.{HasConverted, Reaches}
+use Rattle.lrat_to_proof.specs.Faults.{IsCause, IsRefusal, in_line, of_text}
+use Rattle.lrat_to_proof.specs.Runs.{ConvertsLines, IsCut, IsStopped, proof_says}
+use Rattle.lrat_to_proof.specs.Standing.{HasConverted, Reaches, holding_of}
 use Rattle.lrat_to_proof.specs.declared.converter.Converter.{Converter}
-use Rattle.lrat_to_proof.specs.declared.fault.ConvertFault.TheVariants as faults
 use Rattle.lrat_to_proof.specs.declared.fault.GivenUp.TheVariants as reasons
 use Rattle.lrat_to_proof.specs.declared.fault.LineCause.{LineCause}
 use Rattle.lrat_to_proof.specs.declared.fault.Stop.{Stop}
@@ -47,101 +54,146 @@ run_on width c d e ls n l ran is_open more =
     ap (run width c) (said-more ls n l) ∙ run-more width c (said ls) l ∙ ap (λ r. then_run r (λ d. next_open width d l)) ran
     ∙ ap (λ b. cond b (Ok d) (next width d l)) is_open ∙ more
 
+-- whether the converter wants no more is what is known of the lines so far
+pub done-is : (width : ℕ) (start now : Option (List ℕ)) (c : Converted) (x : Converter) (b : Bool) → HasConverted width start now c x → (holding_of x.held).refuted ≡ b → c.held.refuted ≡ b
+done-is width start now c x b h e = subst (λ held. held.refuted ≡ b) h.held e
+
 -- ---- the loop over lines
 
--- the lines so far, and how the text goes on
-pub record SoFar (known left : Option (List ℕ)) (number : ℕ) (over : Bool) (width : ℕ) (c : Converted) (start now : Option (List ℕ)) (x : Converter) : Type 0 where
+-- the lines so far, and how the proof goes on
+pub record SoFar {R : Type 0} (remaining : R → Option (List ℕ)) (known : Known) (form : LratForm) (reader : LratReader R) (width : ℕ) (c : Converted) (start now : Option (List ℕ)) (x : Converter) : Type
+    0 where
   pub lines : List (ℕ × Line)
   pub after : Converted
-  pub text : Follows known left 0 over (λ more. with_lines lines (outcome_after number more))
+  pub given : HasGiven remaining known form reader lines
   pub ran : run width c (said lines) ≡ Ok after
   pub stands : HasConverted width start now after x
 
-module _ (known left : Option (List ℕ)) (number width : ℕ) (c : Converted) (start now : Option (List ℕ)) (x : Converter) where
-  pub so_far_start : (over : Bool) → left ≡ known → number ≡ 0 → over ≡ false → HasConverted width start now c x → SoFar known left number over width c start now x
-  so_far_start over e n o h = record {
-    lines = [];
-    after = c;
-    text = subst (λ (b : Bool). Follows known left 0 b (λ more. with_lines [] (outcome_after number more))) (sym o)
-        (record { taken = []; consumed = subst (λ k. Consumes known k []) (sym e) (Consumes-nil known); same = λ more. ap (λ m. outcome_after m more) (sym n) });
-    ran = refl;
-    stands = h;
-  }
+-- what bytes say that are read in this form
+abbrev pub ReadSo : (List ℕ → Outcome) → Known → LratForm → Type 0
+ReadSo says known form = IfSome known (λ bytes. says bytes ≡ outcome_in form bytes)
 
-  -- one more line
-  module _ (so : SoFar known left number false width c start now x) (is_open : so.after.held.refuted ≡ false)
-      (new : Option (List ℕ)) (over : Bool) (m : ℕ) (l : Line) (goes : Follows left new number over (λ more. with_line m l (outcome_after m more))) where
-    pub so_far_more : (later : Option (List ℕ)) (y : Converter) → Reaches width start later (next width so.after l) y → SoFar known new m over width c start later y
-    so_far_more later y reached = record {
-      lines = so.lines ++ (m, l) ∷ [];
-      after = reached.after;
-      text = text_more known left so.lines number new over m l so.text goes;
-      ran = run_on width c so.after reached.after so.lines m l so.ran is_open reached.ran;
-      stands = reached.stands;
-    }
+-- the proof begins with lines that were given
+begins : {R : Type 0} (remaining : R → Option (List ℕ)) (says : List ℕ → Outcome) (known : Known) (form : LratForm) → ReadSo says known form → (reader : LratReader R) (lines : List (ℕ × Line)) →
+    HasGiven remaining known form reader lines → BeginsWith says known lines
+begins remaining says known form same reader lines given =
+    begins_as known (outcome_in form) says same lines
+    (begins_so known (outcome_in form) lines (λ more. lines_after form (line_number reader) more) (given_begun remaining known form reader lines given))
 
-    pub so_far_refused : (stop : Stop) (later : Option (List ℕ)) → (IsRefusal stop → later ≡ now) → IsCause stop (next width so.after l) → IsStopped known width c start later (in_line stop m)
-    so_far_refused (stops.Refused cause) later same e = record {
-      lines = so.lines;
-      line = l;
-      before = so.after;
-      text = text_begins known new (so.lines ++ (m, l) ∷ []) m over (text_more known left so.lines number new over m l so.text goes);
-      ran = so.ran;
-      is_open = is_open;
-      refused = e;
-      written = subst (λ k. Appends start k (text_2 so.after.steps)) (sym (same tt)) so.stands.written.bytes;
-    }
-    so_far_refused (stops.GivenUp (reasons.Write cause)) later same e = tt
-    so_far_refused (stops.GivenUp reasons.OutOfMemory) later same e = tt
+module _ {R : Type 0} (remaining : R → Option (List ℕ)) (known : Known) (form : LratForm) (old : LratReader R) (width : ℕ) (c : Converted) (start now : Option (List ℕ)) (x : Converter) where
+  pub so_far_start : IsFresh remaining known form old → HasConverted width start now c x → SoFar remaining known form old width c start now x
+  so_far_start fresh h = record { lines = []; after = c; given = given_start remaining known form old fresh; ran = refl; stands = h }
 
-  -- the end of the text
-  pub so_far_ended : (over : Bool) → (so : SoFar known left number over width c start now x) → so.after.held.refuted ≡ false → (new : Option (List ℕ)) →
-      (over ≡ false → Follows left new number true (λ more. ([], Ended))) → ConvertsLines known width c start now x (Ok tt)
-  so_far_ended over so is_open new goes = (
-    so.lines,
-    so.after,
+  module _ (so : SoFar remaining known form old width c start now x) where
+    still_open : (holding_of x.held).refuted ≡ false → so.after.held.refuted ≡ false
+    still_open wanted = done-is width start now so.after x false so.stands wanted
+
+    module _ (new : LratReader R) where
+      more_given : (line : LratLine) → Gives remaining old new (Ok (Some line)) → HasGiven remaining known form new (so.lines ++ (line_number new, view line) ∷ [])
+      more_given line gives = given_more remaining known form old so.lines so.given new line gives
+
+      -- a line that is converted
+      pub so_far_more : (line : LratLine) → Gives remaining old new (Ok (Some line)) → (holding_of x.held).refuted ≡ false → (later : Option (List ℕ)) (y : Converter) →
+          ((d : Converted) → HasConverted width start now d x → Reaches width start later (next width d (view line)) y) → SoFar remaining known form new width c start later y
+      so_far_more line gives wanted later y more =
+          let reached = more so.after so.stands in
+          record {
+            lines = so.lines ++ (line_number new, view line) ∷ [];
+            after = reached.after;
+            given = more_given line gives;
+            ran = run_on width c so.after reached.after so.lines (line_number new) (view line) so.ran (still_open wanted) reached.ran;
+            stands = reached.stands;
+          }
+
+    module _ (says : List ℕ → Outcome) (same : ReadSo says known form) where
+      -- no more is wanted
+      pub so_far_done : (holding_of x.held).refuted ≡ true → ConvertsLines says known width c start now x (Ok tt)
+      so_far_done done = (
+        so.lines,
+        so.after,
+        record {
+          text = subst (λ (b : Bool). MatchBool b (BeginsWith says known so.lines) (SaysAll says known so.lines Ended))
+              (sym (done-is width start now so.after x true so.stands done)) (begins remaining says known form same old so.lines so.given);
+          ran = so.ran;
+        },
+        so.stands,
+      )
+
+      module _ (wanted : (holding_of x.held).refuted ≡ false) (new : LratReader R) where
+        -- a line that is refused
+        pub so_far_refused : (line : LratLine) → Gives remaining old new (Ok (Some line)) → (stop : Stop) (later : Option (List ℕ)) → (IsRefusal stop → later ≡ now) →
+            ((d : Converted) → HasConverted width start now d x → IsCause stop (next width d (view line))) → IsStopped says known width c start later (in_line stop (line_number new))
+        so_far_refused line gives (stops.Refused cause) later kept refused = record {
+          lines = so.lines;
+          line = view line;
+          before = so.after;
+          text = begins remaining says known form same new (so.lines ++ (line_number new, view line) ∷ []) (more_given new line gives);
+          ran = so.ran;
+          is_open = still_open wanted;
+          refused = refused so.after so.stands;
+          written = subst (λ k. Appends start k (text_2 so.after.steps)) (sym (kept tt)) so.stands.written.bytes;
+        }
+        so_far_refused line gives (stops.GivenUp (reasons.Write cause)) later kept refused = tt
+        so_far_refused line gives (stops.GivenUp reasons.OutOfMemory) later kept refused = tt
+
+        -- the end of the proof
+        pub so_far_ended : Gives remaining old new (Ok None) → ConvertsLines says known width c start now x (Ok tt)
+        so_far_ended gives = (
+          so.lines,
+          so.after,
+          record {
+            text = subst (λ (b : Bool). MatchBool b (BeginsWith says known so.lines) (SaysAll says known so.lines Ended)) (sym (still_open wanted))
+                (says_as known (outcome_in form) says same so.lines Ended (all_said known (outcome_in form) so.lines Ended (given_end remaining known form old so.lines so.given new gives)));
+            ran = so.ran;
+          },
+          so.stands,
+        )
+
+        -- a line that can't be read, or a read that fails
+        pub so_far_unread : (fault : LratTextFault) → Gives remaining old new (Err fault) → IsStopped says known width c start now (of_text fault)
+        so_far_unread (reads.Line n kind) gives = record {
+          lines = so.lines;
+          before = so.after;
+          text = says_as known (outcome_in form) says same so.lines (Faulty n kind)
+              (all_said known (outcome_in form) so.lines (Faulty n kind) (given_fault remaining known form old so.lines so.given new n kind gives));
+          ran = so.ran;
+          is_open = still_open wanted;
+          written = so.stands.written.bytes;
+        }
+        so_far_unread (reads.Read cause) gives = record {
+          lines = so.lines;
+          before = so.after;
+          text = begins remaining says known form same old so.lines so.given;
+          ran = so.ran;
+          written = so.stands.written.bytes;
+        }
+        so_far_unread reads.OutOfMemory gives = tt
+
+-- ---- a proof that was opened, or not
+
+-- what its bytes say is what they say in the form in which they are read
+pub read_so : (ids : Option Ids) (n : ℕ) (form : LratForm) (known : Known) → IfSome known (λ bytes. form ≡ form_of ids n bytes) → ReadSo (proof_says ids n) known form
+read_so ids n form None is = tt
+read_so ids n form (Some bytes) is = ap (λ (f : LratForm). outcome_in f bytes) (sym is)
+
+nothing_said : (says : List ℕ → Outcome) (known : Known) → BeginsWith says known []
+nothing_said says None = (([], Ended), tt)
+nothing_said says (Some bytes) = (says bytes, refl)
+
+module _ (says : List ℕ → Outcome) (known : Known) (width : ℕ) (c : Converted) (start now : Option (List ℕ)) (x : Converter) (h : HasConverted width start now c x) where
+  -- no line is wanted
+  pub none_wanted : (holding_of x.held).refuted ≡ true → ConvertsLines says known width c start now x (Ok tt)
+  none_wanted done = (
+    [],
+    c,
     record {
-      text = subst (λ (b : Bool). MatchBool b (BeginsWith known so.lines) (SaysAll known so.lines Ended)) (sym is_open) (says over so.lines so.text goes);
-      ran = so.ran;
+      text = subst (λ (b : Bool). MatchBool b (BeginsWith says known []) (SaysAll says known [] Ended)) (sym (done-is width start now c x true h done)) (nothing_said says known);
+      ran = refl;
     },
-    so.stands,
-  )
-    where
-      says : (o : Bool) (ls : List (ℕ × Line)) → Follows known left 0 o (λ more. with_lines ls (outcome_after number more)) →
-          (o ≡ false → Follows left new number true (λ more. ([], Ended))) → SaysAll known ls Ended
-      says false ls t f = text_ends known left ls number new true Ended t (f refl)
-      says true ls t f = text_ended known left ls number t
-
-  -- no more is wanted
-  pub so_far_done : (over : Bool) → (so : SoFar known left number over width c start now x) → so.after.held.refuted ≡ true → ConvertsLines known width c start now x (Ok tt)
-  so_far_done over so done = (
-    so.lines,
-    so.after,
-    record {
-      text = subst (λ (b : Bool). MatchBool b (BeginsWith known so.lines) (SaysAll known so.lines Ended)) (sym done) (text_begins known left so.lines number over so.text);
-      ran = so.ran;
-    },
-    so.stands,
+    h,
   )
 
-  -- a line that can't be read
-  pub so_far_unread : (so : SoFar known left number false width c start now x) → so.after.held.refuted ≡ false → (new : Option (List ℕ)) (over : Bool) (m : ℕ) (kind : LineKind) →
-      Follows left new number over (λ more. ([], Faulty m kind)) → IsStopped known width c start now (faults.Unread m kind)
-  so_far_unread so is_open new over m kind goes = record {
-    lines = so.lines;
-    before = so.after;
-    text = text_ends known left so.lines number new over (Faulty m kind) so.text goes;
-    ran = so.ran;
-    is_open = is_open;
-    written = so.stands.written.bytes;
-  }
-
-  -- a read that fails
-  pub so_far_cut : (over : Bool) → SoFar known left number over width c start now x → IsCut known width c start now
-  so_far_cut over so = record {
-    lines = so.lines;
-    before = so.after;
-    text = text_begins known left so.lines number over so.text;
-    ran = so.ran;
-    written = so.stands.written.bytes;
-  }
+  pub not_opened : (fault : LratTextFault) → IsNoLine fault → IsStopped says known width c start now (of_text fault)
+  not_opened (reads.Line n kind) none = absurd none
+  not_opened (reads.Read cause) none = record { lines = []; before = c; text = nothing_said says known; ran = refl; written = h.written.bytes }
+  not_opened reads.OutOfMemory none = tt

@@ -30,7 +30,7 @@ pub enum ConvertFault {
     /// The formula was not read whole.
     #[error("formula: {0}")]
     Formula(DimacsFault),
-    /// A read of the LRAT text failed, or the text is longer than any that is read.
+    /// A read of the LRAT proof failed, or the proof is longer than any that is read.
     #[error("error reading proof: {0}")]
     Read(io::Error),
     /// A line that can't be read; lines count from 1.

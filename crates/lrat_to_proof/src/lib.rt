@@ -13,6 +13,7 @@ mod steps;
 mod width;
 
 pub use fault::{ConvertFault, LineCause};
+pub use lrat_binary::Ids;
 pub use run::{convert, convert_proof};
 pub use status::{Conversion, exit_status};
 pub use width::HashWidth;

@@ -1,7 +1,9 @@
 //! Conversions of a whole proof.
-ghost use Rattle.std.specs.Prelude.{ℕ, List, Option};
+ghost use Rattle.std.specs.Prelude.{◌≡◌, ℕ, List, Option, IfSome};
+ghost use Rattle.lrat_binary.specs.Proofs.{IsFresh, form_now, outcome_in};
+ghost use Rattle.lrat_text.specs.Texts.{Outcome};
 ghost use Rattle.lrat_to_proof.specs.Converting.{Converted};
-ghost use Rattle.lrat_to_proof.specs.Runs.{ConvertsLines, IsProofRun, IsRun, RunTellsLie};
+ghost use Rattle.lrat_to_proof.specs.Runs.{ConvertsLines, IsProofRun, IsRun, RunTellsLie, proof_says};
 ghost use Rattle.lrat_to_proof.specs.Standing.{HasConverted};
 ghost use Rattle.lrat_to_proof.specs.Widths.{bits_of};
 
@@ -9,7 +11,7 @@ use crate::converter::Converter;
 use crate::fault::ConvertFault;
 use crate::status::Conversion;
 use crate::width::HashWidth;
-use lrat_text::LineReader;
+use lrat_binary::{Ids, LratReader, open_proof};
 use sat_formula::{CnfFormula, LyingHeader};
 use std::alloc::Global;
 use std::io::{Read, Write};
@@ -19,20 +21,25 @@ use whole_formulas::read_formula;
 /// line that adds the empty clause or the opposite of a unit. What stands after that line is not
 /// read.
 ///
+/// The proof is text or binary, as its first bytes tell. How the ids stand in binary lines is told
+/// by them too, where `ids` does not say it.
+///
 /// Lines are read and written one after the other. Whether the added clauses follow is not judged:
 /// that is for the checker that reads the bytes.
 pub fn convert_proof<P: Read + Drop, W: Write>(
     alloc: Global,
     formula: &CnfFormula,
     proof: P,
+    ids: Option<Ids>,
     width: HashWidth,
     out: &mut W,
 ) -> Result<Conversion, ConvertFault>
-    ensures run { IsProofRun (P.remaining proof) (bits_of width) formula.now
+    ensures run { IsProofRun ids (P.remaining proof) (bits_of width) formula.now
         (W.contents out.old) (W.contents out.new) result }
 {
     let mut converter = Converter::new(alloc, formula, width, out)?;
-    convert_lines(alloc, &mut converter, proof, out)?;
+    let clauses = formula.len() as u64;
+    convert_lines(alloc, &mut converter, proof, ids, clauses, out)?;
     converter.end(out)?;
     Ok(Conversion::of(converter.is_done()))
 }
@@ -45,33 +52,58 @@ pub fn convert<F: Read + Drop, P: Read + Drop, W: Write>(
     alloc: Global,
     cnf: F,
     proof: P,
+    ids: Option<Ids>,
     width: HashWidth,
     out: &mut W,
     lie: &mut Option<LyingHeader>,
 ) -> Result<Conversion, ConvertFault>
-    ensures run { IsRun (F.remaining cnf) (P.remaining proof) (bits_of width)
+    ensures run { IsRun ids (F.remaining cnf) (P.remaining proof) (bits_of width)
         (W.contents out.old) (W.contents out.new) result }
     ensures lie { RunTellsLie (F.remaining cnf) result lie.new }
 {
     match read_formula(alloc, cnf, lie) {
-        Ok(formula) => convert_proof(alloc, &formula, proof, width, out),
+        Ok(formula) => convert_proof(alloc, &formula, proof, ids, width, out),
         Err(fault) => Err(ConvertFault::Formula(fault)),
     }
 }
 
-/// The lines of a text in turn.
+/// The lines of a proof, after a formula of so many clauses. Nothing is read where no line is
+/// wanted.
 fn convert_lines<P: Read + Drop, W: Write>(
     alloc: Global,
     converter: &mut Converter,
     proof: P,
+    ids: Option<Ids>,
+    clauses: u64,
     out: &mut W,
 ) -> Result<(), ConvertFault>
     ensures { (width : ℕ) (start : Option (List ℕ)) (c : Converted)
         → HasConverted width start (W.contents out.old) c converter.old
-        → ConvertsLines (P.remaining proof) width c start (W.contents out.new) converter.new
-        result }
+        → ConvertsLines (proof_says ids clauses) (P.remaining proof) width c start
+        (W.contents out.new) converter.new result }
 {
-    let mut reader = LineReader::new(alloc, proof);
+    if converter.is_done() {
+        return Ok(());
+    }
+    match open_proof(alloc, proof, ids, clauses) {
+        Ok(mut reader) => take_lines(converter, &mut reader, out),
+        Err(fault) => Err(ConvertFault::from(fault)),
+    }
+}
+
+/// The lines that a reader gives, up to one after which no further line is wanted.
+fn take_lines<R: Read, W: Write>(
+    converter: &mut Converter,
+    reader: &mut LratReader<R>,
+    out: &mut W,
+) -> Result<(), ConvertFault>
+    ensures { (says : List ℕ → Outcome) (known : Option (List ℕ)) (width : ℕ)
+        (start : Option (List ℕ)) (c : Converted)
+        → IsFresh R.remaining known (form_now reader.old) reader.old
+        → IfSome known (λ bytes. says bytes ≡ outcome_in (form_now reader.old) bytes)
+        → HasConverted width start (W.contents out.old) c converter.old
+        → ConvertsLines says known width c start (W.contents out.new) converter.new result }
+{
     'lines: while !converter.is_done() {
         match reader.next_line() {
             Ok(Some(line)) => {

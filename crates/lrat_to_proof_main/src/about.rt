@@ -3,7 +3,7 @@ use command::{About, Entry};
 
 /// What `--help` says.
 pub const ABOUT: About<'static> = About {
-    call: "lrat_to_proof CNF LRAT PROOF [--width N]",
+    call: "lrat_to_proof CNF LRAT PROOF [--ids WAY] [--width N]",
     does: "Writes an LRAT proof of a formula as proof bytes, which varisat_check takes. It judges nothing.",
     operands: &[
         Entry {
@@ -12,17 +12,23 @@ pub const ABOUT: About<'static> = About {
         },
         Entry {
             name: "LRAT",
-            text: "the proof, LRAT text without RAT steps; - stands for standard input",
+            text: "the proof, LRAT, text or binary, without RAT steps; - stands for standard input",
         },
         Entry {
             name: "PROOF",
             text: "the file that is written",
         },
     ],
-    options: &[Entry {
-        name: "--width N",
-        text: "gives each hash N bits, from 1 to 64; without it they have 64",
-    }],
+    options: &[
+        Entry {
+            name: "--ids WAY",
+            text: "how ids stand in a binary proof: plain or doubled; else its first bytes tell it",
+        },
+        Entry {
+            name: "--width N",
+            text: "gives each hash N bits, from 1 to 64; without it they have 64",
+        },
+    ],
     verified: "the proof is written, and comes to the empty clause or to two opposite units",
     open: "the proof is written, and ends before that",
     environment: &[],

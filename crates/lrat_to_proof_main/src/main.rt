@@ -1,5 +1,5 @@
-//! The command `lrat_to_proof CNF LRAT PROOF [--width N]`: writes an LRAT proof of a formula as
-//! proof bytes, which `varisat_check` takes.
+//! The command `lrat_to_proof CNF LRAT PROOF [--ids WAY] [--width N]`: writes an LRAT proof of a
+//! formula as proof bytes, which `varisat_check` takes.
 //!
 //! `--help` says how the program is called, and `--version` of which version it is. The name `-` of
 //! a file that is read stands for standard input.
@@ -12,7 +12,7 @@ use command::{
     Call, FAILED, Input, NOT_RUN, Source, WrittenFiles, misused, open_inputs, say_formula,
     say_proof, start, unnamed, warn_of_header,
 };
-use lrat_to_proof::{Conversion, ConvertFault, HashWidth, convert, exit_status};
+use lrat_to_proof::{Conversion, ConvertFault, HashWidth, Ids, convert, exit_status};
 use sat_formula::LyingHeader;
 use std::fs::File;
 use std::io::BufWriter;
@@ -33,11 +33,30 @@ fn run(rt: &HostRuntime, call: &Call<'_>) -> u8 {
     let Some(width) = width_of(call) else {
         return misused(rt, &ABOUT, "--width takes a number from 1 to 64");
     };
+    let Some(ids) = ids_of(call) else {
+        return misused(rt, &ABOUT, "--ids takes plain or doubled");
+    };
+    let form = Form { ids, width };
     match call.operands.as_slice() {
-        [cnf, lrat, proof] => {
-            convert_files(rt, cnf.as_str(), lrat.as_str(), proof.as_str(), width)
-        }
+        [cnf, lrat, proof] => convert_files(rt, cnf.as_str(), lrat.as_str(), proof.as_str(), form),
         operands => unnamed(rt, &ABOUT, operands.len()),
+    }
+}
+
+/// How ids stand in binary lines, where that is given, and how wide hashes are.
+#[derive(Clone, Copy)]
+struct Form {
+    ids: Option<Ids>,
+    width: HashWidth,
+}
+
+/// How ids stand in a binary proof, where `--ids` says it. None: it says something else.
+fn ids_of(call: &Call<'_>) -> Option<Option<Ids>> {
+    match call.value("--ids") {
+        None => Some(None),
+        Some("plain") => Some(Some(Ids::Plain)),
+        Some("doubled") => Some(Some(Ids::Doubled)),
+        Some(_) => None,
     }
 }
 
@@ -56,7 +75,7 @@ fn convert_files(
     cnf_name: &str,
     lrat_name: &str,
     proof_name: &str,
-    width: HashWidth,
+    form: Form,
 ) -> u8 {
     let Some((cnf, lrat)) = open_inputs(rt, cnf_name, lrat_name) else {
         return NOT_RUN;
@@ -65,7 +84,7 @@ fn convert_files(
     let Some(proof) = files.create(proof_name, &cnf, &lrat) else {
         return NOT_RUN;
     };
-    convert_to(rt, cnf, lrat, proof, width, &mut files)
+    convert_to(rt, cnf, lrat, proof, form, &mut files)
 }
 
 fn convert_to(
@@ -73,12 +92,12 @@ fn convert_to(
     cnf: Input<'_>,
     lrat: Input<'_>,
     proof: File,
-    width: HashWidth,
+    form: Form,
     files: &mut WrittenFiles<'_>,
 ) -> u8 {
     let (cnf_name, lrat_name) = (cnf.name, lrat.name);
     let mut lie = None;
-    let outcome = write_proof(rt, cnf.file, lrat.file, proof, width, &mut lie);
+    let outcome = write_proof(rt, cnf.file, lrat.file, proof, form, &mut lie);
     let status = report(rt, &outcome, files);
     match outcome {
         Err(ConvertFault::Formula(_)) => {
@@ -98,11 +117,11 @@ fn write_proof(
     cnf: Source,
     lrat: Source,
     proof: File,
-    width: HashWidth,
+    form: Form,
     lie: &mut Option<LyingHeader>,
 ) -> Result<Conversion, ConvertFault> {
     match BufWriter::new(rt.alloc(), proof) {
-        Ok(mut out) => convert(rt.alloc(), cnf, lrat, width, &mut out, lie),
+        Ok(mut out) => { convert(rt.alloc(), cnf, lrat, form.ids, form.width, &mut out, lie) }
         Err(_) => Err(ConvertFault::OutOfMemory),
     }
 }

@@ -1,7 +1,8 @@
-use Rattle.std.proofs.Common.{ap, ◌∙◌}
+use Rattle.std.proofs.Common.{ap, ◌∙◌, subst}
 use Rattle.std.proofs.lemmas.Result.{err_from_is_err_and}
 use Rattle.lrat_to_proof.specs.Converting.{begun}
 use Rattle.lrat_to_proof.specs.Holding.{Holding}
+use Rattle.lrat_to_proof.specs.Runs.{IsStopped, Leads, proof_says}
 use Rattle.lrat_to_proof.specs.Standing.{holding_of}
 use Rattle.lrat_to_proof.specs.Statuses.{conversion_of}
 use Rattle.lrat_to_proof.specs.Widths.{bits_of}
@@ -12,7 +13,11 @@ returns-in_err-convert_lines g c =
     let width = bits_of c.args.width in
     let p = err_from_is_err_and c.from_residual-in_err-convert_lines.result c.from_residual-in_err-convert_lines.ensures.1 in
     record {
-      run = rw (p.1, p.2) (c.in_err-convert_lines.ensures width (g.W.Write.contents c.args.out.now) (begun width c.args.formula.now) c.in_ok-converter.ensures);
+      run = rw (p.1, p.2)
+          (subst (λ n. IsStopped (proof_says c.args.ids n) (g.P.Read.remaining c.args.proof) width (begun width c.args.formula.now) (g.W.Write.contents c.args.out.now)
+          (g.W.Write.contents c.convert_lines.new.out) c.in_err-convert_lines.field-0.0)
+          c.len-clauses.ensures
+          (c.in_err-convert_lines.ensures width (g.W.Write.contents c.args.out.now) (begun width c.args.formula.now) c.in_ok-converter.ensures));
     }
 
 pub returns : goal.returns
@@ -26,7 +31,7 @@ returns g c =
       run = record {
         lines = k.0;
         end = k.1;
-        leads = k.2;
+        leads = subst (λ n. Leads (proof_says c.args.ids n) (g.P.Read.remaining c.args.proof) width (begun width c.args.formula.now) k.0 k.1) c.len-clauses.ensures k.2;
         answer = c.of.ensures ∙ ap conversion_of (c.is_done.ensures ∙ ap (λ held. (holding_of held).refuted) ended.held ∙ ap (λ (held : Holding). held.refuted) k.3.held);
         written = wrote.bytes;
         fits = wrote.fits;
