@@ -1,7 +1,8 @@
 #!/usr/bin/env bash
 # What `drat_check` writes by its options --lrat, --trim and --core: the lines are accepted by `lrat_check`, the steps are those
 # of the lines, and verified after the formula and after the clauses that are used, and these are some of the formula's, as
-# their header says, and refuted by the same proof. And which files it refuses to write.
+# their header says, and refuted by the same proof. With --binary the lines are those of the text, in half its bytes at most.
+# And which files it refuses to write.
 #
 # The programs must be built: `rt ci` does it, or `rt run` in their folders.
 set -euo pipefail
@@ -124,23 +125,39 @@ outputs() {
   [[ $said == 's VERIFIED UNSAT' ]] && cmp -s lrat lrat.alone || fault "$name, the lines alone: $said $(cat err)"
 }
 
+# binary_lines NAME CNF PROOF: after `outputs`, the same lines as bytes
+binary_lines() {
+  local name=$1 said
+  said=$("$check" "$2" "$3" --lrat lrat.binary --binary 2> err) || true
+  [[ $said == 's VERIFIED UNSAT' ]] || fault "$name, as bytes: $said $(cat err)"
+  python3 -B "$top/tests/lrat_fuzz/as_binary.py" lrat | cmp - lrat.binary || fault "$name: the bytes are not those of the text's lines"
+  said=$("$lrat_check" "$2" lrat.binary 2> err) || true
+  [[ $said == 's VERIFIED UNSAT' ]] || fault "$name, its bytes: $said $(cat err)"
+  if (($(stat -c %s lrat) > 10000 && 2 * $(stat -c %s lrat.binary) > $(stat -c %s lrat))); then
+    fault "$name: $(stat -c %s lrat.binary) bytes, and $(stat -c %s lrat) of text"
+  fi
+}
+
 formula() {
   python3 -B "$top/tests/drat/formulas.py" "$@"
 }
 
 wants 0 's VERIFIED UNSAT' '' f p --lrat l --core c
 outputs four f p
+binary_lines four f p
 [[ $(clauses core) != *'3 4 0'* ]] || fault 'a clause that is not needed stands in the core'
 formula random 150 4.8 1 > random.cnf
 if command -v cadical > where; then
   cadical -q random.cnf random.drat > said 2>&1 || true
   outputs random random.cnf random.drat
+  binary_lines random random.cnf random.drat
 fi
 for holes in 6 9; do
   formula pigeons "$holes" > pigeons.cnf
   for family in extended swaps exchanges; do
     formula "$family" "$holes" > pigeons.drat
     outputs "$family $holes" pigeons.cnf pigeons.drat
+    binary_lines "$family $holes" pigeons.cnf pigeons.drat
   done
 done
 # a clause that is not used, and without which alone a step is redundant
@@ -149,10 +166,12 @@ formula extended 4 > pigeons.drat
 (sed '1s/.*/p cnf 99 46/' pigeons.cnf && echo '-21 99 0') > away.cnf
 (echo 'd -21 99 0' && cat pigeons.drat) > away.drat
 outputs 'a clause that is away' away.cnf away.drat
+binary_lines 'a clause that is away' away.cnf away.drat
 [[ $(clauses core) != *'-21 99 0'* ]] || fault 'a clause that is away stands in the core'
 formula pairs 4 > pairs.cnf
 formula pair_exchanges 4 > pairs.dpr
 outputs 'pair_exchanges 4' pairs.cnf pairs.dpr
+binary_lines 'pair_exchanges 4' pairs.cnf pairs.dpr
 printf 'o 1 1 2 0\no 2 1 -2 0\no 3 -1 2 0\no 4 -1 -2 0\na 6 1 0\nd 1 1 2 0\na 7 0\n' > four.frat
 outputs 'four as FRAT' f four.frat
 
@@ -290,7 +309,7 @@ alone 'no verdict' l c
 # calls that can't be read, and others of the same words
 while IFS=: read -r arguments why; do
   # shellcheck disable=SC2086
-  wants 2 '' "$why"$'\nusage: drat_check CNF PROOF [--drat] [--frat] [--lpr] [--lrat FILE] [--trim FILE] [--core FILE] [--stats] [--quiet] [--verbose]\ndrat_check --help says more' $arguments
+  wants 2 '' "$why"$'\nusage: drat_check CNF PROOF [--drat] [--frat] [--lpr] [--lrat FILE] [--binary] [--trim FILE] [--core FILE] [--stats] [--quiet] [--verbose]\ndrat_check --help says more' $arguments
 done << 'END'
 :no file is named for CNF
 f:no file is named for PROOF
@@ -304,6 +323,7 @@ f p --frat --drat:--drat, --frat and --lpr exclude each other
 f p --lpr --drat:--drat, --frat and --lpr exclude each other
 f p --quiet --verbose:--quiet and --verbose can't both stand
 f p --drat=1:--drat takes no value
+f p --core c --binary:--binary says how --lrat is written
 f p --example:--example stands alone
 --example --drat:--example stands alone
 -- --drat:no file is named for PROOF

@@ -2,6 +2,7 @@
 use Rattle.std.proofs.Common.{◌≡◌, ◌∙◌, ap, subst, ℕ, List, [], ◌++◌, length, Option, None, Some, Result, Ok, Err, IfSome, IsSomeAnd, ◌⊎◌, inl, inr}
 use Rattle.sat_output.specs.FormulaTexts.{formula_text}
 use Rattle.sat_output.specs.LratTexts.{lines_text}
+use Rattle.sat_output.specs.declared.form.LineForm.TheVariants.{Text}
 use Rattle.std.specs.Global.{Vec}
 use Rattle.verdicts.specs.declared.verdict.Verdict.{Verdict}
 use Rattle.verdicts.specs.declared.verdict.Verdict.TheVariants.{Verified, NotVerified}
@@ -20,7 +21,7 @@ held v = Some v.items
 -- a text that was empty, and into which lines were written that refute the formula, was put
 pub places_lrat : (formula : List (List ℕ)) (old new : List ℕ) (placed : Placed) (before after : Option (Vec ℕ)) (trim trim' : Option (List ℕ))
     → IsSomeAnd before (λ v. v.items ≡ [])
-    → WroteProof formula (bytes_in held before) (bytes_in held after) trim trim'
+    → WroteProof Text formula (bytes_in held before) (bytes_in held after) trim trim'
     → IfSome after (λ v. IsPlaced v.items old new placed) → PlacesLrat formula old new placed
 places_lrat formula old new placed None after trim trim' empty wrote is = absurd empty
 places_lrat formula old new placed (Some v) None trim trim' empty wrote is = absurd wrote.text

@@ -11,7 +11,9 @@ ghost use Rattle.verdicts.specs.declared.verdict.Verdict.TheVariants.{Verified};
 
 use crate::room::{Placed, place_fault, place_nothing, place_wanted};
 use crate::status::{FAULT, NOT_RUN, OUT_OF_MEMORY, of_formula};
-use drat_check::{Outputs, ProofFault, ProofFormat, RunFault, Verdict, exit_status, run_check};
+use drat_check::{
+    LineForm, Outputs, ProofFault, ProofFormat, RunFault, Verdict, exit_status, run_check,
+};
 use drat_elaborate::ElaborateFault;
 use drat_text::DratFault;
 use log::sink::Discard;
@@ -82,6 +84,7 @@ pub extern "C" fn cefindrato_drat_check(
     };
     let mut outputs = Outputs {
         lrat: output(alloc, options.lrat),
+        form: LineForm::Text,
         trim: None,
         core: output(alloc, options.core),
         counts: Cell::default(),

@@ -11,7 +11,11 @@ use Rattle.lrat_rules.specs.Stores.{formula_store}
 use Rattle.lrat_checker.specs.Standing.{IsReady, has_refuted}
 use Rattle.lrat_checker.specs.declared.checker.LratChecker.{LratChecker}
 use Rattle.sat_output.specs.DratTexts.{adds_clause, step_text, steps_text}
+use Rattle.sat_output.specs.LineForms.{lines_in}
+use Rattle.sat_output.specs.LratBytes.{line_bytes, lines_bytes}
 use Rattle.sat_output.specs.LratTexts.{last_after, line_text, lines_text, words_before_end}
+use Rattle.sat_output.specs.declared.form.LineForm.{LineForm}
+use Rattle.sat_output.specs.declared.form.LineForm.TheVariants.{Text, Binary}
 use Rattle.sat_output.proofs.Beginnings.{begins_front, begins_nothing, begins_past, begins_whole}
 use Rattle.drat_check.specs.declared.fault.ProofFault.{ProofFault}
 use Rattle.drat_check.specs.declared.fault.RunFault.TheVariants.{Proof}
@@ -39,6 +43,21 @@ lines_text-more last (y ∷ xs) x =
     let next = last_after last y in
     ap (λ t. line ++ 10 ∷ t) (lines_text-more next xs x)
     ∙ sym (append_assoc line (10 ∷ lines_text next xs) (lines_text (last_of next xs) (x ∷ [])))
+
+lines_bytes-more : (xs : List Line) (x : Line) → lines_bytes (xs ++ x ∷ []) ≡ lines_bytes xs ++ lines_bytes (x ∷ [])
+lines_bytes-more [] x = refl
+lines_bytes-more (y ∷ xs) x =
+    ap (λ t. line_bytes y ++ t) (lines_bytes-more xs x)
+    ∙ sym (append_assoc (line_bytes y) (lines_bytes xs) (lines_bytes (x ∷ [])))
+
+lines_in-more : (form : LineForm) (last : ℕ) (xs : List Line) (x : Line) → lines_in form last (xs ++ x ∷ []) ≡ lines_in form last xs ++ lines_in form (last_of last xs) (x ∷ [])
+lines_in-more Text last xs x = lines_text-more last xs x
+lines_in-more Binary last xs x = lines_bytes-more xs x
+
+-- no line has no bytes
+lines_in-none : (form : LineForm) (last : ℕ) → lines_in form last [] ≡ []
+lines_in-none Text last = refl
+lines_in-none Binary last = refl
 
 -- ---- steps of lines
 
@@ -82,28 +101,28 @@ begins_wanted contents (Some w) trim' text steps is_made p = subst (AppendsBegin
 -- ---- lines in turn
 
 -- the checker has accepted some lines, which are written, and so are their steps
-pub record SoFar (formula : List (List ℕ)) (lrat lrat' trim trim' : Known) (checker : LratChecker) (last : ℕ) (begun : Bool) : Type 0 where
+pub record SoFar (form : LineForm) (formula : List (List ℕ)) (lrat lrat' trim trim' : Known) (checker : LratChecker) (last : ℕ) (begun : Bool) : Type 0 where
   pub lines : List Line
   pub ready : IsReady formula lines checker
-  pub text : Appends lrat lrat' (lines_text (length formula) lines)
+  pub text : Appends lrat lrat' (lines_in form (length formula) lines)
   pub trimmed : Appends trim trim' (steps_text false (formula_store formula) lines)
   pub number : last ≡ last_of (length formula) lines
   pub has_begun : begun ≡ begun_of false lines
 
-pub none_yet : (formula : List (List ℕ)) (lrat trim : Known) (checker : LratChecker) (last : ℕ) (begun : Bool) → IsReady formula [] checker →
-    last ≡ length formula → begun ≡ false → SoFar formula lrat lrat trim trim checker last begun
+pub none_yet : (form : LineForm) (formula : List (List ℕ)) (lrat trim : Known) (checker : LratChecker) (last : ℕ) (begun : Bool) → IsReady formula [] checker →
+    last ≡ length formula → begun ≡ false → SoFar form formula lrat lrat trim trim checker last begun
 unfolding begun_of
-none_yet formula lrat trim checker last begun ready number has_begun = record {
+none_yet form formula lrat trim checker last begun ready number has_begun = record {
   lines = [];
   ready = ready;
-  text = Appends-nil lrat;
+  text = subst (Appends lrat lrat) (sym (lines_in-none form (length formula))) (Appends-nil lrat);
   trimmed = Appends-nil trim;
   number = number;
   has_begun = has_begun;
 }
 
-module _ (formula : List (List ℕ)) (lrat lrat' lrat'' trim trim' trim'' : Known) (checker next : LratChecker) (last : ℕ) (begun : Bool) (x : Line)
-    (p : SoFar formula lrat lrat' trim trim' checker last begun) where
+module _ (form : LineForm) (formula : List (List ℕ)) (lrat lrat' lrat'' trim trim' trim'' : Known) (checker next : LratChecker) (last : ℕ) (begun : Bool) (x : Line)
+    (p : SoFar form formula lrat lrat' trim trim' checker last begun) where
   abbrev store : List Item
   store = formula_store formula
 
@@ -111,22 +130,22 @@ module _ (formula : List (List ℕ)) (lrat lrat' lrat'' trim trim' trim'' : Know
   abbrev pub steps : List ℕ
   steps = step_text begun p.ready.accepted.store x
 
-  with_line : lines_text (length formula) p.lines ++ lines_text last (x ∷ []) ≡ lines_text (length formula) (p.lines ++ x ∷ [])
+  with_line : lines_in form (length formula) p.lines ++ lines_in form last (x ∷ []) ≡ lines_in form (length formula) (p.lines ++ x ∷ [])
   with_line =
-      ap (λ n. lines_text (length formula) p.lines ++ lines_text n (x ∷ [])) p.number
-      ∙ sym (lines_text-more (length formula) p.lines x)
+      ap (λ n. lines_in form (length formula) p.lines ++ lines_in form n (x ∷ [])) p.number
+      ∙ sym (lines_in-more form (length formula) p.lines x)
 
   with_steps : steps_text false store p.lines ++ steps ≡ steps_text false store (p.lines ++ x ∷ [])
   with_steps =
       ap (λ b. steps_text false store p.lines ++ step_text b p.ready.accepted.store x) p.has_begun
       ∙ sym (steps_text-more false store p.ready.accepted.store p.lines x p.ready.accepted.ran)
 
-  line_written : Appends lrat' lrat'' (lines_text last (x ∷ [])) → Appends lrat lrat'' (lines_text (length formula) (p.lines ++ x ∷ []))
+  line_written : Appends lrat' lrat'' (lines_in form last (x ∷ [])) → Appends lrat lrat'' (lines_in form (length formula) (p.lines ++ x ∷ []))
   line_written line =
-      subst (Appends lrat lrat'') with_line (Appends-trans lrat lrat' lrat'' (lines_text (length formula) p.lines) (lines_text last (x ∷ [])) p.text line)
+      subst (Appends lrat lrat'') with_line (Appends-trans lrat lrat' lrat'' (lines_in form (length formula) p.lines) (lines_in form last (x ∷ [])) p.text line)
 
-  pub one_more : (later : ℕ) (now : Bool) → IsReady formula (p.lines ++ x ∷ []) next → Appends lrat' lrat'' (lines_text last (x ∷ [])) →
-      Appends trim' trim'' steps → later ≡ last_after last x → now ≡ (begun || adds_clause x) → SoFar formula lrat lrat'' trim trim'' next later now
+  pub one_more : (later : ℕ) (now : Bool) → IsReady formula (p.lines ++ x ∷ []) next → Appends lrat' lrat'' (lines_in form last (x ∷ [])) →
+      Appends trim' trim'' steps → later ≡ last_after last x → now ≡ (begun || adds_clause x) → SoFar form formula lrat lrat'' trim trim'' next later now
   one_more later now ready line written number is = record {
     lines = p.lines ++ x ∷ [];
     ready = ready;
@@ -137,37 +156,37 @@ module _ (formula : List (List ℕ)) (lrat lrat' lrat'' trim trim' trim'' : Know
   }
 
   -- a beginning of the line is written, and none of its steps
-  pub began_line : IsReady formula (p.lines ++ x ∷ []) next → AppendsBeginning lrat' lrat'' (lines_text last (x ∷ [])) → BeganLines formula lrat lrat'' trim trim'
+  pub began_line : IsReady formula (p.lines ++ x ∷ []) next → AppendsBeginning lrat' lrat'' (lines_in form last (x ∷ [])) → BeganLines form formula lrat lrat'' trim trim'
   began_line ready line = record {
     lines = p.lines ++ x ∷ [];
     store = ready.accepted.store;
     accepted = ready.accepted.ran;
-    text = subst (AppendsBeginning lrat lrat'') with_line (begins_past lrat lrat' lrat'' (lines_text (length formula) p.lines) (lines_text last (x ∷ [])) p.text line);
+    text = subst (AppendsBeginning lrat lrat'') with_line (begins_past lrat lrat' lrat'' (lines_in form (length formula) p.lines) (lines_in form last (x ∷ [])) p.text line);
     trimmed = subst (AppendsBeginning trim trim') with_steps (begins_front trim trim' (steps_text false store p.lines) steps
         (begins_whole trim trim' (steps_text false store p.lines) p.trimmed));
   }
 
   -- the line is written, and a beginning of its steps
-  pub began_steps : IsReady formula (p.lines ++ x ∷ []) next → Appends lrat' lrat'' (lines_text last (x ∷ [])) → AppendsBeginning trim' trim'' steps →
-      BeganLines formula lrat lrat'' trim trim''
+  pub began_steps : IsReady formula (p.lines ++ x ∷ []) next → Appends lrat' lrat'' (lines_in form last (x ∷ [])) → AppendsBeginning trim' trim'' steps →
+      BeganLines form formula lrat lrat'' trim trim''
   began_steps ready line written = record {
     lines = p.lines ++ x ∷ [];
     store = ready.accepted.store;
     accepted = ready.accepted.ran;
-    text = begins_whole lrat lrat'' (lines_text (length formula) (p.lines ++ x ∷ [])) (line_written line);
+    text = begins_whole lrat lrat'' (lines_in form (length formula) (p.lines ++ x ∷ [])) (line_written line);
     trimmed = subst (AppendsBeginning trim trim'') with_steps (begins_past trim trim' trim'' (steps_text false store p.lines) steps p.trimmed written);
   }
 
-module _ (formula : List (List ℕ)) (lrat lrat' lrat'' trim trim' trim'' : Known) (checker : LratChecker) (last : ℕ) (begun : Bool)
-    (p : SoFar formula lrat lrat' trim trim' checker last begun) where
+module _ (form : LineForm) (formula : List (List ℕ)) (lrat lrat' lrat'' trim trim' trim'' : Known) (checker : LratChecker) (last : ℕ) (begun : Bool)
+    (p : SoFar form formula lrat lrat' trim trim' checker last begun) where
   abbrev text : List ℕ
-  text = lines_text (length formula) p.lines
+  text = lines_in form (length formula) p.lines
 
   abbrev steps_before : List ℕ
   steps_before = steps_text false (formula_store formula) p.lines
 
   -- no more is written
-  pub began : Keeps lrat' lrat'' → Keeps trim' trim'' → BeganLines formula lrat lrat'' trim trim''
+  pub began : Keeps lrat' lrat'' → Keeps trim' trim'' → BeganLines form formula lrat lrat'' trim trim''
   began kept kept' = record {
     lines = p.lines;
     store = p.ready.accepted.store;
@@ -176,7 +195,7 @@ module _ (formula : List (List ℕ)) (lrat lrat' lrat'' trim trim' trim'' : Know
     trimmed = begins_whole trim trim'' steps_before (Appends-kept trim trim' trim'' steps_before p.trimmed kept');
   }
 
-  pub wrote : has_refuted checker ≡ true → Keeps lrat' lrat'' → Keeps trim' trim'' → WroteProof formula lrat lrat'' trim trim''
+  pub wrote : has_refuted checker ≡ true → Keeps lrat' lrat'' → Keeps trim' trim'' → WroteProof form formula lrat lrat'' trim trim''
   wrote refuted kept kept' = record {
     lines = p.lines;
     refuted = sym p.ready.accepted.refuted ∙ refuted;
@@ -185,12 +204,12 @@ module _ (formula : List (List ℕ)) (lrat lrat' lrat'' trim trim' trim'' : Know
   }
 
 -- no line was made
-pub began_none : (formula : List (List ℕ)) (lrat trim : Known) → BeganLines formula lrat lrat trim trim
-began_none formula lrat trim = record {
+pub began_none : (form : LineForm) (formula : List (List ℕ)) (lrat trim : Known) → BeganLines form formula lrat lrat trim trim
+began_none form formula lrat trim = record {
   lines = [];
   store = formula_store formula;
   accepted = refl;
-  text = begins_nothing lrat [];
+  text = begins_nothing lrat (lines_in form (length formula) []);
   trimmed = begins_nothing trim [];
 }
 
@@ -206,4 +225,4 @@ on_err P (Err e) p = p
 -- a refusal before a line was made
 pub refused : {L C : Type 0} (formula : List (List ℕ)) (lrat : L → Known) (core : C → Known) (s : Outputs L C) (fault : ProofFault) →
     WritesBefore formula lrat core s s (Err (Proof fault))
-refused formula lrat core s fault = (began_none formula (bytes_in lrat s.lrat) (bytes_in lrat s.trim), refl)
+refused formula lrat core s fault = (began_none s.form formula (bytes_in lrat s.lrat) (bytes_in lrat s.trim), refl)

@@ -14,7 +14,8 @@ use Rattle.lrat_rules.specs.Lines.{Line, is_refuted, run}
 use Rattle.lrat_rules.specs.Stores.{formula_store}
 use Rattle.sat_output.specs.DratTexts.{steps_text}
 use Rattle.sat_output.specs.FormulaTexts.{formula_text}
-use Rattle.sat_output.specs.LratTexts.{lines_text}
+use Rattle.sat_output.specs.LineForms.{lines_in}
+use Rattle.sat_output.specs.declared.form.LineForm.{LineForm}
 use Rattle.whole_writes.specs.Beginnings.{AppendsBeginning}
 use Rattle.verdicts.specs.Verdicts.{shown_line}
 use Rattle.verdicts.specs.declared.verdict.Verdict.{Verdict}
@@ -37,18 +38,18 @@ IfWanted (Some w) P = P
 -- ---- the proof's lines
 
 -- lines of which the checker's rules say that they refute the formula were written, and to another writer the steps of DRAT that they are
-pub record WroteProof (formula : List (List ℕ)) (lrat lrat' trim trim' : Option (List ℕ)) : Type 0 where
+pub record WroteProof (form : LineForm) (formula : List (List ℕ)) (lrat lrat' trim trim' : Option (List ℕ)) : Type 0 where
   pub lines : List Line
   pub refuted : is_refuted formula lines ≡ true
-  pub text : Appends lrat lrat' (lines_text (length formula) lines)
+  pub text : Appends lrat lrat' (lines_in form (length formula) lines)
   pub trimmed : Appends trim trim' (steps_text false (formula_store formula) lines)
 
 -- of lines that these rules accept after the formula, a beginning was written, or all, and so of their steps
-pub record BeganLines (formula : List (List ℕ)) (lrat lrat' trim trim' : Option (List ℕ)) : Type 0 where
+pub record BeganLines (form : LineForm) (formula : List (List ℕ)) (lrat lrat' trim trim' : Option (List ℕ)) : Type 0 where
   pub lines : List Line
   pub store : List Item
   pub accepted : run (formula_store formula) lines ≡ Some store
-  pub text : AppendsBeginning lrat lrat' (lines_text (length formula) lines)
+  pub text : AppendsBeginning lrat lrat' (lines_in form (length formula) lines)
   pub trimmed : AppendsBeginning trim trim' (steps_text false (formula_store formula) lines)
 
 -- ---- the used clauses
@@ -92,13 +93,13 @@ module _ {L C : Type 0} (formula : List (List ℕ)) (lrat : L → Option (List �
     (s s' : Outputs L C) where
   -- lines that refute the formula are written whole, with their steps, and a part of the formula
   abbrev pub AllWritten : Type 0
-  AllWritten = WroteProof formula (bytes_in lrat s.lrat) (bytes_in lrat s'.lrat)
+  AllWritten = WroteProof s.form formula (bytes_in lrat s.lrat) (bytes_in lrat s'.lrat)
       (bytes_in lrat s.trim) (bytes_in lrat s'.trim)
       × WroteCore formula (bytes_in core s.core) (bytes_in core s'.core)
 
   -- of the lines a beginning was written, and so of their steps, and of the part nothing
   abbrev pub LinesBegan : Type 0
-  LinesBegan = BeganLines formula (bytes_in lrat s.lrat) (bytes_in lrat s'.lrat)
+  LinesBegan = BeganLines s.form formula (bytes_in lrat s.lrat) (bytes_in lrat s'.lrat)
       (bytes_in lrat s.trim) (bytes_in lrat s'.trim)
       × (s'.core ≡ s.core)
 
@@ -115,7 +116,7 @@ module _ {L C : Type 0} (formula : List (List ℕ)) (lrat : L → Option (List �
   WritesBefore (Err (Lrat cause)) = LinesBegan
   WritesBefore (Err (Trim cause)) = LinesBegan
   WritesBefore (Err (Core cause)) =
-      WroteProof formula (bytes_in lrat s.lrat) (bytes_in lrat s'.lrat)
+      WroteProof s.form formula (bytes_in lrat s.lrat) (bytes_in lrat s'.lrat)
       (bytes_in lrat s.trim) (bytes_in lrat s'.trim)
       × BeganCore formula (bytes_in core s.core) (bytes_in core s'.core)
   WritesBefore (Err (Write cause)) = ⊥

@@ -18,4 +18,5 @@ pub use fault::{ProofFault, RunFault};
 pub use outputs::Outputs;
 pub use reader::ProofFormat;
 pub use run::{run_check, run_proof};
+pub use sat_output::LineForm;
 pub use verdicts::{Verdict, exit_status};

@@ -4,7 +4,7 @@ ghost use Rattle.std.specs.Prelude.{◌≡◌, ◌∷◌, [], IfOk, OnErr, OnOk}
 ghost use Rattle.std.specs.Io.KnownBytes.{Appends, Keeps};
 ghost use Rattle.lrat_text.specs.NextLine.{view};
 ghost use Rattle.sat_output.specs.FormulaTexts.{formula_text};
-ghost use Rattle.sat_output.specs.LratTexts.{lines_text};
+ghost use Rattle.sat_output.specs.LineForms.{lines_in};
 ghost use Rattle.whole_writes.specs.Beginnings.{AppendsBeginning};
 ghost use Rattle.drat_check.specs.Outputs.{BeganCore, BeganLines, IsLineFault, IsPartOf, WroteCore, WroteProof, bytes_in};
 ghost use Rattle.drat_check.specs.Runs.{IsUnsatisfiable};
@@ -17,7 +17,7 @@ use drat_elaborate::Elaborator;
 use lrat_checker::LratChecker;
 use lrat_text::LratLine;
 use sat_formula::CnfFormula;
-use sat_output::{number_after, write_formula, write_lrat_line};
+use sat_output::{LineForm, number_after, write_formula, write_lrat_line};
 use std::alloc::{AllocError, Global};
 use std::cell::Cell;
 use std::io;
@@ -28,6 +28,8 @@ use std::io::Write;
 pub struct Outputs<L, C> {
     /// The lines of the LRAT proof.
     pub lrat: Option<L>,
+    /// How these lines are written.
+    pub form: LineForm,
     /// The steps of DRAT that they are, without ids and hints.
     pub trim: Option<L>,
     /// The clauses of the formula that they use.
@@ -43,14 +45,15 @@ pub(crate) fn write_lines<L: Write>(
     formula: &CnfFormula,
     elaborator: &mut Elaborator,
     lrat: &mut Option<L>,
+    form: LineForm,
     trim: &mut Option<L>,
     counts: &Cell<RunCounts>,
 ) -> Result<(), RunFault>
     ensures shown { OnOk result (IsUnsatisfiable formula.now) }
-    ensures whole { OnOk result (WroteProof formula.now
+    ensures whole { OnOk result (WroteProof form formula.now
         (bytes_in L.contents lrat.old) (bytes_in L.contents lrat.new)
         (bytes_in L.contents trim.old) (bytes_in L.contents trim.new)) }
-    ensures beginning { OnErr result (BeganLines formula.now
+    ensures beginning { OnErr result (BeganLines form formula.now
         (bytes_in L.contents lrat.old) (bytes_in L.contents lrat.new)
         (bytes_in L.contents trim.old) (bytes_in L.contents trim.new)) }
     ensures fault { IsLineFault result }
@@ -74,7 +77,7 @@ pub(crate) fn write_lines<L: Write>(
                 if let Err(fault) = checker.check_line(entry) {
                     return Err(RunFault::Proof(line_fault(line, fault)));
                 }
-                if let Err(fault) = write_accepted(alloc, lrat, last, entry) {
+                if let Err(fault) = write_accepted(alloc, lrat, form, last, entry) {
                     return Err(RunFault::Lrat(fault));
                 }
                 if let Err(fault) = write_steps(trim, &steps) {
@@ -95,16 +98,17 @@ pub(crate) fn write_lines<L: Write>(
 fn write_accepted<L: Write>(
     alloc: Global,
     lrat: &mut Option<L>,
+    form: LineForm,
     last: u64,
     line: LratLine<'_>,
 ) -> io::Result<()>
     ensures whole { OnOk result (Appends (bytes_in L.contents lrat.old)
-        (bytes_in L.contents lrat.new) (lines_text last (view line.entry ∷ []))) }
+        (bytes_in L.contents lrat.new) (lines_in form last (view line.entry ∷ []))) }
     ensures beginning { OnErr result (AppendsBeginning (bytes_in L.contents lrat.old)
-        (bytes_in L.contents lrat.new) (lines_text last (view line.entry ∷ []))) }
+        (bytes_in L.contents lrat.new) (lines_in form last (view line.entry ∷ []))) }
 {
     match lrat {
-        Some(out) => write_lrat_line(alloc, out, last, line),
+        Some(out) => write_lrat_line(alloc, out, form, last, line),
         None => Ok(()),
     }
 }

@@ -62,11 +62,11 @@ pub fn run_check<R: Log, F: Read + Drop, P: Read + Drop, W: Write, L: Write, C: 
 /// line of a verdict is written.
 ///
 /// The lines of the LRAT proof are those that the checker accepted, up to the empty clause, each
-/// written as it is accepted, and so are the steps of DRAT that it is. Then come the clauses of the
-/// formula that they use, as a formula, and then the verdict's line. Where the proof shows nothing,
-/// and where it is refused before a line is made, none of them is written. A write that fails ends
-/// the run: nothing of what comes later is written. Where it is that of the verdict's line, the
-/// verdict stood.
+/// written in the form of `outputs` as it is accepted, and so are the steps of DRAT that it is.
+/// Then come the clauses of the formula that they use, as a formula, and then the verdict's line.
+/// Where the proof shows nothing, and where it is refused before a line is made, none of them is
+/// written. A write that fails ends the run: nothing of what comes later is written. Where it is
+/// that of the verdict's line, the verdict stood.
 pub fn run_proof<R: Log, P: Read + Drop, W: Write, L: Write, C: Write>(
     rt: &R,
     alloc: Global,
@@ -120,13 +120,14 @@ fn verdict_of<R: Log, P: Read + Drop, L: Write, C: Write>(
     if let Err(fault) = elaborate(rt, &mut elaborator) {
         return Err(RunFault::Proof(fault));
     }
+    let form = outputs.form;
     let Outputs {
         lrat,
         trim,
         counts,
         ..
     } = outputs;
-    if let Err(fault) = write_lines(alloc, formula, &mut elaborator, lrat, trim, counts) {
+    if let Err(fault) = write_lines(alloc, formula, &mut elaborator, lrat, form, trim, counts) {
         return Err(fault);
     }
     count_core(counts, formula, &elaborator);

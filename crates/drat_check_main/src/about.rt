@@ -3,7 +3,7 @@ use command::{About, Entry, QUIET, STATS, VERBOSE};
 
 /// What `--help` says.
 pub const ABOUT: About<'static> = About {
-    call: "drat_check CNF PROOF [--drat] [--frat] [--lpr] [--lrat FILE] [--trim FILE] [--core FILE] [--stats] [--quiet] [--verbose]",
+    call: "drat_check CNF PROOF [--drat] [--frat] [--lpr] [--lrat FILE] [--binary] [--trim FILE] [--core FILE] [--stats] [--quiet] [--verbose]",
     does: "Checks a DRAT, DPR, FRAT or LPR proof, text or binary, against a formula, and says in one line what it shows.",
     operands: &[
         Entry {
@@ -31,6 +31,10 @@ pub const ABOUT: About<'static> = About {
         Entry {
             name: "--lrat FILE",
             text: "writes the lines that the checker of LRAT proofs accepted",
+        },
+        Entry {
+            name: "--binary",
+            text: "writes them in the binary form of LRAT, in place of text",
         },
         Entry {
             name: "--trim FILE",

@@ -1,11 +1,11 @@
-//! The command `drat_check CNF PROOF [--drat] [--frat] [--lpr] [--lrat FILE] [--trim FILE]
-//! [--core FILE]`: checks a DRAT, DPR, FRAT or LPR proof against a formula, and says in one line
-//! what it shows.
+//! The command `drat_check CNF PROOF [--drat] [--frat] [--lpr] [--lrat FILE] [--binary]
+//! [--trim FILE] [--core FILE]`: checks a DRAT, DPR, FRAT or LPR proof against a formula, and says
+//! in one line what it shows.
 //!
 //! Which of them the proof is, is told by its first bytes, or by `--drat`, `--frat` or `--lpr`.
 //! With `--lrat` the lines that the checker of LRAT proofs accepted are written to a file, with
-//! `--trim` the steps of DRAT that they are, and with `--core` the clauses of the formula that they
-//! use.
+//! `--binary` in the binary form, with `--trim` the steps of DRAT that they are, and with `--core`
+//! the clauses of the formula that they use.
 //! `--example` checks a small fixed example, `--help` says how the program is called, and
 //! `--version` of which version it is. The name `-` of a file that is read stands for standard
 //! input. What `RUST_LOG` asks for, as `RUST_LOG=info`, is logged to standard error; else nothing
@@ -20,7 +20,9 @@ use command::{
     open_inputs, say_drat_proof, say_figure, say_formula, say_proof, say_unread, start, unnamed,
     warn_of_header,
 };
-use drat_check::{Outputs, ProofFormat, RunCounts, RunFault, Verdict, exit_status, run_check};
+use drat_check::{
+    LineForm, Outputs, ProofFormat, RunCounts, RunFault, Verdict, exit_status, run_check,
+};
 use log::sink::Discard;
 use progress::{Progress, ToldBytes};
 use sat_formula::{DimacsFault, LyingHeader};
@@ -61,6 +63,9 @@ fn run(rt: &HostRuntime, call: &Call<'_>) -> u8 {
         (false, false, true) => ProofFormat::Lpr,
         _ => return misused(rt, &ABOUT, "--drat, --frat and --lpr exclude each other"),
     };
+    if call.has("--binary") && call.value("--lrat").is_none() {
+        return misused(rt, &ABOUT, "--binary says how --lrat is written");
+    }
     match call.operands.as_slice() {
         [cnf, proof] => check_files(rt, cnf.as_str(), proof.as_str(), format, call),
         operands => unnamed(rt, &ABOUT, operands.len()),
@@ -89,6 +94,7 @@ fn check_files(
     ) else {
         return NOT_RUN;
     };
+    outputs.form = form_of(call);
     let cnf = match hold_input(rt, cnf) {
         Ok(held) => held,
         Err(fault) => {
@@ -116,6 +122,15 @@ fn check_files(
         say_stats(rt, outputs.counts.get(), cost);
     }
     status
+}
+
+/// How the lines of `--lrat` are written.
+fn form_of(call: &Call<'_>) -> LineForm {
+    if call.has("--binary") {
+        LineForm::Binary
+    } else {
+        LineForm::Text
+    }
 }
 
 /// Checks a proof, and tells how far that has come as the call asks.
@@ -148,6 +163,7 @@ fn create_outputs<'a>(
 ) -> Option<OutputFiles> {
     Some(Outputs {
         lrat: create_buffered(rt, files, lrat, cnf, proof)?,
+        form: LineForm::Text,
         trim: create_buffered(rt, files, trim, cnf, proof)?,
         core: create_buffered(rt, files, core, cnf, proof)?,
         counts: Cell::default(),
@@ -178,6 +194,7 @@ fn create_buffered<'a>(
 fn check_example(rt: &HostRuntime) -> u8 {
     let mut outputs: OutputFiles = Outputs {
         lrat: None,
+        form: LineForm::Text,
         trim: None,
         core: None,
         counts: Cell::default(),

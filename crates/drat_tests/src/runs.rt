@@ -1,5 +1,5 @@
 //! Runs with their verdicts, lines and statuses, texts of faults, and reads and writes that fail.
-use drat_check::{Outputs, ProofFormat, exit_status, run_check};
+use drat_check::{LineForm, Outputs, ProofFormat, exit_status, run_check};
 use log::sink::Discard;
 use std::alloc::Global;
 use std::cell::Cell;
@@ -136,6 +136,7 @@ fn is_answered(
     let mut page = Page::of_room(alloc, room);
     let mut outputs: Outputs<Page, Page> = Outputs {
         lrat: None,
+        form: LineForm::Text,
         trim: None,
         core: None,
         counts: Cell::default(),

@@ -1,23 +1,28 @@
--- Words appended to a text one by one.
-use Rattle.std.proofs.Common.{◌≡◌, ℕ, ◌+◌, ◌<◌, ◌≤◌, List, [], ◌∷◌, ◌++◌, length, get_or, drop, map, codes, refl, sym, ap, ◌∙◌, append_assoc, append-nil}
+-- Parts of a text that are appended one by one.
+use Rattle.std.proofs.Common.{◌≡◌, ℕ, ◌+◌, ◌<◌, ◌≤◌, List, [], ◌∷◌, ◌++◌, length, get_or, drop, map, codes, Result, Ok, Err, IfOk, refl, sym, ap, ◌∙◌, append_assoc, append-nil}
 use Rattle.std.specs.Prelude.{decimal}
+use Rattle.std.specs.Global.{Vec}
 use Rattle.std.proofs.lemmas.List.{at_drop_all, at_drop_more}
-use Rattle.lrat_rules.specs.Lines.{Hint}
+use Rattle.lrat_rules.specs.Lines.{Hint, Line, adds, deletes}
+use Rattle.sat_output.specs.LineForms.{lines_in}
+use Rattle.sat_output.specs.LratBytes.{hint_number, line_bytes, lit_number, number_bytes, numbers_bytes}
 use Rattle.sat_output.specs.LratTexts.{addition_words, deletion_words, line_text}
 use Rattle.sat_output.specs.Words.{hint_text, literal_text, spaced, spaced_word}
+use Rattle.sat_output.specs.declared.form.LineForm.{LineForm}
+use Rattle.sat_output.specs.declared.form.LineForm.TheVariants.{Binary}
 
--- `spread` puts a space after each word
-module _ {A : Type 0} (word : A → List ℕ) (spread : List A → List ℕ) where
-  pub word_pushed : ((x : A) (xs : List A) → spread (x ∷ xs) ≡ spaced_word (word x) ++ spread xs) →
-      (out next whole : List ℕ) (xs : List A) (i : ℕ) (x d : A) → i < length xs → x ≡ get_or xs i d → next ≡ out ++ spaced_word (word x) →
+-- `spread` puts the part of each item after that of the one before
+module _ {A : Type 0} (part : A → List ℕ) (spread : List A → List ℕ) where
+  pub part_pushed : ((x : A) (xs : List A) → spread (x ∷ xs) ≡ part x ++ spread xs) →
+      (out next whole : List ℕ) (xs : List A) (i : ℕ) (x d : A) → i < length xs → x ≡ get_or xs i d → next ≡ out ++ part x →
       out ++ spread (drop i xs) ≡ whole → next ++ spread (drop (i + 1) xs) ≡ whole
-  word_pushed one out next whole xs i x d lt is pushed so_far =
+  part_pushed one out next whole xs i x d lt is pushed so_far =
       let rest : List ℕ = spread (drop (i + 1) xs) in
-      let step : spread (drop i xs) ≡ spaced_word (word x) ++ rest = at_drop_more spread xs i d lt ∙ ap (λ y. spread (y ∷ drop (i + 1) xs)) (sym is) ∙ one x (drop (i + 1) xs) in
-      ap (λ (l : List ℕ). l ++ rest) pushed ∙ append_assoc out (spaced_word (word x)) rest ∙ ap (λ (l : List ℕ). out ++ l) (sym step) ∙ so_far
+      let step : spread (drop i xs) ≡ part x ++ rest = at_drop_more spread xs i d lt ∙ ap (λ y. spread (y ∷ drop (i + 1) xs)) (sym is) ∙ one x (drop (i + 1) xs) in
+      ap (λ (l : List ℕ). l ++ rest) pushed ∙ append_assoc out (part x) rest ∙ ap (λ (l : List ℕ). out ++ l) (sym step) ∙ so_far
 
-  pub words_pushed : spread [] ≡ [] → (out whole : List ℕ) (xs : List A) (i : ℕ) → length xs ≤ i → out ++ spread (drop i xs) ≡ whole → out ≡ whole
-  words_pushed none out whole xs i le so_far =
+  pub parts_pushed : spread [] ≡ [] → (out whole : List ℕ) (xs : List A) (i : ℕ) → length xs ≤ i → out ++ spread (drop i xs) ≡ whole → out ≡ whole
+  parts_pushed none out whole xs i le so_far =
       sym (append-nil out) ∙ ap (λ (l : List ℕ). out ++ l) (sym (at_drop_all spread xs i le ∙ none)) ∙ so_far
 
 -- words after words
@@ -56,3 +61,35 @@ deletion_text last ids a0 a1 a2 a3 none number letter told end =
     end ∙ ap (λ t. t ++ codes "0\n") third
     ∙ ap (λ t. t ++ codes "0\n") (append_assoc d (codes "d ") rest)
     ∙ sym (append_assoc (d ++ (codes "d " ++ rest)) (codes "0") (10 ∷ []))
+
+-- the bytes of a line that adds a clause, part by part
+pub addition_bytes : (id : ℕ) (c : List ℕ) (hints : List Hint) (a0 a1 a2 a3 a4 a5 : List ℕ) {a6 : List ℕ} → a0 ≡ [] → a1 ≡ a0 ++ 97 ∷ [] →
+    a2 ≡ a1 ++ number_bytes id → a3 ≡ a2 ++ numbers_bytes (map lit_number c) → a4 ≡ a3 ++ 0 ∷ [] → a5 ≡ a4 ++ numbers_bytes (map hint_number hints) → a6 ≡ a5 ++ 0 ∷ [] →
+    a6 ≡ line_bytes (adds id c hints)
+addition_bytes id c hints a0 a1 a2 a3 a4 a5 none letter number lits zero told end =
+    let n = number_bytes id in
+    let ls = numbers_bytes (map lit_number c) in
+    let hs = numbers_bytes (map hint_number hints) in
+    let first = letter ∙ ap (λ (t : List ℕ). t ++ 97 ∷ []) none in
+    let second = number ∙ ap (λ t. t ++ n) first in
+    let third = lits ∙ ap (λ t. t ++ ls) second in
+    let fourth = zero ∙ ap (λ (t : List ℕ). t ++ 0 ∷ []) third in
+    let fifth = told ∙ ap (λ t. t ++ hs) fourth in
+    end ∙ ap (λ (t : List ℕ). t ++ 0 ∷ []) fifth
+    ∙ append_assoc (((97 ∷ n) ++ ls) ++ 0 ∷ []) hs (0 ∷ [])
+    ∙ append_assoc ((97 ∷ n) ++ ls) (0 ∷ []) (hs ++ 0 ∷ [])
+    ∙ append_assoc (97 ∷ n) ls (0 ∷ (hs ++ 0 ∷ []))
+
+-- the bytes of a line that deletes clauses, part by part
+pub deletion_bytes : (ids a0 a1 a2 : List ℕ) {a3 : List ℕ} → a0 ≡ [] → a1 ≡ a0 ++ 100 ∷ [] → a2 ≡ a1 ++ numbers_bytes ids → a3 ≡ a2 ++ 0 ∷ [] →
+    a3 ≡ line_bytes (deletes ids)
+deletion_bytes ids a0 a1 a2 none letter told end =
+    let first = letter ∙ ap (λ (t : List ℕ). t ++ 100 ∷ []) none in
+    let second = told ∙ ap (λ t. t ++ numbers_bytes ids) first in
+    end ∙ ap (λ (t : List ℕ). t ++ 0 ∷ []) second
+
+-- one line is all of the lines
+pub one_line : {E : Type 0} (form : LineForm) (last : ℕ) (x : Line) (r : Result (Vec ℕ) E) → form ≡ Binary → IfOk r (λ bytes. bytes.items ≡ line_bytes x) →
+    IfOk r (λ bytes. bytes.items ≡ lines_in form last (x ∷ []))
+one_line form last x (Ok bytes) is e = rw is (e ∙ sym (append-nil (line_bytes x)))
+one_line form last x (Err fault) is e = tt

@@ -1,5 +1,6 @@
 -- Beginnings of texts that are written in parts.
-use Rattle.std.proofs.Common.{◌≡◌, ℕ, zero, suc, ◌+◌, ◌≤◌, List, [], ◌∷◌, ◌++◌, length, take, Option, refl, ap, ◌∙◌, subst, arith, length-append}
+use Rattle.std.proofs.Common.{◌≡◌, ℕ, zero, suc, ◌+◌, ◌≤◌, List, [], ◌∷◌, ◌++◌, length, take, Option, Result, Ok, Err, refl, ap, ◌∙◌, subst, arith, length-append}
+use Rattle.std.specs.Prelude.{OnErr}
 use Rattle.std.specs.Io.KnownBytes.{Appends}
 use Rattle.std.proofs.KnownBytes.{Appends-nil, Appends-trans}
 use Rattle.whole_writes.specs.Beginnings.{AppendsBeginning}
@@ -23,6 +24,11 @@ take-front (x ∷ xs) ys (suc n) le = ap (λ t. x ∷ t) (take-front xs ys n (om
 -- nothing was written
 pub begins_nothing : (a : Known) (bytes : List ℕ) → AppendsBeginning a a bytes
 begins_nothing a bytes = record { count = 0; within = omega arith; appended = Appends-nil a }
+
+-- so it is where an error came before
+pub begun_none : {A E : Type 0} (r : Result A E) (a : Known) (bytes : List ℕ) → OnErr r (AppendsBeginning a a bytes)
+begun_none (Ok x) a bytes = tt
+begun_none (Err e) a bytes = begins_nothing a bytes
 
 -- all was written
 pub begins_whole : (a b : Known) (bytes : List ℕ) → Appends a b bytes → AppendsBeginning a b bytes

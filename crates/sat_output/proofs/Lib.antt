@@ -1,7 +1,9 @@
 pub mod AppendedWords
 pub mod Beginnings
+pub mod BinaryLines
 pub mod Decimals
 pub mod FormulaLines
+pub mod Groups
 pub mod LratLines
 pub mod SpacedWords
 pub mod WrittenClauses

@@ -84,11 +84,11 @@ literal_text-is l fits =
     ]
 
 -- the hint of the code that the rules know so
-abbrev hint_back : rules.Hint → Hint
+abbrev pub hint_back : rules.Hint → Hint
 hint_back (along id) = Along id
 hint_back (against id) = Against id
 
-hints_back : (hints : List rules.Hint) → map hint_of (map hint_back hints) ≡ hints
+pub hints_back : (hints : List rules.Hint) → map hint_of (map hint_back hints) ≡ hints
 hints_back [] = refl
 hints_back (along id ∷ hints) = ap (λ hs. along id ∷ hs) (hints_back hints)
 hints_back (against id ∷ hints) = ap (λ hs. against id ∷ hs) (hints_back hints)

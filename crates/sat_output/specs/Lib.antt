@@ -1,4 +1,6 @@
 pub mod DratTexts
 pub mod FormulaTexts
+pub mod LineForms
+pub mod LratBytes
 pub mod LratTexts
 pub mod Words

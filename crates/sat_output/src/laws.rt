@@ -1,10 +1,16 @@
 //! Laws of the texts. Each function does nothing: its clause is the law.
+ghost use Rattle.sat_output.specs.LratBytes.{BytesAreRead};
 ghost use Rattle.sat_output.specs.LratTexts.{LinesAreRead};
 ghost use Rattle.sat_output.specs.FormulaTexts.{FormulaIsRead};
 
 /// What is written of LRAT lines is read as those lines.
 pub fn lines_are_read()
     ensures { LinesAreRead }
+{}
+
+/// What is written of binary LRAT lines is read as those lines.
+pub fn bytes_are_read()
+    ensures { BytesAreRead }
 {}
 
 /// What is written of a formula is read as that formula.

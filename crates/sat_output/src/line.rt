@@ -3,10 +3,13 @@ ghost use Rattle.std.specs.Prelude.{◌≡◌, ◌++◌, ◌∷◌, [], map, IfO
 ghost use Rattle.std.specs.Io.KnownBytes.{Appends};
 ghost use Rattle.lrat_text.specs.Grammar.{hint_of};
 ghost use Rattle.lrat_text.specs.NextLine.{view};
+ghost use Rattle.sat_output.specs.LineForms.{lines_in};
 ghost use Rattle.sat_output.specs.LratTexts.{addition_words, deletion_words, last_after, line_text, lines_text};
 ghost use Rattle.sat_output.specs.Words.{spaced};
 ghost use Rattle.whole_writes.specs.Beginnings.{AppendsBeginning};
 
+use crate::binary::bytes_of;
+use crate::form::LineForm;
 use crate::words::{push_hints, push_literals, push_number, push_numbers};
 use lrat_text::{Hint, LratLine};
 use sat_formula::Lit;
@@ -15,24 +18,36 @@ use std::io;
 use std::io::Write;
 use whole_writes::append_whole;
 
-/// Writes a line of an LRAT proof, with its LF.
+/// Writes a line of an LRAT proof; of text with its LF.
 ///
-/// `last` is the number in front of a line that deletes clauses: by custom that of the last clause
-/// that was added. After an error a beginning of the line is written, and nothing where there was
-/// no memory for its text. A writer with a buffer may hold some of it back.
+/// `last` is the number in front of a line of text that deletes clauses: by custom that of the last
+/// clause that was added. After an error a beginning of the line is written, and nothing where
+/// there was no memory for it, or where a hint of a binary line has an id of 2^63 or more, which is
+/// `InvalidData`. A writer with a buffer may hold some of it back.
 pub fn write_lrat_line<W: Write>(
     alloc: Global,
     out: &mut W,
+    form: LineForm,
     last: u64,
     line: LratLine<'_>,
 ) -> io::Result<()>
     ensures whole { OnOk result (Appends (W.contents out.old) (W.contents out.new)
-        (lines_text last (view line.entry ∷ []))) }
+        (lines_in form last (view line.entry ∷ []))) }
     ensures beginning { OnErr result (AppendsBeginning (W.contents out.old) (W.contents out.new)
-        (lines_text last (view line.entry ∷ []))) }
+        (lines_in form last (view line.entry ∷ []))) }
 {
-    let text = text_of(alloc, last, line)?;
-    append_whole(out, &text)
+    let line = line_in(alloc, form, last, line)?;
+    append_whole(out, &line)
+}
+
+/// A line in its form.
+fn line_in(alloc: Global, form: LineForm, last: u64, line: LratLine<'_>) -> io::Result<Vec<u8>>
+    ensures { IfOk result (λ bytes. bytes.items ≡ lines_in form last (view line.entry ∷ [])) }
+{
+    match form {
+        LineForm::Text => Ok(text_of(alloc, last, line)?),
+        LineForm::Binary => bytes_of(alloc, line),
+    }
 }
 
 /// The number in front of a deletion after this line: its own id, where it adds a clause.

@@ -1,4 +1,5 @@
 use Rattle.std.proofs.Common.{◌≡◌, None, Ok, Some, refl, sym, ◌∙◌}
+use Rattle.sat_output.specs.declared.form.LineForm.TheVariants.{Text}
 use Rattle.verdicts.specs.declared.verdict.Verdict.TheVariants.{Verified}
 use Rattle.c_library.proofs.DratOutputs.{both_written, places_core, places_lrat}
 use Rattle.c_library.proofs.VerifiedRuns.{drat_verified}
@@ -11,7 +12,7 @@ pub returns-clause-outputs : goal.returns-clause-outputs
 returns-clause-outputs c = λ is.
     let verified = drat_verified c.run_check-outcome.result (sym c.answer_to.ensures.status ∙ is) in
     let written = both_written (λ line. None) c.sink.result c.run_check-outcome.new.out (Some c.args.cnf.now)
-    (record { lrat = c.output.result; trim = None; core = c.output-2.result; counts = _ }) c.run_check-outcome.new.outputs
+    (record { lrat = c.output.result; form = Text; trim = None; core = c.output-2.result; counts = _ }) c.run_check-outcome.new.outputs
     c.run_check-outcome.result verified c.run_check-outcome.ensures.outputs in
     record {
       formula = written.formula;

@@ -12,7 +12,7 @@ use Rattle.drat_check.proofs.outputs.write_lines.Goals as goal
 
 pub returns-in-Err-clause-beginning : goal.returns-in-Err-clause-beginning
 returns-in-Err-clause-beginning g c =
-    began_none c.args.formula.now (bytes_in g.L.Write.contents c.args.lrat.now) (bytes_in g.L.Write.contents c.args.trim.now)
+    began_none c.args.form c.args.formula.now (bytes_in g.L.Write.contents c.args.lrat.now) (bytes_in g.L.Write.contents c.args.trim.now)
 
 pub returns-then-refuted-clause-shown : goal.returns-then-refuted-clause-shown
 returns-then-refuted-clause-shown g c =
@@ -23,39 +23,39 @@ returns-then-refuted-clause-shown g c =
 
 pub returns-then-refuted-clause-whole : goal.returns-then-refuted-clause-whole
 returns-then-refuted-clause-whole g c =
-    on_ok _ c.end_lines.result (wrote c.args.formula.now _ _ _ _ _ _ c.lines.checker c.lines.last c.lines.has_begun c.lines.invariant
+    on_ok _ c.end_lines.result (wrote c.args.form c.args.formula.now _ _ _ _ _ _ c.lines.checker c.lines.last c.lines.has_begun c.lines.invariant
     (sym c.refuted.ensures.value ∙ c.if-refuted.true) c.end_lines.ensures.lrat c.end_lines.ensures.trim)
 
 pub returns-then-refuted-clause-beginning : goal.returns-then-refuted-clause-beginning
 returns-then-refuted-clause-beginning g c =
-    on_err _ c.end_lines.result (began c.args.formula.now _ _ _ _ _ _ c.lines.checker c.lines.last c.lines.has_begun c.lines.invariant
+    on_err _ c.end_lines.result (began c.args.form c.args.formula.now _ _ _ _ _ _ c.lines.checker c.lines.last c.lines.has_begun c.lines.invariant
     c.end_lines.ensures.lrat c.end_lines.ensures.trim)
 
 pub lines-init : goal.lines-init
 lines-init g c =
-    none_yet c.args.formula.now (bytes_in g.L.Write.contents c.args.lrat.now) (bytes_in g.L.Write.contents c.args.trim.now)
+    none_yet c.args.form c.args.formula.now (bytes_in g.L.Write.contents c.args.lrat.now) (bytes_in g.L.Write.contents c.args.trim.now)
     c.in-Ok.checker c.len-last.result false c.in-Ok.ensures.ready c.len-last.ensures refl
 
 pub returns-in-Err-steps_of-clause-beginning : goal.returns-in-Err-steps_of-clause-beginning
 returns-in-Err-steps_of-clause-beginning g c =
-    began c.args.formula.now _ _ _ _ _ _ c.lines.checker c.lines.last c.lines.has_begun c.lines.invariant
+    began c.args.form c.args.formula.now _ _ _ _ _ _ c.lines.checker c.lines.last c.lines.has_begun c.lines.invariant
     (Keeps-refl (bytes_in g.L.Write.contents c.lines.lrat)) (Keeps-refl (bytes_in g.L.Write.contents c.lines.trim))
 
 pub returns-in-Err-check_line-clause-beginning : goal.returns-in-Err-check_line-clause-beginning
 returns-in-Err-check_line-clause-beginning g c =
-    began c.args.formula.now _ _ _ _ _ _ c.lines.checker c.lines.last c.lines.has_begun c.lines.invariant
+    began c.args.form c.args.formula.now _ _ _ _ _ _ c.lines.checker c.lines.last c.lines.has_begun c.lines.invariant
     (Keeps-refl (bytes_in g.L.Write.contents c.lines.lrat)) (Keeps-refl (bytes_in g.L.Write.contents c.lines.trim))
 
 pub returns-in-Err-write_accepted-clause-beginning : goal.returns-in-Err-write_accepted-clause-beginning
 returns-in-Err-write_accepted-clause-beginning g c =
     let so_far = c.lines.invariant in
-    began_line c.args.formula.now _ _ _ _ _ (bytes_in g.L.Write.contents c.lines.trim) c.lines.checker c.check_line.new.self c.lines.last c.lines.has_begun
+    began_line c.args.form c.args.formula.now _ _ _ _ _ (bytes_in g.L.Write.contents c.lines.trim) c.lines.checker c.check_line.new.self c.lines.last c.lines.has_begun
     (view c.in-Ok-Some.entry) so_far (c.in_default.ensures.accepted c.args.formula.now so_far.lines so_far.ready) c.in-Err-write_accepted.ensures.beginning
 
 pub returns-in-Err-write_steps-clause-beginning : goal.returns-in-Err-write_steps-clause-beginning
 returns-in-Err-write_steps-clause-beginning g c =
     let so_far = c.lines.invariant in
-    began_steps c.args.formula.now _ _ _ _ _ _ c.lines.checker c.check_line.new.self c.lines.last c.lines.has_begun (view c.in-Ok-Some.entry) so_far
+    began_steps c.args.form c.args.formula.now _ _ _ _ _ _ c.lines.checker c.check_line.new.self c.lines.last c.lines.has_begun (view c.in-Ok-Some.entry) so_far
     (c.in_default.ensures.accepted c.args.formula.now so_far.lines so_far.ready) c.in_default-write_accepted.ensures.whole
     (begins_wanted g.L.Write.contents c.lines.trim c.write_steps.new.trim c.in-Ok-steps_of.steps.items _
     (c.in-Ok-steps_of.ensures c.args.formula.now so_far.lines so_far.ready)
@@ -64,18 +64,18 @@ returns-in-Err-write_steps-clause-beginning g c =
 
 pub returns-in-Ok-None-clause-beginning : goal.returns-in-Ok-None-clause-beginning
 returns-in-Ok-None-clause-beginning g c =
-    began c.args.formula.now _ _ _ _ _ _ c.lines.checker c.lines.last c.lines.has_begun c.lines.invariant
+    began c.args.form c.args.formula.now _ _ _ _ _ _ c.lines.checker c.lines.last c.lines.has_begun c.lines.invariant
     (Keeps-refl (bytes_in g.L.Write.contents c.lines.lrat)) (Keeps-refl (bytes_in g.L.Write.contents c.lines.trim))
 
 pub returns-in-Err-next_line-clause-beginning : goal.returns-in-Err-next_line-clause-beginning
 returns-in-Err-next_line-clause-beginning g c =
-    began c.args.formula.now _ _ _ _ _ _ c.lines.checker c.lines.last c.lines.has_begun c.lines.invariant
+    began c.args.form c.args.formula.now _ _ _ _ _ _ c.lines.checker c.lines.last c.lines.has_begun c.lines.invariant
     (Keeps-refl (bytes_in g.L.Write.contents c.lines.lrat)) (Keeps-refl (bytes_in g.L.Write.contents c.lines.trim))
 
 pub lines-preserved : goal.lines-preserved
 lines-preserved g c =
     let so_far = c.lines.invariant in
-    one_more c.args.formula.now _ _ _ _ _ _ c.lines.checker c.check_line.new.self c.lines.last c.lines.has_begun (view c.in-Ok-Some.entry) so_far
+    one_more c.args.form c.args.formula.now _ _ _ _ _ _ c.lines.checker c.check_line.new.self c.lines.last c.lines.has_begun (view c.in-Ok-Some.entry) so_far
     c.number_after-last.result c.begun_by-has_begun.result
     (c.in_default.ensures.accepted c.args.formula.now so_far.lines so_far.ready) c.in_default-write_accepted.ensures.whole
     (appends_wanted g.L.Write.contents c.lines.trim c.write_steps.new.trim c.in-Ok-steps_of.steps.items _
@@ -86,5 +86,5 @@ lines-preserved g c =
 
 pub returns-clause-beginning : goal.returns-clause-beginning
 returns-clause-beginning g c =
-    began c.args.formula.now _ _ _ _ _ _ c.lines.checker c.lines.last c.lines.has_begun c.lines.invariant
+    began c.args.form c.args.formula.now _ _ _ _ _ _ c.lines.checker c.lines.last c.lines.has_begun c.lines.invariant
     (Keeps-refl (bytes_in g.L.Write.contents c.lines.lrat)) (Keeps-refl (bytes_in g.L.Write.contents c.lines.trim))

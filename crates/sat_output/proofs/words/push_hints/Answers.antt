@@ -1,12 +1,12 @@
 use Rattle.std.proofs.Common.{refl, map}
 use Rattle.lrat_text.specs.Grammar.{hint_of}
-use Rattle.sat_output.specs.Words.{hint_text, spaced}
-use Rattle.sat_output.proofs.AppendedWords.{word_pushed, words_pushed}
+use Rattle.sat_output.specs.Words.{hint_text, spaced, spaced_word}
+use Rattle.sat_output.proofs.AppendedWords.{part_pushed, parts_pushed}
 use Rattle.sat_output.proofs.words.push_hints.Goals as goal
 
 pub loop-hint-preserved : goal.loop-hint-preserved
-loop-hint-preserved c = word_pushed (λ h. hint_text (hint_of h)) (λ hs. spaced (map hint_text (map hint_of hs))) (λ h hs. refl) _ _ _ c.args.hints.now
+loop-hint-preserved c = part_pushed (λ h. spaced_word (hint_text (hint_of h))) (λ hs. spaced (map hint_text (map hint_of hs))) (λ h hs. refl) _ _ _ c.args.hints.now
     c.loop-hint.hint-index _ _ c.loop-hint-test.true refl c.in_ok-push_hint.ensures c.loop-hint.invariant
 
 pub returns : goal.returns
-returns c = words_pushed (λ h. hint_text (hint_of h)) (λ hs. spaced (map hint_text (map hint_of hs))) refl _ _ c.args.hints.now c.loop-hint.hint-index c.loop-hint-test.false c.loop-hint.invariant
+returns c = parts_pushed (λ h. spaced_word (hint_text (hint_of h))) (λ hs. spaced (map hint_text (map hint_of hs))) refl _ _ c.args.hints.now c.loop-hint.hint-index c.loop-hint-test.false c.loop-hint.invariant
