@@ -306,10 +306,42 @@ wants 1 '' $'error writing: No space left on device (os error 28)\nin /dev/full'
 wants 1 '' $'error writing: No space left on device (os error 28)\nin /dev/full' f p --trim /dev/full --lrat l
 alone 'no verdict' l c
 
+# one piece of a proof: its lines are accepted, and do not refute; a clause that is gone, one that is turned round, a conflict
+printf '1 2 0\n1 -2 0\n-1 3 0\n' > three
+printf '1 0\nd 1 2 0\n' > piece
+printf '3 -1 0\n1 0\n' > next
+printf '1 0\n1 2 0\n' > gone
+printf '1 0\n-1 -3 0\n' > turned
+wants 0 's VERIFIED PIECE' '' three piece --holds next --lrat l
+said=$("$lrat_check" three l 2> err) || true
+[[ $said == 's NOT VERIFIED' && $(tail -n 1 l) == '5 3 -1 0 3 0' ]] || fault "the lines of a piece: $said $(cat err l)"
+wants 0 's VERIFIED PIECE' '' three piece --holds next --lrat l --binary
+said=$("$lrat_check" three l 2> err) || true
+[[ $said == 's NOT VERIFIED' ]] || fault "the binary lines of a piece: $said $(cat err)"
+wants 3 's NOT VERIFIED' $'clause 2 is not there behind the piece: 1 2 0\nin gone' three piece --holds gone
+wants 3 's NOT VERIFIED' $'clause 2 is not there behind the piece: -1 -3 0\nin turned' three piece --holds turned --lrat l
+empty l
+wants 0 's VERIFIED UNSAT' '' f p --holds next --lrat l
+[[ $("$lrat_check" f l) == 's VERIFIED UNSAT' ]] || fault 'the lines of a piece with a conflict'
+keep l
+wants 1 '' $'wanted clauses: line 1: bad number\nin malformed' three piece --holds malformed --lrat l
+wants 1 '' $'formula: line 1: bad number\nin malformed' malformed piece --holds malformed --lrat l
+wants 1 '' $'proof: step 1: malformed\nin malformed' three malformed --holds next --lrat l
+kept 'a piece that is refused' l
+wants 2 '' $'cannot open nothing\nNo such file or directory (os error 2)' three piece --holds nothing --lrat l
+ln -sf next soft.next
+for output in next soft.next; do
+  wants 2 '' "cannot open $output"$'\nthe output is a file that is read' three piece --holds next --lrat "$output"
+done
+kept 'a piece that is not run' l
+wants 1 '' $'error writing: No space left on device (os error 28)\nin /dev/full' three piece --holds next --lrat /dev/full
+said=$("$check" three piece --holds next --stats 2> err) || true
+[[ $said == 's VERIFIED PIECE' && $(head -n 4 err) == $'c steps 2\nc lemmas 2\nc rat_lemmas 0\nc hints 3' ]] || fault "what a piece counts: $said $(cat err)"
+
 # calls that can't be read, and others of the same words
 while IFS=: read -r arguments why; do
   # shellcheck disable=SC2086
-  wants 2 '' "$why"$'\nusage: drat_check CNF PROOF [--drat] [--frat] [--lpr] [--lrat FILE] [--binary] [--trim FILE] [--core FILE] [--stats] [--quiet] [--verbose]\ndrat_check --help says more' $arguments
+  wants 2 '' "$why"$'\nusage: drat_check CNF PROOF [--drat] [--frat] [--lpr] [--lrat FILE] [--binary] [--trim FILE] [--core FILE] [--holds FILE] [--stats] [--quiet] [--verbose]\ndrat_check --help says more' $arguments
 done << 'END'
 :no file is named for CNF
 f:no file is named for PROOF
@@ -324,6 +356,9 @@ f p --lpr --drat:--drat, --frat and --lpr exclude each other
 f p --quiet --verbose:--quiet and --verbose can't both stand
 f p --drat=1:--drat takes no value
 f p --core c --binary:--binary says how --lrat is written
+f p --holds:--holds has no value
+f p --holds three --core c:--holds excludes --trim and --core
+f p --trim l --holds three:--holds excludes --trim and --core
 f p --example:--example stands alone
 --example --drat:--example stands alone
 -- --drat:no file is named for PROOF

@@ -2,3 +2,4 @@ pub mod DeletedClauses
 pub mod UsedClauses
 pub mod WrittenCores
 pub mod WrittenLines
+pub mod WrittenPieces

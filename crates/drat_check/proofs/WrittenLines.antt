@@ -20,7 +20,7 @@ use Rattle.sat_output.proofs.Beginnings.{begins_front, begins_nothing, begins_pa
 use Rattle.drat_check.specs.declared.fault.ProofFault.{ProofFault}
 use Rattle.drat_check.specs.declared.fault.RunFault.TheVariants.{Proof}
 use Rattle.drat_check.specs.declared.outputs.Outputs.{Outputs}
-use Rattle.drat_check.specs.Outputs.{BeganLines, IfWanted, WritesBefore, WroteProof, bytes_in}
+use Rattle.drat_check.specs.Outputs.{BeganLines, HasWritten, IfWanted, WritesBefore, WroteProof, bytes_in}
 
 abbrev Known : Type 0
 Known = Option (List ℕ)
@@ -50,7 +50,7 @@ lines_bytes-more (y ∷ xs) x =
     ap (λ t. line_bytes y ++ t) (lines_bytes-more xs x)
     ∙ sym (append_assoc (line_bytes y) (lines_bytes xs) (lines_bytes (x ∷ [])))
 
-lines_in-more : (form : LineForm) (last : ℕ) (xs : List Line) (x : Line) → lines_in form last (xs ++ x ∷ []) ≡ lines_in form last xs ++ lines_in form (last_of last xs) (x ∷ [])
+pub lines_in-more : (form : LineForm) (last : ℕ) (xs : List Line) (x : Line) → lines_in form last (xs ++ x ∷ []) ≡ lines_in form last xs ++ lines_in form (last_of last xs) (x ∷ [])
 lines_in-more Text last xs x = lines_text-more last xs x
 lines_in-more Binary last xs x = lines_bytes-more xs x
 
@@ -177,8 +177,8 @@ module _ (form : LineForm) (formula : List (List ℕ)) (lrat lrat' lrat'' trim t
     trimmed = subst (AppendsBeginning trim trim'') with_steps (begins_past trim trim' trim'' (steps_text false store p.lines) steps p.trimmed written);
   }
 
-module _ (form : LineForm) (formula : List (List ℕ)) (lrat lrat' lrat'' trim trim' trim'' : Known) (checker : LratChecker) (last : ℕ) (begun : Bool)
-    (p : SoFar form formula lrat lrat' trim trim' checker last begun) where
+module _ (form : LineForm) (formula : List (List ℕ)) (lrat lrat' lrat'' trim trim' trim'' : Known) (checker : LratChecker)
+    (p : HasWritten form formula lrat lrat' trim trim' checker) where
   abbrev text : List ℕ
   text = lines_in form (length formula) p.lines
 
@@ -186,8 +186,8 @@ module _ (form : LineForm) (formula : List (List ℕ)) (lrat lrat' lrat'' trim t
   steps_before = steps_text false (formula_store formula) p.lines
 
   -- no more is written
-  pub began : Keeps lrat' lrat'' → Keeps trim' trim'' → BeganLines form formula lrat lrat'' trim trim''
-  began kept kept' = record {
+  pub began_after : Keeps lrat' lrat'' → Keeps trim' trim'' → BeganLines form formula lrat lrat'' trim trim''
+  began_after kept kept' = record {
     lines = p.lines;
     store = p.ready.accepted.store;
     accepted = p.ready.accepted.ran;
@@ -202,6 +202,14 @@ module _ (form : LineForm) (formula : List (List ℕ)) (lrat lrat' lrat'' trim t
     text = Appends-kept lrat lrat' lrat'' text p.text kept;
     trimmed = Appends-kept trim trim' trim'' steps_before p.trimmed kept';
   }
+
+module _ (form : LineForm) (formula : List (List ℕ)) (lrat lrat' trim trim' : Known) (checker : LratChecker) (last : ℕ) (begun : Bool)
+    (p : SoFar form formula lrat lrat' trim trim' checker last begun) where
+  pub written : HasWritten form formula lrat lrat' trim trim' checker
+  written = record { lines = p.lines; ready = p.ready; text = p.text; trimmed = p.trimmed }
+
+  pub began : (lrat'' trim'' : Known) → Keeps lrat' lrat'' → Keeps trim' trim'' → BeganLines form formula lrat lrat'' trim trim''
+  began lrat'' trim'' = began_after form formula lrat lrat' lrat'' trim trim' trim'' checker written
 
 -- no line was made
 pub began_none : (form : LineForm) (formula : List (List ℕ)) (lrat trim : Known) → BeganLines form formula lrat lrat trim trim

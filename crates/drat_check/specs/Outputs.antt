@@ -2,9 +2,10 @@
 --     bytes_in contents w      the bytes that a writer holds, where there is one
 --     IsPartOf used formula      some of the formula's clauses, in their order
 --     IfWanted w P      where there is a writer
+--     HasWritten      lines that a checker has accepted were written, and their steps
 --     WroteProof, BeganLines      lines that refute the formula were written, and their steps, or beginnings for lines that were accepted
 --     WroteCore, BeganCore      a part of the formula was written as a formula, or a beginning of that
---     IsLineFault r      the fault of making and writing lines
+--     IsLineFault r      no fault but of making and writing lines
 --     WritesBefore      what a run wrote beside its verdict's line, before that
 --     WritesOutputs      what a run wrote beside its verdict's line, and of that where it was not written whole
 use Rattle.std.specs.Prelude.{◌≡◌, ℕ, Bool, true, false, List, [], ◌∷◌, length, Option, Some, None, Result, Ok, Err}
@@ -12,6 +13,8 @@ use Rattle.std.specs.Io.KnownBytes.{Appends}
 use Rattle.sat_rules.specs.Named.{Item}
 use Rattle.lrat_rules.specs.Lines.{Line, is_refuted, run}
 use Rattle.lrat_rules.specs.Stores.{formula_store}
+use Rattle.lrat_checker.specs.Standing.{IsReady}
+use Rattle.lrat_checker.specs.declared.checker.LratChecker.{LratChecker}
 use Rattle.sat_output.specs.DratTexts.{steps_text}
 use Rattle.sat_output.specs.FormulaTexts.{formula_text}
 use Rattle.sat_output.specs.LineForms.{lines_in}
@@ -36,6 +39,13 @@ IfWanted None P = Unit {0}
 IfWanted (Some w) P = P
 
 -- ---- the proof's lines
+
+-- a checker has accepted lines, and holds what is stored after them; they were written, and to another writer the steps of DRAT that they are
+pub record HasWritten (form : LineForm) (formula : List (List ℕ)) (lrat lrat' trim trim' : Option (List ℕ)) (checker : LratChecker) : Type 0 where
+  pub lines : List Line
+  pub ready : IsReady formula lines checker
+  pub text : Appends lrat lrat' (lines_in form (length formula) lines)
+  pub trimmed : Appends trim trim' (steps_text false (formula_store formula) lines)
 
 -- lines of which the checker's rules say that they refute the formula were written, and to another writer the steps of DRAT that they are
 pub record WroteProof (form : LineForm) (formula : List (List ℕ)) (lrat lrat' trim trim' : Option (List ℕ)) : Type 0 where
@@ -79,8 +89,8 @@ pub record BeganCore (formula : List (List ℕ)) (old new : Option (List ℕ)) :
 
 -- ---- runs
 
--- a fault of making and writing lines
-abbrev pub IsLineFault : Result (Unit {0}) RunFault → Type 0
+-- no fault but one of making and writing lines
+abbrev pub IsLineFault : {A : Type 0} → Result A RunFault → Type 0
 IsLineFault (Ok x) = Unit {0}
 IsLineFault (Err (Formula fault)) = ⊥
 IsLineFault (Err (Proof fault)) = Unit {0}

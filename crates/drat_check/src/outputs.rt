@@ -6,7 +6,7 @@ ghost use Rattle.lrat_text.specs.NextLine.{view};
 ghost use Rattle.sat_output.specs.FormulaTexts.{formula_text};
 ghost use Rattle.sat_output.specs.LineForms.{lines_in};
 ghost use Rattle.whole_writes.specs.Beginnings.{AppendsBeginning};
-ghost use Rattle.drat_check.specs.Outputs.{BeganCore, BeganLines, IsLineFault, IsPartOf, WroteCore, WroteProof, bytes_in};
+ghost use Rattle.drat_check.specs.Outputs.{BeganCore, BeganLines, HasWritten, IsLineFault, IsPartOf, WroteCore, WroteProof, bytes_in};
 ghost use Rattle.drat_check.specs.Runs.{IsUnsatisfiable};
 
 use crate::counts::{RunCounts, count_line};
@@ -38,9 +38,9 @@ pub struct Outputs<L, C> {
     pub counts: Cell<RunCounts>,
 }
 
-/// Hands the elaborated lines to a checker that holds the formula, up to the empty clause, and
-/// writes each that it accepts, and the steps of DRAT that it is.
-pub(crate) fn write_lines<L: Write>(
+/// Hands the elaborated lines to a checker that holds the formula, up to the empty clause, which
+/// has to come, and writes each that it accepts, and the steps of DRAT that it is.
+pub(crate) fn write_proof<L: Write>(
     alloc: Global,
     formula: &CnfFormula,
     elaborator: &mut Elaborator,
@@ -58,6 +58,35 @@ pub(crate) fn write_lines<L: Write>(
         (bytes_in L.contents trim.old) (bytes_in L.contents trim.new)) }
     ensures fault { IsLineFault result }
 {
+    let checker = match write_lines(alloc, formula, elaborator, lrat, form, trim, counts) {
+        Ok(checker) => checker,
+        Err(fault) => return Err(fault),
+    };
+    if !checker.refuted() {
+        return Err(RunFault::Proof(ProofFault::Unfinished));
+    }
+    end_lines(lrat, trim)
+}
+
+/// Hands the elaborated lines to a checker that holds the formula, up to the empty clause or the
+/// last one, and writes each that it accepts, and the steps of DRAT that it is.
+pub(crate) fn write_lines<L: Write>(
+    alloc: Global,
+    formula: &CnfFormula,
+    elaborator: &mut Elaborator,
+    lrat: &mut Option<L>,
+    form: LineForm,
+    trim: &mut Option<L>,
+    counts: &Cell<RunCounts>,
+) -> Result<LratChecker, RunFault>
+    ensures whole { IfOk result (λ checker. HasWritten form formula.now
+        (bytes_in L.contents lrat.old) (bytes_in L.contents lrat.new)
+        (bytes_in L.contents trim.old) (bytes_in L.contents trim.new) checker) }
+    ensures beginning { OnErr result (BeganLines form formula.now
+        (bytes_in L.contents lrat.old) (bytes_in L.contents lrat.new)
+        (bytes_in L.contents trim.old) (bytes_in L.contents trim.new)) }
+    ensures fault { IsLineFault result }
+{
     let mut checker = match LratChecker::new(alloc, formula) {
         Ok(checker) => checker,
         Err(fault) => return Err(RunFault::Proof(ProofFault::from(fault))),
@@ -66,7 +95,7 @@ pub(crate) fn write_lines<L: Write>(
     let mut has_begun = false;
     'lines: for line in 1..u64::MAX {
         if checker.refuted() {
-            return end_lines(lrat, trim);
+            return Ok(checker);
         }
         match elaborator.next_line() {
             Ok(Some(entry)) => {
@@ -87,7 +116,7 @@ pub(crate) fn write_lines<L: Write>(
                 has_begun = begun_by(has_begun, entry);
                 count_line(counts, entry);
             }
-            Ok(None) => return Err(RunFault::Proof(ProofFault::Unfinished)),
+            Ok(None) => return Ok(checker),
             Err(fault) => return Err(RunFault::Proof(ProofFault::from(fault))),
         }
     }
@@ -95,7 +124,7 @@ pub(crate) fn write_lines<L: Write>(
 }
 
 /// Writes a line, where lines are wanted.
-fn write_accepted<L: Write>(
+pub(crate) fn write_accepted<L: Write>(
     alloc: Global,
     lrat: &mut Option<L>,
     form: LineForm,
@@ -129,7 +158,7 @@ fn end_lines<L: Write>(lrat: &mut Option<L>, trim: &mut Option<L>) -> Result<(),
 }
 
 /// Writes what a writer holds back, where there is one.
-fn flush<W: Write>(out: &mut Option<W>) -> io::Result<()>
+pub(crate) fn flush<W: Write>(out: &mut Option<W>) -> io::Result<()>
     ensures { Keeps (bytes_in W.contents out.old) (bytes_in W.contents out.new) }
 {
     match out {

@@ -10,7 +10,7 @@ ghost use Rattle.verdicts.specs.declared.verdict.Verdict.TheVariants.{Verified};
 
 use crate::counts::count_core;
 use crate::fault::RunFault;
-use crate::outputs::{Outputs, write_core, write_lines};
+use crate::outputs::{Outputs, write_core, write_proof};
 use crate::proof::{elaborate, read_proof};
 use crate::reader::ProofFormat;
 use log::Log;
@@ -127,7 +127,7 @@ fn verdict_of<R: Log, P: Read + Drop, L: Write, C: Write>(
         counts,
         ..
     } = outputs;
-    if let Err(fault) = write_lines(alloc, formula, &mut elaborator, lrat, form, trim, counts) {
+    if let Err(fault) = write_proof(alloc, formula, &mut elaborator, lrat, form, trim, counts) {
         return Err(fault);
     }
     count_core(counts, formula, &elaborator);

@@ -3,7 +3,7 @@ use command::{About, Entry, QUIET, STATS, VERBOSE};
 
 /// What `--help` says.
 pub const ABOUT: About<'static> = About {
-    call: "drat_check CNF PROOF [--drat] [--frat] [--lpr] [--lrat FILE] [--binary] [--trim FILE] [--core FILE] [--stats] [--quiet] [--verbose]",
+    call: "drat_check CNF PROOF [--drat] [--frat] [--lpr] [--lrat FILE] [--binary] [--trim FILE] [--core FILE] [--holds FILE] [--stats] [--quiet] [--verbose]",
     does: "Checks a DRAT, DPR, FRAT or LPR proof, text or binary, against a formula, and says in one line what it shows.",
     operands: &[
         Entry {
@@ -43,6 +43,10 @@ pub const ABOUT: About<'static> = About {
         Entry {
             name: "--core FILE",
             text: "writes the clauses of the formula that these lines use",
+        },
+        Entry {
+            name: "--holds FILE",
+            text: "the proof is a piece of one, which need not come to a conflict: the clauses of this formula have to be there behind it, and the line is then s VERIFIED PIECE",
         },
         STATS,
         QUIET,

@@ -1,11 +1,12 @@
 //! The command `drat_check CNF PROOF [--drat] [--frat] [--lpr] [--lrat FILE] [--binary]
-//! [--trim FILE] [--core FILE]`: checks a DRAT, DPR, FRAT or LPR proof against a formula, and says
-//! in one line what it shows.
+//! [--trim FILE] [--core FILE] [--holds FILE]`: checks a DRAT, DPR, FRAT or LPR proof against a
+//! formula, and says in one line what it shows.
 //!
 //! Which of them the proof is, is told by its first bytes, or by `--drat`, `--frat` or `--lpr`.
 //! With `--lrat` the lines that the checker of LRAT proofs accepted are written to a file, with
 //! `--binary` in the binary form, with `--trim` the steps of DRAT that they are, and with `--core`
-//! the clauses of the formula that they use.
+//! the clauses of the formula that they use. With `--holds` the proof is one piece of a proof,
+//! behind which the clauses of a file are wanted.
 //! `--example` checks a small fixed example, `--help` says how the program is called, and
 //! `--version` of which version it is. The name `-` of a file that is read stands for standard
 //! input. What `RUST_LOG` asks for, as `RUST_LOG=info`, is logged to standard error; else nothing
@@ -13,8 +14,10 @@
 #![tactic(auto)]
 
 mod about;
+mod piece;
 
 use crate::about::ABOUT;
+use crate::piece::{PieceNames, check_piece};
 use command::{
     Call, Cost, HeldBytes, Input, NOT_RUN, OutputAfterFiles, WrittenFiles, hold_input, misused,
     open_inputs, say_drat_proof, say_figure, say_formula, say_proof, say_unread, start, unnamed,
@@ -66,9 +69,19 @@ fn run(rt: &HostRuntime, call: &Call<'_>) -> u8 {
     if call.has("--binary") && call.value("--lrat").is_none() {
         return misused(rt, &ABOUT, "--binary says how --lrat is written");
     }
-    match call.operands.as_slice() {
-        [cnf, proof] => check_files(rt, cnf.as_str(), proof.as_str(), format, call),
-        operands => unnamed(rt, &ABOUT, operands.len()),
+    if call.has("--holds") && (call.has("--trim") || call.has("--core")) {
+        return misused(rt, &ABOUT, "--holds excludes --trim and --core");
+    }
+    let (cnf, proof) = match call.operands.as_slice() {
+        [cnf, proof] => (cnf.as_str(), proof.as_str()),
+        operands => return unnamed(rt, &ABOUT, operands.len()),
+    };
+    match call.value("--holds") {
+        Some(holds) => {
+            let piece = proof;
+            check_piece(rt, PieceNames { cnf, piece, holds }, format, call)
+        }
+        None => check_files(rt, cnf, proof, format, call),
     }
 }
 

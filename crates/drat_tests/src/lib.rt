@@ -14,6 +14,8 @@ mod frat_texts;
 #[cfg(test)]
 mod lemmas;
 #[cfg(test)]
+mod pieces;
+#[cfg(test)]
 mod runs;
 #[cfg(test)]
 mod texts;

@@ -1,35 +1,19 @@
-use Rattle.std.proofs.Common.{false, refl, subst, sym, ◌∙◌}
+use Rattle.std.proofs.Common.{false, refl, subst}
 use Rattle.std.specs.Io.KnownBytes.{Appends}
 use Rattle.std.proofs.KnownBytes.{Keeps-refl}
-use Rattle.std.proofs.lemmas.Bool.{false_from_ne_true}
-use Rattle.sat_rules.specs.Clauses.{all_true}
 use Rattle.lrat_text.specs.NextLine.{view}
 use Rattle.whole_writes.specs.Beginnings.{AppendsBeginning}
 use Rattle.drat_check.specs.Outputs.{bytes_in}
-use Rattle.drat_check.specs.Runs.{IsUnsatisfiable}
-use Rattle.drat_check.proofs.WrittenLines.{appends_wanted, began, began_line, began_none, began_steps, begins_wanted, none_yet, on_err, on_ok, one_more, wrote}
+use Rattle.drat_check.proofs.WrittenLines.{appends_wanted, began, began_line, began_none, began_steps, begins_wanted, none_yet, one_more, written}
 use Rattle.drat_check.proofs.outputs.write_lines.Goals as goal
 
 pub returns-in-Err-clause-beginning : goal.returns-in-Err-clause-beginning
 returns-in-Err-clause-beginning g c =
     began_none c.args.form c.args.formula.now (bytes_in g.L.Write.contents c.args.lrat.now) (bytes_in g.L.Write.contents c.args.trim.now)
 
-pub returns-then-refuted-clause-shown : goal.returns-then-refuted-clause-shown
-returns-then-refuted-clause-shown g c =
-    let so_far = c.lines.invariant in
-    on_ok (IsUnsatisfiable c.args.formula.now) c.end_lines.result (λ a.
-    false_from_ne_true (all_true a c.args.formula.now)
-    (c.refuted.ensures.refutes c.args.formula.now so_far.lines so_far.ready.accepted c.if-refuted.true a))
-
 pub returns-then-refuted-clause-whole : goal.returns-then-refuted-clause-whole
 returns-then-refuted-clause-whole g c =
-    on_ok _ c.end_lines.result (wrote c.args.form c.args.formula.now _ _ _ _ _ _ c.lines.checker c.lines.last c.lines.has_begun c.lines.invariant
-    (sym c.refuted.ensures.value ∙ c.if-refuted.true) c.end_lines.ensures.lrat c.end_lines.ensures.trim)
-
-pub returns-then-refuted-clause-beginning : goal.returns-then-refuted-clause-beginning
-returns-then-refuted-clause-beginning g c =
-    on_err _ c.end_lines.result (began c.args.form c.args.formula.now _ _ _ _ _ _ c.lines.checker c.lines.last c.lines.has_begun c.lines.invariant
-    c.end_lines.ensures.lrat c.end_lines.ensures.trim)
+    written c.args.form c.args.formula.now _ _ _ _ c.lines.checker c.lines.last c.lines.has_begun c.lines.invariant
 
 pub lines-init : goal.lines-init
 lines-init g c =
@@ -38,12 +22,12 @@ lines-init g c =
 
 pub returns-in-Err-steps_of-clause-beginning : goal.returns-in-Err-steps_of-clause-beginning
 returns-in-Err-steps_of-clause-beginning g c =
-    began c.args.form c.args.formula.now _ _ _ _ _ _ c.lines.checker c.lines.last c.lines.has_begun c.lines.invariant
+    began c.args.form c.args.formula.now _ _ _ _ c.lines.checker c.lines.last c.lines.has_begun c.lines.invariant _ _
     (Keeps-refl (bytes_in g.L.Write.contents c.lines.lrat)) (Keeps-refl (bytes_in g.L.Write.contents c.lines.trim))
 
 pub returns-in-Err-check_line-clause-beginning : goal.returns-in-Err-check_line-clause-beginning
 returns-in-Err-check_line-clause-beginning g c =
-    began c.args.form c.args.formula.now _ _ _ _ _ _ c.lines.checker c.lines.last c.lines.has_begun c.lines.invariant
+    began c.args.form c.args.formula.now _ _ _ _ c.lines.checker c.lines.last c.lines.has_begun c.lines.invariant _ _
     (Keeps-refl (bytes_in g.L.Write.contents c.lines.lrat)) (Keeps-refl (bytes_in g.L.Write.contents c.lines.trim))
 
 pub returns-in-Err-write_accepted-clause-beginning : goal.returns-in-Err-write_accepted-clause-beginning
@@ -62,14 +46,13 @@ returns-in-Err-write_steps-clause-beginning g c =
     (subst (AppendsBeginning (bytes_in g.L.Write.contents c.lines.trim) (bytes_in g.L.Write.contents c.write_steps.new.trim))
     c.deref.ensures.value c.in-Err-write_steps.ensures.beginning))
 
-pub returns-in-Ok-None-clause-beginning : goal.returns-in-Ok-None-clause-beginning
-returns-in-Ok-None-clause-beginning g c =
-    began c.args.form c.args.formula.now _ _ _ _ _ _ c.lines.checker c.lines.last c.lines.has_begun c.lines.invariant
-    (Keeps-refl (bytes_in g.L.Write.contents c.lines.lrat)) (Keeps-refl (bytes_in g.L.Write.contents c.lines.trim))
+pub returns-in-Ok-None-clause-whole : goal.returns-in-Ok-None-clause-whole
+returns-in-Ok-None-clause-whole g c =
+    written c.args.form c.args.formula.now _ _ _ _ c.lines.checker c.lines.last c.lines.has_begun c.lines.invariant
 
 pub returns-in-Err-next_line-clause-beginning : goal.returns-in-Err-next_line-clause-beginning
 returns-in-Err-next_line-clause-beginning g c =
-    began c.args.form c.args.formula.now _ _ _ _ _ _ c.lines.checker c.lines.last c.lines.has_begun c.lines.invariant
+    began c.args.form c.args.formula.now _ _ _ _ c.lines.checker c.lines.last c.lines.has_begun c.lines.invariant _ _
     (Keeps-refl (bytes_in g.L.Write.contents c.lines.lrat)) (Keeps-refl (bytes_in g.L.Write.contents c.lines.trim))
 
 pub lines-preserved : goal.lines-preserved
@@ -86,5 +69,5 @@ lines-preserved g c =
 
 pub returns-clause-beginning : goal.returns-clause-beginning
 returns-clause-beginning g c =
-    began c.args.form c.args.formula.now _ _ _ _ _ _ c.lines.checker c.lines.last c.lines.has_begun c.lines.invariant
+    began c.args.form c.args.formula.now _ _ _ _ c.lines.checker c.lines.last c.lines.has_begun c.lines.invariant _ _
     (Keeps-refl (bytes_in g.L.Write.contents c.lines.lrat)) (Keeps-refl (bytes_in g.L.Write.contents c.lines.trim))

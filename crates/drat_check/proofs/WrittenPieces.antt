@@ -1,0 +1,187 @@
+-- Lines of a piece of a proof that are accepted and written, without their steps, and what a verdict on the piece stands on.
+use Rattle.std.proofs.Common.{◌≡◌, ℕ, List, [], ◌∷◌, ◌++◌, length, Option, Some, None, Result, Ok, Err, false, refl, sym, ap, ◌∙◌, subst}
+use Rattle.std.specs.Prelude.{IfOk}
+use Rattle.std.specs.Option.{option_map}
+use Rattle.std.specs.Io.KnownBytes.{Appends, Keeps}
+use Rattle.std.proofs.KnownBytes.{Appends-kept, Appends-trans}
+use Rattle.whole_formulas.specs.Lies.{IsLie}
+use Rattle.whole_writes.specs.Beginnings.{AppendsBeginning}
+use Rattle.sat_rules.specs.Named.{NamedBy}
+use Rattle.lrat_rules.specs.Lines.{Hint, Line, adds}
+use Rattle.lrat_rules.specs.Stores.{find, formula_store}
+use Rattle.lrat_checker.specs.Standing.{IsReady}
+use Rattle.lrat_checker.specs.declared.checker.LratChecker.{LratChecker}
+use Rattle.sat_formula.specs.declared.counts.LyingHeader.{LyingHeader}
+use Rattle.sat_formula.specs.Lines as dimacs
+use Rattle.sat_formula.specs.Outcome.{Ended}
+use Rattle.sat_formula.specs.Whole.{IsOutcome}
+use Rattle.sat_output.specs.DratTexts.{steps_text}
+use Rattle.sat_output.specs.LineForms.{lines_in}
+use Rattle.sat_output.specs.declared.form.LineForm.{LineForm}
+use Rattle.sat_output.specs.declared.form.LineForm.TheVariants.{Text, Binary}
+use Rattle.sat_output.proofs.Beginnings.{begins_nothing, begins_past}
+use Rattle.verdicts.specs.declared.piece.PieceVerdict.{PieceVerdict}
+use Rattle.verdicts.specs.declared.piece.PieceVerdict.TheVariants.{Carried}
+use Rattle.drat_check.specs.declared.fault.RunFault.TheVariants.{Formula, Proof, Lrat, Trim, Core, Write}
+use Rattle.drat_check.specs.declared.piece_fault.PieceFault.{PieceFault}
+use Rattle.drat_check.specs.declared.piece_fault.PieceFault.TheVariants.{Run, Wanted, Lost}
+use Rattle.drat_check.specs.Outputs.{BeganLines, HasWritten}
+use Rattle.drat_check.specs.Pieces.{CarriesText, IsEarlyPiece, IsPieceRun, IsPieceShown, IsReadPieceRun, OfFormulas, TellsPieceLies, WritesEarly, WritesPiece, WritesRead, WritesShown, WrotePiece, LeftPiece}
+use Rattle.drat_check.specs.Runs.{OfFormula}
+use Rattle.drat_check.proofs.WrittenLines.{last_of, lines_in-more}
+
+abbrev Known : Type 0
+Known = Option (List ℕ)
+
+-- ---- lines without steps
+
+-- what stands of the writer of steps says nothing where there was none
+pub without_steps : (form : LineForm) (formula : List (List ℕ)) (lrat lrat' trim' : Known) (checker : LratChecker) →
+    HasWritten form formula lrat lrat' None trim' checker → HasWritten form formula lrat lrat' None None checker
+without_steps form formula lrat lrat' trim' checker p = record { lines = p.lines; ready = p.ready; text = p.text; trimmed = tt }
+
+pub began_without_steps : (form : LineForm) (formula : List (List ℕ)) (lrat lrat' trim' : Known) →
+    BeganLines form formula lrat lrat' None trim' → BeganLines form formula lrat lrat' None None
+began_without_steps form formula lrat lrat' trim' p = record {
+  lines = p.lines;
+  store = p.store;
+  accepted = p.accepted;
+  text = p.text;
+  trimmed = begins_nothing None (steps_text false (formula_store formula) p.lines);
+}
+
+module _ (form : LineForm) (formula : List (List ℕ)) (lrat lrat' lrat'' : Known) (checker next : LratChecker) (id last : ℕ) (c : List ℕ) (hints : List Hint)
+    (p : HasWritten form formula lrat lrat' None None checker) where
+  abbrev added : Line
+  added = adds id c hints
+
+  -- an addition is written alike behind any lines
+  with_addition : lines_in form (length formula) p.lines ++ lines_in form last (added ∷ []) ≡ lines_in form (length formula) (p.lines ++ added ∷ [])
+  with_addition = ap (λ (l : List ℕ). lines_in form (length formula) p.lines ++ l) (alike form) ∙ sym (lines_in-more form (length formula) p.lines added)
+    where
+      alike : (f : LineForm) → lines_in f last (added ∷ []) ≡ lines_in f (last_of (length formula) p.lines) (added ∷ [])
+      alike Text = refl
+      alike Binary = refl
+
+  pub one_added : IsReady formula (p.lines ++ added ∷ []) next → Appends lrat' lrat'' (lines_in form last (added ∷ [])) → HasWritten form formula lrat lrat'' None None next
+  one_added ready line = record {
+    lines = p.lines ++ added ∷ [];
+    ready = ready;
+    text = subst (Appends lrat lrat'') with_addition
+        (Appends-trans lrat lrat' lrat'' (lines_in form (length formula) p.lines) (lines_in form last (added ∷ [])) p.text line);
+    trimmed = tt;
+  }
+
+  pub began_addition : IsReady formula (p.lines ++ added ∷ []) next → AppendsBeginning lrat' lrat'' (lines_in form last (added ∷ [])) →
+      BeganLines form formula lrat lrat'' None None
+  began_addition ready line = record {
+    lines = p.lines ++ added ∷ [];
+    store = ready.accepted.store;
+    accepted = ready.accepted.ran;
+    text = subst (AppendsBeginning lrat lrat'') with_addition
+        (begins_past lrat lrat' lrat'' (lines_in form (length formula) p.lines) (lines_in form last (added ∷ [])) p.text line);
+    trimmed = begins_nothing None (steps_text false (formula_store formula) (p.lines ++ added ∷ []));
+  }
+
+-- ---- verdicts
+
+module _ (form : LineForm) (formula wanted : List (List ℕ)) (lrat lrat' lrat'' : Known) (checker : LratChecker)
+    (p : HasWritten form formula lrat lrat' None None checker) where
+  -- the ids name the wanted clauses in what the checker holds
+  pub wrote_piece : (ids : List ℕ) → NamedBy (find p.ready.accepted.store) ids wanted → Keeps lrat' lrat'' → WrotePiece form formula wanted lrat lrat''
+  wrote_piece ids named kept = record {
+    lines = p.lines;
+    store = p.ready.accepted.store;
+    ids = ids;
+    accepted = p.ready.accepted.ran;
+    named = named;
+    text = Appends-kept lrat lrat' lrat'' (lines_in form (length formula) p.lines) p.text kept;
+  }
+
+-- a run that ends with this verdict or a fault
+pub shown_by : (P : PieceVerdict → Type 0) (r : Result PieceVerdict PieceFault) (verdict : PieceVerdict) → IfOk r (λ x. x ≡ verdict) → P verdict → IfOk r P
+shown_by P (Ok x) verdict same p = subst P (sym same) p
+shown_by P (Err fault) verdict same p = tt
+
+pub ended : (form : LineForm) (formula wanted : List (List ℕ)) (lrat lrat' : Known) (r : Result PieceVerdict PieceFault) (verdict : PieceVerdict) →
+    IfOk r (λ x. x ≡ verdict) → WritesShown form formula wanted lrat lrat' verdict → BeganLines form formula lrat lrat' None None → WritesEarly form formula wanted lrat lrat' r
+ended form formula wanted lrat lrat' (Ok x) verdict same p began = subst (WritesShown form formula wanted lrat lrat') (sym same) p
+ended form formula wanted lrat lrat' (Err fault) verdict same p began = began
+
+-- ---- runs after two formulas
+
+-- a fault that came before the verdict's line
+pub early_run : (formula wanted : List (List ℕ)) (fault : PieceFault) → IsEarlyPiece {A = PieceVerdict} (Err fault) → IsReadPieceRun formula wanted (Err fault)
+early_run formula wanted (Run (Formula fault)) early = absurd early
+early_run formula wanted (Run (Proof fault)) early = tt
+early_run formula wanted (Run (Lrat cause)) early = tt
+early_run formula wanted (Run (Trim cause)) early = tt
+early_run formula wanted (Run (Core cause)) early = tt
+early_run formula wanted (Run (Write cause)) early = absurd early
+early_run formula wanted (Wanted fault) early = absurd early
+early_run formula wanted Lost early = tt
+
+module _ (form : LineForm) (formula wanted : List (List ℕ)) (lrat lrat' old new : Known) where
+  pub early_lines : (fault : PieceFault) → IsEarlyPiece {A = PieceVerdict} (Err fault) → BeganLines form formula lrat lrat' None None →
+      WritesRead form formula wanted lrat lrat' old new (Err fault)
+  early_lines (Run (Formula fault)) early began = absurd early
+  early_lines (Run (Proof fault)) early began = began
+  early_lines (Run (Lrat cause)) early began = began
+  early_lines (Run (Trim cause)) early began = began
+  early_lines (Run (Core cause)) early began = began
+  early_lines (Run (Write cause)) early began = absurd early
+  early_lines (Wanted fault) early began = absurd early
+  early_lines Lost early began = began
+
+-- ---- runs after the texts of two formulas
+
+module _ (cnf holds : Known) (formula wanted : List (List ℕ)) (whole : IsOutcome (option_map dimacs.outcome_of cnf) (formula, Ended))
+    (wanted_whole : IsOutcome (option_map dimacs.outcome_of holds) (wanted, Ended)) where
+  both : (P : List (List ℕ) → List (List ℕ) → Type 0) → P formula wanted → OfFormulas cnf holds P
+  both P p = record { formula = formula; whole = whole; holds = record { formula = wanted; whole = wanted_whole; holds = p } }
+
+  first : OfFormula cnf (λ formula. Unit {0})
+  first = record { formula = formula; whole = whole; holds = tt }
+
+  pub read_run : (r : Result PieceVerdict PieceFault) → IsReadPieceRun formula wanted r → IsPieceRun cnf holds r
+  read_run (Ok verdict) p = both (λ formula wanted. IsPieceShown formula wanted verdict) p
+  read_run (Err (Run (Formula fault))) p = absurd p
+  read_run (Err (Run (Proof fault))) p = first
+  read_run (Err (Run (Lrat cause))) p = first
+  read_run (Err (Run (Trim cause))) p = first
+  read_run (Err (Run (Core cause))) p = first
+  read_run (Err (Run (Write cause))) p = first
+  read_run (Err (Wanted fault)) p = absurd p
+  read_run (Err Lost) p = both (λ formula wanted. Unit {0}) tt
+
+  pub read_lines : (form : LineForm) (lrat lrat' old new : Known) (r : Result PieceVerdict PieceFault) → WritesRead form formula wanted lrat lrat' old new r →
+      WritesPiece form cnf holds lrat lrat' old new r
+  read_lines form lrat lrat' old new (Ok verdict) p = both (λ formula wanted. WritesShown form formula wanted lrat lrat' verdict) p
+  read_lines form lrat lrat' old new (Err (Run (Formula fault))) p = absurd p
+  read_lines form lrat lrat' old new (Err (Run (Proof fault))) p = both (λ formula wanted. BeganLines form formula lrat lrat' None None) p
+  read_lines form lrat lrat' old new (Err (Run (Lrat cause))) p = both (λ formula wanted. BeganLines form formula lrat lrat' None None) p
+  read_lines form lrat lrat' old new (Err (Run (Trim cause))) p = both (λ formula wanted. BeganLines form formula lrat lrat' None None) p
+  read_lines form lrat lrat' old new (Err (Run (Core cause))) p = both (λ formula wanted. BeganLines form formula lrat lrat' None None) p
+  read_lines form lrat lrat' old new (Err (Run (Write cause))) p = both (λ formula wanted. LeftPiece form formula wanted lrat lrat' old new) p
+  read_lines form lrat lrat' old new (Err (Wanted fault)) p = absurd p
+  read_lines form lrat lrat' old new (Err Lost) p = both (λ formula wanted. BeganLines form formula lrat lrat' None None) p
+
+  pub read_carries : (text other : List ℕ) → cnf ≡ Some text → holds ≡ Some other → IsReadPieceRun formula wanted (Ok Carried) → CarriesText text other
+  read_carries text other is is' p = (
+    formula,
+    subst (λ (k : Known). IsOutcome (option_map dimacs.outcome_of k) (formula, Ended)) is whole,
+    (wanted, subst (λ (k : Known). IsOutcome (option_map dimacs.outcome_of k) (wanted, Ended)) is' wanted_whole, p),
+  )
+
+-- what is told of both headers, once both formulas were read
+pub read_lies : (cnf holds : Known) (formula wanted : List (List ℕ)) (lie other : Option LyingHeader) (r : Result PieceVerdict PieceFault) →
+    IsLie cnf lie → IsLie holds other → IsReadPieceRun formula wanted r → TellsPieceLies cnf holds r lie other
+read_lies cnf holds formula wanted lie other (Ok verdict) p q read = (p, q)
+read_lies cnf holds formula wanted lie other (Err (Run (Formula fault))) p q read = absurd read
+read_lies cnf holds formula wanted lie other (Err (Run (Proof fault))) p q read = (p, q)
+read_lies cnf holds formula wanted lie other (Err (Run (Lrat cause))) p q read = (p, q)
+read_lies cnf holds formula wanted lie other (Err (Run (Trim cause))) p q read = (p, q)
+read_lies cnf holds formula wanted lie other (Err (Run (Core cause))) p q read = (p, q)
+read_lies cnf holds formula wanted lie other (Err (Run (Write cause))) p q read = (p, q)
+read_lies cnf holds formula wanted lie other (Err (Wanted fault)) p q read = absurd read
+read_lies cnf holds formula wanted lie other (Err Lost) p q read = (p, q)

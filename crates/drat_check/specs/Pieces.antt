@@ -1,0 +1,155 @@
+-- Runs over one piece of a proof, after a formula and the clauses that are wanted behind the piece.
+--     IsPieceShown formula wanted verdict      a verdict that says no more than is so
+--     OfFormulas cnf holds P      both texts are formulas of which this is so
+--     IsReadPieceRun, IsPieceRun      the run after two formulas, and after their texts
+--     CarriesText text other      the clauses of one text carry to those of the other
+--     IsEarlyPiece r, IsSilentPiece r      no fault of a formula or of the verdict's line;  no line of a verdict was begun
+--     WrotePiece      lines were written after which the wanted clauses are stored
+--     WritesShown, WritesEarly, WritesRead, WritesPiece      the lines that a run wrote: by its verdict, before its line, after two formulas, and after their texts
+--     TellsPieceLies      what is told of both headers
+use Rattle.std.specs.Prelude.{◌≡◌, ℕ, List, length, Option, Some, None, Result, Ok, Err}
+use Rattle.std.specs.Option.{option_map}
+use Rattle.std.specs.Io.KnownBytes.{Appends}
+use Rattle.sat_rules.specs.Named.{Item, NamedBy}
+use Rattle.lrat_rules.specs.Lines.{Line, run}
+use Rattle.lrat_rules.specs.Stores.{find, formula_store}
+use Rattle.piece_rules.specs.Carrying.{Carries}
+use Rattle.sat_formula.specs.declared.counts.LyingHeader.{LyingHeader}
+use Rattle.sat_formula.specs.Lines as dimacs
+use Rattle.sat_formula.specs.Outcome.{Ended}
+use Rattle.sat_formula.specs.Whole.{FailsAfter}
+use Rattle.sat_output.specs.LineForms.{lines_in}
+use Rattle.sat_output.specs.declared.form.LineForm.{LineForm}
+use Rattle.whole_formulas.specs.Lies.{IsLie}
+use Rattle.whole_writes.specs.Beginnings.{AppendsBeginning}
+use Rattle.verdicts.specs.Pieces.{piece_line}
+use Rattle.verdicts.specs.declared.piece.PieceVerdict.{PieceVerdict}
+use Rattle.verdicts.specs.declared.piece.PieceVerdict.TheVariants.{Refuted, Carried, NotCarried}
+use Rattle.drat_check.specs.declared.fault.RunFault.TheVariants.{Formula, Proof, Lrat, Trim, Core, Write}
+use Rattle.drat_check.specs.declared.piece_fault.PieceFault.{PieceFault}
+use Rattle.drat_check.specs.declared.piece_fault.PieceFault.TheVariants.{Run, Wanted, Lost}
+use Rattle.drat_check.specs.Outputs.{BeganLines, WroteProof}
+use Rattle.drat_check.specs.Runs.{IsCheckRun, IsEarly, IsProofRun, IsSilent, IsUnsatisfiable, OfFormula}
+
+-- where it is refuted, no assignment satisfies the formula; where it is carried, some one satisfies the wanted clauses, if one does the formula
+abbrev pub IsPieceShown : List (List ℕ) → List (List ℕ) → PieceVerdict → Type 0
+IsPieceShown formula wanted Refuted = IsUnsatisfiable formula
+IsPieceShown formula wanted Carried = Carries formula wanted
+IsPieceShown formula wanted NotCarried = Unit {0}
+
+-- both whole texts are formulas of which this is so
+abbrev pub OfFormulas : Option (List ℕ) → Option (List ℕ)
+    → (List (List ℕ) → List (List ℕ) → Type 0) → Type 0
+OfFormulas cnf holds P = OfFormula cnf (λ formula. OfFormula holds (P formula))
+
+-- the verdict says no more than is so; the formulas were there
+abbrev pub IsReadPieceRun : List (List ℕ) → List (List ℕ) → Result PieceVerdict PieceFault → Type 0
+IsReadPieceRun formula wanted (Ok verdict) = IsPieceShown formula wanted verdict
+IsReadPieceRun formula wanted (Err (Run fault)) = IsProofRun formula (Err fault)
+IsReadPieceRun formula wanted (Err (Wanted fault)) = ⊥
+IsReadPieceRun formula wanted (Err Lost) = Unit {0}
+
+-- the run over all texts: a formula that was not read whole is answered, the first one first
+abbrev pub IsPieceRun : Option (List ℕ) → Option (List ℕ) → Result PieceVerdict PieceFault → Type 0
+IsPieceRun cnf holds (Ok verdict) = OfFormulas cnf holds (λ formula wanted. IsPieceShown formula wanted verdict)
+IsPieceRun cnf holds (Err (Run fault)) = IsCheckRun cnf (Err fault)
+IsPieceRun cnf holds (Err (Wanted fault)) = OfFormula cnf (λ formula. (clauses : List (List ℕ))
+    × FailsAfter (option_map dimacs.outcome_of holds) clauses fault)
+IsPieceRun cnf holds (Err Lost) = OfFormulas cnf holds (λ formula wanted. Unit {0})
+
+-- both texts have no fault, and the clauses of the first carry to those of the second
+abbrev pub CarriesText : List ℕ → List ℕ → Type 0
+CarriesText text other = (clauses : List (List ℕ)) × (dimacs.outcome_of text ≡ (clauses, Ended))
+    × ((wanted : List (List ℕ)) × (dimacs.outcome_of other ≡ (wanted, Ended))
+    × Carries clauses wanted)
+
+-- no fault but one that comes before the verdict's line and after the formulas
+abbrev pub IsEarlyPiece : {A : Type 0} → Result A PieceFault → Type 0
+IsEarlyPiece (Ok x) = Unit {0}
+IsEarlyPiece (Err (Run fault)) = IsEarly (Err fault)
+IsEarlyPiece (Err (Wanted fault)) = ⊥
+IsEarlyPiece (Err Lost) = Unit {0}
+
+-- no line of a verdict was begun
+abbrev pub IsSilentPiece : Result PieceVerdict PieceFault → Type 0
+IsSilentPiece (Ok verdict) = ⊥
+IsSilentPiece (Err (Run fault)) = IsSilent (Err fault)
+IsSilentPiece (Err (Wanted fault)) = Unit {0}
+IsSilentPiece (Err Lost) = Unit {0}
+
+-- ---- the lines that are written
+
+-- lines that the checker's rules accept were written, and after them each wanted clause is stored under an id
+pub record WrotePiece (form : LineForm) (formula wanted : List (List ℕ)) (lrat lrat' : Option (List ℕ)) : Type 0 where
+  pub lines : List Line
+  pub store : List Item
+  pub ids : List ℕ
+  pub accepted : run (formula_store formula) lines ≡ Some store
+  pub named : NamedBy (find store) ids wanted
+  pub text : Appends lrat lrat' (lines_in form (length formula) lines)
+
+module _ (form : LineForm) (formula wanted : List (List ℕ)) (lrat lrat' : Option (List ℕ)) where
+  -- what the verdict stands on was written, where it says anything
+  abbrev pub WritesShown : PieceVerdict → Type 0
+  WritesShown Refuted = WroteProof form formula lrat lrat' None None
+  WritesShown Carried = WrotePiece form formula wanted lrat lrat'
+  WritesShown NotCarried = lrat' ≡ lrat
+
+  -- what was written before the verdict's line
+  abbrev pub WritesEarly : Result PieceVerdict PieceFault → Type 0
+  WritesEarly (Ok verdict) = WritesShown verdict
+  WritesEarly (Err fault) = BeganLines form formula lrat lrat' None None
+
+  -- one verdict stood, which says no more than is so: what it stands on was written, and a beginning of its line
+  pub record LeftPiece (old new : Option (List ℕ)) : Type 0 where
+    pub verdict : PieceVerdict
+    pub shown : IsPieceShown formula wanted verdict
+    pub stands : WritesShown verdict
+    pub begins : AppendsBeginning old new (piece_line verdict)
+
+  -- what a run wrote; of the verdict's line that which a write that failed has left
+  abbrev pub WritesRead : Option (List ℕ) → Option (List ℕ) → Result PieceVerdict PieceFault → Type 0
+  WritesRead old new (Ok verdict) = WritesShown verdict
+  WritesRead old new (Err (Wanted fault)) = ⊥
+  WritesRead old new (Err Lost) = BeganLines form formula lrat lrat' None None
+  WritesRead old new (Err (Run (Formula fault))) = ⊥
+  WritesRead old new (Err (Run (Proof fault))) = BeganLines form formula lrat lrat' None None
+  WritesRead old new (Err (Run (Lrat cause))) = BeganLines form formula lrat lrat' None None
+  WritesRead old new (Err (Run (Trim cause))) = BeganLines form formula lrat lrat' None None
+  WritesRead old new (Err (Run (Core cause))) = BeganLines form formula lrat lrat' None None
+  WritesRead old new (Err (Run (Write cause))) = LeftPiece old new
+
+-- the same after both texts; nothing is written where one is no formula
+abbrev pub WritesPiece : LineForm → Option (List ℕ) → Option (List ℕ) → Option (List ℕ) → Option (List ℕ)
+    → Option (List ℕ) → Option (List ℕ) → Result PieceVerdict PieceFault → Type 0
+WritesPiece form cnf holds lrat lrat' old new (Ok verdict) = OfFormulas cnf holds (λ formula wanted.
+    WritesShown form formula wanted lrat lrat' verdict)
+WritesPiece form cnf holds lrat lrat' old new (Err (Wanted fault)) = lrat' ≡ lrat
+WritesPiece form cnf holds lrat lrat' old new (Err Lost) = OfFormulas cnf holds (λ formula wanted.
+    BeganLines form formula lrat lrat' None None)
+WritesPiece form cnf holds lrat lrat' old new (Err (Run (Formula fault))) = lrat' ≡ lrat
+WritesPiece form cnf holds lrat lrat' old new (Err (Run (Proof fault))) = OfFormulas cnf holds
+    (λ formula wanted. BeganLines form formula lrat lrat' None None)
+WritesPiece form cnf holds lrat lrat' old new (Err (Run (Lrat cause))) = OfFormulas cnf holds
+    (λ formula wanted. BeganLines form formula lrat lrat' None None)
+WritesPiece form cnf holds lrat lrat' old new (Err (Run (Trim cause))) = OfFormulas cnf holds
+    (λ formula wanted. BeganLines form formula lrat lrat' None None)
+WritesPiece form cnf holds lrat lrat' old new (Err (Run (Core cause))) = OfFormulas cnf holds
+    (λ formula wanted. BeganLines form formula lrat lrat' None None)
+WritesPiece form cnf holds lrat lrat' old new (Err (Run (Write cause))) = OfFormulas cnf holds
+    (λ formula wanted. LeftPiece form formula wanted lrat lrat' old new)
+
+-- ---- headers
+
+-- what both headers lie about, of each where the formula was read whole; else nothing
+abbrev pub TellsPieceLies : Option (List ℕ) → Option (List ℕ) → Result PieceVerdict PieceFault
+    → Option LyingHeader → Option LyingHeader → Type 0
+TellsPieceLies cnf holds (Ok verdict) lie other = IsLie cnf lie × IsLie holds other
+TellsPieceLies cnf holds (Err (Wanted fault)) lie other = IsLie cnf lie × (other ≡ None)
+TellsPieceLies cnf holds (Err Lost) lie other = IsLie cnf lie × IsLie holds other
+TellsPieceLies cnf holds (Err (Run (Formula fault))) lie other = lie ≡ None
+TellsPieceLies cnf holds (Err (Run (Proof fault))) lie other = IsLie cnf lie × IsLie holds other
+TellsPieceLies cnf holds (Err (Run (Lrat cause))) lie other = IsLie cnf lie × IsLie holds other
+TellsPieceLies cnf holds (Err (Run (Trim cause))) lie other = IsLie cnf lie × IsLie holds other
+TellsPieceLies cnf holds (Err (Run (Core cause))) lie other = IsLie cnf lie × IsLie holds other
+TellsPieceLies cnf holds (Err (Run (Write cause))) lie other = IsLie cnf lie × IsLie holds other

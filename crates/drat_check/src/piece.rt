@@ -1,0 +1,245 @@
+//! Runs over one piece of a proof: its lines carry a formula to the clauses that are wanted behind
+//! them.
+ghost use Rattle.std.specs.Prelude.{◌≡◌, ℕ, List, Some, Ok, IfOk};
+ghost use Rattle.std.specs.Io.KnownBytes.{Appends, Keeps};
+ghost use Rattle.sat_formula.specs.Refuted.{IsRefuted};
+ghost use Rattle.drat_check.specs.Outputs.{bytes_in};
+ghost use Rattle.drat_check.specs.Pieces.{CarriesText, IsEarlyPiece, IsPieceRun, IsPieceShown, IsReadPieceRun, IsSilentPiece, TellsPieceLies, WritesEarly, WritesPiece, WritesRead};
+ghost use Rattle.verdicts.specs.Pieces.{piece_line};
+ghost use Rattle.verdicts.specs.declared.piece.PieceVerdict.TheVariants.{Refuted, Carried};
+
+use crate::counts::{RunCounts, count_core};
+use crate::fault::{ProofFault, RunFault};
+use crate::outputs::{flush, write_lines};
+use crate::piece_fault::{MissingClause, PieceFault};
+use crate::proof::{elaborate, read_proof};
+use crate::reader::ProofFormat;
+use crate::stored::stored_ids;
+use drat_elaborate::Elaborator;
+use log::Log;
+use sat_formula::{CnfFormula, LyingHeader};
+use sat_output::LineForm;
+use std::alloc::Global;
+use std::cell::Cell;
+use std::io::{Read, Write};
+use verdicts::{PieceVerdict, write_piece_line};
+use whole_formulas::read_formula;
+
+/// What a run over a piece writes, counts and tells beside its verdict.
+#[derive(Drop)]
+pub struct PieceOutputs<L> {
+    /// The lines of the LRAT proof, where there is a writer for them.
+    pub lrat: Option<L>,
+    /// How these lines are written.
+    pub form: LineForm,
+    /// What was counted so far. No clause speaks of it.
+    pub counts: Cell<RunCounts>,
+    /// The first wanted clause that is not there, where the verdict is that. No clause speaks of
+    /// it.
+    pub missing: Option<MissingClause>,
+    /// What the formula's header lies about.
+    pub lie: Option<LyingHeader>,
+    /// What the header of the wanted clauses lies about.
+    pub wanted_lie: Option<LyingHeader>,
+}
+
+/// Reads a formula and the clauses that are wanted behind a piece of a proof, both in DIMACS CNF,
+/// checks the piece, and writes the verdict's line.
+///
+/// The verdict is `Carried` where the piece comes to no conflict and each wanted clause is there
+/// behind it: then some assignment satisfies all of them, if one satisfies the formula. A clause
+/// that has the same literals in another order is added as it is wanted, by a line of its own.
+/// Where a step can't be read, or one that is needed is not right, no line is written. A write that
+/// fails ends the run; where it is that of the verdict's line, the verdict stood.
+pub fn run_piece<R: Log, F: Read + Drop, G: Read + Drop, P: Read + Drop, W: Write, L: Write + Drop>(
+    rt: &R,
+    alloc: Global,
+    cnf: F,
+    holds: G,
+    piece: P,
+    format: ProofFormat,
+    outputs: &mut PieceOutputs<L>,
+    out: &mut W,
+) -> Result<PieceVerdict, PieceFault>
+    ensures run { IsPieceRun (F.remaining cnf) (G.remaining holds) result }
+    ensures line { IfOk result (λ verdict.
+        Appends (W.contents out.old) (W.contents out.new) (piece_line verdict)) }
+    ensures silent { IsSilentPiece result → out.new ≡ out.old }
+    ensures lines { WritesPiece outputs.old.form (F.remaining cnf) (G.remaining holds)
+        (bytes_in L.contents outputs.old.lrat) (bytes_in L.contents outputs.new.lrat)
+        (W.contents out.old) (W.contents out.new) result }
+    ensures carries { (text other : List ℕ) → F.remaining cnf ≡ Some text
+        → G.remaining holds ≡ Some other → result ≡ Ok Carried → CarriesText text other }
+    ensures refutes { (text : List ℕ) → F.remaining cnf ≡ Some text
+        → result ≡ Ok Refuted → IsRefuted text }
+    ensures lies { TellsPieceLies (F.remaining cnf) (G.remaining holds) result
+        outputs.new.lie outputs.new.wanted_lie }
+{
+    let formula = match read_formula(alloc, cnf, &mut outputs.lie) {
+        Ok(formula) => formula,
+        Err(fault) => return Err(PieceFault::Run(RunFault::Formula(fault))),
+    };
+    let wanted = match read_formula(alloc, holds, &mut outputs.wanted_lie) {
+        Ok(wanted) => wanted,
+        Err(fault) => return Err(PieceFault::Wanted(fault)),
+    };
+    let form = outputs.form;
+    let PieceOutputs {
+        lrat,
+        counts,
+        missing,
+        ..
+    } = outputs;
+    run_read_piece(
+        rt, alloc, &formula, &wanted, piece, format, lrat, form, counts, missing, out,
+    )
+}
+
+/// The same after both formulas.
+fn run_read_piece<R: Log, P: Read + Drop, W: Write, L: Write + Drop>(
+    rt: &R,
+    alloc: Global,
+    formula: &CnfFormula,
+    wanted: &CnfFormula,
+    piece: P,
+    format: ProofFormat,
+    lrat: &mut Option<L>,
+    form: LineForm,
+    counts: &Cell<RunCounts>,
+    missing: &mut Option<MissingClause>,
+    out: &mut W,
+) -> Result<PieceVerdict, PieceFault>
+    ensures run { IsReadPieceRun formula.now wanted.now result }
+    ensures line { IfOk result (λ verdict.
+        Appends (W.contents out.old) (W.contents out.new) (piece_line verdict)) }
+    ensures silent { IsSilentPiece result → out.new ≡ out.old }
+    ensures lines { WritesRead form formula.now wanted.now
+        (bytes_in L.contents lrat.old) (bytes_in L.contents lrat.new)
+        (W.contents out.old) (W.contents out.new) result }
+{
+    let verdict = match judge_piece(
+        rt, alloc, formula, wanted, piece, format, lrat, form, counts, missing,
+    ) {
+        Ok(verdict) => verdict,
+        Err(fault) => return Err(fault),
+    };
+    rt.flush();
+    match write_piece_line(out, verdict) {
+        Ok(()) => Ok(verdict),
+        Err(fault) => Err(PieceFault::Run(RunFault::Write(fault))),
+    }
+}
+
+/// What a piece shows, once what it stands on is written.
+fn judge_piece<R: Log, P: Read + Drop, L: Write + Drop>(
+    rt: &R,
+    alloc: Global,
+    formula: &CnfFormula,
+    wanted: &CnfFormula,
+    piece: P,
+    format: ProofFormat,
+    lrat: &mut Option<L>,
+    form: LineForm,
+    counts: &Cell<RunCounts>,
+    missing: &mut Option<MissingClause>,
+) -> Result<PieceVerdict, PieceFault>
+    ensures shown { IfOk result (IsPieceShown formula.now wanted.now) }
+    ensures early { IsEarlyPiece result }
+    ensures lines { WritesEarly form formula.now wanted.now
+        (bytes_in L.contents lrat.old) (bytes_in L.contents lrat.new) result }
+{
+    let mut elaborator = match read_proof(alloc, formula, piece, format, counts) {
+        Ok(elaborator) => elaborator,
+        Err(fault) => return Err(PieceFault::Run(RunFault::Proof(fault))),
+    };
+    *missing = match first_missing(alloc, &mut elaborator, wanted) {
+        Ok(missing) => missing,
+        Err(fault) => return Err(PieceFault::Run(RunFault::Proof(fault))),
+    };
+    if missing.is_some() {
+        return Ok(PieceVerdict::NotCarried);
+    }
+    match elaborate(rt, &mut elaborator) {
+        Ok(()) => show_piece(alloc, formula, wanted, &mut elaborator, lrat, form, counts),
+        Err(fault) => Err(PieceFault::Run(RunFault::Proof(fault))),
+    }
+}
+
+/// Wants the clauses behind the last step, where there is no conflict. The answer is the first one
+/// that is not there.
+fn first_missing(
+    alloc: Global,
+    elaborator: &mut Elaborator,
+    wanted: &CnfFormula,
+) -> Result<Option<MissingClause>, ProofFault> {
+    if elaborator.is_refuted() {
+        return Ok(None);
+    }
+    elaborator.end_piece();
+    let mut number: u64 = 0;
+    for clause in wanted {
+        number = number.saturating_add(1);
+        if !elaborator.want(clause)? {
+            let lits = clause.to_vec(alloc)?;
+            return Ok(Some(MissingClause { number, lits }));
+        }
+    }
+    Ok(None)
+}
+
+/// Hands the elaborated lines to a checker that holds the formula. It decides what they show.
+fn show_piece<L: Write + Drop>(
+    alloc: Global,
+    formula: &CnfFormula,
+    wanted: &CnfFormula,
+    elaborator: &mut Elaborator,
+    lrat: &mut Option<L>,
+    form: LineForm,
+    counts: &Cell<RunCounts>,
+) -> Result<PieceVerdict, PieceFault>
+    ensures shown { IfOk result (IsPieceShown formula.now wanted.now) }
+    ensures early { IsEarlyPiece result }
+    ensures lines { WritesEarly form formula.now wanted.now
+        (bytes_in L.contents lrat.old) (bytes_in L.contents lrat.new) result }
+{
+    let mut no_steps: Option<L> = None;
+    let mut checker = match write_lines(
+        alloc,
+        formula,
+        elaborator,
+        lrat,
+        form,
+        &mut no_steps,
+        counts,
+    ) {
+        Ok(checker) => checker,
+        Err(fault) => return Err(PieceFault::Run(fault)),
+    };
+    count_core(counts, formula, elaborator);
+    if checker.refuted() {
+        return end_lines(lrat, PieceVerdict::Refuted);
+    }
+    let ids = match stored_ids(alloc, &mut checker, elaborator, wanted, lrat, form, counts) {
+        Ok(ids) => ids,
+        Err(fault) => return Err(fault),
+    };
+    if !checker.holds(wanted, &ids) {
+        return Err(PieceFault::Lost);
+    }
+    end_lines(lrat, PieceVerdict::Carried)
+}
+
+/// Writes what the writer of lines holds back, and answers the verdict.
+fn end_lines<L: Write>(
+    lrat: &mut Option<L>,
+    verdict: PieceVerdict,
+) -> Result<PieceVerdict, PieceFault>
+    ensures verdict { IfOk result (λ answer. answer ≡ verdict) }
+    ensures kept { Keeps (bytes_in L.contents lrat.old) (bytes_in L.contents lrat.new) }
+    ensures early { IsEarlyPiece result }
+{
+    match flush(lrat) {
+        Ok(()) => Ok(verdict),
+        Err(fault) => Err(PieceFault::Run(RunFault::Lrat(fault))),
+    }
+}
