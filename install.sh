@@ -48,7 +48,7 @@ fi
 work=$(mktemp -d)
 trap 'rm -rf "$work"' EXIT
 mapfile -t programs < <(sed -n 's/^\([a-z0-9_]*\)_main:.*/\1/p' "$top/crates.txt")
-tools=(checked cubes proof_picture sessions)
+tools=(checked cubes pieces proof_picture sessions)
 
 # built CRATE: builds a program, and says where it is
 built() {

@@ -58,7 +58,7 @@ run() {
 }
 export -f run
 export told
-printf '%s\n' portable slurm sessions cubes end_to_end refused_growths failing_files drat_fuzz drat_solvers drat_outputs frat large_formulas bindings \
+printf '%s\n' portable slurm sessions cubes pieces end_to_end refused_growths failing_files drat_fuzz drat_solvers drat_outputs frat large_formulas bindings \
   lrat_fuzz named_files log_lines examples checked definitions proof_picture solver_runs install prove_and_run release memory model_check |
   xargs -P "$(nproc)" -I SCRIPT bash -c 'run SCRIPT'
 

@@ -166,7 +166,7 @@ ends 1 '' env MODEL_CHECK=true checked finder other.cnf
 ends 2 '' checked
 ends 2 '' checked four.cnf
 ends 2 '' checked --loud refuter four.cnf
-because 'usage: checked [--keep FILE] SOLVER [OPTION..] FORMULA'
+because 'usage: checked [--keep FILE | --while] SOLVER [OPTION..] FORMULA'
 ends 2 '' checked --keep
 ends 2 '' checked refuter none.cnf
 because 'cannot open none.cnf'
@@ -176,7 +176,7 @@ because 'cannot run no_such_solver'
 ends 2 '' env DRAT_CHECK=./none checked refuter four.cnf
 ends 2 '' checked --keep none/kept refuter four.cnf
 ends 2 '' checked --keep four.cnf refuter four.cnf
-if [[ $(checked --help | head -n 1) != 'usage: checked [--keep FILE] SOLVER [OPTION..] FORMULA' ]]; then
+if [[ $(checked --help | head -n 1) != 'usage: checked [--keep FILE | --while] SOLVER [OPTION..] FORMULA' ]]; then
   echo "checked --help: $(checked --help)"
   wrong=1
 fi

@@ -1,6 +1,6 @@
 #!/usr/bin/env bash
-# The array of docs/SCALE.md, by a Slurm of its own on this machine (Debian: slurm-wlm munge cadical): 64 cubes, in arrays of at
-# most 20 tasks; a task that is cancelled, a solver that is killed, a damaged proof, and going on.
+# The arrays of docs/SCALE.md, by a Slurm of its own on this machine (Debian: slurm-wlm munge cadical): 64 cubes, in arrays of at
+# most 20 tasks; a task that is cancelled, a solver that is killed, a damaged proof, and going on; and one proof in pieces.
 #
 # The programs must be built: `rt ci` does it, or `rt run` in their folders. Its daemons (munged, slurmctld, slurmd) run in the
 # foreground as children of this script, with ports, keys and folders of their own, and each is ended by its id.
@@ -30,7 +30,7 @@ end() {
 }
 trap end EXIT
 mkdir "$work/bin" "$work/slurm" "$work/slurm/"{state,spool}
-for program in drat_check lrat_check model_check; do
+for program in drat_check drat_cut lrat_check model_check; do
   built=$top/crates/${program}_main/out/${program}_main
   if [[ ! -x $built ]]; then
     echo "not built: $built"
@@ -38,7 +38,7 @@ for program in drat_check lrat_check model_check; do
   fi
   ln -s "$built" "$work/bin/$program"
 done
-ln -s "$top/tools/cubes" "$work/bin/cubes"
+ln -s "$top/tools/cubes" "$top/tools/pieces" "$work/bin"
 solver=$(command -v cadical)
 export PATH=$work/bin:$PATH SLURM_CONF=$work/slurm/slurm.conf
 cd "$work"
@@ -206,4 +206,23 @@ if [[ $(cat left.*) != '7 closing' ]]; then
   echo "not one task of two parts: $(cat left.*)"
   wrong=1
 fi
+
+# One proof in pieces, in arrays of at most five tasks; then one piece that was damaged, and what is left.
+block 'sh piece.sh' > piece.sh
+block 'sh submit_pieces.sh' | sed 's/-l 1000/-l 5/' > submit_pieces.sh
+"$solver" -q formula.cnf proof.drat > said || true
+pieces cut formula.cnf proof.drat pieces --lemmas 2000 > said
+count=$(cat pieces/count)
+whole="all pieces are verified: $count, and the last one is refuted: s VERIFIED UNSAT"
+submits "$whole" bash submit_pieces.sh || wrong=1
+if ((count < 6)) || [[ $(cat left.* | wc -l) != "$count" || $(ls left.* | wc -l) == 1 ]]; then
+  echo "not $count pieces in several arrays: $(ls left.*)"
+  wrong=1
+fi
+cp pieces/2.drat kept
+head -n 5 kept > pieces/2.drat
+rm pieces/2.checked
+submits $'2: not verified\n'"1 of $count pieces are not verified" bash submit_pieces.sh || wrong=1
+cp kept pieces/2.drat
+submits "$whole" bash submit_pieces.sh || wrong=1
 exit "$wrong"

@@ -16,7 +16,7 @@ import tempfile
 
 BLOCK = re.compile(r"^```\n(\$ .*?)^```$", re.MULTILINE | re.DOTALL)
 HELP_EXAMPLE = re.compile(r"^  \S.*:\n      (\S.*)$", re.MULTILINE)
-TOOLS = ("checked", "cubes", "proof_picture")
+TOOLS = ("checked", "cubes", "pieces", "proof_picture")
 
 # Files for the calls of `--help`: a formula that can't be satisfied with its proofs, and for `model_check` one that can be.
 REFUTED = b"p cnf 2 4\n1 2 0\n1 -2 0\n-1 2 0\n-1 -2 0\n"
@@ -67,6 +67,8 @@ def furnish(room, program):
         "answer": ANSWER,
         "cubes.txt": b"1 0\n-1 0\n",
         **{f"parts/{part}.drat": b"0\n" for part in ("1", "2", "closing")},
+        "pieces/1.drat": DRAT,
+        "pieces/count": b"1\n",
         "bin/written": written,
         "bin/solver": b'#!/bin/sh\nexec cat "$(dirname "$0")/written"\n',
         "bin/cadical": CADICAL.encode(),

@@ -1,0 +1,305 @@
+#!/usr/bin/env bash
+# One DRAT proof in pieces, by `drat_cut`, `drat_check --holds` and `tools/pieces`: a proof by hand, pieces that are missing, damaged,
+# of another proof or behind clauses that were changed, and a run that is interrupted; a proof while it is written, by `pieces run` and
+# `checked --while`; some hundred random proofs against the whole; and where cadical is there, the commands of docs/SCALE.md.
+#
+#   tests/pieces.sh [COUNT [SEED]]    so many random proofs
+#
+# The programs must be built: `rt ci` does it, or `rt run` in their folders.
+set -euo pipefail
+
+top=$(cd "$(dirname "$0")/.." && pwd)
+work=$(mktemp -d)
+trap 'rm -rf "$work"' EXIT
+mkdir "$work/bin" "$work/room"
+for program in drat_cut drat_check model_check; do
+  built=$top/crates/${program}_main/out/${program}_main
+  if [[ ! -x $built ]]; then
+    echo "not built: $built"
+    exit 1
+  fi
+  ln -s "$built" "$work/bin/$program"
+done
+ln -s "$top/tools/pieces" "$top/tools/checked" "$work/bin"
+export PATH=$work/bin:$PATH TMPDIR=$work/room
+cd "$work"
+wrong=0
+
+has() {
+  command -v "$1" > where || {
+    echo "$1 is not installed: not tried"
+    return 1
+  }
+}
+
+# says STATUS OUTPUT COMMAND..: the call must end so, and write this to both streams together
+says() {
+  local status=0 said
+  said=$("${@:3}" 2>&1) || status=$?
+  if [[ $status != "$1" || $said != "$2" ]]; then
+    printf '%s: status %d, it wrote:\n%s\n' "${*:3}" "$status" "$said"
+    wrong=1
+  fi
+}
+
+# fails STATUS WORDS COMMAND..: the call must end so, and these words be in what it writes
+fails() {
+  local status=0 said
+  said=$("${@:3}" 2>&1) || status=$?
+  if [[ $status != "$1" || $said != *"$2"* ]]; then
+    printf '%s: status %d, without "%s" it wrote:\n%s\n' "${*:3}" "$status" "$2" "$said"
+    wrong=1
+  fi
+}
+
+# same FILE TEXT: the file must hold this
+same() {
+  if [[ $(cat "$1") != "$2" ]]; then
+    printf '%s holds:\n%s\n' "$1" "$(cat "$1")"
+    wrong=1
+  fi
+}
+
+# All clauses over three variables, and a tautology; they are resolved pair by pair, and what was resolved is deleted. A deletion of
+# what is not there takes no effect, nor does a lemma that is a tautology; a literal that comes again is written once.
+printf 'c eight\np cnf 3 9\n1 2 3 0\n1 2 -3 0\n1 -2 3 0\n1 -2 -3 0\n-1 2 3 0\n-1 2 -3 0\n-1 -2 3 0\n-1 -2 -3 0\n1 -1 0\n' > eight.cnf
+cat > eight.drat << 'END'
+1 2 0
+1 2 1 -2 0
+d 1 2 3 0
+d 1 2 -3 0
+1 -2 1 0
+d -2 3 1 0
+d 1 -2 -3 0
+-1 2 0
+d 2 3 0
+d -1 2 3 0
+d -1 2 -3 0
+-1 -2 0
+1 0
+0
+END
+says 0 $'piece 1: 3 lemmas, 5 clauses live behind it\npiece 2: 2 lemmas, 7 clauses live behind it' \
+  drat_cut eight.cnf eight.drat cut. --lemmas 1
+rest=$'-1 -2 3 0\n-1 -2 -3 0'
+same cut.1.drat $'1 2 0\nd 1 2 3 0\nd 1 2 -3 0\n1 -2 0\nd -2 3 1 0\nd 1 -2 -3 0\n-1 2 0\nd -1 2 3 0\nd -1 2 -3 0'
+same cut.2.drat $'-1 -2 0\n1 0'
+same <(sort cut.2.cnf) "$(printf '%s\n' 'p cnf 3 5' "$rest" '1 2 0' '1 -2 0' '-1 2 0' | sort)"
+same <(sort cut.1.cnf) "$(printf '%s\n' 'p cnf 3 8' "$(sed -n '3,10p' eight.cnf)" | sort)"
+says 0 's VERIFIED PIECE' drat_check eight.cnf cut.1.drat --holds cut.2.cnf
+says 0 's VERIFIED UNSAT' drat_check cut.2.cnf cut.2.drat
+
+# Nothing is written over what is read, and what is not whole has no name.
+cp eight.cnf own.1.cnf
+fails 2 'the output is a file that is read' drat_cut own.1.cnf eight.drat own.
+cmp -s eight.cnf own.1.cnf || { echo 'own.1.cnf was changed'; wrong=1; }
+head -n 9 eight.drat > short
+printf '1 x' >> short
+fails 1 'proof: step 10: malformed' drat_cut eight.cnf short own2. --lemmas 1
+says 0 'own2.1.cnf' ls own2.*
+says 3 'piece 1: 3 lemmas, 5 clauses live behind it' drat_cut eight.cnf <(head -n 11 eight.drat) open. --lemmas 1
+
+# the same by `pieces`, into a folder in which others lie
+mkdir two
+touch two/notes two/17.checked two/9.drat
+cut=(pieces cut eight.cnf eight.drat two --lemmas 1)
+says 0 'cut into 2 pieces' "${cut[@]}"
+says 0 $'1.cnf\n1.drat\n2.cnf\n2.drat\ncount\nnotes' ls two
+unverified=$'1: not verified\n2: not verified\n2 of 2 pieces are not verified'
+says 1 "$unverified" pieces report eight.cnf two
+says 0 $'1\n2' pieces left eight.cnf two
+says 0 '' pieces check eight.cnf two 1
+says 0 '2' pieces left eight.cnf two
+says 1 $'2: not verified\n1 of 2 pieces are not verified' pieces report eight.cnf two
+says 0 '' pieces check eight.cnf two 2
+whole='all pieces are verified: 2, and the last one is refuted: s VERIFIED UNSAT'
+says 0 "$whole" pieces report eight.cnf two
+says 0 '' pieces left eight.cnf two
+
+# what is kept is of these clauses alone: of this formula, and of the clauses that the neighbour has
+sed 5d eight.cnf > seven.cnf
+says 1 $'1: what is kept is of another formula\n1 of 2 pieces are not verified' pieces report seven.cnf two
+fails 1 '1: two/1.drat is refused' pieces check seven.cnf two 1
+says 1 $'1: not verified\n1 of 2 pieces are not verified' pieces report eight.cnf two
+says 0 '' pieces check eight.cnf two 1
+cp two/2.cnf kept
+sed -i 's/^1 -2 0$/1 2 0/' two/2.cnf
+says 0 "$whole" pieces report eight.cnf two
+fails 1 '2: two/2.drat is refused' pieces check eight.cnf two 2
+says 1 $'2: not verified\n1 of 2 pieces are not verified' pieces report eight.cnf two
+# a literal is turned: the piece before does not hold the clause, and the one behind is of clauses that can be satisfied
+sed 's/^-1 2 0$/-1 -2 0/' kept > two/2.cnf
+fails 1 '1: two/1.drat is refused' pieces check eight.cnf two 1
+fails 1 '2: two/2.drat is refused' pieces check eight.cnf two 2
+{ sed 's/p cnf 3 5/p cnf 3 6/' kept; echo '3 0'; } > two/2.cnf
+says 0 '' pieces check eight.cnf two 2
+cp kept two/2.cnf
+says 0 '' pieces check eight.cnf two 1
+says 1 $'2: what is kept is of other clauses\n1 of 2 pieces are not verified' pieces report eight.cnf two
+says 0 '2' pieces left eight.cnf two
+says 0 '' pieces check eight.cnf two 2
+says 0 "$whole" pieces report eight.cnf two
+
+# missing, damaged, of another proof; a last piece that comes to no conflict
+mv two/1.drat held
+says 1 '1: no file two/1.drat' pieces check eight.cnf two 1
+says 1 $'1: no piece\n1 of 2 pieces are not verified' pieces report eight.cnf two
+mv held two/1.drat
+mv two/2.cnf held
+says 1 $'1: no file two/2.cnf\n2: no file two/2.cnf' pieces check eight.cnf two 1 2
+mv held two/2.cnf
+head -n 3 two/1.drat > held
+mv two/1.drat whole
+mv held two/1.drat
+fails 1 '1: two/1.drat is refused' pieces check eight.cnf two 1
+mv whole two/1.drat
+says 0 '' pieces check eight.cnf two 1
+says 0 '' pieces check eight.cnf two 2
+echo 1 > two/count
+says 1 $'the last piece: it comes to no conflict\n1 of 1 pieces are not verified' pieces report eight.cnf two
+rm two/count
+fails 2 'cannot read two/count: the proof is not cut, or was not to its end' pieces report eight.cnf two
+says 0 'cut into 2 pieces' "${cut[@]}"
+says 2 'there is no piece 3' pieces check eight.cnf two 3
+says 2 'cannot open none.cnf: it is no file' pieces cut none.cnf eight.drat three
+fails 2 'the proof could not be cut' pieces cut eight.cnf none.drat three
+DRAT_CHECK=./none says 2 'cannot run ./none: No such file or directory' pieces check eight.cnf two 2
+DRAT_CUT=./none says 2 'cannot run ./none: No such file or directory' "${cut[@]}"
+
+# cut and checked at once: a verified piece is deleted, one that is refused stays
+says 0 "$whole" pieces run eight.cnf - ran --lemmas 1 --jobs 2 < eight.drat
+says 0 $'1.checked\n2.checked\ncount' ls ran
+head -n 12 eight.drat > weak.drat
+fails 1 '2: ran/2.drat is refused' pieces run eight.cnf weak.drat ran --lemmas 1
+says 0 $'1.checked\n2.cnf\n2.drat\ncount' ls ran
+
+# As `checked --while` has it: right and wrong answers of solvers that are written here, and nothing is left.
+# ends STATUS OUTPUT COMMAND..: it must end so, and write this to standard output
+ends() {
+  local status=0 said
+  said=$("${@:3}" 2> err) || status=$?
+  if [[ $status != "$1" || $said != "$2" || $(ls room) ]]; then
+    printf '%s: status %d, it wrote: %s %s, and left: %s\n' "${*:3}" "$status" "$said" "$(cat err)" "$(ls room)"
+    wrong=1
+  fi
+}
+solver() {
+  { echo '#!/bin/sh'; cat; } > "bin/$1"
+  chmod +x "bin/$1"
+}
+unsat='s VERIFIED UNSAT'
+solver refuter <<< "cat '$work/eight.drat' > \"\$2\"; exit 20"
+solver weak <<< "cat '$work/weak.drat' > \"\$2\"; exit 20"
+solver silent <<< 'exit 20'
+solver finder <<< 'printf "s SATISFIABLE\nv 1 2 0\n"; exit 10'
+solver lost <<< 'printf "1 0\n" > "$2"; exit 1'
+# more than a pipe holds, so that it has to be stopped
+solver garbled <<< 'yes x > "$2"; exit 20'
+printf 'p cnf 2 1\n1 2 0\n' > open.cnf
+ends 20 "$unsat" checked --while refuter eight.cnf
+ends 1 '' checked --while weak eight.cnf
+ends 1 '' checked --while silent eight.cnf
+ends 1 '' checked --while refuter open.cnf
+ends 10 's VERIFIED SAT' checked --while finder open.cnf
+ends 3 '' checked --while lost eight.cnf
+ends 1 '' checked --while garbled eight.cnf
+gzip -k eight.cnf
+ends 20 "$unsat" checked --while refuter eight.cnf.gz
+PIECES=./none ends 2 '' checked --while refuter eight.cnf
+solver slow <<< 'printf "1 2 0\n" > "$2"; echo > begun; exec sleep 60'
+rm -f begun
+set -m
+checked --while slow eight.cnf > said 2> err &
+pid=$!
+set +m
+for _ in {1..600}; do
+  [[ ! -e begun ]] || break
+  sleep 0.05
+done
+kill -TERM "$pid"
+status=0
+wait "$pid" || status=$?
+if [[ $status != 143 || $(ls room) ]]; then
+  printf 'interrupted: status %d, %s, and it left: %s\n' "$status" "$(cat err)" "$(ls room)"
+  wrong=1
+fi
+
+python3 -B "$top/tests/pieces/fuzz.py" drat_cut drat_check "${1:-300}" "${2:-1}" || wrong=1
+
+# A proof with definitions, in pieces: Cook's, of the pigeonhole.
+python3 -B "$top/tests/drat/formulas.py" pigeons 8 > formula.cnf
+python3 -B "$top/tests/drat/formulas.py" extended 8 > cook.drat
+fails 0 'and the last one is refuted: s VERIFIED UNSAT' pieces run formula.cnf cook.drat cook --lemmas 50 --live 100000
+if (($(cat cook/count) < 3)); then
+  echo "the proof by definitions is not cut"
+  wrong=1
+fi
+
+if ! has cadical; then
+  exit "$wrong"
+fi
+
+# block WORDS: the block of commands under these words, as the document has it, with pieces of few lemmas
+block() {
+  awk -v head="\`\`\`$1" '$0 == head { on = 1; next } /^```/ { on = 0 } on' "$top/docs/SCALE.md" |
+    sed 's/^pieces cut .*/& --lemmas 2000/'
+}
+# runs WORDS: the commands of this block must end well, and tell that all is verified
+runs() {
+  block "$1" > commands
+  if [[ ! -s commands ]] || ! bash -euo pipefail commands > said 2> err || [[ $(tail -n 1 said) != 'all pieces are verified: '*"$unsat" ]]; then
+    printf '%s: %s %s\n' "$1" "$(cat said)" "$(cat err)"
+    wrong=1
+  fi
+}
+cadical -q formula.cnf proof.drat > said || true
+runs 'sh pieces'
+count=$(cat pieces/count)
+if ((count < 5)); then
+  echo "too few pieces: $count"
+  wrong=1
+fi
+
+# An interrupted run goes on: nothing is taken for verified that is not, and the rest is not checked again.
+rm pieces/*.checked
+solver slow_check << 'END'
+case $1 in */3.cnf) echo > begun; exec sleep 60 ;; esac
+exec drat_check "$@"
+END
+rm -f begun
+grep -v '^pieces cut' commands > rest
+set -m
+DRAT_CHECK=slow_check bash -euo pipefail rest > said 2> err &
+pid=$!
+set +m
+for _ in {1..600}; do
+  [[ ! -e begun ]] || break
+  sleep 0.05
+done
+kill -INT -- "-$pid"
+wait "$pid" || true
+if [[ -e pieces/3.checked ]] || ! pieces left formula.cnf pieces | grep -x 3 > where; then
+  echo "not interrupted as it should be: $(ls pieces) $(cat err)"
+  wrong=1
+fi
+bash -euo pipefail rest > said 2> err || true
+fails 0 "all pieces are verified: $count, and" pieces report formula.cnf pieces
+if has parallel; then
+  rm pieces/*.checked
+  block 'sh pieces parallel' > commands
+  says 0 "all pieces are verified: $count, and the last one is refuted: $unsat" bash -euo pipefail commands
+fi
+
+# two neighbours change their places; a proof of another formula
+rm pieces/*.checked
+mv pieces/2.drat held
+mv pieces/3.drat pieces/2.drat
+mv held pieces/3.drat
+fails 1 'is refused' pieces check formula.cnf pieces 2 3
+python3 -B "$top/tests/drat/formulas.py" multiplier 5 > multiplier.cnf
+cadical -q multiplier.cnf multiplier.drat > said || true
+fails 1 '1: foreign/1.drat is refused' pieces run formula.cnf multiplier.drat foreign --lemmas 500
+fails 0 "$unsat" pieces run multiplier.cnf multiplier.drat right --lemmas 500
+ends 20 "$unsat" checked --while cadical multiplier.cnf
+ends 20 "$unsat" checked --while cadical formula.cnf
+exit "$wrong"
