@@ -91,7 +91,7 @@ pub fn convert_lines(alloc: Global) -> Played {
         return Ok(Memory::Wanting);
     };
     let mut out = ArrayVec::<u8, 64>::new();
-    let answer = convert_proof(alloc, &formula, TEXT, HashWidth::full(), &mut out);
+    let answer = convert_proof(alloc, &formula, TEXT, None, HashWidth::full(), &mut out);
     if !BYTES.starts_with(out.as_slice()) {
         return Err(Stop::Wrong(Wrong::Written));
     }
