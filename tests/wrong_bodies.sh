@@ -1,6 +1,6 @@
 #!/usr/bin/env bash
-# Tries the wrong bodies in crates/*/wrong-bodies, each a file *.edit or a paragraph of wrong-bodies.txt, many in one check, and notes that
-# they were refused.
+# Tries the wrong bodies in crates/*/wrong-bodies/wrong-bodies.txt, each a paragraph there, many in one check, and notes that they were
+# refused.
 #
 #   tests/wrong_bodies.sh [CRATE ..]    those of these crates, or of all: some 6 processor seconds each, RT_JOBS crates at a time
 #   tests/wrong_bodies.sh --stale [MINUTES]    those of the crates whose record is of something else by now, one crate after the

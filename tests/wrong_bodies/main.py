@@ -35,16 +35,10 @@ BATCH = 30
 
 
 def bodies(crate):
-    """The wrong bodies of a crate, each with its name: a file NAME.edit, or a paragraph of `wrong-bodies.txt` below its heading."""
-    folder, found = f"{crate}/wrong-bodies", []
-    for name in os.listdir(folder):
-        with open(f"{folder}/{name}", encoding="utf-8") as file:
-            if name.endswith(".edit"):
-                found.append((name.removesuffix(".edit"), file.read()))
-            elif name == "wrong-bodies.txt":
-                paragraphs = re.split(r"(?m)^# ", file.read())[1:]
-                found += [(head.strip(), text) for head, _, text in (it.partition("\n") for it in paragraphs)]
-    return sorted(found)
+    """The wrong bodies of a crate, each with its name: a paragraph of `wrong-bodies.txt` below its heading."""
+    with open(f"{crate}/wrong-bodies/wrong-bodies.txt", encoding="utf-8") as file:
+        paragraphs = re.split(r"(?m)^# ", file.read())[1:]
+    return sorted((head.strip(), text) for head, _, text in (it.partition("\n") for it in paragraphs))
 
 
 def crates_with_wrong_bodies():
