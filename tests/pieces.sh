@@ -1,7 +1,7 @@
 #!/usr/bin/env bash
 # One DRAT proof in pieces, by `drat_cut`, `drat_check --holds` and `tools/pieces`: a proof by hand, pieces that are missing, damaged,
-# of another proof or behind clauses that were changed, and a run that is interrupted; a proof while it is written, by `pieces run` and
-# `checked --while`; some hundred random proofs against the whole; and where cadical is there, the commands of docs/SCALE.md.
+# of another proof or behind clauses that were changed, and a run that is interrupted; pieces that wait; a proof while it is written, by
+# `pieces run` and `checked --while`; some hundred random proofs against the whole; and where cadical is there, the commands of docs/SCALE.md.
 #
 #   tests/pieces.sh [COUNT [SEED]]    so many random proofs
 #
@@ -163,6 +163,8 @@ says 0 'cut into 2 pieces' "${cut[@]}"
 says 2 'there is no piece 3' pieces check eight.cnf two 3
 says 2 'cannot open none.cnf: it is no file' pieces cut none.cnf eight.drat three
 fails 2 'the proof could not be cut' pieces cut eight.cnf none.drat three
+says 2 'cannot open none.drat: No such file or directory' pieces run eight.cnf none.drat three
+fails 2 'cannot read .: Is a directory' pieces run eight.cnf . three
 DRAT_CHECK=./none says 2 'cannot run ./none: No such file or directory' pieces check eight.cnf two 2
 DRAT_CUT=./none says 2 'cannot run ./none: No such file or directory' "${cut[@]}"
 
@@ -232,6 +234,22 @@ python3 -B "$top/tests/drat/formulas.py" extended 8 > cook.drat
 fails 0 'and the last one is refuted: s VERIFIED UNSAT' pieces run formula.cnf cook.drat cook --lemmas 50 --live 100000
 if (($(cat cook/count) < 3)); then
   echo "the proof by definitions is not cut"
+  wrong=1
+fi
+
+# Where pieces wait, no more of the proof is read than lies in pipes.
+python3 -B "$top/tests/drat/formulas.py" pigeons 20 > twenty.cnf
+python3 -B "$top/tests/drat/formulas.py" extended 20 > twenty.drat
+solver slow_check << END
+ls $work/twenty | grep -c 'drat$' >> $work/waiting
+sleep 0.1
+exec drat_check "\$@"
+END
+rm -f waiting
+DRAT_CHECK=slow_check fails 0 'and the last one is refuted: s VERIFIED UNSAT' \
+  pieces run twenty.cnf twenty.drat twenty --lemmas 300 --live 100000 --jobs 1 --ahead 1
+if (($(cat twenty/count) < 40 || $(sort -n waiting | tail -n 1) > 16)); then
+  printf '%d pieces, of which so many were there: %s\n' "$(cat twenty/count)" "$(tr '\n' ' ' < waiting)"
   wrong=1
 fi
 
