@@ -7,10 +7,10 @@ top=$(cd "$(dirname "$0")/.." && pwd)
 work=$(mktemp -d)
 trap 'rm -rf "$work"' EXIT
 mkdir -p "$work/crates/dimacs_bench/src"
-cp -r "$top/crates/checker_rules" "$top/crates/sat_formula" "$work/crates/"
+cp -r "$top/crates/sat_rules" "$top/crates/sat_formula" "$work/crates/"
 cp "$top/benches/dimacs/main.rt.txt" "$work/crates/dimacs_bench/src/main.rt"
-grep -E '^(checker_rules|sat_formula):' "$top/crates.txt" > "$work/crates.txt"
-echo 'dimacs_bench: sat_formula anyhow' >> "$work/crates.txt"
+grep -E '^(sat_rules|sat_formula):' "$top/crates.txt" > "$work/crates.txt"
+echo 'dimacs_bench: sat_rules sat_formula anyhow' >> "$work/crates.txt"
 echo 'Rattle:'
 (cd "$work/crates/dimacs_bench" && "$rt" run 2> "$work/log" | grep 'ms$') || { tail -5 "$work/log"; exit 1; }
 echo 'Rust:'
