@@ -1,4 +1,5 @@
 pub mod Bytes
+pub mod Digits
 pub mod Vars
 pub mod Formula
 pub mod Tokens

@@ -2,7 +2,8 @@
 ghost use Rattle.std.specs.Prelude.{◌≤◌, length, IfSome};
 ghost use Rattle.sat_formula.specs.ShortNumbers.{HasDigits, IsShortNumber};
 
-use crate::word::{Number, ends_word, is_digit};
+use crate::bytes::{ends_word, is_digit};
+use crate::word::Number;
 
 /// Numbers of so many digits are read at once. The value of none of them is cut.
 const FEW_DIGITS: usize = 9;
@@ -42,7 +43,7 @@ fn few_digits(bytes: &[u8]) -> (u64, usize)
     let mut value = 0u64;
     let mut len = 0;
     'digits: while len < FEW_DIGITS && is_digit(bytes[len]) {
-        value = value * 10 + (bytes[len] - b'0') as u64;
+        value = value * 10 + (bytes[len] as u64 - b'0' as u64);
         len += 1;
     }
     (value, len)

@@ -2,6 +2,7 @@
 #![tactic(auto)]
 
 mod ahead;
+pub mod bytes;
 mod cnf;
 mod counts;
 mod dimacs;

@@ -117,9 +117,18 @@ impl Lit {
         ensures range { IsSome result
             ↔ ((0 < unsigned_abs number) × (unsigned_abs number ≤ 2 ^ 28)) }
     {
-        let value = number.unsigned_abs();
+        Lit::of_digits(number < 0, number.unsigned_abs())
+    }
+
+    /// The literal of digits of a value from 1 to `Var::MAX_COUNT`, after a `-` or not.
+    #[inline(always)]
+    pub fn of_digits(negative: bool, value: u64) -> Option<Lit>
+        ensures { SomeIff result ((0 < value) × (value ≤ 2 ^ 28)) (lit_code value negative) }
+    {
         if 0 < value && value <= Var::MAX_COUNT as u64 {
-            Some(Lit::of_number(value, number < 0))
+            Some(Lit {
+                code: (value as u32 - 1) * 2 + negative as u32,
+            })
         } else {
             None
         }
@@ -174,17 +183,6 @@ impl Lit {
     {
         let number = self.var().to_dimacs();
         if self.is_negative() { -number } else { number }
-    }
-
-    /// The literal of a DIMACS number that is not 0, by its absolute value.
-    pub(crate) fn of_number(value: u64, negative: bool) -> Lit
-        requires some { 0 < value }
-        requires small { value ≤ 2 ^ 28 }
-        ensures { result ≡ lit_code value negative }
-    {
-        Lit {
-            code: (value as u32 - 1) * 2 + negative as u32,
-        }
     }
 }
 
