@@ -85,6 +85,6 @@ is_store-known count h cs cs' known known' grown k =
     (counts-known cs.lit_counts cs'.lit_counts (length cs.unit_clauses) (length cs'.unit_clauses) count
     (stored_list cs) k.counts grown.counts long))
 
--- so many names are known
+-- this many names are known
 pub names-enough : (count : ℕ) (cs cs' : Clauses) (known known' : List Known) → KnowsVars count cs known cs' known' → count ≤ length known'
 names-enough count cs cs' known known' grown = rw grown.names (grind (arith, common_steps))

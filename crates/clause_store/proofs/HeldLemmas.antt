@@ -1,9 +1,8 @@
 -- The counts of the clauses that hold each literal.
-use Rattle.std.proofs.Common.{◌≡◌, ◌≢◌, ℕ, zero, suc, ◌+◌, ◌-◌, ◌*◌, ◌<◌, ◌||◌, Bool, true, false, cond, eqb, ltb, List, [], ◌∷◌, ◌++◌, length}
-use Rattle.std.proofs.Common.{get_or, set, take, drop, refl, ap, ◌∙◌, arith, eq-eqb, ltb-true, ⊎_elim, get_or-set_other, get_or-set_same}
+use Rattle.std.proofs.Common.{◌≡◌, ◌≢◌, ℕ, zero, suc, ◌+◌, ◌-◌, ◌*◌, ◌<◌, ◌||◌, Bool, true, false, cond, eqb, ltb, List, [], ◌∷◌, length}
+use Rattle.std.proofs.Common.{get_or, set, take, refl, ap, ◌∙◌, arith, eq-eqb, ltb-true, ⊎_elim, get_or-set_other, get_or-set_same}
 use Rattle.std.specs.List.{list_all}
 use Rattle.std.proofs.Math.ListN.{get_or-eq_default}
-use Rattle.std.proofs.Math.Seq.{take-append_seam}
 use Rattle.std.proofs.lemmas.Bool.{and_parts, cases_eq, cases_lt, ne_eqb}
 use Rattle.std.proofs.lemmas.List.{get_or_default}
 use Rattle.std.proofs.lemmas.List.Folds.{list_any_more}
@@ -91,9 +90,3 @@ module _ (c : List ℕ) (i : ℕ) (less : i < length c) (canonical : is_canonica
   -- the count of the next literal is as it was
   pub raised-next : (old now : List ℕ) → HoldOneMore (take i c) old now → get_or now l 0 ≡ get_or old l 0
   raised-next old now held = let before = held l in omega (arith, before, held-before)
-
--- counts that were written into the slice of a vector
-pub held-written : (c old before new items : List ℕ) (len : ℕ) → HoldOneMore c before new → before ≡ old → length new ≡ len →
-    HoldOneMore c old (take len (new ++ drop (length new) items))
-held-written c old before new items len held same whole l =
-    cc (take-append_seam new (drop (length new) items), held l)

@@ -63,7 +63,7 @@ all_moved_to-append at (c ∷ cs) ds =
     (all_moved_to-append (at + buffer_used c.lits) cs ds ∙ ap (λ n. all_moved_to (at + buffer_used c.lits) cs ++ all_moved_to n ds) end)
 
 module _ (buffer : List ℕ) where
-  -- so many literals are copied
+  -- this many literals are copied
   in_buffer-length : (c : ClauseLits) → IsWithin c buffer → length (in_buffer buffer c) ≡ buffer_used c
   in_buffer-length (Two ls) w = refl
   in_buffer-length (Three ls) w = refl

@@ -21,7 +21,7 @@ use Rattle.checker_rules.proofs.StepForms.{steps_keep_form}
 pub answers-refuse : (cause : Cause) (o : Outcome) (s t : State) → o ≡ refuse cause s → t ≡ s → (o.refused ≡ Some cause) × (t ≡ o.after)
 answers-refuse cause o s t is same = (cc, cc)
 
--- accepted, or want of memory
+-- accepted, or out of memory
 pub answers-unless-memory : (r : Result (Unit {0}) StepFault) (o : Outcome) (s : State) →
     OnOk r ((o.refused ≡ None) × (s ≡ o.after)) → OnErr r (r ≡ Err OutOfMemory) → AnswersOutcome r o s
 answers-unless-memory (Ok done) o s h e = h

@@ -20,7 +20,7 @@ abbrev pub clauses_of : Bucket → List Clause
 clauses_of (One c) = c ∷ []
 clauses_of (Many b) = standing b.value.places.items
 
--- the same, where the bucket may be missing
+-- the clauses of a bucket, in order; none where there is no bucket
 abbrev pub bucket_items : Option Bucket → List Clause
 bucket_items None = []
 bucket_items (Some b) = clauses_of b

@@ -9,7 +9,7 @@ use Rattle.clause_store.specs.declared.clauses.DeleteClauseResult.TheVariants.{U
 use Rattle.clause_store.specs.declared.clauses.delete.DeleteFault.{DeleteFault}
 use Rattle.clause_store.specs.declared.clauses.delete.DeleteFault.TheVariants.{OutOfMemory, UnitOrEmpty, Unknown, NoCopy}
 
--- what the deletion of a copy did to a clause of which so many copies are left
+-- what the deletion of a copy did to a clause of which this many copies are left
 abbrev pub deleted_as : Bool → ℕ → ℕ → DeleteClauseResult
 deleted_as redundant irredundants redundants =
     if irredundants == 0 && redundants == 0 then Removed

@@ -25,7 +25,7 @@ left_of c = record { id = c.id; irredundant = c.irredundant; redundant = c.redun
 abbrev pub is_gone : Left → Bool
 is_gone left = left.irredundant == 0 && left.redundant == 0
 
--- what is left of the clause among the stored ones: its id, its counts but for one copy of the kind
+-- what is left of the clause among the stored ones: its id, its counts except for one copy of the kind
 pub record IsLeft (redundant : Bool) (c : List ℕ) (es : List Stored) (left : Left) : Type 0 where
   pub copy : 0 < count_of redundant c es
   pub id : left.id ≡ id_among c es

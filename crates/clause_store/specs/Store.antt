@@ -68,7 +68,7 @@ AnswersPush (Err OutOfMemory) hash c redundant cs cs' = Unit {0}
 AnswersPush (Err IdsExhausted) hash c redundant cs cs' = (id_limit ≤ cs.next_clause_id) × (cs' ≡ cs)
 AnswersPush (Err CountExhausted) hash c redundant cs cs' = ⊥
 
--- what one copy more does to a stored clause that had so many irredundant copies
+-- what one copy more does to a stored clause that had this many irredundant copies
 abbrev pub raised_as : Bool → ℕ → StoreClauseResult
 raised_as redundant irredundant =
     if not redundant && irredundant == 0 then NewlyIrredundant

@@ -84,7 +84,7 @@ fn copy_bucket(bucket: &Bucket, buffer: &[Lit], new: &mut Vec<Lit>) -> Result<()
     }
 }
 
-/// The same for the clauses of a crowd.
+/// Copies the literals of a crowd's clauses that are in the buffer to the end of the new one.
 fn copy_places(
     places: &[Option<Clause>],
     buffer: &[Lit],
@@ -142,7 +142,7 @@ fn move_bucket(bucket: &mut Bucket, at: usize) -> usize
     }
 }
 
-/// The same for the clauses of a crowd, which stay in their places.
+/// Moves the clauses of a crowd, which stay in their places, to follow each other from here on.
 fn move_places(places: &mut [Option<Clause>], first: usize) -> usize
     requires { first + all_used (standing places.old) < 2 ^ 64 }
     ensures places { length places.new ≡ length places.old }

@@ -1,5 +1,5 @@
 //! How many stored clauses hold each literal.
-ghost use Rattle.std.specs.Prelude.{◌≡◌, ◌+◌, ◌-◌, ◌*◌, ◌^◌, ◌<◌, ◌≤◌, ◌++◌, ℕ, [], List, false, true, length, replicate, take, IfOk, OnOk, slice_index, slice_set};
+ghost use Rattle.std.specs.Prelude.{◌≡◌, ◌+◌, ◌-◌, ◌*◌, ◌^◌, ◌<◌, ◌≤◌, ◌++◌, ℕ, [], false, true, length, replicate, IfOk, OnOk, slice_index, slice_set};
 ghost use Rattle.sat_rules.specs.Clauses.{has, is_canonical};
 ghost use Rattle.checker_rules.specs.Canonical.{var_bound};
 ghost use Rattle.clause_store.specs.Counts.{HoldOneMore};
@@ -83,15 +83,28 @@ impl LitCounts {
         ensures held { OnOk result (HoldOneMore lits.now self.old self.new) }
         ensures known { OnOk result (length self.new ≡ length self.old) }
     {
+        for lit in lits {
+            self.raise_one(*lit)?;
+        }
+        Ok(())
+    }
+
+    /// One clause more holds the literal. A count that is full makes all take eight bytes.
+    fn raise_one(&mut self, lit: Lit) -> Result<(), AllocError>
+        requires { lit < length self.old }
+        ensures { OnOk result (self.new
+            ≡ slice_set self.old lit (slice_index self.old lit + 1)) }
+    {
         match &mut self.by_code {
             ByCode::Narrow(counts) => {
-                let raised = raise_narrow(counts.as_mut_slice(), lits);
-                if raised < lits.len() {
-                    self.by_code = ByCode::Wide(widened(counts, lits, raised)?);
+                if !add_narrow(counts, lit) {
+                    let mut wide = copy_wide(counts)?;
+                    add_wide(&mut wide, lit)?;
+                    self.by_code = ByCode::Wide(wide);
                 }
                 Ok(())
             }
-            ByCode::Wide(counts) => raise_wide(counts.as_mut_slice(), lits, 0),
+            ByCode::Wide(counts) => add_wide(counts, lit),
         }
     }
 
@@ -102,39 +115,31 @@ impl LitCounts {
         ensures held { HoldOneMore lits.now self.new self.old }
         ensures known { length self.new ≡ length self.old }
     {
-        match &mut self.by_code {
-            ByCode::Narrow(counts) => lower_narrow(counts.as_mut_slice(), lits),
-            ByCode::Wide(counts) => lower_wide(counts.as_mut_slice(), lits),
+        for lit in lits {
+            self.lower_one(*lit);
         }
     }
-}
 
-/// One clause more holds the literals up to the first whose count is full. It answers how many
-/// those are.
-fn raise_narrow(counts: &mut [u32], lits: &[Lit]) -> usize
-    requires canonical { is_canonical lits.now ≡ true }
-    requires known { 2 * var_bound lits.now ≤ length counts.old }
-    ensures bound { result ≤ length lits.now }
-    ensures held { HoldOneMore (take result lits.now) counts.old counts.new }
-    ensures known { length counts.new ≡ length counts.old }
-    ensures full { result < length lits.now
-        → 2 ^ 32 ≤ slice_index counts.new (slice_index lits.now result) + 1 }
-{
-    for at in 0..lits.len() {
-        if !add_narrow(counts, lits[at]) {
-            return at;
+    /// One clause less holds the literal.
+    fn lower_one(&mut self, lit: Lit)
+        requires { 0 < slice_index self.old lit }
+        ensures { self.new ≡ slice_set self.old lit (slice_index self.old lit - 1) }
+    {
+        let code = lit.code();
+        match &mut self.by_code {
+            ByCode::Narrow(counts) => counts[code] -= 1,
+            ByCode::Wide(counts) => counts[code] -= 1,
         }
     }
-    lits.len()
 }
 
 /// One clause more holds the literal, unless its count is full. It answers whether it was not.
-fn add_narrow(counts: &mut [u32], lit: Lit) -> bool
-    requires { lit < length counts.old }
-    ensures added { result ≡ true
-        → counts.new ≡ slice_set counts.old lit (slice_index counts.old lit + 1) }
-    ensures full { result ≡ false → 2 ^ 32 ≤ slice_index counts.old lit + 1 }
-    ensures unchanged { result ≡ false → counts.new ≡ counts.old }
+fn add_narrow(counts: &mut Vec<u32>, lit: Lit) -> bool
+    requires { lit < length counts.old.items }
+    ensures added { result ≡ true → counts.new.items
+        ≡ slice_set counts.old.items lit (slice_index counts.old.items lit + 1) }
+    ensures full { result ≡ false → 2 ^ 32 ≤ slice_index counts.old.items lit + 1 }
+    ensures unchanged { result ≡ false → counts.new.items ≡ counts.old.items }
 {
     let count = &mut counts[lit.code()];
     match count.checked_add(1) {
@@ -144,20 +149,6 @@ fn add_narrow(counts: &mut [u32], lit: Lit) -> bool
         }
         None => false,
     }
-}
-
-/// The counts in eight bytes each, where one clause more holds the literals from this place on.
-fn widened(counts: &Vec<u32>, lits: &[Lit], first: usize) -> Result<Vec<u64>, AllocError>
-    requires canonical { is_canonical lits.now ≡ true }
-    requires known { 2 * var_bound lits.now ≤ length counts.now.items }
-    requires bound { first ≤ length lits.now }
-    ensures held { (old : List ℕ) → HoldOneMore (take first lits.now) old counts.now.items
-        → IfOk result (λ wide. HoldOneMore lits.now old wide.items) }
-    ensures known { IfOk result (λ wide. length wide.items ≡ length counts.now.items) }
-{
-    let mut wide = copy_wide(counts)?;
-    raise_wide(wide.as_mut_slice(), lits, first)?;
-    Ok(wide)
 }
 
 fn copy_wide(counts: &Vec<u32>) -> Result<Vec<u64>, AllocError>
@@ -170,67 +161,16 @@ fn copy_wide(counts: &Vec<u32>) -> Result<Vec<u64>, AllocError>
     Ok(wide)
 }
 
-/// One clause more holds the literals from this place on.
-fn raise_wide(counts: &mut [u64], lits: &[Lit], first: usize) -> Result<(), AllocError>
-    requires canonical { is_canonical lits.now ≡ true }
-    requires known { 2 * var_bound lits.now ≤ length counts.old }
-    requires bound { first ≤ length lits.now }
-    ensures held { (old : List ℕ) → HoldOneMore (take first lits.now) old counts.old
-        → OnOk result (HoldOneMore lits.now old counts.new) }
-    ensures known { length counts.new ≡ length counts.old }
-{
-    for at in first..lits.len() {
-        add_wide(counts, lits[at])?;
-    }
-    Ok(())
-}
-
+/// One clause more holds the literal.
+///
 /// No count passes 64 bits: each clause that is counted has an id of its own, and ids end before.
 /// What is known here does not say so, and the error stands in place of a sum that is never made.
-fn add_wide(counts: &mut [u64], lit: Lit) -> Result<(), AllocError>
-    requires { lit < length counts.old }
-    ensures { OnOk result (counts.new
-        ≡ slice_set counts.old lit (slice_index counts.old lit + 1)) }
+fn add_wide(counts: &mut Vec<u64>, lit: Lit) -> Result<(), AllocError>
+    requires { lit < length counts.old.items }
+    ensures { OnOk result (counts.new.items
+        ≡ slice_set counts.old.items lit (slice_index counts.old.items lit + 1)) }
 {
     let count = &mut counts[lit.code()];
     *count = count.checked_add(1).ok_or(AllocError)?;
     Ok(())
-}
-
-/// One clause less holds the literals.
-fn lower_narrow(counts: &mut [u32], lits: &[Lit])
-    requires canonical { is_canonical lits.now ≡ true }
-    requires held { (l : ℕ) → has l lits.now ≡ true → 0 < slice_index counts.old l }
-    ensures held { HoldOneMore lits.now counts.new counts.old }
-    ensures known { length counts.new ≡ length counts.old }
-{
-    for lit in lits {
-        take_narrow(counts, *lit);
-    }
-}
-
-fn take_narrow(counts: &mut [u32], lit: Lit)
-    requires { 0 < slice_index counts.old lit }
-    ensures { counts.new ≡ slice_set counts.old lit (slice_index counts.old lit - 1) }
-{
-    counts[lit.code()] -= 1;
-}
-
-/// One clause less holds the literals.
-fn lower_wide(counts: &mut [u64], lits: &[Lit])
-    requires canonical { is_canonical lits.now ≡ true }
-    requires held { (l : ℕ) → has l lits.now ≡ true → 0 < slice_index counts.old l }
-    ensures held { HoldOneMore lits.now counts.new counts.old }
-    ensures known { length counts.new ≡ length counts.old }
-{
-    for lit in lits {
-        take_wide(counts, *lit);
-    }
-}
-
-fn take_wide(counts: &mut [u64], lit: Lit)
-    requires { 0 < slice_index counts.old lit }
-    ensures { counts.new ≡ slice_set counts.old lit (slice_index counts.old lit - 1) }
-{
-    counts[lit.code()] -= 1;
 }

@@ -55,7 +55,7 @@ fn note(
     Ok(())
 }
 
-/// The same, where clauses are noted.
+/// Notes the place of a clause that is put last, where clauses are noted.
 fn note_next(
     alloc: Global,
     noted: &mut BTreeMap<Vec<Lit>, usize>,

@@ -151,7 +151,7 @@ fn in_range(buffer: &[Lit], start: Start, after_four: u32) -> &[Lit]
 /// How many literals come after the first four.
 ///
 /// No stored clause has more than 32 bits can count: its literals are distinct, and there are not
-/// so many. What is known here does not say so, and the error stands in place of a clause that is
+/// this many. What is known here does not say so, and the error stands in place of a clause that is
 /// never stored.
 fn after_four(lits: &[Lit]) -> Result<u32, AllocError>
     requires { 4 ≤ length lits.now }

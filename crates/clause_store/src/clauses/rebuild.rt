@@ -57,7 +57,7 @@ pub fn gather(alloc: Global, clauses: &Clauses) -> Result<Vec<Clause>, AllocErro
     Ok(all)
 }
 
-/// No clauses, with room for so many buckets.
+/// No clauses, with room for this many buckets.
 pub fn room_for(alloc: Global, count: usize) -> Result<Buckets, AllocError>
     ensures { IfOk result (λ m. (k : ℕ) → clauses_at m k ≡ []) }
 {

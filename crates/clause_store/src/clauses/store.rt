@@ -209,7 +209,7 @@ fn store_long(
     }
 }
 
-/// What one copy more does to a stored clause that had so many irredundant copies.
+/// What one copy more does to a stored clause that had this many irredundant copies.
 fn raised_as(irredundant: u32, redundant: bool) -> StoreClauseResult
     ensures { result ≡ raised_as redundant irredundant }
 {

@@ -160,7 +160,7 @@ impl Units {
         }
     }
 
-    /// So many variables are known.
+    /// This many variables are known.
     pub fn len(&self) -> usize
         ensures { result ≡ length self.now }
     {
