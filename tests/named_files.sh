@@ -274,7 +274,7 @@ wants 1 '' $'formula: line 2: bad number\nin deletes' "$drat_check" deletes ends
 # a word that is no text
 for word in $'f\xff' $'\xc3'; do
   shown=$(printf '%s' "$word" | sed 's/\xff/\\xff/;s/\xc3/\\xc3/')
-  wants 2 '' "word 2 of the call is not UTF-8: $shown"$'\ninvalid data\nusage: lrat_check CNF LRAT [--ids WAY] [--stats] [--quiet] [--verbose]\nlrat_check --help says more' \
+  wants 2 '' "word 2 of the call is not UTF-8: $shown"$'\ninvalid data\nusage: lrat_check CNF LRAT [--ids WAY] [--holds FILE] [--stats] [--quiet] [--verbose]\nlrat_check --help says more' \
     "$lrat_check" l "$word"
 done
 

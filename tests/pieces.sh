@@ -1,5 +1,5 @@
 #!/usr/bin/env bash
-# One DRAT proof in pieces, by `drat_cut`, `drat_check --holds` and `tools/pieces`: a proof by hand, pieces that are missing, damaged,
+# One DRAT proof in pieces, by `drat_cut`, `drat_check --holds`, `lrat_check --holds` and `tools/pieces`: a proof by hand, pieces that are missing, damaged,
 # of another proof or behind clauses that were changed, and a run that is interrupted; pieces that wait; a proof while it is written, by
 # `pieces run` and `checked --while`; some hundred random proofs against the whole; and where cadical is there, the commands of docs/SCALE.md.
 #
@@ -12,7 +12,7 @@ top=$(cd "$(dirname "$0")/.." && pwd)
 work=$(mktemp -d)
 trap 'rm -rf "$work"' EXIT
 mkdir "$work/bin" "$work/room"
-for program in drat_cut drat_check model_check; do
+for program in drat_cut drat_check lrat_check model_check; do
   built=$top/crates/${program}_main/out/${program}_main
   if [[ ! -x $built ]]; then
     echo "not built: $built"
@@ -88,6 +88,45 @@ same <(sort cut.2.cnf) "$(printf '%s\n' 'p cnf 3 5' "$rest" '1 2 0' '1 -2 0' '-1
 same <(sort cut.1.cnf) "$(printf '%s\n' 'p cnf 3 8' "$(sed -n '3,10p' eight.cnf)" | sort)"
 says 0 's VERIFIED PIECE' drat_check eight.cnf cut.1.drat --holds cut.2.cnf
 says 0 's VERIFIED UNSAT' drat_check cut.2.cnf cut.2.drat
+
+# The same pieces as LRAT, text and binary, and one by hand: a piece that ends with a line that is refused, a clause that was deleted,
+# that stands in another order or has a literal turned, and files that are not there, no formula or standard input.
+says 0 's VERIFIED PIECE' drat_check eight.cnf cut.1.drat --holds cut.2.cnf --lrat one.lrat
+says 0 's VERIFIED PIECE' drat_check eight.cnf cut.1.drat --holds cut.2.cnf --lrat one.binary --binary
+says 0 's VERIFIED UNSAT' drat_check cut.2.cnf cut.2.drat --lrat two.lrat
+for piece in one.lrat one.binary; do
+  says 0 's VERIFIED PIECE' lrat_check eight.cnf "$piece" --holds cut.2.cnf
+  says 3 's NOT VERIFIED' lrat_check eight.cnf "$piece"
+done
+says 0 's VERIFIED PIECE' lrat_check eight.cnf - --holds cut.2.cnf < one.lrat
+says 0 's VERIFIED UNSAT' lrat_check cut.2.cnf two.lrat --holds eight.cnf
+printf '1 2 0\n1 -2 0\n-1 3 0\n' > three.cnf
+printf '4 1 0 1 2 0\n4 d 1 0\n' > by_hand.lrat
+printf '1 0\n-1 3 0\n1 -2 0\n' > behind.cnf
+says 0 's VERIFIED PIECE' lrat_check three.cnf by_hand.lrat --holds behind.cnf
+# lacks N CLAUSE TEXT: of the clauses of this text, that one is not there
+lacks() {
+  printf -- "$3" > lacking.cnf
+  says 3 $'s NOT VERIFIED\nclause '"$1 is not there behind the piece: $2"$'\nin lacking.cnf' lrat_check three.cnf by_hand.lrat --holds lacking.cnf
+}
+lacks 1 '-1 0' '-1 0\n1 2 0\n'
+lacks 2 '1 2 0' '1 0\n1 2 0\n'
+lacks 3 '3 -1 0' '1 0\n1 0\n3 -1 0\n'
+lacks 1 '0' '0\n'
+says 0 's VERIFIED PIECE' lrat_check three.cnf by_hand.lrat --holds /dev/null
+says 0 's VERIFIED UNSAT' lrat_check lacking.cnf by_hand.lrat --holds behind.cnf
+printf '4 1 0 1 2 0\n5 2 0 4 0\n' > refused.lrat
+says 1 $'proof: line 2: hints end without a conflict\nin refused.lrat' lrat_check three.cnf refused.lrat --holds behind.cnf
+echo x > malformed.cnf
+says 1 $'wanted clauses: line 1: bad number\nin malformed.cnf' lrat_check three.cnf by_hand.lrat --holds malformed.cnf
+says 1 $'formula: line 1: bad number\nin malformed.cnf' lrat_check malformed.cnf by_hand.lrat --holds malformed.cnf
+says 1 $'wanted clauses: error reading formula: Is a directory (os error 21)\nin /' lrat_check three.cnf by_hand.lrat --holds /
+for name in none.cnf -; do
+  says 2 "cannot open $name"$'\nNo such file or directory (os error 2)' lrat_check three.cnf by_hand.lrat --holds "$name"
+done
+fails 2 '--holds has no value' lrat_check three.cnf by_hand.lrat --holds
+printf 'p cnf 4 2\n1 0\n' > lying.cnf
+fails 0 'warning: the header of lying.cnf is ' lrat_check three.cnf by_hand.lrat --holds lying.cnf
 
 # Nothing is written over what is read, and what is not whole has no name.
 cp eight.cnf own.1.cnf

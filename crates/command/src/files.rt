@@ -102,6 +102,24 @@ fn open_input<'a>(rt: &HostRuntime, name: &'a str) -> Option<Input<'a>>
     }
 }
 
+/// Opens a file for reading by its name alone: `-` is no name of standard input here.
+///
+/// Where it can't be opened, a line on standard error says so, and a second one why.
+pub fn open_file<'a>(rt: &HostRuntime, name: &'a str) -> Option<Input<'a>> {
+    match File::open(rt, name) {
+        Ok(file) => Some(Input {
+            name,
+            file: Source::File(file),
+        }),
+        Err(fault) => refuse(rt, name, fault),
+    }
+}
+
+/// Whether a name leads to this regular file, which is open.
+pub fn leads_to(rt: &HostRuntime, name: &str, input: &Input<'_>) -> bool {
+    is_one_file(&fs::metadata(rt, name), &input.file.metadata(rt))
+}
+
 /// Whether both are told, and are of one regular file.
 pub(crate) fn is_one_file(one: &io::Result<Metadata>, other: &io::Result<Metadata>) -> bool {
     match (one, other) {

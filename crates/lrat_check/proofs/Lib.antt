@@ -1,3 +1,4 @@
 pub mod LineLemmas
 pub mod DecideLemmas
 pub mod RunLemmas
+pub mod PieceLemmas

@@ -18,6 +18,7 @@ use Rattle.lrat_checker.specs.TextAnswers.{said}
 use Rattle.lrat_checker.specs.declared.checker.LratChecker.{LratChecker}
 use Rattle.lrat_checker.specs.declared.fault.LineFault.{LineFault}
 use Rattle.lrat_checker.specs.declared.fault.LineFault.TheVariants as faults
+use Rattle.lrat_checker.specs.declared.fault.LratFault.TheVariants as answers
 use Rattle.lrat_check.specs.Answers.{IsLratAnswer}
 
 said-more : (ls : List (ℕ × Line)) (n : ℕ) (l : Line) → said (ls ++ (n, l) ∷ []) ≡ said ls ++ l ∷ []
@@ -46,6 +47,10 @@ module _ {R : Type 0} (remaining : R → Option (List ℕ)) (known : Known) (for
     pub so_far_done : has_refuted c ≡ true → IsLratAnswer (outcome_in form) known formula c (Ok true)
     so_far_done is = record { lines = so.lines; text = begins remaining known form old so.lines so.given; ready = so.ready; answer = sym is }
 
+    -- there is no memory for more
+    pub so_far_stopped : IsLratAnswer (outcome_in form) known formula c (Err answers.OutOfMemory)
+    so_far_stopped = record { lines = so.lines; text = begins remaining known form old so.lines so.given; accepted = so.ready.accepted }
+
     module _ (new : LratReader R) where
       more_given : (line : LratLine) → Gives remaining old new (Ok (Some line)) → HasGiven remaining known form new (so.lines ++ (line_number new, view line) ∷ [])
       more_given line gives = given_more remaining known form old so.lines so.given new line gives
@@ -62,19 +67,19 @@ module _ {R : Type 0} (remaining : R → Option (List ℕ)) (known : Known) (for
           (HasAccepted formula (said so.lines) c → HasAccepted formula (said so.lines) d) →
           (IsReady formula (said so.lines) c → IsAnswer formula (said so.lines) (view line) fault) →
           IsLratAnswer (outcome_in form) known formula d (Err (in_line fault (line_number new)))
-      so_far_refused line gives d (faults.Refused cause) kept answers = record {
+      so_far_refused line gives d (faults.Refused cause) kept told = record {
         lines = so.lines;
         line = view line;
         text = begins remaining known form new (so.lines ++ (line_number new, view line) ∷ []) (more_given line gives);
         accepted = kept so.ready.accepted;
-        refused = answers so.ready;
+        refused = told so.ready;
       }
-      so_far_refused line gives d faults.OutOfMemory kept answers = record {
+      so_far_refused line gives d faults.OutOfMemory kept told = record {
         lines = so.lines;
         text = begins remaining known form old so.lines so.given;
         accepted = kept so.ready.accepted;
       }
-      so_far_refused line gives d faults.Failed kept answers = absurd (answers so.ready)
+      so_far_refused line gives d faults.Failed kept told = absurd (told so.ready)
 
       -- the fault of a line
       pub so_far_fault : (fault : LratTextFault) → Gives remaining old new (Err fault) → IsLratAnswer (outcome_in form) known formula c (Err (of_text fault))

@@ -1,5 +1,6 @@
 -- Runs, by what the checker answers.
---     refuted_at_once, not_opened, refuted_in      the checker's answer
+--     refuted_at_once, not_opened, answered_in      the checker's answer
+--     refutes_by      what it says of the formula
 --     formula_refuted      a formula that is refuted
 --     verdict_decided, fault_decided      what a verdict and a fault say of the proof
 use Rattle.std.proofs.Common.{◌≡◌, ℕ, ◌-◌, Bool, true, false, List, [], ◌∷◌, ◌++◌, length, take, Option, Some, None, Result, Ok, Err, refl, sym, ap, ◌∙◌, arith}
@@ -64,7 +65,7 @@ module _ (f g : List ℕ → Outcome) (formula : List (List ℕ)) (c : LratCheck
   answer_as known same (Err lrat.OutOfMemory) p = record { lines = p.lines; text = begins_as known f g same p.lines p.text; accepted = p.accepted }
   answer_as known same (Err lrat.Failed) p = p
 
-refutes_by : (ids : Option Ids) (formula : List (List ℕ)) (known : Known) (checker : LratChecker) (r : Result Bool LratFault) → IsLratAnswer (proof_says ids formula) known formula checker r →
+pub refutes_by : (ids : Option Ids) (formula : List (List ℕ)) (known : Known) (checker : LratChecker) (r : Result Bool LratFault) → IsLratAnswer (proof_says ids formula) known formula checker r →
     OnErr r (has_refuted checker ≡ false) → Refutes ids formula known r
 refutes_by ids formula known checker (Ok refuted) p q = record { checker = checker; answer = p; stops = q }
 refutes_by ids formula known checker (Err (lrat.Read cause)) p q = record { checker = checker; answer = p; stops = q }
@@ -74,37 +75,25 @@ refutes_by ids formula known checker (Err lrat.OutOfMemory) p q = tt
 refutes_by ids formula known checker (Err lrat.Failed) p q = absurd p
 
 module _ (ids : Option Ids) (formula : List (List ℕ)) (known : Known) (c : LratChecker) where
+  nothing_yet : (k : Known) → BeginsWith (proof_says ids formula) k []
+  nothing_yet None = (([], Ended), tt)
+  nothing_yet (Some bytes) = (proof_says ids formula bytes, refl)
+
   -- the formula has the empty clause
-  pub refuted_at_once : IsReady formula [] c → has_refuted c ≡ true → Refutes ids formula known (Ok true)
-  refuted_at_once ready is = record {
-    checker = c;
-    answer = record { lines = []; text = begins known; ready = ready; answer = sym is };
-    stops = tt;
-  }
-    where
-      begins : (k : Known) → BeginsWith (proof_says ids formula) k []
-      begins None = (([], Ended), tt)
-      begins (Some bytes) = (proof_says ids formula bytes, refl)
+  pub refuted_at_once : IsReady formula [] c → has_refuted c ≡ true → IsLratAnswer (proof_says ids formula) known formula c (Ok true)
+  refuted_at_once ready is = record { lines = []; text = nothing_yet known; ready = ready; answer = sym is }
 
   -- the first bytes could not be read
-  pub not_opened : (fault : LratTextFault) → IsNoLine fault → IsReady formula [] c → has_refuted c ≡ false → Refutes ids formula known (Err (of_text fault))
-  not_opened (reads.Read cause) is ready stops = record {
-    checker = c;
-    answer = record { lines = []; text = begins known; accepted = ready.accepted };
-    stops = stops;
-  }
-    where
-      begins : (k : Known) → BeginsWith (proof_says ids formula) k []
-      begins None = (([], Ended), tt)
-      begins (Some bytes) = (proof_says ids formula bytes, refl)
-  not_opened (reads.Line n kind) is ready stops = absurd is
-  not_opened reads.OutOfMemory is ready stops = tt
+  pub not_opened : (fault : LratTextFault) → IsNoLine fault → IsReady formula [] c → IsLratAnswer (proof_says ids formula) known formula c (Err (of_text fault))
+  not_opened (reads.Read cause) is ready = record { lines = []; text = nothing_yet known; accepted = ready.accepted }
+  not_opened (reads.Line n kind) is ready = absurd is
+  not_opened reads.OutOfMemory is ready = record { lines = []; text = nothing_yet known; accepted = ready.accepted }
 
   -- the lines were read in a form
-  pub refuted_in : (count : ℕ) (form : LratForm) → count ≡ min (length formula) (2 ^ 64 - 1) → IfSome known (λ bytes. form ≡ form_of ids count bytes) →
-      (r : Result Bool LratFault) → IsLratAnswer (outcome_in form) known formula c r → OnErr r (has_refuted c ≡ false) → Refutes ids formula known r
-  refuted_in count form counted is r answer stops =
-      refutes_by ids formula known c r (answer_as (outcome_in form) (proof_says ids formula) formula c known (says_so ids formula count form known counted is) r answer) stops
+  pub answered_in : (count : ℕ) (form : LratForm) → count ≡ min (length formula) (2 ^ 64 - 1) → IfSome known (λ bytes. form ≡ form_of ids count bytes) →
+      (r : Result Bool LratFault) → IsLratAnswer (outcome_in form) known formula c r → IsLratAnswer (proof_says ids formula) known formula c r
+  answered_in count form counted is r answer =
+      answer_as (outcome_in form) (proof_says ids formula) formula c known (says_so ids formula count form known counted is) r answer
 
 module _ (ids : Option Ids) (formula : List (List ℕ)) (known : Known) where
   not_true : (b : Bool) → (b ≡ true → ⊥) → b ≡ false

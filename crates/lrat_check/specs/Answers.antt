@@ -51,7 +51,7 @@ pub record IsBroken (says : List ℕ → Outcome) (known : Option (List ℕ))
   pub text : BeginsWith says known lines
   pub accepted : HasAccepted formula (said lines) c
 
--- by the answer; a failed read and want of memory can come anywhere
+-- by the answer; a failed read and running out of memory can come anywhere
 abbrev pub IsLratAnswer : (List ℕ → Outcome) → Option (List ℕ) → List (List ℕ) → LratChecker →
     Result Bool LratFault → Type 0
 IsLratAnswer says known formula c (Ok found) = IsChecked says known formula c found

@@ -1,21 +1,20 @@
 //! The lines of a proof, checked one after the other.
-ghost use Rattle.std.specs.Prelude.{◌≡◌, ℕ, List, [], Option, OnErr, false};
+ghost use Rattle.std.specs.Prelude.{◌≡◌, ◌-◌, ◌^◌, ℕ, List, [], Option, OnErr, false, length, min};
 ghost use Rattle.lrat_binary.specs.Proofs.{IsFresh, form_now, outcome_in};
 ghost use Rattle.lrat_checker.specs.Faults.{in_line};
 ghost use Rattle.lrat_checker.specs.Standing.{IsReady, has_refuted};
-ghost use Rattle.lrat_check.specs.Answers.{IsLratAnswer};
+ghost use Rattle.lrat_check.specs.Answers.{IsLratAnswer, proof_says};
 ghost use Rattle.lrat_check.specs.Held.{HoldsCounted};
 ghost use Rattle.lrat_check.specs.Runs.{Refutes};
 
 use crate::formula::Held;
+use crate::stored::KnownIds;
 use lrat_binary::{Ids, LratReader, open_proof};
 use lrat_checker::{LineFault, LratChecker, LratFault};
 use std::alloc::Global;
 use std::io::Read;
 
 /// Whether a proof shows that no assignment satisfies the formula that was given.
-///
-/// Nothing is read where the formula has the empty clause.
 pub(crate) fn refute<P: Read + Drop>(
     alloc: Global,
     held: Held,
@@ -27,11 +26,33 @@ pub(crate) fn refute<P: Read + Drop>(
 {
     let Held { clauses, count } = held;
     let mut checker = clauses.checker();
+    let mut known = KnownIds::unasked();
+    refute_after(alloc, &mut checker, count, proof, ids, &mut known)
+}
+
+/// Whether a proof shows that no assignment satisfies the clauses that a checker holds, `count` of
+/// them. The checker then has the lines that were read. The ids that they added are known, where
+/// they are asked for.
+///
+/// Nothing is read where the formula has the empty clause.
+pub(crate) fn refute_after<P: Read + Drop>(
+    alloc: Global,
+    checker: &mut LratChecker,
+    count: u64,
+    proof: P,
+    ids: Option<Ids>,
+    known: &mut KnownIds,
+) -> Result<bool, LratFault>
+    ensures answer { (formula : List (List ℕ)) → IsReady formula [] checker.old
+        → count ≡ min (length formula) (2 ^ 64 - 1)
+        → IsLratAnswer (proof_says ids formula) (P.remaining proof) formula checker.new result }
+    ensures stops { OnErr result (has_refuted checker.new ≡ false) }
+{
     if checker.refuted() {
         return Ok(true);
     }
     match open_proof(alloc, proof, ids, count) {
-        Ok(mut reader) => refute_lines(&mut checker, &mut reader),
+        Ok(mut reader) => refute_lines(checker, &mut reader, known),
         Err(fault) => Err(LratFault::from(fault)),
     }
 }
@@ -41,6 +62,7 @@ pub(crate) fn refute<P: Read + Drop>(
 fn refute_lines<R: Read>(
     checker: &mut LratChecker,
     reader: &mut LratReader<R>,
+    known: &mut KnownIds,
 ) -> Result<bool, LratFault>
     ensures answer { (formula : List (List ℕ)) (known : Option (List ℕ))
         → IsReady formula [] checker.old
@@ -51,6 +73,9 @@ fn refute_lines<R: Read>(
     'lines: while !checker.refuted() {
         match reader.next_line() {
             Ok(Some(line)) => {
+                if known.note(line).is_err() {
+                    return Err(LratFault::OutOfMemory);
+                }
                 if let Err(fault) = checker.check_line(line) {
                     return Err(in_line(fault, reader.line()));
                 }

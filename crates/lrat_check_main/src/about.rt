@@ -3,7 +3,7 @@ use command::{About, Entry, QUIET, STATS, VERBOSE};
 
 /// What `--help` says.
 pub const ABOUT: About<'static> = About {
-    call: "lrat_check CNF LRAT [--ids WAY] [--stats] [--quiet] [--verbose]",
+    call: "lrat_check CNF LRAT [--ids WAY] [--holds FILE] [--stats] [--quiet] [--verbose]",
     does: "Checks an LRAT proof against a formula, and says in one line what it shows.",
     operands: &[
         Entry {
@@ -19,6 +19,10 @@ pub const ABOUT: About<'static> = About {
         Entry {
             name: "--ids WAY",
             text: "how ids stand in a binary proof: plain or doubled; else its first bytes tell it",
+        },
+        Entry {
+            name: "--holds FILE",
+            text: "the proof is a piece of one, which need not come to the empty clause: the clauses of this formula have to be stored behind it, and the line is then s VERIFIED PIECE",
         },
         STATS,
         QUIET,

@@ -1,17 +1,20 @@
-//! The command `lrat_check CNF LRAT [--ids WAY]`: checks an LRAT proof against a formula, and says
-//! in one line what it shows.
+//! The command `lrat_check CNF LRAT [--ids WAY] [--holds FILE]`: checks an LRAT proof against a
+//! formula, and says in one line what it shows.
 //!
+//! With `--holds` the proof is one piece of a proof, behind which the clauses of a file are wanted.
 //! `--example` checks a small fixed example, `--help` says how the program is called, and
 //! `--version` of which version it is. The name `-` stands for standard input.
 //! What `RUST_LOG` asks for, as `RUST_LOG=info`, is logged to standard error; else nothing is.
 #![tactic(auto)]
 
 mod about;
+mod piece;
 
 use crate::about::ABOUT;
+use crate::piece::check_piece;
 use command::{
-    Call, Cost, NOT_RUN, hold_input, misused, open_inputs, say_formula, say_proof, say_unread,
-    start, unnamed, warn_of_header,
+    Call, Cost, NOT_RUN, PieceNames, hold_input, misused, open_inputs, say_formula, say_proof,
+    say_unread, start, unnamed, warn_of_header,
 };
 use lrat_check::{Ids, RunFault, Verdict, exit_status, run_check};
 use progress::{Progress, ToldBytes};
@@ -43,9 +46,16 @@ fn run(rt: &HostRuntime, call: &Call<'_>) -> u8 {
     let Some(ids) = ids_of(call) else {
         return misused(rt, &ABOUT, "--ids takes plain or doubled");
     };
-    match call.operands.as_slice() {
-        [cnf, proof] => check_files(rt, cnf.as_str(), proof.as_str(), ids, call),
-        operands => unnamed(rt, &ABOUT, operands.len()),
+    let (cnf, proof) = match call.operands.as_slice() {
+        [cnf, proof] => (cnf.as_str(), proof.as_str()),
+        operands => return unnamed(rt, &ABOUT, operands.len()),
+    };
+    match call.value("--holds") {
+        Some(holds) => {
+            let piece = proof;
+            check_piece(rt, PieceNames { cnf, piece, holds }, ids, call)
+        }
+        None => check_files(rt, cnf, proof, ids, call),
     }
 }
 

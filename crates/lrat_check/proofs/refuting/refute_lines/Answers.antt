@@ -3,7 +3,7 @@ use Rattle.lrat_binary.specs.Proofs.{form_now, outcome_in}
 use Rattle.lrat_checker.specs.Faults.{in_line}
 use Rattle.lrat_checker.specs.TextAnswers.{said}
 use Rattle.lrat_check.specs.Answers.{IsLratAnswer}
-use Rattle.lrat_check.proofs.LineLemmas.{so_far_done, so_far_ended, so_far_fault, so_far_more, so_far_refused, so_far_start}
+use Rattle.lrat_check.proofs.LineLemmas.{so_far_done, so_far_ended, so_far_fault, so_far_more, so_far_refused, so_far_start, so_far_stopped}
 use Rattle.lrat_check.proofs.refuting.refute_lines.Goals as goal
 
 pub lines-init : goal.lines-init
@@ -16,6 +16,10 @@ lines-preserved g c = λ formula known ready fresh.
     let so = c.lines.invariant formula known ready fresh in
     so_far_more g.R.Read.remaining known (form_now c.args.reader.now) c.lines.reader formula c.lines.checker so c.next_line.follows.lender-at-none
     c.in-Ok-Some.line gave c.check_line.new.self (c.in_default.ensures.accepted formula (said so.lines))
+
+pub returns-then-is_err-clause-answer : goal.returns-then-is_err-clause-answer
+returns-then-is_err-clause-answer g c = λ formula known ready fresh.
+    so_far_stopped g.R.Read.remaining known (form_now c.args.reader.now) c.lines.reader formula c.lines.checker (c.lines.invariant formula known ready fresh)
 
 pub returns-in-Err-check_line-clause-answer : goal.returns-in-Err-check_line-clause-answer
 returns-in-Err-check_line-clause-answer g c = λ formula known ready fresh.

@@ -1,0 +1,90 @@
+-- Runs over a piece of a proof, by what the checker answers.
+--     left_behind      what the lines of a piece leave
+--     piece_shown      what a verdict says of the formulas
+--     read_run, read_begins, read_carries, read_refutes, read_lies      runs after the texts of two formulas
+use Rattle.std.proofs.Common.{◌≡◌, ℕ, Bool, true, false, List, Option, Some, Result, Ok, Err, refl, sym, ◌∙◌, subst}
+use Rattle.std.specs.Option.{option_map}
+use Rattle.sat_rules.specs.Named.{Item}
+use Rattle.piece_rules.proofs.Joining.{piece_carries}
+use Rattle.lrat_binary.specs.declared.ids.Ids.{Ids}
+use Rattle.lrat_checker.specs.TextAnswers.{said}
+use Rattle.lrat_checker.specs.declared.checker.LratChecker.{LratChecker}
+use Rattle.sat_formula.specs.declared.counts.LyingHeader.{LyingHeader}
+use Rattle.sat_formula.specs.Lines as dimacs
+use Rattle.sat_formula.specs.Outcome.{Ended}
+use Rattle.sat_formula.specs.Refuted.{IsRefuted}
+use Rattle.sat_formula.specs.Whole.{IsOutcome}
+use Rattle.whole_formulas.specs.Lies.{IsLie}
+use Rattle.verdicts.specs.declared.piece.PieceVerdict.{PieceVerdict}
+use Rattle.verdicts.specs.declared.piece.PieceVerdict.TheVariants.{Refuted, Carried, NotCarried}
+use Rattle.piece_runs.specs.Texts.{CarriesText, IsPieceShown, OfFormulas}
+use Rattle.piece_runs.proofs.Reading.{carries_text, of_formulas}
+use Rattle.lrat_check.specs.Answers.{IsLratAnswer, proof_says}
+use Rattle.lrat_check.specs.Pieces.{BeginsPiece, BeginsShown, IsHeld, IsPieceRun, IsReadPieceRun, Leaves, PieceShows, TellsPieceLies, verdict_by}
+use Rattle.lrat_check.specs.declared.fault.RunFault.TheVariants.{Formula, Proof, Write}
+use Rattle.lrat_check.specs.declared.piece_fault.PieceFault.{PieceFault}
+use Rattle.lrat_check.specs.declared.piece_fault.PieceFault.TheVariants.{Run, Wanted}
+use Rattle.lrat_check.proofs.RunLemmas.{formula_refuted}
+
+abbrev Known : Type 0
+Known = Option (List ℕ)
+
+module _ (ids : Option Ids) (formula wanted : List (List ℕ)) (known : Known) where
+  -- a checker has accepted all lines, and none of them adds the empty clause
+  pub left_behind : (c : LratChecker) (P : List Item → Type 0) (p : IsLratAnswer (proof_says ids formula) known formula c (Ok false)) →
+      P p.ready.accepted.store → Leaves ids formula known P
+  left_behind c P p left = record {
+    lines = p.lines;
+    text = p.text;
+    store = p.ready.accepted.store;
+    ran = p.ready.accepted.ran;
+    unrefuted = sym p.ready.accepted.refuted ∙ sym p.answer;
+    left = left;
+  }
+
+  -- by whether that checker holds the wanted clauses
+  pub shows_by : (c : LratChecker) (p : IsLratAnswer (proof_says ids formula) known formula c (Ok false)) (holds : Bool) →
+      (holds ≡ true → IsHeld wanted p.ready.accepted.store) → PieceShows ids formula wanted known (Ok (verdict_by holds))
+  shows_by c p true held = left_behind c (IsHeld wanted) p (held refl)
+  shows_by c p false held = left_behind c (λ store. Unit {0}) p tt
+
+  pub piece_shown : (verdict : PieceVerdict) → PieceShows ids formula wanted known (Ok verdict) → IsPieceShown formula wanted verdict
+  piece_shown Refuted p = formula_refuted ids formula known true p refl
+  piece_shown Carried p = piece_carries formula wanted p.left.0 p.store (said p.lines) p.ran p.left.1
+  piece_shown NotCarried p = tt
+
+-- ---- runs after the texts of two formulas
+
+module _ (ids : Option Ids) (cnf holds known : Known) (formula wanted : List (List ℕ)) (whole : IsOutcome (option_map dimacs.outcome_of cnf) (formula, Ended))
+    (wanted_whole : IsOutcome (option_map dimacs.outcome_of holds) (wanted, Ended)) where
+  both : (P : List (List ℕ) → List (List ℕ) → Type 0) → P formula wanted → OfFormulas cnf holds P
+  both = of_formulas cnf holds formula wanted whole wanted_whole
+
+  pub read_run : (r : Result PieceVerdict PieceFault) → IsReadPieceRun ids formula wanted known r → IsPieceRun ids cnf holds known r
+  read_run (Ok verdict) p = both (λ formula wanted. IsReadPieceRun ids formula wanted known (Ok verdict)) p
+  read_run (Err (Run (Write cause))) p = both (λ formula wanted. IsReadPieceRun ids formula wanted known (Err (Run (Write cause)))) p
+  read_run (Err (Run (Proof fault))) p = both (λ formula wanted. IsReadPieceRun ids formula wanted known (Err (Run (Proof fault)))) p
+  read_run (Err (Run (Formula fault))) p = absurd p
+  read_run (Err (Wanted fault)) p = absurd p
+
+  pub read_begins : (old new : Known) → BeginsShown ids formula wanted known old new → BeginsPiece ids cnf holds known old new
+  read_begins old new p = both (λ formula wanted. BeginsShown ids formula wanted known old new) p
+
+  pub read_carries : (text other : List ℕ) → cnf ≡ Some text → holds ≡ Some other → PieceShows ids formula wanted known (Ok Carried) → CarriesText text other
+  read_carries text other is is' p = carries_text cnf holds formula wanted whole wanted_whole text other is is' (piece_shown ids formula wanted known Carried p)
+
+  pub read_refutes : (text : List ℕ) → cnf ≡ Some text → PieceShows ids formula wanted known (Ok Refuted) → IsRefuted text
+  read_refutes text is p = (
+    formula,
+    subst (λ (k : Known). IsOutcome (option_map dimacs.outcome_of k) (formula, Ended)) is whole,
+    piece_shown ids formula wanted known Refuted p,
+  )
+
+  -- what is told of both headers
+  pub read_lies : (lie other : Option LyingHeader) (r : Result PieceVerdict PieceFault) → IsLie cnf lie → IsLie holds other →
+      IsReadPieceRun ids formula wanted known r → TellsPieceLies cnf holds r lie other
+  read_lies lie other (Ok verdict) p q read = (p, q)
+  read_lies lie other (Err (Run (Write cause))) p q read = (p, q)
+  read_lies lie other (Err (Run (Proof fault))) p q read = (p, q)
+  read_lies lie other (Err (Run (Formula fault))) p q read = absurd read
+  read_lies lie other (Err (Wanted fault)) p q read = absurd read

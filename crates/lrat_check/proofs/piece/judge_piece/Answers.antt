@@ -1,0 +1,31 @@
+use Rattle.std.proofs.Common.{Bool, Ok, Err, sym, subst}
+use Rattle.lrat_checker.specs.TextAnswers.{said}
+use Rattle.verdicts.specs.declared.piece.PieceVerdict.{PieceVerdict}
+use Rattle.lrat_check.specs.Answers.{IsLratAnswer, proof_says}
+use Rattle.lrat_check.specs.Pieces.{PieceShows}
+use Rattle.lrat_check.specs.Runs.{Refutes}
+use Rattle.lrat_check.proofs.PieceLemmas.{shows_by}
+use Rattle.lrat_check.proofs.RunLemmas.{refutes_by}
+use Rattle.lrat_check.proofs.piece.judge_piece.Goals as goal
+
+pub returns-in-Err : goal.returns-in-Err
+returns-in-Err g c = λ formula held.
+    refutes_by c.args.ids formula (g.P.Read.remaining c.args.piece) c.refute_after.new.checker (Err c.in-Err.fault)
+    (c.in-Err.ensures.answer formula (c.checker-checker.ensures.ready formula held.held) held.count) c.in-Err.ensures.stops
+
+pub returns-then-refuted : goal.returns-then-refuted
+returns-then-refuted g c = λ formula held.
+    subst (λ (b : Bool). Refutes c.args.ids formula (g.P.Read.remaining c.args.piece) (Ok b)) c.if-refuted.true
+    (refutes_by c.args.ids formula (g.P.Read.remaining c.args.piece) c.refute_after.new.checker (Ok c.in-Ok.refuted)
+    (c.in-Ok.ensures.answer formula (c.checker-checker.ensures.ready formula held.held) held.count) c.in-Ok.ensures.stops)
+
+pub returns-in-Ok-stored_ids : goal.returns-in-Ok-stored_ids
+returns-in-Ok-stored_ids g c = λ formula held.
+    let known = g.P.Read.remaining c.args.piece in
+    let checker = c.refute_after.new.checker in
+    let ready = c.checker-checker.ensures.ready formula held.held in
+    let answer = subst (λ (b : Bool). IsLratAnswer (proof_says c.args.ids formula) known formula checker (Ok b)) c.if-refuted.false
+    (c.in-Ok.ensures.answer formula ready held.count) in
+    subst (λ (v : PieceVerdict). PieceShows c.args.ids formula c.args.wanted.now known (Ok v)) (sym c.verdict_by.ensures)
+    (shows_by c.args.ids formula c.args.wanted.now known checker answer c.holds.result
+    (λ is. (_, (c.holds.ensures.stored formula (said answer.lines) answer.ready).0 is)))

@@ -1,0 +1,124 @@
+-- Runs over one piece of a proof, after a formula and the clauses that are wanted behind the piece.
+--     IsHeld store wanted      some ids name the wanted clauses
+--     Leaves ids formula known P      the lines of the piece are accepted, none adds the empty clause, and of what is stored then this is so
+--     PieceShows ids formula wanted known r      what a piece of these bytes shows
+--     IsReadPieceRun, IsPieceRun      the run after two formulas, and after their texts
+--     IsSilentPiece r, IsUnwrittenPiece r      no line of a verdict was begun;  one was not written whole
+--     BeginsShown, BeginsPiece      what was written then, after two formulas, and after their texts
+--     TellsPieceLies      what is told of both headers
+use Rattle.std.specs.Prelude.{◌≡◌, ℕ, Bool, true, false, List, Option, Some, None, Result, Ok, Err}
+use Rattle.std.specs.Option.{option_map}
+use Rattle.sat_rules.specs.Named.{Item, NamedBy}
+use Rattle.lrat_rules.specs.Lines.{Line, is_refuted, run}
+use Rattle.lrat_rules.specs.Stores.{find, formula_store}
+use Rattle.lrat_text.specs.Texts.{Ended}
+use Rattle.lrat_binary.specs.Proofs.{SaysAll}
+use Rattle.lrat_binary.specs.declared.ids.Ids.{Ids}
+use Rattle.lrat_checker.specs.TextAnswers.{said}
+use Rattle.lrat_checker.specs.declared.fault.LratFault.{LratFault}
+use Rattle.sat_formula.specs.declared.counts.LyingHeader.{LyingHeader}
+use Rattle.sat_formula.specs.Lines as dimacs
+use Rattle.sat_formula.specs.Whole.{FailsAfter}
+use Rattle.whole_formulas.specs.Lies.{IsLie}
+use Rattle.whole_writes.specs.Beginnings.{AppendsBeginning}
+use Rattle.verdicts.specs.Pieces.{piece_line}
+use Rattle.verdicts.specs.declared.piece.PieceVerdict.{PieceVerdict}
+use Rattle.verdicts.specs.declared.piece.PieceVerdict.TheVariants.{Refuted, Carried, NotCarried}
+use Rattle.piece_runs.specs.Texts.{OfFormula, OfFormulas}
+use Rattle.lrat_check.specs.Answers.{proof_says}
+use Rattle.lrat_check.specs.Runs.{Refutes}
+use Rattle.lrat_check.specs.declared.fault.RunFault.TheVariants.{Formula, Proof, Write}
+use Rattle.lrat_check.specs.declared.piece_fault.PieceFault.{PieceFault}
+use Rattle.lrat_check.specs.declared.piece_fault.PieceFault.TheVariants.{Run, Wanted}
+
+-- ids name the wanted clauses, one each, in their order and with their literals in the same order
+abbrev pub IsHeld : List (List ℕ) → List Item → Type 0
+IsHeld wanted store = (names : List ℕ) × NamedBy (find store) names wanted
+
+-- a piece of these bytes has these lines, which are accepted after the formula; neither it nor one of them is the empty clause; and of what is stored after them this is so
+pub record Leaves (ids : Option Ids) (formula : List (List ℕ)) (known : Option (List ℕ))
+    (P : List Item → Type 0) : Type 0 where
+  pub lines : List (ℕ × Line)
+  pub text : SaysAll (proof_says ids formula) known lines Ended
+  pub store : List Item
+  pub ran : run (formula_store formula) (said lines) ≡ Some store
+  pub unrefuted : is_refuted formula (said lines) ≡ false
+  pub left : P store
+
+-- the verdict by whether the wanted clauses were found
+abbrev pub verdict_by : Bool → PieceVerdict
+verdict_by true = Carried
+verdict_by false = NotCarried
+
+-- by its verdict or its fault
+abbrev pub PieceShows : Option Ids → List (List ℕ) → List (List ℕ) → Option (List ℕ) →
+    Result PieceVerdict LratFault → Type 0
+PieceShows ids formula wanted known (Ok Refuted) = Refutes ids formula known (Ok true)
+PieceShows ids formula wanted known (Ok Carried) = Leaves ids formula known (IsHeld wanted)
+PieceShows ids formula wanted known (Ok NotCarried) =
+    Leaves ids formula known (λ store. Unit {0})
+PieceShows ids formula wanted known (Err fault) = Refutes ids formula known (Err fault)
+
+-- by the verdict, written or not, or by the fault; the formulas were there
+abbrev pub IsReadPieceRun : Option Ids → List (List ℕ) → List (List ℕ) → Option (List ℕ) →
+    Result PieceVerdict PieceFault → Type 0
+IsReadPieceRun ids formula wanted known (Ok verdict) =
+    PieceShows ids formula wanted known (Ok verdict)
+IsReadPieceRun ids formula wanted known (Err (Run (Write cause))) =
+    (verdict : PieceVerdict) × PieceShows ids formula wanted known (Ok verdict)
+IsReadPieceRun ids formula wanted known (Err (Run (Proof fault))) =
+    PieceShows ids formula wanted known (Err fault)
+IsReadPieceRun ids formula wanted known (Err (Run (Formula fault))) = ⊥
+IsReadPieceRun ids formula wanted known (Err (Wanted fault)) = ⊥
+
+-- the run over all texts: a formula that was not read whole is answered, the first one first
+abbrev pub IsPieceRun : Option Ids → Option (List ℕ) → Option (List ℕ) → Option (List ℕ) →
+    Result PieceVerdict PieceFault → Type 0
+IsPieceRun ids cnf holds known (Ok verdict) = OfFormulas cnf holds
+    (λ formula wanted. IsReadPieceRun ids formula wanted known (Ok verdict))
+IsPieceRun ids cnf holds known (Err (Run (Write cause))) = OfFormulas cnf holds
+    (λ formula wanted. IsReadPieceRun ids formula wanted known (Err (Run (Write cause))))
+IsPieceRun ids cnf holds known (Err (Run (Proof fault))) = OfFormulas cnf holds
+    (λ formula wanted. IsReadPieceRun ids formula wanted known (Err (Run (Proof fault))))
+IsPieceRun ids cnf holds known (Err (Run (Formula fault))) = (clauses : List (List ℕ))
+    × FailsAfter (option_map dimacs.outcome_of cnf) clauses fault
+IsPieceRun ids cnf holds known (Err (Wanted fault)) = OfFormula cnf (λ formula.
+    (clauses : List (List ℕ)) × FailsAfter (option_map dimacs.outcome_of holds) clauses fault)
+
+-- no line of a verdict was begun
+abbrev pub IsSilentPiece : Result PieceVerdict PieceFault → Type 0
+IsSilentPiece (Ok verdict) = ⊥
+IsSilentPiece (Err (Run (Write cause))) = ⊥
+IsSilentPiece (Err (Run (Proof fault))) = Unit {0}
+IsSilentPiece (Err (Run (Formula fault))) = Unit {0}
+IsSilentPiece (Err (Wanted fault)) = Unit {0}
+
+-- the verdict stands, and its line was not written whole
+abbrev pub IsUnwrittenPiece : Result PieceVerdict PieceFault → Type 0
+IsUnwrittenPiece (Ok verdict) = ⊥
+IsUnwrittenPiece (Err (Run (Write cause))) = Unit {0}
+IsUnwrittenPiece (Err (Run (Proof fault))) = ⊥
+IsUnwrittenPiece (Err (Run (Formula fault))) = ⊥
+IsUnwrittenPiece (Err (Wanted fault)) = ⊥
+
+-- the piece was checked, and an output grew by a beginning of the line of its verdict
+pub record BeginsShown (ids : Option Ids) (formula wanted : List (List ℕ))
+    (known old new : Option (List ℕ)) : Type 0 where
+  pub verdict : PieceVerdict
+  pub shown : PieceShows ids formula wanted known (Ok verdict)
+  pub begins : AppendsBeginning old new (piece_line verdict)
+
+-- the whole texts are these formulas, and so on
+abbrev pub BeginsPiece : Option Ids → Option (List ℕ) → Option (List ℕ) → Option (List ℕ) →
+    Option (List ℕ) → Option (List ℕ) → Type 0
+BeginsPiece ids cnf holds known old new = OfFormulas cnf holds
+    (λ formula wanted. BeginsShown ids formula wanted known old new)
+
+-- what both headers lie about, of each where the formula was read whole; else nothing
+abbrev pub TellsPieceLies : Option (List ℕ) → Option (List ℕ) → Result PieceVerdict PieceFault →
+    Option LyingHeader → Option LyingHeader → Type 0
+TellsPieceLies cnf holds (Ok verdict) lie other = IsLie cnf lie × IsLie holds other
+TellsPieceLies cnf holds (Err (Run (Write cause))) lie other = IsLie cnf lie × IsLie holds other
+TellsPieceLies cnf holds (Err (Run (Proof fault))) lie other = IsLie cnf lie × IsLie holds other
+TellsPieceLies cnf holds (Err (Run (Formula fault))) lie other = lie ≡ None
+TellsPieceLies cnf holds (Err (Wanted fault)) lie other = IsLie cnf lie × (other ≡ None)

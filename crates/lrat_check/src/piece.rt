@@ -1,0 +1,145 @@
+//! Runs over one piece of a proof: its lines carry a formula to the clauses that are wanted behind
+//! them.
+ghost use Rattle.std.specs.Prelude.{◌≡◌, ℕ, List, Some, Ok, IfOk};
+ghost use Rattle.std.specs.Io.KnownBytes.{Appends};
+ghost use Rattle.sat_formula.specs.Refuted.{IsRefuted};
+ghost use Rattle.piece_runs.specs.Texts.{CarriesText};
+ghost use Rattle.lrat_check.specs.Held.{HoldsCounted};
+ghost use Rattle.lrat_check.specs.Pieces.{BeginsPiece, BeginsShown, IsPieceRun, IsReadPieceRun, IsSilentPiece, IsUnwrittenPiece, PieceShows, TellsPieceLies, verdict_by};
+ghost use Rattle.verdicts.specs.Pieces.{piece_line};
+ghost use Rattle.verdicts.specs.declared.piece.PieceVerdict.TheVariants.{Refuted, Carried};
+
+use crate::fault::RunFault;
+use crate::formula::{Held, read_held};
+use crate::piece_fault::PieceFault;
+use crate::refuting::refute_after;
+use crate::stored::{KnownIds, stored_ids};
+use lrat_binary::Ids;
+use lrat_checker::LratFault;
+use piece_runs::MissingClause;
+use sat_formula::{CnfFormula, LyingHeader};
+use std::alloc::Global;
+use std::io::{Read, Write};
+use verdicts::{PieceVerdict, write_piece_line};
+use whole_formulas::read_formula;
+
+/// What a run over a piece tells beside its verdict.
+#[derive(Drop)]
+pub struct PieceTold {
+    /// The first wanted clause that is not there, where the verdict is that. No clause speaks of
+    /// it.
+    pub missing: Option<MissingClause>,
+    /// What the formula's header lies about.
+    pub lie: Option<LyingHeader>,
+    /// What the header of the wanted clauses lies about.
+    pub wanted_lie: Option<LyingHeader>,
+}
+
+/// Reads a formula and the clauses that are wanted behind a piece of a proof, both in DIMACS CNF,
+/// checks the piece, and writes the verdict's line.
+///
+/// The verdict is `Carried` where all lines of the piece are accepted, none adds the empty clause,
+/// and each wanted clause is stored behind them, its literals in the same order: then some
+/// assignment satisfies all of them, if one satisfies the formula. It is `Refuted` where a line
+/// adds the empty clause, up to which the piece is read. Where a line is refused or can't be read,
+/// no line is written. Where the verdict's line can't be written whole, the verdict stood.
+pub fn run_piece<F: Read + Drop, G: Read + Drop, P: Read + Drop, W: Write>(
+    alloc: Global,
+    cnf: F,
+    holds: G,
+    piece: P,
+    ids: Option<Ids>,
+    told: &mut PieceTold,
+    out: &mut W,
+) -> Result<PieceVerdict, PieceFault>
+    ensures run { IsPieceRun ids (F.remaining cnf) (G.remaining holds) (P.remaining piece) result }
+    ensures line { IfOk result (λ verdict.
+        Appends (W.contents out.old) (W.contents out.new) (piece_line verdict)) }
+    ensures silent { IsSilentPiece result → out.new ≡ out.old }
+    ensures unwritten { IsUnwrittenPiece result → BeginsPiece ids (F.remaining cnf)
+        (G.remaining holds) (P.remaining piece) (W.contents out.old) (W.contents out.new) }
+    ensures carries { (text other : List ℕ) → F.remaining cnf ≡ Some text
+        → G.remaining holds ≡ Some other → result ≡ Ok Carried → CarriesText text other }
+    ensures refutes { (text : List ℕ) → F.remaining cnf ≡ Some text
+        → result ≡ Ok Refuted → IsRefuted text }
+    ensures lies { TellsPieceLies (F.remaining cnf) (G.remaining holds) result
+        told.new.lie told.new.wanted_lie }
+{
+    let held = match read_held(alloc, cnf, &mut told.lie) {
+        Ok(held) => held,
+        Err(fault) => return Err(PieceFault::Run(RunFault::Formula(fault))),
+    };
+    let wanted = match read_formula(alloc, holds, &mut told.wanted_lie) {
+        Ok(wanted) => wanted,
+        Err(fault) => return Err(PieceFault::Wanted(fault)),
+    };
+    run_read_piece(alloc, held, &wanted, piece, ids, &mut told.missing, out)
+}
+
+/// The same after both formulas.
+fn run_read_piece<P: Read + Drop, W: Write>(
+    alloc: Global,
+    held: Held,
+    wanted: &CnfFormula,
+    piece: P,
+    ids: Option<Ids>,
+    missing: &mut Option<MissingClause>,
+    out: &mut W,
+) -> Result<PieceVerdict, PieceFault>
+    ensures run { (formula : List (List ℕ)) → HoldsCounted formula held
+        → IsReadPieceRun ids formula wanted.now (P.remaining piece) result }
+    ensures line { IfOk result (λ verdict.
+        Appends (W.contents out.old) (W.contents out.new) (piece_line verdict)) }
+    ensures silent { IsSilentPiece result → out.new ≡ out.old }
+    ensures unwritten { (formula : List (List ℕ)) → HoldsCounted formula held
+        → IsUnwrittenPiece result → BeginsShown ids formula wanted.now (P.remaining piece)
+        (W.contents out.old) (W.contents out.new) }
+{
+    let verdict = match judge_piece(alloc, held, wanted, piece, ids, missing) {
+        Ok(verdict) => verdict,
+        Err(fault) => return Err(PieceFault::Run(RunFault::Proof(fault))),
+    };
+    match write_piece_line(out, verdict) {
+        Ok(()) => Ok(verdict),
+        Err(fault) => Err(PieceFault::Run(RunFault::Write(fault))),
+    }
+}
+
+/// What a piece shows of the formula that was given and the wanted clauses.
+fn judge_piece<P: Read + Drop>(
+    alloc: Global,
+    held: Held,
+    wanted: &CnfFormula,
+    piece: P,
+    ids: Option<Ids>,
+    missing: &mut Option<MissingClause>,
+) -> Result<PieceVerdict, LratFault>
+    ensures { (formula : List (List ℕ)) → HoldsCounted formula held
+        → PieceShows ids formula wanted.now (P.remaining piece) result }
+{
+    let Held { clauses, count } = held;
+    let mut checker = clauses.checker();
+    let mut known = KnownIds::of_formula(alloc, count);
+    let refuted = match refute_after(alloc, &mut checker, count, piece, ids, &mut known) {
+        Ok(refuted) => refuted,
+        Err(fault) => return Err(fault),
+    };
+    if refuted {
+        return Ok(PieceVerdict::Refuted);
+    }
+    match stored_ids(alloc, &checker, &known, wanted, missing) {
+        Ok(named) => Ok(verdict_by(checker.holds(wanted, &named))),
+        Err(_) => Err(LratFault::OutOfMemory),
+    }
+}
+
+/// The verdict of a piece without a conflict, by whether the wanted clauses are stored behind it.
+fn verdict_by(holds: bool) -> PieceVerdict
+    ensures { result ≡ verdict_by holds }
+{
+    if holds {
+        PieceVerdict::Carried
+    } else {
+        PieceVerdict::NotCarried
+    }
+}

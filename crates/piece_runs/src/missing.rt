@@ -1,0 +1,24 @@
+//! A clause that is missing behind a piece.
+use sat_formula::Lit;
+use std::fmt;
+use std::fmt::{Display, Formatter};
+
+/// A clause that is wanted behind a piece and is not there.
+#[derive(Drop)]
+pub struct MissingClause {
+    /// Its number among the wanted ones, from 1.
+    pub number: u64,
+    pub lits: Vec<Lit>,
+}
+
+impl Display for MissingClause {
+    fn fmt<F: fmt::Write>(&self, f: &mut Formatter<F>) -> fmt::Result {
+        let number = self.number;
+        write!(f, "clause {number} is not there behind the piece:")?;
+        for lit in &self.lits {
+            let lit = lit.to_dimacs();
+            write!(f, " {lit}")?;
+        }
+        write!(f, " 0")
+    }
+}
