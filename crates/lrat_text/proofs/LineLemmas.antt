@@ -97,7 +97,7 @@ breaks_on {a} {b} {c} {before} p q = record {
   is_open = q.is_open;
 }
 
--- the same, said otherwise
+-- a reading of f is one of a function that agrees with it
 pub follows_as : (a b : Known) (before : ℕ) (over : Bool) (f g : List ℕ → Outcome) → ((more : List ℕ) → f more ≡ g more) → Follows a b before over f → Follows a b before over g
 follows_as a b before false f g e p = record { taken = p.taken; consumed = p.consumed; same = λ more. p.same more ∙ e more }
 follows_as a b before true f g e p = record { taken = p.taken; consumed = p.consumed; at_end = p.at_end; same = p.same ∙ e [] }

@@ -9,9 +9,7 @@ ghost use Rattle.lrat_text.specs.Reading.{ReadsAs};
 use crate::fault::{LineKind, Stop};
 use crate::line::Hint;
 use crate::number::{Number, any_number, short_number};
-use sat_formula::{Lit, Var};
-
-const MAX_VARIABLE: u64 = Var::MAX_COUNT as u64;
+use sat_formula::Lit;
 
 /// What stands in a list, by the number that says it.
 pub(crate) trait Item: Copy {
@@ -29,10 +27,11 @@ impl Item for Lit {
     fn of(number: Number) -> Result<Option<Lit>, LineKind> {
         match number {
             Number::Exact { value: 0, .. } => Ok(None),
-            Number::Exact { negative, value } if value <= MAX_VARIABLE => {
-                Ok(Lit::from_code((value as usize - 1) * 2 + negative as usize))
-            }
-            Number::Exact { .. } | Number::Large => Err(LineKind::NumberTooLarge),
+            Number::Exact { negative, value } => match Lit::of_digits(negative, value) {
+                Some(lit) => Ok(Some(lit)),
+                None => Err(LineKind::NumberTooLarge),
+            },
+            Number::Large => Err(LineKind::NumberTooLarge),
             Number::Bad => Err(LineKind::Malformed),
         }
     }

@@ -7,7 +7,8 @@ ghost use Rattle.lrat_text.specs.Grammar.{first_said};
 ghost use Rattle.lrat_text.specs.FirstNumbers.{HasDigits, IsDigitsWord, IsFirst};
 
 use crate::fault::LineKind;
-use crate::words::{ends_word, is_digit, skip_blanks, split_word};
+use crate::words::{skip_blanks, split_word};
+use sat_formula::bytes::{ends_word, is_digit};
 
 /// Words of fewer digits are read in one pass.
 const FEW_DIGITS: usize = 10;

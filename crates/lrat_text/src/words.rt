@@ -1,29 +1,9 @@
 //! The words of a line: what stands between blanks, up to the LF.
 ghost use Rattle.std.specs.Prelude.{◌≡◌, ℕ, ◌<◌, ◌≤◌, ◌∷◌, [], length, slice_index, true, false, IfSome, IfNone};
-ghost use Rattle.sat_formula.specs.Bytes.{is_blank, is_digit};
+ghost use Rattle.sat_formula.specs.Bytes.{is_blank};
 ghost use Rattle.lrat_text.specs.Bytes.{IsLine, ends_word, words_in};
 
-#[inline(always)]
-pub(crate) fn is_blank(byte: u8) -> bool
-    ensures { result ≡ is_blank byte }
-{
-    byte == b' ' || byte == b'\t' || byte == b'\r'
-}
-
-/// Whether the byte is a blank or an LF. One comparison tells most bytes of a word.
-#[inline(always)]
-pub(crate) fn ends_word(byte: u8) -> bool
-    ensures { result ≡ ends_word byte }
-{
-    byte <= b' ' && (is_blank(byte) || byte == b'\n')
-}
-
-#[inline(always)]
-pub(crate) fn is_digit(byte: u8) -> bool
-    ensures { result ≡ is_digit byte }
-{
-    b'0' <= byte && byte <= b'9'
-}
+use sat_formula::bytes::{ends_word, is_blank};
 
 /// The first word, and what follows it.
 pub(crate) fn split_word(bytes: &[u8]) -> Option<(&[u8], &[u8])>
