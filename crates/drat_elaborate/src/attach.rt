@@ -39,7 +39,7 @@ impl Propagator {
     /// The watches of the clauses that are used so much.
     pub(crate) fn lists_of(&mut self, used: Use) -> &mut Watches {
         match used {
-            Use::Never => &mut self.unused,
+            Use::Never | Use::Wanted => &mut self.unused,
             Use::Before => &mut self.used,
             Use::Lately | Use::Now => &mut self.lately,
         }
@@ -127,7 +127,7 @@ impl Propagator {
         if found.is_watched {
             choose_watches(self.clauses.arena.lits_mut(found.block)?, &self.trail);
             self.watch(&found)?;
-            if !found.is_core() {
+            if found.used.shares_lists(Use::Never) {
                 self.recent.insert(clause)?;
             }
         }

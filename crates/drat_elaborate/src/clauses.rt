@@ -76,6 +76,8 @@ impl ClauseLink {
 #[derive(Clone, Copy, PartialEq, Eq)]
 pub(crate) enum Use {
     Never,
+    /// It was not used either, but it is wanted behind the last step.
+    Wanted,
     /// It was not used in the last round of checks.
     Before,
     /// It was used in the last round, and not yet in this one.
@@ -88,7 +90,8 @@ impl Use {
     /// Whether clauses that are used so much are watched in the same lists.
     pub(crate) fn shares_lists(self, other: Use) -> bool {
         match self {
-            Use::Never | Use::Before => self == other,
+            Use::Never | Use::Wanted => other == Use::Never || other == Use::Wanted,
+            Use::Before => other == Use::Before,
             Use::Lately | Use::Now => other == Use::Lately || other == Use::Now,
         }
     }
@@ -112,7 +115,7 @@ pub(crate) struct Clause {
 }
 
 impl Clause {
-    /// Whether it is used by the conflict or by a clause that is.
+    /// Whether it is wanted, or used by the conflict or by a clause that is in the core.
     pub(crate) fn is_core(&self) -> bool {
         self.used != Use::Never
     }

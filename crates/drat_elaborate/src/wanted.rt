@@ -1,5 +1,5 @@
 //! Clauses that a piece of a proof leaves to the next one. They are checked as a conflict is.
-use crate::clauses::ClauseIndex;
+use crate::clauses::{ClauseIndex, Use};
 use crate::fault::ElaborateFault;
 use crate::forward::Forward;
 use crate::lookup::{Lookup, Reasons};
@@ -22,8 +22,7 @@ impl Wanted {
         }
     }
 
-    /// Wants a clause with these literals. The answer is whether one lives: it is used from here
-    /// on.
+    /// Wants a clause with these literals. The answer is whether one lives: it will be checked.
     pub(crate) fn want(
         &mut self,
         forward: &mut Forward,
@@ -38,7 +37,7 @@ impl Wanted {
             return Ok(false);
         };
         forward.table.enter(&mut propagator.clauses, clause)?;
-        propagator.make_core(clause)?;
+        propagator.clauses.get_mut(clause)?.used = Use::Wanted;
         self.clauses.push(clause)?;
         Ok(true)
     }
