@@ -146,7 +146,7 @@ grown shown old here formula known news items before after left same place b a =
     let much : left.count ≡ length after - length before = omega arith in
     (omega arith, subst (IsCount known formula) much left.is_count)
 
--- want of memory is answered at any time
+-- "out of memory" is answered at any time
 pub no-memory : (known : Option (List ℕ)) (formula : List (List ℕ)) → IsRefused known formula OutOfMemory
 no-memory known formula = inl (fail new_state, refl)
 

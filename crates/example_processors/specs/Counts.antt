@@ -1,6 +1,6 @@
 -- How many steps a processor is told.
 --     Grows took shown      each step makes what is shown longer by one byte
---     IsCount known clauses n      so many steps are told of these clauses and a proof of these bytes
+--     IsCount known clauses n      this many steps are told of these clauses and a proof of these bytes
 --     CountsAgree      there is one count of the same clauses and bytes
 --     IsRefused known clauses e      these clauses, or after them the proof of these bytes, are refused so
 use Rattle.std.specs.Prelude.{◌≡◌, ◌⊎◌, ◌+◌, ℕ, List, length, map, Option, Some, None, Err}
@@ -27,7 +27,7 @@ Grows {B = B} took shown = (old : B) (e : NamedStep) (new : B) → took old e ne
 abbrev pub filled : List (List ℕ) → State
 filled clauses = (add_clauses new_state clauses).after
 
--- a new checker accepts all the clauses, and then the whole proof up to its `End`; it tells so many steps, of the clauses and of the proof
+-- a new checker accepts all the clauses, and then the whole proof up to its `End`; it tells this many steps, of the clauses and of the proof
 pub record IsCount (known : Option (List ℕ)) (clauses : List (List ℕ)) (n : ℕ) : Type 0 where
   pub accepted : (add_clauses new_state clauses).refused ≡ None
   pub of_clauses : List NamedStep

@@ -71,7 +71,7 @@ impl ProofTranscriptProcessor for Tally {
     }
 }
 
-/// Takes so many steps, answers a fault at each one after them, and shows nothing.
+/// Takes this many steps, answers a fault at each one after them, and shows nothing.
 #[derive(Drop)]
 pub struct Faulty {
     left: u64,

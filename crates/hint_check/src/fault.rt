@@ -13,7 +13,7 @@ pub enum RunFault {
     /// The proof was not read whole, though there was memory.
     #[error("error reading hints: {0}")]
     Read(io::Error),
-    /// A line of hints was refused, or memory was wanting.
+    /// A line of hints was refused, or memory ran out.
     #[error("{0}")]
     Hints(HintFault),
     /// The verdict stands, and its line could not be written.

@@ -72,8 +72,8 @@ pub record IsCut (says : List ℕ → Outcome) (known : Option (List ℕ)) (widt
   pub ran : run width c (said lines) ≡ Ok before
   pub written : Appends start now (text_2 before.steps)
 
--- a fault of the lines after c; a read or a write that fails and want of memory can come anywhere,
--- and nothing is said of the output after a failed write, nor where memory was wanting
+-- a fault of the lines after c; a read or a write that fails and running out of memory can come anywhere,
+-- and nothing is said of the output after a failed write, nor where memory ran out
 abbrev pub IsStopped : (List ℕ → Outcome) → Option (List ℕ) → ℕ → Converted → Option (List ℕ) →
     Option (List ℕ) → ConvertFault → Type 0
 IsStopped says known width c start now (Refused number cause) =

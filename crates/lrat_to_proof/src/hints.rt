@@ -13,7 +13,7 @@ use clause_store::hash::ClauseHasher;
 use lrat_text::Hint;
 use proof_bytes::ClauseHash;
 
-/// Leaves the hashes of the clauses that the hints name in `hashes`, but for those that a checker
+/// Leaves the hashes of the clauses that the hints name in `hashes`, except those that a checker
 /// stores under none.
 pub(crate) fn gather(
     hasher: &ClauseHasher,
