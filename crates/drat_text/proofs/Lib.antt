@@ -1,6 +1,6 @@
 pub mod Takings
 pub mod GroupLemmas
+pub mod NumberLemmas
 pub mod FrontLemmas
 pub mod LookLemmas
-pub mod StepLemmas
 pub mod ReaderLemmas

@@ -1,12 +1,19 @@
 -- What the bytes ahead tell of the format.
-use Rattle.std.proofs.Common.{◌≡◌, ℕ, List, [], ◌∷◌, None, Some, IfSome, false, refl, sym, ◌∙◌, subst, take}
-use Rattle.std.specs.Prelude.{slice_get}
+use Rattle.std.proofs.Common.{◌≡◌, ℕ, List, [], ◌∷◌, Option, None, Some, IfSome, false, Result, Ok, Err, refl, sym, ap, ◌∙◌, subst, take}
+use Rattle.std.specs.Prelude.{slice_get, unwrap_or}
 use Rattle.std.specs.List.{list_all}
-use Rattle.std.proofs.lemmas.Bool.{ne_eqb, eq-eqb}
 use Rattle.std.proofs.lemmas.Option.{none-some, same_Some}
 use Rattle.std.specs.Io.KnownBytes.{Keeps}
+use Rattle.std.proofs.KnownBytes.{Keeps-trans}
+use Rattle.sat_formula.specs.declared.source.Source.{Source}
+use Rattle.drat_text.specs.declared.bytes.Format.{Format}
 use Rattle.drat_text.specs.declared.bytes.Format.TheVariants.{Text, Binary}
-use Rattle.drat_text.specs.Bytes.{is_text_byte, by_text_bytes, format_of}
+use Rattle.drat_text.specs.declared.fault.Stop.{Stop}
+use Rattle.drat_text.specs.declared.fault.Stop.TheVariants as stops
+use Rattle.drat_text.specs.Bytes.{is_text_byte, by_text_bytes}
+use Rattle.drat_text.specs.Places.{Rules}
+use Rattle.drat_text.specs.Proofs.{format_of}
+use Rattle.drat_text.specs.Taking.{Looks}
 use Rattle.drat_text.proofs.FrontLemmas.{Known, Passes}
 
 -- what is known of the bytes that were kept
@@ -15,26 +22,48 @@ known_on None b P k h = tt
 known_on (Some xs) None P k h = absurd k
 known_on (Some xs) (Some ys) P k h = subst P k h
 
--- ---- where the first byte is a `d`
+-- ---- by the first 4,096 bytes
 
-pub text_told : (a : Known) → Passes is_text_byte a 4096 → IfSome a (λ bytes. Text ≡ by_text_bytes (take 4096 bytes))
+abbrev pub by_first_bytes : List ℕ → Format
+by_first_bytes bytes = by_text_bytes (take 4096 bytes)
+
+pub text_told : (a : Known) → Passes is_text_byte a 4096 → IfSome a (λ bytes. Text ≡ by_first_bytes bytes)
 text_told None all = tt
 text_told (Some bytes) all = rw all refl
 
-pub binary_told : (a : Known) → IfSome a (λ bytes. list_all is_text_byte (take 4096 bytes) ≡ false) → IfSome a (λ bytes. Binary ≡ by_text_bytes (take 4096 bytes))
+pub binary_told : (a : Known) → IfSome a (λ bytes. list_all is_text_byte (take 4096 bytes) ≡ false) → IfSome a (λ bytes. Binary ≡ by_first_bytes bytes)
 binary_told None fails = tt
 binary_told (Some bytes) fails = rw fails refl
 
 -- ---- by the first byte
 
-pub first_a : (a : Known) (x : ℕ) → IfSome a (λ bytes. slice_get bytes 0 ≡ Some x) → x ≡ 97 → IfSome a (λ bytes. Binary ≡ format_of bytes)
-first_a None x at e = tt
-first_a (Some []) x at e = absurd (none-some x at)
-first_a (Some (b ∷ bs)) x at e = let a : b ≡ 97 = same_Some b x at ∙ e in rw (eq-eqb b 97 a) refl
+module _ {S T : Type 0} (r : Rules S T) where
+  -- no byte
+  pub none_text : (a : Known) → IfSome a (λ bytes. slice_get bytes 0 ≡ None) → IfSome a (λ bytes. Text ≡ format_of r bytes)
+  none_text None at = tt
+  none_text (Some []) at = refl
+  none_text (Some (b ∷ bs)) at = absurd (none-some b (sym at))
 
-pub first_text : (a : Known) (x : ℕ) → IfSome a (λ bytes. slice_get bytes 0 ≡ Some x) → (x ≡ 97 → ⊥) → (x ≡ 100 → ⊥) → IfSome a (λ bytes. Text ≡ format_of bytes)
-first_text None x at differs other = tt
-first_text (Some []) x at differs other = absurd (none-some x at)
-first_text (Some (b ∷ bs)) x at differs other =
-    let same : x ≡ b = sym (same_Some b x at) in
-    rw (ne_eqb b 97 (λ (q : b ≡ 97). differs (same ∙ q)), ne_eqb b 100 (λ (q : b ≡ 100). other (same ∙ q))) refl
+  by_first : (b x : ℕ) (bs : List ℕ) (told : Option Format) → Some b ≡ Some x → told ≡ r.first_tells x → unwrap_or told (by_first_bytes (b ∷ bs)) ≡ format_of r (b ∷ bs)
+  by_first b x bs told at e = ap (λ (o : Option Format). unwrap_or o (by_first_bytes (b ∷ bs))) (e ∙ ap r.first_tells (sym (same_Some b x at)))
+
+  pub first_told : (a : Known) (x : ℕ) (format : Format) → IfSome a (λ bytes. slice_get bytes 0 ≡ Some x) → Some format ≡ r.first_tells x → IfSome a (λ bytes. format ≡ format_of r bytes)
+  first_told None x format at e = tt
+  first_told (Some []) x format at e = absurd (none-some x at)
+  first_told (Some (b ∷ bs)) x format at e = by_first b x bs (Some format) at e
+
+  later_told : (a : Known) (x : ℕ) (format : Format) → IfSome a (λ bytes. slice_get bytes 0 ≡ Some x) → None ≡ r.first_tells x →
+      IfSome a (λ bytes. format ≡ by_first_bytes bytes) → IfSome a (λ bytes. format ≡ format_of r bytes)
+  later_told None x format at e t = tt
+  later_told (Some []) x format at e t = absurd (none-some x at)
+  later_told (Some (b ∷ bs)) x format at e t = t ∙ by_first b x bs None at e
+
+  -- the bytes after the first are asked too
+  pub looked_on : {R : Type 0} (a b c : Known) (x : ℕ) (source : Source R) (f : Result Format Stop) → Keeps a b → IfSome a (λ bytes. slice_get bytes 0 ≡ Some x) →
+      None ≡ r.first_tells x → Looks by_first_bytes b c source f → Looks (format_of r) a c source f
+  looked_on a b c x source (Ok format) k at e w =
+      (Keeps-trans a b c k w.0, later_told a x format at e (known_on a b (λ (bytes : List ℕ). format ≡ by_first_bytes bytes) k w.1))
+  looked_on a b c x source (Err stops.End) k at e w = absurd w
+  looked_on a b c x source (Err stops.Read) k at e w = (Keeps-trans a b c k w.0, w.1)
+  looked_on a b c x source (Err (stops.Wrong kind)) k at e w = absurd w
+  looked_on a b c x source (Err stops.OutOfMemory) k at e w = tt

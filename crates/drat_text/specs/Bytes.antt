@@ -1,5 +1,5 @@
--- Bytes of a proof, and how the first ones tell whether it is text.
-use Rattle.std.specs.Prelude.{ℕ, Bool, ◌&&◌, ◌||◌, List, [], ◌∷◌, nat_le, ◌==◌, take, if◌then◌else◌}
+-- Bytes of a proof.
+use Rattle.std.specs.Prelude.{ℕ, Bool, ◌&&◌, ◌||◌, List, nat_le, ◌==◌, if◌then◌else◌}
 use Rattle.std.specs.List.{list_all}
 use Rattle.sat_formula.specs.Bytes.{letter_c, percent_sign, is_blank, is_lf}
 use Rattle.drat_text.specs.declared.bytes.Format.{Format}
@@ -13,7 +13,7 @@ letter_a = 97
 abbrev pub letter_d : ℕ
 letter_d = 100
 
--- `c` or `%`, with which a comment begins
+-- `c` or `%`, with which a comment of DRAT begins
 abbrev pub begins_comment : ℕ → Bool
 begins_comment b = b == letter_c || (b == percent_sign)
 
@@ -28,10 +28,3 @@ is_text_byte b = is_space b || (nat_le 32 b && nat_le b 126)
 -- text, where text can have each of the bytes
 abbrev pub by_text_bytes : List ℕ → Format
 by_text_bytes bytes = if list_all is_text_byte bytes then Text else Binary
-
--- by its first byte: `a` begins binary steps, and `d` does so where a byte that no text can have is among the first 4,096
-abbrev pub format_of : List ℕ → Format
-format_of [] = Text
-format_of (b ∷ bs) =
-    if b == letter_a then Binary
-    else (if b == letter_d then by_text_bytes (take 4096 (b ∷ bs)) else Text)

@@ -7,3 +7,5 @@ pub mod Proofs
 pub mod Taking
 pub mod Reading
 pub mod NextStep
+pub mod DratRules
+pub mod DratSteps

@@ -1,18 +1,11 @@
--- What numbers say: a literal, none at the 0 that ends a step, or a fault.
-use Rattle.std.specs.Prelude.{ℕ, ◌-◌, ◌^◌, Bool, Option, Some, None, Result, Ok, Err, nat_lt, ◌==◌, if◌then◌else◌}
+-- What numbers say of literals: a literal, none at the 0 that ends a step, or a fault.
+use Rattle.std.specs.Prelude.{ℕ, ◌^◌, Bool, Option, Some, None, Result, Ok, Err, nat_lt, ◌==◌, if◌then◌else◌}
 use Rattle.sat_formula.specs.Vars.{lit_code}
 use Rattle.drat_text.specs.declared.fault.DratKind.{DratKind}
 use Rattle.drat_text.specs.declared.fault.DratKind.TheVariants.{Malformed, NumberTooLarge}
 
--- digits of this value, after a `-` or not; the literal stands as its code
+-- a number of this value, after a `-` or not; the literal stands as its code
 abbrev pub lit_said : Bool → ℕ → Result (Option ℕ) DratKind
 lit_said negative v =
     if v == 0 then (if negative then Err Malformed else Ok None)
     else (if nat_lt (2 ^ 28) v then Err NumberTooLarge else Ok (Some (lit_code v negative)))
-
--- a binary number: twice the number of the variable, and 1 more where the literal is negative
-abbrev pub code_said : ℕ → Result (Option ℕ) DratKind
-code_said n =
-    if n == 0 then Ok None
-    else (if n == 1 then Err Malformed
-    else (if nat_lt (n - 2) (2 ^ 29) then Ok (Some (n - 2)) else Err NumberTooLarge))

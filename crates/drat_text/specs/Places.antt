@@ -1,16 +1,16 @@
--- The grammar of steps, a byte after the other. Text: literals up to 0, after a `d` where the step deletes; lines of `c`
--- and of `%` between steps say nothing. Binary: `a` or `d`, and then numbers of seven bits a byte, low first, up to 0.
-use Rattle.std.specs.Prelude.{ℕ, ◌+◌, ◌-◌, ◌*◌, ◌%◌, ◌^◌, min, Bool, true, false, List, [], ◌∷◌, ◌++◌, Option, Some, None, Result, Ok, Err, nat_lt, ◌==◌, if◌then◌else◌}
+-- A proof, a byte after the other, by the rules of its kind. Text: steps of numbers up to one that ends them, after a letter
+-- or not; comments between them say nothing. Binary: a letter, and then numbers of seven bits a byte, low first.
+--     Rules      what steps begin with, and what numbers do in them
+--     Place, After, after      where a byte stands, and what it does there
+--     at_end      what the end of the input gives
+use Rattle.std.specs.Prelude.{ℕ, ◌+◌, ◌-◌, ◌*◌, ◌/◌, ◌%◌, ◌^◌, min, Bool, true, false, [], ◌∷◌, Option, Some, None, nat_lt, ◌==◌, if◌then◌else◌}
 use Rattle.sat_formula.specs.Bytes.{minus_sign, digit_zero, is_digit, is_lf}
 use Rattle.drat_text.specs.declared.bytes.Format.{Format}
 use Rattle.drat_text.specs.declared.bytes.Format.TheVariants.{Text, Binary}
 use Rattle.drat_text.specs.declared.fault.DratKind.{DratKind}
 use Rattle.drat_text.specs.declared.fault.DratKind.TheVariants.{Malformed, NumberTooLarge, Unfinished}
-use Rattle.drat_text.specs.declared.step.Action.{Action}
-use Rattle.drat_text.specs.declared.step.Action.TheVariants.{Add, Delete}
-use Rattle.drat_text.specs.Bytes.{letter_a, letter_d, begins_comment, is_space}
-use Rattle.drat_text.specs.Numbers.{lit_said, code_said}
-use Rattle.drat_text.specs.Steps.{Step, step_of, Outcome, Ended, Faulty}
+use Rattle.drat_text.specs.Bytes.{is_space}
+use Rattle.drat_text.specs.Steps.{Outcome, Ended, Faulty}
 
 -- what was read of a number: a `-`; digits of this value, after a `-` or not; groups of this value, and the next one's weight
 pub data Number : Type 0 where
@@ -18,95 +18,124 @@ pub data Number : Type 0 where
   Digits : Bool → ℕ → Number
   Groups : ℕ → ℕ → Number
 
--- between steps, in a comment, between the numbers of a step after these literals, or in a number of it
-pub data Place : Type 0 where
-  Outside : Place
-  Comment : Place
-  Within : Action → List ℕ → Place
-  InNumber : Action → List ℕ → Number → Place
+-- between steps, in a comment, between the numbers of a step of which this was read, or in a number of it
+pub data Place (S : Type 0) : Type 0 where
+  Outside : Place S
+  Comment : Place S
+  Within : S → Place S
+  InNumber : S → Number → Place S
 
--- what one byte does: the reading goes on, a step ends, or nothing more is read
-pub data After : Type 0 where
-  Goes : Place → After
-  Gives : Step → After
-  Stops : DratKind → After
+-- what one byte or number does: the reading goes on, a step ends, or nothing more is read
+pub data After (S T : Type 0) : Type 0 where
+  Goes : Place S → After S T
+  Gives : T → After S T
+  Stops : DratKind → After S T
 
--- a number that says this ends
-abbrev pub said : Action → List ℕ → Result (Option ℕ) DratKind → After
-said action lits (Ok None) = Gives (step_of action lits)
-said action lits (Ok (Some lit)) = Goes (Within action (lits ++ lit ∷ []))
-said action lits (Err kind) = Stops kind
+-- the weights of a number's last byte, the fifth or the ninth
+pub data IsLastWeight : ℕ → Type 0 where
+  fifth_last : IsLastWeight 268435456
+  ninth_last : IsLastWeight 72057594037927936
 
--- a digit after these; a value above 2^28 is kept only as such
+-- a kind of proof, where S is what was read of a step, and T a step
+pub record Rules (S T : Type 0) : Type 0 where
+  -- a byte begins a comment of a text
+  pub begins_comment : ℕ → Bool
+  -- a step begins with this letter
+  pub letter : Format → ℕ → Option S
+  -- a step of text that has no letter, if there are such
+  pub bare : Option S
+  -- binary numbers have a sign here, as their last bit
+  pub is_signed : S → Bool
+  -- a number of this value, after a `-` or not
+  pub said : S → Bool → ℕ → After S T
+  -- the weight of the last byte that a binary number can have
+  pub last_weight : ℕ
+  -- the format by the first byte, unless the bytes after it are asked too
+  pub first_tells : ℕ → Option Format
+
+-- a digit after these; a value above 2^60 is kept only as such
 abbrev pub with_digit : ℕ → ℕ → ℕ
-with_digit v b = min v (2 ^ 28 + 1) * 10 + (b - digit_zero)
+with_digit v b = min v (2 ^ 60) * 10 + (b - digit_zero)
 
--- a first digit, after a `-` or not
-abbrev pub first_digit : Action → List ℕ → Bool → ℕ → After
-first_digit action lits negative b =
-    if is_digit b then Goes (InNumber action lits (Digits negative (b - digit_zero)))
-    else Stops Malformed
+-- ---- in a step
 
--- the first byte of a number
-abbrev pub first_of_number : Action → List ℕ → ℕ → After
-first_of_number action lits b =
-    if b == minus_sign then Goes (InNumber action lits Sign) else first_digit action lits false b
+module _ {S T : Type 0} where
+  -- a first digit, after a `-` or not
+  abbrev pub first_digit : S → Bool → ℕ → After S T
+  first_digit slot negative b =
+      if is_digit b then Goes (InNumber slot (Digits negative (b - digit_zero)))
+      else Stops Malformed
 
--- the seven bits of a byte, of this weight, after groups of this value; no number has more than five bytes
-abbrev pub group : Action → List ℕ → ℕ → ℕ → ℕ → After
-group action lits v weight b =
-    let value = v + (b % 128) * weight in
-    if nat_lt b 128 then said action lits (code_said value)
-    else (if weight == 2 ^ 28 then Stops NumberTooLarge
-    else Goes (InNumber action lits (Groups value (weight * 128))))
+  -- the first byte of a number
+  abbrev pub first_of_number : S → ℕ → After S T
+  first_of_number slot b =
+      if b == minus_sign then Goes (InNumber slot Sign) else first_digit slot false b
 
--- a byte of a number
-abbrev pub in_number : Action → List ℕ → Number → ℕ → After
-in_number action lits Sign b = first_digit action lits true b
-in_number action lits (Digits negative v) b =
-    if is_digit b then Goes (InNumber action lits (Digits negative (with_digit v b)))
-    else (if is_space b then said action lits (lit_said negative v) else Stops Malformed)
-in_number action lits (Groups v weight) b = group action lits v weight b
+  -- the first byte of a step of text that may have no letter
+  abbrev pub begins_bare : Option S → ℕ → After S T
+  begins_bare (Some slot) b = first_of_number slot b
+  begins_bare None b = Stops Malformed
 
--- a binary step's first byte, which says what the step does
-abbrev pub begun : Option Action → After
-begun (Some action) = Goes (Within action [])
-begun None = Stops Malformed
+  -- a letter; without one, this
+  abbrev pub begins_with : Option S → After S T → After S T
+  begins_with (Some slot) other = Goes (Within slot)
+  begins_with None other = other
 
--- a byte between steps
-abbrev pub outside : Format → ℕ → After
-outside Text b =
-    if begins_comment b then Goes Comment
-    else (if is_space b then Goes Outside
-    else (if b == letter_d then Goes (Within Delete []) else first_of_number Add [] b))
-outside Binary b =
-    if b == letter_a then Goes (Within Add [])
-    else (if b == letter_d then Goes (Within Delete []) else Stops Malformed)
+  -- digits that the input ends, where a byte after them would do this
+  abbrev pub last_said : After S T → Outcome T
+  last_said (Goes p) = ([], Faulty Unfinished)
+  last_said (Gives step) = (step ∷ [], Ended)
+  last_said (Stops kind) = ([], Faulty kind)
 
--- a byte between the numbers of a step
-abbrev pub within : Format → Action → List ℕ → ℕ → After
-within Text action lits b =
-    if is_space b then Goes (Within action lits) else first_of_number action lits b
-within Binary action lits b = group action lits 0 1 b
+-- ---- bytes, and the end of the input
 
--- one byte, at each place
-abbrev pub after : Format → Place → ℕ → After
-after format Outside b = outside format b
-after format Comment b = if is_lf b then Goes Outside else Goes Comment
-after format (Within action lits) b = within format action lits b
-after format (InNumber action lits n) b = in_number action lits n b
+module _ {S T : Type 0} (r : Rules S T) where
+  -- a binary number: one with a sign is twice its value, and 1 more where it is negative
+  abbrev pub coded : S → ℕ → After S T
+  coded slot n =
+      if r.is_signed slot then r.said slot (n % 2 == 1) (n / 2) else r.said slot false n
 
--- digits that the end of the input ends
-abbrev pub last_said : Action → List ℕ → Result (Option ℕ) DratKind → Outcome
-last_said action lits (Ok None) = (step_of action lits ∷ [], Ended)
-last_said action lits (Ok (Some lit)) = ([], Faulty Unfinished)
-last_said action lits (Err kind) = ([], Faulty kind)
+  -- the seven bits of a byte, of this weight, after groups of this value
+  abbrev pub group : S → ℕ → ℕ → ℕ → After S T
+  group slot v weight b =
+      let value = v + (b % 128) * weight in
+      if nat_lt b 128 then coded slot value
+      else (if weight == r.last_weight then Stops NumberTooLarge
+      else Goes (InNumber slot (Groups value (weight * 128))))
 
--- what the end of the input gives
-abbrev pub at_end : Place → Outcome
-at_end Outside = ([], Ended)
-at_end Comment = ([], Ended)
-at_end (Within action lits) = ([], Faulty Unfinished)
-at_end (InNumber action lits Sign) = ([], Faulty Unfinished)
-at_end (InNumber action lits (Digits negative v)) = last_said action lits (lit_said negative v)
-at_end (InNumber action lits (Groups v weight)) = ([], Faulty Unfinished)
+  -- a byte of a number
+  abbrev pub in_number : S → Number → ℕ → After S T
+  in_number slot Sign b = first_digit slot true b
+  in_number slot (Digits negative v) b =
+      if is_digit b then Goes (InNumber slot (Digits negative (with_digit v b)))
+      else (if is_space b then r.said slot negative v else Stops Malformed)
+  in_number slot (Groups v weight) b = group slot v weight b
+
+  -- a byte between steps
+  abbrev pub outside : Format → ℕ → After S T
+  outside Text b =
+      if r.begins_comment b then Goes Comment
+      else (if is_space b then Goes Outside
+      else begins_with (r.letter Text b) (begins_bare r.bare b))
+  outside Binary b = begins_with (r.letter Binary b) (Stops Malformed)
+
+  -- a byte between the numbers of a step
+  abbrev pub within : Format → S → ℕ → After S T
+  within Text slot b = if is_space b then Goes (Within slot) else first_of_number slot b
+  within Binary slot b = group slot 0 1 b
+
+  -- one byte, at each place
+  abbrev pub after : Format → Place S → ℕ → After S T
+  after format Outside b = outside format b
+  after format Comment b = if is_lf b then Goes Outside else Goes Comment
+  after format (Within slot) b = within format slot b
+  after format (InNumber slot n) b = in_number slot n b
+
+  -- what the end of the input gives
+  abbrev pub at_end : Place S → Outcome T
+  at_end Outside = ([], Ended)
+  at_end Comment = ([], Ended)
+  at_end (Within slot) = ([], Faulty Unfinished)
+  at_end (InNumber slot Sign) = ([], Faulty Unfinished)
+  at_end (InNumber slot (Digits negative v)) = last_said (r.said slot negative v)
+  at_end (InNumber slot (Groups v weight)) = ([], Faulty Unfinished)

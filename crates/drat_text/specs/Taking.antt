@@ -1,5 +1,5 @@
 -- What was taken from a reader's bytes, and what it says of them.
-use Rattle.std.specs.Prelude.{◌≡◌, ℕ, ◌+◌, ◌-◌, List, [], ◌∷◌, ◌++◌, Option, unwrap_or, length, drop, take, slice_get, Result, Ok, Err, IfSome}
+use Rattle.std.specs.Prelude.{◌≡◌, ℕ, ◌+◌, ◌-◌, List, [], ◌∷◌, ◌++◌, Option, unwrap_or, length, drop, slice_get, Result, Ok, Err, IfSome}
 use Rattle.std.specs.Io.KnownBytes.{Consumes, Keeps, IsAtEnd, prepend_known}
 use Rattle.sat_formula.specs.declared.source.Source.{Source}
 use Rattle.sat_formula.specs.Source.{unread, room_of, IsStopped}
@@ -9,8 +9,7 @@ use Rattle.drat_text.specs.declared.fault.DratKind.{DratKind}
 use Rattle.drat_text.specs.declared.fault.DratKind.TheVariants.{Unfinished}
 use Rattle.drat_text.specs.declared.fault.Stop.{Stop}
 use Rattle.drat_text.specs.declared.fault.Stop.TheVariants as stops
-use Rattle.drat_text.specs.Bytes.{format_of, by_text_bytes}
-use Rattle.drat_text.specs.Places.{Place}
+use Rattle.drat_text.specs.Places.{Place, Rules}
 use Rattle.drat_text.specs.Proofs.{outcome_at}
 use Rattle.drat_text.specs.Steps.{Outcome, Ended, Faulty}
 
@@ -49,24 +48,14 @@ TakesWithin old new source (Err (stops.Wrong kind)) = Keeps old new × IsAtEnd n
     × (kind ≡ Unfinished)
 TakesWithin old new source (Err stops.OutOfMemory) = Unit {0}
 
--- the format of the bytes, none of which was taken
-abbrev pub Looks : {R : Type 0} → Option (List ℕ) → Option (List ℕ) → Source R →
-    Result Format Stop → Type 0
-Looks old new source (Ok format) = Keeps old new × IfSome old (λ bytes. format ≡ format_of bytes)
-Looks old new source (Err stops.End) = ⊥
-Looks old new source (Err stops.Read) = Keeps old new × IsStopped source
-Looks old new source (Err (stops.Wrong kind)) = ⊥
-Looks old new source (Err stops.OutOfMemory) = Unit {0}
-
--- what a look by the first 4,096 bytes finds, where the first byte is a `d`
-abbrev pub LooksOn : {R : Type 0} → Option (List ℕ) → Option (List ℕ) → Source R →
-    Result Format Stop → Type 0
-LooksOn old new source (Ok format) =
-    Keeps old new × IfSome old (λ bytes. format ≡ by_text_bytes (take 4096 bytes))
-LooksOn old new source (Err stops.End) = ⊥
-LooksOn old new source (Err stops.Read) = Keeps old new × IsStopped source
-LooksOn old new source (Err (stops.Wrong kind)) = ⊥
-LooksOn old new source (Err stops.OutOfMemory) = Unit {0}
+-- what f tells of the bytes, none of which was taken
+abbrev pub Looks : {R X : Type 0} → (List ℕ → X) → Option (List ℕ) → Option (List ℕ) →
+    Source R → Result X Stop → Type 0
+Looks f old new source (Ok x) = Keeps old new × IfSome old (λ bytes. x ≡ f bytes)
+Looks f old new source (Err stops.End) = ⊥
+Looks f old new source (Err stops.Read) = Keeps old new × IsStopped source
+Looks f old new source (Err (stops.Wrong kind)) = ⊥
+Looks f old new source (Err stops.OutOfMemory) = Unit {0}
 
 -- the byte at this place of those to come, or none where they end before it; none was taken
 abbrev pub Peeks : {R : Type 0} → Option (List ℕ) → Option (List ℕ) → ℕ → Source R →
@@ -79,33 +68,34 @@ Peeks old new place source (Err (stops.Wrong kind)) = ⊥
 Peeks old new place source (Err stops.OutOfMemory) = Unit {0}
 
 -- From old to new some bytes were taken, and whatever comes after them, f gives of all what g gives of the rest.
-pub record Leads (old new : Option (List ℕ)) (f g : List ℕ → Outcome) : Type 0 where
+pub record Leads {O : Type 0} (old new : Option (List ℕ)) (f g : List ℕ → O) : Type 0 where
   pub taken : List ℕ
   pub consumed : Consumes old new taken
   pub same : (more : List ℕ) → f (taken ++ more) ≡ g more
 
 -- all bytes were taken, and f gives this of them
-pub record EndsAll (old new : Option (List ℕ)) (f : List ℕ → Outcome) (o : Outcome) : Type 0 where
+pub record EndsAll {O : Type 0} (old new : Option (List ℕ)) (f : List ℕ → O) (o : O) : Type 0 where
   pub taken : List ℕ
   pub consumed : Consumes old new taken
   pub at_end : IsAtEnd new
   pub same : f taken ≡ o
 
 -- a step was begun at most, and neither it nor a fault has ended yet
-pub record Breaks (format : Format) (old new : Option (List ℕ)) (f : List ℕ → Outcome) : Type 0
-  where
-    pub place : Place
-    pub leads : Leads old new f (outcome_at format place)
+pub record Breaks {S T : Type 0} (r : Rules S T) (format : Format) (old new : Option (List ℕ))
+    (f : List ℕ → Outcome T) : Type 0 where
+  pub place : Place S
+  pub leads : Leads old new f (outcome_at r format place)
 
 -- a fault comes first: by a byte, whatever comes after it, or where the input ended
-pub data Fails (old new : Option (List ℕ)) (f : List ℕ → Outcome) (kind : DratKind) : Type 0 where
+pub data Fails {T : Type 0} (old new : Option (List ℕ)) (f : List ℕ → Outcome T)
+    (kind : DratKind) : Type 0 where
   by_byte : Leads old new f (λ more. ([], Faulty kind)) → Fails old new f kind
   by_end : EndsAll old new f ([], Faulty kind) → Fails old new f kind
 
 -- what a stop says, with this source
-abbrev pub Stopped : {R : Type 0} → Format → Option (List ℕ) → Option (List ℕ) →
-    (List ℕ → Outcome) → Source R → Stop → Type 0
-Stopped format old new f source stops.End = EndsAll old new f ([], Ended)
-Stopped format old new f source stops.Read = Breaks format old new f × IsStopped source
-Stopped format old new f source (stops.Wrong kind) = Fails old new f kind
-Stopped format old new f source stops.OutOfMemory = Unit {0}
+abbrev pub Stopped : {R S T : Type 0} → Rules S T → Format → Option (List ℕ) →
+    Option (List ℕ) → (List ℕ → Outcome T) → Source R → Stop → Type 0
+Stopped r format old new f source stops.End = EndsAll old new f ([], Ended)
+Stopped r format old new f source stops.Read = Breaks r format old new f × IsStopped source
+Stopped r format old new f source (stops.Wrong kind) = Fails old new f kind
+Stopped r format old new f source stops.OutOfMemory = Unit {0}

@@ -1,5 +1,5 @@
 //! The bytes of a proof, the first of which tell whether it is text.
-ghost use Rattle.std.specs.Prelude.{◌≡◌, ◌<◌, ◌≤◌, ◌-◌, ◌^◌, [], IfOk, IsSome, IsTrue, length, vec_len};
+ghost use Rattle.std.specs.Prelude.{◌≡◌, ◌<◌, ◌≤◌, ◌-◌, ◌^◌, [], IfOk, IsSome, IsTrue, length, take, vec_len};
 ghost use Rattle.sat_formula.specs.Source.{is_limited};
 
 use crate::fault::{DratKind, Stop};
@@ -31,7 +31,8 @@ pub struct Bytes<R> {
 
 impl<R: Read> Bytes<R> {
     ghost use Rattle.sat_formula.specs.Source.{IsStopped, IsErrorOf};
-    ghost use Rattle.drat_text.specs.Taking.{front_of, unread_bytes, room_in, Takes, TakesWithin, Looks, LooksOn, Peeks};
+    ghost use Rattle.drat_text.specs.Bytes.{by_text_bytes};
+    ghost use Rattle.drat_text.specs.Taking.{front_of, unread_bytes, room_in, Takes, TakesWithin, Looks, Peeks};
 
     /// All the bytes of a reader, up to `u64::MAX` of them.
     pub fn new(alloc: Global, inner: R) -> Bytes<R>
@@ -87,29 +88,12 @@ impl<R: Read> Bytes<R> {
         }
     }
 
-    /// Tells the format by the next bytes, and takes none of them.
-    pub fn look(&mut self) -> Result<Format, Stop>
-        ensures format { Looks (unread_bytes R.remaining self.old)
-            (unread_bytes R.remaining self.new) self.new.source result }
-        ensures room { room_in self.new ≤ room_in self.old }
-    {
-        let Some(first) = self.peek(0)? else {
-            return Ok(Format::Text);
-        };
-        if first == b'a' {
-            return Ok(Format::Binary);
-        }
-        if first == b'd' {
-            return self.look_on();
-        }
-        Ok(Format::Text)
-    }
-
     /// Tells text from binary steps by whether each of the next bytes is one that a text can have,
     /// and takes none of them.
     pub fn look_on(&mut self) -> Result<Format, Stop>
-        ensures format { LooksOn (unread_bytes R.remaining self.old)
-            (unread_bytes R.remaining self.new) self.new.source result }
+        ensures format { Looks (λ bytes. by_text_bytes (take 4096 bytes))
+            (unread_bytes R.remaining self.old) (unread_bytes R.remaining self.new)
+            self.new.source result }
         ensures room { room_in self.new ≤ room_in self.old }
     {
         let mut place = 0;

@@ -1,17 +1,23 @@
-//! DRAT proofs, text or binary, as solvers write them: a step adds a clause or deletes one.
+//! Proofs of steps, text or binary, as solvers write them, read by the rules of a grammar; and that
+//! of DRAT, where a step adds a clause or deletes one.
 #![tactic(auto)]
 
 mod binary;
 #[doc(hidden)]
 pub mod bytes;
+mod drat;
+mod drat_reader;
 #[doc(hidden)]
 pub mod fault;
 #[doc(hidden)]
+pub mod grammar;
+#[doc(hidden)]
 pub mod number;
-mod reader;
+#[doc(hidden)]
+pub mod reader;
 mod step;
 mod text;
 
+pub use drat::DratStep;
+pub use drat_reader::DratReader;
 pub use fault::{DratFault, DratKind};
-pub use reader::DratReader;
-pub use step::DratStep;

@@ -2,7 +2,7 @@
 ghost use Rattle.std.specs.Prelude.{◌≡◌};
 ghost use Rattle.sat_formula.specs.Bytes.{is_digit};
 ghost use Rattle.drat_text.specs.Bytes.{begins_comment, is_space, is_text_byte};
-ghost use Rattle.drat_text.specs.Numbers.{lit_said, code_said};
+ghost use Rattle.drat_text.specs.Numbers.{lit_said};
 
 use crate::fault::DratKind;
 use sat_formula::{Lit, Var};
@@ -57,21 +57,4 @@ pub fn lit_said(negative: bool, value: u64) -> Result<Option<Lit>, DratKind>
         return Err(DratKind::NumberTooLarge);
     }
     Ok(Lit::from_code((value as usize - 1) * 2 + negative as usize))
-}
-
-/// What a binary number says: a literal, or none at a step's 0.
-#[inline(always)]
-pub fn code_said(number: u64) -> Result<Option<Lit>, DratKind>
-    ensures { result ≡ code_said number }
-{
-    if number == 0 {
-        return Ok(None);
-    }
-    if number == 1 {
-        return Err(DratKind::Malformed);
-    }
-    match Lit::from_code(number as usize - 2) {
-        Some(lit) => Ok(Some(lit)),
-        None => Err(DratKind::NumberTooLarge),
-    }
 }

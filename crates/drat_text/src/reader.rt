@@ -1,125 +1,67 @@
 //! Steps from a reader's bytes.
-ghost use Rattle.std.specs.Prelude.{◌≡◌, ◌-◌, ◌^◌, Ok, None, true, false};
-ghost use Rattle.std.specs.Io.BufRead.{Rests};
-ghost use types.Logic.{sem};
+ghost use Rattle.std.specs.Prelude.{◌≡◌, ◌≤◌, Ok, None, Some, true, false};
+ghost use Rattle.drat_text.specs.Proofs.{format_of};
+ghost use Rattle.drat_text.specs.Taking.{Looks, room_in, source_of, unread_bytes};
 
 use crate::binary::binary_step;
 use crate::bytes::{Bytes, Format};
 use crate::fault::{DratFault, Stop};
-use crate::step::{Action, DratStep, Found};
+use crate::grammar::Grammar;
+use crate::step::StepEnd;
 use crate::text::text_step;
-use sat_formula::Lit;
-use std::alloc::Global;
 use std::io::Read;
 
-/// A reader of the steps of a DRAT proof, one after the other.
+/// A reader of the steps of a proof, one after the other, into a draft.
 ///
-/// Text has literals as DIMACS numbers, between blanks (space, tab, CR and LF), up to a 0. A `d`
-/// before them says that the step deletes. Between steps a `c` or a `%` begins a comment, to the
-/// end of its line. A binary step is `a` or `d`, and then for each literal twice its variable's
-/// number, and 1 more where it is negative, by seven bits a byte with the low ones first, up to a
-/// 0. Variables go up to `Var::MAX_COUNT`.
-///
-/// A proof is binary where it begins with `a`, or with `d` and has a byte among its first 4,096
-/// that no text has: text has tab, LF, CR, and space to `~`.
+/// A step of text is numbers between blanks (space, tab, CR and LF), up to one that ends it, after
+/// a letter or not. Between steps stand comments, to the end of their lines. A binary step is a
+/// letter, and then numbers by seven bits a byte with the low ones first.
 ///
 /// It keeps the bytes read ahead and one step. Of a proof it takes at most `u64::MAX` bytes; where
 /// it would take more, it is as if a read had failed.
 #[derive(Drop)]
-pub struct DratReader<R> {
+pub struct StepReader<G, R> {
     bytes: Bytes<R>,
-    lits: Vec<Lit>,
+    draft: G,
     format: Option<Format>,
     steps: u64,
     ended: bool,
 }
 
-impl<R: Read> DratReader<R> {
-    ghost use Rattle.std.specs.Prelude.{Some};
+impl<G: Grammar, R: Read> StepReader<G, R> {
     ghost use Rattle.drat_text.specs.declared.bytes.Format.{Format};
-    ghost use Rattle.sat_formula.specs.Outcome.{next_line};
     ghost use Rattle.sat_formula.specs.Source.{IsStopped};
-    ghost use Rattle.drat_text.specs.NextStep.{bytes_left, room_left, has_ended, steps_given, known_format, reads_binary, view, Gives, Answers, ReadsOn, SeesFormat, Explains};
-    ghost use Rattle.drat_text.specs.Steps.{step_of};
-    ghost use Rattle.drat_text.specs.Taking.{room_in, unread_bytes};
-    ghost use Rattle.drat_text.specs.contracts.reader.DratReader.{the_row};
-
-    /// A reader at the start of a proof. It takes no memory and reads nothing yet.
-    pub fn new(alloc: Global, input: R) -> DratReader<R>
-        ensures bytes { bytes_left R.remaining result ≡ R.remaining input }
-        ensures room { room_left result ≡ 2 ^ 64 - 1 }
-        ensures steps { steps_given result ≡ 0 }
-        ensures format { known_format result ≡ None }
-        ensures ended { has_ended result ≡ false }
-    {
-        DratReader::over(alloc, Bytes::new(alloc, input))
-    }
+    ghost use Rattle.drat_text.specs.NextStep.{bytes_left, draft_of, room_left, has_ended, steps_given, known_format, Answers, ReadsOn, SeesFormat, Explains};
 
     /// A reader of the steps that bytes say of which none was taken yet.
-    #[doc(hidden)]
-    pub fn over(alloc: Global, bytes: Bytes<R>) -> DratReader<R>
+    pub fn over(draft: G, bytes: Bytes<R>) -> StepReader<G, R>
         ensures bytes { bytes_left R.remaining result ≡ unread_bytes R.remaining bytes }
         ensures room { room_left result ≡ room_in bytes }
         ensures steps { steps_given result ≡ 0 }
         ensures format { known_format result ≡ None }
         ensures ended { has_ended result ≡ false }
     {
-        DratReader {
+        StepReader {
             bytes,
-            lits: Vec::new(alloc),
+            draft,
             format: None,
             steps: 0,
             ended: false,
         }
     }
 
-    /// How many steps were given. Their number stays at `u64::MAX`.
-    pub fn step(&self) -> u64
-        ensures { result ≡ steps_given self.now }
+    /// What was read of the last step.
+    pub fn draft(&self) -> &G
+        ensures { result.now ≡ draft_of self.now }
     {
-        self.steps
+        &self.draft
     }
 
-    /// Whether the steps are read as binary ones. Before the first call of `next_step` nothing was
-    /// read, and the answer is no.
-    pub fn is_binary(&self) -> bool
-        ensures { result ≡ reads_binary self.now }
-    {
-        matches!(self.format, Some(Format::Binary))
-    }
-
-    /// The next step, or none at the end of the proof.
-    ///
-    /// The step's literals stand in the reader and serve until the next call. A read that fails is
-    /// not tried again, and what was not read to the end of its step is not judged; where it fails
-    /// before the format is told, no step is given. After the end or a fault every call answers
-    /// that there is no step, and nothing more is read.
-    pub fn next_step(&mut self) -> Result<Option<DratStep<'_>>, DratFault>
-        ensures after_end { has_ended self.old ≡ true → result ≡ Ok None }
-        ensures* after_borrow { sem 𝓛 (Rests (the_row R.row) self.entry
-            (λ new. Gives R.remaining self.old new result)) }
-    {
-        match self.begin()? {
-            Some(action) => Ok(Some(self.shown(action))),
-            None => Ok(None),
-        }
-    }
-
-    /// The step that was read into the list.
-    fn shown(&self, action: Action) -> DratStep<'_>
-        ensures { view result ≡ step_of action self.now.lits.items }
-    {
-        match action {
-            Action::Add => DratStep::Add(&self.lits),
-            Action::Delete => DratStep::Delete(&self.lits),
-        }
-    }
-
-    /// Reads a step into the list, or ends.
-    fn begin(&mut self) -> Result<Option<Action>, DratFault>
+    /// Reads a step into the draft, or ends. After the end or a fault every call answers that there
+    /// is no step, and nothing more is read.
+    pub fn read_step(&mut self) -> Result<Option<G::Found>, DratFault>
         ensures reads { has_ended self.old ≡ false
-            → Answers R.remaining (λ action. step_of action self.new.lits.items) self.old self.new
-            result }
+            → Answers G.rules R.remaining (G.step_of (draft_of self.new)) self.old self.new result }
         ensures stays { has_ended self.old ≡ true → (result ≡ Ok None) × (self.new ≡ self.old) }
         ensures format { (format : Format) → known_format self.old ≡ Some format
             → known_format self.new ≡ Some format }
@@ -128,10 +70,10 @@ impl<R: Read> DratReader<R> {
             return Ok(None);
         }
         match self.read() {
-            Ok(found) => {
+            Ok(end) => {
                 self.steps = self.steps.saturating_add(1);
-                self.ended = found.last;
-                Ok(Some(found.action))
+                self.ended = end.last;
+                Ok(Some(end.found))
             }
             Err(stop) => {
                 self.ended = true;
@@ -140,32 +82,33 @@ impl<R: Read> DratReader<R> {
         }
     }
 
-    /// Reads a step into the list.
-    fn read(&mut self) -> Result<Found, Stop>
-        ensures { ReadsOn R.remaining self.old self.new result }
+    /// Reads a step into the draft.
+    fn read(&mut self) -> Result<StepEnd<G::Found>, Stop>
+        ensures { ReadsOn G.rules R.remaining (G.step_of (draft_of self.new)) self.old self.new
+            result }
     {
         match self.format()? {
-            Format::Text => text_step(&mut self.bytes, &mut self.lits),
-            Format::Binary => binary_step(&mut self.bytes, &mut self.lits),
+            Format::Text => text_step(&mut self.bytes, &mut self.draft),
+            Format::Binary => binary_step(&mut self.bytes, &mut self.draft),
         }
     }
 
     /// The format, by the first bytes where it was not told before.
     fn format(&mut self) -> Result<Format, Stop>
-        ensures { SeesFormat R.remaining self.old self.new result }
+        ensures { SeesFormat G.rules R.remaining self.old self.new result }
     {
         if let Some(format) = self.format {
             return Ok(format);
         }
-        let format = self.bytes.look()?;
+        let format = look::<G, R>(&mut self.bytes)?;
         self.format = Some(format);
         Ok(format)
     }
 
     /// What a stop answers.
-    fn stopped(&self, stop: Stop) -> Result<Option<Action>, DratFault>
-        requires { stop ≡ Stop.Read → IsStopped self.now.bytes.source }
-        ensures { Explains self.now.bytes.source self.now.steps stop result }
+    fn stopped(&self, stop: Stop) -> Result<Option<G::Found>, DratFault>
+        requires { stop ≡ Stop.Read → IsStopped (source_of self.now.bytes) }
+        ensures { Explains (source_of self.now.bytes) (steps_given self.now) stop result }
     {
         match stop {
             Stop::End => Ok(None),
@@ -176,5 +119,20 @@ impl<R: Read> DratReader<R> {
             }),
             Stop::OutOfMemory => Err(DratFault::OutOfMemory),
         }
+    }
+}
+
+/// Tells the format by the next bytes, and takes none of them.
+fn look<G: Grammar, R: Read>(bytes: &mut Bytes<R>) -> Result<Format, Stop>
+    ensures format { Looks (format_of G.rules) (unread_bytes R.remaining bytes.old)
+        (unread_bytes R.remaining bytes.new) (source_of bytes.new) result }
+    ensures room { room_in bytes.new ≤ room_in bytes.old }
+{
+    let Some(first) = bytes.peek(0)? else {
+        return Ok(Format::Text);
+    };
+    match G::first_tells(first) {
+        Some(format) => Ok(format),
+        None => bytes.look_on(),
     }
 }

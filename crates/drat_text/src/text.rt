@@ -1,70 +1,70 @@
 //! Steps of text.
-ghost use Rattle.std.specs.Prelude.{◌≡◌, ◌<◌, ◌≤◌, ◌∷◌, ℕ, List, IfOk, true, false, if◌then◌else◌};
-ghost use Rattle.drat_text.specs.declared.bytes.Format.TheVariants as formats;
-ghost use Rattle.drat_text.specs.declared.step.Action.{Action};
-ghost use Rattle.drat_text.specs.declared.step.Action.TheVariants as actions;
-ghost use Rattle.drat_text.specs.Bytes.{is_space};
+ghost use Rattle.std.specs.Prelude.{◌≡◌, ◌<◌, ◌≤◌, ◌∷◌, ℕ, List, Option, IfOk, true, false};
 ghost use Rattle.sat_formula.specs.Bytes.{is_digit};
-ghost use Rattle.drat_text.specs.Numbers.{lit_said};
-ghost use Rattle.drat_text.specs.Places.{Comment, Outside, Within, first_digit, with_digit, said, last_said};
+ghost use Rattle.drat_text.specs.declared.bytes.Format.TheVariants as formats;
+ghost use Rattle.drat_text.specs.Bytes.{is_space};
+ghost use Rattle.drat_text.specs.Places.{Comment, Outside, Within, first_digit, with_digit};
 ghost use Rattle.drat_text.specs.Proofs.{outcome_at, outcome_in};
-ghost use Rattle.drat_text.specs.Reading.{ReadsTo, ReadsWord, ReadsLiterals, ReadsFirst, ReadsStep, IsFirst, EndsNumber, EndsLast, goes_on};
-ghost use Rattle.drat_text.specs.Taking.{unread_bytes, room_in};
+ghost use Rattle.drat_text.specs.Reading.{IsFirst, ReadsFirst, ReadsNumber, ReadsStep, ReadsTo, Says, goes_on};
+ghost use Rattle.drat_text.specs.Steps.{Outcome};
+ghost use Rattle.drat_text.specs.Taking.{unread_bytes, room_in, source_of};
 
-use crate::bytes::Bytes;
+use crate::bytes::{Bytes, Format};
 use crate::fault::{DratKind, Stop};
-use crate::number::{MAX_VARIABLE, begins_comment, is_digit, is_space, lit_said};
-use crate::step::{Action, Found};
-use sat_formula::Lit;
+use crate::grammar::Grammar;
+use crate::number::{is_digit, is_space};
+use crate::step::StepEnd;
 use std::io::Read;
 
-/// What a word of a step says.
+/// Values above it are of no use, and only that is kept of them.
+const MAX_VALUE: u64 = 1 << 60;
+
+/// A number of a step.
 #[derive(Clone, Copy)]
-pub(crate) enum Word {
-    Literal(Lit),
-    /// The step's end.
-    Zero,
-    /// Its end, and that of the input.
-    LastZero,
+pub(crate) struct TextNumber {
+    /// A `-` stands before it.
+    pub(crate) negative: bool,
+    pub(crate) value: u64,
+    /// The input ended with it.
+    pub(crate) last: bool,
 }
 
-/// Reads a step, its literals in place of what `lits` held.
-pub(crate) fn text_step<R: Read>(bytes: &mut Bytes<R>, lits: &mut Vec<Lit>) -> Result<Found, Stop>
-    ensures read { ReadsStep formats.Text lits.new.items
+/// Reads a step into a draft.
+pub(crate) fn text_step<G: Grammar, R: Read>(
+    bytes: &mut Bytes<R>,
+    draft: &mut G,
+) -> Result<StepEnd<G::Found>, Stop>
+    ensures read { ReadsStep G.rules formats.Text (G.step_of draft.new)
         (unread_bytes R.remaining bytes.old) (unread_bytes R.remaining bytes.new)
-        (outcome_in formats.Text) bytes.new.source result }
+        (outcome_in G.rules formats.Text) (source_of bytes.new) result }
     ensures nearer { IfOk result (λ _. room_in bytes.new < room_in bytes.old) }
     ensures room { room_in bytes.new ≤ room_in bytes.old }
 {
-    lits.clear();
-    let first = first_byte(bytes)?;
-    if first == b'd' {
-        let last = literals(bytes, lits)?;
-        return Ok(Found {
-            action: Action::Delete,
-            last,
-        });
+    let first = first_byte::<G, R>(bytes)?;
+    if draft.begin(Format::Text, first) {
+        let first_number = next_number::<G, R>(bytes)?;
+        return numbers(bytes, draft, first_number);
     }
-    let last = literals_from(bytes, first, lits)?;
-    Ok(Found {
-        action: Action::Add,
-        last,
-    })
+    if !draft.begin_bare() {
+        return Err(Stop::Wrong(DratKind::Malformed));
+    }
+    let first_number = number::<G, R>(bytes, first)?;
+    numbers(bytes, draft, first_number)
 }
 
 /// The first byte of a step. Blanks and comments before it are passed over.
-fn first_byte<R: Read>(bytes: &mut Bytes<R>) -> Result<u8, Stop>
-    ensures read { ReadsFirst
+fn first_byte<G: Grammar, R: Read>(bytes: &mut Bytes<R>) -> Result<u8, Stop>
+    ensures read { ReadsFirst G.rules
         (unread_bytes R.remaining bytes.old) (unread_bytes R.remaining bytes.new)
-        (outcome_in formats.Text) bytes.new.source result }
-    ensures first { IfOk result IsFirst }
+        (outcome_in G.rules formats.Text) (source_of bytes.new) result }
+    ensures first { IfOk result (IsFirst G.rules) }
     ensures nearer { IfOk result (λ _. room_in bytes.new < room_in bytes.old) }
     ensures room { room_in bytes.new ≤ room_in bytes.old }
 {
     'bytes: loop {
         let byte = bytes.next_byte()?;
-        if begins_comment(byte) {
-            comment(bytes)?;
+        if G::begins_comment(byte) {
+            comment::<G, R>(bytes)?;
         } else if !is_space(byte) {
             return Ok(byte);
         }
@@ -72,10 +72,10 @@ fn first_byte<R: Read>(bytes: &mut Bytes<R>) -> Result<u8, Stop>
 }
 
 /// Passes over the rest of a comment, and the LF after it.
-fn comment<R: Read>(bytes: &mut Bytes<R>) -> Result<(), Stop>
-    ensures read { ReadsTo Outside
+fn comment<G: Grammar, R: Read>(bytes: &mut Bytes<R>) -> Result<(), Stop>
+    ensures read { ReadsTo G.rules Outside
         (unread_bytes R.remaining bytes.old) (unread_bytes R.remaining bytes.new)
-        (outcome_at formats.Text Comment) bytes.new.source result }
+        (outcome_at G.rules formats.Text Comment) (source_of bytes.new) result }
     ensures room { room_in bytes.new ≤ room_in bytes.old }
 {
     'bytes: loop {
@@ -85,83 +85,76 @@ fn comment<R: Read>(bytes: &mut Bytes<R>) -> Result<(), Stop>
     }
 }
 
-/// Reads literals to the step's 0, the first of which begins with this byte, and answers whether
-/// the input ended with it.
-fn literals_from<R: Read>(
+/// Hands numbers to a draft to the end of the step, of which this one was read.
+fn numbers<G: Grammar, R: Read>(
     bytes: &mut Bytes<R>,
-    first: u8,
-    into: &mut Vec<Lit>,
-) -> Result<bool, Stop>
-    requires { is_space first ≡ false }
-    ensures read { (action : Action) → ReadsLiterals action into.new.items
-        (unread_bytes R.remaining bytes.old) (unread_bytes R.remaining bytes.new)
-        (λ more. outcome_at formats.Text (Within action into.old.items) (first ∷ more))
-        bytes.new.source result }
+    draft: &mut G,
+    first: TextNumber,
+) -> Result<StepEnd<G::Found>, Stop>
+    ensures read { (before : List ℕ → Outcome G.Step) (all : Option (List ℕ))
+        → Says G.rules (G.rules.said (G.slot_of draft.old) first.negative first.value) first.last
+        all (unread_bytes R.remaining bytes.old) before
+        → ReadsStep G.rules formats.Text (G.step_of draft.new)
+        all (unread_bytes R.remaining bytes.new) before (source_of bytes.new) result }
     ensures room { room_in bytes.new ≤ room_in bytes.old }
 {
-    match number(bytes, first)? {
-        Word::Literal(lit) => {
-            into.push(lit)?;
-            literals(bytes, into)
+    let mut number = first;
+    'numbers: loop {
+        let last = number.last;
+        if let Some(found) = draft.take(number.negative, number.value)? {
+            return Ok(StepEnd { found, last });
         }
-        Word::Zero => Ok(false),
-        Word::LastZero => Ok(true),
+        if last {
+            return Err(Stop::Wrong(DratKind::Unfinished));
+        }
+        number = next_number::<G, R>(bytes)?;
     }
 }
 
-/// Reads literals to the step's 0, and answers whether the input ended with it.
-fn literals<R: Read>(bytes: &mut Bytes<R>, into: &mut Vec<Lit>) -> Result<bool, Stop>
-    ensures read { (action : Action) → ReadsLiterals action into.new.items
+/// Reads the next number, and the blank or LF after it.
+#[inline(always)]
+fn next_number<G: Grammar, R: Read>(bytes: &mut Bytes<R>) -> Result<TextNumber, Stop>
+    ensures read { (slot : G.Slot) → ReadsNumber G.rules slot
         (unread_bytes R.remaining bytes.old) (unread_bytes R.remaining bytes.new)
-        (outcome_at formats.Text (Within action into.old.items)) bytes.new.source result }
-    ensures room { room_in bytes.new ≤ room_in bytes.old }
-{
-    'words: loop {
-        match next_word(bytes)? {
-            Word::Literal(lit) => into.push(lit)?,
-            Word::Zero => return Ok(false),
-            Word::LastZero => return Ok(true),
-        }
-    }
-}
-
-/// Reads the next word, and the blank or LF after it.
-fn next_word<R: Read>(bytes: &mut Bytes<R>) -> Result<Word, Stop>
-    ensures read { (action : Action) (lits : List ℕ) → ReadsWord action lits
-        (unread_bytes R.remaining bytes.old) (unread_bytes R.remaining bytes.new)
-        (outcome_at formats.Text (Within action lits)) bytes.new.source result }
+        (outcome_at G.rules formats.Text (Within slot)) (source_of bytes.new) result }
     ensures nearer { IfOk result (λ _. room_in bytes.new < room_in bytes.old) }
     ensures room { room_in bytes.new ≤ room_in bytes.old }
 {
     'blanks: loop {
         let byte = bytes.next_within()?;
         if !is_space(byte) {
-            return number(bytes, byte);
+            return number::<G, R>(bytes, byte);
         }
     }
 }
 
 /// Reads on a number that begins with this byte.
-fn number<R: Read>(bytes: &mut Bytes<R>, first: u8) -> Result<Word, Stop>
+#[inline(always)]
+fn number<G: Grammar, R: Read>(bytes: &mut Bytes<R>, first: u8) -> Result<TextNumber, Stop>
     requires { is_space first ≡ false }
-    ensures read { (action : Action) (lits : List ℕ) → ReadsWord action lits
+    ensures read { (slot : G.Slot) → ReadsNumber G.rules slot
         (unread_bytes R.remaining bytes.old) (unread_bytes R.remaining bytes.new)
-        (λ more. outcome_at formats.Text (Within action lits) (first ∷ more)) bytes.new.source
+        (λ more. outcome_at G.rules formats.Text (Within slot) (first ∷ more)) (source_of bytes.new)
         result }
     ensures room { room_in bytes.new ≤ room_in bytes.old }
 {
     if first == b'-' {
         let digit = bytes.next_within()?;
-        return digits(bytes, true, digit);
+        return digits::<G, R>(bytes, true, digit);
     }
-    digits(bytes, false, first)
+    digits::<G, R>(bytes, false, first)
 }
 
 /// Reads digits, the first of which is this byte.
-fn digits<R: Read>(bytes: &mut Bytes<R>, negative: bool, first: u8) -> Result<Word, Stop>
-    ensures read { (action : Action) (lits : List ℕ) → ReadsWord action lits
+#[inline(always)]
+fn digits<G: Grammar, R: Read>(
+    bytes: &mut Bytes<R>,
+    negative: bool,
+    first: u8,
+) -> Result<TextNumber, Stop>
+    ensures read { (slot : G.Slot) → ReadsNumber G.rules slot
         (unread_bytes R.remaining bytes.old) (unread_bytes R.remaining bytes.new)
-        (goes_on formats.Text (first_digit action lits negative first)) bytes.new.source result }
+        (goes_on G.rules formats.Text (first_digit slot negative first)) (source_of bytes.new) result }
     ensures room { room_in bytes.new ≤ room_in bytes.old }
 {
     if !is_digit(first) {
@@ -171,44 +164,33 @@ fn digits<R: Read>(bytes: &mut Bytes<R>, negative: bool, first: u8) -> Result<Wo
     'digits: loop {
         match bytes.next_byte() {
             Ok(byte) if is_digit(byte) => value = with_digit(value, byte),
-            Ok(byte) if is_space(byte) => return ended(negative, value),
+            Ok(byte) if is_space(byte) => {
+                let last = false;
+                return Ok(TextNumber {
+                    negative,
+                    value,
+                    last,
+                });
+            }
             Ok(_) => return Err(Stop::Wrong(DratKind::Malformed)),
-            Err(Stop::End) => return last(negative, value),
+            Err(Stop::End) => {
+                let last = true;
+                return Ok(TextNumber {
+                    negative,
+                    value,
+                    last,
+                });
+            }
             Err(stop) => return Err(stop),
         }
     }
 }
 
-/// A digit more. Of a value that is too large for a variable only that is kept.
+/// A digit more. Of a value that is too large for an id only that is kept.
 #[inline(always)]
 fn with_digit(value: u64, digit: u8) -> u64
     requires { is_digit digit ≡ true }
     ensures { result ≡ with_digit value digit }
 {
-    value.min(MAX_VARIABLE + 1) * 10 + (digit - b'0') as u64
-}
-
-/// A number of this value ended.
-#[inline(always)]
-fn ended(negative: bool, value: u64) -> Result<Word, Stop>
-    ensures { (action : Action) (lits : List ℕ) → EndsNumber action lits
-        (said action lits (lit_said negative value)) result }
-{
-    match lit_said(negative, value) {
-        Ok(Some(lit)) => Ok(Word::Literal(lit)),
-        Ok(None) => Ok(Word::Zero),
-        Err(kind) => Err(Stop::Wrong(kind)),
-    }
-}
-
-/// A number of this value ended with the input.
-fn last(negative: bool, value: u64) -> Result<Word, Stop>
-    ensures { (action : Action) (lits : List ℕ) → EndsLast action lits
-        (last_said action lits (lit_said negative value)) result }
-{
-    match lit_said(negative, value) {
-        Ok(Some(_)) => Err(Stop::Wrong(DratKind::Unfinished)),
-        Ok(None) => Ok(Word::LastZero),
-        Err(kind) => Err(Stop::Wrong(kind)),
-    }
+    value.min(MAX_VALUE) * 10 + (digit - b'0') as u64
 }

@@ -1,7 +1,7 @@
 -- Worked proofs, by computing what they say.
 use Rattle.std.proofs.Common.{refl}
 use Rattle.frat_text.specs.Bytes.{told_by}
-use Rattle.frat_text.specs.Proofs.{outcome_at}
+use Rattle.drat_text.specs.Proofs.{outcome_at}
 use Rattle.frat_text.specs.Rows.{FratRows}
 
 pub frat_rows : FratRows
@@ -21,7 +21,7 @@ frat_rows = record {
   binary_hints = refl;
   binary_names = refl;
   minus_zero = refl;
-  frat = refl;
-  drat = refl;
+  told = refl;
+  not_told = refl;
   no_step = refl;
 }

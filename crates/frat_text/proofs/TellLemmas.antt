@@ -1,5 +1,5 @@
 -- The bytes before the first step.
-use Rattle.std.proofs.Common.{◌≡◌, ℕ, ◌+◌, ◌≤◌, ◌<◌, List, [], ◌∷◌, None, Some, IfSome, Bool, true, false, refl, sym, ap, ◌∙◌, take, drop, length, arith}
+use Rattle.std.proofs.Common.{◌≡◌, ℕ, ◌+◌, ◌≤◌, ◌<◌, List, [], ◌∷◌, None, Some, IfSome, Bool, false, refl, sym, ap, ◌∙◌, take, drop, length, arith}
 use Rattle.std.specs.Prelude.{slice_get}
 use Rattle.std.proofs.lemmas.List.{length-take, get_or-take, drop_all, drop_more}
 use Rattle.std.proofs.lemmas.Option.{slice_get_within, get_or_from_slice_get}
@@ -7,7 +7,7 @@ use Rattle.drat_text.proofs.FrontLemmas.{ends_before}
 use Rattle.frat_text.specs.declared.telling.Sight.{Sight}
 use Rattle.frat_text.specs.declared.telling.Sight.TheVariants.{Later, Told}
 use Rattle.frat_text.specs.Bytes.{is_frat, seen_at, told_by}
-use Rattle.frat_text.proofs.Takings.{Known}
+use Rattle.drat_text.proofs.FrontLemmas.{Known}
 
 -- the bytes from a place on tell what all tell
 abbrev pub Remains : Known → ℕ → Bool → Type 0

@@ -1,9 +1,7 @@
 -- The bytes with which steps begin, and how the first ones of a proof tell what it is.
-use Rattle.std.specs.Prelude.{ℕ, Bool, true, false, not, ◌||◌, List, [], ◌∷◌, Option, Some, None, is_some, ◌==◌, take, if◌then◌else◌}
+use Rattle.std.specs.Prelude.{ℕ, Bool, true, false, not, ◌||◌, List, [], ◌∷◌, Option, Some, None, ◌==◌, take, if◌then◌else◌}
 use Rattle.sat_formula.specs.Bytes.{is_lf}
-use Rattle.drat_text.specs.Bytes.{letter_a, letter_d, begins_comment, is_space, by_text_bytes}
-use Rattle.drat_text.specs.declared.bytes.Format.{Format}
-use Rattle.drat_text.specs.declared.bytes.Format.TheVariants.{Text}
+use Rattle.drat_text.specs.Bytes.{letter_a, letter_d, begins_comment, is_space}
 use Rattle.frat_text.specs.declared.step.FratAction.TheVariants.{Original, Add, Delete, Final}
 use Rattle.frat_text.specs.declared.telling.Sight.{Sight}
 use Rattle.frat_text.specs.declared.telling.Sight.TheVariants.{Later, Told}
@@ -34,12 +32,6 @@ slot_begun b =
     else (if b == letter_f then Some (IdDue Final)
     else (if b == letter_l then Some (HintDue [])
     else (if b == letter_r then Some (FromDue []) else None)))))
-
--- binary where it begins with a step's letter, and a byte that no text can have is among the first 4,096
-abbrev pub format_of : List ℕ → Format
-format_of [] = Text
-format_of (b ∷ bs) =
-    if is_some (slot_begun b) then by_text_bytes (take 4096 (b ∷ bs)) else Text
 
 -- ---- FRAT or DRAT
 

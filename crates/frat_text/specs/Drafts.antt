@@ -1,10 +1,7 @@
 -- The draft of a step, and what it takes.
 --     view      a step, with its list in place of a reference to it
 --     slot_of draft, found_step draft found      what is due;  the step that has ended
---     BeginsStep, TakesNumber      what a letter and a number did
-use Rattle.std.specs.Prelude.{◌≡◌, ℕ, List, Option, Some, None, Result, Ok, Err}
-use Rattle.drat_text.specs.declared.fault.Stop.{Stop}
-use Rattle.drat_text.specs.declared.fault.Stop.TheVariants as stops
+use Rattle.std.specs.Prelude.{ℕ, List}
 use Rattle.frat_text.specs.declared.draft.Draft.{Draft}
 use Rattle.frat_text.specs.declared.draft.Due.{Due}
 use Rattle.frat_text.specs.declared.draft.Due.TheVariants as dues
@@ -14,7 +11,6 @@ use Rattle.frat_text.specs.declared.step.FratHint.{FratHint}
 use Rattle.frat_text.specs.declared.step.FratStep.{FratStep}
 use Rattle.frat_text.specs.declared.step.FratStep.TheVariants as steps
 use Rattle.frat_text.specs.declared.step.Renaming.{Renaming}
-use Rattle.frat_text.specs.Places.{After, Goes, Gives, Stops, Within}
 use Rattle.frat_text.specs.Slots.{Slot, IdDue, LitDue, HintDue, FromDue, ToDue}
 use Rattle.frat_text.specs.Steps.{Step, clause, hints, renames}
 
@@ -45,20 +41,3 @@ found_in founds.Renames lits hs rs = renames rs
 -- the step of a draft that has ended
 abbrev pub found_step : Draft → Found → Step
 found_step d found = found_in found d.lits.items d.hints.items d.renamings.items
-
--- a byte began the draft, or stops the reading
-abbrev pub BeginsStep : {X : Type 0} → Draft → After → Result X Stop → Type 0
-BeginsStep d a (Ok x) = a ≡ Goes (Within (slot_of d))
-BeginsStep d a (Err stops.End) = ⊥
-BeginsStep d a (Err stops.Read) = ⊥
-BeginsStep d a (Err (stops.Wrong kind)) = a ≡ Stops kind
-BeginsStep d a (Err stops.OutOfMemory) = ⊥
-
--- what a number does was done to the draft
-abbrev pub TakesNumber : Draft → After → Result (Option Found) Stop → Type 0
-TakesNumber d a (Ok (Some found)) = a ≡ Gives (found_step d found)
-TakesNumber d a (Ok None) = a ≡ Goes (Within (slot_of d))
-TakesNumber d a (Err stops.End) = ⊥
-TakesNumber d a (Err stops.Read) = ⊥
-TakesNumber d a (Err (stops.Wrong kind)) = a ≡ Stops kind
-TakesNumber d a (Err stops.OutOfMemory) = Unit {0}

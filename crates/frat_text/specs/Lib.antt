@@ -1,10 +1,8 @@
 pub mod Slots
 pub mod Steps
 pub mod Bytes
-pub mod Places
-pub mod Proofs
+pub mod FratRules
 pub mod Drafts
-pub mod Taking
-pub mod Reading
-pub mod NextStep
+pub mod Telling
+pub mod FratSteps
 pub mod Rows

@@ -2,42 +2,42 @@
 use Rattle.std.specs.Prelude.{◌≡◌, true, false, [], ◌∷◌, codes}
 use Rattle.drat_text.specs.declared.fault.DratKind.TheVariants.{Malformed, NumberTooLarge, Unfinished}
 use Rattle.frat_text.specs.declared.step.FratAction.TheVariants.{Original, Add, Delete, Final}
-use Rattle.frat_text.specs.declared.step.FratHint.{FratHint}
-use Rattle.frat_text.specs.declared.step.Renaming.{Renaming}
 use Rattle.frat_text.specs.Bytes.{is_frat}
-use Rattle.frat_text.specs.Proofs.{outcome_of}
-use Rattle.frat_text.specs.Steps.{clause, hints, renames, Ended, Faulty}
+use Rattle.drat_text.specs.Proofs.{outcome_of}
+use Rattle.drat_text.specs.Steps.{Ended, Faulty}
+use Rattle.frat_text.specs.FratRules.{frat}
+use Rattle.frat_text.specs.Steps.{clause, hints, renames}
 
 -- one fact a row
 pub record FratRows : Type 0 where
-  pub nothing : outcome_of [] ≡ ([], Ended)
-  pub formula : outcome_of (codes "o 1 1 -2 0\nf 1 1 -2 0\n")
+  pub nothing : outcome_of frat [] ≡ ([], Ended)
+  pub formula : outcome_of frat (codes "o 1 1 -2 0\nf 1 1 -2 0\n")
       ≡ (clause Original 1 (0 ∷ 3 ∷ []) ∷ clause Final 1 (0 ∷ 3 ∷ []) ∷ [], Ended)
-  pub hinted : outcome_of (codes "a 3 1 0 l 1 -2 0\nd 3 1 0")
+  pub hinted : outcome_of frat (codes "a 3 1 0 l 1 -2 0\nd 3 1 0")
       ≡ (
         clause Add 3 (0 ∷ [])
             ∷ hints (record { id = 1; is_negative = false } ∷ record { id = 2; is_negative = true } ∷ [])
             ∷ clause Delete 3 (0 ∷ []) ∷ [],
         Ended,
       )
-  pub renamed : outcome_of (codes "r 1 7 2 8 0\n")
+  pub renamed : outcome_of frat (codes "r 1 7 2 8 0\n")
       ≡ (renames (record { from = 1; to = 7 } ∷ record { from = 2; to = 8 } ∷ []) ∷ [], Ended)
-  pub comments : outcome_of (codes "c x .\no1\n2\n0\nc") ≡ (clause Original 1 (2 ∷ []) ∷ [], Ended)
-  pub no_id : outcome_of (codes "o 0 1 0") ≡ ([], Faulty Malformed)
-  pub half_a_pair : outcome_of (codes "r 1 0") ≡ ([], Faulty Malformed)
-  pub no_letter : outcome_of (codes "1 2 0") ≡ ([], Faulty Malformed)
-  pub large_id : outcome_of (codes "o 1152921504606846976 0") ≡ ([], Faulty NumberTooLarge)
-  pub cut_off : outcome_of (codes "a 1 2 0\nl ") ≡ (clause Add 1 (2 ∷ []) ∷ [], Faulty Unfinished)
-  pub binary : outcome_of (111 ∷ 1 ∷ 2 ∷ 5 ∷ 0 ∷ []) ≡ (clause Original 1 (0 ∷ 3 ∷ []) ∷ [], Ended)
-  pub binary_hints : outcome_of (97 ∷ 131 ∷ 1 ∷ 0 ∷ 108 ∷ 2 ∷ 5 ∷ 0 ∷ [])
+  pub comments : outcome_of frat (codes "c x .\no1\n2\n0\nc") ≡ (clause Original 1 (2 ∷ []) ∷ [], Ended)
+  pub no_id : outcome_of frat (codes "o 0 1 0") ≡ ([], Faulty Malformed)
+  pub half_a_pair : outcome_of frat (codes "r 1 0") ≡ ([], Faulty Malformed)
+  pub no_letter : outcome_of frat (codes "1 2 0") ≡ ([], Faulty Malformed)
+  pub large_id : outcome_of frat (codes "o 1152921504606846976 0") ≡ ([], Faulty NumberTooLarge)
+  pub cut_off : outcome_of frat (codes "a 1 2 0\nl ") ≡ (clause Add 1 (2 ∷ []) ∷ [], Faulty Unfinished)
+  pub binary : outcome_of frat (111 ∷ 1 ∷ 2 ∷ 5 ∷ 0 ∷ []) ≡ (clause Original 1 (0 ∷ 3 ∷ []) ∷ [], Ended)
+  pub binary_hints : outcome_of frat (97 ∷ 131 ∷ 1 ∷ 0 ∷ 108 ∷ 2 ∷ 5 ∷ 0 ∷ [])
       ≡ (
         clause Add 131 []
             ∷ hints (record { id = 1; is_negative = false } ∷ record { id = 2; is_negative = true } ∷ []) ∷ [],
         Ended,
       )
-  pub binary_names : outcome_of (114 ∷ 1 ∷ 7 ∷ 130 ∷ 1 ∷ 8 ∷ 0 ∷ [])
+  pub binary_names : outcome_of frat (114 ∷ 1 ∷ 7 ∷ 130 ∷ 1 ∷ 8 ∷ 0 ∷ [])
       ≡ (renames (record { from = 1; to = 7 } ∷ record { from = 130; to = 8 } ∷ []) ∷ [], Ended)
-  pub minus_zero : outcome_of (97 ∷ 1 ∷ 1 ∷ 0 ∷ []) ≡ ([], Faulty Malformed)
-  pub frat : is_frat (codes "\n\tc 1 0\no 1 1 0\n") ≡ true
-  pub drat : is_frat (codes "c o\nd 1 0\n") ≡ false
+  pub minus_zero : outcome_of frat (97 ∷ 1 ∷ 1 ∷ 0 ∷ []) ≡ ([], Faulty Malformed)
+  pub told : is_frat (codes "\n\tc 1 0\no 1 1 0\n") ≡ true
+  pub not_told : is_frat (codes "c o\nd 1 0\n") ≡ false
   pub no_step : is_frat (codes "c o 1 0") ≡ false

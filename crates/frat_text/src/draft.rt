@@ -1,21 +1,27 @@
 //! The step that is read.
-ghost use Rattle.std.specs.Prelude.{◌≡◌, [], is_some, is_none};
+ghost use Rattle.std.specs.Prelude.{◌≡◌, []};
 ghost use Rattle.std.specs.Option.{option_map};
-ghost use Rattle.drat_text.specs.Numbers.{lit_said};
+ghost use Rattle.drat_text.specs.Reading.{TakesNumber};
 ghost use Rattle.frat_text.specs.Bytes.{slot_begun};
 ghost use Rattle.frat_text.specs.declared.draft.Due.TheVariants as dues;
-ghost use Rattle.frat_text.specs.Drafts.{slot_at, slot_of, found_step, view, BeginsStep, TakesNumber};
-ghost use Rattle.frat_text.specs.Places.{begun, coded, said};
-ghost use Rattle.frat_text.specs.Slots.{is_signed};
+ghost use Rattle.frat_text.specs.Drafts.{found_step, slot_at, slot_of, view};
+ghost use Rattle.frat_text.specs.FratRules.{frat, said};
+ghost use Rattle.frat_text.specs.Slots.{Slot};
+ghost use Rattle.frat_text.specs.Steps.{Step};
 
 use crate::step::{FratAction, FratHint, FratStep, Renaming};
+use drat_text::bytes::Format;
 use drat_text::fault::{DratKind, Stop};
+use drat_text::grammar::Grammar;
 use drat_text::number::lit_said;
 use sat_formula::Lit;
 use std::alloc::Global;
 
 /// The largest id.
 const MAX_ID: u64 = (1 << 60) - 1;
+
+/// The weight of the ninth byte of a binary number, which is its last.
+const LAST_WEIGHT: u64 = 1 << 56;
 
 /// What is due next in a step.
 #[derive(Clone, Copy)]
@@ -40,14 +46,6 @@ pub(crate) enum Found {
     Renames,
 }
 
-/// A step that has ended.
-#[derive(Clone, Copy)]
-pub(crate) struct StepEnd {
-    pub(crate) found: Found,
-    /// The input ended with it.
-    pub(crate) last: bool,
-}
-
 /// What was read of a step.
 #[derive(Drop)]
 pub(crate) struct Draft {
@@ -68,53 +66,6 @@ impl Draft {
         }
     }
 
-    /// Begins a step by its letter, in place of the step before.
-    pub(crate) fn begin(&mut self, letter: u8) -> Result<(), Stop>
-        ensures { BeginsStep self.new (begun letter) result }
-    {
-        let Some(due) = due_after(letter) else {
-            return Err(Stop::Wrong(DratKind::Malformed));
-        };
-        self.due = due;
-        self.hints.clear();
-        self.renamings.clear();
-        Ok(())
-    }
-
-    /// Takes the next number of a text. The answer is the step where it has ended by it.
-    #[inline(always)]
-    pub(crate) fn take(&mut self, negative: bool, value: u64) -> Result<Option<Found>, Stop>
-        ensures { TakesNumber self.new (said (slot_of self.old) negative value) result }
-    {
-        match self.due {
-            Due::Lit(action, id) => self.take_lit(action, id, negative, value),
-            Due::Hint => self.take_hint(negative, value),
-            Due::Id(action) => self.take_id(action, negative, value),
-            Due::From => self.take_from(negative, value),
-            Due::To(from) => self.take_to(from, negative, value),
-        }
-    }
-
-    /// Takes the next number of a binary step. The answer is the step where it has ended by it.
-    #[inline(always)]
-    pub(crate) fn take_code(&mut self, number: u64) -> Result<Option<Found>, Stop>
-        ensures { TakesNumber self.new (coded (slot_of self.old) number) result }
-    {
-        if self.is_signed() {
-            self.take(number % 2 == 1, number / 2)
-        } else {
-            self.take(false, number)
-        }
-    }
-
-    /// Whether the next number has a sign.
-    #[inline(always)]
-    fn is_signed(&self) -> bool
-        ensures { result ≡ is_signed (slot_of self.now) }
-    {
-        matches!(self.due, Due::Lit(_, _) | Due::Hint)
-    }
-
     /// Takes a literal of a clause, or the 0 after the last.
     #[inline(always)]
     fn take_lit(
@@ -125,7 +76,8 @@ impl Draft {
         value: u64,
     ) -> Result<Option<Found>, Stop>
         requires { self.old.due ≡ dues.Lit action id }
-        ensures { TakesNumber self.new (said (slot_of self.old) negative value) result }
+        ensures { TakesNumber (found_step self.new) (slot_of self.new)
+            (said (slot_of self.old) negative value) result }
     {
         match lit_said(negative, value) {
             Ok(Some(lit)) => {
@@ -141,7 +93,8 @@ impl Draft {
     #[inline(always)]
     fn take_hint(&mut self, negative: bool, value: u64) -> Result<Option<Found>, Stop>
         requires { self.old.due ≡ dues.Hint }
-        ensures { TakesNumber self.new (said (slot_of self.old) negative value) result }
+        ensures { TakesNumber (found_step self.new) (slot_of self.new)
+            (said (slot_of self.old) negative value) result }
     {
         if value > MAX_ID {
             return Err(Stop::Wrong(DratKind::NumberTooLarge));
@@ -167,7 +120,8 @@ impl Draft {
         value: u64,
     ) -> Result<Option<Found>, Stop>
         requires { self.old.due ≡ dues.Id action }
-        ensures { TakesNumber self.new (said (slot_of self.old) negative value) result }
+        ensures { TakesNumber (found_step self.new) (slot_of self.new)
+            (said (slot_of self.old) negative value) result }
     {
         if negative || value == 0 {
             return Err(Stop::Wrong(DratKind::Malformed));
@@ -183,7 +137,8 @@ impl Draft {
     /// Takes an id that a clause has, or the 0 after the last pair.
     fn take_from(&mut self, negative: bool, value: u64) -> Result<Option<Found>, Stop>
         requires { self.old.due ≡ dues.From }
-        ensures { TakesNumber self.new (said (slot_of self.old) negative value) result }
+        ensures { TakesNumber (found_step self.new) (slot_of self.new)
+            (said (slot_of self.old) negative value) result }
     {
         if negative {
             return Err(Stop::Wrong(DratKind::Malformed));
@@ -201,7 +156,8 @@ impl Draft {
     /// Takes the id that a clause gets.
     fn take_to(&mut self, from: u64, negative: bool, value: u64) -> Result<Option<Found>, Stop>
         requires { self.old.due ≡ dues.To from }
-        ensures { TakesNumber self.new (said (slot_of self.old) negative value) result }
+        ensures { TakesNumber (found_step self.new) (slot_of self.new)
+            (said (slot_of self.old) negative value) result }
     {
         if negative || value == 0 {
             return Err(Stop::Wrong(DratKind::Malformed));
@@ -230,8 +186,69 @@ impl Draft {
     }
 }
 
+impl Grammar for Draft {
+    type Found = Found;
+
+    ghost Slot = { Slot };
+
+    ghost Step = { Step };
+
+    ghost rules = { frat };
+
+    ghost slot_of = { slot_of };
+
+    ghost step_of = { found_step };
+
+    #[inline(always)]
+    fn begins_comment(byte: u8) -> bool {
+        byte == b'c'
+    }
+
+    fn begin(&mut self, _format: Format, letter: u8) -> bool {
+        let Some(due) = due_after(letter) else {
+            return false;
+        };
+        self.due = due;
+        self.hints.clear();
+        self.renamings.clear();
+        true
+    }
+
+    fn begin_bare(&mut self) -> bool {
+        false
+    }
+
+    #[inline(always)]
+    fn is_signed(&self) -> bool {
+        matches!(self.due, Due::Lit(_, _) | Due::Hint)
+    }
+
+    #[inline(always)]
+    fn take(&mut self, negative: bool, value: u64) -> Result<Option<Found>, Stop> {
+        match self.due {
+            Due::Lit(action, id) => self.take_lit(action, id, negative, value),
+            Due::Hint => self.take_hint(negative, value),
+            Due::Id(action) => self.take_id(action, negative, value),
+            Due::From => self.take_from(negative, value),
+            Due::To(from) => self.take_to(from, negative, value),
+        }
+    }
+
+    #[inline(always)]
+    fn last_weight() -> u64 {
+        LAST_WEIGHT
+    }
+
+    fn first_tells(byte: u8) -> Option<Format> {
+        match due_after(byte) {
+            Some(_) => None,
+            None => Some(Format::Text),
+        }
+    }
+}
+
 /// What is due after a step's letter, where the byte is one.
-pub(crate) fn due_after(letter: u8) -> Option<Due>
+fn due_after(letter: u8) -> Option<Due>
     ensures { option_map (λ due. slot_at due [] [] []) result ≡ slot_begun letter }
 {
     match letter {

@@ -2,13 +2,10 @@
 //! why a clause follows.
 #![tactic(auto)]
 
-mod binary;
 mod draft;
-mod format;
 mod reader;
 mod step;
 mod telling;
-mod text;
 
 pub use reader::FratReader;
 pub use step::{FratAction, FratHint, FratStep, Renaming};

@@ -1,8 +1,8 @@
 //! Whether a proof is FRAT, told by its first bytes.
 ghost use Rattle.std.specs.Prelude.{◌≡◌, ◌≤◌};
-ghost use Rattle.drat_text.specs.Taking.{unread_bytes, room_in, source_of};
+ghost use Rattle.drat_text.specs.Taking.{Looks, unread_bytes, room_in, source_of};
 ghost use Rattle.frat_text.specs.Bytes.{is_frat, seen_at};
-ghost use Rattle.frat_text.specs.Taking.{Looks, TellsFrat};
+ghost use Rattle.frat_text.specs.Telling.{TellsFrat};
 
 use drat_text::bytes::{Bytes, LOOKED_AT};
 use drat_text::fault::{DratFault, Stop};

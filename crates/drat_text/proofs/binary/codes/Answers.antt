@@ -1,22 +1,42 @@
-use Rattle.std.proofs.Common.{rules}
+use Rattle.std.proofs.Common.{rules, false}
+use Rattle.drat_text.specs.Taking.{source_of}
 use Rattle.drat_text.specs.declared.bytes.Format.TheVariants.{Binary}
-use Rattle.drat_text.specs.Reading.{ReadsCodes}
-use Rattle.drat_text.proofs.StepLemmas.{code_on}
-use Rattle.drat_text.proofs.Takings.{exits, leads_on, stopped_on}
+use Rattle.drat_text.specs.Places.{coded}
+use Rattle.drat_text.specs.Reading.{ReadsStep}
+use Rattle.drat_text.proofs.NumberLemmas.{code_ended, code_faulty, code_going}
+use Rattle.drat_text.proofs.Takings.{exits, given_on, leads_nil, leads_on, stopped_on}
 use Rattle.drat_text.proofs.binary.codes.Goals as goal
 
-pub returns-in_err-lit-clause-read : goal.returns-in_err-lit-clause-read
-returns-in_err-lit-clause-read g c = λ action.
-    exits (ReadsCodes action _ _ _ _ c.next_code.new.bytes.source) _ _ c.from_residual.ensures.1
-    (stopped_on _ Binary c.next_code.new.bytes.source _ (c.codes.invariant.read action) (c.in_err-lit.ensures.read action c.codes.into.items))
+pub codes-init : goal.codes-init
+codes-init g c = record { room = search rules; read = leads_nil _ _ }
+
+pub returns-in_err-code-clause-read : goal.returns-in_err-code-clause-read
+returns-in_err-code-clause-read g c =
+    let G = g.G.Grammar in
+    exits (ReadsStep G.rules Binary (G.step_of c.codes.draft) _ _ _ (source_of c.number.new.bytes)) _ _ c.from_residual.ensures.1
+    (stopped_on G.rules Binary _ (source_of c.number.new.bytes) _ c.codes.invariant.read (c.in_err-code.ensures.read (G.slot_of c.codes.draft)))
+
+pub returns-in_err-found-clause-read : goal.returns-in_err-found-clause-read
+returns-in_err-found-clause-read g c =
+    let G = g.G.Grammar in let d = c.take_code.new.draft in
+    exits (ReadsStep G.rules Binary (G.step_of d) _ _ _ (source_of c.number.new.bytes)) _ _ c.from_residual-in_err-found.ensures.1
+    (stopped_on G.rules Binary _ (source_of c.number.new.bytes) _ c.codes.invariant.read
+    (code_faulty G.rules (G.step_of d) (G.slot_of d) (coded G.rules (G.slot_of c.codes.draft) c.in_ok-code.code) (source_of c.number.new.bytes) _
+    (c.in_ok-code.ensures.read (G.slot_of c.codes.draft)) c.in_err-found.ensures))
+
+pub returns-in-Some-clause-read : goal.returns-in-Some-clause-read
+returns-in-Some-clause-read g c =
+    let G = g.G.Grammar in let d = c.take_code.new.draft in
+    given_on G.rules Binary _ (G.step_of d c.in-Some.found) false c.codes.invariant.read
+    (code_ended G.rules (G.step_of d) (G.slot_of d) (coded G.rules (G.slot_of c.codes.draft) c.in_ok-code.code) c.in-Some.found
+    (c.in_ok-code.ensures.read (G.slot_of c.codes.draft)) (rw c.in-Some.is at c.in_ok-found.ensures))
 
 pub codes-preserved : goal.codes-preserved
-codes-preserved g c = record {
-  room = search rules;
-  read = λ action. code_on action c.codes.into.items c.push.new.self.items c.in-Some.lit c.in_ok-push-in-Some.ensures.items
-      (c.codes.invariant.read action) (rw c.in-Some.is at (c.in_ok-lit.ensures.read action c.codes.into.items));
-}
-
-pub returns-in-None-clause-read : goal.returns-in-None-clause-read
-returns-in-None-clause-read g c = λ action.
-    leads_on (c.codes.invariant.read action) (rw c.in-None.is at (c.in_ok-lit.ensures.read action c.codes.into.items))
+codes-preserved g c =
+    let G = g.G.Grammar in let d = c.take_code.new.draft in
+    record {
+      room = search rules;
+      read = leads_on c.codes.invariant.read
+          (code_going G.rules (G.step_of d) (G.slot_of d) (coded G.rules (G.slot_of c.codes.draft) c.in_ok-code.code)
+          (c.in_ok-code.ensures.read (G.slot_of c.codes.draft)) (rw c.in_default.is at c.in_ok-found.ensures));
+    }

@@ -1,6 +1,7 @@
 use Rattle.std.proofs.Common.{rules, refl}
 use Rattle.std.proofs.Common.{eq-eqb}
 use Rattle.std.proofs.lemmas.Bool.{ne_eqb}
+use Rattle.drat_text.specs.Taking.{source_of}
 use Rattle.drat_text.specs.declared.bytes.Format.TheVariants.{Text}
 use Rattle.drat_text.specs.Places.{Comment, Outside}
 use Rattle.drat_text.specs.Reading.{ReadsTo}
@@ -9,14 +10,14 @@ use Rattle.drat_text.proofs.text.comment.Goals as goal
 
 pub returns-in_err-next_byte-clause-read : goal.returns-in_err-next_byte-clause-read
 returns-in_err-next_byte-clause-read g c =
-    exits (ReadsTo Outside _ _ _ c.next_byte.new.self.source) _ _ c.from_residual.ensures.1
-    (no_byte _ Text Comment c.next_byte.new.self.source _ refl c.bytes.invariant.read c.in_err-next_byte.ensures.byte)
+    exits (ReadsTo g.G.Grammar.rules Outside _ _ _ (source_of c.next_byte.new.self)) _ _ c.from_residual.ensures.1
+    (no_byte g.G.Grammar.rules Text _ Comment (source_of c.next_byte.new.self) _ refl c.bytes.invariant.read c.in_err-next_byte.ensures.byte)
 
 pub returns-then-branch-eq10-clause-read : goal.returns-then-branch-eq10-clause-read
-returns-then-branch-eq10-clause-read g c = byte_goes Text Comment _ c.bytes.invariant.read c.in_ok-next_byte.ensures.byte (rw (eq-eqb _ 10 c.if-branch-eq10.true) refl)
+returns-then-branch-eq10-clause-read g c = byte_goes g.G.Grammar.rules Text Comment _ c.bytes.invariant.read c.in_ok-next_byte.ensures.byte (rw (eq-eqb _ 10 c.if-branch-eq10.true) refl)
 
 pub bytes-preserved : goal.bytes-preserved
 bytes-preserved g c = record {
   room = search rules;
-  read = byte_goes Text Comment _ c.bytes.invariant.read c.in_ok-next_byte.ensures.byte (rw (ne_eqb _ 10 c.if-branch-eq10.false) refl);
+  read = byte_goes g.G.Grammar.rules Text Comment _ c.bytes.invariant.read c.in_ok-next_byte.ensures.byte (rw (ne_eqb _ 10 c.if-branch-eq10.false) refl);
 }

@@ -8,7 +8,8 @@ use Rattle.drat_text.proofs.text.first_byte.Given as goal
 abbrev pub invariant-bytes : goal.invariant-bytes
 invariant-bytes g l = record {
   room : room_in l.bytes ≤ room_in l.fn.bytes;
-  read : Leads (unread_bytes g.R.Read.remaining l.fn.bytes) (unread_bytes g.R.Read.remaining l.bytes) (outcome_at Text Outside) (outcome_at Text Outside);
+  read : Leads (unread_bytes g.R.Read.remaining l.fn.bytes) (unread_bytes g.R.Read.remaining l.bytes)
+      (outcome_at g.G.Grammar.rules Text Outside) (outcome_at g.G.Grammar.rules Text Outside);
 }
 
 abbrev pub decreases-bytes : goal.decreases-bytes

@@ -1,29 +1,52 @@
-use Rattle.std.proofs.Common.{Ok, Err}
+use Rattle.drat_text.specs.Taking.{source_of, unread_bytes, by_byte}
 use Rattle.drat_text.specs.declared.bytes.Format.TheVariants.{Text}
-use Rattle.drat_text.specs.declared.step.Action.TheVariants.{Add, Delete}
+use Rattle.drat_text.specs.Proofs.{outcome_in}
 use Rattle.drat_text.specs.Reading.{ReadsStep}
-use Rattle.drat_text.proofs.StepLemmas.{adds_on, deletes_on}
-use Rattle.drat_text.proofs.Takings.{exits}
+use Rattle.drat_text.proofs.NumberLemmas.{says_on, outside_bare, outside_letter, outside_none}
+use Rattle.drat_text.proofs.Takings.{exits, leads_as, stopped_on}
 use Rattle.drat_text.proofs.text.text_step.Goals as goal
 
-pub returns-in_err-last-clause-read : goal.returns-in_err-last-clause-read
-returns-in_err-last-clause-read g c =
-    exits (ReadsStep Text _ _ _ _ c.literals.new.bytes.source) _ _ c.from_residual-in_err-last.ensures.1
-    (deletes_on _ c.literals.new.bytes.source c.clear.new.self.items c.literals.new.into.items c.in_ok-first.first (Err _)
-    c.clear.ensures.items c.if-first-eq100.true c.in_ok-first.ensures.read (c.in_err-last.ensures.read Delete))
+pub returns-in_err-first-clause-read : goal.returns-in_err-first-clause-read
+returns-in_err-first-clause-read g c =
+    let G = g.G.Grammar in
+    exits (ReadsStep G.rules Text (G.step_of c.args.draft.now) _ _ _ (source_of c.first_byte.new.bytes)) _ _ c.from_residual.ensures.1 c.in_err-first.ensures.read
 
-pub returns-then-first-eq100-clause-read : goal.returns-then-first-eq100-clause-read
-returns-then-first-eq100-clause-read g c =
-    deletes_on _ c.literals.new.bytes.source c.clear.new.self.items c.literals.new.into.items c.in_ok-first.first (Ok c.in_ok-last.last)
-    c.clear.ensures.items c.if-first-eq100.true c.in_ok-first.ensures.read (c.in_ok-last.ensures.read Delete)
+pub returns-in_err-first_number-clause-read : goal.returns-in_err-first_number-clause-read
+returns-in_err-first_number-clause-read g c =
+    let G = g.G.Grammar in let d = c.begin.new.self in
+    exits (ReadsStep G.rules Text (G.step_of d) _ _ _ (source_of c.next_number.new.bytes)) _ _ c.from_residual-in_err-first_number.ensures.1
+    (stopped_on G.rules Text _ (source_of c.next_number.new.bytes) _
+    (leads_as c.in_ok-first.ensures.read (outside_letter G.rules c.in_ok-first.first (G.slot_of d) c.in_ok-first.ensures.first (rw c.if-begin.true at c.begin.ensures)))
+    (c.in_err-first_number.ensures.read (G.slot_of d)))
 
-pub returns-in_err-last-2-clause-read : goal.returns-in_err-last-2-clause-read
-returns-in_err-last-2-clause-read g c =
-    exits (ReadsStep Text _ _ _ _ c.literals_from.new.bytes.source) _ _ c.from_residual-in_err-last-2.ensures.1
-    (adds_on _ c.literals_from.new.bytes.source c.clear.new.self.items c.literals_from.new.into.items c.in_ok-first.first (Err _)
-    c.clear.ensures.items c.in_ok-first.ensures.first c.if-first-eq100.false c.in_ok-first.ensures.read (c.in_err-last-2.ensures.read Add))
+pub returns-then-begin-clause-read : goal.returns-then-begin-clause-read
+returns-then-begin-clause-read g c =
+    let G = g.G.Grammar in let d = c.begin.new.self in let n = c.in_ok-first_number.first_number in
+    c.numbers.ensures.read (outcome_in G.rules Text) (unread_bytes g.R.Read.remaining c.args.bytes.now)
+    (says_on G.rules _ (G.rules.said (G.slot_of d) n.negative n.value) n.last
+    (leads_as c.in_ok-first.ensures.read (outside_letter G.rules c.in_ok-first.first (G.slot_of d) c.in_ok-first.ensures.first (rw c.if-begin.true at c.begin.ensures)))
+    (c.in_ok-first_number.ensures.read (G.slot_of d)))
+
+pub returns-then-not-begin_bare-clause-read : goal.returns-then-not-begin_bare-clause-read
+returns-then-not-begin_bare-clause-read g c =
+    let G = g.G.Grammar in
+    by_byte (leads_as c.in_ok-first.ensures.read
+    (outside_none G.rules c.in_ok-first.first c.in_ok-first.ensures.first (rw c.if-begin.false at c.begin.ensures) (rw c.if-not-begin_bare.true at c.begin_bare.ensures)))
+
+pub returns-in_err-first_number-2-clause-read : goal.returns-in_err-first_number-2-clause-read
+returns-in_err-first_number-2-clause-read g c =
+    let G = g.G.Grammar in let d = c.begin_bare.new.self in
+    exits (ReadsStep G.rules Text (G.step_of d) _ _ _ (source_of c.number.new.bytes)) _ _ c.from_residual-in_err-first_number-2.ensures.1
+    (stopped_on G.rules Text _ (source_of c.number.new.bytes) _
+    (leads_as c.in_ok-first.ensures.read
+    (outside_bare G.rules c.in_ok-first.first (G.slot_of d) c.in_ok-first.ensures.first (rw c.if-begin.false at c.begin.ensures) (rw c.if-not-begin_bare.false at c.begin_bare.ensures)))
+    (c.in_err-first_number-2.ensures.read (G.slot_of d)))
 
 pub returns-clause-read : goal.returns-clause-read
 returns-clause-read g c =
-    adds_on _ c.literals_from.new.bytes.source c.clear.new.self.items c.literals_from.new.into.items c.in_ok-first.first (Ok c.in_ok-last-2.last)
-    c.clear.ensures.items c.in_ok-first.ensures.first c.if-first-eq100.false c.in_ok-first.ensures.read (c.in_ok-last-2.ensures.read Add)
+    let G = g.G.Grammar in let d = c.begin_bare.new.self in let n = c.in_ok-first_number-2.first_number in
+    c.numbers-2.ensures.read (outcome_in G.rules Text) (unread_bytes g.R.Read.remaining c.args.bytes.now)
+    (says_on G.rules _ (G.rules.said (G.slot_of d) n.negative n.value) n.last
+    (leads_as c.in_ok-first.ensures.read
+    (outside_bare G.rules c.in_ok-first.first (G.slot_of d) c.in_ok-first.ensures.first (rw c.if-begin.false at c.begin.ensures) (rw c.if-not-begin_bare.false at c.begin_bare.ensures)))
+    (c.in_ok-first_number-2.ensures.read (G.slot_of d)))
