@@ -69,7 +69,7 @@ Looked old new source (Err stops.Read) = Keeps old new × IsStopped source
 Looked old new source (Err (stops.Wrong kind)) = ⊥
 Looked old new source (Err stops.OutOfMemory) = Unit {0}
 
--- what a stop answers, with this source, after so many steps
+-- what a stop answers, with this source, after this many steps
 abbrev pub Explains : {R X : Type 0} → Source R → ℕ → Stop → Result (Option X) DratFault → Type 0
 Explains source steps stops.End r = r ≡ Ok None
 Explains source steps stops.Read (Ok x) = ⊥
@@ -127,7 +127,7 @@ module _ {G R S T : Type 0} (rules : Rules S T) (remaining : R → Option (List 
     pub format : (format : Format) → known_format old ≡ Some format
         → known_format new ≡ Some format
 
-  -- the format was told, unless a read failed or memory was wanted
+  -- the format was told, unless a read failed or memory ran out
   abbrev pub ToldBy : {X : Type 0} → StepReader G R → StepReader G R → Result X Stop → Type 0
   ToldBy old new (Ok x) = TellsFormat old new
   ToldBy old new (Err stops.End) = TellsFormat old new

@@ -9,7 +9,7 @@ use std::alloc::Global;
 use std::io;
 use std::io::Read;
 
-/// So many bytes are looked at before a proof counts as text.
+/// This many bytes are looked at before a proof counts as text.
 pub const LOOKED_AT: usize = 4096;
 
 /// How steps are written.
