@@ -48,7 +48,7 @@ has-canonical : (x : ℕ) (c : List ℕ) → has x (canonical c) ≡ has x c
 has-canonical x [] = refl
 has-canonical x (l ∷ c) = has-insert x l (canonical c) ∙ ap (λ b. eqb x l || b) (has-canonical x c)
 
--- canonical lists with the same members are the same
+-- canonical lists with equal members are equal
 canonical_by_members : (c d : List ℕ) → is_canonical c ≡ true → is_canonical d ≡ true → ((x : ℕ) → has x c ≡ has x d) → c ≡ d
 canonical_by_members [] [] h k same = refl
 canonical_by_members [] (y ∷ ys) h k same = absurd (false≢true (same y ∙ or_left (eqb y y) (has y ys) (eq-eqb y y refl)))

@@ -2,7 +2,7 @@
 --     AnswersOutcome r o s      the answer r and the state s after the step are those of the outcome o; nothing where it gave up
 --     UnlessStopped r P      P, unless memory was refused or a processor answered a fault
 --     has_stopped r      whether one of the two happened
---     IsFaultOrMemory f P Q      P at a processor's fault, Q at want of memory; a refusal is not answered
+--     IsFaultOrMemory f P Q      P at a processor's fault, Q at out of memory; a refusal is not answered
 --     IsErrorOf n f e      e is the error of the fault f at the step number n, whatever text it shows
 --     IsAnswerOf n r a      a is the answer of the call whose step answered r
 use Rattle.std.specs.Prelude.{◌≡◌, ℕ, Bool, true, false, Some, None, Result, Ok, Err}
@@ -35,7 +35,7 @@ has_stopped (Err (Refused cause)) = false
 has_stopped (Err Processor) = true
 has_stopped (Err OutOfMemory) = true
 
--- the first fact at a processor's fault, the second at want of memory; a refusal is not answered
+-- the first fact at a processor's fault, the second at out of memory; a refusal is not answered
 abbrev pub IsFaultOrMemory : StepFault → (fault memory : Type 0) → Type 0
 IsFaultOrMemory Processor P Q = P
 IsFaultOrMemory OutOfMemory P Q = Q

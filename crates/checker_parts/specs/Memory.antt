@@ -1,5 +1,5 @@
 -- What takes no memory.
---     NeedsNoMemory r      want of memory is not the answer
+--     NeedsNoMemory r      out of memory is not the answer
 --     lists_literals e      whether transcripts are told a list of literals of the checked step; it takes memory
 use Rattle.std.specs.Prelude.{◌≢◌, Bool, true, false, Result, Err}
 use Rattle.checker_rules.specs.CheckedSteps.{CheckedStep, checked_add_clause, checked_assumptions, checked_at_clause, checked_delete_at_clause, checked_delete_clause, checked_delete_rat_clause}
@@ -7,7 +7,7 @@ use Rattle.checker_rules.specs.CheckedSteps.{checked_duplicated_clause, checked_
 use Rattle.checker_parts.specs.declared.error.CheckerError.{CheckerError}
 use Rattle.checker_parts.specs.declared.error.CheckerError.TheVariants.{OutOfMemory}
 
--- any answer but want of memory
+-- any answer except out of memory
 abbrev pub NeedsNoMemory : {A : Type 0} → Result A CheckerError → Type 0
 NeedsNoMemory r = r ≢ Err OutOfMemory
 

@@ -5,7 +5,7 @@ use Rattle.checker_parts.specs.declared.error.CheckerError.TheVariants.{OutOfMem
 use Rattle.checker_parts.specs.declared.error.DimacsError.{DimacsError}
 use Rattle.checker_parts.specs.declared.error.DimacsError.TheVariants.{Read, Malformed, Checker}
 
--- the same cause or line, and want of memory as that of the checker
+-- the same cause or line, and out of memory as that of the checker
 abbrev pub of_text : DimacsFault → DimacsError
 of_text (faults.Read cause) = Read cause
 of_text (faults.Malformed line kind) = Malformed line kind

@@ -105,7 +105,7 @@ pub enum CheckerError {
     ProofProcessorError {
         cause: anyhow::Error,
     },
-    /// A growth was refused: the checker has failed, but for a refused registration.
+    /// A growth was refused: the checker has failed, except after a refused registration.
     #[error("out of memory")]
     OutOfMemory,
     /// The checker had failed before the call, which did nothing.
@@ -142,7 +142,7 @@ pub enum DimacsError {
     /// The text's first fault, and its line.
     #[error("line {line}: {kind}")]
     Malformed { line: u64, kind: DimacsKind },
-    /// The checker's own answer, or the reader's want of memory.
+    /// The checker's own answer, or that the reader was out of memory.
     #[error("{0}")]
     Checker(CheckerError),
 }

@@ -14,7 +14,7 @@ use std::marker::Model;
 /// Data for each literal.
 #[derive(Clone, Copy, Default)]
 pub struct LitData {
-    /// So many stored clauses of two or more literals hold the literal.
+    /// This many stored clauses of two or more literals hold the literal.
     pub clause_count: usize,
 }
 
@@ -54,7 +54,7 @@ const UNNAMED: u32 = u32::MAX;
 
 /// The known variables, in order of their indexes, in six bytes a variable.
 ///
-/// User names are indexes of known variables, and no two variables have the same.
+/// User names are indexes of known variables, each of one variable.
 #[derive(Drop)]
 pub struct Variables {
     names: Vec<u32>,

@@ -72,7 +72,7 @@ digits_in_line (d ∷ digits) all = let parts = and_parts _ _ all in and_from _ 
 pub digits_are_word : (n : ℕ) (digits : List ℕ) → AreDigitsOf n digits → IsWord digits
 digits_are_word n digits those = record { some = those.some; solid = solid_digits digits those.all; one_line = digits_in_line digits those.all }
 
--- the same after a sign
+-- digits after a sign
 pub signed_are_word : (n : ℕ) (digits : List ℕ) → AreDigitsOf n digits → IsWord (45 ∷ digits)
 signed_are_word n digits those = record { some = refl; solid = solid_digits digits those.all; one_line = digits_in_line digits those.all }
 
