@@ -13,6 +13,7 @@ use Rattle.lrat_binary.specs.Telling.{form_of}
 use Rattle.lrat_binary.specs.declared.ids.Ids.{Ids}
 use Rattle.lrat_binary.specs.declared.ids.LratForm.{LratForm}
 use Rattle.lrat_binary.specs.declared.ids.LratForm.TheVariants.{Binary, Text}
+use Rattle.hint_rules.specs.Accepted as rules
 use Rattle.hint_checker.specs.Checked as texts
 use Rattle.hint_checker.specs.Checked.{IsRefusalBy, Leads}
 use Rattle.hint_checker.specs.Given.{Stops, lines_said}
@@ -43,7 +44,7 @@ pub record Refuses (ids : Ids) (h : Listed) (bytes : List ℕ) (n : ℕ) (fault 
 
 -- all lines of a text in this form
 abbrev pub AcceptsIn : LratForm → Listed → List ℕ → Listed → Type 0
-AcceptsIn Text h text k = texts.Accepts h text k
+AcceptsIn Text h text k = rules.Accepts h text k
 AcceptsIn (Binary ids) h text k = Accepts ids h text k
 
 -- those before line n

@@ -19,8 +19,8 @@ use Rattle.lrat_text.specs.declared.fault.LineKind.TheVariants.{Malformed, Numbe
 use Rattle.lrat_text.specs.declared.line.Hint.{Hint}
 use Rattle.lrat_text.specs.declared.line.Hint.TheVariants.{Against, Along}
 use Rattle.hint_checker.specs.Given.{ids_along}
-use Rattle.hint_checker.specs.Text as text
-use Rattle.hint_checker.specs.Text.{Clause, ClauseWord, Said, addition, clause_to_zero, clause_word, deletion, ends_here, id_or_end, ids_to_end, in_front, is_comment, line_after, lit_in_front, number_of_word, on_clause, on_number, on_word, said, said_by_words, signed_word, small}
+use Rattle.hint_rules.specs.Text as text
+use Rattle.hint_rules.specs.Text.{Clause, ClauseWord, Said, addition, clause_to_zero, clause_word, deletion, ends_here, id_or_end, ids_to_end, in_front, is_comment, line_after, lit_in_front, number_of_word, on_clause, on_number, on_word, said, said_by_words, signed_word, small}
 
 -- ---- words
 

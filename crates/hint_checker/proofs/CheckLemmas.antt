@@ -1,10 +1,11 @@
 -- What a checker of hints says of a formula.
-use Rattle.std.proofs.Common.{◌≡◌, ℕ, Bool, true, false, ◌||◌, List, [], ◌∷◌, ◌++◌, Option, Some, refl, sym, ap, ◌∙◌, subst}
-use Rattle.std.specs.List.{list_any}
+use Rattle.std.proofs.Common.{◌≡◌, ℕ, Bool, true, List, [], ◌∷◌, ◌++◌, Option, Some, ◌∙◌, subst}
 use Rattle.sat_rules.specs.Clauses.{all_true}
-use Rattle.sat_rules.specs.HintLines.{Follows, HintLine, Listed, adds_clause, after_line, deletes_clauses, is_empty, listing}
+use Rattle.sat_rules.specs.HintLines.{Follows, HintLine, Listed, after_line, listing}
 use Rattle.sat_rules.proofs.HintLineFacts.{hints_refute}
-use Rattle.hint_checker.specs.Checked.{Accepts, AcceptsAfter, IsRefusal, adds_empty}
+use Rattle.hint_rules.specs.Accepted.{Accepts}
+use Rattle.hint_rules.proofs.AcceptedFacts.{added_by_lines}
+use Rattle.hint_checker.specs.Checked.{AcceptsAfter, IsRefusal}
 use Rattle.hint_checker.specs.Given.{of_bytes}
 use Rattle.hint_checker.specs.Streams.{IsTextRefusal}
 use Rattle.hint_checker.specs.declared.fault.HintTextFault.{HintTextFault}
@@ -18,20 +19,6 @@ follows_join h k j [] ys f g = subst (λ x. Follows x ys j) f g
 follows_join h k j (x ∷ xs) ys f g = (f.0, follows_join (after_line h x) k j xs ys f.1 g)
 
 -- ---- what is said of a formula
-
--- whether the empty clause was added, from the lines
-pub added_by_lines : (h : Listed) (xs : List HintLine) (k : Listed) → Follows h xs k → k.added_empty ≡ (h.added_empty || list_any adds_empty xs)
-added_by_lines h [] k f = ap (λ x. x.added_empty) f ∙ sym (or-false h.added_empty)
-  where
-    or-false : (b : Bool) → (b || false) ≡ b
-    or-false true = refl
-    or-false false = refl
-added_by_lines h (adds_clause id c hints ∷ xs) k f = added_by_lines (after_line h (adds_clause id c hints)) xs k f.1 ∙ or_assoc h.added_empty (is_empty c) (list_any adds_empty xs)
-  where
-    or_assoc : (a b d : Bool) → ((a || b) || d) ≡ (a || (b || d))
-    or_assoc true b d = refl
-    or_assoc false b d = refl
-added_by_lines h (deletes_clauses m ids ∷ xs) k f = added_by_lines (after_line h (deletes_clauses m ids)) xs k f.1
 
 -- the text's lines after a formula's clauses and earlier lines
 pub accepts_after : (formula : List (List ℕ)) (before : List HintLine) (h : Listed) (bytes : List ℕ) (k : Listed) (o : Option Listed)

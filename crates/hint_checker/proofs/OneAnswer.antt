@@ -4,10 +4,11 @@ use Rattle.std.specs.Option.{option_map}
 use Rattle.std.proofs.lemmas.Option.{none-some}
 use Rattle.sat_rules.specs.HintLines.{Follows, HintLine, Listed, after_line}
 use Rattle.sat_rules.proofs.HintLineFacts.{some-same}
-use Rattle.hint_checker.specs.Checked.{Accepts, IsRefusal, Refuses, cause_of, joined, refusal, said_all}
+use Rattle.hint_rules.specs.Accepted.{Accepts, joined, said_all}
+use Rattle.hint_checker.specs.Checked.{IsRefusal, Refuses, cause_of, refusal}
 use Rattle.hint_checker.specs.OneAnswer.{AnswerIsOne}
-use Rattle.hint_checker.specs.Text as text
-use Rattle.hint_checker.specs.Text.{Said, in_front, said_by}
+use Rattle.hint_rules.specs.Text as text
+use Rattle.hint_rules.specs.Text.{Said, in_front, said_by}
 use Rattle.hint_checker.specs.declared.fault.HintFault.{HintFault}
 use Rattle.hint_checker.specs.declared.fault.HintFault.TheVariants as faults
 use Rattle.hint_checker.specs.declared.fault.LineFault.{LineFault}

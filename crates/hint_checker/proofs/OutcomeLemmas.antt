@@ -13,10 +13,11 @@ use Rattle.lrat_rules.specs.Lines.{Line, adds, deletes}
 use Rattle.lrat_text.specs.Grammar.{says}
 use Rattle.lrat_text.specs.Texts.{Ended, Ending, Faulty, line_then, lines_from, short_before}
 use Rattle.lrat_text.specs.declared.fault.LineKind.{LineKind}
-use Rattle.hint_checker.specs.Checked.{Leads, after_said, cause_of, joined, refusal, said_all}
+use Rattle.hint_rules.specs.Accepted.{joined, said_all}
+use Rattle.hint_checker.specs.Checked.{Leads, after_said, cause_of, refusal}
 use Rattle.hint_checker.specs.Given.{Stops, as_hints, lines_said}
-use Rattle.hint_checker.specs.Text as text
-use Rattle.hint_checker.specs.Text.{Said, in_front, said_by}
+use Rattle.hint_rules.specs.Text as text
+use Rattle.hint_rules.specs.Text.{Said, in_front, said_by}
 use Rattle.hint_checker.specs.declared.fault.LineFault.{LineFault}
 use Rattle.hint_checker.specs.declared.fault.LineFault.TheVariants as causes
 use Rattle.hint_checker.proofs.Agreement.{SaysAlike, says_alike}

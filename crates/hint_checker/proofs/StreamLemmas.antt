@@ -15,7 +15,8 @@ use Rattle.lrat_text.specs.declared.fault.LratTextFault.TheVariants as reads
 use Rattle.lrat_text.specs.declared.line.LratLine.{LratLine}
 use Rattle.lrat_text.specs.declared.reader.LineReader.{LineReader}
 use Rattle.lrat_text.proofs.LineLemmas.{ends_on, leads_on}
-use Rattle.hint_checker.specs.Checked.{Accepts, IsCause, IsRefusalBy, Refuses, after_said, in_line, refusal}
+use Rattle.hint_rules.specs.Accepted.{Accepts}
+use Rattle.hint_checker.specs.Checked.{IsCause, IsRefusalBy, Refuses, after_said, in_line, refusal}
 use Rattle.hint_checker.specs.Given.{Stops, as_hints, of_text}
 use Rattle.hint_checker.specs.Streams.{GivesText, IsCutOff, IsTextRefusal}
 use Rattle.hint_checker.specs.declared.fault.HintTextFault.TheVariants.{Refused}

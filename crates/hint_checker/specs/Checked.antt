@@ -1,46 +1,27 @@
 -- What a checker of hints holds, and what it answers to a text.
---     said_all ls      the lines of hints that lines of text say
 --     Leads said h k      lines of hints are accepted after h, and lead to k
---     Accepts h text k      all lines of the text are accepted after h, and lead to k
 --     refusal h said      why what a line says is refused
 --     Refuses h text n f      line n is the first that is refused, and why
 --     IsRefusalBy refuses f, IsRefusal h text f      a fault of the checker is that of the text, or want of memory
 --     IsCause f o, in_line f n      a cause of the code, and the fault that it is in line n
---     adds_empty x      whether a line adds the empty clause
---     AcceptsAfter cs xs text o b      the same after a formula's clauses and earlier lines
-use Rattle.std.specs.Prelude.{◌≡◌, ℕ, suc, Bool, false, List, [], ◌∷◌, ◌++◌, length, Option, Some, None}
+--     AcceptsAfter cs xs text o b      all lines of the text are accepted after a formula's clauses and earlier lines
+use Rattle.std.specs.Prelude.{◌≡◌, ℕ, suc, Bool, List, ◌∷◌, ◌++◌, length, Option, Some, None}
 use Rattle.std.specs.List.{list_any}
 use Rattle.std.specs.Option.{option_map}
-use Rattle.sat_rules.specs.HintLines.{Follows, HintCause, HintLine, Listed, adds_clause, after_line, deletes_clauses, id_not_greater, is_empty, line_cause, listing, no_conflict, not_unit, unknown_id}
+use Rattle.sat_rules.specs.HintLines.{Follows, HintCause, HintLine, Listed, after_line, id_not_greater, line_cause, listing, no_conflict, not_unit, unknown_id}
 use Rattle.sat_formula.specs.Lines.{lines_of}
-use Rattle.hint_checker.specs.Text as text
-use Rattle.hint_checker.specs.Text.{Said, in_front, said_by}
+use Rattle.hint_rules.specs.Accepted.{adds_empty, said_all}
+use Rattle.hint_rules.specs.Text as text
+use Rattle.hint_rules.specs.Text.{Said, said_by}
 use Rattle.hint_checker.specs.declared.fault.HintFault.{HintFault}
 use Rattle.hint_checker.specs.declared.fault.HintFault.TheVariants as faults
 use Rattle.hint_checker.specs.declared.fault.LineFault.{LineFault}
 use Rattle.hint_checker.specs.declared.fault.LineFault.TheVariants as causes
 
--- what one line says, before the others
-abbrev pub joined : Said → Option (List HintLine) → Option (List HintLine)
-joined text.Nothing rest = rest
-joined (text.Line x) rest = in_front x rest
-joined text.Malformed rest = None
-
--- the lines of hints that lines of text say, unless one is malformed
-abbrev pub said_all : List (List ℕ) → Option (List HintLine)
-said_all [] = Some []
-said_all (l ∷ ls) = joined (said_by l) (said_all ls)
-
 -- these lines of hints are accepted after h, and lead to k
 pub record Leads (said : Option (List HintLine)) (h k : Listed) : Type 0 where
   pub lines : List HintLine
   pub all : said ≡ Some lines
-  pub follow : Follows h lines k
-
--- all lines of the text are accepted after h, and lead to k
-pub record Accepts (h : Listed) (bytes : List ℕ) (k : Listed) : Type 0 where
-  pub lines : List HintLine
-  pub said : said_all (lines_of bytes) ≡ Some lines
   pub follow : Follows h lines k
 
 -- a cause of the rules as one of the code
@@ -105,11 +86,6 @@ in_line causes.UnknownId n = faults.UnknownId n
 in_line causes.NotUnit n = faults.NotUnit n
 in_line causes.NoConflict n = faults.NoConflict n
 in_line causes.OutOfMemory n = faults.OutOfMemory
-
--- whether a line adds the empty clause
-abbrev pub adds_empty : HintLine → Bool
-adds_empty (adds_clause id c hints) = is_empty c
-adds_empty (deletes_clauses number ids) = false
 
 -- the text's lines are accepted after a formula's clauses and the lines before, and the answer is whether one of all these lines adds the empty clause
 pub record AcceptsAfter (formula : List (List ℕ)) (before : List HintLine) (bytes : List ℕ)

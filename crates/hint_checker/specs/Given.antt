@@ -11,9 +11,10 @@ use Rattle.lrat_rules.specs.Lines.{Hint, Line, adds, against, along, deletes}
 use Rattle.lrat_text.specs.Texts.{Ended, Ending, Faulty}
 use Rattle.lrat_text.specs.declared.fault.LratTextFault.{LratTextFault}
 use Rattle.lrat_text.specs.declared.fault.LratTextFault.TheVariants as reads
-use Rattle.hint_checker.specs.Checked.{joined, refusal}
-use Rattle.hint_checker.specs.Text as text
-use Rattle.hint_checker.specs.Text.{Said, addition, in_front, said}
+use Rattle.hint_rules.specs.Accepted.{joined}
+use Rattle.hint_checker.specs.Checked.{refusal}
+use Rattle.hint_rules.specs.Text as text
+use Rattle.hint_rules.specs.Text.{Said, addition, in_front, said}
 use Rattle.hint_checker.specs.declared.fault.HintFault.{HintFault}
 use Rattle.hint_checker.specs.declared.fault.HintFault.TheVariants as faults
 use Rattle.hint_checker.specs.declared.fault.HintTextFault.{HintTextFault}

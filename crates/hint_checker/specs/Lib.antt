@@ -5,5 +5,4 @@ pub mod Held
 pub mod Near
 pub mod OneAnswer
 pub mod Streams
-pub mod Text
 pub mod Unit

@@ -3,7 +3,8 @@
 --     AnswerIsOne      so it is with each text that is accepted
 use Rattle.std.specs.Prelude.{◌≡◌, ℕ, List}
 use Rattle.sat_rules.specs.HintLines.{Listed}
-use Rattle.hint_checker.specs.Checked.{Accepts, IsRefusal}
+use Rattle.hint_rules.specs.Accepted.{Accepts}
+use Rattle.hint_checker.specs.Checked.{IsRefusal}
 use Rattle.hint_checker.specs.declared.fault.HintFault.{HintFault}
 use Rattle.hint_checker.specs.declared.fault.HintFault.TheVariants.{OutOfMemory}
 

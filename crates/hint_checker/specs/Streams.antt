@@ -5,7 +5,8 @@ use Rattle.std.specs.Prelude.{◌≡◌, ℕ, Bool, List, ◌++◌, Option, Some
 use Rattle.std.specs.Io.KnownBytes.{Consumes}
 use Rattle.sat_rules.specs.HintLines.{Listed}
 use Rattle.lrat_text.specs.Bytes.{IsOpen}
-use Rattle.hint_checker.specs.Checked.{Accepts, IsRefusal}
+use Rattle.hint_rules.specs.Accepted.{Accepts}
+use Rattle.hint_checker.specs.Checked.{IsRefusal}
 use Rattle.hint_checker.specs.declared.fault.HintTextFault.{HintTextFault}
 use Rattle.hint_checker.specs.declared.fault.HintTextFault.TheVariants.{Read, Refused}
 

@@ -4,8 +4,9 @@ use crate::outcome::{Memory, Played, Stop, Wrong};
 use crate::runs::{FOUR, is_want};
 use checker_parts::processor::ProofProcessor;
 use checker_parts::step::CheckedProofStep;
+use hint_checker::{HintChecker, HintFault};
 use sat_formula::CnfFormula;
-use sat_hints::{HintChecker, HintFault, LratWriter, WriterFault};
+use sat_hints::{LratWriter, WriterFault};
 use std::alloc::Global;
 use varisat_check::read_formula;
 

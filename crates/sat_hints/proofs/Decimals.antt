@@ -7,7 +7,7 @@ use Rattle.std.proofs.lemmas.Fmt.{decimal_by_steps}
 use Rattle.std.proofs.lemmas.List.Folds.{list_all-append}
 use Rattle.sat_formula.specs.Bytes.{is_digit}
 use Rattle.sat_formula.specs.Lines.{has_bytes, value_from}
-use Rattle.hint_checker.specs.Text.{number_of_word, small}
+use Rattle.hint_rules.specs.Text.{number_of_word, small}
 
 -- one or more digits of this value
 pub record AreDigitsOf (n : ℕ) (digits : List ℕ) : Type 0 where

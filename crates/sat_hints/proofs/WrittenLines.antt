@@ -10,8 +10,8 @@ use Rattle.sat_rules.specs.Clauses.{is_negative, var_of}
 use Rattle.sat_rules.specs.HintLines.{HintLine, adds_clause, deletes_clauses}
 use Rattle.sat_formula.specs.Bytes.{is_blank, is_digit, is_lf}
 use Rattle.sat_formula.specs.Vars.{lit_code}
-use Rattle.hint_checker.specs.Text.{addition, clause_to_zero, clause_word, deletion, ids_to_end, is_comment, line_after}
-use Rattle.hint_checker.specs.Text.{literal_word, number_of_word, on_clause, said, said_by, said_by_words, signed_word}
+use Rattle.hint_rules.specs.Text.{addition, clause_to_zero, clause_word, deletion, ids_to_end, is_comment, line_after}
+use Rattle.hint_rules.specs.Text.{literal_word, number_of_word, on_clause, said, said_by, said_by_words, signed_word}
 use Rattle.sat_hints.specs.WrittenText.{HasFittingNumbers, IsCode, IsId, WrittenIsRead, first_number, further_words, literal_text, number_text, text_of, words_after_space, zero_word}
 use Rattle.sat_hints.proofs.Decimals.{AreDigitsOf, decimal_is, number_of_digits}
 use Rattle.sat_hints.proofs.WrittenWords.{AreWords, AreWords-append, AreWords-map, IsWord, one_line-words, words_of-words}

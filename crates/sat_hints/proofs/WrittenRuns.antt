@@ -14,8 +14,8 @@ use Rattle.checker_rules.specs.Ran.{Ran}
 use Rattle.checker_rules.specs.WrittenLines as rules
 use Rattle.checker_rules.specs.WrittenLines.{Writer, WriterFault, after_written, line_of, new_writer, writer_fault}
 use Rattle.sat_formula.specs.Lines.{lines_of}
-use Rattle.hint_checker.specs.Checked.{Accepts, adds_empty, said_all}
-use Rattle.hint_checker.proofs.CheckLemmas.{added_by_lines}
+use Rattle.hint_rules.specs.Accepted.{Accepts, adds_empty, said_all}
+use Rattle.hint_rules.proofs.AcceptedFacts.{added_by_lines}
 use Rattle.sat_hints.specs.Writing.{Wrote, after_all, first_fault, writer_of, written}
 use Rattle.sat_hints.specs.WrittenRuns.{AcceptsRun, RunsFrom, WriterIsAccepted, WriterShowsRun, derives_empty, takes}
 use Rattle.sat_hints.specs.WrittenText.{lines_text, text_of}

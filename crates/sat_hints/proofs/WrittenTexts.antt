@@ -13,8 +13,8 @@ use Rattle.checker_rules.specs.WrittenLines.{Writer, WriterFault, after_written,
 use Rattle.checker_rules.proofs.WrittenLineFacts.{lines_follow}
 use Rattle.sat_formula.specs.Bytes.{is_lf}
 use Rattle.sat_formula.specs.Lines.{lines_of}
-use Rattle.hint_checker.specs.Checked.{joined, said_all}
-use Rattle.hint_checker.specs.Text.{in_front}
+use Rattle.hint_rules.specs.Accepted.{joined, said_all}
+use Rattle.hint_rules.specs.Text.{in_front}
 use Rattle.sat_hints.specs.Writing.{first_fault}
 use Rattle.sat_hints.specs.WrittenText.{HasFittingNumbers, IsId, lines_text, text_of}
 use Rattle.sat_hints.specs.WrittenTexts.{HasFittingCodes, TextIsAccepted, TextIsRead}

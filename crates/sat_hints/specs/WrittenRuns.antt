@@ -15,7 +15,7 @@ use Rattle.checker_rules.specs.HintRun.{HintStep, IsRun, fails_core, lowers, put
 use Rattle.checker_rules.specs.Ran.{Ran}
 use Rattle.checker_rules.specs.WrittenLines as rules
 use Rattle.checker_rules.specs.WrittenLines.{new_writer, no_input}
-use Rattle.hint_checker.specs.Checked.{Accepts}
+use Rattle.hint_rules.specs.Accepted.{Accepts}
 use Rattle.sat_hints.specs.Writing.{Wrote, after_all, first_fault, writer_of, written}
 use Rattle.sat_hints.specs.WrittenText.{lines_text}
 use Rattle.sat_hints.specs.WrittenTexts.{HasFittingCodes}

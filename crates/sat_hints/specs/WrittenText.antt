@@ -9,7 +9,7 @@ use Rattle.std.specs.Prelude.{◌≡◌, ℕ, suc, ◌^◌, ◌<◌, if◌then�
 use Rattle.sat_rules.specs.Clauses.{is_negative, var_of}
 use Rattle.sat_rules.specs.HintLines.{HintLine, adds_clause, deletes_clauses}
 use Rattle.sat_formula.specs.Bytes.{minus_sign}
-use Rattle.hint_checker.specs.Text.{Line, said_by}
+use Rattle.hint_rules.specs.Text.{Line, said_by}
 
 -- a number
 abbrev pub number_text : ℕ → List ℕ

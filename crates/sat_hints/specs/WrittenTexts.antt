@@ -10,7 +10,7 @@ use Rattle.checker_rules.specs.HintRun.{HintStep, IsRun, fails_core, lowers, put
 use Rattle.checker_rules.specs.WrittenLines as rules
 use Rattle.checker_rules.specs.WrittenLines.{new_writer, no_input}
 use Rattle.sat_formula.specs.Lines.{lines_of}
-use Rattle.hint_checker.specs.Checked.{Accepts, said_all}
+use Rattle.hint_rules.specs.Accepted.{Accepts, said_all}
 use Rattle.sat_hints.specs.Writing.{first_fault}
 use Rattle.sat_hints.specs.WrittenText.{HasFittingNumbers, IsCode, lines_text}
 

@@ -3,8 +3,6 @@ ghost use Rattle.sat_hints.specs.WrittenRuns.{WriterIsAccepted, WriterShowsRun};
 ghost use Rattle.sat_hints.specs.WrittenText.{WrittenIsRead};
 ghost use Rattle.sat_hints.specs.WrittenTexts.{TextIsAccepted, TextIsRead};
 
-pub use hint_checker::laws::answer_is_one;
-
 /// The text that is written of a line is read as that line.
 pub fn written_is_read()
     ensures { WrittenIsRead }

@@ -1,4 +1,4 @@
-//! Lines of hints in the LRAT format: a writer of them, and the checker of `hint_checker`.
+//! A writer of lines of hints in the LRAT format.
 #![tactic(auto)]
 
 mod fault;
@@ -7,5 +7,4 @@ mod text;
 mod writer;
 
 pub use fault::WriterFault;
-pub use hint_checker::{HintChecker, HintFault};
 pub use writer::LratWriter;

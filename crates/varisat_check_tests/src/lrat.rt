@@ -1,10 +1,11 @@
 //! Runs that a writer of hints writes, and what a checker of hints says of them.
 use crate::four_clauses::{FOUR, HASHES, WIDTH_1, proof_of_four};
 use crate::outcomes::{NOT_SHOWN, Outcome, SHOWN, has_outcome, incomplete};
+use hint_checker::HintChecker;
 use log::sink::Discard;
 use proof_bytes::{ProofStep, write_step};
 use sat_formula::{CnfFormula, Lit, read_formula};
-use sat_hints::{HintChecker, LratWriter};
+use sat_hints::LratWriter;
 use std::alloc::Global;
 use std::process::Abort;
 use std::test::Fail;

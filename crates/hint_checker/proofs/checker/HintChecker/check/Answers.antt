@@ -1,5 +1,6 @@
 use Rattle.std.proofs.Common.{subst, sym}
-use Rattle.hint_checker.specs.Checked.{Accepts, IsRefusal}
+use Rattle.hint_rules.specs.Accepted.{Accepts}
+use Rattle.hint_checker.specs.Checked.{IsRefusal}
 use Rattle.hint_checker.proofs.CheckLemmas.{accepts_after, refused_bytes}
 use Rattle.hint_checker.proofs.checker.HintChecker.check.Goals as goal
 

@@ -1,0 +1,2 @@
+//! Texts of lines of hints: what they say, and which are accepted.
+#![tactic(auto)]
