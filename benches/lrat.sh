@@ -1,5 +1,6 @@
 #!/usr/bin/env bash
 # Checks an LRAT proof of 16 MB with lrat_check and with a checker in C++, and counts instructions, seconds and memory: benches/lrat.sh
+# With --groups the proof is one of lines with 100,000 groups each.
 # It takes the program as `rt run` leaves it in its crate (another one by LRAT), or a formula and a proof of one's own by two arguments.
 # It needs python3, g++ and valgrind, and about a minute.
 set -euo pipefail
@@ -7,12 +8,17 @@ top=$(cd "$(dirname "$0")/.." && pwd)
 program=${LRAT:-$top/crates/lrat_check_main/out/lrat_check_main}
 work=$(mktemp -d)
 trap 'rm -rf "$work"' EXIT
-g++ -O2 -o "$work/reference" "$top/benches/lrat/reference.cc"
+make=make.py groups=0
+if [[ ${1:-} == --groups ]]; then
+  make=groups.py groups=1
+  shift
+fi
+g++ -O2 -DGROUPS=$groups -o "$work/reference" "$top/benches/lrat/reference.cc"
 if (($# == 2)); then
   files=("$1" "$2")
 else
   files=("$work/cnf" "$work/lrat")
-  python3 "$top/benches/lrat/make.py" "${files[@]}"
+  python3 "$top/benches/lrat/$make" "${files[@]}"
 fi
 echo "$(wc -c < "${files[1]}") bytes of proof"
 

@@ -1,9 +1,13 @@
-// Checks lines of LRAT text without groups after a DIMACS formula: reference CNF LRAT
+// Checks lines of LRAT text after a DIMACS formula: reference CNF LRAT. Groups of RAT lines it knows if it is made with -DGROUPS=1.
 // The work that is measured against: the text is read, clauses are kept in a vector by their ids, hints are walked one after the other.
 #include <cstdint>
 #include <cstdio>
 #include <cstdlib>
 #include <vector>
+
+#ifndef GROUPS
+#define GROUPS 0
+#endif
 
 using Clause = std::vector<int>;
 
@@ -63,6 +67,9 @@ struct Checker {
   std::vector<Clause> clauses{1};
   std::vector<char> stored{0}, is_true;
   std::vector<int> trail;
+  std::vector<uint32_t> uses; // where groups are known: how often a literal stands in clauses
+  std::vector<uint32_t> met{0}; // and the line that met the group of an id last
+  uint32_t line = 0;
 
   static int code(int64_t number) {
     return number > 0 ? 2 * (number - 1) : 2 * (-number - 1) + 1;
@@ -72,15 +79,16 @@ struct Checker {
     clause.clear();
     while (int64_t number = text.number()) {
       int lit = code(number);
-      if (is_true.size() <= size_t(lit | 1)) is_true.resize((lit | 1) + 1);
+      if (is_true.size() <= size_t(lit | 1)) is_true.resize((lit | 1) + 1), uses.resize((lit | 1) + 1);
       clause.push_back(lit);
     }
   }
 
   void store(size_t id, const Clause &clause) {
-    if (clauses.size() <= id) clauses.resize(id + 1), stored.resize(id + 1);
+    if (clauses.size() <= id) clauses.resize(id + 1), stored.resize(id + 1), met.resize(id + 1);
     clauses[id] = clause;
     stored[id] = 1;
+    if (GROUPS) for (int lit : clause) uses[lit]++;
   }
 
   void set(int lit) {
@@ -106,6 +114,10 @@ struct Checker {
     for (int lit : clause) set(lit ^ 1);
     bool conflict = false;
     while (int64_t hint = text.number()) {
+      if (GROUPS && hint < 0 && !conflict) {
+        conflict = resolve(text, clause, hint);
+        break;
+      }
       if (!conflict) conflict = follow(hint, text.line);
     }
     if (!conflict) stop("no conflict", text.line);
@@ -114,9 +126,35 @@ struct Checker {
     store(id, clause);
   }
 
+  // Whether groups, of which this hint begins the first, meet all clauses that have the negation of the first literal.
+  bool resolve(Text &text, const Clause &clause, int64_t hint) {
+    size_t before = trail.size(), count = 0;
+    line++;
+    while (hint) {
+      size_t id = -hint, here = 0;
+      bool conflict = clause.empty() || id >= clauses.size() || !stored[id] || met[id] == line;
+      if (!conflict) {
+        for (int lit : clauses[id]) here += lit == (clause[0] ^ 1);
+        conflict = !here;
+      }
+      if (!conflict) {
+        met[id] = line, count += here;
+        for (int lit : clauses[id]) conflict |= lit != (clause[0] ^ 1) && is_true[lit];
+        for (int lit : clauses[id]) if (!conflict && lit != (clause[0] ^ 1)) set(lit ^ 1);
+      }
+      for (hint = text.number(); hint > 0; hint = text.number()) conflict = conflict || follow(hint, text.line);
+      if (!conflict) stop("a group fails", text.line);
+      for (; trail.size() > before; trail.pop_back()) is_true[trail.back()] = 0;
+    }
+    if (clause.empty() || count != uses[clause[0] ^ 1]) stop("a group is missing", text.line);
+    return true;
+  }
+
   void remove(Text &text) {
     while (size_t id = text.number()) {
-      if (id < stored.size()) stored[id] = 0, Clause().swap(clauses[id]);
+      if (id >= stored.size() || !stored[id]) continue;
+      if (GROUPS) for (int lit : clauses[id]) uses[lit]--;
+      stored[id] = 0, Clause().swap(clauses[id]);
     }
   }
 };

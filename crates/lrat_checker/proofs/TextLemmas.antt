@@ -39,7 +39,7 @@ begun None left ls g e = (([], Ended), tt)
 begun (Some bytes) None ls g e = absurd e.consumed
 begun (Some bytes) (Some rest) ls g e = (g rest, ap outcome_of e.consumed ∙ e.same rest)
 
--- the same outcome, whatever comes after
+-- one outcome, whatever comes after
 alike : (known left : Option (List ℕ)) (o : Outcome) → Leads known left (outcome_after 0) (λ more. o) → IfSome known (λ bytes. outcome_of bytes ≡ o)
 alike None left o e = tt
 alike (Some bytes) None o e = absurd e.consumed

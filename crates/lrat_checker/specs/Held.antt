@@ -1,11 +1,11 @@
 -- What the parts of a checker hold.
 --     table_of x      the clauses of the ids, and how often each literal stands in them
 --     seen_by w      the ids whose groups were met
-use Rattle.std.specs.Prelude.{ℕ, Bool, List, Option, Some, None, nat_eq}
-use Rattle.std.specs.HashSet.{contains}
+use Rattle.std.specs.Prelude.{ℕ, Bool, List, Option, Some, None}
 use Rattle.lrat_rules.specs.Tables.{Table}
 use Rattle.lrat_checker.specs.Counts.{lit_count}
 use Rattle.lrat_checker.specs.Far.{far_clause}
+use Rattle.lrat_checker.specs.Met.{is_met}
 use Rattle.clause_table.specs.Near.{near_clause}
 use Rattle.lrat_checker.specs.declared.clauses.Clauses.{Clauses}
 use Rattle.lrat_checker.specs.declared.work.Work.{Work}
@@ -24,4 +24,4 @@ table_of x = record {
 
 -- the ids whose groups were met
 abbrev pub seen_by : Work → ℕ → Bool
-seen_by w i = contains nat_eq w.seen i
+seen_by w i = is_met w.met_ids i

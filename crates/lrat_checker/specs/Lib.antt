@@ -6,6 +6,7 @@ pub mod Causes
 pub mod Faults
 pub mod Propagating
 pub mod Grouping
+pub mod Met
 pub mod Held
 pub mod Standing
 pub mod TextAnswers

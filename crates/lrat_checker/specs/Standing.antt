@@ -53,7 +53,7 @@ pub record IsReady (formula : List (List ℕ)) (lines : List Line) (c : LratChec
   pub table : IsTableOf (table_of c.clauses) accepted.store
   pub going : has_failed c ≡ false
 
--- the fault of a line after these: its cause by the rules, or want of memory
+-- the fault of a line after these: its cause by the rules, or out of memory
 abbrev pub IsAnswer : List (List ℕ) → List Line → Line → LineFault → Type 0
 IsAnswer formula lines line (Refused cause) = (store : List Item) →
     run (formula_store formula) lines ≡ Some store →

@@ -66,7 +66,7 @@ pub record IsBroken (known : Option (List ℕ)) (formula : List (List ℕ)) (bef
   pub text : BeginsWith known lines
   pub accepted : HasAccepted formula (before ++ said lines) c
 
--- by the answer; a failed read and want of memory can come anywhere
+-- by the answer; a failed read and running out of memory can come anywhere
 abbrev pub IsTextAnswer : Bool → Option (List ℕ) → List (List ℕ) → List Line → LratChecker →
     Result Bool LratFault → Type 0
 IsTextAnswer until known formula before c (Ok found) = IsChecked until known formula before c found

@@ -155,7 +155,7 @@ impl LratChecker {
         self.check_text(proof, false)
     }
 
-    /// The same up to the first line that adds the empty clause. What stands after it is not
+    /// Checks a text up to the first line that adds the empty clause. What stands after it is not
     /// checked. Where the formula has the empty clause, nothing is.
     pub fn refute<R: Read + Drop>(&mut self, proof: R) -> Result<bool, LratFault>
         ensures checked { (formula : List (List ℕ)) (lines : List Line)

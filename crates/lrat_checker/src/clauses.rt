@@ -97,6 +97,13 @@ impl Clauses {
         }
     }
 
+    /// How many clauses were stored so far.
+    pub(crate) fn stored(&self) -> u64
+        ensures { result ≡ self.now.stored }
+    {
+        self.stored
+    }
+
     /// For how many literals there may be places.
     pub(crate) fn lits_stored(&self) -> u64
         ensures { result ≡ self.now.counts.stored }

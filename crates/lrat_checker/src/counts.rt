@@ -16,7 +16,7 @@ use std::collections::HashMap;
 pub(crate) struct LitCounts {
     near: Vec<u32>,
     far: HashMap<usize, u32>,
-    /// There may be four places for each of so many literals, spare ones aside.
+    /// There may be four places for each of this many literals, spare ones aside.
     stored: u64,
     ghost few: { length near.items ≤ 4 * (stored + spare_lits) + 4 },
 }
@@ -168,10 +168,9 @@ fn take_far(far: &mut HashMap<usize, u32>, code: usize)
 }
 
 /// Makes room for the count of a code.
-fn make_room(near: &mut Vec<u32>, code: usize) -> Result<(), AllocError>
-    requires { code < 2 ^ 29 }
-    ensures same { OnOk result ((l : ℕ)
-        → slice_index near.new.items l ≡ slice_index near.old.items l) }
+pub(crate) fn make_room(near: &mut Vec<u32>, code: usize) -> Result<(), AllocError>
+    requires { code < 2 ^ 62 }
+    ensures same { (l : ℕ) → slice_index near.new.items l ≡ slice_index near.old.items l }
     ensures places { length near.new.items ≤ max (length near.old.items) (code + 1) }
     ensures room { OnOk result (code < length near.new.items) }
     ensures memory { code < length near.old.items

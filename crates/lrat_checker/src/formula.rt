@@ -38,7 +38,7 @@ impl LratFormula {
         LratFormula::with_room(alloc, 0)
     }
 
-    /// No clause, with room for so many.
+    /// No clause, with room for this many.
     fn with_room(alloc: Global, room: usize) -> Result<LratFormula, AllocError>
         ensures { IfOk result (λ made. HoldsFormula [] made) }
     {
@@ -87,7 +87,7 @@ impl LratFormula {
 
     /// One clause more.
     ///
-    /// After a clause that was not taken every later call answers the same.
+    /// After a clause that was not taken every later call answers that fault.
     pub fn add_clause(&mut self, clause: &[Lit]) -> Result<(), AllocError>
         ensures given { (formula : List (List ℕ)) → HoldsFormula formula self.old
             → OnOk result (HoldsFormula (formula ++ clause.now ∷ []) self.new) }

@@ -9,6 +9,7 @@ mod fault;
 mod formula;
 mod groups;
 mod judging;
+mod met;
 mod propagation;
 mod redundancy;
 mod values;

@@ -59,7 +59,7 @@ fn meet_groups(clauses: &Clauses, work: &mut Work, lit: Lit, hints: &[Hint]) -> 
         let found = met_by_groups (table_of clauses.now).named lits lit no_id 0 given in
         IfErr result (λ stop. IsFailedGroup stop found) }
 {
-    work.forget_ids();
+    work.met_ids.forget();
     let mut met = 0u64;
     for group in Groups::of(hints) {
         let more = meet_group(clauses, work, lit, group)?;
@@ -81,7 +81,7 @@ fn meet_group(clauses: &Clauses, work: &mut Work, lit: Lit, group: Group<'_>) ->
         (seen_by work.old) met (group_of group.entry ∷ gs))) }
     ensures values { OnOk result (work.new.values ≡ work.old.values) }
 {
-    if work.has_seen(group.id) {
+    if work.met_ids.has(group.id) {
         return Ok(0);
     }
     let Some(clause) = clauses.get(group.id) else {
@@ -94,7 +94,7 @@ fn meet_group(clauses: &Clauses, work: &mut Work, lit: Lit, group: Group<'_>) ->
     if !is_met(clauses, &mut work.values, clause, lit, group.hints)? {
         return Err(Stop::Refused(LratCause::GroupFails));
     }
-    work.see(group.id)?;
+    work.met_ids.insert(group.id, clauses.stored())?;
     Ok(count)
 }
 

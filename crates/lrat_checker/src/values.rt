@@ -61,7 +61,7 @@ impl Values {
         self.trail.len()
     }
 
-    /// There may be places for the literals of so many that are stored.
+    /// There may be places for the literals of this many that are stored.
     pub(crate) fn allow(&mut self, stored: u64)
         ensures { self.new ≡ self.old }
     {

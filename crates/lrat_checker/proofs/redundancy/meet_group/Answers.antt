@@ -15,7 +15,7 @@ returns-clause-ok c met gs =
     let seen = seen_by c.args.work.now in
     let g = group_of c.args.group in
     let d = c.in-Some.clause.now in
-    group_met f s n seen met g gs d (sym c.has_seen.ensures ∙ c.if-has_seen.false) (sym c.in-Some.ensures) (ne_eqb _ 0 (λ k. c.if-count-eq0.false (c.count_of-count.ensures ∙ k)))
+    group_met f s n seen met g gs d (sym c.has.ensures ∙ c.if-has.false) (sym c.in-Some.ensures) (ne_eqb _ 0 (λ k. c.if-count-eq0.false (c.count_of-count.ensures ∙ k)))
     (sym c.in_ok-is_met.ensures.met ∙ c.if-not-branch.false)
     ∙ ap (λ k. met_by_groups f s n (add_id g.id seen) (met + k) gs) (sym c.count_of-count.ensures)
-    ∙ ap (λ z. met_by_groups f s n z (met + c.count_of-count.result) gs) (sym c.in_ok-see.ensures.seen)
+    ∙ ap (λ z. met_by_groups f s n z (met + c.count_of-count.result) gs) (sym c.in_ok-insert.ensures.met)
