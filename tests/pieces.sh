@@ -65,10 +65,10 @@ same() {
 printf 'c eight\np cnf 3 9\n1 2 3 0\n1 2 -3 0\n1 -2 3 0\n1 -2 -3 0\n-1 2 3 0\n-1 2 -3 0\n-1 -2 3 0\n-1 -2 -3 0\n1 -1 0\n' > eight.cnf
 cat > eight.drat << 'END'
 1 2 0
-1 2 1 -2 0
+1 2 2 -2 0
 d 1 2 3 0
 d 1 2 -3 0
-1 -2 1 0
+1 -2 -2 0
 d -2 3 1 0
 d 1 -2 -3 0
 -1 2 0
@@ -137,6 +137,13 @@ printf '1 x' >> short
 fails 1 'proof: step 10: malformed' drat_cut eight.cnf short own2. --lemmas 1
 says 0 'own2.1.cnf' ls own2.*
 says 3 'piece 1: 3 lemmas, 5 clauses live behind it' drat_cut eight.cnf <(head -n 11 eight.drat) open. --lemmas 1
+
+# Where the first literal of a lemma comes again its witness begins, which is no part of the clause; with --drat it is.
+printf '1 2 2 1 -3 0\nd 2 1 0\n' > witness
+says 3 'piece 1: 1 lemmas, 8 clauses live behind it' drat_cut eight.cnf witness dpr.
+same dpr.1.drat $'1 2 1 -3 0\nd 2 1 0'
+says 3 'piece 1: 1 lemmas, 9 clauses live behind it' drat_cut eight.cnf witness drat. --drat
+same drat.1.drat '1 2 -3 0'
 
 # the same by `pieces`, into a folder in which others lie
 mkdir two
@@ -266,6 +273,18 @@ if [[ $status != 143 || $(ls room) ]]; then
 fi
 
 python3 -B "$top/tests/pieces/fuzz.py" drat_cut drat_check "${1:-300}" "${2:-1}" || wrong=1
+
+# A proof with witnesses, in pieces: pigeons exchange their holes, and what says so is deleted once a pigeon has left the last hole.
+python3 -B "$top/tests/drat/formulas.py" pigeons 6 > pigeons.cnf
+python3 -B "$top/tests/drat/formulas.py" exchanges 6 |
+  awk 'NF == 7 { gone = gone "d " $1 " " $2 " 0\n" } { print } NF == 2 { printf "%s", gone; gone = "" }' > exchanges
+says 0 's VERIFIED UNSAT' drat_check pigeons.cnf exchanges
+fails 0 'and the last one is refuted: s VERIFIED UNSAT' pieces run pigeons.cnf exchanges exchanged --lemmas 10 --live 100000
+if (($(cat exchanged/count) < 3)); then
+  echo "the proof with witnesses is not cut"
+  wrong=1
+fi
+fails 1 'is refused' pieces run pigeons.cnf exchanges plain --lemmas 10 --live 100000 --drat
 
 # A proof with definitions, in pieces: Cook's, of the pigeonhole.
 python3 -B "$top/tests/drat/formulas.py" pigeons 8 > formula.cnf

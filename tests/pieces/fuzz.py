@@ -79,7 +79,7 @@ class Pieces:
         for name in os.listdir(self.folder):
             if name[0].isdigit():
                 os.remove(f"{self.folder}/{name}")
-        call = [self.cutter, f"{self.folder}/a.cnf", f"{self.folder}/a.drat", f"{self.folder}/", "--lemmas", str(lemmas), "--live", "100000"]
+        call = [self.cutter, f"{self.folder}/a.cnf", f"{self.folder}/a.drat", f"{self.folder}/", "--drat", "--lemmas", str(lemmas), "--live", "100000"]
         ran = subprocess.run(call, capture_output=True, text=True, timeout=60)
         self.count = sum(it.endswith(".drat") and it[0].isdigit() for it in os.listdir(self.folder))
         return ran

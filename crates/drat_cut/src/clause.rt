@@ -41,7 +41,7 @@ impl ReadClause {
         Ok(true)
     }
 
-    /// Whether a clause of so many literals has just these, in any order.
+    /// Whether a clause of this many literals has just these, in any order.
     pub(crate) fn is_same(&self, clause: &[Lit], width: usize) -> bool {
         width == self.sorted.len()
             && clause

@@ -2,13 +2,23 @@
 use crate::clause::ReadClause;
 use crate::fault::CutFault;
 use crate::live::LiveClauses;
-use crate::text::push_clause;
+use crate::text::{push_clause, push_lits};
 use crate::units::Units;
 use drat_text::DratStep;
 use sat_formula::Lit;
 use std::alloc::Global;
 use std::io::Write;
 use std::{io, mem};
+
+/// How the additions of a proof are read.
+#[derive(Clone, Copy, PartialEq, Eq)]
+pub enum Additions {
+    /// As DRAT has them: all literals are the clause's, and one that comes again says nothing more.
+    Drat,
+    /// As DPR has them: where the first literal comes again, the literals from there on are the
+    /// clause's witness.
+    Dpr,
+}
 
 /// What a step came to. Of the first two the text is what `step_text` has.
 #[derive(Clone, Copy, PartialEq, Eq)]
@@ -37,6 +47,9 @@ pub struct Cutter {
     live: LiveClauses,
     units: Units,
     read: ReadClause,
+    /// The witness of the lemma that was read.
+    witness: Vec<Lit>,
+    additions: Additions,
     awaited: Awaited,
     text: Vec<u8>,
     var_count: usize,
@@ -44,11 +57,13 @@ pub struct Cutter {
 
 impl Cutter {
     /// Before a formula.
-    pub fn new(alloc: Global) -> Cutter {
+    pub fn new(alloc: Global, additions: Additions) -> Cutter {
         Cutter {
             live: LiveClauses::new(alloc),
             units: Units::new(alloc),
             read: ReadClause::new(alloc),
+            witness: Vec::new(alloc),
+            additions,
             awaited: Awaited::Nothing,
             text: Vec::new(alloc),
             var_count: 0,
@@ -83,9 +98,9 @@ impl Cutter {
     /// Reads a step of the proof. What lives is still what lived before it.
     pub fn read(&mut self, step: DratStep<'_>) -> Result<(), CutFault> {
         match step {
-            DratStep::Add(clause) => {
+            DratStep::Add(lits) => {
                 self.awaited = Awaited::Lemma;
-                self.read_clause(clause)
+                self.read_lemma(lits)
             }
             DratStep::Delete(clause) => {
                 self.awaited = Awaited::Deletion;
@@ -112,7 +127,8 @@ impl Cutter {
         let slot = self.live.put_read(&self.read)?;
         self.units.attach(&mut self.live.slots, slot)?;
         self.text.clear();
-        push_clause(&mut self.text, &self.read.lits)?;
+        push_lits(&mut self.text, &self.read.lits)?;
+        push_clause(&mut self.text, &self.witness)?;
         Ok(Taken::Lemma)
     }
 
@@ -126,6 +142,16 @@ impl Cutter {
         self.text.extend_from_slice(b"d ")?;
         push_clause(&mut self.text, &self.read.lits)?;
         Ok(Taken::Deletion)
+    }
+
+    fn read_lemma(&mut self, lits: &[Lit]) -> Result<(), CutFault> {
+        let (clause, witness) = match self.additions {
+            Additions::Drat => lits.split_at(lits.len()),
+            Additions::Dpr => parts(lits),
+        };
+        self.witness.clear();
+        self.witness.extend_from_slice(witness)?;
+        self.read_clause(clause)
     }
 
     fn read_clause(&mut self, clause: &[Lit]) -> Result<(), CutFault> {
@@ -149,4 +175,14 @@ impl Cutter {
         }
         Ok(())
     }
+}
+
+/// The clause of an addition and its witness, which begins where the first literal comes again.
+fn parts(lits: &[Lit]) -> (&[Lit], &[Lit]) {
+    for place in 1..lits.len() {
+        if lits[place] == lits[0] {
+            return lits.split_at(place);
+        }
+    }
+    lits.split_at(lits.len())
 }

@@ -5,10 +5,16 @@ use std::alloc::AllocError;
 
 /// The literals of a clause as DIMACS numbers, and the 0 with its LF.
 pub(crate) fn push_clause(text: &mut Vec<u8>, clause: &[Lit]) -> Result<(), AllocError> {
+    push_lits(text, clause)?;
+    text.extend_from_slice(b"0\n")
+}
+
+/// Literals as DIMACS numbers, each with a space behind it.
+pub(crate) fn push_lits(text: &mut Vec<u8>, lits: &[Lit]) -> Result<(), AllocError> {
     let mut buffer = Buffer::new();
-    for lit in clause {
+    for lit in lits {
         text.extend_from_slice(buffer.format(lit.to_dimacs()).as_bytes())?;
         text.push(b' ')?;
     }
-    text.extend_from_slice(b"0\n")
+    Ok(())
 }

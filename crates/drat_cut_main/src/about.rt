@@ -3,8 +3,8 @@ use command::{About, Entry, QUIET, VERBOSE};
 
 /// What `--help` says.
 pub const ABOUT: About<'static> = About {
-    call: "drat_cut CNF PROOF PREFIX [--lemmas N] [--live N] [--quiet] [--verbose]",
-    does: "Cuts a DRAT proof into pieces where few clauses live, while it is read. It judges nothing.",
+    call: "drat_cut CNF PROOF PREFIX [--drat] [--lemmas N] [--live N] [--quiet] [--verbose]",
+    does: "Cuts a DRAT or DPR proof into pieces where few clauses live, while it is read. It judges nothing.",
     operands: &[
         Entry {
             name: "CNF",
@@ -12,7 +12,7 @@ pub const ABOUT: About<'static> = About {
         },
         Entry {
             name: "PROOF",
-            text: "the proof, DRAT, text or binary; - stands for standard input",
+            text: "the proof, DRAT or DPR, text or binary; - stands for standard input",
         },
         Entry {
             name: "PREFIX",
@@ -21,12 +21,16 @@ pub const ABOUT: About<'static> = About {
     ],
     options: &[
         Entry {
+            name: "--drat",
+            text: "the proof is DRAT and has no witnesses: a literal that comes again says nothing",
+        },
+        Entry {
             name: "--lemmas N",
-            text: "a piece has at least so many lemmas, but for the last one; without it 20000",
+            text: "a piece has at least this many lemmas, except the last one; without it 20000",
         },
         Entry {
             name: "--live N",
-            text: "it ends where at most so many clauses live; without it twice as many as it has lemmas",
+            text: "it ends where at most this many clauses live; without it twice as many as it has lemmas",
         },
         QUIET,
         VERBOSE,

@@ -2,7 +2,7 @@
 use crate::fault::CutFailure;
 use crate::files::{PieceFiles, finish};
 use command::WrittenFiles;
-use drat_cut::{Cutter, Taken};
+use drat_cut::{Additions, Cutter, Taken};
 use drat_text::{DratReader, DratStep};
 use log::Log;
 use sat_formula::DimacsReader;
@@ -12,9 +12,9 @@ use std::io::{Read, Write};
 /// Where pieces may end.
 #[derive(Clone, Copy)]
 pub struct Limits {
-    /// With so many lemmas at least.
+    /// With this many lemmas at least.
     pub lemmas: u64,
-    /// Where at most so many clauses live. None: twice as many as the piece has lemmas.
+    /// Where at most this many clauses live. None: twice as many as the piece has lemmas.
     pub live: Option<u64>,
 }
 
@@ -22,16 +22,16 @@ pub struct Limits {
 #[derive(Clone, Copy)]
 struct Piece {
     limits: Limits,
-    /// So many it has.
+    /// How many it has.
     lemmas: u64,
-    /// At most so many clauses lived in it.
+    /// At most this many clauses lived in it.
     most: u64,
     /// The last step was a deletion.
     deleted: bool,
 }
 
 impl Piece {
-    /// It begins where so many clauses live.
+    /// It begins where this many clauses live.
     fn new(limits: Limits, live: usize) -> Piece {
         Piece {
             limits,
@@ -55,7 +55,7 @@ impl Piece {
         (is_low || is_long) && live <= self.limits.live.unwrap_or(self.lemmas.saturating_mul(2))
     }
 
-    /// A step is taken, and so many clauses live.
+    /// A step is taken, and this many clauses live.
     fn take(&mut self, taken: Taken, live: usize) {
         match taken {
             Taken::Nothing => return,
@@ -75,10 +75,11 @@ pub fn cut<F: Read + Drop, P: Read + Drop, L: Log>(
     alloc: Global,
     cnf: F,
     proof: P,
+    additions: Additions,
     limits: Limits,
     files: &PieceFiles<'_>,
 ) -> Result<bool, CutFailure> {
-    let mut cutter = Cutter::new(alloc);
+    let mut cutter = Cutter::new(alloc, additions);
     read_formula(alloc, cnf, &mut cutter)?;
     files.write_live(1, &mut cutter)?;
     let mut reader = DratReader::new(alloc, proof);

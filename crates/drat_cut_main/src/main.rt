@@ -1,5 +1,5 @@
-//! The command `drat_cut CNF PROOF PREFIX [--lemmas N] [--live N]`: cuts a DRAT proof into pieces
-//! while it is read.
+//! The command `drat_cut CNF PROOF PREFIX [--drat] [--lemmas N] [--live N]`: cuts a DRAT or DPR
+//! proof into pieces while it is read.
 //!
 //! Of piece N the file `PREFIXN.cnf` has the clauses that live before it, and `PREFIXN.drat` its
 //! steps; those that live behind it are in the file of the next piece. A file has its name once it
@@ -19,6 +19,7 @@ use crate::files::PieceFiles;
 use command::{
     Call, FAILED, NOT_RUN, misused, open_inputs, say_drat_proof, say_formula, start, unnamed,
 };
+use drat_cut::Additions;
 use progress::{Progress, ToldBytes};
 use std::process::ExitCode;
 
@@ -83,7 +84,20 @@ fn cut_files(
     let files = PieceFiles::new(rt, prefix, cnf_name, proof_name);
     let length = proof.length(rt);
     let proof = ToldBytes::new(&progress, proof.file, length);
-    match cut(&progress, rt.alloc(), cnf.file, proof, limits, &files) {
+    let additions = if call.has("--drat") {
+        Additions::Drat
+    } else {
+        Additions::Dpr
+    };
+    match cut(
+        &progress,
+        rt.alloc(),
+        cnf.file,
+        proof,
+        additions,
+        limits,
+        &files,
+    ) {
         Ok(true) => 0,
         Ok(false) => 3,
         Err(fault) => say_failure(rt, cnf_name, proof_name, fault),
