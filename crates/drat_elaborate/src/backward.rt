@@ -152,7 +152,7 @@ impl Backward {
         Ok(is_accepted)
     }
 
-    /// Another clause is checked. After so many a round ends.
+    /// Another clause is checked. After this many a round ends.
     fn count_check(&mut self, propagator: &mut Propagator) -> Result<(), ElaborateFault> {
         self.in_round = self.in_round.saturating_add(1);
         if self.in_round == CHECKS_A_ROUND {

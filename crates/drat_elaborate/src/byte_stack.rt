@@ -7,7 +7,7 @@ const PIECE: u32 = 7;
 
 const MORE: u8 = 1 << 7;
 
-/// A number of 32 bits has at most so many pieces.
+/// A number of 32 bits has at most this many pieces.
 const MOST_PIECES: usize = 5;
 
 /// Numbers, the last of which is taken first.

@@ -10,7 +10,7 @@ use std::alloc::Global;
 pub(crate) struct ClauseIndex(u32);
 
 impl ClauseIndex {
-    /// There are at most so many clauses.
+    /// There are at most this many clauses.
     const MAX_COUNT: usize = 0x4000_0000;
 
     pub(crate) fn new(index: usize) -> Result<ClauseIndex, ElaborateFault> {

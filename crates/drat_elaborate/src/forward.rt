@@ -21,7 +21,7 @@ pub(crate) struct Forward {
     pub(crate) variables: Variables,
     pub(crate) propagator: Propagator,
     pub(crate) steps: Steps,
-    /// So many clauses are of the formula.
+    /// This many clauses are of the formula.
     pub(crate) formula_len: usize,
     pub(crate) conflict: Option<Block>,
     /// The clauses that a proof names by their literals.

@@ -4,7 +4,7 @@ use crate::fault::ElaborateFault;
 use std::alloc::Global;
 use std::collections::HashMap;
 
-/// So many places there are in `near` beside `PLACES_EACH` for each clause that got an id.
+/// This many places there are in `near` beside `PLACES_EACH` for each clause that got an id.
 const SPARE_PLACES: u64 = 1 << 12;
 
 const PLACES_EACH: u64 = 4;

@@ -6,7 +6,7 @@ use crate::local::LocalLit;
 use crate::recent::Recent;
 use crate::stale::StaleLists;
 use crate::standing::Standing;
-use crate::sweep::{Sweep, sweep_list, sweep_whole};
+use crate::sweep::{Sweep, len_of, sweep_list, sweep_whole};
 use crate::trail::{Reason, Trail};
 use crate::watches::Watches;
 use std::alloc::{AllocError, Global};
@@ -37,19 +37,24 @@ pub(crate) struct Propagator {
 struct Head {
     /// The place on the trail.
     place: usize,
-    /// The next place in the list of the literal there.
-    next: usize,
+    /// At most this many clauses of the list of the literal there are left.
+    end: usize,
 }
 
 impl Head {
     fn at(place: usize) -> Head {
-        Head { place, next: 0 }
+        Head {
+            place,
+            end: usize::MAX,
+        }
     }
 
-    /// The list of the literal there was gone through.
-    fn pass(&mut self) {
-        self.place = self.place.saturating_add(1);
-        self.next = 0;
+    /// What is left before a place was gone through.
+    #[inline(always)]
+    fn go_to(&mut self, place: usize) {
+        if place != self.place {
+            *self = Head::at(place);
+        }
     }
 }
 
@@ -102,7 +107,7 @@ impl Propagator {
         self.stale = StaleLists::new(self.alloc);
     }
 
-    /// Makes room for so many variables.
+    /// Makes room for this many variables.
     pub(crate) fn make_room(&mut self, count: usize) -> Result<(), AllocError> {
         if self.trail.lit_count() / 2 >= count {
             return Ok(());
@@ -159,35 +164,15 @@ impl Propagator {
     /// clause of a conflict.
     #[inline(always)]
     fn advance_lately(&mut self, heads: &mut Heads) -> Result<Option<Block>, ElaborateFault> {
-        for place in heads.lately..self.trail.lit_count() {
-            let Some(lit) = self.trail.get(place) else {
-                break;
-            };
-            heads.lately = place.saturating_add(1);
-            if self.lately.is_watched_by(!lit) {
-                if let Some(block) = self.sweep_lately(!lit)? {
-                    return Ok(Some(block));
-                }
+        let from = self.lately.skip_unwatched(self.trail.lits(), heads.lately);
+        if from < self.trail.len() {
+            let (arena, trail) = (&mut self.clauses.arena, &mut self.trail);
+            if let Some(block) = sweep_on(arena, trail, &mut self.lately, from)? {
+                return Ok(Some(block));
             }
         }
+        heads.lately = self.trail.len();
         Ok(None)
-    }
-
-    /// Goes through all the clauses used lately that watch a literal.
-    #[inline(never)]
-    fn sweep_lately(&mut self, falsified: LocalLit) -> Result<Option<Block>, ElaborateFault> {
-        let Some(mut watches) = self.lately.take(falsified) else {
-            return Ok(None);
-        };
-        let swept = sweep_whole(
-            &mut self.clauses.arena,
-            &mut self.trail,
-            &mut self.lately,
-            &mut watches,
-            falsified,
-        );
-        self.lately.put(falsified, watches);
-        swept
     }
 
     /// Looks at the recent lemmas, up to the first that forces a literal or is false.
@@ -233,18 +218,24 @@ impl Propagator {
 fn advance_to_unit(
     arena: &mut Arena,
     trail: &mut Trail,
-    lists: &mut Watches,
+    watches: &mut Watches,
     head: &mut Head,
 ) -> Result<Progress, ElaborateFault> {
-    for place in head.place..trail.lit_count() {
-        let Some(lit) = trail.get(place) else {
+    for _ in head.place..trail.lit_count() {
+        let place = watches.skip_unwatched(trail.lits(), head.place);
+        head.go_to(place);
+        let Some(lit) = trail.get(head.place) else {
             break;
         };
-        match sweep_from(arena, trail, lists, !lit, head.next)? {
-            Sweep::End => head.pass(),
+        let end = head.end.min(len_of(watches.all(), !lit));
+        match sweep_list(arena.words_mut(), trail.values(), watches.all(), !lit, end)? {
+            Sweep::End => {
+                let next = head.place.saturating_add(1);
+                head.go_to(next);
+            }
             Sweep::Conflict(block) => return Ok(Progress::Conflict(block)),
-            Sweep::Unit { lit, block, next } => {
-                head.next = next;
+            Sweep::Unit { lit, block, end } => {
+                head.end = end;
                 trail.assign(lit, Reason::clause(block))?;
                 return Ok(Progress::Going);
             }
@@ -253,20 +244,22 @@ fn advance_to_unit(
     Ok(Progress::Done)
 }
 
-/// Goes on in the list of a literal from a place on, up to the first clause that is unit.
-#[inline(always)]
-fn sweep_from(
+/// Goes on along the trail to its end. The answer is the clause of a conflict.
+#[inline(never)]
+fn sweep_on(
     arena: &mut Arena,
-    trail: &Trail,
-    lists: &mut Watches,
-    falsified: LocalLit,
+    trail: &mut Trail,
+    watches: &mut Watches,
     from: usize,
-) -> Result<Sweep, ElaborateFault> {
-    let Some(mut watches) = lists.take(falsified) else {
-        return Ok(Sweep::End);
-    };
-    let (words, values) = (arena.words_mut(), trail.values());
-    let swept = sweep_list(words, values, lists.all(), &mut watches, from, falsified);
-    lists.put(falsified, watches);
-    swept
+) -> Result<Option<Block>, ElaborateFault> {
+    let (words, lists) = (arena.words_mut(), watches.all());
+    for place in from..trail.lit_count() {
+        let Some(lit) = trail.get(place) else {
+            break;
+        };
+        if let Some(block) = sweep_whole(words, trail, lists, !lit)? {
+            return Ok(Some(block));
+        }
+    }
+    Ok(None)
 }

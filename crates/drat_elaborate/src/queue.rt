@@ -22,7 +22,7 @@ enum WaitingLine {
 #[derive(Drop)]
 pub(crate) struct LineQueue {
     lines: Vec<WaitingLine>,
-    /// So many were told.
+    /// This many were told.
     told: usize,
     lits: Vec<Lit>,
     hints: Vec<Hint>,

@@ -122,7 +122,8 @@ impl Recent {
         joined & self.within
     }
 
-    /// The number of the lemma that is so many places before the one right before the checked one.
+    /// The number of the lemma that is this many places before the one right before the checked
+    /// one.
     #[inline(always)]
     pub(crate) fn number(&self, places: u32) -> usize {
         self.end.saturating_sub(1).saturating_sub(places as usize)

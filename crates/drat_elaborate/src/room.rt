@@ -1,6 +1,6 @@
 //! How much room a clause gets in the arena.
 
-/// Up to so many words rooms are told apart by two words each, above by an eighth.
+/// Up to this many words rooms are told apart by two words each, above by an eighth.
 const FEW_WORDS: usize = 64;
 
 /// The room of a clause, which others of nearly its length get too.
@@ -10,7 +10,7 @@ pub(crate) struct Room {
 }
 
 impl Room {
-    /// The room of a clause of so many literals, with its number and its length.
+    /// The room of a clause of this many literals, with its number and its length.
     #[inline(always)]
     pub(crate) fn of(len: usize) -> Room {
         let words = len.saturating_add(2);

@@ -48,7 +48,7 @@ impl Propagator {
         clause: &Clause,
         lit: LocalLit,
     ) -> Result<(), ElaborateFault> {
-        if self.stale.set.contains(lit) {
+        if !self.stale.is_empty() && self.stale.set.contains(lit) {
             return Ok(());
         }
         if !self.lists_of(clause.used).remove(lit, clause.block)? {

@@ -54,7 +54,7 @@ impl Steps {
         }
     }
 
-    /// So many clauses there are before the first step.
+    /// This many clauses there are before the first step.
     pub(crate) fn begin(&mut self, formula_len: usize) -> Result<(), ElaborateFault> {
         self.clauses = narrow(formula_len)?;
         Ok(())

@@ -1,19 +1,19 @@
 //! One list of watches, gone through when its literal became false.
-use crate::arena::{Arena, Block};
+use crate::arena::Block;
 use crate::fault::ElaborateFault;
 use crate::local::LocalLit;
-use crate::trail::{Reason, Trail, Value, value_in};
-use crate::watches::{Watch, Watches, push_watch};
+use crate::trail::{Reason, Trail, Value};
+use crate::watches::{Watch, push_watch};
 
 /// What a list came to, up to the first clause that is unit or false.
 #[derive(Clone, Copy)]
 pub(crate) enum Sweep {
     End,
-    /// The clause forces the literal. The list goes on at this place.
+    /// The clause forces the literal. This many clauses of the list are left.
     Unit {
         lit: LocalLit,
         block: Block,
-        next: usize,
+        end: usize,
     },
     Conflict(Block),
 }
@@ -29,49 +29,36 @@ enum Found {
     Conflict,
 }
 
-/// Goes through a list from a place on, up to the first clause that is unit or false. Clauses with
-/// a second literal that is free move to the list of that one. Where a literal is true, the clause
-/// stays: what one propagation makes true becomes free all at once.
+/// What a watch came to.
+#[derive(Clone, Copy)]
+enum Visited {
+    /// Its clause is true, or is watched by another literal now.
+    Open,
+    Unit(LocalLit, Block),
+    Conflict(Block),
+}
+
+/// Goes through the first `end` clauses of a literal's list, the last one first, down to the first
+/// that is unit or false.
 #[inline(always)]
 pub(crate) fn sweep_list(
     words: &mut [LocalLit],
     values: &[Value],
     lists: &mut [Vec<Watch>],
-    watches: &mut Vec<Watch>,
-    from: usize,
     falsified: LocalLit,
+    end: usize,
 ) -> Result<Sweep, ElaborateFault> {
-    let mut at = from;
-    while at < watches.len() {
-        let watch = watches[at];
-        let value = value_in(values, watch.blocker);
-        if value == Value::True {
-            at += 1;
-            continue;
-        }
-        let found = if watch.is_binary() {
-            forced(watch.blocker, value)
-        } else {
-            look(words, watch.block(), falsified, values)?
-        };
-        match found {
-            Found::True(blocker) => {
-                watches[at] = watch.with_blocker(blocker);
-                at += 1;
-            }
-            Found::Moved(to, blocker) => {
-                push_watch(lists, to, watch.with_blocker(blocker))?;
-                watches.swap_remove(at);
-            }
-            Found::Unit(lit) => {
-                let block = watch.block();
+    for at in (0..end).rev() {
+        match visit(words, values, lists, falsified, at)? {
+            Visited::Open => {}
+            Visited::Unit(lit, block) => {
                 return Ok(Sweep::Unit {
                     lit,
                     block,
-                    next: at + 1,
+                    end: at,
                 });
             }
-            Found::Conflict => return Ok(Sweep::Conflict(watch.block())),
+            Visited::Conflict(block) => return Ok(Sweep::Conflict(block)),
         }
     }
     Ok(Sweep::End)
@@ -81,30 +68,69 @@ pub(crate) fn sweep_list(
 /// conflict.
 #[inline(always)]
 pub(crate) fn sweep_whole(
-    arena: &mut Arena,
+    words: &mut [LocalLit],
     trail: &mut Trail,
-    lists: &mut Watches,
-    watches: &mut Vec<Watch>,
+    lists: &mut [Vec<Watch>],
     falsified: LocalLit,
 ) -> Result<Option<Block>, ElaborateFault> {
-    let (words, lists) = (arena.words_mut(), lists.all());
-    let mut next = 0;
-    // Each step but the last goes on by one place or more.
-    for _ in 0..watches.len().saturating_add(1) {
-        match sweep_list(words, trail.values(), lists, watches, next, falsified)? {
-            Sweep::End => return Ok(None),
-            Sweep::Conflict(block) => return Ok(Some(block)),
-            Sweep::Unit {
-                lit,
-                block,
-                next: after,
-            } => {
-                trail.assign(lit, Reason::clause(block))?;
-                next = after;
-            }
+    for at in (0..len_of(lists, falsified)).rev() {
+        match visit(words, trail.values(), lists, falsified, at)? {
+            Visited::Open => {}
+            Visited::Unit(lit, block) => trail.assign(lit, Reason::clause(block))?,
+            Visited::Conflict(block) => return Ok(Some(block)),
         }
     }
-    Err(ElaborateFault::Internal)
+    Ok(None)
+}
+
+/// How many clauses a literal watches.
+#[inline(always)]
+pub(crate) fn len_of(lists: &[Vec<Watch>], lit: LocalLit) -> usize {
+    match lists.get(lit.place()) {
+        Some(list) => list.len(),
+        None => 0,
+    }
+}
+
+/// Looks at one watch of a literal that became false. Where a second literal of the clause is free,
+/// the watch moves to the list of that one, and the last watch of the list, which was looked at
+/// before, takes its place. Where a literal is true, the watch stays: what one propagation makes
+/// true becomes free all at once.
+#[inline(always)]
+fn visit(
+    words: &mut [LocalLit],
+    values: &[Value],
+    lists: &mut [Vec<Watch>],
+    falsified: LocalLit,
+    at: usize,
+) -> Result<Visited, ElaborateFault> {
+    let list = falsified.place();
+    if list >= lists.len() || at >= lists[list].len() {
+        return Err(ElaborateFault::Internal);
+    }
+    let watch = lists[list][at];
+    let value = known(values, watch.blocker)?;
+    if value == Value::True {
+        return Ok(Visited::Open);
+    }
+    let found = if watch.is_binary() {
+        forced(watch.blocker, value)
+    } else {
+        look(words, watch.block(), falsified, values)?
+    };
+    match found {
+        Found::True(blocker) => {
+            lists[list][at] = watch.with_blocker(blocker);
+            Ok(Visited::Open)
+        }
+        Found::Moved(to, blocker) => {
+            lists[list].swap_remove(at);
+            push_watch(lists, to, watch.with_blocker(blocker))?;
+            Ok(Visited::Open)
+        }
+        Found::Unit(lit) => Ok(Visited::Unit(lit, watch.block())),
+        Found::Conflict => Ok(Visited::Conflict(watch.block())),
+    }
 }
 
 /// What a clause comes to of which all literals but one are false. That one is not true.
@@ -136,13 +162,13 @@ fn look(
         return Err(ElaborateFault::Internal);
     }
     let other = LocalLit::other_of(words[start], words[start + 1], falsified);
-    let value = value_in(values, other);
+    let value = known(values, other)?;
     if value == Value::True {
         return Ok(Found::True(other));
     }
     for place in start + 2..end {
         let lit = words[place];
-        match value_in(values, lit) {
+        match known(values, lit)? {
             Value::False => {}
             Value::True => return Ok(Found::True(lit)),
             Value::Free => {
@@ -154,4 +180,13 @@ fn look(
         }
     }
     Ok(forced(other, value))
+}
+
+/// What is known of a literal of a clause.
+#[inline(always)]
+fn known(values: &[Value], lit: LocalLit) -> Result<Value, ElaborateFault> {
+    values
+        .get(lit.place())
+        .copied()
+        .ok_or(ElaborateFault::Internal)
 }

@@ -69,7 +69,7 @@ impl Trail {
         }
     }
 
-    /// Makes room for so many variables, of which there were fewer.
+    /// Makes room for this many variables, of which there were fewer.
     pub(crate) fn make_room(&mut self, count: usize) -> Result<(), AllocError> {
         let cause = Cause {
             reason: Reason::assumed(),
@@ -86,6 +86,12 @@ impl Trail {
     /// Twice the number of variables.
     pub(crate) fn lit_count(&self) -> usize {
         self.values.len()
+    }
+
+    /// The literals that are true, in order.
+    #[inline(always)]
+    pub(crate) fn lits(&self) -> &[LocalLit] {
+        self.lits.as_slice()
     }
 
     pub(crate) fn get(&self, place: usize) -> Option<LocalLit> {
@@ -120,7 +126,8 @@ impl Trail {
     pub(crate) fn assign(&mut self, lit: LocalLit, reason: Reason) -> Result<(), ElaborateFault> {
         let place = narrow(self.lits.len())?;
         self.lits.push(lit)?;
-        set_values(self.values.as_mut_slice(), lit, Value::True, Value::False);
+        set_value(self.values.as_mut_slice(), lit, Value::True);
+        set_value(self.values.as_mut_slice(), !lit, Value::False);
         match self.causes.get_mut(lit.variable()) {
             Some(cause) => *cause = Cause { reason, place },
             None => return Err(ElaborateFault::Internal),
@@ -132,7 +139,7 @@ impl Trail {
     pub(crate) fn cut(&mut self, len: usize) {
         let values = self.values.as_mut_slice();
         for lit in self.lits.get(len..).unwrap_or(&[]) {
-            set_values(values, *lit, Value::Free, Value::Free);
+            set_free(values, *lit);
         }
         self.lits.truncate(len);
     }
@@ -161,20 +168,23 @@ pub(crate) fn value_in(values: &[Value], lit: LocalLit) -> Value {
     values.get(lit.place()).copied().unwrap_or(Value::Free)
 }
 
-/// Sets what is known of a literal, and of its negation.
+/// Sets what is known of a literal.
 #[inline(always)]
-fn set_values(values: &mut [Value], lit: LocalLit, value: Value, of_negation: Value) {
+fn set_value(values: &mut [Value], lit: LocalLit, value: Value) {
+    if let Some(found) = values.get_mut(lit.place()) {
+        *found = value;
+    }
+}
+
+/// A literal and its negation are free.
+#[inline(always)]
+fn set_free(values: &mut [Value], lit: LocalLit) {
     let start = lit.variable().saturating_mul(2);
     let Some(pair) = values.get_mut(start..start.saturating_add(2)) else {
         return;
     };
     if let [positive, negative] = pair {
-        if lit.is_negative() {
-            *positive = of_negation;
-            *negative = value;
-        } else {
-            *positive = value;
-            *negative = of_negation;
-        }
+        *positive = Value::Free;
+        *negative = Value::Free;
     }
 }

@@ -6,7 +6,7 @@ use sat_formula::Lit;
 use std::alloc::Global;
 use std::collections::HashMap;
 
-/// So many places there are in `near` beside `PLACES_EACH` for each variable.
+/// This many places there are in `near` beside `PLACES_EACH` for each variable.
 const SPARE_PLACES: usize = 1 << 16;
 
 const PLACES_EACH: usize = 16;

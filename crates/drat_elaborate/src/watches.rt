@@ -66,7 +66,7 @@ impl Watches {
         }
     }
 
-    /// Makes room for so many variables.
+    /// Makes room for this many variables.
     pub(crate) fn make_room(&mut self, count: usize) -> Result<(), AllocError> {
         for _ in self.lists.len()..count.saturating_mul(2) {
             self.lists.push(Vec::new(self.alloc))?;
@@ -94,13 +94,18 @@ impl Watches {
         }
     }
 
-    /// Whether a clause watches a literal.
+    /// The first place from one on where a literal stands whose negation is watched; else their
+    /// number.
     #[inline(always)]
-    pub(crate) fn is_watched_by(&self, lit: LocalLit) -> bool {
-        match self.lists.get(lit.place()) {
-            Some(list) => !list.is_empty(),
-            None => false,
+    pub(crate) fn skip_unwatched(&self, lits: &[LocalLit], from: usize) -> usize {
+        let mut place = from;
+        while place < lits.len() {
+            match self.lists.get((!lits[place]).place()) {
+                Some(list) if list.is_empty() => place += 1,
+                _ => break,
+            }
         }
+        place
     }
 
     /// Takes the list of a literal away, until it is put back. None where it is empty.

@@ -10,7 +10,7 @@ const PIECE: u32 = 7;
 
 const MORE: u8 = 1 << 7;
 
-/// A number of 32 bits has at most so many pieces.
+/// A number of 32 bits has at most this many pieces.
 const MOST_PIECES: u32 = 5;
 
 /// Of each clause the number of its literals, and their codes.
