@@ -2,6 +2,7 @@
 -- `SAT` or `UNSAT`), or has numbers, after a `v` or not. A number is the literals' end (0) or a literal.
 use Rattle.std.specs.Prelude.{ℕ, ◌+◌, ◌-◌, Bool, true, false, ◌&&◌, List, length, slice_index, codes, Option, Some, None, Result, Ok, Err, nat_lt, ◌==◌, if◌then◌else◌}
 use Rattle.sat_formula.specs.Bytes.{letter_c, minus_sign, digit_zero, is_blank, is_digit, is_lf}
+use Rattle.sat_formula.specs.Digits.{ends_word, value_after}
 use Rattle.sat_formula.specs.Outcome as dimacs
 use Rattle.answer_text.specs.declared.fault.AnswerKind.{AnswerKind}
 use Rattle.answer_text.specs.declared.fault.AnswerKind.TheVariants as kinds
@@ -12,7 +13,7 @@ use Rattle.answer_text.specs.declared.spot.Place.TheVariants.{LineStart, Comment
 use Rattle.answer_text.specs.declared.spot.Spot.{Spot}
 use Rattle.answer_text.specs.declared.spot.After.{After}
 use Rattle.answer_text.specs.declared.spot.After.TheVariants.{Goes, Gives, Stops}
-use Rattle.answer_text.specs.Numbers.{is_space, lit_said, with_digit}
+use Rattle.answer_text.specs.Numbers.{lit_said}
 
 -- the start of a text
 abbrev pub start : Spot
@@ -36,7 +37,7 @@ word_of Unknown = codes "UNKNOWN"
 word_of Sat = codes "SAT"
 word_of Unsat = codes "UNSAT"
 
--- the byte is the next one of the word, of which so many were read
+-- the byte is the next one of the word, of which this many were read
 abbrev pub is_spelled : Status → ℕ → ℕ → Bool
 is_spelled status read b =
     nat_lt read (length (word_of status)) && (slice_index (word_of status) read == b)
@@ -68,7 +69,7 @@ abbrev pub in_word : Spot → Status → ℕ → ℕ → After
 in_word s status read b =
     if is_spelled status read b then Goes (moved s (Word status (read + 1)))
     else (if turns status read b then Goes (moved s (Word Unknown 3))
-    else (if is_space b && (read == length (word_of status)) then status_read s status b
+    else (if ends_word b && (read == length (word_of status)) then status_read s status b
     else Stops kinds.Malformed))
 
 -- a byte before the word
@@ -94,8 +95,8 @@ passed s b = if is_lf b then next_line s else moved s Between
 -- a byte in digits or after them
 abbrev pub in_digits : Spot → Bool → ℕ → ℕ → After
 in_digits s negative v b =
-    if is_digit b then Goes (moved s (Digits negative (with_digit v b)))
-    else (if is_space b then number_read s (lit_said negative v) (passed s b)
+    if is_digit b then Goes (moved s (Digits negative (value_after v b)))
+    else (if ends_word b then number_read s (lit_said negative v) (passed s b)
     else Stops kinds.Malformed)
 
 -- a first digit, after a `-` or not
@@ -106,7 +107,7 @@ first_digit s negative b =
 -- a byte between numbers
 abbrev pub between : Spot → ℕ → After
 between s b =
-    if is_space b then Goes (passed s b)
+    if ends_word b then Goes (passed s b)
     else (if b == minus_sign then Goes (moved s Sign) else first_digit s false b)
 
 -- the first byte of the first line may be of `SAT` or `UNSAT`; else it is of a line of numbers
@@ -129,7 +130,7 @@ after_at Comment s b = if is_lf b then Goes (next_line s) else Goes s
 after_at AfterS s b = if is_blank b then Goes (moved s BeforeWord) else Stops kinds.Malformed
 after_at BeforeWord s b = before_word s b
 after_at (Word status read) s b = in_word s status read b
-after_at AfterV s b = if is_space b then Goes (passed s b) else Stops kinds.Malformed
+after_at AfterV s b = if ends_word b then Goes (passed s b) else Stops kinds.Malformed
 after_at Between s b = between s b
 after_at Sign s b = first_digit s true b
 after_at (Digits negative v) s b = in_digits s negative v b

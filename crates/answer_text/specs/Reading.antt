@@ -36,7 +36,7 @@ pub record ListsThe (known : Option (List ℕ)) (table : Literals) : Type 0 wher
   pub apart : IsConsistent (listed lits)
   pub has : HasThe lits table
 
--- why no literals are given: the text has this fault; a failed read and want of memory can come anywhere
+-- why no literals are given: the text has this fault; a failed read and running out of memory can come anywhere
 abbrev pub FailsBy : Option (List ℕ) → AnswerFault → Type 0
 FailsBy known (faults.Read e) = Unit {0}
 FailsBy known (faults.Wrong line kind) = IsOutcome known (Faulty line kind)

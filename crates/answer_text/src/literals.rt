@@ -6,7 +6,7 @@ use sat_formula::Lit;
 use std::alloc::{AllocError, Global};
 use std::collections::HashSet;
 
-/// For each literal listed so many marks are made at most.
+/// For each literal listed this many marks are made at most.
 const MARKS_EACH: usize = 16;
 
 /// The literals that an answer lists.

@@ -3,8 +3,9 @@ ghost use Rattle.std.specs.Prelude.{◌≡◌, ◌≤◌, length};
 ghost use Rattle.answer_text.specs.Places.{after, before_word, between, first_digit, in_digits, in_word, is_spelled, line_start, moved, next_line, number_read, passed, satisfiable_read, start, status_read, text_start, turns, word_of};
 
 use crate::fault::AnswerKind;
-use crate::number::{is_blank, is_digit, is_space, lit_said, with_digit};
+use crate::number::lit_said;
 use sat_formula::Lit;
+use sat_formula::bytes::{ends_word, is_blank, is_digit, value_after};
 
 /// What a status line says of the formula.
 #[derive(Clone, Copy)]
@@ -25,7 +26,7 @@ pub(crate) enum Place {
     Comment,
     AfterS,
     BeforeWord,
-    /// So many bytes of a status' word were read. `UN` counts as of `UNSATISFIABLE`.
+    /// This many bytes of a status' word were read. `UN` counts as of `UNSATISFIABLE`.
     Word(Status, usize),
     AfterV,
     /// Between numbers.
@@ -98,7 +99,7 @@ impl Spot {
             Place::Comment if byte == b'\n' => After::Goes(self.next_line()),
             Place::Comment => After::Goes(self),
             Place::AfterS if is_blank(byte) => After::Goes(self.moved(Place::BeforeWord)),
-            Place::AfterV if is_space(byte) => After::Goes(self.passed(byte)),
+            Place::AfterV if ends_word(byte) => After::Goes(self.passed(byte)),
             Place::AfterS | Place::AfterV => After::Stops(AnswerKind::Malformed),
             Place::BeforeWord => self.before_word(byte),
             Place::Word(status, read) => self.in_word(status, read, byte),
@@ -186,7 +187,7 @@ impl Spot {
             After::Goes(self.moved(Place::Word(status, read + 1)))
         } else if turns(status, read, byte) {
             After::Goes(self.moved(Place::Word(Status::Unknown, 3)))
-        } else if is_space(byte) && read == status.word().len() {
+        } else if ends_word(byte) && read == status.word().len() {
             self.status_read(status, byte)
         } else {
             After::Stops(AnswerKind::Malformed)
@@ -219,7 +220,7 @@ impl Spot {
     fn between(self, byte: u8) -> After
         ensures { result ≡ between self byte }
     {
-        if is_space(byte) {
+        if ends_word(byte) {
             After::Goes(self.passed(byte))
         } else if byte == b'-' {
             After::Goes(self.moved(Place::Sign))
@@ -243,8 +244,8 @@ impl Spot {
         ensures { result ≡ in_digits self negative value byte }
     {
         if is_digit(byte) {
-            After::Goes(self.moved(Place::Digits(negative, with_digit(value, byte))))
-        } else if is_space(byte) {
+            After::Goes(self.moved(Place::Digits(negative, value_after(value, byte))))
+        } else if ends_word(byte) {
             self.number_read(lit_said(negative, value), self.passed(byte))
         } else {
             After::Stops(AnswerKind::Malformed)
@@ -267,7 +268,7 @@ impl Spot {
     }
 }
 
-/// Whether the byte is the next one of a word, of which so many were read.
+/// Whether the byte is the next one of a word, of which this many were read.
 fn is_spelled(status: Status, read: usize, byte: u8) -> bool
     ensures { result ≡ is_spelled status read byte }
 {
