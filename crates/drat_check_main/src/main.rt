@@ -17,11 +17,11 @@ mod about;
 mod piece;
 
 use crate::about::ABOUT;
-use crate::piece::{PieceNames, check_piece};
+use crate::piece::check_piece;
 use command::{
-    Call, Cost, HeldBytes, Input, NOT_RUN, OutputAfterFiles, WrittenFiles, hold_input, misused,
-    open_inputs, say_drat_proof, say_figure, say_formula, say_proof, say_unread, start, unnamed,
-    warn_of_header,
+    Call, Cost, HeldBytes, Input, NOT_RUN, OutputAfterFiles, PieceNames, WrittenFiles, hold_input,
+    misused, open_inputs, say_drat_proof, say_figure, say_formula, say_proof, say_unread, start,
+    unnamed, warn_of_header,
 };
 use drat_check::{
     LineForm, Outputs, ProofFormat, RunCounts, RunFault, Verdict, exit_status, run_check,

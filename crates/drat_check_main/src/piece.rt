@@ -1,29 +1,20 @@
 //! A piece of a proof, behind which the clauses of a file are wanted.
 use crate::{create_buffered, form_of, say_output, say_stats, say_steps};
 use command::{
-    Call, Cost, Input, NOT_RUN, OutputAfterFiles, WrittenFiles, open_inputs, say_formula,
-    warn_of_header,
+    Call, Cost, HeldBytes, Input, NOT_RUN, OutputAfterFiles, PieceNames, WrittenFiles, hold_input,
+    leads_to, open_file, open_inputs, say_formula, say_piece,
 };
 use drat_check::{
     PieceFault, PieceOutputs, PieceVerdict, ProofFormat, RunFault, piece_status, run_piece,
 };
 use progress::{Progress, ToldBytes};
+use sat_formula::DimacsFault;
 use std::cell::Cell;
-use std::fs;
 use std::fs::File;
 use std::io::BufWriter;
-use std::os::unix::fs::MetadataExt;
 
-/// The names of the files that are read.
-#[derive(Clone, Copy)]
-pub(crate) struct PieceNames<'a> {
-    pub cnf: &'a str,
-    pub piece: &'a str,
-    /// The clauses that are wanted behind the piece.
-    pub holds: &'a str,
-}
-
-/// Checks a piece of a proof. All files are open before anything is read.
+/// Checks a piece of a proof. All files are open before anything is read, and both formulas are
+/// read whole.
 pub(crate) fn check_piece(
     rt: &HostRuntime,
     names: PieceNames<'_>,
@@ -51,16 +42,19 @@ pub(crate) fn check_piece(
         wanted_lie: None,
     };
     let out = &mut OutputAfterFiles::new(&mut files);
-    let outcome = run_told(rt, cnf, holds, piece, format, call, &mut outputs, out);
+    let outcome = match hold_formulas(rt, cnf, holds) {
+        Ok((cnf, holds)) => run_told(rt, cnf, holds, piece, format, call, &mut outputs, out),
+        Err(fault) => Err(fault),
+    };
     let status = piece_status(&outcome);
     tell_outcome(rt, names, format, lrat_name, &outcome);
-    if let Some(missing) = &outputs.missing {
-        let holds = names.holds;
-        let _ = eprintln!(rt; "{missing}");
-        let _ = eprintln!(rt; "in {holds}");
-    }
-    warn_of_header(rt, names.cnf, &outputs.lie);
-    warn_of_header(rt, names.holds, &outputs.wanted_lie);
+    let PieceOutputs {
+        missing,
+        lie,
+        wanted_lie,
+        ..
+    } = &outputs;
+    say_piece(rt, names, missing, lie, wanted_lie);
     if call.has("--stats") && !is_unread(&outcome) {
         say_stats(rt, outputs.counts.get(), cost);
     }
@@ -69,40 +63,42 @@ pub(crate) fn check_piece(
 
 /// Opens the file of the wanted clauses, which is not to be written. Where it can't be opened or
 /// is, a line on standard error says so, and a second one why.
-fn open_holds(rt: &HostRuntime, name: &str, lrat: Option<&str>) -> Option<File> {
-    let file = match File::open(rt, name) {
-        Ok(file) => file,
-        Err(fault) => {
-            let _ = eprintln!(rt; "cannot open {name}");
-            let _ = eprintln!(rt; "{fault}");
-            return None;
-        }
-    };
+fn open_holds<'a>(rt: &HostRuntime, name: &'a str, lrat: Option<&str>) -> Option<Input<'a>> {
+    let holds = open_file(rt, name)?;
     match lrat {
-        Some(output) if leads_to(rt, output, &file) => {
+        Some(output) if leads_to(rt, output, &holds) => {
             let _ = eprintln!(rt; "cannot open {output}");
             let _ = eprintln!(rt; "the output is a file that is read");
             None
         }
-        _ => Some(file),
+        _ => Some(holds),
     }
 }
 
-/// Whether a name leads to this regular file.
-fn leads_to(rt: &HostRuntime, name: &str, file: &File) -> bool {
-    match (fs::metadata(rt, name), file.metadata()) {
-        (Ok(there), Ok(open)) => {
-            there.is_file() && there.dev() == open.dev() && there.ino() == open.ino()
+/// Reads both formulas whole.
+fn hold_formulas(
+    rt: &HostRuntime,
+    cnf: Input<'_>,
+    holds: Input<'_>,
+) -> Result<(HeldBytes, HeldBytes), PieceFault> {
+    let cnf = match hold_input(rt, cnf) {
+        Ok(held) => held,
+        Err(fault) => {
+            let fault = RunFault::Formula(DimacsFault::of_error(fault));
+            return Err(PieceFault::Run(fault));
         }
-        _ => false,
+    };
+    match hold_input(rt, holds) {
+        Ok(holds) => Ok((cnf, holds)),
+        Err(fault) => Err(PieceFault::Wanted(DimacsFault::of_error(fault))),
     }
 }
 
 /// Checks the piece, and tells how far that has come as the call asks.
 fn run_told(
     rt: &HostRuntime,
-    cnf: Input<'_>,
-    holds: File,
+    cnf: HeldBytes,
+    holds: HeldBytes,
     piece: Input<'_>,
     format: ProofFormat,
     call: &Call<'_>,
@@ -116,7 +112,7 @@ fn run_told(
     run_piece(
         &progress,
         rt.alloc(),
-        cnf.file,
+        cnf,
         holds,
         piece,
         format,
