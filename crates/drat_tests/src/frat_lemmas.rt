@@ -20,34 +20,34 @@ const ROWS: [Row; 7] = [
     (
         TWO_WAYS,
         "o 1 1 2 0 o 2 1 -2 0 o 9 3 1 0 o 7 -3 1 0 a 20 1 0 l 9 7 0 a 21 4 0",
-        "d 1 2; 9 1 0 3 4; d 4 3; 10 4 0 9 5 6; d 6 5; 11 0 9 10 7 8; \
+        "d 1 2; 9 1 0 3 4; d 4 3; 10 4 0 9 6 5; d 5 6; 11 0 9 10 8 7; \
          used 3 4 5 6 7 8; 0 missing, 0 kept",
     ),
     (
         TWO_WAYS,
         "o 1 1 2 0 o 2 1 -2 0 o 9 3 1 0 o 7 -3 1 0 a 20 1 0 l 1 2 0 a 21 4 0",
-        "d 3 4; 9 1 0 1 2; d 2 1; 10 4 0 9 5 6; d 6 5; 11 0 9 10 7 8; \
+        "d 3 4; 9 1 0 1 2; d 2 1; 10 4 0 9 6 5; d 5 6; 11 0 9 10 8 7; \
          used 1 2 5 6 7 8; 0 missing, 0 kept",
     ),
     // Two ids change places before the hints.
     (
         TWO_WAYS,
         "o 1 1 2 0 o 2 1 -2 0 o 9 3 1 0 o 7 -3 1 0 r 1 9 9 1 2 7 7 2 0 a 20 1 0 l 1 2 0 a 21 4 0",
-        "d 1 2; 9 1 0 3 4; d 4 3; 10 4 0 9 5 6; d 6 5; 11 0 9 10 7 8; \
+        "d 1 2; 9 1 0 3 4; d 4 3; 10 4 0 9 6 5; d 5 6; 11 0 9 10 8 7; \
          used 3 4 5 6 7 8; 0 missing, 0 kept",
     ),
     // A clause that is deleted is no hint, and the last two deletions meet none.
     (
         TWO_WAYS,
         "o 1 1 2 0 o 2 1 -2 0 d 1 0 d 1 1 2 0 d 8 0 a 20 1 0 l 1 2 0 a 21 4 0",
-        "d 1 2; 9 1 0 4 3; d 3 4; 10 4 0 9 5 6; d 6 5; 11 0 9 10 7 8; \
+        "d 1 2; 9 1 0 3 4; d 4 3; 10 4 0 9 6 5; d 5 6; 11 0 9 10 8 7; \
          used 3 4 5 6 7 8; 2 missing, 0 kept",
     ),
     // The first clause forces its literal.
     (
         "1 0 -1 2 0 -2 3 4 0 -2 3 -4 0 -2 -3 4 0 -2 -3 -4 0",
         "o 5 1 0 d 5 1 0 a 6 3 0",
-        "7 3 0 1 2 3 4; d 4 3; 8 0 1 2 7 5 6; used 1 2 3 4 5 6; 0 missing, 1 kept",
+        "7 3 0 1 2 4 3; d 3 4; 8 0 1 2 7 6 5; used 1 2 3 4 5 6; 0 missing, 1 kept",
     ),
     (
         "1 2 0 1 2 0",

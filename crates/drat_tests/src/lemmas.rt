@@ -156,7 +156,7 @@ const BY_PROPAGATION: Row = (
     "1 2 0 1 -2 0 -1 2 0 -1 -2 0 3 4 0",
     "5 6 0",
     "1 0",
-    "late clause: internal error; 1 added: d 5; 6 1 0 1 2; d 2 1; 7 0 6 3 4; \
+    "late clause: internal error; 1 added: d 5; 6 1 0 2 1; d 1 2; 7 0 6 4 3; \
      used 1 2 3 4; 1 missing, 0 kept",
 );
 
@@ -165,7 +165,7 @@ const FAR: Row = (
     "100000 268435456 0 100000 -268435456 0 -100000 268435456 0 -100000 -268435456 0",
     "-268435456 7 0",
     "100000 0",
-    "late clause: internal error; 1 added: 5 100000 0 1 2; d 2 1; 6 0 5 3 4; \
+    "late clause: internal error; 1 added: 5 100000 0 2 1; d 1 2; 6 0 5 4 3; \
      used 1 2 3 4; 1 missing, 0 kept",
 );
 
@@ -177,8 +177,8 @@ const REDUNDANT: Row = (
     "",
     "-4 6 7 0 4 -1 0 1 2 0 1 0 2 0",
     "late clause: internal error; 5 added: \
-     12 -4 6 7 0; 13 4 -1 0 -12 10 11; d 11 10; 14 1 2 0 1 2; d 2 1; 15 1 0 14 3 4; \
-     d 4 3 14; 16 2 0 15 13 5 9 12 8; d 8 12 9 5 13; 17 0 15 16 6 7; \
+     12 -4 6 7 0; 13 4 -1 0 -12 10 11; d 11 10; 14 1 2 0 2 1; d 1 2; 15 1 0 14 4 3; \
+     d 3 4 14; 16 2 0 15 13 5 9 12 8; d 8 12 9 5 13; 17 0 15 16 7 6; \
      used 1 2 3 4 5 6 7 8 9 10 11; 0 missing, 0 kept",
 );
 
@@ -205,7 +205,7 @@ const REASON: Row = (
     "1 0 -1 2 3 0 -1 2 -3 0 -2 3 0 -2 -3 0 4 -4 5 0",
     "1 0 5 4 -4 4 0",
     "2 2 -1 0",
-    "late clause: internal error; 1 added: d 6; 7 2 -1 0 2 3; d 3 2; 8 0 1 7 4 5; \
+    "late clause: internal error; 1 added: d 6; 7 2 -1 0 3 2; d 2 3; 8 0 1 7 5 4; \
      used 1 2 3 4 5; 0 missing, 1 kept",
 );
 

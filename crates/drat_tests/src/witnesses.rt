@@ -45,7 +45,7 @@ const EXCHANGED: Row = (
      14 -1 -2 -7 0 2; 15 1 2 -7 0 1; d 2 1; \
      16 1 7 0 -5 11 -14; 17 -2 7 0 -4 12 -15; 18 1 -2 0 16 13; \
      19 -1 -2 0 17 14; 20 1 2 0 16 15; d 6 3 13 11 12 14 15 16 17; \
-     21 1 0 18 20; d 20 18; 22 5 0 21 19 5 4 7 8; d 8 7; 23 0 21 19 5 4 22 10 9; \
+     21 1 0 18 20; d 20 18; 22 5 0 21 5 19 4 7 8; d 8 7; 23 0 21 5 19 4 22 9 10; \
      used 1 2 3 4 5 6 7 8 9 10; 0 missing, 0 kept",
 );
 
@@ -81,14 +81,14 @@ const AGAINST_ITSELF: Row = (
 const NOT_NEEDED: Row = (
     "1 2 0 1 -2 0 -1 2 0 -1 -2 0 -3 -4 0",
     "3 4 3 4 0 1 0",
-    "d 5; 6 1 0 1 2; d 2 1; 7 0 6 3 4; used 1 2 3 4; 0 missing, 0 kept",
+    "d 5; 6 1 0 2 1; d 1 2; 7 0 6 4 3; used 1 2 3 4; 0 missing, 0 kept",
 );
 
 /// The clause follows, so its witness is not needed.
 const FOLLOWS: Row = (
     "1 2 0 1 -2 0 -1 2 0 -1 -2 0",
     "1 1 2 0",
-    "5 1 0 1 2; d 2 1; 6 0 5 3 4; used 1 2 3 4; 0 missing, 0 kept",
+    "5 1 0 2 1; d 1 2; 6 0 5 4 3; used 1 2 3 4; 0 missing, 0 kept",
 );
 
 const ROWS: [Row; 7] = [
