@@ -120,5 +120,5 @@ abbrev pub TellsPieceLies : Option (List ℕ) → Option (List ℕ) → Result P
 TellsPieceLies cnf holds (Ok verdict) lie other = IsLie cnf lie × IsLie holds other
 TellsPieceLies cnf holds (Err (Run (Write cause))) lie other = IsLie cnf lie × IsLie holds other
 TellsPieceLies cnf holds (Err (Run (Proof fault))) lie other = IsLie cnf lie × IsLie holds other
-TellsPieceLies cnf holds (Err (Run (Formula fault))) lie other = lie ≡ None
+TellsPieceLies cnf holds (Err (Run (Formula fault))) lie other = (lie ≡ None) × (other ≡ None)
 TellsPieceLies cnf holds (Err (Wanted fault)) lie other = IsLie cnf lie × (other ≡ None)

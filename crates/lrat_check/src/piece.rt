@@ -65,6 +65,7 @@ pub fn run_piece<F: Read + Drop, G: Read + Drop, P: Read + Drop, W: Write>(
     ensures lies { TellsPieceLies (F.remaining cnf) (G.remaining holds) result
         told.new.lie told.new.wanted_lie }
 {
+    told.wanted_lie = None;
     let held = match read_held(alloc, cnf, &mut told.lie) {
         Ok(held) => held,
         Err(fault) => return Err(PieceFault::Run(RunFault::Formula(fault))),
