@@ -51,7 +51,7 @@ BOX = 28
 FORMULA = 190
 FORMULA_END = 398
 
-BY_READING = "by reading alone: the main.rt of each program, which opens files and gives the status"
+BY_READING = "by reading alone: the main of each program, which opens files and gives the status"
 TRUSTED = (
     "trusted under all of this: the toolchain, the compilers, the C library, the system, the machine,"
     " and that a file is what was meant"

@@ -334,6 +334,7 @@ for output in next soft.next; do
   wants 2 '' "cannot open $output"$'\nthe output is a file that is read' three piece --holds next --lrat "$output"
 done
 kept 'a piece that is not run' l
+wants 0 's VERIFIED PIECE' '' three piece --holds /dev/null --lrat /dev/null
 wants 1 '' $'error writing: No space left on device (os error 28)\nin /dev/full' three piece --holds next --lrat /dev/full
 said=$("$check" three piece --holds next --stats 2> err) || true
 [[ $said == 's VERIFIED PIECE' && $(head -n 4 err) == $'c steps 2\nc lemmas 2\nc rat_lemmas 0\nc hints 3' ]] || fault "what a piece counts: $said $(cat err)"

@@ -72,6 +72,12 @@ is_given choices flag = is_some (given choices flag)
 abbrev pub value_given : List Choice → List ℕ → Option (List ℕ)
 value_given choices flag = option_and_then (λ choice. choice.value) (given choices flag)
 
+-- what a value means, by the words that it may be; none means nothing
+abbrev pub meant : {W T : Type 0} → (W → List ℕ) → List (W × T) → Option (List ℕ) → Option (Option T)
+meant text words None = Some None
+meant text words (Some value) =
+    option_map (λ word. Some word.1) (find (λ word. bytes_eq (text word.0) value) words)
+
 -- one option is all that was given
 abbrev pub is_one_flag : List (List ℕ) → List Choice → Bool
 is_one_flag operands choices = (length operands == 0) && (length choices == 1)
@@ -163,6 +169,12 @@ state_of reading = record {
   operands = operands_of reading.call;
   choices = choices_of reading.call;
 }
+
+-- an example is wanted of nothing beside it
+abbrev pub IsExampleAlone : Call → Type 0
+IsExampleAlone call =
+    is_given (choices_of call) (codes "--example") ≡ true
+    → is_one_flag (operands_of call) (choices_of call) ≡ true
 
 -- these operands and options were said
 abbrev pub IsSaid : Result State Wrong → Call → Type 0

@@ -2,4 +2,5 @@ pub mod Calls
 pub mod Inputs
 pub mod Kinds
 pub mod Held
+pub mod Statuses
 pub mod Written

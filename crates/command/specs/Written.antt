@@ -1,9 +1,12 @@
 -- Files that are written.
 --     names_of files      the names of those that were made, in their order
 --     is_among name files      whether this name is that of one of them
+--     is_read name inputs      whether it is that of one of the inputs
 use Rattle.std.specs.Prelude.{ℕ, Bool, List, map}
+use Rattle.std.specs.Borrow.{Bor}
 use Rattle.std.specs.List.{list_any}
 use Rattle.std.specs.Str.{bytes_eq}
+use Rattle.command.specs.declared.files.Input.{Input}
 use Rattle.command.specs.declared.written.WrittenFiles.{WrittenFiles}
 
 -- the names of the files that were made, as their call has them
@@ -13,3 +16,7 @@ names_of files = map (λ name. name.now) files.names.items
 -- whether one of them has this name
 abbrev pub is_among : List ℕ → WrittenFiles → Bool
 is_among name files = list_any (λ taken. bytes_eq taken.now name) files.names.items
+
+-- whether one of the inputs has this name
+abbrev pub is_read : List ℕ → List (Bor Input) → Bool
+is_read name inputs = list_any (λ input. bytes_eq input.now.name.now name) inputs

@@ -91,6 +91,30 @@ pub const STATS: Entry<'static> = Entry {
     text: "says at the end on standard error what was counted, in lines c NAME NUMBER",
 };
 
+/// Of a program that can be tried without a file: it is.
+pub const EXAMPLE: Entry<'static> = Entry {
+    name: "--example",
+    text: "checks a small fixed example, in place of files",
+};
+
+/// Of a program that reads lines of LRAT: how the ids of binary ones are written.
+pub const IDS: Entry<'static> = Entry {
+    name: "--ids WAY",
+    text: "how ids stand in a binary proof: plain or doubled; else its first bytes tell it",
+};
+
+/// The operand of a program that reads a formula.
+pub const CNF: Entry<'static> = Entry {
+    name: "CNF",
+    text: "the formula, DIMACS text; - stands for standard input",
+};
+
+/// The variable of a program that logs.
+pub const RUST_LOG: Entry<'static> = Entry {
+    name: "RUST_LOG",
+    text: "what is logged to standard error, as info; without it nothing is",
+};
+
 /// The options of all programs.
 const COMMON_OPTIONS: [Entry<'static>; 2] = [HELP, VERSION];
 

@@ -1,12 +1,18 @@
 //! How a program begins: with the words of its call.
-ghost use Rattle.std.specs.Prelude.{◌≡◌, IfOk, codes, true};
-ghost use Rattle.command.specs.Calls.{choices_of, is_given, is_one_flag, operands_of};
+ghost use Rattle.std.specs.Prelude.{◌≡◌, ◌⊎◌, ◌∷◌, ℕ, Result, [], IfErr, IfOk};
+ghost use Rattle.std.specs.Fn.{FnOnceReturnsAt};
+ghost use Rattle.std.specs.Process.{exit_status};
+ghost use Rattle.command.specs.Calls.{IsExampleAlone, operands_of};
+ghost use Rattle.command.specs.Statuses.{IsEnd, either};
+ghost use Rattle.command.specs.declared.call.Call.{Call};
 
 use crate::about::About;
 use crate::call::{Call, read_words};
+use crate::places::InputNames;
 use crate::status::{NOT_RUN, help, version};
 use std::env::{Env, FillError};
 use std::fmt::Display;
+use std::process::ExitCode;
 use std::{env, str};
 
 /// How many bytes of a word are looked at, where one of a call is no text.
@@ -17,10 +23,9 @@ const WORD_LENGTH: usize = 4096;
 /// An Err is the exit status of a call that ends here: `--help` and `--version` are answered, and
 /// of words that can't be read a line on standard error says which one is wrong. `--example` stands
 /// alone.
-pub fn start<'a>(rt: &HostRuntime, about: &'a About<'a>) -> Result<Call<'a>, u8>
-    ensures example { IfOk result (λ call.
-        is_given (choices_of call) (codes "--example") ≡ true
-        → is_one_flag (operands_of call) (choices_of call) ≡ true) }
+fn start<'a>(rt: &HostRuntime, about: &'a About<'a>) -> Result<Call<'a>, u8>
+    ensures ended { IfErr result IsEnd }
+    ensures example { IfOk result IsExampleAlone }
 {
     let mut words = match env::args(rt) {
         Ok(words) => words,
@@ -49,6 +54,33 @@ pub fn start<'a>(rt: &HostRuntime, about: &'a About<'a>) -> Result<Call<'a>, u8>
     Ok(call)
 }
 
+/// Runs a program: reads its call, and does what that asks for. Either answer is the exit status;
+/// an Err is that of a call that ends early.
+pub fn run_program<F: FnOnce(&Call<'_>) -> Result<u8, u8>>(
+    rt: &HostRuntime,
+    about: &About<'_>,
+    run: F,
+) -> ExitCode
+    requires { F.IsAlwaysCallable run }
+    ensures { IsEnd (exit_status result)
+        ⊎ ((call : Call) × (answer : Result ℕ ℕ) × IsExampleAlone call
+        × FnOnceReturnsAt F.FnOnce run call answer × (exit_status result ≡ either answer)) }
+{
+    match start(rt, about) {
+        Ok(call) => exit_code_of(run(&call)),
+        Err(status) => ExitCode::from(status),
+    }
+}
+
+/// The exit code that an answer is, on either way.
+fn exit_code_of(answer: Result<u8, u8>) -> ExitCode
+    ensures { exit_status result ≡ either answer }
+{
+    match answer {
+        Ok(status) | Err(status) => ExitCode::from(status),
+    }
+}
+
 /// Says on standard error why a call can't be run, and how the program is called.
 pub fn misused<D: Display + Drop>(rt: &HostRuntime, about: &About<'_>, why: D) -> u8
     ensures { result ≡ NOT_RUN }
@@ -60,7 +92,7 @@ pub fn misused<D: Display + Drop>(rt: &HostRuntime, about: &About<'_>, why: D) -
     NOT_RUN
 }
 
-/// Says on standard error which file is not named, where so many are, and how the program is
+/// Says on standard error which file is not named, where this many are, and how the program is
 /// called.
 pub fn unnamed(rt: &HostRuntime, about: &About<'_>, count: usize) -> u8
     ensures { result ≡ NOT_RUN }
@@ -71,6 +103,26 @@ pub fn unnamed(rt: &HostRuntime, about: &About<'_>, count: usize) -> u8
             misused(rt, about, format_args!("no file is named for {name}"))
         }
         None => misused(rt, about, "a file too many"),
+    }
+}
+
+/// The names of the two files that a call names, and no more. An Err is the exit status of a call
+/// that names one or none; standard error says which one is missing.
+pub fn input_names<'c>(
+    rt: &HostRuntime,
+    about: &About<'_>,
+    call: &'c Call<'_>,
+) -> Result<InputNames<'c>, u8>
+    ensures err { IfErr result (λ status. status ≡ NOT_RUN) }
+    ensures ok { IfOk result (λ names.
+        operands_of call.now ≡ names.cnf.now ∷ names.other.now ∷ []) }
+{
+    match call.operands.as_slice() {
+        [cnf, other] => Ok(InputNames {
+            cnf: cnf.as_str(),
+            other: other.as_str(),
+        }),
+        operands => Err(unnamed(rt, about, operands.len())),
     }
 }
 

@@ -1,7 +1,7 @@
 //! The words of a call, as `About` says them.
 ghost use Rattle.std.specs.Prelude.{◌≡◌, MatchResult, map, option_map, string_bytes};
 ghost use Rattle.std.specs.Vec.Iter.{into_iter_items};
-ghost use Rattle.command.specs.Calls.{IsOrNoMemory, IsSaid, after, at_end, choice_of, choices_of, given, is_given, is_one_flag, names_of, operands_of, option_of, said_by, state_of, value_given, with_choice, with_operand, with_option};
+ghost use Rattle.command.specs.Calls.{IsOrNoMemory, IsSaid, after, at_end, choice_of, choices_of, given, is_given, is_one_flag, meant, names_of, operands_of, option_of, said_by, state_of, value_given, with_choice, with_operand, with_option};
 
 use crate::about::{Entry, HELP, VERSION, cut_at};
 use std::alloc::Global;
@@ -66,6 +66,23 @@ impl<'a> Call<'a> {
         }
     }
 
+    /// What the value of an option stands for, by the words that it may be, or that it has none.
+    /// None: its value is another word.
+    pub fn choice<T: Copy>(&self, flag: &str, words: &[(&str, T)]) -> Option<Option<T>>
+        ensures { result ≡ meant (λ word. word.now) words.now
+            (value_given (choices_of self.now) flag.now) }
+    {
+        let Some(value) = self.value(flag) else {
+            return Some(None);
+        };
+        for (word, meaning) in words {
+            if *word == value {
+                return Some(Some(*meaning));
+            }
+        }
+        None
+    }
+
     /// Whether one option without a value stands in the call, and nothing else.
     pub fn is_one_word(&self) -> bool
         ensures { result ≡ is_one_flag (operands_of self.now) (choices_of self.now) }
@@ -106,7 +123,7 @@ struct Reading<'a> {
 }
 
 /// Reads the words behind a program's name: options, those with a value as `--flag VALUE` or
-/// `--flag=VALUE`, and up to so many operands, in any order. All words behind `--` are operands,
+/// `--flag=VALUE`, and up to this many operands, in any order. All words behind `--` are operands,
 /// and so is `-`. The options of all programs are read too, also as `-h` and `-V`.
 #[tactic(auto, unfolding(crate::specs::Calls::said_after))]
 pub fn read_words<'a>(

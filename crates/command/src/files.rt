@@ -1,6 +1,6 @@
 //! Files that are read, by their names: which one is opened or refused. What a clause can't say of
 //! a handle is believed by reading this file.
-ghost use Rattle.std.specs.Prelude.{◌≡◌, ◌⊎◌, ◌↔◌, IfOk, IfSome, IsNone, IsSome, IsTrue, codes};
+ghost use Rattle.std.specs.Prelude.{◌≡◌, ◌⊎◌, ◌↔◌, IfOk, IfSome, IsNone, IsSome, IsTrue, codes, false};
 ghost use Rattle.command.specs.Inputs.{IsOpenedBy, is_standard_input};
 
 use std::fmt::Display;
@@ -105,7 +105,10 @@ fn open_input<'a>(rt: &HostRuntime, name: &'a str) -> Option<Input<'a>>
 /// Opens a file for reading by its name alone: `-` is no name of standard input here.
 ///
 /// Where it can't be opened, a line on standard error says so, and a second one why.
-pub fn open_file<'a>(rt: &HostRuntime, name: &'a str) -> Option<Input<'a>> {
+pub fn open_file<'a>(rt: &HostRuntime, name: &'a str) -> Option<Input<'a>>
+    ensures name { IfSome result (λ input. input.name.now ≡ name.now) }
+    ensures file { IfSome result (λ input. is_standard_input input.file ≡ false) }
+{
     match File::open(rt, name) {
         Ok(file) => Some(Input {
             name,
@@ -113,11 +116,6 @@ pub fn open_file<'a>(rt: &HostRuntime, name: &'a str) -> Option<Input<'a>> {
         }),
         Err(fault) => refuse(rt, name, fault),
     }
-}
-
-/// Whether a name leads to this regular file, which is open.
-pub fn leads_to(rt: &HostRuntime, name: &str, input: &Input<'_>) -> bool {
-    is_one_file(&fs::metadata(rt, name), &input.file.metadata(rt))
 }
 
 /// Whether both are told, and are of one regular file.

@@ -13,7 +13,7 @@ use std::io::Read;
 pub struct HeldBytes {
     alloc: Global,
     bytes: Vec<u8>,
-    /// So many of them were given.
+    /// This many of them were given.
     given: usize,
     ghost within: { given ≤ vec_len bytes },
 }

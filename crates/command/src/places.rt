@@ -1,20 +1,102 @@
 //! What is said of a file that could not be read as what it should be.
-ghost use Rattle.std.specs.Prelude.{◌≡◌};
+ghost use Rattle.std.specs.Prelude.{◌≡◌, IfErr};
 
-use crate::files::open_again;
+use crate::files::{Input, open_again};
+use crate::held::{HeldBytes, hold_input};
 use crate::kind::{Kind, kind_of};
 use crate::status::FAILED;
 use std::fmt::Display;
+use std::io;
 use std::io::Read;
 
 /// How many bytes of such a file are looked at.
 const HEAD: usize = 256;
 
+/// The names of the two files that a run reads: the formula, and what is checked with it.
+#[derive(Clone, Copy)]
+pub struct InputNames<'a> {
+    pub cnf: &'a str,
+    pub other: &'a str,
+}
+
+/// In which file the fault of a run is.
+#[derive(Clone, Copy)]
+pub enum FaultPlace<'a> {
+    Formula,
+    Proof,
+    /// A proof that may begin with the bytes of DRAT.
+    DratProof,
+    Answer,
+    /// The clauses that are wanted behind a piece, by the name of their file.
+    Wanted(&'a str),
+    /// A file that is written, by its name.
+    Output(Option<&'a str>),
+    /// In none of them, as where the verdict's line could not be written.
+    Elsewhere,
+}
+
+/// Says on standard error why a run has no verdict, where it has none.
+pub fn say_cause<T, E: Display>(rt: &HostRuntime, outcome: &Result<T, E>) {
+    if let Err(fault) = outcome {
+        let _ = eprintln!(rt; "{fault}");
+    }
+}
+
+/// Says on standard error why a run has no verdict, and in which file that is.
+pub fn say_fault<D: Display>(
+    rt: &HostRuntime,
+    names: InputNames<'_>,
+    fault: &D,
+    place: FaultPlace<'_>,
+) {
+    let _ = eprintln!(rt; "{fault}");
+    match place {
+        FaultPlace::Formula => say_formula(rt, names.cnf, names.other),
+        FaultPlace::Proof => say_proof(rt, names.other),
+        FaultPlace::DratProof => say_drat_proof(rt, names.other),
+        FaultPlace::Answer => say_answer(rt, names.other),
+        FaultPlace::Wanted(holds) => say_formula(rt, holds, names.other),
+        FaultPlace::Output(Some(name)) => {
+            let _ = eprintln!(rt; "in {name}");
+        }
+        FaultPlace::Output(None) | FaultPlace::Elsewhere => {}
+    }
+}
+
+/// Says on standard error which clause is missing of those that are wanted behind a piece.
+pub fn say_missing<M: Display>(rt: &HostRuntime, holds: &str, missing: &Option<M>) {
+    if let Some(missing) = missing {
+        let _ = eprintln!(rt; "{missing}");
+        let _ = eprintln!(rt; "in {holds}");
+    }
+}
+
+/// Reads a file of a run whole. An Err is the exit status where it can't be read; standard error
+/// says which fault that is, and that it is at this place.
+pub fn hold_file<D: Display + Drop, F: FnOnce(io::Error) -> D>(
+    rt: &HostRuntime,
+    names: InputNames<'_>,
+    file: Input<'_>,
+    place: FaultPlace<'_>,
+    fault_of: F,
+) -> Result<HeldBytes, u8>
+    requires { F.IsAlwaysCallable fault_of }
+    ensures { IfErr result (λ status. status ≡ FAILED) }
+{
+    match hold_input(rt, file) {
+        Ok(held) => Ok(held),
+        Err(fault) => {
+            say_fault(rt, names, &fault_of(fault), place);
+            Err(FAILED)
+        }
+    }
+}
+
 /// Says on standard error, after a fault of a formula, which file it is, and asks whether the
 /// names of this file and of the other one that is read were exchanged, where either begins so.
 ///
 /// Where it is a regular file that begins as one of a kind that is not read, that is said of it.
-pub fn say_formula(rt: &HostRuntime, name: &str, other: &str) {
+fn say_formula(rt: &HostRuntime, name: &str, other: &str) {
     let kind = match kind_of_file(rt, name) {
         Some(Kind::DratText | Kind::Formula) => None,
         kind => kind,
@@ -25,20 +107,10 @@ pub fn say_formula(rt: &HostRuntime, name: &str, other: &str) {
     }
 }
 
-/// Says on standard error why a formula could not be read, and what `say_formula` says, and gives
-/// the exit status.
-pub fn say_unread<D: Display + Drop>(rt: &HostRuntime, name: &str, other: &str, why: D) -> u8
-    ensures { result ≡ FAILED }
-{
-    let _ = eprintln!(rt; "{why}");
-    say_formula(rt, name, other);
-    FAILED
-}
-
 /// Says on standard error, after a fault of an answer, which file it is.
 ///
 /// Where it is a regular file that begins as one of a kind that is not read, that is said of it.
-pub fn say_answer(rt: &HostRuntime, name: &str) {
+fn say_answer(rt: &HostRuntime, name: &str) {
     match kind_of_file(rt, name) {
         Some(Kind::DratText) => say_place(rt, name, None),
         kind => say_kind(rt, name, kind),
@@ -48,14 +120,14 @@ pub fn say_answer(rt: &HostRuntime, name: &str) {
 /// Says on standard error, after a fault of a proof, which file it is.
 ///
 /// Where it is a regular file that begins as one of a kind that is not read, that is said of it.
-pub fn say_proof(rt: &HostRuntime, name: &str) {
+fn say_proof(rt: &HostRuntime, name: &str) {
     say_kind(rt, name, kind_of_file(rt, name));
 }
 
 /// Says on standard error, after a fault of a DRAT proof, which file it is.
 ///
 /// Where it is a regular file that begins as a compressed one, that is said of it.
-pub fn say_drat_proof(rt: &HostRuntime, name: &str) {
+fn say_drat_proof(rt: &HostRuntime, name: &str) {
     match kind_of_file(rt, name) {
         Some(Kind::DratText | Kind::BinaryProof) => say_place(rt, name, None),
         kind => say_kind(rt, name, kind),

@@ -1,11 +1,12 @@
 //! Files that are written: each under another name, until it is whole. What a clause can't say of a
 //! handle is believed by reading this file.
-ghost use Rattle.std.specs.Prelude.{◌≡◌, ◌∷◌, ◌++◌, [], true, ◌⊎◌, IfSome, IsNone, IsSome, codes};
-ghost use Rattle.command.specs.Written.{is_among, names_of};
+ghost use Rattle.std.specs.Prelude.{◌≡◌, ◌∷◌, ◌++◌, [], true, ◌⊎◌, IfErr, IfOk, IfSome, IsErr, IsNone, IsSome, codes, is_some, option_map, option_to_list};
+ghost use Rattle.command.specs.Written.{is_among, is_read, names_of};
 
 use crate::files::{Input, STANDARD_INPUT, is_one_file, refuse};
-use std::fs::File;
-use std::io::Write;
+use crate::status::NOT_RUN;
+use std::fs::{File, Metadata};
+use std::io::{BufWriter, Write};
 use std::os::unix::fs::MetadataExt;
 use std::{fs, io};
 
@@ -55,37 +56,63 @@ impl<'a> WrittenFiles<'a> {
     /// Refused is what `refusal_of` says, and a file that is another one of these. Where it is, or
     /// can't be opened, nothing of its name is changed; a line on standard error says so, and a
     /// second one why.
-    pub fn create(&mut self, name: &'a str, first: &Input<'_>, second: &Input<'_>) -> Option<File>
+    pub fn create(&mut self, name: &'a str, inputs: &[&Input<'_>]) -> Option<File>
         ensures same { is_among name.now self.old ≡ true → IsNone result }
         ensures dash { name.now ≡ codes "-" → IsNone result }
-        ensures named { (name.now ≡ first.now.name.now) ⊎ (name.now ≡ second.now.name.now)
-            → IsNone result }
+        ensures named { is_read name.now inputs.now ≡ true → IsNone result }
         ensures names { IfSome result (λ file. names_of self.new
             ≡ names_of self.old ++ name.now ∷ []) }
+        ensures kept { IsNone result → (names_of self.new ≡ names_of self.old)
+            ⊎ (names_of self.new ≡ names_of self.old ++ name.now ∷ []) }
     {
         if self.has(name) || self.is_written(name) {
             return refuse(self.rt, name, ONE_FILE);
         }
-        if let Some(why) = refusal_of(self.rt, name, first, second) {
+        if let Some(why) = refusal_of(self.rt, name, inputs) {
             return refuse(self.rt, name, why);
         }
         if self.names.push(name).is_err() {
             return refuse(self.rt, name, "out of memory");
         }
         match place_of(self.rt, name) {
-            Ok(Some(place)) => self.create_new(place, first, second),
+            Ok(Some(place)) => self.create_new(place, inputs),
             Ok(None) => opened(self.rt, name, File::create(self.rt, name)),
             Err(fault) => refuse(self.rt, name, fault),
         }
     }
 
-    /// Makes a file for what is to have this name.
-    fn create_new(
+    /// Makes one more file with a buffer before it, if a name says that it is wanted. An Err is
+    /// the exit status where it is not made; standard error says why.
+    pub fn create_wanted(
         &mut self,
-        own_name: String,
-        first: &Input<'_>,
-        second: &Input<'_>,
-    ) -> Option<File>
+        name: Option<&'a str>,
+        inputs: &[&Input<'_>],
+    ) -> Result<Option<BufWriter<File>>, u8>
+        ensures err { IfErr result (λ status. status ≡ NOT_RUN) }
+        ensures same { IfSome name.entry (λ name. is_among name.now self.old ≡ true
+            → IsErr result) }
+        ensures dash { IfSome name.entry (λ name. name.now ≡ codes "-" → IsErr result) }
+        ensures named { IfSome name.entry (λ name. is_read name.now inputs.now ≡ true
+            → IsErr result) }
+        ensures wanted { IfOk result (λ file. is_some file ≡ is_some name.entry) }
+        ensures names { IfOk result (λ file. names_of self.new
+            ≡ names_of self.old ++ option_to_list (option_map (λ name. name.now) name.entry)) }
+    {
+        let Some(name) = name else {
+            return Ok(None);
+        };
+        let file = self.create(name, inputs).ok_or(NOT_RUN)?;
+        match BufWriter::new(self.rt.alloc(), file) {
+            Ok(writer) => Ok(Some(writer)),
+            Err(fault) => {
+                let _ = eprintln!(self.rt; "{fault}");
+                Err(NOT_RUN)
+            }
+        }
+    }
+
+    /// Makes a file for what is to have this name.
+    fn create_new(&mut self, own_name: String, inputs: &[&Input<'_>]) -> Option<File>
         ensures { names_of self.new ≡ names_of self.old }
     {
         let rt = self.rt;
@@ -96,7 +123,7 @@ impl<'a> WrittenFiles<'a> {
         if self.is_written(name.as_str()) {
             return refuse(rt, own_name.as_str(), ONE_FILE);
         }
-        if let Some(why) = refusal_of(rt, name.as_str(), first, second) {
+        if let Some(why) = refusal_of(rt, name.as_str(), inputs) {
             return refuse(rt, name.as_str(), why);
         }
         let file = opened(
@@ -261,22 +288,14 @@ fn opened(rt: &HostRuntime, name: &str, file: io::Result<File>) -> Option<File> 
 
 /// Why a name may not be written: it is `-`, one of the inputs has it, or where the system tells
 /// it, it leads to the regular file of an input, of standard output or of standard error.
-fn refusal_of(
-    rt: &HostRuntime,
-    name: &str,
-    first: &Input<'_>,
-    second: &Input<'_>,
-) -> Option<&'static str>
+fn refusal_of(rt: &HostRuntime, name: &str, inputs: &[&Input<'_>]) -> Option<&'static str>
     ensures dash { name.now ≡ codes "-" → IsSome result }
-    ensures named { (name.now ≡ first.now.name.now) ⊎ (name.now ≡ second.now.name.now)
-        → IsSome result }
+    ensures named { is_read name.now inputs.now ≡ true → IsSome result }
 {
     let there = fs::metadata(rt, name);
-    let is_read = is_one_file(&there, &first.file.metadata(rt))
-        || is_one_file(&there, &second.file.metadata(rt));
     if name == STANDARD_INPUT {
         Some("- stands for standard input, and nothing is written to that")
-    } else if name == first.name || name == second.name || is_read {
+    } else if is_read(rt, name, &there, inputs) {
         Some("the output is a file that is read")
     } else if is_one_file(&there, &fs::metadata(rt, "/proc/self/fd/1")) {
         Some("the output is the file of standard output")
@@ -285,4 +304,21 @@ fn refusal_of(
     } else {
         None
     }
+}
+
+/// Whether one of the inputs has a name, or is the regular file that the name leads to.
+fn is_read(
+    rt: &HostRuntime,
+    name: &str,
+    there: &io::Result<Metadata>,
+    inputs: &[&Input<'_>],
+) -> bool
+    ensures { is_read name.now inputs.now ≡ true → result ≡ true }
+{
+    for input in inputs {
+        if input.name == name || is_one_file(there, &input.file.metadata(rt)) {
+            return true;
+        }
+    }
+    false
 }

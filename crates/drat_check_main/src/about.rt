@@ -1,15 +1,12 @@
 //! What the program says of itself.
-use command::{About, Entry, QUIET, STATS, VERBOSE};
+use command::{About, CNF, EXAMPLE, Entry, QUIET, RUST_LOG, STATS, VERBOSE};
 
 /// What `--help` says.
 pub const ABOUT: About<'static> = About {
     call: "drat_check CNF PROOF [--drat] [--frat] [--lpr] [--lrat FILE] [--binary] [--trim FILE] [--core FILE] [--holds FILE] [--stats] [--quiet] [--verbose]",
     does: "Checks a DRAT, DPR, FRAT or LPR proof, text or binary, against a formula, and says in one line what it shows.",
     operands: &[
-        Entry {
-            name: "CNF",
-            text: "the formula, DIMACS text; - stands for standard input",
-        },
+        CNF,
         Entry {
             name: "PROOF",
             text: "the proof, DRAT, DPR or FRAT, text or binary, or LPR text; - stands for standard input",
@@ -51,17 +48,11 @@ pub const ABOUT: About<'static> = About {
         STATS,
         QUIET,
         VERBOSE,
-        Entry {
-            name: "--example",
-            text: "checks a small fixed example, in place of files",
-        },
+        EXAMPLE,
     ],
     verified: "s VERIFIED UNSAT: no assignment satisfies the formula",
     open: "s NOT VERIFIED: the proof ends before it shows that",
-    environment: &[Entry {
-        name: "RUST_LOG",
-        text: "what is logged to standard error, as info; without it nothing is",
-    }],
+    environment: &[RUST_LOG],
     examples: &[
         Entry {
             name: "drat_check formula.cnf proof.drat",

@@ -1,15 +1,12 @@
 //! What the program says of itself.
-use command::{About, Entry, QUIET, VERBOSE};
+use command::{About, CNF, Entry, QUIET, RUST_LOG, VERBOSE};
 
 /// What `--help` says.
 pub const ABOUT: About<'static> = About {
     call: "drat_cut CNF PROOF PREFIX [--drat] [--lemmas N] [--live N] [--quiet] [--verbose]",
     does: "Cuts a DRAT or DPR proof into pieces where few clauses live, while it is read. It judges nothing.",
     operands: &[
-        Entry {
-            name: "CNF",
-            text: "the formula, DIMACS text; - stands for standard input",
-        },
+        CNF,
         Entry {
             name: "PROOF",
             text: "the proof, DRAT or DPR, text or binary; - stands for standard input",
@@ -37,10 +34,7 @@ pub const ABOUT: About<'static> = About {
     ],
     verified: "the pieces are written, and propagation behind the last one leads to a conflict",
     open: "the pieces are written, and the proof ends without a conflict",
-    environment: &[Entry {
-        name: "RUST_LOG",
-        text: "what is logged to standard error, as info; without it nothing is",
-    }],
+    environment: &[RUST_LOG],
     examples: &[
         Entry {
             name: "drat_cut formula.cnf proof.drat piece.",

@@ -1,6 +1,7 @@
 //! A proof is read, and its pieces are written.
 use crate::fault::CutFailure;
 use crate::files::{PieceFiles, finish};
+use crate::piece::{Limits, Piece};
 use command::WrittenFiles;
 use drat_cut::{Additions, Cutter, Taken};
 use drat_text::{DratReader, DratStep};
@@ -8,66 +9,6 @@ use log::Log;
 use sat_formula::DimacsReader;
 use std::alloc::Global;
 use std::io::{Read, Write};
-
-/// Where pieces may end.
-#[derive(Clone, Copy)]
-pub struct Limits {
-    /// With this many lemmas at least.
-    pub lemmas: u64,
-    /// Where at most this many clauses live. None: twice as many as the piece has lemmas.
-    pub live: Option<u64>,
-}
-
-/// How a piece goes.
-#[derive(Clone, Copy)]
-struct Piece {
-    limits: Limits,
-    /// How many it has.
-    lemmas: u64,
-    /// At most this many clauses lived in it.
-    most: u64,
-    /// The last step was a deletion.
-    deleted: bool,
-}
-
-impl Piece {
-    /// It begins where this many clauses live.
-    fn new(limits: Limits, live: usize) -> Piece {
-        Piece {
-            limits,
-            lemmas: 0,
-            most: live as u64,
-            deleted: false,
-        }
-    }
-
-    /// Whether the proof is cut before the next step. Where deletions have just ended, a fifth of
-    /// what lived at the most is gone, or the piece has become long; and few clauses live, so that
-    /// those that are written stay few beside the proof.
-    fn is_done(&self, live: usize, deletes_next: bool) -> bool {
-        let least = self.limits.lemmas;
-        if !self.deleted || deletes_next || self.lemmas < least {
-            return false;
-        }
-        let live = live as u64;
-        let is_low = live / 4 < self.most / 5;
-        let is_long = self.lemmas / 3 >= least;
-        (is_low || is_long) && live <= self.limits.live.unwrap_or(self.lemmas.saturating_mul(2))
-    }
-
-    /// A step is taken, and this many clauses live.
-    fn take(&mut self, taken: Taken, live: usize) {
-        match taken {
-            Taken::Nothing => return,
-            Taken::Deletion => self.deleted = true,
-            Taken::Lemma => {
-                self.deleted = false;
-                self.lemmas = self.lemmas.saturating_add(1);
-            }
-        }
-        self.most = self.most.max(live as u64);
-    }
-}
 
 /// Cuts a proof. The answer is whether it comes to a conflict. In `told` stands how far it is.
 pub fn cut<F: Read + Drop, P: Read + Drop, L: Log>(

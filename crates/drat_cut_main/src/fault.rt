@@ -1,4 +1,5 @@
 //! Why the pieces are not whole.
+use command::FaultPlace;
 use drat_cut::CutFault;
 use drat_text::DratFault;
 use sat_formula::DimacsFault;
@@ -15,6 +16,19 @@ pub enum CutFailure {
     Write(io::Error),
     /// A file can't be opened, and standard error has said so.
     Unopened,
+}
+
+impl CutFailure {
+    /// In which file it is.
+    pub fn place(&self) -> FaultPlace<'static> {
+        match self {
+            CutFailure::Formula(_) => FaultPlace::Formula,
+            CutFailure::Proof(_) => FaultPlace::DratProof,
+            CutFailure::Cut(_) | CutFailure::Write(_) | CutFailure::Unopened => {
+                FaultPlace::Elsewhere
+            }
+        }
+    }
 }
 
 impl Display for CutFailure {

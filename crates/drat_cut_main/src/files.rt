@@ -45,7 +45,7 @@ impl<'a> PieceFiles<'a> {
         files: &mut WrittenFiles<'b>,
         name: &'b str,
     ) -> Result<BufWriter<File>, CutFailure> {
-        match files.create(name, &self.cnf, &self.proof) {
+        match files.create(name, &[&self.cnf, &self.proof]) {
             Some(file) => Ok(BufWriter::new(self.rt.alloc(), file)?),
             None => Err(CutFailure::Unopened),
         }

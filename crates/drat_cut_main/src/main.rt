@@ -11,109 +11,60 @@ mod about;
 mod cutting;
 mod fault;
 mod files;
+mod piece;
 
 use crate::about::ABOUT;
-use crate::cutting::{Limits, cut};
+use crate::cutting::cut;
 use crate::fault::CutFailure;
 use crate::files::PieceFiles;
+use crate::piece::Limits;
 use command::{
-    Call, FAILED, NOT_RUN, misused, open_inputs, say_drat_proof, say_formula, start, unnamed,
+    Call, FAILED, InputNames, NOT_RUN, misused, open_inputs, progress_of, run_program, say_fault,
+    unnamed,
 };
 use drat_cut::Additions;
-use progress::{Progress, ToldBytes};
 use std::process::ExitCode;
 
 fn main(rt: HostRuntime) -> ExitCode {
-    ExitCode::from(status_of_call(&rt))
+    run_program(&rt, &ABOUT, |call| run(&rt, call))
 }
 
-fn status_of_call(rt: &HostRuntime) -> u8 {
-    match start(rt, &ABOUT) {
-        Ok(call) => run(rt, &call),
-        Err(status) => status,
-    }
-}
-
-fn run(rt: &HostRuntime, call: &Call<'_>) -> u8 {
-    let Some(limits) = limits_of(call) else {
-        return misused(rt, &ABOUT, "--lemmas and --live take a number from 1 on");
+fn run(rt: &HostRuntime, call: &Call<'_>) -> Result<u8, u8> {
+    let Some(limits) = Limits::of_call(call) else {
+        return Err(misused(rt, &ABOUT, "--lemmas and --live take a number from 1 on"));
     };
     match call.operands.as_slice() {
-        [cnf, proof, prefix] => cut_files(
-            rt,
-            cnf.as_str(),
-            proof.as_str(),
-            prefix.as_str(),
-            limits,
-            call,
-        ),
-        operands => unnamed(rt, &ABOUT, operands.len()),
+        [cnf, proof, prefix] => {
+            let (cnf, other) = (cnf.as_str(), proof.as_str());
+            cut_files(rt, InputNames { cnf, other }, prefix.as_str(), limits, call)
+        }
+        operands => Err(unnamed(rt, &ABOUT, operands.len())),
     }
-}
-
-/// Where pieces may end. None: a number is none from 1 on.
-fn limits_of(call: &Call<'_>) -> Option<Limits> {
-    let lemmas = match call.value("--lemmas") {
-        None => 20_000,
-        Some(word) => number_of(word)?,
-    };
-    let live = match call.value("--live") {
-        None => None,
-        Some(word) => Some(number_of(word)?),
-    };
-    Some(Limits { lemmas, live })
-}
-
-fn number_of(word: &str) -> Option<u64> {
-    word.parse::<u64>().ok().filter(|number| *number > 0)
 }
 
 fn cut_files(
     rt: &HostRuntime,
-    cnf_name: &str,
-    proof_name: &str,
+    names: InputNames<'_>,
     prefix: &str,
     limits: Limits,
     call: &Call<'_>,
-) -> u8 {
-    let Some((cnf, proof)) = open_inputs(rt, cnf_name, proof_name) else {
-        return NOT_RUN;
-    };
-    let (is_quiet, is_verbose) = (call.has("--quiet"), call.has("--verbose"));
-    let progress = Progress::of_call(rt, "drat_cut", is_quiet, is_verbose);
-    let files = PieceFiles::new(rt, prefix, cnf_name, proof_name);
-    let length = proof.length(rt);
-    let proof = ToldBytes::new(&progress, proof.file, length);
+) -> Result<u8, u8> {
+    let (cnf, proof) = open_inputs(rt, names.cnf, names.other).ok_or(NOT_RUN)?;
     let additions = if call.has("--drat") {
         Additions::Drat
     } else {
         Additions::Dpr
     };
-    match cut(
-        &progress,
-        rt.alloc(),
-        cnf.file,
-        proof,
-        additions,
-        limits,
-        &files,
-    ) {
-        Ok(true) => 0,
-        Ok(false) => 3,
-        Err(fault) => say_failure(rt, cnf_name, proof_name, fault),
+    let files = PieceFiles::new(rt, prefix, names.cnf, names.other);
+    let told = &progress_of(rt, &ABOUT, call);
+    let proof = proof.told(rt, told);
+    match cut(told, rt.alloc(), cnf.file, proof, additions, limits, &files) {
+        Ok(true) => Ok(0),
+        Ok(false) => Ok(3),
+        Err(CutFailure::Unopened) => Err(NOT_RUN),
+        Err(fault) => {
+            say_fault(rt, names, &fault, fault.place());
+            Err(FAILED)
+        }
     }
-}
-
-/// Says why the pieces are not whole, and gives the exit status.
-fn say_failure(rt: &HostRuntime, cnf_name: &str, proof_name: &str, fault: CutFailure) -> u8 {
-    if let CutFailure::Unopened = fault {
-        return NOT_RUN;
-    }
-    let _ = eprintln!(rt; "{fault}");
-    match fault {
-        CutFailure::Formula(_) => say_formula(rt, cnf_name, proof_name),
-        CutFailure::Proof(_) => say_drat_proof(rt, proof_name),
-        CutFailure::Cut(_) | CutFailure::Write(_) | CutFailure::Unopened => {}
-    }
-    FAILED
 }

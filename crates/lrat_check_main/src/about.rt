@@ -1,25 +1,19 @@
 //! What the program says of itself.
-use command::{About, Entry, QUIET, STATS, VERBOSE};
+use command::{About, CNF, EXAMPLE, Entry, IDS, QUIET, RUST_LOG, STATS, VERBOSE};
 
 /// What `--help` says.
 pub const ABOUT: About<'static> = About {
     call: "lrat_check CNF LRAT [--ids WAY] [--holds FILE] [--stats] [--quiet] [--verbose]",
     does: "Checks an LRAT proof against a formula, and says in one line what it shows.",
     operands: &[
-        Entry {
-            name: "CNF",
-            text: "the formula, DIMACS text; - stands for standard input",
-        },
+        CNF,
         Entry {
             name: "LRAT",
             text: "the proof, LRAT, text or binary; - stands for standard input",
         },
     ],
     options: &[
-        Entry {
-            name: "--ids WAY",
-            text: "how ids stand in a binary proof: plain or doubled; else its first bytes tell it",
-        },
+        IDS,
         Entry {
             name: "--holds FILE",
             text: "the proof is a piece of one, which need not come to the empty clause: the clauses of this formula have to be stored behind it, and the line is then s VERIFIED PIECE",
@@ -27,17 +21,11 @@ pub const ABOUT: About<'static> = About {
         STATS,
         QUIET,
         VERBOSE,
-        Entry {
-            name: "--example",
-            text: "checks a small fixed example, in place of files",
-        },
+        EXAMPLE,
     ],
     verified: "s VERIFIED UNSAT: no assignment satisfies the formula",
     open: "s NOT VERIFIED: the proof ends before it shows that",
-    environment: &[Entry {
-        name: "RUST_LOG",
-        text: "what is logged to standard error, as info; without it nothing is",
-    }],
+    environment: &[RUST_LOG],
     examples: &[
         Entry {
             name: "lrat_check formula.cnf proof.lrat",

@@ -1,15 +1,12 @@
 //! What the program says of itself.
-use command::{About, Entry};
+use command::{About, CNF, Entry, IDS};
 
 /// What `--help` says.
 pub const ABOUT: About<'static> = About {
     call: "lrat_to_proof CNF LRAT PROOF [--ids WAY] [--width N]",
     does: "Writes an LRAT proof of a formula as proof bytes, which varisat_check takes. It judges nothing.",
     operands: &[
-        Entry {
-            name: "CNF",
-            text: "the formula, DIMACS text; - stands for standard input",
-        },
+        CNF,
         Entry {
             name: "LRAT",
             text: "the proof, LRAT, text or binary, without RAT steps; - stands for standard input",
@@ -20,10 +17,7 @@ pub const ABOUT: About<'static> = About {
         },
     ],
     options: &[
-        Entry {
-            name: "--ids WAY",
-            text: "how ids stand in a binary proof: plain or doubled; else its first bytes tell it",
-        },
+        IDS,
         Entry {
             name: "--width N",
             text: "gives each hash N bits, from 1 to 64; without it they have 64",

@@ -6,15 +6,12 @@
 #![tactic(auto)]
 
 mod about;
+mod files;
 
 use crate::about::ABOUT;
-use answer_text::AnswerFault;
-use command::{
-    Call, NOT_RUN, hold_input, open_inputs, say_answer, say_formula, say_unread, start, unnamed,
-    warn_of_header,
-};
-use model_check::{RunFault, Verdict, exit_status, run_check};
-use sat_formula::DimacsFault;
+use crate::files::check_files;
+use command::{Call, input_names, run_program, say_cause};
+use model_check::{exit_status, run_check};
 use std::io;
 use std::process::ExitCode;
 
@@ -25,81 +22,19 @@ const EXAMPLE_FORMULA: &[u8] = b"p cnf 3 3\n1 2 0\n-1 3 0\n-2 -3 0\n";
 const EXAMPLE_ANSWER: &[u8] = b"s SATISFIABLE\nv 1 -2 3 0\n";
 
 fn main(rt: HostRuntime) -> ExitCode {
-    ExitCode::from(status_of_call(&rt))
+    run_program(&rt, &ABOUT, |call| run(&rt, call))
 }
 
-fn status_of_call(rt: &HostRuntime) -> u8 {
-    match start(rt, &ABOUT) {
-        Ok(call) => run(rt, &call),
-        Err(status) => status,
-    }
-}
-
-fn run(rt: &HostRuntime, call: &Call<'_>) -> u8 {
+fn run(rt: &HostRuntime, call: &Call<'_>) -> Result<u8, u8> {
     if call.has("--example") {
-        return check_example(rt);
+        return Ok(check_example(rt));
     }
-    match call.operands.as_slice() {
-        [cnf, answer] => check_files(rt, cnf.as_str(), answer.as_str()),
-        operands => unnamed(rt, &ABOUT, operands.len()),
-    }
-}
-
-/// Both files are opened before anything is read, and each is read whole.
-fn check_files(rt: &HostRuntime, cnf_name: &str, answer_name: &str) -> u8 {
-    let Some((cnf, answer)) = open_inputs(rt, cnf_name, answer_name) else {
-        return NOT_RUN;
-    };
-    let answer = match hold_input(rt, answer) {
-        Ok(held) => held,
-        Err(fault) => {
-            let status = report(rt, &Err(RunFault::Answer(AnswerFault::of_error(fault))));
-            say_answer(rt, answer_name);
-            return status;
-        }
-    };
-    let cnf = match hold_input(rt, cnf) {
-        Ok(held) => held,
-        Err(fault) => {
-            let fault = RunFault::Formula(DimacsFault::of_error(fault));
-            return say_unread(rt, cnf_name, answer_name, fault);
-        }
-    };
-    let mut lie = None;
-    let outcome = run_check(rt.alloc(), cnf, answer, &mut io::writer(rt), &mut lie);
-    let status = report(rt, &outcome);
-    match outcome {
-        Err(RunFault::Answer(_)) => say_answer(rt, answer_name),
-        Err(RunFault::Formula(_) | RunFault::Cut(_)) => say_formula(rt, cnf_name, answer_name),
-        Ok(Verdict::NotVerified { clause, line }) => {
-            say_unmet(rt, clause, line);
-            warn_of_header(rt, cnf_name, &lie);
-        }
-        Err(RunFault::Write(_)) | Ok(Verdict::Verified) => warn_of_header(rt, cnf_name, &lie),
-    }
-    status
+    check_files(rt, input_names(rt, &ABOUT, call)?)
 }
 
 fn check_example(rt: &HostRuntime) -> u8 {
-    let outcome = run_check(
-        rt.alloc(),
-        EXAMPLE_FORMULA,
-        EXAMPLE_ANSWER,
-        &mut io::writer(rt),
-        &mut None,
-    );
-    report(rt, &outcome)
-}
-
-/// Says which clause has no literal of the answer, and on which line it ends.
-fn say_unmet(rt: &HostRuntime, clause: u64, line: u64) {
-    let _ = eprintln!(rt; "formula: line {line}: clause {clause} has no literal of the answer");
-}
-
-/// Says why there is no verdict, and gives the exit status.
-fn report(rt: &HostRuntime, outcome: &Result<Verdict, RunFault>) -> u8 {
-    if let Err(fault) = outcome {
-        let _ = eprintln!(rt; "{fault}");
-    }
-    exit_status(outcome)
+    let (cnf, answer) = (EXAMPLE_FORMULA, EXAMPLE_ANSWER);
+    let outcome = run_check(rt.alloc(), cnf, answer, &mut io::writer(rt), &mut None);
+    say_cause(rt, &outcome);
+    exit_status(&outcome)
 }

@@ -1,5 +1,5 @@
 //! What the program says of itself.
-use command::{About, Entry, QUIET, VERBOSE};
+use command::{About, CNF, Entry, QUIET, RUST_LOG, VERBOSE};
 
 /// What `--help` says.
 pub const ABOUT: About<'static> = About {
@@ -7,10 +7,7 @@ pub const ABOUT: About<'static> = About {
     does: "Checks a proof in this project's bytes against a formula, and says in one line what it shows. \
         Without arguments it checks a small fixed example.",
     operands: &[
-        Entry {
-            name: "CNF",
-            text: "the formula, DIMACS text; - stands for standard input",
-        },
+        CNF,
         Entry {
             name: "PROOF",
             text: "the proof, in bytes; - stands for standard input",
@@ -24,10 +21,7 @@ pub const ABOUT: About<'static> = About {
     verified: "s UNSATISFIABLE: no assignment satisfies the formula",
     open: "s NOT SHOWN: the proof ends before it shows that. s UNSATISFIABLE WITH n ADDED CLAUSES: \
         it shows that of the formula and n clauses that it adds",
-    environment: &[Entry {
-        name: "RUST_LOG",
-        text: "what is logged to standard error, as info; without it nothing is",
-    }],
+    environment: &[RUST_LOG],
     examples: &[
         Entry {
             name: "varisat_check formula.cnf proof.bytes",
