@@ -22,12 +22,13 @@ use Rattle.sat_output.specs.declared.form.LineForm.TheVariants.{Text, Binary}
 use Rattle.sat_output.proofs.Beginnings.{begins_nothing, begins_past}
 use Rattle.verdicts.specs.declared.piece.PieceVerdict.{PieceVerdict}
 use Rattle.verdicts.specs.declared.piece.PieceVerdict.TheVariants.{Carried}
+use Rattle.piece_runs.specs.Texts.{CarriesText, IsPieceShown, OfFormula, OfFormulas}
+use Rattle.piece_runs.proofs.Reading.{carries_text, of_formulas}
 use Rattle.drat_check.specs.declared.fault.RunFault.TheVariants.{Formula, Proof, Lrat, Trim, Core, Write}
 use Rattle.drat_check.specs.declared.piece_fault.PieceFault.{PieceFault}
 use Rattle.drat_check.specs.declared.piece_fault.PieceFault.TheVariants.{Run, Wanted, Lost}
 use Rattle.drat_check.specs.Outputs.{BeganLines, HasWritten}
-use Rattle.drat_check.specs.Pieces.{CarriesText, IsEarlyPiece, IsPieceRun, IsPieceShown, IsReadPieceRun, OfFormulas, TellsPieceLies, WritesEarly, WritesPiece, WritesRead, WritesShown, WrotePiece, LeftPiece}
-use Rattle.drat_check.specs.Runs.{OfFormula}
+use Rattle.drat_check.specs.Pieces.{IsEarlyPiece, IsPieceRun, IsReadPieceRun, TellsPieceLies, WritesEarly, WritesPiece, WritesRead, WritesShown, WrotePiece, LeftPiece}
 use Rattle.drat_check.proofs.WrittenLines.{last_of, lines_in-more}
 
 abbrev Known : Type 0
@@ -138,7 +139,7 @@ module _ (form : LineForm) (formula wanted : List (List ℕ)) (lrat lrat' old ne
 module _ (cnf holds : Known) (formula wanted : List (List ℕ)) (whole : IsOutcome (option_map dimacs.outcome_of cnf) (formula, Ended))
     (wanted_whole : IsOutcome (option_map dimacs.outcome_of holds) (wanted, Ended)) where
   both : (P : List (List ℕ) → List (List ℕ) → Type 0) → P formula wanted → OfFormulas cnf holds P
-  both P p = record { formula = formula; whole = whole; holds = record { formula = wanted; whole = wanted_whole; holds = p } }
+  both = of_formulas cnf holds formula wanted whole wanted_whole
 
   first : OfFormula cnf (λ formula. Unit {0})
   first = record { formula = formula; whole = whole; holds = tt }
@@ -167,11 +168,7 @@ module _ (cnf holds : Known) (formula wanted : List (List ℕ)) (whole : IsOutco
   read_lines form lrat lrat' old new (Err Lost) p = both (λ formula wanted. BeganLines form formula lrat lrat' None None) p
 
   pub read_carries : (text other : List ℕ) → cnf ≡ Some text → holds ≡ Some other → IsReadPieceRun formula wanted (Ok Carried) → CarriesText text other
-  read_carries text other is is' p = (
-    formula,
-    subst (λ (k : Known). IsOutcome (option_map dimacs.outcome_of k) (formula, Ended)) is whole,
-    (wanted, subst (λ (k : Known). IsOutcome (option_map dimacs.outcome_of k) (wanted, Ended)) is' wanted_whole, p),
-  )
+  read_carries text other is is' p = carries_text cnf holds formula wanted whole wanted_whole text other is is' p
 
 -- what is told of both headers, once both formulas were read
 pub read_lies : (cnf holds : Known) (formula wanted : List (List ℕ)) (lie other : Option LyingHeader) (r : Result PieceVerdict PieceFault) →

@@ -1,9 +1,7 @@
 -- Runs over one piece of a proof, after a formula and the clauses that are wanted behind the piece.
---     IsPieceShown formula wanted verdict      a verdict that says no more than is so
---     OfFormulas cnf holds P      both texts are formulas of which this is so
 --     IsReadPieceRun, IsPieceRun      the run after two formulas, and after their texts
---     CarriesText text other      the clauses of one text carry to those of the other
 --     IsEarlyPiece r, IsSilentPiece r      no fault of a formula or of the verdict's line;  no line of a verdict was begun
+--     GoesOn      a call writes more lines that a checker has accepted
 --     WrotePiece      lines were written after which the wanted clauses are stored
 --     WritesShown, WritesEarly, WritesRead, WritesPiece      the lines that a run wrote: by its verdict, before its line, after two formulas, and after their texts
 --     TellsPieceLies      what is told of both headers
@@ -13,10 +11,10 @@ use Rattle.std.specs.Io.KnownBytes.{Appends}
 use Rattle.sat_rules.specs.Named.{Item, NamedBy}
 use Rattle.lrat_rules.specs.Lines.{Line, run}
 use Rattle.lrat_rules.specs.Stores.{find, formula_store}
-use Rattle.piece_rules.specs.Carrying.{Carries}
+use Rattle.lrat_checker.specs.declared.checker.LratChecker.{LratChecker}
+use Rattle.piece_runs.specs.Texts.{IsPieceShown, OfFormula, OfFormulas}
 use Rattle.sat_formula.specs.declared.counts.LyingHeader.{LyingHeader}
 use Rattle.sat_formula.specs.Lines as dimacs
-use Rattle.sat_formula.specs.Outcome.{Ended}
 use Rattle.sat_formula.specs.Whole.{FailsAfter}
 use Rattle.sat_output.specs.LineForms.{lines_in}
 use Rattle.sat_output.specs.declared.form.LineForm.{LineForm}
@@ -28,19 +26,8 @@ use Rattle.verdicts.specs.declared.piece.PieceVerdict.TheVariants.{Refuted, Carr
 use Rattle.drat_check.specs.declared.fault.RunFault.TheVariants.{Formula, Proof, Lrat, Trim, Core, Write}
 use Rattle.drat_check.specs.declared.piece_fault.PieceFault.{PieceFault}
 use Rattle.drat_check.specs.declared.piece_fault.PieceFault.TheVariants.{Run, Wanted, Lost}
-use Rattle.drat_check.specs.Outputs.{BeganLines, WroteProof}
-use Rattle.drat_check.specs.Runs.{IsCheckRun, IsEarly, IsProofRun, IsSilent, IsUnsatisfiable, OfFormula}
-
--- where it is refuted, no assignment satisfies the formula; where it is carried, some one satisfies the wanted clauses, if one does the formula
-abbrev pub IsPieceShown : List (List ℕ) → List (List ℕ) → PieceVerdict → Type 0
-IsPieceShown formula wanted Refuted = IsUnsatisfiable formula
-IsPieceShown formula wanted Carried = Carries formula wanted
-IsPieceShown formula wanted NotCarried = Unit {0}
-
--- both whole texts are formulas of which this is so
-abbrev pub OfFormulas : Option (List ℕ) → Option (List ℕ)
-    → (List (List ℕ) → List (List ℕ) → Type 0) → Type 0
-OfFormulas cnf holds P = OfFormula cnf (λ formula. OfFormula holds (P formula))
+use Rattle.drat_check.specs.Outputs.{BeganLines, HasWritten, WroteProof}
+use Rattle.drat_check.specs.Runs.{IsCheckRun, IsEarly, IsProofRun, IsSilent}
 
 -- the verdict says no more than is so; the formulas were there
 abbrev pub IsReadPieceRun : List (List ℕ) → List (List ℕ) → Result PieceVerdict PieceFault → Type 0
@@ -57,12 +44,6 @@ IsPieceRun cnf holds (Err (Wanted fault)) = OfFormula cnf (λ formula. (clauses 
     × FailsAfter (option_map dimacs.outcome_of holds) clauses fault)
 IsPieceRun cnf holds (Err Lost) = OfFormulas cnf holds (λ formula wanted. Unit {0})
 
--- both texts have no fault, and the clauses of the first carry to those of the second
-abbrev pub CarriesText : List ℕ → List ℕ → Type 0
-CarriesText text other = (clauses : List (List ℕ)) × (dimacs.outcome_of text ≡ (clauses, Ended))
-    × ((wanted : List (List ℕ)) × (dimacs.outcome_of other ≡ (wanted, Ended))
-    × Carries clauses wanted)
-
 -- no fault but one that comes before the verdict's line and after the formulas
 abbrev pub IsEarlyPiece : {A : Type 0} → Result A PieceFault → Type 0
 IsEarlyPiece (Ok x) = Unit {0}
@@ -78,6 +59,16 @@ IsSilentPiece (Err (Wanted fault)) = Unit {0}
 IsSilentPiece (Err Lost) = Unit {0}
 
 -- ---- the lines that are written
+
+-- where lines that a checker has accepted stand written before a call, they do after it, with those that it added; after a fault a beginning of accepted lines does
+abbrev pub GoesOn : {A : Type 0} → LineForm → Option (List ℕ) → Option (List ℕ) →
+    LratChecker → LratChecker → Result A PieceFault → Type 0
+GoesOn form lrat lrat' checker next (Ok x) = (formula : List (List ℕ)) (before : Option (List ℕ))
+    → HasWritten form formula before lrat None None checker
+    → HasWritten form formula before lrat' None None next
+GoesOn form lrat lrat' checker next (Err fault) = (formula : List (List ℕ)) (before : Option (List ℕ))
+    → HasWritten form formula before lrat None None checker
+    → BeganLines form formula before lrat' None None
 
 -- lines that the checker's rules accept were written, and after them each wanted clause is stored under an id
 pub record WrotePiece (form : LineForm) (formula wanted : List (List ℕ)) (lrat lrat' : Option (List ℕ)) : Type 0 where

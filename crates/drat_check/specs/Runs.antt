@@ -1,26 +1,20 @@
 -- Runs of a DRAT or FRAT proof after a formula.
---     IsUnsatisfiable formula      no assignment satisfies the formula
 --     IsShown formula verdict      a verdict that says no more than is so
 --     IsProofRun, IsCheckRun      the run of a proof after a formula, and after a formula's text
 --     IsEarly r, IsSilent r      the verdict's line did not fail;  no line of a verdict was begun
---     OfFormula cnf P, HasNoFormula r      the whole text is a formula of which this is so;  it is none
+--     HasNoFormula r      the text was not read whole as a formula
 --     RunTellsLie cnf r told      this is told of the formula's header
-use Rattle.std.specs.Prelude.{◌≡◌, ℕ, Bool, false, List, Option, None, Result, Ok, Err}
+use Rattle.std.specs.Prelude.{◌≡◌, ℕ, List, Option, None, Result, Ok, Err}
 use Rattle.std.specs.Option.{option_map}
-use Rattle.sat_rules.specs.Clauses.{all_true}
 use Rattle.sat_formula.specs.declared.counts.LyingHeader.{LyingHeader}
 use Rattle.sat_formula.specs.Lines as dimacs
-use Rattle.sat_formula.specs.Outcome.{Ended}
-use Rattle.sat_formula.specs.Whole.{FailsAfter, IsOutcome}
+use Rattle.sat_formula.specs.Whole.{FailsAfter}
 use Rattle.whole_formulas.specs.Lies.{IsLie}
+use Rattle.piece_runs.specs.Texts.{IsUnsatisfiable, OfFormula}
 use Rattle.verdicts.specs.declared.verdict.Verdict.{Verdict}
 use Rattle.verdicts.specs.declared.verdict.Verdict.TheVariants.{Verified, NotVerified}
 use Rattle.drat_check.specs.declared.fault.RunFault.{RunFault}
 use Rattle.drat_check.specs.declared.fault.RunFault.TheVariants.{Formula, Proof, Lrat, Trim, Core, Write}
-
--- no assignment satisfies the formula
-abbrev pub IsUnsatisfiable : List (List ℕ) → Type 0
-IsUnsatisfiable formula = (a : ℕ → Bool) → all_true a formula ≡ false
 
 -- where it is verified, no assignment satisfies the formula
 abbrev pub IsShown : List (List ℕ) → Verdict → Type 0
@@ -36,12 +30,6 @@ IsProofRun formula (Err (Lrat cause)) = Unit {0}
 IsProofRun formula (Err (Trim cause)) = Unit {0}
 IsProofRun formula (Err (Core cause)) = Unit {0}
 IsProofRun formula (Err (Write cause)) = Unit {0}
-
--- the whole text is this formula, of which this is so
-pub record OfFormula (cnf : Option (List ℕ)) (P : List (List ℕ) → Type 0) : Type 0 where
-  pub formula : List (List ℕ)
-  pub whole : IsOutcome (option_map dimacs.outcome_of cnf) (formula, Ended)
-  pub holds : P formula
 
 -- the run over both texts: a formula that was not read whole is answered, and else the proof's run
 abbrev pub IsCheckRun : Option (List ℕ) → Result Verdict RunFault → Type 0

@@ -4,7 +4,8 @@ ghost use Rattle.std.specs.Io.KnownBytes.{Appends};
 ghost use Rattle.sat_rules.specs.Clauses.{all_true};
 ghost use Rattle.sat_formula.specs.Refuted.{IsRefuted};
 ghost use Rattle.drat_check.specs.Outputs.{WritesBefore, WritesOutputs};
-ghost use Rattle.drat_check.specs.Runs.{HasNoFormula, IsCheckRun, IsEarly, IsProofRun, IsSilent, OfFormula, RunTellsLie};
+ghost use Rattle.drat_check.specs.Runs.{HasNoFormula, IsCheckRun, IsEarly, IsProofRun, IsSilent, RunTellsLie};
+ghost use Rattle.piece_runs.specs.Texts.{OfFormula};
 ghost use Rattle.verdicts.specs.Verdicts.{shown_line};
 ghost use Rattle.verdicts.specs.declared.verdict.Verdict.TheVariants.{Verified};
 

@@ -1,7 +1,6 @@
 //! The ids under which the clauses are stored that are wanted behind a piece of a proof.
-ghost use Rattle.std.specs.Prelude.{ℕ, List, Option, None, OnErr, OnOk};
-ghost use Rattle.drat_check.specs.Outputs.{BeganLines, HasWritten, bytes_in};
-ghost use Rattle.drat_check.specs.Pieces.{IsEarlyPiece};
+ghost use Rattle.drat_check.specs.Outputs.{bytes_in};
+ghost use Rattle.drat_check.specs.Pieces.{GoesOn, IsEarlyPiece};
 
 use crate::counts::{RunCounts, count_line};
 use crate::fault::{ProofFault, RunFault};
@@ -28,13 +27,8 @@ pub(crate) fn stored_ids<L: Write>(
     form: LineForm,
     counts: &Cell<RunCounts>,
 ) -> Result<Vec<u64>, PieceFault>
-    ensures whole { (formula : List (List ℕ)) (before : Option (List ℕ))
-        → HasWritten form formula before (bytes_in L.contents lrat.old) None None checker.old
-        → OnOk result
-        (HasWritten form formula before (bytes_in L.contents lrat.new) None None checker.new) }
-    ensures beginning { (formula : List (List ℕ)) (before : Option (List ℕ))
-        → HasWritten form formula before (bytes_in L.contents lrat.old) None None checker.old
-        → OnErr result (BeganLines form formula before (bytes_in L.contents lrat.new) None None) }
+    ensures written { GoesOn form (bytes_in L.contents lrat.old) (bytes_in L.contents lrat.new)
+        checker.old checker.new result }
     ensures early { IsEarlyPiece result }
 {
     let mut ids = Vec::new(alloc);
@@ -68,13 +62,8 @@ fn id_as_written<L: Write>(
     form: LineForm,
     counts: &Cell<RunCounts>,
 ) -> Result<u64, PieceFault>
-    ensures whole { (formula : List (List ℕ)) (before : Option (List ℕ))
-        → HasWritten form formula before (bytes_in L.contents lrat.old) None None checker.old
-        → OnOk result
-        (HasWritten form formula before (bytes_in L.contents lrat.new) None None checker.new) }
-    ensures beginning { (formula : List (List ℕ)) (before : Option (List ℕ))
-        → HasWritten form formula before (bytes_in L.contents lrat.old) None None checker.old
-        → OnErr result (BeganLines form formula before (bytes_in L.contents lrat.new) None None) }
+    ensures written { GoesOn form (bytes_in L.contents lrat.old) (bytes_in L.contents lrat.new)
+        checker.old checker.new result }
     ensures early { IsEarlyPiece result }
 {
     if is_stored(checker, found, clause) {
@@ -105,13 +94,8 @@ fn add_copy<L: Write>(
     form: LineForm,
     counts: &Cell<RunCounts>,
 ) -> Result<(), PieceFault>
-    ensures whole { (formula : List (List ℕ)) (before : Option (List ℕ))
-        → HasWritten form formula before (bytes_in L.contents lrat.old) None None checker.old
-        → OnOk result
-        (HasWritten form formula before (bytes_in L.contents lrat.new) None None checker.new) }
-    ensures beginning { (formula : List (List ℕ)) (before : Option (List ℕ))
-        → HasWritten form formula before (bytes_in L.contents lrat.old) None None checker.old
-        → OnErr result (BeganLines form formula before (bytes_in L.contents lrat.new) None None) }
+    ensures written { GoesOn form (bytes_in L.contents lrat.old) (bytes_in L.contents lrat.new)
+        checker.old checker.new result }
     ensures early { IsEarlyPiece result }
 {
     let hints = [Hint::Along(stored)];

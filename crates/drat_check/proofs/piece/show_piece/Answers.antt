@@ -4,7 +4,7 @@ use Rattle.std.proofs.lemmas.Bool.{false_from_ne_true}
 use Rattle.sat_rules.specs.Clauses.{all_true}
 use Rattle.verdicts.specs.declared.piece.PieceVerdict.TheVariants.{Refuted, Carried}
 use Rattle.drat_check.specs.Outputs.{bytes_in}
-use Rattle.drat_check.specs.Pieces.{IsPieceShown}
+use Rattle.piece_runs.specs.Texts.{IsPieceShown}
 use Rattle.drat_check.proofs.WrittenLines.{began_after, wrote}
 use Rattle.drat_check.proofs.WrittenPieces.{began_without_steps, ended, shown_by, without_steps, wrote_piece}
 use Rattle.drat_check.proofs.piece.show_piece.Goals as goal
@@ -28,25 +28,25 @@ returns-then-refuted-clause-lines g c =
 
 pub returns-in-Err-stored_ids-clause-lines : goal.returns-in-Err-stored_ids-clause-lines
 returns-in-Err-stored_ids-clause-lines g c =
-    c.in-Err-stored_ids.ensures.beginning c.args.formula.now (bytes_in g.L.Write.contents c.args.lrat.now)
+    c.in-Err-stored_ids.ensures.written c.args.formula.now (bytes_in g.L.Write.contents c.args.lrat.now)
     (without_steps c.args.form c.args.formula.now _ _ _ c.in-Ok.checker c.in-Ok.ensures.whole)
 
 pub returns-then-not-holds-clause-lines : goal.returns-then-not-holds-clause-lines
 returns-then-not-holds-clause-lines g c =
-    let written = c.in-Ok-stored_ids.ensures.whole c.args.formula.now (bytes_in g.L.Write.contents c.args.lrat.now)
+    let written = c.in-Ok-stored_ids.ensures.written c.args.formula.now (bytes_in g.L.Write.contents c.args.lrat.now)
     (without_steps c.args.form c.args.formula.now _ _ _ c.in-Ok.checker c.in-Ok.ensures.whole) in
     began_after c.args.form c.args.formula.now _ _ _ None None None c.stored_ids.new.checker written (Keeps-refl (bytes_in g.L.Write.contents c.stored_ids.new.lrat)) tt
 
 pub returns-clause-shown : goal.returns-clause-shown
 returns-clause-shown g c =
-    let written = c.in-Ok-stored_ids.ensures.whole c.args.formula.now (bytes_in g.L.Write.contents c.args.lrat.now)
+    let written = c.in-Ok-stored_ids.ensures.written c.args.formula.now (bytes_in g.L.Write.contents c.args.lrat.now)
     (without_steps c.args.form c.args.formula.now _ _ _ c.in-Ok.checker c.in-Ok.ensures.whole) in
     shown_by (IsPieceShown c.args.formula.now c.args.wanted.now) c.end_lines-2.result Carried c.end_lines-2.ensures.verdict
     (c.holds.ensures.carries c.args.formula.now written.lines written.ready c.if-not-holds.false)
 
 pub returns-clause-lines : goal.returns-clause-lines
 returns-clause-lines g c =
-    let written = c.in-Ok-stored_ids.ensures.whole c.args.formula.now (bytes_in g.L.Write.contents c.args.lrat.now)
+    let written = c.in-Ok-stored_ids.ensures.written c.args.formula.now (bytes_in g.L.Write.contents c.args.lrat.now)
     (without_steps c.args.form c.args.formula.now _ _ _ c.in-Ok.checker c.in-Ok.ensures.whole) in
     ended c.args.form c.args.formula.now c.args.wanted.now _ _ c.end_lines-2.result Carried c.end_lines-2.ensures.verdict
     (wrote_piece c.args.form c.args.formula.now c.args.wanted.now _ _ _ c.stored_ids.new.checker written _
