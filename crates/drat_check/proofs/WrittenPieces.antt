@@ -171,14 +171,14 @@ module _ (cnf holds : Known) (formula wanted : List (List ℕ)) (whole : IsOutco
   read_carries text other is is' p = carries_text cnf holds formula wanted whole wanted_whole text other is is' p
 
 -- what is told of both headers, once both formulas were read
-pub read_lies : (cnf holds : Known) (formula wanted : List (List ℕ)) (lie other : Option LyingHeader) (r : Result PieceVerdict PieceFault) →
-    IsLie cnf lie → IsLie holds other → IsReadPieceRun formula wanted r → TellsPieceLies cnf holds r lie other
-read_lies cnf holds formula wanted lie other (Ok verdict) p q read = (p, q)
-read_lies cnf holds formula wanted lie other (Err (Run (Formula fault))) p q read = absurd read
-read_lies cnf holds formula wanted lie other (Err (Run (Proof fault))) p q read = (p, q)
-read_lies cnf holds formula wanted lie other (Err (Run (Lrat cause))) p q read = (p, q)
-read_lies cnf holds formula wanted lie other (Err (Run (Trim cause))) p q read = (p, q)
-read_lies cnf holds formula wanted lie other (Err (Run (Core cause))) p q read = (p, q)
-read_lies cnf holds formula wanted lie other (Err (Run (Write cause))) p q read = (p, q)
-read_lies cnf holds formula wanted lie other (Err (Wanted fault)) p q read = absurd read
-read_lies cnf holds formula wanted lie other (Err Lost) p q read = (p, q)
+pub read_lies : (cnf holds : Known) (formula wanted : List (List ℕ)) (before lie other : Option LyingHeader) (r : Result PieceVerdict PieceFault) →
+    IsLie cnf lie → IsLie holds other → IsReadPieceRun formula wanted r → TellsPieceLies cnf holds before r lie other
+read_lies cnf holds formula wanted before lie other (Ok verdict) p q read = (p, q)
+read_lies cnf holds formula wanted before lie other (Err (Run (Formula fault))) p q read = absurd read
+read_lies cnf holds formula wanted before lie other (Err (Run (Proof fault))) p q read = (p, q)
+read_lies cnf holds formula wanted before lie other (Err (Run (Lrat cause))) p q read = (p, q)
+read_lies cnf holds formula wanted before lie other (Err (Run (Trim cause))) p q read = (p, q)
+read_lies cnf holds formula wanted before lie other (Err (Run (Core cause))) p q read = (p, q)
+read_lies cnf holds formula wanted before lie other (Err (Run (Write cause))) p q read = (p, q)
+read_lies cnf holds formula wanted before lie other (Err (Wanted fault)) p q read = absurd read
+read_lies cnf holds formula wanted before lie other (Err Lost) p q read = (p, q)

@@ -132,15 +132,15 @@ WritesPiece form cnf holds lrat lrat' old new (Err (Run (Write cause))) = OfForm
 
 -- ---- headers
 
--- what both headers lie about, of each where the formula was read whole; else nothing
-abbrev pub TellsPieceLies : Option (List ℕ) → Option (List ℕ) → Result PieceVerdict PieceFault
-    → Option LyingHeader → Option LyingHeader → Type 0
-TellsPieceLies cnf holds (Ok verdict) lie other = IsLie cnf lie × IsLie holds other
-TellsPieceLies cnf holds (Err (Wanted fault)) lie other = IsLie cnf lie × (other ≡ None)
-TellsPieceLies cnf holds (Err Lost) lie other = IsLie cnf lie × IsLie holds other
-TellsPieceLies cnf holds (Err (Run (Formula fault))) lie other = lie ≡ None
-TellsPieceLies cnf holds (Err (Run (Proof fault))) lie other = IsLie cnf lie × IsLie holds other
-TellsPieceLies cnf holds (Err (Run (Lrat cause))) lie other = IsLie cnf lie × IsLie holds other
-TellsPieceLies cnf holds (Err (Run (Trim cause))) lie other = IsLie cnf lie × IsLie holds other
-TellsPieceLies cnf holds (Err (Run (Core cause))) lie other = IsLie cnf lie × IsLie holds other
-TellsPieceLies cnf holds (Err (Run (Write cause))) lie other = IsLie cnf lie × IsLie holds other
+-- what both headers lie about, of each where the formula was read whole; else nothing. Where the first one is not, what was told before of the other stays
+abbrev pub TellsPieceLies : Option (List ℕ) → Option (List ℕ) → Option LyingHeader
+    → Result PieceVerdict PieceFault → Option LyingHeader → Option LyingHeader → Type 0
+TellsPieceLies cnf holds before (Ok verdict) lie other = IsLie cnf lie × IsLie holds other
+TellsPieceLies cnf holds before (Err (Wanted fault)) lie other = IsLie cnf lie × (other ≡ None)
+TellsPieceLies cnf holds before (Err Lost) lie other = IsLie cnf lie × IsLie holds other
+TellsPieceLies cnf holds before (Err (Run (Formula fault))) lie other = (lie ≡ None) × (other ≡ before)
+TellsPieceLies cnf holds before (Err (Run (Proof fault))) lie other = IsLie cnf lie × IsLie holds other
+TellsPieceLies cnf holds before (Err (Run (Lrat cause))) lie other = IsLie cnf lie × IsLie holds other
+TellsPieceLies cnf holds before (Err (Run (Trim cause))) lie other = IsLie cnf lie × IsLie holds other
+TellsPieceLies cnf holds before (Err (Run (Core cause))) lie other = IsLie cnf lie × IsLie holds other
+TellsPieceLies cnf holds before (Err (Run (Write cause))) lie other = IsLie cnf lie × IsLie holds other

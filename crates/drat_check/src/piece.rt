@@ -74,7 +74,7 @@ pub fn run_piece<R: Log, F: Read + Drop, G: Read + Drop, P: Read + Drop, W: Writ
         → G.remaining holds ≡ Some other → result ≡ Ok Carried → CarriesText text other }
     ensures refutes { (text : List ℕ) → F.remaining cnf ≡ Some text
         → result ≡ Ok Refuted → IsRefuted text }
-    ensures lies { TellsPieceLies (F.remaining cnf) (G.remaining holds) result
+    ensures lies { TellsPieceLies (F.remaining cnf) (G.remaining holds) outputs.old.wanted_lie result
         outputs.new.lie outputs.new.wanted_lie }
 {
     let formula = match read_formula(alloc, cnf, &mut outputs.lie) {

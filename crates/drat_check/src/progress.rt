@@ -2,10 +2,10 @@
 use drat_elaborate::Elaborator;
 use log::{Log, info};
 
-/// After so many steps it may be said how far the run has come.
+/// After this many steps it may be said how far the run has come.
 pub(crate) const STEPS_A_REPORT: u64 = 64;
 
-/// Says how much of the proof was checked backward, of so many steps.
+/// Says how much of the proof was checked backward, of this many steps.
 pub(crate) fn tell_checked<L: Log>(rt: &L, elaborator: &Elaborator, steps: u64) {
     let done = steps.saturating_sub(elaborator.steps_left());
     let hundredths = done.saturating_mul(100) / steps.max(1);

@@ -13,5 +13,5 @@ returns-clause-lines g c =
 
 pub returns-clause-lies : goal.returns-clause-lies
 returns-clause-lies g c =
-    read_lies (g.F.Read.remaining c.args.cnf) (g.G.Read.remaining c.args.holds) c.in-Ok.formula c.in-Ok-read_formula.wanted _ _ c.run_read_piece.result
+    read_lies (g.F.Read.remaining c.args.cnf) (g.G.Read.remaining c.args.holds) c.in-Ok.formula c.in-Ok-read_formula.wanted _ _ _ c.run_read_piece.result
     c.in-Ok.ensures.lie c.in-Ok-read_formula.ensures.lie c.run_read_piece.ensures.run
