@@ -170,6 +170,12 @@ impl Elaborator {
         )
     }
 
+    /// The lines are those over a formula of the used clauses alone, which have the ids 1, 2 and so
+    /// on in their order: no line deletes the others. To be called before the first line is told.
+    pub fn number_by_use(&mut self) {
+        self.lines.only_used = true;
+    }
+
     /// How many steps of the proof were taken in, less those that were gone over backward.
     pub fn steps_left(&self) -> u64 {
         self.forward.steps.len()

@@ -22,6 +22,8 @@ pub(crate) struct Lines {
     /// The deletion of `dying` is the next line.
     pub(crate) deletion_is_next: bool,
     is_begun: bool,
+    /// A clause of the formula that is not used has no id.
+    pub(crate) only_used: bool,
     /// The record that is read.
     pub(crate) record: Record,
     /// The literals of its clause, as they are numbered here.
@@ -40,13 +42,15 @@ impl Lines {
             dying: Vec::new(alloc),
             deletion_is_next: false,
             is_begun: false,
+            only_used: false,
             record: Record::new(alloc),
             lits: Vec::new(alloc),
             by_witness: WitnessLines::new(alloc),
         }
     }
 
-    /// The clauses of the formula get their ids; those that are not used are the first to go.
+    /// The clauses of the formula get their ids; those that are not used are the first to go, or get
+    /// none.
     pub(crate) fn begin(
         &mut self,
         clauses: &Clauses,
@@ -59,8 +63,10 @@ impl Lines {
         self.ids.resize(clauses.len(), 0)?;
         for index in 0..formula_len {
             let clause = ClauseIndex::new(index)?;
-            self.name(clause)?;
-            if !clauses.get(clause)?.is_core() {
+            if clauses.get(clause)?.is_core() {
+                self.name(clause)?;
+            } else if !self.only_used {
+                self.name(clause)?;
                 self.dying.push(self.last_id)?;
             }
         }
