@@ -336,6 +336,24 @@ done
 kept 'a piece that is not run' l
 wants 0 's VERIFIED PIECE' '' three piece --holds /dev/null --lrat /dev/null
 wants 1 '' $'error writing: No space left on device (os error 28)\nin /dev/full' three piece --holds next --lrat /dev/full
+# the core of a piece: the clauses of the formula that are enough, over which the piece is verified again; nothing where a clause is missing
+wants 0 's VERIFIED PIECE' '' three piece --holds next --core c
+[[ $(cat c) == $'p cnf 3 3\n1 2 0\n1 -2 0\n-1 3 0' ]] || fault "the core of a piece: $(cat c)"
+printf '1 0\n' > less
+wants 0 's VERIFIED PIECE' '' three piece --holds less --core c
+[[ $(cat c) == $'p cnf 2 2\n1 2 0\n1 -2 0' ]] || fault "the core of a piece: $(cat c)"
+wants 0 's VERIFIED PIECE' '' c piece --holds less --core c2
+cmp c c2 || fault 'the core of a core'
+wants 3 's NOT VERIFIED' $'clause 2 is not there behind the piece: 1 2 0\nin gone' three piece --holds gone --core c
+empty c
+wants 0 's VERIFIED UNSAT' '' f p --holds next --core c
+[[ $("$check" c p) == 's VERIFIED UNSAT' ]] || fault 'the core of a piece with a conflict'
+keep c
+wants 1 '' $'wanted clauses: line 1: bad number\nin malformed' three piece --holds malformed --core c
+wants 1 '' $'proof: step 1: malformed\nin malformed' three malformed --holds next --core c
+wants 2 '' $'cannot open next\nthe output is a file that is read' three piece --holds next --core next
+kept 'a piece that is refused' c
+wants 1 '' $'error writing: No space left on device (os error 28)\nin /dev/full' three piece --holds next --core /dev/full
 said=$("$check" three piece --holds next --stats 2> err) || true
 [[ $said == 's VERIFIED PIECE' && $(head -n 4 err) == $'c steps 2\nc lemmas 2\nc rat_lemmas 0\nc hints 3' ]] || fault "what a piece counts: $said $(cat err)"
 
@@ -358,8 +376,9 @@ f p --quiet --verbose:--quiet and --verbose can't both stand
 f p --drat=1:--drat takes no value
 f p --core c --binary:--binary says how --lrat is written
 f p --holds:--holds has no value
-f p --holds three --core c:--holds excludes --trim and --core
-f p --trim l --holds three:--holds excludes --trim and --core
+f p --trim l --holds three:--holds excludes --trim
+f p --holds three --core c --lrat l:with --holds, --lrat and --core exclude each other
+f p --holds three --core c --trim l:--holds excludes --trim
 f p --example:--example stands alone
 --example --drat:--example stands alone
 -- --drat:no file is named for PROOF

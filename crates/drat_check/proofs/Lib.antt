@@ -1,4 +1,5 @@
 pub mod DeletedClauses
+pub mod PieceCores
 pub mod UsedClauses
 pub mod WrittenCores
 pub mod WrittenLines

@@ -1,6 +1,7 @@
 -- Runs over one piece of a proof, after a formula and the clauses that are wanted behind the piece.
 --     IsReadPieceRun, IsPieceRun      the run after two formulas, and after their texts
 --     IsEarlyPiece r, IsSilentPiece r      no fault of a formula or of the verdict's line;  no line of a verdict was begun
+--     IsUnreadPiece r      a formula was not read whole
 --     GoesOn      a call writes more lines that a checker has accepted
 --     WrotePiece      lines were written after which the wanted clauses are stored
 --     WritesShown, WritesEarly, WritesRead, WritesPiece      the lines that a run wrote: by its verdict, before its line, after two formulas, and after their texts
@@ -57,6 +58,18 @@ IsSilentPiece (Ok verdict) = ⊥
 IsSilentPiece (Err (Run fault)) = IsSilent (Err fault)
 IsSilentPiece (Err (Wanted fault)) = Unit {0}
 IsSilentPiece (Err Lost) = Unit {0}
+
+-- the formula or the wanted clauses were not read whole
+abbrev pub IsUnreadPiece : Result PieceVerdict PieceFault → Type 0
+IsUnreadPiece (Ok verdict) = ⊥
+IsUnreadPiece (Err (Run (Formula fault))) = Unit {0}
+IsUnreadPiece (Err (Run (Proof fault))) = ⊥
+IsUnreadPiece (Err (Run (Lrat cause))) = ⊥
+IsUnreadPiece (Err (Run (Trim cause))) = ⊥
+IsUnreadPiece (Err (Run (Core cause))) = ⊥
+IsUnreadPiece (Err (Run (Write cause))) = ⊥
+IsUnreadPiece (Err (Wanted fault)) = Unit {0}
+IsUnreadPiece (Err Lost) = ⊥
 
 -- ---- the lines that are written
 

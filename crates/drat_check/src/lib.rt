@@ -9,6 +9,7 @@ mod counts;
 mod fault;
 mod outputs;
 mod piece;
+mod piece_core;
 mod piece_fault;
 mod progress;
 mod proof;

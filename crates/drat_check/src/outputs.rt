@@ -198,12 +198,28 @@ fn write_used<C: Write>(
         (C.contents out.old) (C.contents out.new)) }
 {
     let used = used_clauses(alloc, formula, elaborator)?;
-    write_formula(alloc, out, &used)?;
-    out.flush()
+    write_clauses(alloc, &used, out)
+}
+
+/// Writes a formula, and what the writer holds back.
+pub(crate) fn write_clauses<C: Write>(
+    alloc: Global,
+    formula: &CnfFormula,
+    out: &mut C,
+) -> io::Result<()>
+    ensures whole { OnOk result (Appends (C.contents out.old) (C.contents out.new)
+        (formula_text formula.now)) }
+    ensures beginning { OnErr result (AppendsBeginning (C.contents out.old) (C.contents out.new)
+        (formula_text formula.now)) }
+{
+    match write_formula(alloc, out, formula) {
+        Ok(()) => out.flush(),
+        Err(fault) => Err(fault),
+    }
 }
 
 /// The clauses of the formula that the elaborated lines use, in their order.
-fn used_clauses(
+pub(crate) fn used_clauses(
     alloc: Global,
     formula: &CnfFormula,
     elaborator: &Elaborator,

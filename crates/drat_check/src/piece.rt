@@ -1,17 +1,19 @@
 //! Runs over one piece of a proof: its lines carry a formula to the clauses that are wanted behind
 //! them.
-ghost use Rattle.std.specs.Prelude.{◌≡◌, ℕ, List, Some, Ok, IfOk};
+ghost use Rattle.std.specs.Prelude.{◌≡◌, ◌≢◌, ℕ, List, Option, Some, Ok, IfOk, IsNone, IsSome};
 ghost use Rattle.std.specs.Io.KnownBytes.{Appends, Keeps};
 ghost use Rattle.sat_formula.specs.Refuted.{IsRefuted};
 ghost use Rattle.drat_check.specs.Outputs.{bytes_in};
 ghost use Rattle.piece_runs.specs.Texts.{CarriesText, IsPieceShown};
+ghost use Rattle.drat_check.specs.PieceCores.{WritesCore, WritesPieceCore};
 ghost use Rattle.drat_check.specs.Pieces.{IsEarlyPiece, IsPieceRun, IsReadPieceRun, IsSilentPiece, TellsPieceLies, WritesEarly, WritesPiece, WritesRead};
 ghost use Rattle.verdicts.specs.Pieces.{piece_line};
-ghost use Rattle.verdicts.specs.declared.piece.PieceVerdict.TheVariants.{Refuted, Carried};
+ghost use Rattle.verdicts.specs.declared.piece.PieceVerdict.TheVariants.{Refuted, Carried, NotCarried};
 
-use crate::counts::{RunCounts, count_core};
+use crate::counts::RunCounts;
 use crate::fault::{ProofFault, RunFault};
 use crate::outputs::{flush, write_lines};
+use crate::piece_core::show_wanted;
 use crate::piece_fault::PieceFault;
 use crate::proof::{elaborate, read_proof};
 use crate::reader::ProofFormat;
@@ -29,11 +31,13 @@ use whole_formulas::read_formula;
 
 /// What a run over a piece writes, counts and tells beside its verdict.
 #[derive(Drop)]
-pub struct PieceOutputs<L> {
-    /// The lines of the LRAT proof, where there is a writer for them.
+pub struct PieceOutputs<L, C> {
+    /// The lines of the LRAT proof, where there is a writer for them and none for the core.
     pub lrat: Option<L>,
     /// How these lines are written.
     pub form: LineForm,
+    /// Clauses of the formula, written as a formula, that are enough for the verdict.
+    pub core: Option<C>,
     /// What was counted so far. No clause speaks of it.
     pub counts: Cell<RunCounts>,
     /// The first wanted clause that is not there, where the verdict is that. No clause speaks of
@@ -53,22 +57,39 @@ pub struct PieceOutputs<L> {
 /// that has the same literals in another order is added as it is wanted, by a line of its own.
 /// Where a step can't be read, or one that is needed is not right, no line is written. A write that
 /// fails ends the run; where it is that of the verdict's line, the verdict stood.
-pub fn run_piece<R: Log, F: Read + Drop, G: Read + Drop, P: Read + Drop, W: Write, L: Write + Drop>(
+///
+/// With a writer for the core the lines are checked over the clauses of the formula that they use,
+/// as over a formula of its own, which is then written. So the verdict is one on the core too, and
+/// the piece before this one has to show no other clauses. No lines are written then.
+pub fn run_piece<
+    R: Log,
+    F: Read + Drop,
+    G: Read + Drop,
+    P: Read + Drop,
+    W: Write,
+    L: Write + Drop,
+    C: Write + Drop,
+>(
     rt: &R,
     alloc: Global,
     cnf: F,
     holds: G,
     piece: P,
     format: ProofFormat,
-    outputs: &mut PieceOutputs<L>,
+    outputs: &mut PieceOutputs<L, C>,
     out: &mut W,
 ) -> Result<PieceVerdict, PieceFault>
     ensures run { IsPieceRun (F.remaining cnf) (G.remaining holds) result }
     ensures line { IfOk result (λ verdict.
         Appends (W.contents out.old) (W.contents out.new) (piece_line verdict)) }
     ensures silent { IsSilentPiece result → out.new ≡ out.old }
-    ensures lines { WritesPiece outputs.old.form (F.remaining cnf) (G.remaining holds)
+    ensures lines { IsNone outputs.old.core
+        → WritesPiece outputs.old.form (F.remaining cnf) (G.remaining holds)
         (bytes_in L.contents outputs.old.lrat) (bytes_in L.contents outputs.new.lrat)
+        (W.contents out.old) (W.contents out.new) result }
+    ensures apart { IsSome outputs.old.core → outputs.new.lrat ≡ outputs.old.lrat }
+    ensures core { WritesPieceCore (F.remaining cnf) (G.remaining holds)
+        (bytes_in C.contents outputs.old.core) (bytes_in C.contents outputs.new.core)
         (W.contents out.old) (W.contents out.new) result }
     ensures carries { (text other : List ℕ) → F.remaining cnf ≡ Some text
         → G.remaining holds ≡ Some other → result ≡ Ok Carried → CarriesText text other }
@@ -88,17 +109,18 @@ pub fn run_piece<R: Log, F: Read + Drop, G: Read + Drop, P: Read + Drop, W: Writ
     let form = outputs.form;
     let PieceOutputs {
         lrat,
+        core,
         counts,
         missing,
         ..
     } = outputs;
     run_read_piece(
-        rt, alloc, &formula, &wanted, piece, format, lrat, form, counts, missing, out,
+        rt, alloc, &formula, &wanted, piece, format, lrat, form, core, counts, missing, out,
     )
 }
 
 /// The same after both formulas.
-fn run_read_piece<R: Log, P: Read + Drop, W: Write, L: Write + Drop>(
+fn run_read_piece<R: Log, P: Read + Drop, W: Write, L: Write + Drop, C: Write + Drop>(
     rt: &R,
     alloc: Global,
     formula: &CnfFormula,
@@ -107,6 +129,7 @@ fn run_read_piece<R: Log, P: Read + Drop, W: Write, L: Write + Drop>(
     format: ProofFormat,
     lrat: &mut Option<L>,
     form: LineForm,
+    core: &mut Option<C>,
     counts: &Cell<RunCounts>,
     missing: &mut Option<MissingClause>,
     out: &mut W,
@@ -115,12 +138,16 @@ fn run_read_piece<R: Log, P: Read + Drop, W: Write, L: Write + Drop>(
     ensures line { IfOk result (λ verdict.
         Appends (W.contents out.old) (W.contents out.new) (piece_line verdict)) }
     ensures silent { IsSilentPiece result → out.new ≡ out.old }
-    ensures lines { WritesRead form formula.now wanted.now
+    ensures lines { IsNone core.old → WritesRead form formula.now wanted.now
         (bytes_in L.contents lrat.old) (bytes_in L.contents lrat.new)
+        (W.contents out.old) (W.contents out.new) result }
+    ensures apart { IsSome core.old → lrat.new ≡ lrat.old }
+    ensures core { WritesCore formula.now wanted.now
+        (bytes_in C.contents core.old) (bytes_in C.contents core.new)
         (W.contents out.old) (W.contents out.new) result }
 {
     let verdict = match judge_piece(
-        rt, alloc, formula, wanted, piece, format, lrat, form, counts, missing,
+        rt, alloc, formula, wanted, piece, format, lrat, form, core, counts, missing,
     ) {
         Ok(verdict) => verdict,
         Err(fault) => return Err(fault),
@@ -133,7 +160,7 @@ fn run_read_piece<R: Log, P: Read + Drop, W: Write, L: Write + Drop>(
 }
 
 /// What a piece shows, once what it stands on is written.
-fn judge_piece<R: Log, P: Read + Drop, L: Write + Drop>(
+fn judge_piece<R: Log, P: Read + Drop, L: Write + Drop, C: Write + Drop>(
     rt: &R,
     alloc: Global,
     formula: &CnfFormula,
@@ -142,13 +169,17 @@ fn judge_piece<R: Log, P: Read + Drop, L: Write + Drop>(
     format: ProofFormat,
     lrat: &mut Option<L>,
     form: LineForm,
+    core: &mut Option<C>,
     counts: &Cell<RunCounts>,
     missing: &mut Option<MissingClause>,
 ) -> Result<PieceVerdict, PieceFault>
     ensures shown { IfOk result (IsPieceShown formula.now wanted.now) }
     ensures early { IsEarlyPiece result }
-    ensures lines { WritesEarly form formula.now wanted.now
+    ensures lines { IsNone core.old → WritesEarly form formula.now wanted.now
         (bytes_in L.contents lrat.old) (bytes_in L.contents lrat.new) result }
+    ensures apart { IsSome core.old → lrat.new ≡ lrat.old }
+    ensures core { (old new : Option (List ℕ)) → WritesCore formula.now wanted.now
+        (bytes_in C.contents core.old) (bytes_in C.contents core.new) old new result }
 {
     let mut elaborator = match read_proof(alloc, formula, piece, format, counts) {
         Ok(elaborator) => elaborator,
@@ -162,7 +193,16 @@ fn judge_piece<R: Log, P: Read + Drop, L: Write + Drop>(
         return Ok(PieceVerdict::NotCarried);
     }
     match elaborate(rt, &mut elaborator) {
-        Ok(()) => show_piece(alloc, formula, wanted, &mut elaborator, lrat, form, counts),
+        Ok(()) => show_wanted(
+            alloc,
+            formula,
+            wanted,
+            &mut elaborator,
+            lrat,
+            form,
+            core,
+            counts,
+        ),
         Err(fault) => Err(PieceFault::Run(RunFault::Proof(fault))),
     }
 }
@@ -190,7 +230,7 @@ fn first_missing(
 }
 
 /// Hands the elaborated lines to a checker that holds the formula. It decides what they show.
-fn show_piece<L: Write + Drop>(
+pub(crate) fn show_piece<L: Write + Drop>(
     alloc: Global,
     formula: &CnfFormula,
     wanted: &CnfFormula,
@@ -200,6 +240,7 @@ fn show_piece<L: Write + Drop>(
     counts: &Cell<RunCounts>,
 ) -> Result<PieceVerdict, PieceFault>
     ensures shown { IfOk result (IsPieceShown formula.now wanted.now) }
+    ensures decided { IfOk result (λ verdict. verdict ≢ NotCarried) }
     ensures early { IsEarlyPiece result }
     ensures lines { WritesEarly form formula.now wanted.now
         (bytes_in L.contents lrat.old) (bytes_in L.contents lrat.new) result }
@@ -217,7 +258,6 @@ fn show_piece<L: Write + Drop>(
         Ok(checker) => checker,
         Err(fault) => return Err(PieceFault::Run(fault)),
     };
-    count_core(counts, formula, elaborator);
     if checker.refuted() {
         return end_lines(lrat, PieceVerdict::Refuted);
     }

@@ -45,8 +45,15 @@ fn run(rt: &HostRuntime, call: &Call<'_>) -> Result<u8, u8> {
     if call.has("--binary") && call.value("--lrat").is_none() {
         return Err(misused(rt, &ABOUT, "--binary says how --lrat is written"));
     }
-    if call.has("--holds") && (call.has("--trim") || call.has("--core")) {
-        return Err(misused(rt, &ABOUT, "--holds excludes --trim and --core"));
+    if call.has("--holds") && call.has("--trim") {
+        return Err(misused(rt, &ABOUT, "--holds excludes --trim"));
+    }
+    if call.has("--holds") && call.has("--lrat") && call.has("--core") {
+        return Err(misused(
+            rt,
+            &ABOUT,
+            "with --holds, --lrat and --core exclude each other",
+        ));
     }
     let names = input_names(rt, &ABOUT, call)?;
     match call.value("--holds") {

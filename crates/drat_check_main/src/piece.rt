@@ -31,6 +31,7 @@ pub(crate) fn check_piece(
     let outputs = &mut PieceOutputs {
         lrat,
         form: form_of(call),
+        core,
         counts: Cell::default(),
         missing: None,
         lie: None,

@@ -1,5 +1,5 @@
 //! Runs over a piece of a proof: their lines, faults and statuses, which wanted clause is missing,
-//! and the lines of the LRAT proof.
+//! the lines of the LRAT proof, and the core.
 use drat_check::{LineForm, PieceOutputs, ProofFormat, piece_status, run_piece};
 use log::sink::Discard;
 use std::alloc::Global;
@@ -151,7 +151,7 @@ const RUNS: [Row; 25] = [
 fn is_answered(rt: &impl Abort, alloc: Global, row: Row, piece: Pieces<'_>, room: usize) {
     let (cnf, holds, _, written, fault, status, missing) = row;
     let mut page = Page::of_room(alloc, room);
-    let mut outputs: PieceOutputs<Page> = outputs_to(None);
+    let mut outputs: PieceOutputs<Page, Page> = outputs_to(None, None);
     let answer = run_piece(
         &Discard,
         alloc,
@@ -171,10 +171,11 @@ fn is_answered(rt: &impl Abort, alloc: Global, row: Row, piece: Pieces<'_>, room
     assert_eq!(rt; said.text(), missing, "{holds:?}");
 }
 
-fn outputs_to<L>(lrat: Option<L>) -> PieceOutputs<L> {
+fn outputs_to<L, C>(lrat: Option<L>, core: Option<C>) -> PieceOutputs<L, C> {
     PieceOutputs {
         lrat,
         form: LineForm::Text,
+        core,
         counts: Cell::default(),
         missing: None,
         lie: None,
@@ -218,7 +219,10 @@ fn lines_of_a_piece(rt: HostRuntime) {
         (4, "2 2 ", "", "error writing: full", 1),
     ] {
         let mut page = Page::endless(alloc);
-        let mut outputs = outputs_to(Some(Page::of_room(alloc, room)));
+        let mut outputs: PieceOutputs<Page, Page> = outputs_to(
+            Some(Page::of_room(alloc, room)),
+            None,
+        );
         let answer = run_piece(
             &Discard,
             alloc,
@@ -231,10 +235,153 @@ fn lines_of_a_piece(rt: HostRuntime) {
         );
         let ended = Ended::of(alloc, page, &answer, piece_status(&answer));
         assert_eq!(rt; ended.outcome(), (written, fault, status));
-        let lrat = outputs
-            .lrat
-            .as_ref()
-            .map_or(b"".as_slice(), |page| page.bytes());
-        assert_eq!(rt; lrat, lines.as_bytes());
+        assert_eq!(rt; bytes_of(&outputs.lrat), lines.as_bytes());
     }
+}
+
+/// A formula, the wanted clauses and a piece; the core that is written, in how much room; what is
+/// written of the verdict, and the text of the fault.
+type CoreRow = (
+    &'static [u8],
+    &'static [u8],
+    &'static [u8],
+    &'static str,
+    usize,
+    &'static str,
+    &'static str,
+);
+
+const CORES: [CoreRow; 13] = [
+    // what is wanted is a clause of the formula, none, or one that two others give
+    (
+        THREE,
+        b"2 1 0",
+        b"",
+        "p cnf 2 1\n1 2 0\n",
+        usize::MAX,
+        PIECE,
+        "",
+    ),
+    (THREE, b"", b"1 0\n", "p cnf 0 0\n", usize::MAX, PIECE, ""),
+    (
+        THREE,
+        b"1 0",
+        b"1 0\nd 1 2 0\n",
+        "p cnf 2 2\n1 2 0\n1 -2 0\n",
+        usize::MAX,
+        PIECE,
+        "",
+    ),
+    (
+        THREE,
+        b"1 0 -1 3 0",
+        b"1 0\n",
+        "p cnf 3 3\n1 2 0\n1 -2 0\n-1 3 0\n",
+        usize::MAX,
+        PIECE,
+        "",
+    ),
+    // a clause that stands twice is taken once, and one of the formula that comes late has the
+    // first id
+    (
+        b"5 6 0 1 2 0 1 2 0 1 -2 0",
+        b"1 0",
+        b"5 1 0\n1 0\n",
+        "p cnf 2 2\n1 2 0\n1 -2 0\n",
+        usize::MAX,
+        PIECE,
+        "",
+    ),
+    // a clause that its literal's negation stands in speaks against a redundant one only where it is
+    // used
+    (
+        b"-1 2 0 2 3 0 2 -3 0 4 5 0",
+        b"1 0 2 3 0",
+        b"1 0\n",
+        "p cnf 3 1\n2 3 0\n",
+        usize::MAX,
+        PIECE,
+        "",
+    ),
+    (
+        b"-1 2 0 2 3 0 2 -3 0 4 5 0",
+        b"1 0 -1 2 0",
+        b"1 0\n",
+        "p cnf 3 3\n-1 2 0\n2 3 0\n2 -3 0\n",
+        usize::MAX,
+        PIECE,
+        "",
+    ),
+    // a conflict says more than what is wanted
+    (
+        b"5 0 1 2 0 1 -2 0 -1 2 0 -1 -2 0",
+        b"5 0",
+        b"1 0\n",
+        "p cnf 2 4\n1 2 0\n1 -2 0\n-1 2 0\n-1 -2 0\n",
+        usize::MAX,
+        UNSAT,
+        "",
+    ),
+    (
+        b"1 0 2 0 -1 0",
+        b"5 0",
+        b"",
+        "p cnf 1 2\n1 0\n-1 0\n",
+        usize::MAX,
+        UNSAT,
+        "",
+    ),
+    (
+        b"1 0 0 2 0",
+        b"0",
+        b"",
+        "p cnf 0 1\n0\n",
+        usize::MAX,
+        UNSAT,
+        "",
+    ),
+    // nothing is written where a clause is missing or refused; a core that can't be written ends
+    // the run
+    (THREE, b"3 0", b"1 0\n", "", usize::MAX, NOT_VERIFIED, ""),
+    (
+        b"1 2 0 -1 -2 0",
+        b"1 0 -1 -2 0",
+        b"1 0\n",
+        "",
+        usize::MAX,
+        "",
+        "proof: step 1: clause neither follows nor is redundant by its first literal",
+    ),
+    (THREE, b"1 2 0", b"", "p cnf", 5, "", "error writing: full"),
+];
+
+#[test]
+fn cores_of_pieces(rt: HostRuntime) {
+    let alloc = rt.alloc();
+    for (cnf, holds, piece, core, room, written, fault) in CORES {
+        let mut page = Page::endless(alloc);
+        let mut outputs: PieceOutputs<Page, Page> = outputs_to(
+            Some(Page::endless(alloc)),
+            Some(Page::of_room(alloc, room)),
+        );
+        let answer = run_piece(
+            &Discard,
+            alloc,
+            Pieces::whole(cnf),
+            Pieces::whole(holds),
+            Pieces::whole(piece),
+            ProofFormat::Told,
+            &mut outputs,
+            &mut page,
+        );
+        let ended = Ended::of(alloc, page, &answer, piece_status(&answer));
+        let (said, cause, _) = ended.outcome();
+        assert_eq!(rt; (said, cause), (written, fault), "{holds:?}");
+        assert_eq!(rt; bytes_of(&outputs.core), core.as_bytes(), "{holds:?}");
+        assert_eq!(rt; bytes_of(&outputs.lrat), b"".as_slice());
+    }
+}
+
+fn bytes_of(page: &Option<Page>) -> &[u8] {
+    page.as_ref().map_or(b"".as_slice(), |page| page.bytes())
 }

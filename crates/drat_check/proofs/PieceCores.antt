@@ -1,0 +1,90 @@
+-- Cores of pieces: what a part of a formula shows, the formula shows; and what is written of a part.
+use Rattle.std.proofs.Common.{◌≡◌, ◌≢◌, ℕ, Bool, true, false, List, [], ◌∷◌, Option, None, Result, Ok, Err, refl, sym, ap, ◌∙◌, subst}
+use Rattle.std.specs.Prelude.{IfOk}
+use Rattle.std.specs.Io.KnownBytes.{Appends}
+use Rattle.std.proofs.lemmas.Bool.{and_from, and_parts, false_from_ne_true, true≢false}
+use Rattle.sat_rules.specs.Clauses.{all_true, clause_true}
+use Rattle.sat_output.specs.FormulaTexts.{formula_text}
+use Rattle.whole_writes.specs.Beginnings.{AppendsBeginning}
+use Rattle.verdicts.specs.declared.piece.PieceVerdict.{PieceVerdict}
+use Rattle.verdicts.specs.declared.piece.PieceVerdict.TheVariants.{Refuted, Carried, NotCarried}
+use Rattle.piece_runs.specs.Texts.{IsPieceShown}
+use Rattle.drat_check.specs.declared.fault.RunFault.TheVariants.{Formula, Proof, Lrat, Trim, Core, Write}
+use Rattle.drat_check.specs.declared.piece_fault.PieceFault.{PieceFault}
+use Rattle.drat_check.specs.declared.piece_fault.PieceFault.TheVariants.{Run, Wanted, Lost}
+use Rattle.drat_check.specs.Outputs.{BeganCore, IsPartOf, flagged}
+use Rattle.drat_check.specs.PieceCores.{CoreShown, WritesCore, WroteShown}
+use Rattle.drat_check.specs.Pieces.{IsEarlyPiece}
+use Rattle.drat_check.proofs.WrittenCores.{core_none}
+
+abbrev Known : Type 0
+Known = Option (List ℕ)
+
+-- ---- parts
+
+part_true : (a : ℕ → Bool) (flags : List Bool) (cs : List (List ℕ)) → all_true a cs ≡ true → all_true a (flagged flags cs) ≡ true
+part_true a [] cs t = refl
+part_true a (b ∷ flags) [] t = refl
+part_true a (true ∷ flags) (c ∷ cs) t =
+    let parts = and_parts (clause_true a c) (all_true a cs) t in
+    and_from (clause_true a c) (all_true a (flagged flags cs)) parts.0 (part_true a flags cs parts.1)
+part_true a (false ∷ flags) (c ∷ cs) t = part_true a flags cs (and_parts (clause_true a c) (all_true a cs) t).1
+
+-- an assignment that satisfies a formula satisfies a part of it
+satisfies_part : (formula used : List (List ℕ)) → IsPartOf used formula → (a : ℕ → Bool) → all_true a formula ≡ true → all_true a used ≡ true
+satisfies_part formula used part a t = subst (λ (cs : List (List ℕ)). all_true a cs ≡ true) (sym part.1) (part_true a part.0 formula t)
+
+shown_whole : (formula used wanted : List (List ℕ)) → IsPartOf used formula → (verdict : PieceVerdict) → IsPieceShown used wanted verdict → IsPieceShown formula wanted verdict
+shown_whole formula used wanted part Refuted p = λ a.
+    false_from_ne_true (all_true a formula) (λ t. true≢false (sym (satisfies_part formula used part a t) ∙ p a))
+shown_whole formula used wanted part Carried p = λ a t. p a (satisfies_part formula used part a t)
+shown_whole formula used wanted part NotCarried p = tt
+
+-- each clause is taken
+abbrev every_flag : List (List ℕ) → List Bool
+every_flag [] = []
+every_flag (c ∷ cs) = true ∷ every_flag cs
+
+every_clause : (cs : List (List ℕ)) → cs ≡ flagged (every_flag cs) cs
+every_clause [] = refl
+every_clause (c ∷ cs) = ap (λ (ds : List (List ℕ)). c ∷ ds) (every_clause cs)
+
+-- ---- what is written of a part
+
+module _ (formula wanted : List (List ℕ)) (core core' : Known) where
+  pub core_shows : (old new : Known) (r : Result PieceVerdict PieceFault) → WritesCore formula wanted core core' old new r → IfOk r (IsPieceShown formula wanted)
+  core_shows old new (Ok Refuted) p = shown_whole formula p.used wanted p.is_part Refuted p.shown
+  core_shows old new (Ok Carried) p = shown_whole formula p.used wanted p.is_part Carried p.shown
+  core_shows old new (Ok NotCarried) p = tt
+  core_shows old new (Err fault) p = tt
+
+  pub core_written : (used : List (List ℕ)) → IsPartOf used formula → Appends core core' (formula_text used) → (verdict : PieceVerdict) → verdict ≢ NotCarried →
+      IsPieceShown used wanted verdict → CoreShown formula wanted core core' verdict
+  core_written used part text Refuted decided p = record { used = used; is_part = part; shown = p; text = text }
+  core_written used part text Carried decided p = record { used = used; is_part = part; shown = p; text = text }
+  core_written used part text NotCarried decided p = absurd (decided refl)
+
+  pub core_began : (used : List (List ℕ)) → IsPartOf used formula → AppendsBeginning core core' (formula_text used) → BeganCore formula core core'
+  core_began used part text = record { used = used; is_part = part; text = text }
+
+module _ (formula wanted : List (List ℕ)) where
+  -- nothing was written before this fault
+  pub core_unwritten : (core old new : Known) (fault : PieceFault) → IsEarlyPiece {A = PieceVerdict} (Err fault) → WritesCore formula wanted core core old new (Err fault)
+  core_unwritten core old new (Run (Formula fault)) early = refl
+  core_unwritten core old new (Run (Proof fault)) early = refl
+  core_unwritten core old new (Run (Lrat cause)) early = refl
+  core_unwritten core old new (Run (Trim cause)) early = refl
+  core_unwritten core old new (Run (Core cause)) early = core_none formula core
+  core_unwritten core old new (Run (Write cause)) early = absurd early
+  core_unwritten core old new (Wanted fault) early = refl
+  core_unwritten core old new Lost early = refl
+
+  every_clause_shows : (verdict : PieceVerdict) → IsPieceShown formula wanted verdict → WroteShown formula wanted None None verdict
+  every_clause_shows verdict p = record { used = formula; is_part = (every_flag formula, every_clause formula); shown = p; text = tt }
+
+  -- without a writer the formula serves
+  pub no_core : (old new : Known) (r : Result PieceVerdict PieceFault) → IsEarlyPiece r → IfOk r (IsPieceShown formula wanted) → WritesCore formula wanted None None old new r
+  no_core old new (Ok Refuted) early p = every_clause_shows Refuted p
+  no_core old new (Ok Carried) early p = every_clause_shows Carried p
+  no_core old new (Ok NotCarried) early p = refl
+  no_core old new (Err fault) early p = core_unwritten None old new fault early
