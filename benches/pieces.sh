@@ -5,8 +5,9 @@
 #
 # A line for a proof: its megabytes; seconds of a processor and megabytes of `drat_check` on the whole; how many pieces `drat_cut`
 # makes of it, by its options, with its seconds and megabytes; for `drat_check` on all pieces the seconds in sum and of the longest
-# one, and the megabytes at most; and the megabytes of the clauses between them. With --while cadical solves the formula again by
-# `checked --while`, and the line ends with the seconds that the solver took by the clock, and those from its end to the verdict.
+# one, and the megabytes at most; the same with the last piece first, where each shows only what the one behind it has used; and the
+# megabytes of the clauses between them. With --while cadical solves the formula again by `checked --while`, and the line ends with the
+# seconds that the solver took by the clock, and those from its end to the verdict.
 # All pieces must be verified, and the last one refuted: else the line says so, and the script ends with status 1.
 #
 # The programs are those that `rt run` left in out/. It needs Debian's `time`, and cadical for --while.
@@ -63,9 +64,24 @@ for ((n = 1; n <= count; n++)); do
   fi
   before=$work/$((n + 1)).cnf
 done
+behind=/dev/null
+for ((n = count; n >= 1; n--)); do
+  before=$work/$n.cnf
+  ((n > 1)) || before=$cnf
+  taken drat_check --drat "$before" "$work/$n.drat" --holds "$behind" --core "$work/core" >> "$work/backward"
+  echo >> "$work/backward"
+  if [[ $(cat "$work/said") != 's VERIFIED '@(PIECE|UNSAT) || ($n == "$count" && $(cat "$work/said") != 's VERIFIED UNSAT') ]]; then
+    printf ' WRONG: with the last one first, piece %d of %d: %s\n' "$n" "$count" "$(cat "$work/errors")"
+    exit 1
+  fi
+  mv "$work/core" "$work/behind"
+  behind=$work/behind
+done
 rm -f "$work/1.cnf"
 printf ', %d pieces, cut %s, checked' "$count" "$cut"
 awk '{ sum += $1; if ($1 > long) long = $1; if ($2 > most) most = $2 } END { printf " %.2f %.2f %.1f", sum, long, most }' "$work/pieces"
+printf ', last first'
+awk '{ sum += $1; if ($1 > long) long = $1; if ($2 > most) most = $2 } END { printf " %.2f %.2f %.1f", sum, long, most }' "$work/backward"
 printf ', between %s' "$(shopt -s nullglob && megabytes "$work"/*.cnf /dev/null)"
 if [[ $meanwhile ]]; then
   solver=$(command -v cadical)

@@ -1,6 +1,6 @@
 #!/usr/bin/env bash
 # One DRAT proof in pieces, by `drat_cut`, `drat_check --holds`, `lrat_check --holds` and `tools/pieces`: a proof by hand, pieces that are missing, damaged,
-# of another proof or behind clauses that were changed, and a run that is interrupted; pieces that wait; a proof while it is written, by
+# of another proof or behind clauses that were changed, and a run that is interrupted; the last piece first; pieces that wait; a proof while it is written, by
 # `pieces run` and `checked --while`; some hundred random proofs against the whole; and where cadical is there, the commands of docs/SCALE.md.
 #
 #   tests/pieces.sh [COUNT [SEED]]    so many random proofs
@@ -221,6 +221,22 @@ head -n 12 eight.drat > weak.drat
 fails 1 '2: ran/2.drat is refused' pieces run eight.cnf weak.drat ran --lemmas 1
 says 0 $'1.checked\n2.cnf\n2.drat\ncount' ls ran
 
+# The last piece first: each shows what the one behind it has used, and no more. A lemma that is wrong and that no piece needs is refused
+# where all that lives is shown.
+says 0 "$whole" pieces run eight.cnf eight.drat last --lemmas 1 --memory
+says 0 $'1.checked\n2.checked\ncount\ncut' ls last
+DRAT_CUT=./none DRAT_CHECK=./none says 0 "$whole" pieces run eight.cnf eight.drat last --lemmas 1 --memory
+says 0 "$whole" pieces run eight.cnf - last --lemmas 1 --memory < eight.drat
+fails 1 '2: last/2.drat is refused' pieces run eight.cnf weak.drat last --lemmas 1 --memory
+says 0 $'1.cnf\n1.drat\n2.cnf\n2.drat\ncount\ncut' ls last
+{ cat eight.cnf; printf '4 5 0\n4 -5 6 0\n'; } | sed 's/^p cnf 3 9/p cnf 6 11/' > more.cnf
+{ echo '-4 0'; cat eight.drat; } > unneeded.drat
+fails 1 '1: ran/1.drat is refused' pieces run more.cnf unneeded.drat ran --lemmas 1 --live 100
+says 0 "$whole" pieces run more.cnf unneeded.drat last --lemmas 1 --live 100 --memory
+fails 2 'usage: pieces' pieces run eight.cnf eight.drat last --memory --jobs 2
+fails 2 'usage: pieces' pieces cut eight.cnf eight.drat last --memory
+says 2 'cannot open none.cnf: No such file or directory' pieces run none.cnf eight.drat last --memory
+
 # As `checked --while` has it: right and wrong answers of solvers that are written here, and nothing is left.
 # ends STATUS OUTPUT COMMAND..: it must end so, and write this to standard output
 ends() {
@@ -280,6 +296,7 @@ python3 -B "$top/tests/drat/formulas.py" exchanges 6 |
   awk 'NF == 7 { gone = gone "d " $1 " " $2 " 0\n" } { print } NF == 2 { printf "%s", gone; gone = "" }' > exchanges
 says 0 's VERIFIED UNSAT' drat_check pigeons.cnf exchanges
 fails 0 'and the last one is refuted: s VERIFIED UNSAT' pieces run pigeons.cnf exchanges exchanged --lemmas 10 --live 100000
+fails 0 'and the last one is refuted: s VERIFIED UNSAT' pieces run pigeons.cnf exchanges backward --lemmas 10 --live 100000 --memory
 if (($(cat exchanged/count) < 3)); then
   echo "the proof with witnesses is not cut"
   wrong=1
@@ -290,10 +307,69 @@ fails 1 'is refused' pieces run pigeons.cnf exchanges plain --lemmas 10 --live 1
 python3 -B "$top/tests/drat/formulas.py" pigeons 8 > formula.cnf
 python3 -B "$top/tests/drat/formulas.py" extended 8 > cook.drat
 fails 0 'and the last one is refuted: s VERIFIED UNSAT' pieces run formula.cnf cook.drat cook --lemmas 50 --live 100000
+fails 0 'and the last one is refuted: s VERIFIED UNSAT' pieces run formula.cnf cook.drat backward --lemmas 50 --live 100000 --memory
 if (($(cat cook/count) < 3)); then
   echo "the proof by definitions is not cut"
   wrong=1
 fi
+
+# With the last piece first an interrupted run goes on: what is verified stays so where the clauses before it are those that it has used, and a
+# damage to clauses between two pieces is refused by one of them. Of another proof or formula, or cut by other options, nothing is kept.
+solver stops << END
+case \$1 in last/\$(cat $work/stop).cnf) exit 9 ;; esac
+echo "\$1" >> $work/tried
+exec drat_check "\$@"
+END
+backward=(pieces run formula.cnf cook.drat last --lemmas 50 --live 100000 --memory)
+# stopped: all pieces behind the third are verified
+stopped() {
+  echo 3 > stop
+  rm -rf last
+  DRAT_CHECK=stops fails 1 '3: last/3.drat is refused: stops ended with status 9' "${backward[@]}"
+  echo 0 > stop
+  rm tried
+}
+# goes_on STATUS WORDS: it ends so
+goes_on() {
+  DRAT_CHECK=stops fails "$1" "$2" "${backward[@]}"
+}
+refuted='and the last one is refuted: s VERIFIED UNSAT'
+stopped
+goes_on 0 "$refuted"
+same tried $'last/3.cnf\nlast/2.cnf\nformula.cnf'
+# turns FILE: of its first clause the first literal is turned
+turns() {
+  sed -i '2s/^/-/; 2s/^--//' "$1"
+}
+stopped
+turns last/4.cnf
+goes_on 1 '4: last/4.drat is refused'
+stopped
+sed -i 2d last/4.cnf
+goes_on 1 '4: last/4.drat is refused'
+stopped
+turns last/3.cnf
+goes_on 1 'pieces are not verified'
+# a clause too many, which piece 4 does not use
+stopped
+echo '1000 0' >> last/4.cnf
+goes_on 0 "$refuted"
+same tried $'last/4.cnf\nlast/3.cnf\nlast/2.cnf\nformula.cnf'
+# the clauses have taken their place, and the record is not written, or is of others
+stopped
+rm last/4.checked
+goes_on 0 "$refuted"
+stopped
+sed -i 's/^before .*/before 0000000000000000000000000000000000000000000000000000000000000000/' last/4.checked
+goes_on 0 "$refuted"
+same tried $'last/4.cnf\nlast/3.cnf\nlast/2.cnf\nformula.cnf'
+stopped
+fails 0 "$refuted" pieces run formula.cnf cook.drat last --lemmas 100 --live 100000 --memory
+stopped
+sed '2s/ 0$/ 1000 0/' formula.cnf > wider.cnf
+fails 1 'is refused' pieces run wider.cnf cook.drat last --lemmas 50 --live 100000 --memory
+stopped
+fails 1 'is refused' pieces run formula.cnf eight.drat last --lemmas 50 --live 100000 --memory
 
 # Where pieces wait, no more of the proof is read than lies in pipes.
 python3 -B "$top/tests/drat/formulas.py" pigeons 20 > twenty.cnf
@@ -376,6 +452,8 @@ python3 -B "$top/tests/drat/formulas.py" multiplier 5 > multiplier.cnf
 cadical -q multiplier.cnf multiplier.drat > said || true
 fails 1 '1: foreign/1.drat is refused' pieces run formula.cnf multiplier.drat foreign --lemmas 500
 fails 0 "$unsat" pieces run multiplier.cnf multiplier.drat right --lemmas 500
+fails 1 'is refused' pieces run formula.cnf multiplier.drat foreign --lemmas 500 --memory
+fails 0 "$unsat" pieces run multiplier.cnf multiplier.drat right --lemmas 500 --memory
 ends 20 "$unsat" checked --while cadical multiplier.cnf
 ends 20 "$unsat" checked --while cadical formula.cnf
 exit "$wrong"

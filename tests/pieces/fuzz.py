@@ -6,7 +6,8 @@ The proofs have definitions (RAT) and deletions among their steps, of clauses th
 Where each piece is verified and the last one refuted, the formula may not be satisfiable. A proof that meets the definition at every
 step, and of which a checker may pass over nothing, must be verified in pieces; so must one that is not damaged and is verified as a
 whole. The clauses before a piece must be those that the steps before leave, and where a literal of one is turned, so that nobody has
-such a clause, the piece before must be refused.
+such a clause, the piece before must be refused. With the last piece first, each shows only what the one behind it has used, which is a part of
+what was before that: what is verified so can't be satisfied, and a proof that is not damaged and is verified in pieces must be verified so too.
 """
 
 import os
@@ -84,10 +85,12 @@ class Pieces:
         self.count = sum(it.endswith(".drat") and it[0].isdigit() for it in os.listdir(self.folder))
         return ran
 
+    def before(self, name):
+        return f"{self.folder}/a.cnf" if name == 1 else self.path(name, "cnf")
+
     def check(self, name, behind=None):
-        before = f"{self.folder}/a.cnf" if name == 1 else self.path(name, "cnf")
         held = ["--holds", behind or self.path(name + 1, "cnf")] if name < self.count else []
-        return subprocess.run([self.checker, "--drat", before, self.path(name, "drat"), *held], capture_output=True, text=True, timeout=60)
+        return subprocess.run([self.checker, "--drat", self.before(name), self.path(name, "drat"), *held], capture_output=True, text=True, timeout=60)
 
     def verdict(self):
         """Whether all pieces up to one that is refuted are verified; else what is said of the first other one."""
@@ -98,6 +101,21 @@ class Pieces:
             if ran.returncode != 0 or ran.stdout != HELD:
                 return False, f"piece {name} of {self.count}: status {ran.returncode}: {ran.stdout}{ran.stderr}"
         return False, f"piece {self.count} is held, and is the last one"
+
+    def backward(self):
+        """Why the pieces are not verified with the last one first, or nothing."""
+        behind, wanted = os.devnull, (REFUTED,)
+        for name in range(self.count, 0, -1):
+            core = self.path(name, "core")
+            call = [self.checker, "--drat", self.before(name), self.path(name, "drat"), "--holds", behind, "--core", core]
+            ran = subprocess.run(call, capture_output=True, text=True, timeout=60)
+            if ran.returncode or ran.stdout not in wanted:
+                return f"piece {name} of {self.count}: status {ran.returncode}: {ran.stdout}{ran.stderr}"
+            clauses = read_clauses(self.before(name))
+            if any(it not in clauses for it in read_clauses(core)):
+                return f"the core of piece {name} of {self.count} is no part"
+            behind, wanted = core, (REFUTED, HELD)
+        return None
 
 
 def turned(pieces, name, known, draw):
@@ -137,6 +155,12 @@ def try_case(pieces, seed, counts):
     counts["verified"] += verified
     if verified and is_satisfiable(case.formula):
         return "verified, and the formula is satisfiable"
+    refused = pieces.backward()
+    counts["backward"] += not refused
+    if not refused and is_satisfiable(case.formula):
+        return "verified with the last piece first, and the formula is satisfiable"
+    if refused and ("no part" in refused or (verified and not seed % 2)):
+        return f"verified in pieces, and with the last one first it is refused: {refused}"
     whole = subprocess.run([pieces.checker, "--drat", f"{pieces.folder}/a.cnf", f"{pieces.folder}/a.drat"], capture_output=True, text=True)
     met, plain = meets_definition(case.formula, case.steps)
     if not verified and met and (plain or (whole.stdout == REFUTED and not seed % 2)):
@@ -154,7 +178,7 @@ def try_case(pieces, seed, counts):
 
 
 def main(cutter, checker, count, first=1):
-    wrong, counts = 0, dict.fromkeys(("cut", "pieces", "verified", "turned"), 0)
+    wrong, counts = 0, dict.fromkeys(("cut", "pieces", "verified", "backward", "turned"), 0)
     with tempfile.TemporaryDirectory() as folder:
         pieces = Pieces(cutter, checker, folder)
         for seed in range(int(first), int(first) + int(count)):
