@@ -22,11 +22,23 @@ pub(crate) fn check_piece(
     let (cnf, piece) = open_inputs(rt, names.cnf, names.other).ok_or(NOT_RUN)?;
     let holds = open_file(rt, holds_name).ok_or(NOT_RUN)?;
     let mut files = WrittenFiles::new(rt);
-    let lrat = call.value("--lrat");
+    let (lrat, core) = (call.value("--lrat"), call.value("--core"));
     // A device, as /dev/null, may be both read and written.
-    let lrat = match holds.length(rt) {
-        Some(_) => files.create_wanted(lrat, &[&cnf, &piece, &holds])?,
-        None => files.create_wanted(lrat, &[&cnf, &piece])?,
+    let (lrat, core) = match holds.length(rt) {
+        Some(_) => {
+            let inputs = &[&cnf, &piece, &holds];
+            (
+                files.create_wanted(lrat, inputs)?,
+                files.create_wanted(core, inputs)?,
+            )
+        }
+        None => {
+            let inputs = &[&cnf, &piece];
+            (
+                files.create_wanted(lrat, inputs)?,
+                files.create_wanted(core, inputs)?,
+            )
+        }
     };
     let outputs = &mut PieceOutputs {
         lrat,

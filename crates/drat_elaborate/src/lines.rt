@@ -49,8 +49,8 @@ impl Lines {
         }
     }
 
-    /// The clauses of the formula get their ids; those that are not used are the first to go, or get
-    /// none.
+    /// The clauses of the formula get their ids; those that are not used are the first to go, or
+    /// get none.
     pub(crate) fn begin(
         &mut self,
         clauses: &Clauses,

@@ -292,8 +292,8 @@ const CORES: [CoreRow; 13] = [
         PIECE,
         "",
     ),
-    // a clause that its literal's negation stands in speaks against a redundant one only where it is
-    // used
+    // a clause that its literal's negation stands in speaks against a redundant one only where it
+    // is used
     (
         b"-1 2 0 2 3 0 2 -3 0 4 5 0",
         b"1 0 2 3 0",

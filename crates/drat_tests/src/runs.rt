@@ -166,7 +166,7 @@ fn are_answered(rt: &impl Abort, alloc: Global, rows: &[Row], format: ProofForma
 const ALIKE: &[u8] = b"1 2 0 -1 -2 0 1 3 0 2 3 0 -1 4 0 -2 4 0 -3 -4 5 6 0 -3 -4 5 -6 0 \
     -3 -4 -5 6 0 -3 -4 -5 -6 0";
 
-/// These clauses with the largest variable that there is in place of 6, so that no other one is left.
+/// These clauses with the largest variable that there is in place of 6, so that none is left over.
 const ALIKE_AT_MOST: &[u8] = b"1 2 0 -1 -2 0 1 3 0 2 3 0 -1 4 0 -2 4 0 -3 -4 5 268435456 0 \
     -3 -4 5 -268435456 0 -3 -4 -5 268435456 0 -3 -4 -5 -268435456 0";
 
