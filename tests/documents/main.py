@@ -12,8 +12,8 @@ What a document can say of files, and how it is written:
     laws `name`, `name`                 laws of some crate; so are the names in a column "law" of a table
     ```rust path                        a quotation: these words are there one after the other
 
-The table of crates has those of `crates.txt`, each with all that is below it there, by itself or with another that is named. The README and FORMATS have
-each program as it says that it is called. There is one version. Words over which readers of technical English stumble are not used.
+The table of crates has those of `crates.txt`, each with all that is below it there, by itself or with another that is named. The README has each
+program as it says that it is called. There is one version. Words over which readers of technical English stumble are not used.
 """
 
 import os
@@ -168,8 +168,6 @@ def bad_calls():
     for call in calls():
         if f"`{call}`" not in text_of("README.md"):
             yield f"README.md: no program `{call}`"
-        if f"`usage: {call}`" not in text_of("docs/reference/FORMATS.md"):
-            yield f"docs/reference/FORMATS.md: no `usage: {call}`"
 
 
 def bad_versions():
