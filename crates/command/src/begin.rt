@@ -1,5 +1,5 @@
 //! How a program begins: with the words of its call.
-ghost use Rattle.std.specs.Prelude.{◌≡◌, ◌⊎◌, ◌∷◌, ℕ, Result, [], IfErr, IfOk};
+ghost use Rattle.std.specs.Prelude.{◌≡◌, ◌⊎◌, ◌∷◌, ℕ, Result, [], IfErr, IfOk, IsOk, length};
 ghost use Rattle.std.specs.Fn.{FnOnceReturnsAt};
 ghost use Rattle.std.specs.Process.{exit_status};
 ghost use Rattle.command.specs.Calls.{IsExampleAlone, operands_of};
@@ -116,6 +116,7 @@ pub fn input_names<'c>(
     ensures err { IfErr result (λ status. status ≡ NOT_RUN) }
     ensures ok { IfOk result (λ names.
         operands_of call.now ≡ names.cnf.now ∷ names.other.now ∷ []) }
+    ensures two { length (operands_of call.now) ≡ 2 → IsOk result }
 {
     match call.operands.as_slice() {
         [cnf, other] => Ok(InputNames {

@@ -97,6 +97,9 @@ impl<'a> WrittenFiles<'a> {
         ensures wanted { IfOk result (λ file. is_some file ≡ is_some name.entry) }
         ensures names { IfOk result (λ file. names_of self.new
             ≡ names_of self.old ++ option_to_list (option_map (λ name. name.now) name.entry)) }
+        ensures kept { IsErr result → (names_of self.new ≡ names_of self.old)
+            ⊎ (names_of self.new
+            ≡ names_of self.old ++ option_to_list (option_map (λ name. name.now) name.entry)) }
     {
         let Some(name) = name else {
             return Ok(None);
