@@ -12,15 +12,15 @@ What a document can say of files, and how it is written:
     laws `name`, `name`                 laws of some crate; so are the names in a column "law" of a table
     ```rust path                        a quotation: these words are there one after the other
 
-The table of crates has those of `crates.txt`, each with all that is below it there, by itself or with another that is named. The README has each
-program as it says that it is called. There is one version. Words over which readers of technical English stumble are not used.
+Of each crate of `crates.txt` something is said, except of programs and of tests. The README has each program as it says that it is
+called. There is one version. Words over which readers of technical English stumble are not used.
 """
 
 import os
 import re
 import sys
 
-from sources import below, calls, cited, contracts, crates, laws, lines_of, listed, text_of
+from sources import calls, cited, contracts, crates, laws, lines_of, listed, text_of
 
 LINK = re.compile(r"\]\(([^)#:\s]*)(#[^)\s]*)?\)")
 FOLDERS = ("benches", "bindings", "crates", "docs", "tests", "tools")
@@ -33,7 +33,6 @@ QUOTED = re.compile(r"^```\w+ (\S+/\S+)\n(.*?)^```$", re.MULTILINE | re.DOTALL)
 HEADING = re.compile(r"^#+ (.*)$", re.MULTILINE)
 LAWS = re.compile(r"\b[Ll]aws? (`\w+`(?:(?:,| and) `\w+`)*)")
 CONTRACT = re.compile(r"((?:`[\w:]+`(?:, | and )?)+)(?: of [^:|;]*)?: ((?:`\w+`(?: \([^)]*\))?(?:, | and )?)+)")
-ROW = re.compile(r"^\| `(\w+)` \|.*\|([^|]*)\|$", re.MULTILINE)
 CRATES_PAGE = "docs/reference/ARCHITECTURE.md"
 VERSION_PAGE = "crates/command/src/status.rt"
 PLAIN = {
@@ -149,19 +148,14 @@ def bad_contracts(text, clauses, relations):
 
 
 def bad_crates():
-    known = crates()
-    told = dict(ROW.findall(text_of(CRATES_PAGE).split("\n## ")[1]))
-    for crate in sorted(known.keys() - told.keys()):
-        yield f"{CRATES_PAGE}: no row for the crate {crate}"
-    for crate in sorted(told.keys() - known.keys()):
-        yield f"{CRATES_PAGE}: a row for {crate}, which is no crate"
-    for crate in sorted(told.keys() & known.keys()):
-        named = set(re.findall(r"`(\w+)`", told[crate]))
-        all_below = below(crate, known)
-        for other in sorted(named - all_below):
-            yield f"{CRATES_PAGE}: {other} is not below {crate}"
-        for other in sorted(all_below - named.union(*(below(it, known) for it in named))):
-            yield f"{CRATES_PAGE}: {crate} rests on {other}, and that comes with none that its row names"
+    known = set(crates())
+    lines = re.findall(r"^- .*", text_of(CRATES_PAGE).split("\n## ")[1], re.MULTILINE)
+    told = {name for line in lines for name in re.findall(r"`(\w+)`(?:, |: )", line)}
+    for crate in sorted(known - told):
+        if not crate.endswith(("_main", "_tests")):
+            yield f"{CRATES_PAGE}: nothing is said of the crate {crate}"
+    for crate in sorted(told - known):
+        yield f"{CRATES_PAGE}: {crate}, which is no crate"
 
 
 def bad_calls():

@@ -68,17 +68,5 @@ def calls():
 
 
 def crates():
-    """Each crate of `crates.txt`, with those that its line names."""
-    lines = [line.split("#")[0] for line in text_of("crates.txt").splitlines()]
-    named = [line.split(":") for line in lines if ":" in line]
-    return {head.split()[0]: rest.split() for head, rest in named}
-
-
-def below(crate, known):
-    """All that is below a crate."""
-    found, left = set(), [crate]
-    while left:
-        new = set(known.get(left.pop(), ())) - found
-        found |= new
-        left += new
-    return found
+    """The crates of `crates.txt`."""
+    return re.findall(r"^(\w+)[^#\n]*:", text_of("crates.txt"), re.MULTILINE)
