@@ -1,7 +1,7 @@
 #!/usr/bin/env bash
-# Counts the instructions that the program takes for proofs, and compares them with the table of
-# README.md: benches/instructions.sh [FOLDER]
-# Proofs of the table are looked for in tests/data and in FOLDER. A figure that is more than three
+# Counts the instructions that the program takes for proofs, and compares them with
+# instructions.txt: benches/instructions.sh [FOLDER]
+# Its proofs are looked for in tests/data and in FOLDER. A figure that is more than three
 # parts in a hundred worse makes the status 1. The program is the one that `rt run` left in out/;
 # PROGRAM may name another. It needs valgrind.
 set -euo pipefail
@@ -38,7 +38,7 @@ instructions() {
 status=0
 measured=0
 printf '%-18s %10s %10s %8s\n' proof 'a hash' 'a step' change
-while read -r proof steps hashes before; do
+while read -r proof steps hashes before _; do
   folder=$(folder_of "$proof")
   if [[ -z $folder ]]; then
     continue
@@ -52,10 +52,9 @@ while read -r proof steps hashes before; do
     echo "$proof: more than 3 % worse than $before a hash" >&2
     status=1
   fi
-done < <(sed -n 's/^| \([a-z0-9.]*\) | \([0-9]*\) | \([0-9]*\) | \([0-9]*\) | [0-9]* |$/\1 \2 \3 \4/p' \
-  "$top/benches/README.md")
+done < <(grep -v '^#' "$top/benches/instructions.txt")
 if ((measured == 0)); then
-  echo 'no proof of the table was found' >&2
+  echo 'no proof of the list was found' >&2
   exit 1
 fi
 exit $status

@@ -1,4 +1,4 @@
-"""Draws benches/times.svg: the seconds of `drat_check` and of the program beside it, from the table of 34 proofs in benches/README.md.
+"""Draws benches/times.svg: the seconds of `drat_check` and of the program beside it, from the 34 proofs of benches/drat_list.txt.
 
     python3 benches/picture.py             writes the picture
     python3 benches/picture.py --check     says whether the picture is the one that would be written, and writes nothing
@@ -6,13 +6,10 @@
 
 import math
 import os
-import re
 import sys
 
 HERE = os.path.dirname(os.path.abspath(__file__))
 PICTURE = os.path.join(HERE, "times.svg")
-ROW = re.compile(r"^\| `(\w+)` \| ([\d,]+) \| [\d.–]+ \| ([\d.]+) / ([\d.]+) \| [\d.]+ / [\d.]+ \|", re.MULTILINE)
-HEAD = "| proof | bytes | solver | seconds | MB at most |"
 
 WIDTH, HEIGHT, LEFT, TOP, RIGHT, BOTTOM = 820, 430, 70, 46, 36, 50
 BYTES, SECONDS = (1e5, 1e8), (0.01, 30)
@@ -26,8 +23,10 @@ def text_of(path):
 
 def rows():
     """Each proof with its bytes and the two times."""
-    table = text_of(os.path.join(HERE, "README.md")).split(HEAD)[1].split("\n\n")[0]
-    return [(name, int(size.replace(",", "")), (float(ours), float(other))) for name, size, ours, other in ROW.findall(table)]
+    for line in text_of(os.path.join(HERE, "drat_list.txt")).splitlines():
+        if not line.startswith("#"):
+            name, size, _, ours, other, *_ = line.split()
+            yield name, int(size), (float(ours), float(other))
 
 
 def along(value, ends, first, last):
