@@ -22,26 +22,25 @@ VARIANT = re.compile(r"^    (\w+)(\([^)]*\))?,$", re.MULTILINE)
 
 HEAD = """# What `s VERIFIED UNSAT` means, whole
 
-This page is made by `docs/definitions_page.py` from the files that it names, and compared with them by `tests/documents.sh`. It has \
-all definitions that `IsRefuted` reaches: {count} of them, {lines} lines with their comments. Whoever has read it knows what a \
-program claims by that line; that the claim is proved, and what else it rests on, is said in [TRUST.md](TRUST.md). The same in \
-Python, to run on one's own texts, is `docs/definitions.py`; `tests/definitions.sh` compares it with `lrat_check`.
+Made by `docs/definitions_page.py` from the files that it names, this page has all definitions that `IsRefuted` reaches: {count} of \
+them, {lines} lines with their comments. Whoever has read it knows what a program claims by that line; that the claim is proved, and \
+what else it rests on, is said in [TRUST.md](TRUST.md). The same in Python, to run on one's own texts, is `docs/definitions.py`.
 
 ## Notation
 
 | written | is |
 |---|---|
 | `f : A → B → C` | the type of `f`, which takes an `A` and a `B` and gives a `C`. `f x y` is its value; `(f x) y` is the same |
-| `abbrev pub f`, `unfoldable pub f` | a definition. The lines below it are its equations, by the form of what it takes; `pub` is: seen from other files |
+| `abbrev pub f`, `unfoldable pub f` | a definition. The lines below it are its equations, by the form of what it takes |
 | `ℕ`, `Bool`, `Option A` | the numbers 0, 1, 2 and so on; `true` or `false`; `None`, or `Some` of an `A` |
 | `List A`, `[]`, `x ∷ xs`, `xs ++ ys` | lists; the empty one; `x` before the list `xs`; one list behind the other |
 | `λ x. E` | the function that takes `x` and gives `E` |
-| `A × B`, `(x, y)`, `o.0`, `o.1` | pairs: their type, one of them, its first and its second |
+| `A × B`, `(x, y)`, `o.0`, `o.1` | pairs: their type, one of them, its parts |
 | `(x : A) × P` | there is an `x` of which `P` holds. What it is, is part of the proof |
 | `(x : A) → P` | `P` holds of every `x` |
 | `x ≡ y` | a claim: both are the same. `x == y`, of numbers, is computed, and is `true` or `false` |
 | `data T where A : T` | a type that has the values below it and no others |
-| `m / 2`, `m % 2`, `2 ^ 28`, `m - n` | the quotient, the remainder, a power; a difference, which is 0 where `n` is the greater one |
+| `m / 2`, `m % 2`, `2 ^ 28`, `m - n` | quotient, remainder, power; a difference, which is 0 where `n` is the greater one |
 
 Of the library: `list_any p xs`, `list_all p xs`: some, every element passes `p`. `filter p xs`: those that do; `find p xs`: the first \
 that does. `slice_split p xs`: the pieces of `xs` between the elements that pass `p`, one more than there are of these. `codes "cnf"`: \
