@@ -88,6 +88,7 @@ pub fn run_piece<
         (bytes_in L.contents outputs.old.lrat) (bytes_in L.contents outputs.new.lrat)
         (W.contents out.old) (W.contents out.new) result }
     ensures apart { IsSome outputs.old.core → outputs.new.lrat ≡ outputs.old.lrat }
+    ensures form { outputs.new.form ≡ outputs.old.form }
     ensures core { WritesPieceCore (F.remaining cnf) (G.remaining holds)
         (bytes_in C.contents outputs.old.core) (bytes_in C.contents outputs.new.core)
         (W.contents out.old) (W.contents out.new) result }

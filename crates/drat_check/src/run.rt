@@ -45,6 +45,7 @@ pub fn run_check<R: Log, F: Read + Drop, P: Read + Drop, W: Write, L: Write, C: 
     ensures outputs { OfFormula (F.remaining cnf) (λ formula. WritesOutputs formula
         L.contents C.contents outputs.old outputs.new W.contents out.old out.new result)
         ⊎ HasNoFormula result }
+    ensures form { outputs.new.form ≡ outputs.old.form }
     ensures refutes { (text : List ℕ) → F.remaining cnf ≡ Some text
         → result ≡ Ok Verified → IsRefuted text }
     ensures lie { RunTellsLie (F.remaining cnf) result lie.new }
@@ -83,6 +84,7 @@ pub fn run_proof<R: Log, P: Read + Drop, W: Write, L: Write, C: Write>(
     ensures silent { IsSilent result → out.new ≡ out.old }
     ensures outputs { WritesOutputs formula.now L.contents C.contents
         outputs.old outputs.new W.contents out.old out.new result }
+    ensures form { outputs.new.form ≡ outputs.old.form }
     ensures refutes { result ≡ Ok Verified → (a : ℕ → Bool) → all_true a formula.now ≡ false }
 {
     let verdict = match verdict_of(rt, alloc, formula, proof, format, outputs) {
@@ -110,6 +112,7 @@ fn verdict_of<R: Log, P: Read + Drop, L: Write, C: Write>(
     ensures early { IsEarly result }
     ensures outputs { WritesBefore formula.now L.contents C.contents
         outputs.old outputs.new result }
+    ensures form { outputs.new.form ≡ outputs.old.form }
 {
     let mut elaborator = match read_proof(alloc, formula, proof, format, &outputs.counts) {
         Ok(elaborator) => elaborator,
