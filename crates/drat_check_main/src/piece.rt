@@ -3,51 +3,31 @@ use crate::about::ABOUT;
 use crate::fault::{is_unread, place_in_piece, say_stats, unread_formula, unread_wanted};
 use crate::form_of;
 use command::{
-    Call, Cost, FaultPlace, InputNames, NOT_RUN, OutputAfterFiles, WrittenFiles, hold_file,
+    Call, Cost, FaultPlace, Input, InputNames, NOT_RUN, OutputAfterFiles, WrittenFiles, hold_file,
     open_file, open_inputs, progress_of, say_fault, say_missing, warn_of_header,
 };
 use drat_check::{PieceOutputs, ProofFormat, piece_status, run_piece};
 use std::cell::Cell;
+use std::fs::File;
+use std::io::BufWriter;
 
 /// Checks a piece of a proof. All files are open before anything is read, and both formulas are
 /// read whole.
-pub(crate) fn check_piece(
-    rt: &HostRuntime,
-    names: InputNames<'_>,
-    holds_name: &str,
+pub(crate) fn check_piece<'a>(
+    rt: &'a HostRuntime,
+    names: InputNames<'a>,
+    holds_name: &'a str,
     format: ProofFormat,
-    call: &Call<'_>,
+    call: &'a Call<'_>,
 ) -> Result<u8, u8> {
     let cost = Cost::from_now(rt);
     let (cnf, piece) = open_inputs(rt, names.cnf, names.other).ok_or(NOT_RUN)?;
     let holds = open_file(rt, holds_name).ok_or(NOT_RUN)?;
     let mut files = WrittenFiles::new(rt);
-    let (lrat, core) = (call.value("--lrat"), call.value("--core"));
     // A device, as /dev/null, may be both read and written.
-    let (lrat, core) = match holds.length(rt) {
-        Some(_) => {
-            let inputs = &[&cnf, &piece, &holds];
-            (
-                files.create_wanted(lrat, inputs)?,
-                files.create_wanted(core, inputs)?,
-            )
-        }
-        None => {
-            let inputs = &[&cnf, &piece];
-            (
-                files.create_wanted(lrat, inputs)?,
-                files.create_wanted(core, inputs)?,
-            )
-        }
-    };
-    let outputs = &mut PieceOutputs {
-        lrat,
-        form: form_of(call),
-        core,
-        counts: Cell::default(),
-        missing: None,
-        lie: None,
-        wanted_lie: None,
+    let outputs = &mut match holds.length(rt) {
+        Some(_) => create_outputs(&mut files, call, &[&cnf, &piece, &holds])?,
+        None => create_outputs(&mut files, call, &[&cnf, &piece])?,
     };
     let cnf = hold_file(rt, names, cnf, FaultPlace::Formula, unread_formula)?;
     let wanted = FaultPlace::Wanted(holds_name);
@@ -76,4 +56,21 @@ pub(crate) fn check_piece(
         say_stats(rt, outputs.counts.get(), cost);
     }
     Ok(piece_status(&outcome))
+}
+
+/// Makes the files that are wanted. None of them is one of the inputs, nor is one file made twice.
+fn create_outputs<'a>(
+    files: &mut WrittenFiles<'a>,
+    call: &'a Call<'_>,
+    inputs: &[&Input<'_>],
+) -> Result<PieceOutputs<BufWriter<File>, BufWriter<File>>, u8> {
+    Ok(PieceOutputs {
+        lrat: files.create_wanted(call.value("--lrat"), inputs)?,
+        form: form_of(call),
+        core: files.create_wanted(call.value("--core"), inputs)?,
+        counts: Cell::default(),
+        missing: None,
+        lie: None,
+        wanted_lie: None,
+    })
 }
