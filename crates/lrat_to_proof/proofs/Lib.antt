@@ -1,4 +1,5 @@
 pub mod HoldingLemmas
 pub mod WrittenLemmas
+pub mod BegunLemmas
 pub mod ConvertedLemmas
 pub mod LineLemmas

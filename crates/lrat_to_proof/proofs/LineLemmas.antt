@@ -1,13 +1,14 @@
 -- The lines of a proof in turn.
 --     run-more      one line more at the end
 --     SoFar      the lines that were read so far, all of them converted
-use Rattle.std.proofs.Common.{◌≡◌, ℕ, Bool, true, false, List, [], ◌∷◌, ◌++◌, Option, Some, None, Result, Ok, Err, MatchBool, refl, sym, ap, ◌∙◌, subst, cond}
+--     begun_none, begun_end, given_up      a proof that was given up before its lines and behind them
+use Rattle.std.proofs.Common.{◌≡◌, ℕ, Bool, true, false, List, [], ◌∷◌, ◌++◌, ◌⊎◌, inl, inr, Option, Some, None, Result, Ok, Err, MatchBool, refl, sym, ap, ◌∙◌, append-nil, subst, cond}
 use Rattle.std.specs.Prelude.{IfSome}
 use Rattle.std.specs.Io.KnownBytes.{Appends}
 use Rattle.lrat_rules.specs.Lines.{Line}
 use Rattle.proof_bytes.specs.Version2.{text_2}
 use Rattle.lrat_text.specs.NextLine.{view}
-use Rattle.lrat_text.specs.Texts.{Ended, Faulty, Outcome}
+use Rattle.lrat_text.specs.Texts.{Ended, Ending, Faulty, Outcome}
 use Rattle.lrat_text.specs.declared.fault.LratTextFault.{LratTextFault}
 use Rattle.lrat_text.specs.declared.fault.LratTextFault.TheVariants as reads
 use Rattle.lrat_text.specs.declared.line.LratLine.{LratLine}
@@ -19,15 +20,17 @@ use Rattle.lrat_binary.specs.declared.proof.LratReader.{LratReader}
 use Rattle.lrat_binary.proofs.GivenLines.{HasGiven, all_said, begins_as, begins_so, given_begun, given_end, given_fault, given_more, given_start, says_as}
 use Rattle.lrat_binary.proofs.ReadLemmas.{Known}
 use Rattle.lrat_checker.specs.TextAnswers.{said}
-use Rattle.lrat_to_proof.specs.Converting.{Converted, next, next_open, run, then_run}
-use Rattle.lrat_to_proof.specs.Faults.{IsCause, IsRefusal, in_line, of_text}
-use Rattle.lrat_to_proof.specs.Runs.{ConvertsLines, IsCut, IsStopped, proof_says}
-use Rattle.lrat_to_proof.specs.Standing.{HasConverted, Reaches, holding_of}
+use Rattle.lrat_to_proof.specs.Converting.{Converted, next, next_open, run, then_run, whole}
+use Rattle.lrat_to_proof.specs.Faults.{IsCause, IsGivenUp, IsRefusal, giving_up, in_line, of_text}
+use Rattle.lrat_to_proof.specs.Runs.{ConvertsLines, IsBegun, IsStopped, Leads, proof_says}
+use Rattle.lrat_to_proof.specs.Standing.{HasBegun, HasConverted, Reaches, StopsIn, holding_of}
 use Rattle.lrat_to_proof.specs.declared.converter.Converter.{Converter}
+use Rattle.lrat_to_proof.specs.declared.fault.GivenUp.{GivenUp}
 use Rattle.lrat_to_proof.specs.declared.fault.GivenUp.TheVariants as reasons
 use Rattle.lrat_to_proof.specs.declared.fault.LineCause.{LineCause}
 use Rattle.lrat_to_proof.specs.declared.fault.Stop.{Stop}
 use Rattle.lrat_to_proof.specs.declared.fault.Stop.TheVariants as stops
+use Rattle.lrat_to_proof.proofs.BegunLemmas.{begun_to_end, begun_whole}
 
 said-more : (ls : List (ℕ × Line)) (n : ℕ) (l : Line) → said (ls ++ (n, l) ∷ []) ≡ said ls ++ l ∷ []
 said-more [] n l = refl
@@ -120,10 +123,34 @@ module _ {R : Type 0} (remaining : R → Option (List ℕ)) (known : Known) (for
       )
 
       module _ (wanted : (holding_of x.held).refuted ≡ false) (new : LratReader R) where
-        -- a line that is refused
+        -- a line of which not all was written
+        so_far_begun : (line : LratLine) → Gives remaining old new (Ok (Some line)) → (later : Option (List ℕ)) (d : Converted) → (d ≡ so.after) ⊎ (next width so.after (view line) ≡ Ok d) →
+            HasBegun start later d.steps → IsBegun says known width c start later
+        so_far_begun line gives later d (inl e) begun = record {
+          lines = so.lines;
+          after = so.after;
+          text = begins remaining says known form same old so.lines so.given;
+          ran = so.ran;
+          written = begun_to_end start later so.after (subst (λ (k : Converted). HasBegun start later k.steps) e begun);
+        }
+        so_far_begun line gives later d (inr e) begun = record {
+          lines = so.lines ++ (line_number new, view line) ∷ [];
+          after = d;
+          text = begins remaining says known form same new (so.lines ++ (line_number new, view line) ∷ []) (more_given new line gives);
+          ran = run_on width c so.after d so.lines (line_number new) (view line) so.ran (still_open wanted) e;
+          written = begun_to_end start later d begun;
+        }
+
+        given_up_in : (line : LratLine) → Gives remaining old new (Ok (Some line)) → (later : Option (List ℕ)) → StopsIn start later so.after (next width so.after (view line)) →
+            IsBegun says known width c start later
+        given_up_in line gives later s = so_far_begun line gives later s.upto s.is s.begun
+
+        -- a line that is refused, or that was given up
         pub so_far_refused : (line : LratLine) → Gives remaining old new (Ok (Some line)) → (stop : Stop) (later : Option (List ℕ)) → (IsRefusal stop → later ≡ now) →
-            ((d : Converted) → HasConverted width start now d x → IsCause stop (next width d (view line))) → IsStopped says known width c start later (in_line stop (line_number new))
-        so_far_refused line gives (stops.Refused cause) later kept refused = record {
+            ((d : Converted) → HasConverted width start now d x → IsCause stop (next width d (view line))) →
+            ((d : Converted) → HasConverted width start now d x → IsGivenUp stop → StopsIn start later d (next width d (view line))) →
+            IsStopped says known width c start later (in_line stop (line_number new))
+        so_far_refused line gives (stops.Refused cause) later kept refused stopped = record {
           lines = so.lines;
           line = view line;
           before = so.after;
@@ -133,8 +160,10 @@ module _ {R : Type 0} (remaining : R → Option (List ℕ)) (known : Known) (for
           refused = refused so.after so.stands;
           written = subst (λ k. Appends start k (text_2 so.after.steps)) (sym (kept tt)) so.stands.written.bytes;
         }
-        so_far_refused line gives (stops.GivenUp (reasons.Write cause)) later kept refused = tt
-        so_far_refused line gives (stops.GivenUp reasons.OutOfMemory) later kept refused = tt
+        so_far_refused line gives (stops.GivenUp (reasons.Write cause)) later kept refused stopped =
+            given_up_in line gives later (stopped so.after so.stands tt)
+        so_far_refused line gives (stops.GivenUp reasons.OutOfMemory) later kept refused stopped =
+            given_up_in line gives later (stopped so.after so.stands tt)
 
         -- the end of the proof
         pub so_far_ended : Gives remaining old new (Ok None) → ConvertsLines says known width c start now x (Ok tt)
@@ -167,7 +196,13 @@ module _ {R : Type 0} (remaining : R → Option (List ℕ)) (known : Known) (for
           ran = so.ran;
           written = so.stands.written.bytes;
         }
-        so_far_unread reads.OutOfMemory gives = tt
+        so_far_unread reads.OutOfMemory gives = record {
+          lines = so.lines;
+          after = so.after;
+          text = begins remaining says known form same old so.lines so.given;
+          ran = so.ran;
+          written = begun_to_end start now so.after (begun_whole start now so.after.steps so.stands.written.bytes);
+        }
 
 -- ---- a proof that was opened, or not
 
@@ -179,6 +214,29 @@ read_so ids n form (Some bytes) is = ap (λ (f : LratForm). outcome_in f bytes) 
 nothing_said : (says : List ℕ → Outcome) (known : Known) → BeginsWith says known []
 nothing_said says None = (([], Ended), tt)
 nothing_said says (Some bytes) = (says bytes, refl)
+
+-- what is all said is a beginning
+begins_all : (says : List ℕ → Outcome) (known : Known) (lines : List (ℕ × Line)) (ending : Ending) → SaysAll says known lines ending → BeginsWith says known lines
+begins_all says None lines ending p = (([], ending), tt)
+begins_all says (Some bytes) lines ending p = (([], ending), p ∙ ap (λ (ls : List (ℕ × Line)). (ls, ending)) (sym (append-nil lines)))
+
+begins_led : (says : List ℕ → Outcome) (known : Known) (lines : List (ℕ × Line)) (found : Bool) → MatchBool found (BeginsWith says known lines) (SaysAll says known lines Ended) → BeginsWith says known lines
+begins_led says known lines true p = p
+begins_led says known lines false p = begins_all says known lines Ended p
+
+module _ (says : List ℕ → Outcome) (known : Known) (width : ℕ) (c : Converted) (start now : Option (List ℕ)) where
+  -- no line was taken
+  pub begun_none : HasBegun start now c.steps → IsBegun says known width c start now
+  begun_none begun = record { lines = []; after = c; text = nothing_said says known; ran = refl; written = begun_to_end start now c begun }
+
+  -- all lines were
+  pub begun_end : (lines : List (ℕ × Line)) (d : Converted) → Leads says known width c lines d → HasBegun start now (whole d) → IsBegun says known width c start now
+  begun_end lines d leads begun = record { lines = lines; after = d; text = begins_led says known lines d.held.refuted leads.text; ran = leads.ran; written = begun }
+
+  -- nothing more could be written
+  pub given_up : (why : GivenUp) → IsBegun says known width c start now → IsStopped says known width c start now (giving_up why)
+  given_up (reasons.Write cause) begun = begun
+  given_up reasons.OutOfMemory begun = begun
 
 module _ (says : List ℕ → Outcome) (known : Known) (width : ℕ) (c : Converted) (start now : Option (List ℕ)) (x : Converter) (h : HasConverted width start now c x) where
   -- no line is wanted
@@ -196,4 +254,4 @@ module _ (says : List ℕ → Outcome) (known : Known) (width : ℕ) (c : Conver
   pub not_opened : (fault : LratTextFault) → IsNoLine fault → IsStopped says known width c start now (of_text fault)
   not_opened (reads.Line n kind) none = absurd none
   not_opened (reads.Read cause) none = record { lines = []; before = c; text = nothing_said says known; ran = refl; written = h.written.bytes }
-  not_opened reads.OutOfMemory none = tt
+  not_opened reads.OutOfMemory none = begun_none says known width c start now (begun_whole start now c.steps h.written.bytes)

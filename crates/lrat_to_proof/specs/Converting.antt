@@ -5,7 +5,7 @@
 --     derivation c hashes, deletion e      the steps of an added clause and of a deleted one
 --     next width c line, run width c lines      one line more, and all lines in turn;  or why a line is refused
 --     whole c      all steps of the proof
-use Rattle.std.specs.Prelude.{ℕ, Bool, true, false, ◌&&◌, ◌==◌, if◌then◌else◌, List, [], ◌∷◌, ◌++◌, Option, Some, None, is_some, Result, Ok, Err}
+use Rattle.std.specs.Prelude.{ℕ, true, ◌&&◌, ◌==◌, if◌then◌else◌, List, [], ◌∷◌, ◌++◌, Option, Some, None, is_some, Result, Ok, Err}
 use Rattle.sat_rules.specs.Clauses.{is_tautology}
 use Rattle.checker_rules.specs.State.{clause_hash}
 use Rattle.checker_rules.specs.Step.{Step, at_clause, by_redundant, change_hash_bits, delete_clause, end_proof}

@@ -31,6 +31,11 @@ abbrev pub IsCause : {A : Type 0} → Stop → Result A LineCause → Type 0
 IsCause (stops.Refused cause) r = r ≡ Err cause
 IsCause (stops.GivenUp why) r = Unit {0}
 
+-- nothing more can be written
+abbrev pub IsGivenUp : Stop → Type 0
+IsGivenUp (stops.Refused cause) = ⊥
+IsGivenUp (stops.GivenUp why) = Unit {0}
+
 -- the rules refuse the line
 abbrev pub IsRefusal : Stop → Type 0
 IsRefusal (stops.Refused cause) = Unit {0}

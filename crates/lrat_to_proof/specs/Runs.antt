@@ -1,6 +1,6 @@
 -- Conversions of the lines of a proof. `says` is what the proof's bytes say, and `ids` how ids stand in binary lines, where it is given.
 --     proof_says ids n bytes      after a formula of n clauses, in the form that the bytes tell
---     IsStopped says known width c start now r      the lines after c are converted up to one that is refused, or that can't be read
+--     IsStopped says known width c start now r      the lines after c are converted up to one that is refused, or that can't be read, or as far as they could be written
 --     IsProofRun, IsRun      the conversion of a proof after a formula, and after a formula's text
 --     RunTellsLie cnf r told      this is told of the formula's header
 use Rattle.std.specs.Prelude.{◌≡◌, ℕ, false, List, [], ◌∷◌, ◌++◌, length, MatchBool, Option, None, Result, Ok, Err}
@@ -23,7 +23,7 @@ use Rattle.proof_bytes.specs.declared.format.Format.TheVariants as formats
 use Rattle.proof_bytes.specs.Texts.{AreSteps}
 use Rattle.proof_bytes.specs.Version2.{text_2}
 use Rattle.lrat_to_proof.specs.Converting.{Converted, begun, next, run, whole}
-use Rattle.lrat_to_proof.specs.Standing.{HasConverted}
+use Rattle.lrat_to_proof.specs.Standing.{HasBegun, HasConverted}
 use Rattle.lrat_to_proof.specs.Statuses.{conversion_of}
 use Rattle.lrat_to_proof.specs.declared.converter.Converter.{Converter}
 use Rattle.lrat_to_proof.specs.declared.fault.ConvertFault.{ConvertFault}
@@ -72,8 +72,16 @@ pub record IsCut (says : List ℕ → Outcome) (known : Option (List ℕ)) (widt
   pub ran : run width c (said lines) ≡ Ok before
   pub written : Appends start now (text_2 before.steps)
 
--- a fault of the lines after c; a read or a write that fails and running out of memory can come anywhere,
--- and nothing is said of the output after a failed write, nor where memory ran out
+-- lines can be converted, and the output holds a beginning of the bytes of their steps and of the end
+pub record IsBegun (says : List ℕ → Outcome) (known : Option (List ℕ)) (width : ℕ) (c : Converted)
+    (start now : Option (List ℕ)) : Type 0 where
+  pub lines : List (ℕ × Line)
+  pub after : Converted
+  pub text : BeginsWith says known lines
+  pub ran : run width c (said lines) ≡ Ok after
+  pub written : HasBegun start now (whole after)
+
+-- a fault of the lines after c; a read or a write that fails and running out of memory can come anywhere
 abbrev pub IsStopped : (List ℕ → Outcome) → Option (List ℕ) → ℕ → Converted → Option (List ℕ) →
     Option (List ℕ) → ConvertFault → Type 0
 IsStopped says known width c start now (Refused number cause) =
@@ -81,8 +89,8 @@ IsStopped says known width c start now (Refused number cause) =
 IsStopped says known width c start now (Unread number kind) =
     IsUnread says known width c start now number kind
 IsStopped says known width c start now (Read cause) = IsCut says known width c start now
-IsStopped says known width c start now (Write cause) = Unit {0}
-IsStopped says known width c start now OutOfMemory = Unit {0}
+IsStopped says known width c start now (Write cause) = IsBegun says known width c start now
+IsStopped says known width c start now OutOfMemory = IsBegun says known width c start now
 IsStopped says known width c start now (Formula fault) = ⊥
 
 -- what a converter answers to the lines of a proof after c

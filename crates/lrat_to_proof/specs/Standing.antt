@@ -1,9 +1,11 @@
 -- What the parts of a converter stand for.
 --     entry_of c, holding_of x      a clause that is held;  all of them
 --     HasWritten start now steps w      the writer wrote these steps, after what the output held at the start
+--     HasBegun start now steps      a beginning of their bytes was written
 --     HasConverted width start now c x      the converter has converted so far
 --     Reaches width start now r x      as far as the rules say
-use Rattle.std.specs.Prelude.{◌≡◌, ℕ, Bool, List, Option, Result, Ok, nat_eq}
+--     StopsIn start now c r      a line was not written whole
+use Rattle.std.specs.Prelude.{◌≡◌, ◌⊎◌, ℕ, Bool, List, Option, Result, Ok, nat_eq}
 use Rattle.std.specs.HashMap as hash_map
 use Rattle.std.specs.HashSet.{contains}
 use Rattle.std.specs.Io.KnownBytes.{Appends}
@@ -14,6 +16,7 @@ use Rattle.proof_bytes.specs.declared.format.Format.TheVariants as formats
 use Rattle.proof_bytes.specs.ProofWriter.{format_in}
 use Rattle.proof_bytes.specs.Texts.{AreSteps}
 use Rattle.proof_bytes.specs.Version2.{text_2, written_after}
+use Rattle.whole_writes.specs.Beginnings.{AppendsBeginning}
 use Rattle.lrat_to_proof.specs.declared.clause.HeldClause.{HeldClause}
 use Rattle.lrat_to_proof.specs.declared.converter.Converter.{Converter}
 use Rattle.lrat_to_proof.specs.declared.fault.LineCause.{LineCause}
@@ -44,6 +47,10 @@ pub record HasWritten (start now : Option (List ℕ)) (steps : List Step) (w : S
   pub format : format_in w.writer ≡ written_after steps
   pub fits : AreSteps (formats.Bytes 64) steps
 
+-- the output holds a beginning of the bytes of these steps, after what it held at the start
+abbrev pub HasBegun : Option (List ℕ) → Option (List ℕ) → List Step → Type 0
+HasBegun start now steps = AppendsBeginning start now (text_2 steps)
+
 -- the converter has converted so far, with hashes of this width
 pub record HasConverted (width : ℕ) (start now : Option (List ℕ)) (c : Converted)
     (x : Converter) : Type 0 where
@@ -58,3 +65,10 @@ pub record Reaches (width : ℕ) (start now : Option (List ℕ)) (r : Result Con
   pub after : Converted
   pub ran : r ≡ Ok after
   pub stands : HasConverted width start now after x
+
+-- a line was given up: a beginning was written of the steps before it, or where the rules do not refuse it, of these and its own
+pub record StopsIn (start now : Option (List ℕ)) (c : Converted) (r : Result Converted LineCause) :
+    Type 0 where
+  pub upto : Converted
+  pub is : (upto ≡ c) ⊎ (r ≡ Ok upto)
+  pub begun : HasBegun start now upto.steps

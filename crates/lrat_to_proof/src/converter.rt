@@ -28,12 +28,12 @@ pub(crate) struct Converter {
 }
 
 impl Converter {
-    ghost use Rattle.std.specs.Prelude.{◌≡◌, ℕ, List, Option, Ok, OnOk, IfOk, IfErr, map};
+    ghost use Rattle.std.specs.Prelude.{◌≡◌, ℕ, List, Option, Ok, OnErr, OnOk, IfOk, IfErr, map};
     ghost use Rattle.lrat_text.specs.Grammar.{hint_of};
     ghost use Rattle.lrat_text.specs.NextLine.{view};
     ghost use Rattle.lrat_to_proof.specs.Converting.{Converted, add_line, begun, delete_all, delete_one, next, whole};
-    ghost use Rattle.lrat_to_proof.specs.Faults.{IsCause, IsRefusal};
-    ghost use Rattle.lrat_to_proof.specs.Standing.{HasConverted, HasWritten, Reaches, holding_of};
+    ghost use Rattle.lrat_to_proof.specs.Faults.{IsCause, IsGivenUp, IsRefusal};
+    ghost use Rattle.lrat_to_proof.specs.Standing.{HasBegun, HasConverted, HasWritten, Reaches, StopsIn, holding_of};
     ghost use Rattle.lrat_to_proof.specs.Widths.{bits_of};
 
     /// Before the first line. A width is set where it has to be.
@@ -43,9 +43,11 @@ impl Converter {
         width: HashWidth,
         out: &mut W,
     ) -> Result<Converter, GivenUp>
-        ensures { IfOk result (λ converter.
+        ensures ok { IfOk result (λ converter.
             HasConverted (bits_of width) (W.contents out.old) (W.contents out.new)
             (begun (bits_of width) formula.now) converter) }
+        ensures err { OnErr result (HasBegun (W.contents out.old) (W.contents out.new)
+            (begun (bits_of width) formula.now).steps) }
     {
         let held = Holding::new(alloc, formula)?;
         let mut hasher = ClauseHasher::new(alloc);
@@ -82,6 +84,10 @@ impl Converter {
             → HasConverted width start (W.contents out.old) c self.old
             → IfErr result (λ stop. IsCause stop (next width c (view line.entry))) }
         ensures refused { IfErr result (λ stop. IsRefusal stop → out.new ≡ out.old) }
+        ensures given_up { (width : ℕ) (start : Option (List ℕ)) (c : Converted)
+            → HasConverted width start (W.contents out.old) c self.old
+            → IfErr result (λ stop. IsGivenUp stop
+            → StopsIn start (W.contents out.new) c (next width c (view line.entry))) }
     {
         match line {
             LratLine::Add { id, clause, hints } => self.add(id, clause, hints, out),
@@ -97,6 +103,9 @@ impl Converter {
         ensures ok { (width : ℕ) (start : Option (List ℕ)) (c : Converted)
             → HasConverted width start (W.contents out.old) c self.old
             → OnOk result (HasWritten start (W.contents out.new) (whole c) self.new.steps) }
+        ensures err { (width : ℕ) (start : Option (List ℕ)) (c : Converted)
+            → HasConverted width start (W.contents out.old) c self.old
+            → OnErr result (HasBegun start (W.contents out.new) (whole c)) }
         ensures held { self.new.held ≡ self.old.held }
     {
         self.steps.write(&ProofStep::End, out)?;
@@ -120,6 +129,10 @@ impl Converter {
             → IfErr result (λ stop.
             IsCause stop (add_line width c id clause.now (map hint_of hints.now))) }
         ensures refused { IfErr result (λ stop. IsRefusal stop → out.new ≡ out.old) }
+        ensures given_up { (width : ℕ) (start : Option (List ℕ)) (c : Converted)
+            → HasConverted width start (W.contents out.old) c self.old
+            → IfErr result (λ stop. IsGivenUp stop → StopsIn start (W.contents out.new) c
+            (add_line width c id clause.now (map hint_of hints.now))) }
     {
         if self.held.contains(id) {
             return Err(Stop::Refused(LineCause::IdTaken));
@@ -132,10 +145,13 @@ impl Converter {
     }
 
     fn delete_all<W: Write>(&mut self, ids: &[u64], out: &mut W) -> Result<(), GivenUp>
-        ensures { (width : ℕ) (start : Option (List ℕ)) (c : Converted)
+        ensures ok { (width : ℕ) (start : Option (List ℕ)) (c : Converted)
             → HasConverted width start (W.contents out.old) c self.old
             → OnOk result
             (HasConverted width start (W.contents out.new) (delete_all c ids.now) self.new) }
+        ensures err { (width : ℕ) (start : Option (List ℕ)) (c : Converted)
+            → HasConverted width start (W.contents out.old) c self.old
+            → OnErr result (HasBegun start (W.contents out.new) (delete_all c ids.now).steps) }
     {
         for id in ids {
             self.delete_one(*id, out)?;
@@ -144,10 +160,13 @@ impl Converter {
     }
 
     fn delete_one<W: Write>(&mut self, id: u64, out: &mut W) -> Result<(), GivenUp>
-        ensures { (width : ℕ) (start : Option (List ℕ)) (c : Converted)
+        ensures ok { (width : ℕ) (start : Option (List ℕ)) (c : Converted)
             → HasConverted width start (W.contents out.old) c self.old
             → OnOk result
             (HasConverted width start (W.contents out.new) (delete_one c id) self.new) }
+        ensures err { (width : ℕ) (start : Option (List ℕ)) (c : Converted)
+            → HasConverted width start (W.contents out.old) c self.old
+            → OnErr result (HasBegun start (W.contents out.new) (delete_one c id).steps) }
     {
         match self.held.take(id) {
             Some(clause) => self.steps.delete(&clause, out),

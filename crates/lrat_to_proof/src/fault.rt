@@ -24,7 +24,7 @@ pub enum LineCause {
     RatGroup,
 }
 
-/// Why a conversion has no end. What was written before it is no whole proof.
+/// Why a conversion has no end. Of a proof at most a beginning was written.
 #[derive(Debug, Drop, Error)]
 pub enum ConvertFault {
     /// The formula was not read whole.

@@ -25,7 +25,8 @@ use whole_formulas::read_formula;
 /// by them too, where `ids` does not say it.
 ///
 /// Lines are read and written one after the other. Whether the added clauses follow is not judged:
-/// that is for the checker that reads the bytes.
+/// that is for the checker that reads the bytes. Where a write fails or memory runs out, a
+/// beginning of the proof's bytes is written, all of it where only the last flush failed.
 pub fn convert_proof<P: Read + Drop, W: Write>(
     alloc: Global,
     formula: &CnfFormula,

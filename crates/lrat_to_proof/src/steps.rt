@@ -1,9 +1,9 @@
 //! Steps, written one after the other.
-ghost use Rattle.std.specs.Prelude.{◌≡◌, [], ◌∷◌, ◌++◌, ℕ, List, Option, Some, OnOk};
+ghost use Rattle.std.specs.Prelude.{◌≡◌, [], ◌∷◌, ◌++◌, ℕ, List, Option, Some, OnErr, OnOk};
 ghost use Rattle.checker_rules.specs.Step.{Step};
 ghost use Rattle.proof_bytes.specs.NextStep.{view};
 ghost use Rattle.lrat_to_proof.specs.Converting.{deletion, derivation, header};
-ghost use Rattle.lrat_to_proof.specs.Standing.{HasWritten, entry_of};
+ghost use Rattle.lrat_to_proof.specs.Standing.{HasBegun, HasWritten, entry_of};
 ghost use Rattle.lrat_to_proof.specs.Widths.{bits_of};
 
 use crate::clause::HeldClause;
@@ -12,6 +12,7 @@ use crate::width::HashWidth;
 use proof_bytes::{ClauseHash, DeleteClauseProof, ProofStep, ProofWriter};
 use std::alloc::Global;
 use std::io::Write;
+use whole_writes::append_whole;
 
 /// Writes steps in version 2 of the proof bytes.
 #[derive(Drop)]
@@ -37,6 +38,8 @@ impl StepWriter {
         ensures ok { (start : Option (List ℕ)) → HasWritten start (W.contents out.old) [] self.old
             → OnOk result
             (HasWritten start (W.contents out.new) (header (bits_of width)) self.new) }
+        ensures err { (start : Option (List ℕ)) → HasWritten start (W.contents out.old) [] self.old
+            → OnErr result (HasBegun start (W.contents out.new) (header (bits_of width))) }
     {
         let bits = width.bits();
         if bits == 64 {
@@ -56,6 +59,10 @@ impl StepWriter {
             → HasWritten start (W.contents out.old) steps self.old
             → OnOk result (HasWritten start (W.contents out.new)
             (steps ++ derivation (entry_of clause.now).lits hashes.now) self.new) }
+        ensures err { (start : Option (List ℕ)) (steps : List Step)
+            → HasWritten start (W.contents out.old) steps self.old
+            → OnErr result (HasBegun start (W.contents out.new)
+            (steps ++ derivation (entry_of clause.now).lits hashes.now)) }
     {
         if clause.is_tautology() {
             return Ok(());
@@ -78,6 +85,10 @@ impl StepWriter {
             → HasWritten start (W.contents out.old) steps self.old
             → OnOk result (HasWritten start (W.contents out.new)
             (steps ++ deletion (Some (entry_of clause.now))) self.new) }
+        ensures err { (start : Option (List ℕ)) (steps : List Step)
+            → HasWritten start (W.contents out.old) steps self.old
+            → OnErr result (HasBegun start (W.contents out.new)
+            (steps ++ deletion (Some (entry_of clause.now)))) }
     {
         if !clause.is_deleted_by_a_step() {
             return Ok(());
@@ -89,7 +100,7 @@ impl StepWriter {
         self.write(&step, out)
     }
 
-    /// Writes one step more.
+    /// Writes one step more. After an error a beginning of it is written.
     pub(crate) fn write<W: Write>(
         &mut self,
         step: &ProofStep<'_>,
@@ -99,10 +110,13 @@ impl StepWriter {
             → HasWritten start (W.contents out.old) steps self.old
             → OnOk result (HasWritten start (W.contents out.new) (steps ++ view step.now ∷ [])
             self.new) }
+        ensures err { (start : Option (List ℕ)) (steps : List Step)
+            → HasWritten start (W.contents out.old) steps self.old
+            → OnErr result (HasBegun start (W.contents out.new) (steps ++ view step.now ∷ [])) }
     {
         self.bytes.clear();
         self.writer.write(&mut self.bytes, step)?;
-        out.write_all(&self.bytes)?;
+        append_whole(out, &self.bytes)?;
         Ok(())
     }
 }

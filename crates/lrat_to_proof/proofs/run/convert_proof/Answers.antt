@@ -1,12 +1,37 @@
-use Rattle.std.proofs.Common.{ap, ◌∙◌, subst}
+use Rattle.std.proofs.Common.{ap, ◌∙◌, length, subst}
 use Rattle.std.proofs.lemmas.Result.{err_from_is_err_and}
 use Rattle.lrat_to_proof.specs.Converting.{begun}
 use Rattle.lrat_to_proof.specs.Holding.{Holding}
 use Rattle.lrat_to_proof.specs.Runs.{IsStopped, Leads, proof_says}
 use Rattle.lrat_to_proof.specs.Standing.{holding_of}
 use Rattle.lrat_to_proof.specs.Statuses.{conversion_of}
+use Rattle.lrat_to_proof.proofs.LineLemmas.{begun_end, begun_none, given_up}
 use Rattle.lrat_to_proof.specs.Widths.{bits_of}
 use Rattle.lrat_to_proof.proofs.run.convert_proof.Goals as goal
+
+pub returns-in_err-converter : goal.returns-in_err-converter
+returns-in_err-converter g c =
+    let width = bits_of c.args.width in
+    let start = g.W.Write.contents c.args.out.now in
+    let says = proof_says c.args.ids (length c.args.formula.now) in
+    let known = g.P.Read.remaining c.args.proof in
+    let from = begun width c.args.formula.now in
+    let new = g.W.Write.contents c.new.new.out in
+    let p = err_from_is_err_and c.from_residual.result c.from_residual.ensures.1 in
+    record { run = rw (p.1, p.2) (given_up says known width from start new c.in_err-converter.field-0.0 (begun_none says known width from start new c.in_err-converter.ensures.err)) }
+
+pub returns-in_err-end : goal.returns-in_err-end
+returns-in_err-end g c =
+    let width = bits_of c.args.width in
+    let start = g.W.Write.contents c.args.out.now in
+    let says = proof_says c.args.ids (length c.args.formula.now) in
+    let known = g.P.Read.remaining c.args.proof in
+    let from = begun width c.args.formula.now in
+    let new = g.W.Write.contents c.end.new.out in
+    let k = c.in_ok-convert_lines.ensures width start from c.in_ok-converter.ensures.ok in
+    let leads = subst (λ n. Leads (proof_says c.args.ids n) known width from k.0 k.1) c.len-clauses.ensures k.2 in
+    let p = err_from_is_err_and c.from_residual-in_err-end.result c.from_residual-in_err-end.ensures.1 in
+    record { run = rw (p.1, p.2) (given_up says known width from start new c.in_err-end.field-0.0 (begun_end says known width from start new k.0 k.1 leads (c.in_err-end.ensures.err width start k.1 k.3))) }
 
 pub returns-in_err-convert_lines : goal.returns-in_err-convert_lines
 returns-in_err-convert_lines g c =
@@ -17,14 +42,14 @@ returns-in_err-convert_lines g c =
           (subst (λ n. IsStopped (proof_says c.args.ids n) (g.P.Read.remaining c.args.proof) width (begun width c.args.formula.now) (g.W.Write.contents c.args.out.now)
           (g.W.Write.contents c.convert_lines.new.out) c.in_err-convert_lines.field-0.0)
           c.len-clauses.ensures
-          (c.in_err-convert_lines.ensures width (g.W.Write.contents c.args.out.now) (begun width c.args.formula.now) c.in_ok-converter.ensures));
+          (c.in_err-convert_lines.ensures width (g.W.Write.contents c.args.out.now) (begun width c.args.formula.now) c.in_ok-converter.ensures.ok));
     }
 
 pub returns : goal.returns
 returns g c =
     let width = bits_of c.args.width in
     let start = g.W.Write.contents c.args.out.now in
-    let k = c.in_ok-convert_lines.ensures width start (begun width c.args.formula.now) c.in_ok-converter.ensures in
+    let k = c.in_ok-convert_lines.ensures width start (begun width c.args.formula.now) c.in_ok-converter.ensures.ok in
     let ended = c.in_ok-end.ensures in
     let wrote = ended.ok width start k.1 k.3 in
     record {

@@ -24,7 +24,7 @@ returns-in-Err-take_line g c = λ says known width start d fresh same h.
     (g.W.Write.contents c.lines.out) c.lines.converter (c.lines.invariant known width start d fresh h) says same (sym c.is_done.ensures ∙ c.lines-test.true)
     c.next_line.follows.lender-at-none c.in-Ok-Some.line gave
     c.in-Err-take_line.stop (g.W.Write.contents c.take_line.new.out) (λ r. ap g.W.Write.contents (c.in-Err-take_line.ensures.refused r))
-    (c.in-Err-take_line.ensures.err width start))
+    (c.in-Err-take_line.ensures.err width start) (c.in-Err-take_line.ensures.given_up width start))
 
 pub returns-in-Ok-None : goal.returns-in-Ok-None
 returns-in-Ok-None g c = λ says known width start d fresh same h.

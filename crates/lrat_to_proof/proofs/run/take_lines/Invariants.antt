@@ -1,5 +1,4 @@
 use Rattle.std.proofs.Common.{ℕ, List, Option}
-use Rattle.lrat_text.specs.Texts.{Outcome}
 use Rattle.lrat_binary.specs.Proofs.{IsFresh, form_now, work_left}
 use Rattle.lrat_to_proof.specs.Converting.{Converted}
 use Rattle.lrat_to_proof.specs.Standing.{HasConverted}
