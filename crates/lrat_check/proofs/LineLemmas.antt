@@ -1,13 +1,13 @@
 -- The lines of a proof in turn.
 --     SoFar      the lines that were read so far, all of them accepted
-use Rattle.std.proofs.Common.{◌≡◌, ℕ, Bool, true, false, List, [], ◌∷◌, ◌++◌, Option, Some, None, Result, Ok, Err, refl, sym, ap, subst}
+use Rattle.std.proofs.Common.{◌≡◌, ℕ, true, false, List, [], ◌∷◌, ◌++◌, Option, Some, None, Ok, Err, refl, sym, ap, subst}
 use Rattle.lrat_rules.specs.Lines.{Line}
 use Rattle.lrat_text.specs.NextLine.{view}
 use Rattle.lrat_text.specs.Texts.{Ended, Faulty}
 use Rattle.lrat_text.specs.declared.fault.LratTextFault.{LratTextFault}
 use Rattle.lrat_text.specs.declared.fault.LratTextFault.TheVariants as reads
 use Rattle.lrat_text.specs.declared.line.LratLine.{LratLine}
-use Rattle.lrat_binary.specs.Proofs.{BeginsWith, Gives, IsFresh, form_now, line_number, lines_after, outcome_in}
+use Rattle.lrat_binary.specs.Proofs.{BeginsWith, Gives, IsFresh, line_number, lines_after, outcome_in}
 use Rattle.lrat_binary.specs.declared.ids.LratForm.{LratForm}
 use Rattle.lrat_binary.specs.declared.proof.LratReader.{LratReader}
 use Rattle.lrat_binary.proofs.GivenLines.{HasGiven, all_said, begins_so, given_begun, given_end, given_fault, given_more, given_start}

@@ -2,7 +2,7 @@
 --     left_behind      what the lines of a piece leave
 --     piece_shown      what a verdict says of the formulas
 --     read_run, read_begins, read_carries, read_refutes, read_lies      runs after the texts of two formulas
-use Rattle.std.proofs.Common.{◌≡◌, ℕ, Bool, true, false, List, Option, Some, Result, Ok, Err, refl, sym, ◌∙◌, subst}
+use Rattle.std.proofs.Common.{◌≡◌, ℕ, Bool, true, false, List, MatchBool, Option, Some, Result, Ok, Err, refl, sym, ◌∙◌, subst}
 use Rattle.std.specs.Option.{option_map}
 use Rattle.sat_rules.specs.Named.{Item}
 use Rattle.piece_rules.proofs.Joining.{piece_carries}
@@ -20,7 +20,9 @@ use Rattle.verdicts.specs.declared.piece.PieceVerdict.TheVariants.{Refuted, Carr
 use Rattle.piece_runs.specs.Texts.{CarriesText, IsPieceShown, OfFormulas}
 use Rattle.piece_runs.proofs.Reading.{carries_text, of_formulas}
 use Rattle.lrat_check.specs.Answers.{IsLratAnswer, proof_says}
-use Rattle.lrat_check.specs.Pieces.{BeginsPiece, BeginsShown, IsHeld, IsPieceRun, IsReadPieceRun, Leaves, PieceShows, TellsPieceLies, verdict_by}
+use Rattle.lrat_check.specs.Known.{IsHeld, KnowsAll, Lacks}
+use Rattle.lrat_check.specs.Pieces.{BeginsPiece, BeginsShown, IsPieceRun, IsReadPieceRun, Leaves, PieceShows, TellsPieceLies, verdict_by}
+use Rattle.lrat_check.specs.declared.stored.KnownIds.{KnownIds}
 use Rattle.lrat_check.specs.declared.fault.RunFault.TheVariants.{Formula, Proof, Write}
 use Rattle.lrat_check.specs.declared.piece_fault.PieceFault.{PieceFault}
 use Rattle.lrat_check.specs.declared.piece_fault.PieceFault.TheVariants.{Run, Wanted}
@@ -42,11 +44,11 @@ module _ (ids : Option Ids) (formula wanted : List (List ℕ)) (known : Known) w
     left = left;
   }
 
-  -- by whether that checker holds the wanted clauses
-  pub shows_by : (c : LratChecker) (p : IsLratAnswer (proof_says ids formula) known formula c (Ok false)) (holds : Bool) →
-      (holds ≡ true → IsHeld wanted p.ready.accepted.store) → PieceShows ids formula wanted known (Ok (verdict_by holds))
-  shows_by c p true held = left_behind c (IsHeld wanted) p (held refl)
-  shows_by c p false held = left_behind c (λ store. Unit {0}) p tt
+  -- by whether that checker holds the wanted clauses, where each id under which it holds one is known
+  pub shows_by : (c : LratChecker) (k : KnownIds) (p : IsLratAnswer (proof_says ids formula) known formula c (Ok false)) → KnowsAll formula c k → (held : Bool) →
+      MatchBool held (IsHeld wanted p.ready.accepted.store) (KnowsAll formula c k → Lacks wanted p.ready.accepted.store) → PieceShows ids formula wanted known (Ok (verdict_by held))
+  shows_by c k p knows true found = left_behind c (IsHeld wanted) p found
+  shows_by c k p knows false found = left_behind c (Lacks wanted) p (found knows)
 
   pub piece_shown : (verdict : PieceVerdict) → PieceShows ids formula wanted known (Ok verdict) → IsPieceShown formula wanted verdict
   piece_shown Refuted p = formula_refuted ids formula known true p refl

@@ -6,7 +6,6 @@
 use Rattle.std.proofs.Common.{◌≡◌, ℕ, ◌-◌, Bool, true, false, List, [], ◌∷◌, ◌++◌, length, take, Option, Some, None, Result, Ok, Err, refl, sym, ap, ◌∙◌, arith}
 use Rattle.std.specs.Prelude.{IfSome, OnErr, ◌^◌, min, if◌then◌else◌}
 use Rattle.sat_rules.specs.Clauses.{all_true}
-use Rattle.lrat_rules.specs.Lines.{Line}
 use Rattle.lrat_rules.proofs.Running.{runs_refute}
 use Rattle.lrat_text.specs.Texts.{Ended, Faulty, Outcome}
 use Rattle.lrat_text.specs.declared.fault.LratTextFault.{LratTextFault}

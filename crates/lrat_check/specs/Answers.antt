@@ -3,7 +3,7 @@
 --     IsLratAnswer says known formula c r      the answer, and what the checker has accepted then
 use Rattle.std.specs.Prelude.{◌≡◌, ℕ, Bool, List, [], ◌∷◌, ◌++◌, length, Option, MatchBool, Result, Ok, Err}
 use Rattle.lrat_rules.specs.Lines.{Line}
-use Rattle.lrat_text.specs.Texts.{Ended, Ending, Faulty, Outcome}
+use Rattle.lrat_text.specs.Texts.{Ended, Faulty, Outcome}
 use Rattle.lrat_text.specs.declared.fault.LineKind.{LineKind}
 use Rattle.lrat_binary.specs.Proofs.{BeginsWith, SaysAll, outcome_in}
 use Rattle.lrat_binary.specs.Telling.{form_of}

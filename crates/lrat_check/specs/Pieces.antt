@@ -1,5 +1,4 @@
 -- Runs over one piece of a proof, after a formula and the clauses that are wanted behind the piece.
---     IsHeld store wanted      some ids name the wanted clauses
 --     Leaves ids formula known P      the lines of the piece are accepted, none adds the empty clause, and of what is stored then this is so
 --     PieceShows ids formula wanted known r      what a piece of these bytes shows
 --     IsReadPieceRun, IsPieceRun      the run after two formulas, and after their texts
@@ -8,9 +7,9 @@
 --     TellsPieceLies      what is told of both headers
 use Rattle.std.specs.Prelude.{◌≡◌, ℕ, Bool, true, false, List, Option, Some, None, Result, Ok, Err}
 use Rattle.std.specs.Option.{option_map}
-use Rattle.sat_rules.specs.Named.{Item, NamedBy}
+use Rattle.sat_rules.specs.Named.{Item}
 use Rattle.lrat_rules.specs.Lines.{Line, is_refuted, run}
-use Rattle.lrat_rules.specs.Stores.{find, formula_store}
+use Rattle.lrat_rules.specs.Stores.{formula_store}
 use Rattle.lrat_text.specs.Texts.{Ended}
 use Rattle.lrat_binary.specs.Proofs.{SaysAll}
 use Rattle.lrat_binary.specs.declared.ids.Ids.{Ids}
@@ -26,14 +25,11 @@ use Rattle.verdicts.specs.declared.piece.PieceVerdict.{PieceVerdict}
 use Rattle.verdicts.specs.declared.piece.PieceVerdict.TheVariants.{Refuted, Carried, NotCarried}
 use Rattle.piece_runs.specs.Texts.{OfFormula, OfFormulas}
 use Rattle.lrat_check.specs.Answers.{proof_says}
+use Rattle.lrat_check.specs.Known.{IsHeld, Lacks}
 use Rattle.lrat_check.specs.Runs.{Refutes}
 use Rattle.lrat_check.specs.declared.fault.RunFault.TheVariants.{Formula, Proof, Write}
 use Rattle.lrat_check.specs.declared.piece_fault.PieceFault.{PieceFault}
 use Rattle.lrat_check.specs.declared.piece_fault.PieceFault.TheVariants.{Run, Wanted}
-
--- ids name the wanted clauses, one each, in their order and with their literals in the same order
-abbrev pub IsHeld : List (List ℕ) → List Item → Type 0
-IsHeld wanted store = (names : List ℕ) × NamedBy (find store) names wanted
 
 -- a piece of these bytes has these lines, which are accepted after the formula; neither it nor one of them is the empty clause; and of what is stored after them this is so
 pub record Leaves (ids : Option Ids) (formula : List (List ℕ)) (known : Option (List ℕ))
@@ -55,8 +51,7 @@ abbrev pub PieceShows : Option Ids → List (List ℕ) → List (List ℕ) → O
     Result PieceVerdict LratFault → Type 0
 PieceShows ids formula wanted known (Ok Refuted) = Refutes ids formula known (Ok true)
 PieceShows ids formula wanted known (Ok Carried) = Leaves ids formula known (IsHeld wanted)
-PieceShows ids formula wanted known (Ok NotCarried) =
-    Leaves ids formula known (λ store. Unit {0})
+PieceShows ids formula wanted known (Ok NotCarried) = Leaves ids formula known (Lacks wanted)
 PieceShows ids formula wanted known (Err fault) = Refutes ids formula known (Err fault)
 
 -- by the verdict, written or not, or by the fault; the formulas were there

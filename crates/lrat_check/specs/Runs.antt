@@ -7,7 +7,7 @@
 --     IsUnwritten r      the verdict's line was not written whole
 --     BeginsLine, BeginsLineAfter      what was written then, after a formula, and after a formula's text
 --     RunTellsLie cnf r told      this is told of the formula's header
-use Rattle.std.specs.Prelude.{◌≡◌, ℕ, Bool, true, false, List, [], Option, None, Result, Ok, Err, OnErr, IfSome}
+use Rattle.std.specs.Prelude.{◌≡◌, ℕ, Bool, true, false, List, Option, None, Result, Ok, Err, OnErr, IfSome}
 use Rattle.std.specs.Option.{option_map}
 use Rattle.sat_rules.specs.Clauses.{all_true}
 use Rattle.sat_formula.specs.declared.counts.LyingHeader.{LyingHeader}

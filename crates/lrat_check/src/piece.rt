@@ -13,7 +13,7 @@ use crate::fault::RunFault;
 use crate::formula::{Held, read_held};
 use crate::piece_fault::PieceFault;
 use crate::refuting::refute_after;
-use crate::stored::{KnownIds, stored_ids};
+use crate::stored::{KnownIds, holds_all};
 use lrat_binary::Ids;
 use lrat_checker::LratFault;
 use piece_runs::MissingClause;
@@ -40,8 +40,9 @@ pub struct PieceTold {
 ///
 /// The verdict is `Carried` where all lines of the piece are accepted, none adds the empty clause,
 /// and each wanted clause is stored behind them, its literals in the same order: then some
-/// assignment satisfies all of them, if one satisfies the formula. It is `Refuted` where a line
-/// adds the empty clause, up to which the piece is read. Where a line is refused or can't be read,
+/// assignment satisfies all of them, if one satisfies the formula. It is `NotCarried` where the
+/// lines are so and a wanted clause is stored under no id. It is `Refuted` where a line adds the
+/// empty clause, up to which the piece is read. Where a line is refused or can't be read,
 /// no line is written. Where the verdict's line can't be written whole, the verdict stood.
 pub fn run_piece<F: Read + Drop, G: Read + Drop, P: Read + Drop, W: Write>(
     alloc: Global,
@@ -128,17 +129,17 @@ fn judge_piece<P: Read + Drop>(
     if refuted {
         return Ok(PieceVerdict::Refuted);
     }
-    match stored_ids(alloc, &checker, &known, wanted, missing) {
-        Ok(named) => Ok(verdict_by(checker.holds(wanted, &named))),
+    match holds_all(alloc, &checker, &known, wanted, missing) {
+        Ok(held) => Ok(verdict_by(held)),
         Err(_) => Err(LratFault::OutOfMemory),
     }
 }
 
 /// The verdict of a piece without a conflict, by whether the wanted clauses are stored behind it.
-fn verdict_by(holds: bool) -> PieceVerdict
-    ensures { result ≡ verdict_by holds }
+fn verdict_by(held: bool) -> PieceVerdict
+    ensures { result ≡ verdict_by held }
 {
-    if holds {
+    if held {
         PieceVerdict::Carried
     } else {
         PieceVerdict::NotCarried

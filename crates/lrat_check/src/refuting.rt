@@ -1,10 +1,11 @@
 //! The lines of a proof, checked one after the other.
-ghost use Rattle.std.specs.Prelude.{◌≡◌, ◌-◌, ◌^◌, ℕ, List, [], Option, OnErr, false, length, min};
+ghost use Rattle.std.specs.Prelude.{◌≡◌, ◌-◌, ◌^◌, ℕ, List, [], Option, OnErr, OnOk, false, true, length, min};
 ghost use Rattle.lrat_binary.specs.Proofs.{IsFresh, form_now, outcome_in};
 ghost use Rattle.lrat_checker.specs.Faults.{in_line};
 ghost use Rattle.lrat_checker.specs.Standing.{IsReady, has_refuted};
 ghost use Rattle.lrat_check.specs.Answers.{IsLratAnswer, proof_says};
 ghost use Rattle.lrat_check.specs.Held.{HoldsCounted};
+ghost use Rattle.lrat_check.specs.Known.{KnowsAll};
 ghost use Rattle.lrat_check.specs.Runs.{Refutes};
 
 use crate::formula::Held;
@@ -26,7 +27,7 @@ pub(crate) fn refute<P: Read + Drop>(
 {
     let Held { clauses, count } = held;
     let mut checker = clauses.checker();
-    let mut known = KnownIds::unasked();
+    let mut known = KnownIds::unasked(alloc);
     refute_after(alloc, &mut checker, count, proof, ids, &mut known)
 }
 
@@ -47,6 +48,9 @@ pub(crate) fn refute_after<P: Read + Drop>(
         → count ≡ min (length formula) (2 ^ 64 - 1)
         → IsLratAnswer (proof_says ids formula) (P.remaining proof) formula checker.new result }
     ensures stops { OnErr result (has_refuted checker.new ≡ false) }
+    ensures knows { (formula : List (List ℕ)) → known.old.asked ≡ true
+        → KnowsAll formula checker.old known.old
+        → OnOk result (KnowsAll formula checker.new known.new) }
 {
     if checker.refuted() {
         return Ok(true);
@@ -62,18 +66,21 @@ pub(crate) fn refute_after<P: Read + Drop>(
 fn refute_lines<R: Read>(
     checker: &mut LratChecker,
     reader: &mut LratReader<R>,
-    known: &mut KnownIds,
+    noted: &mut KnownIds,
 ) -> Result<bool, LratFault>
     ensures answer { (formula : List (List ℕ)) (known : Option (List ℕ))
         → IsReady formula [] checker.old
         → IsFresh R.remaining known (form_now reader.old) reader.old
         → IsLratAnswer (outcome_in (form_now reader.old)) known formula checker.new result }
     ensures stops { OnErr result (has_refuted checker.new ≡ false) }
+    ensures knows { (formula : List (List ℕ)) → noted.old.asked ≡ true
+        → KnowsAll formula checker.old noted.old
+        → OnOk result (KnowsAll formula checker.new noted.new) }
 {
     'lines: while !checker.refuted() {
         match reader.next_line() {
             Ok(Some(line)) => {
-                if known.note(line).is_err() {
+                if let Err(_) = noted.note(line) {
                     return Err(LratFault::OutOfMemory);
                 }
                 if let Err(fault) = checker.check_line(line) {

@@ -1,5 +1,11 @@
-//! The ids under which the clauses are stored that are wanted behind a piece of a proof. Nothing
-//! rests on what is found: the checker judges by the ids.
+//! Whether the clauses are stored that are wanted behind a piece of a proof.
+ghost use Rattle.std.specs.Prelude.{◌≡◌, ◌≢◌, ◌↔◌, ◌<◌, ◌≤◌, ◌++◌, ℕ, List, Contains, IfOk, IsTrue, MatchBool, MatchOption, OnOk, Some, true};
+ghost use Rattle.lrat_rules.specs.Lines.{Line};
+ghost use Rattle.lrat_rules.specs.Stores.{find};
+ghost use Rattle.lrat_text.specs.NextLine.{view};
+ghost use Rattle.lrat_checker.specs.Standing.{IsReady};
+ghost use Rattle.lrat_check.specs.Known.{IsHeld, IsNowhere, KnowsAll, Lacks, added_by};
+
 use lrat_checker::LratChecker;
 use lrat_text::LratLine;
 use piece_runs::MissingClause;
@@ -12,38 +18,51 @@ use std::collections::HashMap;
 pub(crate) struct KnownIds {
     /// How many clauses the formula has: their ids are 1, 2 and so on.
     count: u64,
+    /// Whether the ids that lines add are asked for.
+    asked: bool,
     /// The ids that the lines added, where they are asked for.
-    added: Option<Vec<u64>>,
+    added: Vec<u64>,
 }
 
 impl KnownIds {
     /// Of a run over a whole proof, which asks for none.
-    pub(crate) fn unasked() -> KnownIds {
+    pub(crate) fn unasked(alloc: Global) -> KnownIds {
         KnownIds {
             count: 0,
-            added: None,
+            asked: false,
+            added: Vec::new(alloc),
         }
     }
 
     /// Those of a formula of this many clauses.
-    pub(crate) fn of_formula(alloc: Global, count: u64) -> KnownIds {
+    pub(crate) fn of_formula(alloc: Global, count: u64) -> KnownIds
+        ensures count { result.count ≡ count }
+        ensures asked { result.asked ≡ true }
+    {
         KnownIds {
             count,
-            added: Some(Vec::new(alloc)),
+            asked: true,
+            added: Vec::new(alloc),
         }
     }
 
     /// Those of one line more.
-    pub(crate) fn note(&mut self, line: LratLine<'_>) -> Result<(), AllocError> {
-        if let Some(added) = &mut self.added {
-            if let LratLine::Add { id, .. } = line {
-                added.push(id)?;
-            }
+    pub(crate) fn note(&mut self, line: LratLine<'_>) -> Result<(), AllocError>
+        ensures count { self.new.count ≡ self.old.count }
+        ensures asked { self.new.asked ≡ self.old.asked }
+        ensures added { self.old.asked ≡ true → OnOk result
+            (self.new.added.items ≡ self.old.added.items ++ added_by (view line.entry)) }
+    {
+        if !self.asked {
+            return Ok(());
+        }
+        if let LratLine::Add { id, .. } = line {
+            self.added.push(id)?;
         }
         Ok(())
     }
 
-    /// Those of the clauses that the checker holds, by their literals.
+    /// Those of the clauses that the checker holds, by their literals. Nothing rests on them.
     fn by_clause(
         &self,
         alloc: Global,
@@ -53,12 +72,86 @@ impl KnownIds {
         for step in 0..self.count {
             put_id(alloc, &mut ids, checker, step.saturating_add(1))?;
         }
-        if let Some(added) = &self.added {
-            for id in added {
-                put_id(alloc, &mut ids, checker, *id)?;
-            }
+        for id in &self.added {
+            put_id(alloc, &mut ids, checker, *id)?;
         }
         Ok(ids)
+    }
+
+    /// An id of the formula's clauses under which this clause is held.
+    fn in_formula(&self, checker: &LratChecker, clause: &[Lit]) -> Option<u64>
+        ensures { (formula : List (List ℕ)) (lines : List Line)
+            → (ready : IsReady formula lines checker.now) → MatchOption result
+            ((id : ℕ) → 0 < id → id ≤ self.now.count
+            → find ready.accepted.store id ≢ Some clause.now)
+            (λ id. find ready.accepted.store id ≡ Some clause.now) }
+    {
+        for step in 0..self.count {
+            let id = step + 1;
+            if is_named(checker, id, clause) {
+                return Some(id);
+            }
+        }
+        None
+    }
+
+    /// An id of the clauses that lines added under which this clause is held.
+    fn in_added(&self, checker: &LratChecker, clause: &[Lit]) -> Option<u64>
+        ensures { (formula : List (List ℕ)) (lines : List Line)
+            → (ready : IsReady formula lines checker.now) → MatchOption result
+            ((id : ℕ) → Contains self.now.added.items id
+            → find ready.accepted.store id ≢ Some clause.now)
+            (λ id. find ready.accepted.store id ≡ Some clause.now) }
+    {
+        for id in &self.added {
+            if is_named(checker, *id, clause) {
+                return Some(*id);
+            }
+        }
+        None
+    }
+
+    /// An id under which this clause is held.
+    fn id_of(&self, checker: &LratChecker, clause: &[Lit]) -> Option<u64>
+        ensures { (formula : List (List ℕ)) (lines : List Line)
+            → (ready : IsReady formula lines checker.now) → MatchOption result
+            (KnowsAll formula checker.now self.now → IsNowhere ready.accepted.store clause.now)
+            (λ id. find ready.accepted.store id ≡ Some clause.now) }
+    {
+        match self.in_formula(checker, clause) {
+            Some(id) => Some(id),
+            None => self.in_added(checker, clause),
+        }
+    }
+
+    /// The same; the map says where to look first.
+    fn find_id(
+        &self,
+        checker: &LratChecker,
+        by_clause: &HashMap<Vec<Lit>, u64>,
+        clause: &[Lit],
+    ) -> Option<u64>
+        ensures { (formula : List (List ℕ)) (lines : List Line)
+            → (ready : IsReady formula lines checker.now) → MatchOption result
+            (KnowsAll formula checker.now self.now → IsNowhere ready.accepted.store clause.now)
+            (λ id. find ready.accepted.store id ≡ Some clause.now) }
+    {
+        match by_clause.get(clause) {
+            Some(id) if is_named(checker, *id, clause) => Some(*id),
+            _ => self.id_of(checker, clause),
+        }
+    }
+}
+
+/// Whether the checker holds this clause under the id, its literals in this order.
+fn is_named(checker: &LratChecker, id: u64, clause: &[Lit]) -> bool
+    ensures { (formula : List (List ℕ)) (lines : List Line)
+        → (ready : IsReady formula lines checker.now)
+        → IsTrue result ↔ (find ready.accepted.store id ≡ Some clause.now) }
+{
+    match checker.clause(id) {
+        Some(held) => held == clause,
+        None => false,
     }
 }
 
@@ -75,27 +168,31 @@ fn put_id(
     Ok(())
 }
 
-/// The ids of the wanted clauses, up to the first that is not found, which is told.
-pub(crate) fn stored_ids(
+/// Whether the checker holds all wanted clauses. The first that it does not hold is told.
+pub(crate) fn holds_all(
     alloc: Global,
     checker: &LratChecker,
     known: &KnownIds,
     wanted: &CnfFormula,
     missing: &mut Option<MissingClause>,
-) -> Result<Vec<u64>, AllocError> {
+) -> Result<bool, AllocError>
+    ensures { (formula : List (List ℕ)) (lines : List Line)
+        → (ready : IsReady formula lines checker.now) → IfOk result (λ held. MatchBool held
+        (IsHeld wanted.now ready.accepted.store)
+        (KnowsAll formula checker.now known.now → Lacks wanted.now ready.accepted.store)) }
+{
     let by_clause = known.by_clause(alloc, checker)?;
-    let mut ids = Vec::new(alloc);
     let mut number: u64 = 0;
     for clause in wanted {
         number = number.saturating_add(1);
-        match by_clause.get(clause) {
-            Some(id) => ids.push(*id)?,
+        match known.find_id(checker, &by_clause, clause) {
+            Some(_) => {}
             None => {
                 let lits = Vec::from_slice(alloc, clause)?;
                 *missing = Some(MissingClause { number, lits });
-                break;
+                return Ok(false);
             }
         }
     }
-    Ok(ids)
+    Ok(true)
 }

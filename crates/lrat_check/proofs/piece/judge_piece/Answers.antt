@@ -1,9 +1,10 @@
-use Rattle.std.proofs.Common.{Bool, Ok, Err, sym, subst}
+use Rattle.std.proofs.Common.{Bool, Ok, Err, ◌∙◌, sym, subst}
 use Rattle.lrat_checker.specs.TextAnswers.{said}
 use Rattle.verdicts.specs.declared.piece.PieceVerdict.{PieceVerdict}
 use Rattle.lrat_check.specs.Answers.{IsLratAnswer, proof_says}
 use Rattle.lrat_check.specs.Pieces.{PieceShows}
 use Rattle.lrat_check.specs.Runs.{Refutes}
+use Rattle.lrat_check.proofs.KnownLemmas.{knows_first}
 use Rattle.lrat_check.proofs.PieceLemmas.{shows_by}
 use Rattle.lrat_check.proofs.RunLemmas.{refutes_by}
 use Rattle.lrat_check.proofs.piece.judge_piece.Goals as goal
@@ -19,13 +20,14 @@ returns-then-refuted g c = λ formula held.
     (refutes_by c.args.ids formula (g.P.Read.remaining c.args.piece) c.refute_after.new.checker (Ok c.in-Ok.refuted)
     (c.in-Ok.ensures.answer formula (c.checker-checker.ensures.ready formula held.held) held.count) c.in-Ok.ensures.stops)
 
-pub returns-in-Ok-stored_ids : goal.returns-in-Ok-stored_ids
-returns-in-Ok-stored_ids g c = λ formula held.
+pub returns-in-Ok-holds_all : goal.returns-in-Ok-holds_all
+returns-in-Ok-holds_all g c = λ formula held.
     let known = g.P.Read.remaining c.args.piece in
     let checker = c.refute_after.new.checker in
     let ready = c.checker-checker.ensures.ready formula held.held in
     let answer = subst (λ (b : Bool). IsLratAnswer (proof_says c.args.ids formula) known formula checker (Ok b)) c.if-refuted.false
     (c.in-Ok.ensures.answer formula ready held.count) in
+    let first = knows_first formula c.checker-checker.result c.of_formula-known.result ready (c.of_formula-known.ensures.count ∙ held.count) in
     subst (λ (v : PieceVerdict). PieceShows c.args.ids formula c.args.wanted.now known (Ok v)) (sym c.verdict_by.ensures)
-    (shows_by c.args.ids formula c.args.wanted.now known checker answer c.holds.result
-    (λ is. (_, (c.holds.ensures.stored formula (said answer.lines) answer.ready).0 is)))
+    (shows_by c.args.ids formula c.args.wanted.now known checker c.refute_after.new.known answer (c.in-Ok.ensures.knows formula c.of_formula-known.ensures.asked first)
+    c.in-Ok-holds_all.held (c.in-Ok-holds_all.ensures formula (said answer.lines) answer.ready))
