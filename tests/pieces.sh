@@ -337,18 +337,18 @@ refuted='and the last one is refuted: s VERIFIED UNSAT'
 stopped
 goes_on 0 "$refuted"
 same tried $'last/3.cnf\nlast/2.cnf\nformula.cnf'
-# turns FILE: of its first clause the first literal is turned
+# turns FILE LINES: of the clauses in these lines the first literal is turned
 turns() {
-  sed -i '2s/^/-/; 2s/^--//' "$1"
+  sed -i "$2s/^/-/; $2s/^--//" "$1"
 }
 stopped
-turns last/4.cnf
+turns last/4.cnf 2
 goes_on 1 '4: last/4.drat is refused'
 stopped
 sed -i 2d last/4.cnf
 goes_on 1 '4: last/4.drat is refused'
 stopped
-turns last/3.cnf
+turns last/3.cnf '2,$'
 goes_on 1 'pieces are not verified'
 # a clause too many, which piece 4 does not use
 stopped
