@@ -2,7 +2,7 @@
 --     knows_first, knows_more      before the first line, and after a line more
 --     nowhere, id_found      a clause that no known id names
 --     NamedSoFar      wanted clauses, one after the other
-use Rattle.std.proofs.Common.{◌≡◌, ◌≢◌, ◌⊎◌, inl, inr, ℕ, zero, suc, ◌+◌, ◌-◌, ◌<◌, ◌≤◌, Bool, true, false, cond, eqb, List, [], ◌∷◌, ◌++◌, length, Option, Some, None, refl, sym, ap, ◌∙◌, append_assoc, append-nil, subst, arith}
+use Rattle.std.proofs.Common.{◌≡◌, ◌≢◌, ◌⊎◌, inl, inr, ℕ, zero, suc, ◌+◌, ◌-◌, ◌<◌, ◌≤◌, Bool, true, false, cond, eqb, List, [], ◌∷◌, ◌++◌, length, Option, Some, None, refl, sym, ap, ◌∙◌, append_assoc, append-nil, length-append, subst, arith}
 use Rattle.std.specs.Prelude.{◌^◌, min, Contains, MatchOption}
 use Rattle.std.proofs.lemmas.Bool.{eqb-true}
 use Rattle.std.proofs.lemmas.List.Elements.{Contains-append_left, Contains-append_right}
@@ -15,7 +15,8 @@ use Rattle.lrat_rules.proofs.Mapping.{found_left}
 use Rattle.lrat_rules.proofs.Running.{runs_join}
 use Rattle.lrat_checker.specs.Standing.{IsReady}
 use Rattle.lrat_checker.specs.declared.checker.LratChecker.{LratChecker}
-use Rattle.lrat_check.specs.Known.{IsHeld, IsKnown, IsNowhere, KnowsAll, added_by}
+use Rattle.lrat_check.specs.Known.{IsFirstMissing, IsHeld, IsKnown, IsNowhere, KnowsAll, Lacks, added_by}
+use Rattle.piece_runs.specs.declared.missing.MissingClause.{MissingClause}
 use Rattle.lrat_check.specs.declared.stored.KnownIds.{KnownIds}
 
 -- ---- what is found
@@ -112,12 +113,12 @@ id_found formula c k lines ready clause of_formula (Some id) found = found
 
 -- ---- wanted clauses, one after the other
 
--- ids name the clauses so far, and others are still to come
-pub record NamedSoFar (store : List Item) (left wanted : List (List ℕ)) : Type 0 where
+-- ids name the clauses so far, which are counted, and others are still to come
+pub record NamedSoFar (store : List Item) (number : ℕ) (left wanted : List (List ℕ)) : Type 0 where
   pub done : List (List ℕ)
   pub all : done ++ left ≡ wanted
-  pub ids : List ℕ
-  pub named : NamedBy (find store) ids done
+  pub counted : number ≡ min (length done) (2 ^ 64 - 1)
+  pub held : IsHeld done store
 
 named_last : (f : ℕ → Option (List ℕ)) (ids : List ℕ) (cs : List (List ℕ)) (i : ℕ) (c : List ℕ) → NamedBy f ids cs → f i ≡ Some c → NamedBy f (ids ++ i ∷ []) (cs ++ c ∷ [])
 named_last f [] [] i c p e = (e, tt)
@@ -125,20 +126,39 @@ named_last f [] (d ∷ cs) i c p e = absurd p
 named_last f (j ∷ ids) [] i c p e = absurd p
 named_last f (j ∷ ids) (d ∷ cs) i c p e = (p.0, named_last f ids cs i c p.1 e)
 
-module _ (store : List Item) (left wanted : List (List ℕ)) (so : NamedSoFar store left wanted) where
-  pub named_more : (i : ℕ) (c : List ℕ) (rest : List (List ℕ)) → left ≡ c ∷ rest → find store i ≡ Some c → NamedSoFar store rest wanted
-  named_more i c rest is e = record {
+module _ (store : List Item) (number : ℕ) (left wanted : List (List ℕ)) (so : NamedSoFar store number left wanted) where
+  one_more : (n : ℕ) → n ≡ min (number + 1) (2 ^ 64 - 1) → n ≡ min (length so.done + 1) (2 ^ 64 - 1)
+  one_more n is = let counted = so.counted in omega (arith, is, counted)
+
+  pub named_more : (n : ℕ) → n ≡ min (number + 1) (2 ^ 64 - 1) → (i : ℕ) (c : List ℕ) (rest : List (List ℕ)) → left ≡ c ∷ rest → find store i ≡ Some c → NamedSoFar store n rest wanted
+  named_more n counted i c rest is e = record {
     done = so.done ++ c ∷ [];
     all = append_assoc so.done (c ∷ []) rest ∙ ap (λ ds. so.done ++ ds) (sym is) ∙ so.all;
-    ids = so.ids ++ i ∷ [];
-    named = named_last (find store) so.ids so.done i c so.named e;
+    counted = one_more n counted ∙ ap (λ k. min k (2 ^ 64 - 1)) (sym (length-append so.done (c ∷ [])));
+    held = (so.held.0 ++ i ∷ [], named_last (find store) so.held.0 so.done i c so.held.1 e);
   }
 
   pub named_all : left ≡ [] → IsHeld wanted store
-  named_all is = (so.ids, subst (NamedBy (find store) so.ids) (sym (append-nil so.done) ∙ ap (λ ds. so.done ++ ds) (sym is) ∙ so.all) so.named)
+  named_all is = subst (λ ds. IsHeld ds store) (sym (append-nil so.done) ∙ ap (λ ds. so.done ++ ds) (sym is) ∙ so.all) so.held
 
-  pub is_wanted : (c : List ℕ) (rest : List (List ℕ)) → left ≡ c ∷ rest → Contains wanted c
-  is_wanted c rest is = subst (λ ds. Contains ds c) (ap (λ ds. so.done ++ ds) (sym is) ∙ so.all) (Contains-append_right so.done (c ∷ rest) c (0, omega arith, refl))
+  pub first_missing : (m : MissingClause) → m.number ≡ min (number + 1) (2 ^ 64 - 1) → (c : List ℕ) (rest : List (List ℕ)) → left ≡ c ∷ rest → m.lits.items ≡ c →
+      IsNowhere store c → IsFirstMissing wanted store m
+  first_missing m counted c rest is same nowhere = record {
+    before = so.done;
+    rest = rest;
+    split = ap (λ d. so.done ++ d ∷ rest) same ∙ ap (λ ds. so.done ++ ds) (sym is) ∙ so.all;
+    number = one_more m.number counted;
+    held = so.held;
+    nowhere = subst (IsNowhere store) (sym same) nowhere;
+  }
 
-pub named_none : (store : List Item) (left wanted : List (List ℕ)) → left ≡ wanted → NamedSoFar store left wanted
-named_none store left wanted is = record { done = []; all = is; ids = []; named = tt }
+pub named_none : (store : List Item) (left wanted : List (List ℕ)) → left ≡ wanted → NamedSoFar store 0 left wanted
+named_none store left wanted is = record { done = []; all = is; counted = refl; held = ([], tt) }
+
+-- so one is missing
+pub lacks_one : (wanted : List (List ℕ)) (store : List Item) (m : MissingClause) → IsFirstMissing wanted store m → Lacks wanted store
+lacks_one wanted store m p = (
+  m.lits.items,
+  subst (λ ds. Contains ds m.lits.items) p.split (Contains-append_right p.before (m.lits.items ∷ p.rest) m.lits.items (0, omega arith, refl)),
+  p.nowhere,
+)

@@ -17,15 +17,17 @@ use Rattle.sat_formula.specs.Whole.{IsOutcome}
 use Rattle.whole_formulas.specs.Lies.{IsLie}
 use Rattle.verdicts.specs.declared.piece.PieceVerdict.{PieceVerdict}
 use Rattle.verdicts.specs.declared.piece.PieceVerdict.TheVariants.{Refuted, Carried, NotCarried}
+use Rattle.piece_runs.specs.declared.missing.MissingClause.{MissingClause}
 use Rattle.piece_runs.specs.Texts.{CarriesText, IsPieceShown, OfFormulas}
 use Rattle.piece_runs.proofs.Reading.{carries_text, of_formulas}
 use Rattle.lrat_check.specs.Answers.{IsLratAnswer, proof_says}
-use Rattle.lrat_check.specs.Known.{IsHeld, KnowsAll, Lacks}
-use Rattle.lrat_check.specs.Pieces.{BeginsPiece, BeginsShown, IsPieceRun, IsReadPieceRun, Leaves, PieceShows, TellsPieceLies, verdict_by}
+use Rattle.lrat_check.specs.Known.{IsFirstMissing, IsHeld, KnowsAll, Lacks}
+use Rattle.lrat_check.specs.Pieces.{BeginsPiece, BeginsShown, IsPieceRun, IsReadPieceRun, Leaves, PieceShows, ShowsMissing, TellsMissing, TellsPieceLies, verdict_by}
 use Rattle.lrat_check.specs.declared.stored.KnownIds.{KnownIds}
 use Rattle.lrat_check.specs.declared.fault.RunFault.TheVariants.{Formula, Proof, Write}
 use Rattle.lrat_check.specs.declared.piece_fault.PieceFault.{PieceFault}
 use Rattle.lrat_check.specs.declared.piece_fault.PieceFault.TheVariants.{Run, Wanted}
+use Rattle.lrat_check.proofs.KnownLemmas.{lacks_one}
 use Rattle.lrat_check.proofs.RunLemmas.{formula_refuted}
 
 abbrev Known : Type 0
@@ -44,11 +46,19 @@ module _ (ids : Option Ids) (formula wanted : List (List ℕ)) (known : Known) w
     left = left;
   }
 
-  -- by whether that checker holds the wanted clauses, where each id under which it holds one is known
-  pub shows_by : (c : LratChecker) (k : KnownIds) (p : IsLratAnswer (proof_says ids formula) known formula c (Ok false)) → KnowsAll formula c k → (held : Bool) →
-      MatchBool held (IsHeld wanted p.ready.accepted.store) (KnowsAll formula c k → Lacks wanted p.ready.accepted.store) → PieceShows ids formula wanted known (Ok (verdict_by held))
-  shows_by c k p knows true found = left_behind c (IsHeld wanted) p found
-  shows_by c k p knows false found = left_behind c (Lacks wanted) p (found knows)
+  -- what is found of the wanted clauses in a store: ids name all, or one is the first that none names, and it is told
+  abbrev pub Found : LratChecker → KnownIds → Option MissingClause → List Item → Bool → Type 0
+  Found c k told store held = MatchBool held (IsHeld wanted store) (KnowsAll formula c k → (m : MissingClause) × (told ≡ Some m) × IsFirstMissing wanted store m)
+
+  module _ (c : LratChecker) (k : KnownIds) (told : Option MissingClause) (p : IsLratAnswer (proof_says ids formula) known formula c (Ok false)) (knows : KnowsAll formula c k) where
+    -- by whether that checker holds the wanted clauses, where each id under which it holds one is known
+    pub shows_by : (held : Bool) → Found c k told p.ready.accepted.store held → PieceShows ids formula wanted known (Ok (verdict_by held))
+    shows_by true found = left_behind c (IsHeld wanted) p found
+    shows_by false found = let f = found knows in left_behind c (Lacks wanted) p (lacks_one wanted p.ready.accepted.store f.0 f.2)
+
+    pub missing_by : (held : Bool) → Found c k told p.ready.accepted.store held → verdict_by held ≡ NotCarried → ShowsMissing ids formula wanted known told
+    missing_by true found e = absurd cc
+    missing_by false found e = let f = found knows in (f.0, f.1, left_behind c (λ store. IsFirstMissing wanted store f.0) p f.2)
 
   pub piece_shown : (verdict : PieceVerdict) → PieceShows ids formula wanted known (Ok verdict) → IsPieceShown formula wanted verdict
   piece_shown Refuted p = formula_refuted ids formula known true p refl
@@ -71,6 +81,9 @@ module _ (ids : Option Ids) (cnf holds known : Known) (formula wanted : List (Li
 
   pub read_begins : (old new : Known) → BeginsShown ids formula wanted known old new → BeginsPiece ids cnf holds known old new
   read_begins old new p = both (λ formula wanted. BeginsShown ids formula wanted known old new) p
+
+  pub read_missing : (told : Option MissingClause) → ShowsMissing ids formula wanted known told → TellsMissing ids cnf holds known told
+  read_missing told p = both (λ formula wanted. ShowsMissing ids formula wanted known told) p
 
   pub read_carries : (text other : List ℕ) → cnf ≡ Some text → holds ≡ Some other → PieceShows ids formula wanted known (Ok Carried) → CarriesText text other
   read_carries text other is is' p = carries_text cnf holds formula wanted whole wanted_whole text other is is' (piece_shown ids formula wanted known Carried p)

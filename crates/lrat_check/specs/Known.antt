@@ -4,12 +4,14 @@
 --     KnowsAll formula c k      each id under which a checker holds a clause is known
 --     IsHeld wanted store      some ids name the wanted clauses
 --     IsNowhere store clause, Lacks wanted store      no id names the clause;  so it is with a wanted one
-use Rattle.std.specs.Prelude.{◌≡◌, ◌≢◌, ◌⊎◌, ℕ, ◌^◌, ◌<◌, ◌≤◌, List, [], ◌∷◌, Some, Contains}
+--     IsFirstMissing wanted store m      this is the first such one
+use Rattle.std.specs.Prelude.{◌≡◌, ◌≢◌, ◌⊎◌, ℕ, ◌+◌, ◌-◌, ◌^◌, ◌<◌, ◌≤◌, min, List, [], ◌∷◌, ◌++◌, length, Some, Contains}
 use Rattle.sat_rules.specs.Named.{Item, NamedBy}
 use Rattle.lrat_rules.specs.Lines.{Line, adds, deletes}
 use Rattle.lrat_rules.specs.Stores.{find}
 use Rattle.lrat_checker.specs.Standing.{IsReady}
 use Rattle.lrat_checker.specs.declared.checker.LratChecker.{LratChecker}
+use Rattle.piece_runs.specs.declared.missing.MissingClause.{MissingClause}
 use Rattle.lrat_check.specs.declared.stored.KnownIds.{KnownIds}
 
 -- the id of the clause that a line adds, where it adds one
@@ -39,3 +41,13 @@ IsNowhere store clause = (id : ℕ) → id < 2 ^ 64 → find store id ≢ Some c
 -- so it is with a wanted clause
 abbrev pub Lacks : List (List ℕ) → List Item → Type 0
 Lacks wanted store = (clause : List ℕ) × Contains wanted clause × IsNowhere store clause
+
+-- this wanted clause is the first of them, by its number, which counts from 1 and stays at the largest of 64 bits
+pub record IsFirstMissing (wanted : List (List ℕ)) (store : List Item) (m : MissingClause) :
+    Type 0 where
+  pub before : List (List ℕ)
+  pub rest : List (List ℕ)
+  pub split : before ++ m.lits.items ∷ rest ≡ wanted
+  pub number : m.number ≡ min (length before + 1) (2 ^ 64 - 1)
+  pub held : IsHeld before store
+  pub nowhere : IsNowhere store m.lits.items

@@ -2,6 +2,7 @@
 --     Leaves ids formula known P      the lines of the piece are accepted, none adds the empty clause, and of what is stored then this is so
 --     PieceShows ids formula wanted known r      what a piece of these bytes shows
 --     IsReadPieceRun, IsPieceRun      the run after two formulas, and after their texts
+--     ShowsMissing, TellsMissing      the wanted clause that is told as missing, after two formulas, and after their texts
 --     IsSilentPiece r, IsUnwrittenPiece r      no line of a verdict was begun;  one was not written whole
 --     BeginsShown, BeginsPiece      what was written then, after two formulas, and after their texts
 --     TellsPieceLies      what is told of both headers
@@ -24,8 +25,9 @@ use Rattle.verdicts.specs.Pieces.{piece_line}
 use Rattle.verdicts.specs.declared.piece.PieceVerdict.{PieceVerdict}
 use Rattle.verdicts.specs.declared.piece.PieceVerdict.TheVariants.{Refuted, Carried, NotCarried}
 use Rattle.piece_runs.specs.Texts.{OfFormula, OfFormulas}
+use Rattle.piece_runs.specs.declared.missing.MissingClause.{MissingClause}
 use Rattle.lrat_check.specs.Answers.{proof_says}
-use Rattle.lrat_check.specs.Known.{IsHeld, Lacks}
+use Rattle.lrat_check.specs.Known.{IsFirstMissing, IsHeld, Lacks}
 use Rattle.lrat_check.specs.Runs.{Refutes}
 use Rattle.lrat_check.specs.declared.fault.RunFault.TheVariants.{Formula, Proof, Write}
 use Rattle.lrat_check.specs.declared.piece_fault.PieceFault.{PieceFault}
@@ -53,6 +55,18 @@ PieceShows ids formula wanted known (Ok Refuted) = Refutes ids formula known (Ok
 PieceShows ids formula wanted known (Ok Carried) = Leaves ids formula known (IsHeld wanted)
 PieceShows ids formula wanted known (Ok NotCarried) = Leaves ids formula known (Lacks wanted)
 PieceShows ids formula wanted known (Err fault) = Refutes ids formula known (Err fault)
+
+-- of what the piece leaves, the first wanted clause that is missing is told
+abbrev pub ShowsMissing : Option Ids → List (List ℕ) → List (List ℕ) → Option (List ℕ) →
+    Option MissingClause → Type 0
+ShowsMissing ids formula wanted known told = (m : MissingClause) × (told ≡ Some m)
+    × Leaves ids formula known (λ store. IsFirstMissing wanted store m)
+
+-- the same after both texts
+abbrev pub TellsMissing : Option Ids → Option (List ℕ) → Option (List ℕ) → Option (List ℕ) →
+    Option MissingClause → Type 0
+TellsMissing ids cnf holds known told = OfFormulas cnf holds
+    (λ formula wanted. ShowsMissing ids formula wanted known told)
 
 -- by the verdict, written or not, or by the fault; the formulas were there
 abbrev pub IsReadPieceRun : Option Ids → List (List ℕ) → List (List ℕ) → Option (List ℕ) →

@@ -5,9 +5,9 @@ ghost use Rattle.std.specs.Io.KnownBytes.{Appends};
 ghost use Rattle.sat_formula.specs.Refuted.{IsRefuted};
 ghost use Rattle.piece_runs.specs.Texts.{CarriesText};
 ghost use Rattle.lrat_check.specs.Held.{HoldsCounted};
-ghost use Rattle.lrat_check.specs.Pieces.{BeginsPiece, BeginsShown, IsPieceRun, IsReadPieceRun, IsSilentPiece, IsUnwrittenPiece, PieceShows, TellsPieceLies, verdict_by};
+ghost use Rattle.lrat_check.specs.Pieces.{BeginsPiece, BeginsShown, IsPieceRun, IsReadPieceRun, IsSilentPiece, IsUnwrittenPiece, PieceShows, ShowsMissing, TellsMissing, TellsPieceLies, verdict_by};
 ghost use Rattle.verdicts.specs.Pieces.{piece_line};
-ghost use Rattle.verdicts.specs.declared.piece.PieceVerdict.TheVariants.{Refuted, Carried};
+ghost use Rattle.verdicts.specs.declared.piece.PieceVerdict.TheVariants.{Refuted, Carried, NotCarried};
 
 use crate::fault::RunFault;
 use crate::formula::{Held, read_held};
@@ -26,8 +26,7 @@ use whole_formulas::read_formula;
 /// What a run over a piece tells beside its verdict.
 #[derive(Drop)]
 pub struct PieceTold {
-    /// The first wanted clause that is not there, where the verdict is that. No clause speaks of
-    /// it.
+    /// The first wanted clause that is not there, where the verdict is that.
     pub missing: Option<MissingClause>,
     /// What the formula's header lies about.
     pub lie: Option<LyingHeader>,
@@ -59,6 +58,8 @@ pub fn run_piece<F: Read + Drop, G: Read + Drop, P: Read + Drop, W: Write>(
     ensures silent { IsSilentPiece result → out.new ≡ out.old }
     ensures unwritten { IsUnwrittenPiece result → BeginsPiece ids (F.remaining cnf)
         (G.remaining holds) (P.remaining piece) (W.contents out.old) (W.contents out.new) }
+    ensures missing { result ≡ Ok NotCarried → TellsMissing ids (F.remaining cnf)
+        (G.remaining holds) (P.remaining piece) told.new.missing }
     ensures carries { (text other : List ℕ) → F.remaining cnf ≡ Some text
         → G.remaining holds ≡ Some other → result ≡ Ok Carried → CarriesText text other }
     ensures refutes { (text : List ℕ) → F.remaining cnf ≡ Some text
@@ -96,6 +97,9 @@ fn run_read_piece<P: Read + Drop, W: Write>(
     ensures unwritten { (formula : List (List ℕ)) → HoldsCounted formula held
         → IsUnwrittenPiece result → BeginsShown ids formula wanted.now (P.remaining piece)
         (W.contents out.old) (W.contents out.new) }
+    ensures missing { (formula : List (List ℕ)) → HoldsCounted formula held
+        → IfOk result (λ verdict. verdict ≡ NotCarried
+        → ShowsMissing ids formula wanted.now (P.remaining piece) missing.new) }
 {
     let verdict = match judge_piece(alloc, held, wanted, piece, ids, missing) {
         Ok(verdict) => verdict,
@@ -116,8 +120,11 @@ fn judge_piece<P: Read + Drop>(
     ids: Option<Ids>,
     missing: &mut Option<MissingClause>,
 ) -> Result<PieceVerdict, LratFault>
-    ensures { (formula : List (List ℕ)) → HoldsCounted formula held
+    ensures shows { (formula : List (List ℕ)) → HoldsCounted formula held
         → PieceShows ids formula wanted.now (P.remaining piece) result }
+    ensures missing { (formula : List (List ℕ)) → HoldsCounted formula held
+        → IfOk result (λ verdict. verdict ≡ NotCarried
+        → ShowsMissing ids formula wanted.now (P.remaining piece) missing.new) }
 {
     let Held { clauses, count } = held;
     let mut checker = clauses.checker();

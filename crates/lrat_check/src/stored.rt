@@ -4,7 +4,8 @@ ghost use Rattle.lrat_rules.specs.Lines.{Line};
 ghost use Rattle.lrat_rules.specs.Stores.{find};
 ghost use Rattle.lrat_text.specs.NextLine.{view};
 ghost use Rattle.lrat_checker.specs.Standing.{IsReady};
-ghost use Rattle.lrat_check.specs.Known.{IsHeld, IsNowhere, KnowsAll, Lacks, added_by};
+ghost use Rattle.lrat_check.specs.Known.{IsFirstMissing, IsHeld, IsNowhere, KnowsAll, added_by};
+ghost use Rattle.piece_runs.specs.declared.missing.MissingClause.{MissingClause};
 
 use lrat_checker::LratChecker;
 use lrat_text::LratLine;
@@ -179,7 +180,8 @@ pub(crate) fn holds_all(
     ensures { (formula : List (List ℕ)) (lines : List Line)
         → (ready : IsReady formula lines checker.now) → IfOk result (λ held. MatchBool held
         (IsHeld wanted.now ready.accepted.store)
-        (KnowsAll formula checker.now known.now → Lacks wanted.now ready.accepted.store)) }
+        (KnowsAll formula checker.now known.now → (m : MissingClause)
+        × (missing.new ≡ Some m) × IsFirstMissing wanted.now ready.accepted.store m)) }
 {
     let by_clause = known.by_clause(alloc, checker)?;
     let mut number: u64 = 0;

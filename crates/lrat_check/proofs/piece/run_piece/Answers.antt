@@ -1,4 +1,5 @@
-use Rattle.lrat_check.proofs.PieceLemmas.{read_begins, read_carries, read_lies, read_refutes, read_run}
+use Rattle.std.proofs.Common.{refl}
+use Rattle.lrat_check.proofs.PieceLemmas.{read_begins, read_carries, read_lies, read_missing, read_refutes, read_run}
 use Rattle.lrat_check.proofs.piece.run_piece.Goals as goal
 
 pub returns-in-Err-read_formula-clause-run : goal.returns-in-Err-read_formula-clause-run
@@ -17,6 +18,13 @@ returns-clause-unwritten g c = λ is.
     let read = c.in-Ok.ensures.whole in
     read_begins c.args.ids (g.F.Read.remaining c.args.cnf) (g.G.Read.remaining c.args.holds) (g.P.Read.remaining c.args.piece) read.0 c.in-Ok-read_formula.wanted
     read.1 c.in-Ok-read_formula.ensures.whole _ _ (c.run_read_piece.ensures.unwritten read.0 read.2 is)
+
+pub returns-clause-missing : goal.returns-clause-missing
+returns-clause-missing g c = λ e.
+    let read = c.in-Ok.ensures.whole in
+    let missing = rw e at c.run_read_piece.ensures.missing read.0 read.2 in
+    read_missing c.args.ids (g.F.Read.remaining c.args.cnf) (g.G.Read.remaining c.args.holds) (g.P.Read.remaining c.args.piece) read.0 c.in-Ok-read_formula.wanted
+    read.1 c.in-Ok-read_formula.ensures.whole c.run_read_piece.new.missing (missing refl)
 
 pub returns-clause-carries : goal.returns-clause-carries
 returns-clause-carries g c = λ text other is is' e.

@@ -7,4 +7,4 @@ use Rattle.lrat_check.proofs.stored.holds_all.Given as goal
 -- ids name the clauses so far
 abbrev pub invariant-loop-clause : goal.invariant-loop-clause
 invariant-loop-clause l = (formula : List (List ℕ)) (lines : List Line) → (ready : IsReady formula lines l.checker) →
-    NamedSoFar ready.accepted.store l.clause-iterator l.wanted
+    NamedSoFar ready.accepted.store l.number l.clause-iterator l.wanted
