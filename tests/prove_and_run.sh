@@ -1,7 +1,6 @@
 #!/usr/bin/env bash
-# `tools/prove_and_run` over an `rt` that is written here: each lower library is built once, after those below it, several at a time;
-# the upper crates are proved in one check, unless something is kept of them; what was built and kept comes together in the repository;
-# the program gets its words; and a library that is not built, or a program that is not proved, is told.
+# `tools/prove_and_run` over an `rt` that is written here: each library is built once, after those below it, several at a time; what was
+# built comes together in the repository; the program gets its words; and a library that is not built is told.
 set -euo pipefail
 
 top=$(cd "$(dirname "$0")/.." && pwd)
@@ -32,20 +31,9 @@ set -euo pipefail
 crate=${PWD##*/}
 echo "$1 $crate" >> "$WORK/calls"
 if [[ $1 == run ]]; then
-  find .. -name library -o -name 'Rattle-*' | sort | tr '\n' ' '
+  find .. -name library | sort | tr '\n' ' '
   echo "words: ${*:2}"
   exit 7
-fi
-if [[ $1 == check ]]; then
-  [[ " $* " == *" --lib high:core,std,left,right=$(cd ../.. && pwd)/crates/high/src/lib.rt "* ]] || exit 1
-  cat ../{high/src/lib.rt,left/out/rlib/library,low/out/rlib/library,right/out/rlib/library}
-  echo "words about $crate"
-  mkdir -p out/incremental/here
-  touch out/incremental/here/Rattle-{high-proofs.f,app_main,low.specs}.oantt
-  echo 'so far: all'
-  [[ $crate != "${FAILS:-}" ]] || exit 1
-  grep -x 'app_main: core left log low right' ../../crates.txt
-  exit
 fi
 for named in $(sed 's/:.*//' ../../crates.txt); do
   cat "../$named/src/"*.rt
@@ -88,27 +76,15 @@ runs() {
 }
 
 runs 7 app --example 'two words'
-libraries='../left/out/rlib/library ../low/out/rlib/library ../right/out/rlib/library'
-proofs='../app_main/out/incremental/here/Rattle-app_main.oantt ../high/out/incremental/here/Rattle-high-proofs.f.oantt'
 is 'what is built' "$(cat out)" \
-  "${proofs% *} ${proofs#* } $libraries words: --jobs $(nproc) -- --example two words"
-is 'the calls' "$(sort calls | tr '\n' ' ')" 'check app_main lib left lib low lib right run app_main '
-is 'what is kept' "$(find crates -name kept | wc -l)" 3
-is 'what is told' "$(grep -cx 'so far: all' err)" 1
-
-runs 7 app
-is 'the calls of a second run' "$(sort calls | tr '\n' ' ')" 'lib left lib low lib right run app_main '
+  "../high/out/rlib/library ../left/out/rlib/library ../low/out/rlib/library ../right/out/rlib/library words: --jobs $(nproc) -- --example two words"
+is 'the calls' "$(sort calls | tr '\n' ' ')" 'lib high lib left lib low lib right run app_main '
+is 'what is kept' "$(find crates -name kept | wc -l)" 4
 
 rm -r crates/*/out
 FAILS=right runs 1 app
 is 'what is said of a library that is not built' "$(tail -n 2 err)" $'words about right\nright was not built'
-is 'what is called above it' "$(grep -c 'check\|run' calls || true)" 0
-
-rm -r crates/*/out
-FAILS=app_main runs 1 app
-is 'what is said of a program that is not proved' "$(tail -n 2 err)" $'so far: all\napp_main was not proved'
-is 'what is kept of it' "$(find crates -name 'Rattle-*' | wc -l)" 2
-is 'what is called then' "$(grep -c run calls || true)" 0
+is 'what is built above it' "$(grep -c 'high\|run' calls || true)" 0
 
 runs 2 other
 is 'what is said of a library' "$(cat err)" 'usage: tools/prove_and_run PROGRAM [ARGUMENT..]'
