@@ -5,30 +5,23 @@
 set -euo pipefail
 cd "$(dirname "$0")"
 told=$(mktemp -d)
-library=
-trap '[[ ! $library ]] || kill -- "-$library" 2> /dev/null || true; rm -rf "$told"' EXIT
+trap 'rm -rf "$told"' EXIT
 tests/documents.sh
 tests/layout.sh
 tests/wrong_bodies.sh --records
 
-# `rt ci` leaves no library to build with, and no module of a program. So the library for C and the module of one program are made in
-# a copy meanwhile, by one job, over the libraries that an earlier run left here; what that leaves is taken over once the gate has
-# ended.
+rt ci 2>&1 | tee "$told/gate"
+tests/weak_edits.sh "$told/gate"
+
+# The gate makes no archive of the library for C and keeps no module of a program. So both are made in a copy, over the libraries that
+# the gate or an earlier run has left, and what that leaves is taken over.
 mkdir "$told/copy"
 tar -c --exclude=./.git --exclude=out --exclude=target . | tar -x -C "$told/copy"
 find crates -mindepth 3 -maxdepth 3 -path '*/out/rlib' -exec cp -a --parents {} "$told/copy" \;
-setsid nice bash -c '
-  set -e
-  cd "$1"
-  (cd "$(dirname "$(dirname "$(bindings/build.sh --archive)")")" && rt lib --jobs 1)
-  tools/portable.sh --module lrat_check
-' library "$told/copy" > "$told/library" 2>&1 &
-library=$!
-
-rt ci 2>&1 | tee "$told/gate"
-tests/weak_edits.sh "$told/gate"
-wait "$library" || echo "not all was built beside the gate: $(tail -n 3 "$told/library")"
-library=
+python3 -B tests/wrong_bodies/toolchain.py "$told/copy"
+crate=$(realpath --relative-to . "$(dirname "$(dirname "$(bindings/build.sh --archive)")")")
+(cd "$told/copy/$crate" && rt lib && ../../tools/portable.sh --module lrat_check) > "$told/library" 2>&1 ||
+  echo "not all was built over the gate's libraries: $(tail -n 3 "$told/library")"
 for kept in "$told"/copy/crates/*/out/; do
   crate=${kept%/out/}
   crate=${crate##*/}

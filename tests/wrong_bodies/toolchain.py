@@ -1,9 +1,13 @@
 """What is used of the toolchain's own script, `rt`: which words a check of a crate is begun with.
 
 All of it stands here. Where a newer toolchain changes one of these names, `rt check --help` and `rtlib.py` beside `rt` tell the
-new one: the crate's words for `rattle check`, the folder `out/incremental` with what a check has kept, and the copy of it.
+new one: the crate's words for `rattle check`, the folder `out/incremental` with what a check has kept, the copy of it, and the stamp
+by which `rt` knows a library that is built.
+
+    toolchain.py TOP    has `rt` take the libraries that its gate has left in the repository TOP
 """
 
+import functools
 import importlib.machinery
 import importlib.util
 import os
@@ -63,3 +67,23 @@ def check_copies(crate, names, room):
         errors="replace",
     )
     return ran.stdout
+
+
+def stamp_libraries(top):
+    """Gives libraries that the gate has left the stamp that `rt lib` would have given them, since each was built over the others."""
+    @functools.cache
+    def stamp(folder):
+        return of_one(crates[folder])
+
+    of_one = rtlib.Crate.stamp
+    rtlib.Crate.stamp = lambda crate: stamp(crate.folder)
+    crates = {it.folder: it for it in rtlib.crates_below(top)}
+    for folder in crates:
+        place = f"{folder}/out/rlib"
+        if os.path.isdir(place) and not os.path.exists(f"{place}/stamp"):
+            with open(f"{place}/stamp", "w", encoding="utf-8") as to:
+                to.write(stamp(folder))
+
+
+if __name__ == "__main__":
+    stamp_libraries(os.path.realpath(sys.argv[1]))
