@@ -27,7 +27,7 @@ def parity_clauses(variables, is_odd):
 
 
 def charges(edges, odd):
-    """At each end of an edge the number of true edges is even, but for one end, which no choice of edges can meet."""
+    """At each end of an edge the number of true edges is even, except for one end, which no choice of edges can meet."""
     at = {}
     for number, ends in enumerate(edges, 1):
         for end in ends:
@@ -114,7 +114,7 @@ def counter(bits, steps):
 
 
 def colours(places, degree, count, seed):
-    """A random graph with edges between so many places on average, which more colours are needed for."""
+    """A random graph with edges between this many places on average, which more colours are needed for."""
     draw = random.Random(seed)
     edges = set()
     while len(edges) < places * degree / 2:

@@ -154,7 +154,7 @@ runs() {
   fi
 }
 
-# solved N: so many parts were solved since the last call
+# solved N: this many parts were solved since the last call
 solved() {
   local count
   count=$(wc -l < calls)

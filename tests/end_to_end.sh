@@ -99,7 +99,7 @@ shorten() {
   head -c -1 "$work/files/$1" > "$work/files/short.$1"
 }
 
-# refutes NAME KIND STEPS AT OFFSET BYTE: the proof of so many steps is accepted, and refused where its last byte is missing
+# refutes NAME KIND STEPS AT OFFSET BYTE: the proof of this many steps is accepted, and refused where its last byte is missing
 # or where the first hash, in the step AT and at the offset, begins with another byte
 refutes() {
   local cnf=$1.cnf proof=$1.$2.proof

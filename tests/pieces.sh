@@ -3,7 +3,7 @@
 # of another proof or behind clauses that were changed, and a run that is interrupted; the last piece first; pieces that wait; a proof while it is written, by
 # `pieces run` and `checked --while`; some hundred random proofs against the whole; and where cadical is there, the commands of docs/SCALE.md.
 #
-#   tests/pieces.sh [COUNT [SEED]]    so many random proofs
+#   tests/pieces.sh [COUNT [SEED]]    this many random proofs
 #
 # The programs must be built: `rt ci` does it, or `rt run` in their folders.
 set -euo pipefail

@@ -19,7 +19,7 @@ says() {
   fi
 }
 
-# whole FILE RECTANGLES: it is XML, with so many of them at least
+# whole FILE RECTANGLES: it is XML, with this many of them at least
 whole() {
   local count
   count=$(python3 -c 'import sys, xml.dom.minidom as dom; print(len(dom.parse(sys.argv[1]).getElementsByTagName("rect")))' "$1") || wrong=1

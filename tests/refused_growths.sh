@@ -59,7 +59,7 @@ play_row() {
   echo "$row $mode: $((number - 1)) runs, of which $own met the program that plays the row"
 }
 
-# stopped: a run with a refused growth claims nothing: there is no line and no line of hints; the fault is want of memory, or the
+# stopped: a run with a refused growth claims nothing: there is no line and no line of hints; the fault is out of memory, or the
 # arguments could not be read
 stopped() {
   if [[ -s $work/out || -s $work/hints ]]; then

@@ -148,7 +148,7 @@ submits() {
   fi
 }
 
-# solved N: so many parts were given to the solver since the last call
+# solved N: this many parts were given to the solver since the last call
 solved() {
   if [[ $(wc -l < calls) != "$1" ]]; then
     printf '%s solved, and not %s\n' "$(wc -l < calls)" "$1"

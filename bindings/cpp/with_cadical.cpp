@@ -13,7 +13,7 @@
 
 using cefindrato::Answer;
 
-// Solves the formula, and writes the steps into the file. It may give up after so many conflicts; -1: it does not.
+// Solves the formula, and writes the steps into the file. It may give up after this many conflicts; -1: it does not.
 static void solve(const char *formula, int conflicts, FILE *proof) {
     CaDiCaL::Solver solver;
     int variables;

@@ -25,7 +25,7 @@ static void is_so(const char *what, bool holds) {
     }
 }
 
-/* Whether this is what stands at the start of a room, of so many bytes in all, and what is behind it was not touched. */
+/* Whether this is what stands at the start of a room, of this many bytes in all, and what is behind it was not touched. */
 static bool holds(const char *room, size_t size, cefindrato_text placed, const char *text) {
     const size_t len = strlen(text), within = len < size ? len : size;
     size_t at;

@@ -39,7 +39,7 @@ static void of_drat() {
     is_so("a format", cefindrato::check_drat(five, "1 0\n0\n", nullptr, {}, cefindrato::Format::drat) == Answer::verified);
 }
 
-// One line with so many hints that it is longer than the room that is tried first.
+// One line with this many hints that it is longer than the room that is tried first.
 static void of_long_lines() {
     const int length = 200000;
     std::string cnf = "1 0\n", lrat;

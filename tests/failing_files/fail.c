@@ -1,7 +1,7 @@
 // Fails reads and writes of a program, loaded by LD_PRELOAD. Reads and writes are counted from 1 on all descriptors alike.
 //
 // - FAIL_READ=N, FAIL_WRITE=N: the read, or write, of this number fails.
-// - SHORT_READS=N, SHORT_WRITES=N: a read, or write, moves at most so many bytes.
+// - SHORT_READS=N, SHORT_WRITES=N: a read, or write, moves at most this many bytes.
 #define _GNU_SOURCE
 #include <dlfcn.h>
 #include <errno.h>

@@ -148,7 +148,7 @@ def prefix_differences(programs):
 
 
 def unnoticed(fault, count):
-    """Whether the rules with this fault give the answers of the rules to so many texts."""
+    """Whether the rules with this fault give the answers of the rules to this many texts."""
     for seed in range(count):
         formula, text = texts.random_case(random.Random(seed))
         if rules.judge(formula, text) != rules.judge(formula, text, fault):

@@ -71,7 +71,7 @@ def spread(clauses, source):
 
 
 def definition(clauses, literals, lines, rows, said=None):
-    """What is said, where the clauses end on these lines, the literals stand on those, and a header says so many clauses."""
+    """What is said, where the clauses end on these lines, the literals stand on those, and a header says this many clauses."""
     seen = set()
     for literal, row in zip(literals, rows):
         if -literal in seen:

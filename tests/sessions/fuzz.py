@@ -83,7 +83,7 @@ class Maker:
         self.put(None, text("l", clause), text("l", [name, *clause], hints))
 
     def refute(self, core, decided):
-        """Lemmas of the leaves of a tree, and then of its inner nodes, but for the root."""
+        """Lemmas of the leaves of a tree, and then of its inner nodes, except for the root."""
         if propagated(self.clauses, [*core, *decided]) is not None:
             return
         free = [it for it in range(1, self.top + 1) if it not in map(abs, [*core, *decided])]

@@ -59,7 +59,7 @@ def is_by_clause(wrong):
 
 
 def keeps_shape(old, new):
-    """Whether two texts have the same words but for operators, numbers and values: no call, no branch, no name that is given."""
+    """Whether two texts have the same words except for operators, numbers and values: no call, no branch, no name that is given."""
     return shape_of(old) == shape_of(new)
 
 

@@ -30,7 +30,7 @@ use std::test::Fail;
 use varisat_checker::Checker;
 use varisat_checker::internal::SelfChecker;
 
-/// Makes the call of a line, with so many bytes a read, and answers what is seen of it.
+/// Makes the call of a line, with this many bytes a read, and answers what is seen of it.
 pub fn make(alloc: Global, checker: &mut Checker, call: &str, size: usize) -> Result<String, Fail> {
     let (name, rest) = first_word(call);
     match name {

@@ -2,7 +2,7 @@
 use std::io;
 use std::io::{ErrorKind, Read};
 
-/// Gives so many bytes a read, and fails the read of this number, counted from 1.
+/// Gives this many bytes a read, and fails the read of this number, counted from 1.
 #[derive(Clone, Copy, Debug)]
 pub struct Cuts<'a> {
     rest: &'a [u8],
@@ -12,7 +12,7 @@ pub struct Cuts<'a> {
 }
 
 impl Cuts<'_> {
-    /// So many bytes a read.
+    /// This many bytes a read.
     pub fn of_size(text: &[u8], size: usize) -> Cuts<'_> {
         Cuts {
             rest: text,

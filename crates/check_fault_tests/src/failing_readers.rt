@@ -11,7 +11,7 @@ const KINDS: [ErrorKind; 3] = [
     ErrorKind::Other,
 ];
 
-/// Two opposite units and the end, whose steps end at 3, 6 and 7 bytes. One read fails: so many
+/// Two opposite units and the end, whose steps end at 3, 6 and 7 bytes. One read fails: this many
 /// steps stand then. The checker goes on with the number after the failing step's.
 fn of_proof(alloc: Global, failing: u32, kind: ErrorKind) -> Result<String, Fail> {
     let (steps, failed, next) = match failing {
@@ -34,7 +34,7 @@ unsat
     )?)
 }
 
-/// Two opposite units, whose clauses end at 4 and 9 bytes. One read fails: so many clauses stand
+/// Two opposite units, whose clauses end at 4 and 9 bytes. One read fails: this many clauses stand
 /// then. The checker goes on with the whole text.
 fn of_text(alloc: Global, failing: u32, kind: ErrorKind) -> Result<String, Fail> {
     let clauses = match failing {

@@ -1,7 +1,7 @@
 //! The writer of hints in a box of the checker: its text after calls, and the answer to a call that
 //! it can't write.
 
-/// Scripts with a writer that announces so many input clauses.
+/// Scripts with a writer that announces this many input clauses.
 pub const WRITTEN: [&str; 7] = [
     "\
 processor writer 4

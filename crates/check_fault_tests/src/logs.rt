@@ -52,7 +52,7 @@ fn formulas_are_told(rt: HostRuntime) -> Result<(), Fail> {
     Ok(())
 }
 
-/// So many times the empty clause as a step, and then the last bytes.
+/// This many times the empty clause as a step, and then the last bytes.
 fn long_proof(alloc: Global, count: u32, last: &[u8]) -> Result<Vec<u8>, Fail> {
     let mut proof = Vec::new(alloc);
     for _ in 0..count {

@@ -254,7 +254,7 @@ fn hand_in(
     }
 }
 
-/// The same with a transcript.
+/// Hands a transcript to the checker. One that is not taken comes back as it was.
 fn hand_in_transcript(
     alloc: Global,
     checker: &mut Checker,

@@ -8,7 +8,7 @@ use std::process::Abort;
 use std::test::Fail;
 use varisat_checker::context::Context;
 
-/// So many pairs are added. The unit before them takes the id 0, so that the pair of a number has
+/// This many pairs are added. The unit before them takes the id 0, so that the pair of a number has
 /// the next id.
 const COUNT: u64 = 100;
 

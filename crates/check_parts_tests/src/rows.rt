@@ -38,7 +38,7 @@ const ROWS: [Row; 10] = [
     ("hashes by solver names", 0, 0, SOLVER_NAMES),
 ];
 
-/// New parts whose next id is this, and that counted so many steps.
+/// New parts whose next id is this, and that counted this many steps.
 fn parts_at(alloc: Global, next: u64, steps: u64) -> Context
     ensures { ContextInvariant result }
 {

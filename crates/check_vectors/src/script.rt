@@ -155,7 +155,7 @@ fn write_added(out: &mut String, mark: char, before: &str, after: &str) -> Resul
     Ok(())
 }
 
-/// The text of a list, which has so many lines as another box has strokes.
+/// The text of a list, which has this many lines as another box has strokes.
 fn counted<'a>(list: &'a [u8], strokes: &[u8]) -> Result<&'a str, Fail> {
     let Ok(text) = str::from_utf8(list) else {
         return Err("no text".into());

@@ -10,7 +10,7 @@ use std::test::Fail;
 /// A call over the first variable.
 #[derive(Clone, Copy)]
 enum Call {
-    /// Makes so many variables known.
+    /// Makes this many variables known.
     Know(usize),
     /// Names it as the second one.
     Name,

@@ -16,7 +16,7 @@ all_sat s a = not s.unsat && (stored_true a s.clauses && units_true a s.units)
 abbrev pub Covers : ((ℕ → Bool) → Bool) → State → Type 0
 Covers p s = (a : ℕ → Bool) → p a ≡ true → all_sat s a ≡ true
 
--- after an accepted step for the changed members, after a refused one for the same
+-- after an accepted step for the changed members, after a refused one for those before it
 abbrev pub CoversAfter : ((ℕ → Bool) → Bool) → Step → Option Cause → State → Type 0
 CoversAfter p t None r = Covers (changed t p) r
 CoversAfter p t (Some cause) r = Covers p r

@@ -2,7 +2,7 @@
 --     mark_of near far l      the mark of a literal by places and by a set
 --     has_mark m l      a literal is marked
 --     near_marks m      the marks at places
---     stored_count m      for so many stored literals there may be places
+--     stored_count m      for this many stored literals there may be places
 use Rattle.std.specs.Prelude.{ℕ, Bool, List, get_or, nat_eq}
 use Rattle.std.specs.HashSet.{HashSet, contains}
 use Rattle.std.specs.declared.hash.BuildHasherDefault.{BuildHasherDefault}
@@ -21,6 +21,6 @@ has_mark m = mark_of m.near.items m.far
 abbrev pub near_marks : Marks → List Bool
 near_marks m = m.near.items
 
--- for so many stored literals there may be places
+-- for this many stored literals there may be places
 abbrev pub stored_count : Marks → ℕ
 stored_count m = m.stored

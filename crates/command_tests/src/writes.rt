@@ -5,8 +5,8 @@ use std::io::{BufWriter, ErrorKind, Write};
 use std::process::Abort;
 use whole_writes::{append_whole, write_whole};
 
-/// Takes up to so many bytes a write, every other time after it was interrupted, and none past its
-/// end. Its flush succeeds or fails, and is counted.
+/// Takes up to this many bytes a write, every other time after it was interrupted, and none past
+/// its end. Its flush succeeds or fails, and is counted.
 #[derive(Drop)]
 struct Disk {
     bytes: Vec<u8>,

@@ -16,13 +16,13 @@ const PAY: u32 = 24;
 /// More credit is not kept, so that a look ends soon after it stopped being worth it.
 const MOST_CREDIT: u32 = 4096;
 
-/// A period has so many lemmas.
+/// How many lemmas a period has.
 const PERIOD: u32 = 4096;
 
 /// Its first ones are a sample, during which none is looked at.
 const SAMPLE: u32 = 512;
 
-/// Where so many of them are used, lemmas are looked at in the rest of the period.
+/// Where this many of them are used, lemmas are looked at in the rest of the period.
 const MANY_USED: u32 = SAMPLE / 5 * 2;
 
 /// Which lemmas are looked at, and how many may be.

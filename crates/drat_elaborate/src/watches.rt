@@ -5,10 +5,10 @@ use crate::local::LocalLit;
 use std::alloc::{AllocError, Global};
 use std::mem;
 
-/// A clause is sought among so many watches at the end of a list,
+/// A clause is sought among this many watches at the end of a list,
 const NEAR: usize = 1024;
 
-/// or in the last one of so many parts of it.
+/// or in the last one of this many parts of it.
 const FAR_SHARE: usize = 8;
 
 /// A clause that watches a literal, and another literal of it: where that is true, the clause is.

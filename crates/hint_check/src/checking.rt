@@ -11,7 +11,7 @@ use lrat_binary::{Ids, LratReader, open_proof};
 use std::alloc::Global;
 use std::io::Read;
 
-/// Whether a line of a proof adds the empty clause, after a formula of so many clauses. Each line
+/// Whether a line of a proof adds the empty clause, after a formula of this many clauses. Each line
 /// has to be accepted.
 pub(crate) fn check_proof<H: Read + Drop>(
     alloc: Global,

@@ -2,7 +2,7 @@
 --     Leads said h k      lines of hints are accepted after h, and lead to k
 --     refusal h said      why what a line says is refused
 --     Refuses h text n f      line n is the first that is refused, and why
---     IsRefusalBy refuses f, IsRefusal h text f      a fault of the checker is that of the text, or want of memory
+--     IsRefusalBy refuses f, IsRefusal h text f      a fault of the checker is that of the text, or memory runs out
 --     IsCause f o, in_line f n      a cause of the code, and the fault that it is in line n
 --     AcceptsAfter cs xs text o b      all lines of the text are accepted after a formula's clauses and earlier lines
 use Rattle.std.specs.Prelude.{◌≡◌, ℕ, suc, Bool, List, ◌∷◌, ◌++◌, length, Option, Some, None}
@@ -65,11 +65,11 @@ IsRefusalBy refuses (faults.NotUnit n) = refuses n causes.NotUnit
 IsRefusalBy refuses (faults.NoConflict n) = refuses n causes.NoConflict
 IsRefusalBy refuses faults.OutOfMemory = Unit {0}
 
--- a fault of the checker is that of the first line that is refused, or want of memory
+-- a fault of the checker is that of the first line that is refused, or out of memory
 abbrev pub IsRefusal : Listed → List ℕ → HintFault → Type 0
 IsRefusal h bytes fault = IsRefusalBy (Refuses h bytes) fault
 
--- a cause of the code is why it is refused, or want of memory
+-- a cause of the code is why it is refused, or out of memory
 abbrev pub IsCause : LineFault → Option LineFault → Type 0
 IsCause causes.Malformed o = o ≡ Some causes.Malformed
 IsCause causes.IdNotGreater o = o ≡ Some causes.IdNotGreater

@@ -8,7 +8,7 @@ use Rattle.hint_checker.specs.Checked.{IsRefusal}
 use Rattle.hint_checker.specs.declared.fault.HintFault.{HintFault}
 use Rattle.hint_checker.specs.declared.fault.HintFault.TheVariants.{OutOfMemory}
 
--- the text leads to k alone, and a fault is want of memory
+-- the text leads to k alone, and a fault is out of memory
 pub record StaysAccepted (h : Listed) (bytes : List ℕ) (k : Listed) : Type 0 where
   pub one : (j : Listed) → Accepts h bytes j → j ≡ k
   pub never : (fault : HintFault) → IsRefusal h bytes fault → fault ≡ OutOfMemory

@@ -81,7 +81,7 @@ impl HintChecker {
         }
     }
 
-    /// The same for the text of a reader, which is read as it goes and of which no more is held
+    /// Checks the text of a reader, which is read as it goes and of which no more is held
     /// than what was read ahead, or its longest line.
     ///
     /// A read that fails is not tried again, and what was not read to the end of its line is not

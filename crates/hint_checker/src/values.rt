@@ -32,7 +32,7 @@ impl Values {
         }
     }
 
-    /// There may be places for the literals of so many that are stored.
+    /// There may be places for the literals of this many that are stored.
     pub(crate) fn allow(&mut self, stored: u64)
         ensures { trues self.new ≡ trues self.old }
     {

@@ -6,13 +6,13 @@ use Rattle.lrat_text.specs.Texts.{Outcome, Ended, Faulty, with_line}
 use Rattle.lrat_binary.specs.declared.ids.Ids.{Ids}
 use Rattle.lrat_binary.specs.Places.{Place, Outside, Within, InNumber, Goes, Gives, Stops, after}
 
--- the end of the input, after so many lines
+-- the end of the input, after this many lines
 abbrev pub at_end : ℕ → Place → Outcome
 at_end before Outside = ([], Ended)
 at_end before (Within slot) = ([], Faulty (next_line before) Unfinished)
 at_end before (InNumber slot v weight) = ([], Faulty (next_line before) Unfinished)
 
--- from a place on, after so many lines
+-- from a place on, after this many lines
 unfoldable pub outcome_at : Ids → ℕ → Place → List ℕ → Outcome
 outcome_at ids before p [] = at_end before p
 outcome_at ids before p (b ∷ bs) = elim (after ids p b) [
@@ -22,7 +22,7 @@ outcome_at ids before p (b ∷ bs) = elim (after ids p b) [
   | Stops kind ↦ ([], Faulty (next_line before) kind)
 ]
 
--- the rest of a proof, after so many lines
+-- the rest of a proof, after this many lines
 abbrev pub binary_after : Ids → ℕ → List ℕ → Outcome
 binary_after ids before bytes = outcome_at ids before Outside bytes
 

@@ -89,7 +89,7 @@ pub record Gives {R : Type 0} (remaining : R → Option (List ℕ)) (old new : B
   pub ids : ids_of new ≡ ids_of old
   pub stays : has_ended old ≡ true → (r ≡ Ok None) × (new ≡ old)
 
--- what a stop answers, with this source, after so many lines
+-- what a stop answers, with this source, after this many lines
 abbrev pub Explains : {R X : Type 0} → Source R → ℕ → Stop → Result (Option X) LratTextFault →
     Type 0
 Explains source before stops.End r = r ≡ Ok None

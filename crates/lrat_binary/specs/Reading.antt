@@ -1,4 +1,4 @@
--- What the parts of reading a line answer, after so many lines. f is what all the bytes give from where the part began.
+-- What the parts of reading a line answer, after this many lines. f is what all the bytes give from where the part began.
 use Rattle.std.specs.Prelude.{ℕ, List, [], Option, Result, Ok, Err}
 use Rattle.sat_formula.specs.Outcome.{next_line}
 use Rattle.sat_formula.specs.declared.source.Source.{Source}

@@ -46,7 +46,7 @@ TakesWithin old new source (Err (stops.Wrong kind)) = Keeps old new × IsAtEnd n
     × (kind ≡ Unfinished)
 TakesWithin old new source (Err stops.OutOfMemory) = Unit {0}
 
--- after so many lines a line was begun at most, and neither it nor a fault has ended yet
+-- after this many lines a line was begun at most, and neither it nor a fault has ended yet
 pub record Breaks (ids : Ids) (before : ℕ) (old new : Option (List ℕ)) (f : List ℕ → Outcome) :
     Type 0 where
   pub place : Place
@@ -58,7 +58,7 @@ pub data Fails (old new : Option (List ℕ)) (f : List ℕ → Outcome) (number 
   by_byte : Leads old new f (λ more. ([], Faulty number kind)) → Fails old new f number kind
   by_end : EndsAll old new f (λ more. ([], Faulty number kind)) → Fails old new f number kind
 
--- what a stop says after so many lines, with this source
+-- what a stop says after this many lines, with this source
 abbrev pub Stopped : {R : Type 0} → Ids → ℕ → Option (List ℕ) → Option (List ℕ) →
     (List ℕ → Outcome) → Source R → Stop → Type 0
 Stopped ids before old new f source stops.End = EndsAll old new f (λ more. ([], Ended))

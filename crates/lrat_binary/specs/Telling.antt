@@ -27,7 +27,7 @@ is_binary (b ∷ bs) =
 
 -- ---- the ids
 
--- the next id after those of so many clauses
+-- the next id after those of this many clauses
 abbrev pub next_id : ℕ → ℕ
 next_id n = min (n + 1) (2 ^ 64 - 1)
 
@@ -72,7 +72,7 @@ are_doubled next sight (b ∷ bs) = elim (seen_at next sight b) [
 abbrev pub told_before : ℕ → List ℕ → Ids
 told_before next first = if are_doubled next Letter first then Doubled else Plain
 
--- after a formula of so many clauses
+-- after a formula of this many clauses
 abbrev pub told_ids : ℕ → List ℕ → Ids
 told_ids n first = told_before (next_id n) first
 

@@ -10,7 +10,7 @@ use std::io::Read;
 #[derive(Drop)]
 pub struct FirstBytes<R> {
     first: Vec<u8>,
-    /// So many of them were given.
+    /// This many of them were given.
     given: usize,
     inner: R,
     ghost within: { given ≤ vec_len first },

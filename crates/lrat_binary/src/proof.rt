@@ -79,7 +79,7 @@ impl<R: Read> LratReader<R> {
     }
 }
 
-/// A reader at the start of a proof after a formula of so many clauses, of the form that the
+/// A reader at the start of a proof after a formula of this many clauses, of the form that the
 /// proof's first bytes tell; of binary lines the form of the ids is told where it is not given.
 ///
 /// A proof is binary where it begins with an `a`, or with a `d` and has a byte among its first

@@ -8,7 +8,7 @@ use crate::telling::{LOOKED_AT, begins_as_binary};
 use lrat_text::LratTextFault;
 use std::io::Read;
 
-/// So many bytes are asked for at once.
+/// This many bytes are asked for at once.
 const CHUNK: usize = 4096;
 
 /// Reads until a byte is seen, and where a binary line may begin with it, until all are that are
@@ -30,7 +30,7 @@ pub(crate) fn see_first<R: Read>(input: &mut R, seen: &mut Vec<u8>) -> Result<()
     }
 }
 
-/// Reads until so many bytes are seen, or the input ends.
+/// Reads until this many bytes are seen, or the input ends.
 fn see<R: Read>(input: &mut R, wanted: usize, seen: &mut Vec<u8>) -> Result<(), LratTextFault>
     ensures seen { OnOk result (IsSeen wanted seen.new.items (R.remaining input.new)) }
     ensures kept { OnOk result (Keeps (prepend_known seen.old.items (R.remaining input.old))

@@ -8,7 +8,7 @@ ghost use Rattle.lrat_binary.specs.declared.telling.Sight.TheVariants.{Letter};
 use crate::ids::{Ids, LratForm};
 use drat_text::number::is_text_byte;
 
-/// So many bytes are looked at, where the first one may be that of a binary line.
+/// This many bytes are looked at, where the first one may be that of a binary line.
 pub(crate) const LOOKED_AT: usize = 4096;
 
 /// What the next byte is a part of, as far as the telling needs it.
@@ -44,7 +44,7 @@ pub(crate) enum Seen {
     Told(bool),
 }
 
-/// The form of a proof of these bytes, or that begins so, after a formula of so many clauses. The
+/// The form of a proof of these bytes, or that begins so, after a formula of this many clauses. The
 /// form of the ids is this one, where it is given.
 pub(crate) fn form_of(ids: Option<Ids>, clauses: u64, bytes: &[u8]) -> LratForm
     ensures { result ≡ form_of ids clauses bytes.now }
@@ -52,7 +52,7 @@ pub(crate) fn form_of(ids: Option<Ids>, clauses: u64, bytes: &[u8]) -> LratForm
     form_by(ids, clauses, &bytes[..LOOKED_AT.min(bytes.len())])
 }
 
-/// The same, by the first bytes that are looked at.
+/// The form of a proof by the first bytes that are looked at.
 fn form_by(ids: Option<Ids>, clauses: u64, first: &[u8]) -> LratForm
     ensures { result ≡ form_by ids clauses first.now }
 {

@@ -60,7 +60,7 @@ const DERIVED_AGAIN: &[u8] = b"\x00\x02\
 /// A formula and a proof, the exit status, and the bytes that are written.
 type Row = (&'static [u8], &'static [u8], u8, &'static [u8]);
 
-/// The same, after a clause that is not needed: clauses of the formula stay, and so does a unit.
+/// The lines after a clause that is not needed: clauses of the formula stay, and so does a unit.
 /// Nothing is read after the empty clause.
 const WITH_DELETIONS: Row = (
     FOUR,

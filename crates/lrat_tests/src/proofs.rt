@@ -74,7 +74,7 @@ fn is_newly_answered(
     is_answered(rt, alloc, &mut checker, proof, answer);
 }
 
-/// What is answered where so many lines were read to their ends before a read fails.
+/// What is answered where this many lines were read to their ends before a read fails.
 fn broken_after<'a>(answer: &'a str, lines: usize) -> &'a str {
     for (line, begins) in &LINES {
         if *line <= lines && answer.starts_with(begins) {

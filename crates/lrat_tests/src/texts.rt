@@ -5,7 +5,7 @@ mod rows;
 use lrat_text::{Hint, LineReader, LratLine};
 use test_streams::{Pieces, Shown};
 
-/// Shows each of so many lines and its number, and the text of a fault, to the end.
+/// Shows each of this many lines and its number, and the text of a fault, to the end.
 fn show(shown: &mut Shown, reader: &mut LineReader<Pieces<'_>>, lines: u32) {
     for _ in 0..lines {
         match reader.next_line() {

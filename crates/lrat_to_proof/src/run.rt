@@ -68,7 +68,7 @@ pub fn convert<F: Read + Drop, P: Read + Drop, W: Write>(
     }
 }
 
-/// The lines of a proof, after a formula of so many clauses. Nothing is read where no line is
+/// The lines of a proof, after a formula of this many clauses. Nothing is read where no line is
 /// wanted.
 fn convert_lines<P: Read + Drop, W: Write>(
     alloc: Global,

@@ -1,6 +1,6 @@
 -- Formulas that are not whole. To a formula that is to be satisfied each clause counts, so one of which a part is missing has no
 -- verdict.
---     cut_of header count      what is missing of a formula of so many clauses with this header
+--     cut_of header count      what is missing of a formula of this many clauses with this header
 use Rattle.std.specs.Prelude.{ℕ, ◌==◌, nat_lt, Option, Some, None, if◌then◌else◌}
 use Rattle.sat_formula.specs.declared.counts.Counts.{Counts}
 use Rattle.model_check.specs.declared.whole.CutFormula.{CutFormula}

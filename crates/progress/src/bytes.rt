@@ -28,7 +28,7 @@ pub struct ToldBytes<'a, R, H: Eprint + Clock> {
 impl<'a, R: Read, H: Eprint + Clock> ToldBytes<'a, R, H> {
     ghost use Rattle.progress.specs.Bytes.{unread_of};
 
-    /// A reader at the start of a proof, of so many bytes, if that is known. It reads nothing yet.
+    /// A reader at the start of a proof, of this many bytes if that is known. Nothing is read yet.
     pub fn new(progress: &'a Progress<H>, inner: R, all: Option<u64>) -> ToldBytes<'a, R, H>
         ensures { unread_of R.remaining result ≡ R.remaining inner }
     {

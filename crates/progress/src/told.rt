@@ -12,7 +12,7 @@ use std::io::{Eprint, IsTerminal};
 use std::rt::Clock;
 use std::time::Duration;
 
-/// So many milliseconds pass at least from one time that it is told to the next.
+/// This many milliseconds pass at least from one time that it is told to the next.
 const INTERVAL: u64 = 500;
 
 /// What takes back all that stands in the line of a terminal.

@@ -13,14 +13,14 @@ below_at limit bytes = do
   n ← number_at bytes
   if nat_lt n.0 limit then Ok (n.0, n.1) else Err (Wrong OutOfRange)
 
--- so many bytes, the low one first
+-- this many bytes, the low one first
 unfoldable pub bytes_at : ℕ → ℕ → ℕ → List ℕ → Found ℕ
 bytes_at zero value weight bytes = Ok (value, bytes)
 bytes_at (suc left) value weight bytes = do
   b ← byte_at bytes
   bytes_at left (value + weight * b.0) (weight * 256) b.1
 
--- a number of so many bits, in bytes
+-- a number of this many bits, in bytes
 unfoldable pub wide_at : ℕ → List ℕ → Found ℕ
 wide_at width bytes = do
   n ← bytes_at (bytes_of width) 0 1 bytes
@@ -46,7 +46,7 @@ pair_at first second bytes = do
   y ← second x.1
   Ok ((x.0, y.0), y.1)
 
--- so many, one after the other
+-- this many, one after the other
 unfoldable pub many_at : {A : Type 0} → (List ℕ → Found A) → ℕ → List ℕ → Found (List A)
 many_at item zero bytes = Ok ([], bytes)
 many_at item (suc n) bytes = do
@@ -54,7 +54,7 @@ many_at item (suc n) bytes = do
   others ← many_at item n first.1
   Ok (first.0 ∷ others.0, others.1)
 
--- a count, and so many
+-- a count, and this many
 unfoldable pub list_at : {A : Type 0} → (List ℕ → Found A) → List ℕ → Found (List A)
 list_at item bytes = do
   n ← number_at bytes

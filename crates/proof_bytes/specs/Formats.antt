@@ -14,7 +14,7 @@ width_of (formats.Bytes width) = width
 abbrev pub IsFormat : Format → Type 0
 IsFormat format = (0 < width_of format) × (width_of format ≤ 64)
 
--- the least number of bytes that have so many bits
+-- the least number of bytes that have this many bits
 abbrev pub bytes_of : ℕ → ℕ
 bytes_of width = (width + 7) / 8
 

@@ -10,7 +10,7 @@ use crate::format::{Format, fits_width};
 use crate::hash::ClauseHash;
 use sat_formula::Lit;
 
-/// A number has at most so many bytes.
+/// A number has at most this many bytes.
 const LONGEST_NUMBER: usize = 10;
 
 /// The number that the bytes begin with, and how many bytes spell it. None where fewer bytes
@@ -198,7 +198,7 @@ fn joined_groups(groups: u64) -> u64
     fours % 0x1_0000_0000 + fours / 0x1_0000_0000 * 0x1000_0000
 }
 
-/// A number of so many bits, in whole bytes with the low one first, and how many bytes spell it.
+/// A number of this many bits, in whole bytes with the low one first, and how many bytes spell it.
 /// None where fewer than eight bytes are there, and where the number has more bits.
 #[inline(always)]
 pub(crate) fn wide_ahead(bytes: &[u8], width: u32) -> Option<(u64, usize)>

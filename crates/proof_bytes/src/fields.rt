@@ -66,7 +66,7 @@ impl<R: Read> Fields<R> {
         }
     }
 
-    /// The same, where a number of nine or ten bytes is likely.
+    /// Reads a number of which nine or ten bytes are likely.
     #[inline(always)]
     fn long_number(&mut self) -> Result<u64, Stop>
         ensures { Reads R.remaining (λ n. n) self.old self.new result number_at }
@@ -80,7 +80,7 @@ impl<R: Read> Fields<R> {
         }
     }
 
-    /// The same, a byte at a time.
+    /// Reads a number, a byte at a time.
     #[inline(never)]
     fn number_by_bytes(&mut self) -> Result<u64, Stop>
         ensures { Reads R.remaining (λ n. n) self.old self.new result number_at }
@@ -185,7 +185,7 @@ impl<R: Read> Fields<R> {
         }
     }
 
-    /// The same, a byte at a time. The last byte is apart, so that its weight is not passed.
+    /// Reads a hash, a byte at a time. The last byte is apart, so that its weight is not passed.
     #[inline(never)]
     fn wide_by_bytes(&mut self, width: u32) -> Result<ClauseHash, Stop>
         requires { (0 < width) × (width ≤ 64) }

@@ -4,7 +4,7 @@ use std::alloc::{AllocError, Global};
 use std::io;
 use std::io::{ErrorKind, Read};
 
-/// Gives so many bytes a read, and may fail the read after so many reads.
+/// Gives this many bytes a read, and may fail the read after this many reads.
 #[derive(Drop)]
 pub struct Cuts<'a> {
     rest: &'a [u8],
@@ -14,7 +14,7 @@ pub struct Cuts<'a> {
 }
 
 impl Cuts<'_> {
-    /// So many bytes a read.
+    /// This many bytes a read.
     pub fn of_size(text: &[u8], size: usize) -> Cuts<'_> {
         Cuts {
             rest: text,
@@ -23,7 +23,7 @@ impl Cuts<'_> {
         }
     }
 
-    /// One byte a read, and the read after so many fails.
+    /// One byte a read, and the read after this many fails.
     pub fn failing_after(text: &[u8], reads: usize) -> Cuts<'_> {
         Cuts {
             rest: text,
@@ -92,7 +92,7 @@ fn read_all(
     Ok((100, None, None))
 }
 
-/// Whether a text gives so many steps, shown as bytes of version 1, then this fault, and then the
+/// Whether a text gives this many steps, shown as bytes of version 1, then this fault, and then the
 /// end.
 pub fn gives(
     alloc: Global,

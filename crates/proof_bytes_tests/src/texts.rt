@@ -124,7 +124,7 @@ const STEPS_WITHIN: [(u32, usize); 16] = [
     (3, 15),
 ];
 
-/// A text that ends after so many bytes, and the read after so many that fails.
+/// A text that ends after this many bytes, and the read after this many that fails.
 pub fn are_cut(rt: &impl Abort, alloc: Global) -> Result<(), AllocError> {
     for (len, (count, end)) in STEPS_WITHIN.iter().enumerate() {
         let steps = &TWO_CHECKS[..(*end).min(16)];

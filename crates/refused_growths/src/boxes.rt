@@ -16,7 +16,7 @@ use std::rc::Rc;
 use varisat_check::{RunFault, run_lrat};
 use varisat_checker::Checker;
 
-/// Registers a processor, and once more where it is handed back for want of memory. None: it is
+/// Registers a processor, and once more where it is handed back since memory ran out. None: it is
 /// handed back again.
 ///
 /// What it shows and what the checker records are as before each time.

@@ -3,7 +3,7 @@ ghost use Rattle.std.specs.Prelude.{◌≤◌};
 
 use sat_formula::{Lit, Var};
 
-/// So many items fit.
+/// This many items fit.
 const ROOM: usize = 32;
 
 /// At most 32 items.

@@ -40,7 +40,7 @@ fn add_all(formula: &mut CnfFormula) -> Played {
     Ok(memory)
 }
 
-/// The formula has so many clauses and variables, and its clauses are the first ones.
+/// The formula has this many clauses and variables, and its clauses are the first ones.
 fn is_formula(formula: &CnfFormula, count: usize, vars: usize) -> Result<(), Stop> {
     if formula.len() != count || formula.var_count() != vars {
         return Err(Stop::Wrong(Wrong::State));

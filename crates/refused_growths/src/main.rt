@@ -2,7 +2,7 @@
 //! memory is refused to them.
 //!
 //! A test refuses one growth of the program after the other. Either a call's answer is the row's,
-//! or it is want of memory, and then what stands after it must be right. The program itself grows
+//! or it is out of memory, and then what stands after it must be right. The program itself grows
 //! by the boxes that it registers alone.
 //!
 //! It writes a line for each row; without an argument it plays all of them. The exit status is 0
@@ -74,8 +74,8 @@ fn played(rt: &HostRuntime, row: &str) -> u8 {
 fn told(rt: &HostRuntime, row: &str, outcome: Played) -> u8 {
     let (written, status) = match outcome {
         Ok(Memory::Ample) => (println!(rt; "{row}: as written"), RIGHT),
-        Ok(Memory::Wanting) => (println!(rt; "{row}: want of memory"), RIGHT),
-        Err(Stop::Own) => (println!(rt; "{row}: want of memory of its own"), OWN_WANT),
+        Ok(Memory::Wanting) => (println!(rt; "{row}: out of memory"), RIGHT),
+        Err(Stop::Own) => (println!(rt; "{row}: out of memory of its own"), OWN_WANT),
         Err(Stop::Wrong(wrong)) => (println!(rt; "{row}: WRONG: {wrong:?}"), WRONG),
     };
     match written {

@@ -1,7 +1,7 @@
 //! What the play of a row comes to.
 use std::alloc::{AllocError, AllocFailed};
 
-/// Whether want of memory was answered in place of something.
+/// Whether "out of memory" was answered in place of something.
 #[derive(Clone, Copy, Debug, PartialEq, Eq)]
 pub enum Memory {
     Ample,
@@ -23,7 +23,7 @@ impl Memory {
 pub enum Wrong {
     /// A row of this program says something that is no call.
     NoCall,
-    /// A call answers neither what it should nor want of memory.
+    /// A call answers neither what it should nor out of memory.
     Answer,
     /// A call of what has failed answers something else.
     AnswerAfterFailure,

@@ -39,7 +39,7 @@ pub fn write_numbers(alloc: Global) -> Played {
     written(alloc, None, &[])
 }
 
-/// The same in version 2. The mark comes with the first step that is written.
+/// Writes the steps in version 2. The mark comes with the first step that is written.
 pub fn write_marked(alloc: Global) -> Played {
     written(alloc, Some(ProofWriter::new()), MARK)
 }
@@ -81,7 +81,7 @@ fn put(
     }
 }
 
-/// The bytes are the mark and so many of the proof, or none at all.
+/// The bytes are the mark and this many of the proof, or none at all.
 fn is_written(out: &[u8], mark: &[u8], end: usize) -> Result<(), Stop> {
     let right = match out.strip_prefix(mark) {
         Some(steps) => steps == &PROOF[..end.min(PROOF.len())],
@@ -121,7 +121,7 @@ fn read_all(reader: &mut StepReader<&mut Bytewise<'_>>) -> Played {
     }
 }
 
-/// Whether two steps of the proof are the same.
+/// Whether two steps of the proof are equal.
 fn is_step(step: &ProofStep<'_>, wanted: &ProofStep<'_>) -> bool {
     match (step, wanted) {
         (ProofStep::ChangeHashBits { bits }, ProofStep::ChangeHashBits { bits: width }) => {

@@ -51,7 +51,7 @@ pub fn write_four(alloc: Global) -> Played {
     }
 }
 
-/// A run's fault is want of memory, of its checker or its writer.
+/// A run is out of memory, of its checker or its writer.
 pub fn is_want(fault: &RunFault) -> Played {
     let mut text = Answer::new();
     let _ = write!(text, "{fault}");
@@ -113,7 +113,7 @@ fn fail_read_of_proof(checker: &mut Checker, failing: u64) -> Played {
     Ok(Memory::Ample)
 }
 
-/// The answer is want of memory, and the checker has failed.
+/// The answer is out of memory, and the checker has failed.
 pub fn is_failed(checker: &mut Checker, answer: &str) -> Played {
     if answer != WANT_OF_MEMORY && answer != WANT_OF_A_BOX {
         return Err(Stop::Wrong(Wrong::Answer));

@@ -142,7 +142,7 @@ fn is_told(script: &str, mark: &str, failed: Option<usize>, output: &[u8]) -> Re
     Ok(())
 }
 
-/// How many lines with the mark stand in so many blocks.
+/// How many lines with the mark stand in this many blocks.
 fn marked_before(script: &str, mark: &str, blocks: usize) -> usize {
     let mut count = 0usize;
     for block in script.split(BETWEEN_BLOCKS).take(blocks) {

@@ -15,7 +15,7 @@ pub record HasDigits (bytes : List ℕ) (n v : ℕ) : Type 0 where
       next_at (At line past begun (InNumber (Digits negative 0))) (take n bytes ++ more) ≡
       next_at (At line past begun (InNumber (Digits negative v))) more
 
--- the first so many bytes lead from between two words to a number's end, and this byte ends it
+-- the first this many bytes lead from between two words to a number's end, and this byte ends it
 pub record IsShortNumber (bytes : List ℕ) (number : Number) (len end : ℕ) : Type 0 where
   pub within : len < length bytes
   pub reads : (line : ℕ) (past : Past) (begun : List ℕ) (in_line : Bool) (more : List ℕ) →

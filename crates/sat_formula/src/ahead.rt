@@ -5,11 +5,11 @@ ghost use Rattle.sat_formula.specs.ShortNumbers.{HasDigits, IsShortNumber};
 use crate::bytes::{ends_word, is_digit};
 use crate::word::Number;
 
-/// Numbers of so many digits are read at once. The value of none of them is cut.
+/// Numbers of this many digits are read at once. The value of none of them is cut.
 const FEW_DIGITS: usize = 9;
 
 /// A number of few digits in front, how many bytes it takes, and the blank or the LF after it.
-/// None is found where so many bytes as the longest takes aren't there.
+/// None is found where this many bytes as the longest takes aren't there.
 #[inline(always)]
 pub(crate) fn short_number(bytes: &[u8]) -> Option<(Number, usize, u8)>
     ensures { IfSome result (λ r. IsShortNumber bytes.now r.0 r.1 r.2) }

@@ -34,7 +34,7 @@ impl Model for Lit {
 impl Var {
     ghost use Rattle.sat_formula.specs.Vars.{index_of, indexes_of, dimacs_var};
 
-    /// So many variables there can be at most.
+    /// This many variables there can be at most.
     pub const MAX_COUNT: usize = 0x1000_0000;
 
     /// `MAX_COUNT`, as a function.

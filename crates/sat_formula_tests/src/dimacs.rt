@@ -4,8 +4,8 @@ use std::alloc::Global;
 use std::process::Abort;
 use test_streams::{Pieces, Shown};
 
-/// Shows each of so many clauses by its numbers, the text of a fault and how many literals it left,
-/// to the end.
+/// Shows each of this many clauses by its numbers, the text of a fault and how many literals it
+/// left, to the end.
 fn show(shown: &mut Shown, alloc: Global, reader: &mut DimacsReader<Pieces<'_>>, calls: u32) {
     let mut lits: Vec<Lit> = Vec::new(alloc);
     for _ in 0..calls {
@@ -72,7 +72,7 @@ const EXAMPLES: [(&[u8], &[(usize, &str)]); 16] = [
     ),
 ];
 
-/// Shows what is answered where so many bytes are read and the next read fails.
+/// Shows what is answered where this many bytes are read and the next read fails.
 fn show_expected(shown: &mut Shown, answers: &[(usize, &str)], read: usize) {
     for (at, answer) in answers {
         if *at > read {
@@ -84,7 +84,7 @@ fn show_expected(shown: &mut Shown, answers: &[(usize, &str)], read: usize) {
     shown.words("end");
 }
 
-/// So many bytes a read, of which the one after so many fails.
+/// This many bytes a read, of which the one after this many fails.
 fn is_shown(
     rt: &impl Abort,
     alloc: Global,

@@ -5,7 +5,7 @@ use std::fmt::Display;
 use std::io;
 use std::io::{ErrorKind, Write};
 
-/// Takes so many bytes, which it keeps, and then fails.
+/// Takes this many bytes, which it keeps, and then fails.
 #[derive(Drop)]
 pub struct Page {
     bytes: Vec<u8>,
@@ -13,7 +13,7 @@ pub struct Page {
 }
 
 impl Page {
-    /// Takes so many bytes.
+    /// Takes this many bytes.
     pub fn of_room(alloc: Global, room: usize) -> Page {
         Page {
             bytes: Vec::new(alloc),

@@ -2,14 +2,14 @@
 use std::io;
 use std::io::{ErrorKind, Write};
 
-/// Takes so many bytes, and then fails.
+/// Takes this many bytes, and then fails.
 #[derive(Clone, Copy)]
 pub struct Full {
     left: usize,
 }
 
 impl Full {
-    /// Takes so many bytes.
+    /// Takes this many bytes.
     pub fn after(left: usize) -> Full {
         Full { left }
     }

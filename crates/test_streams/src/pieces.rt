@@ -2,7 +2,7 @@
 use std::io;
 use std::io::{ErrorKind, Read};
 
-/// Gives so many bytes a read, and may fail one of its reads.
+/// Gives this many bytes a read, and may fail one of its reads.
 #[derive(Clone, Copy)]
 pub struct Pieces<'a> {
     rest: &'a [u8],
@@ -18,12 +18,12 @@ impl Pieces<'_> {
         Pieces::of_size(bytes, usize::MAX)
     }
 
-    /// So many bytes a read.
+    /// This many bytes a read.
     pub fn of_size(bytes: &[u8], size: usize) -> Pieces<'_> {
         Pieces::failing_at(bytes, size, 0)
     }
 
-    /// So many bytes a read, and the read of this number, counted from 1, is interrupted.
+    /// This many bytes a read, and the read of this number, counted from 1, is interrupted.
     pub fn failing_at(bytes: &[u8], size: usize, failing: usize) -> Pieces<'_> {
         Pieces {
             rest: bytes,

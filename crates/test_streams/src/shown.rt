@@ -17,7 +17,7 @@ impl Shown {
         }
     }
 
-    /// These words, each so many times.
+    /// These words, each this many times.
     pub fn of_parts(alloc: Global, parts: &[(&str, u32)]) -> Shown {
         let mut shown = Shown::new(alloc);
         for (words, count) in parts {

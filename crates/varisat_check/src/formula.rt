@@ -11,8 +11,8 @@ use std::io::Read;
 /// Reads a formula as DIMACS text, the whole of it, or answers the first fault, as that of a run.
 /// `lie` tells what its header lies about; after a fault that is nothing.
 ///
-/// A failed read and want of memory are answered where they come. On a fault the clauses before it
-/// are dropped.
+/// A failed read and running out of memory are answered where they come. On a fault the clauses
+/// before it are dropped.
 pub fn read_formula<F: Read + Drop>(
     alloc: Global,
     cnf: F,

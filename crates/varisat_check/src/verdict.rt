@@ -9,7 +9,7 @@ use std::fmt;
 pub enum Verdict {
     /// No assignment satisfies the formula.
     Unsatisfiable,
-    /// No assignment satisfies the formula together with so many input clauses, one or more, that
+    /// No assignment satisfies the formula together with this many input clauses, one or more, that
     /// the proof added.
     UnsatisfiableWithAdded(u64),
     /// Unsatisfiability is not recorded. The formula may be satisfiable or not.

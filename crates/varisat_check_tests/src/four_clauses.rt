@@ -20,7 +20,7 @@ pub const WIDTH_1: [u8; 16] = [
     0x09, 0x01, 0x06, 0x00, 0x01, 0x00, 0x02, 0x01, 0x00, 0x06, 0x00, 0x00, 0x02, 0x00, 0x01, 0x0D,
 ];
 
-/// The step at which it is incomplete where so many of its bytes stand.
+/// The step at which it is incomplete where this many of its bytes stand.
 pub fn first_missing(len: usize) -> u64 {
     match len {
         0..2 => 1,

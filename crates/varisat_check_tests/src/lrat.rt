@@ -57,7 +57,7 @@ const RUNS: [Row; 7] = [
     ("1 0", &[0x0D], "", NOT_SHOWN, false),
 ];
 
-/// Runs with a writer for so many clauses: the outcome and what is written as hints.
+/// Runs with a writer for this many clauses: the outcome and what is written as hints.
 fn is_written(
     rt: &impl Abort,
     alloc: Global,
@@ -139,7 +139,7 @@ fn late_input(alloc: Global) -> Result<Vec<u8>, Fail> {
     Ok(proof)
 }
 
-/// A formula with a writer for so many clauses, where the proof is not accepted: no hints are
+/// A formula with a writer for this many clauses, where the proof is not accepted: no hints are
 /// written.
 fn is_refused(
     rt: &impl Abort,

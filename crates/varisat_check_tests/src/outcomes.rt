@@ -34,7 +34,7 @@ pub fn has_outcome(
     assert_eq!(rt; said.text(), fault);
 }
 
-/// The text of the fault where so many bytes of the proof at width 1 stand.
+/// The text of the fault where this many bytes of the proof at width 1 stand.
 pub fn incomplete(alloc: Global, len: usize) -> Shown {
     let mut text = Shown::new(alloc);
     text.number("step ", first_missing(len));

@@ -7,7 +7,7 @@ use Rattle.checker_parts.specs.declared.error.CheckerError.TheVariants.{OutOfMem
 use Rattle.checker_parts.specs.declared.error.DimacsError.{DimacsError}
 use Rattle.checker_parts.specs.declared.error.DimacsError.TheVariants.{Read, Malformed, Checker}
 
--- the error of the fault, and the state after it: want of memory fails the checker
+-- the error of the fault, and the state after it: out of memory fails the checker
 abbrev pub IsTextFault : DimacsFault → State → DimacsError → State → Type 0
 IsTextFault (faults.Read cause) s e s' = (e ≡ Read cause) × (s' ≡ s)
 IsTextFault (faults.Malformed line kind) s e s' = (e ≡ Malformed line kind) × (s' ≡ s)

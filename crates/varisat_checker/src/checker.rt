@@ -143,8 +143,8 @@ impl<P: ProofProcessor, T: ProofTranscriptProcessor> CheckerOf<P, T> {
         self.add_dimacs_cnf_with_lie(rt, input, &mut None)
     }
 
-    /// The same, and `lie` tells what the header of the text lies about; where not all of the text
-    /// was added that is nothing.
+    /// Adds the clauses of a text, and `lie` tells what its header lies about; where not all of the
+    /// text was added that is nothing.
     pub fn add_dimacs_cnf_with_lie<L: Log, R: Read + Drop>(
         &mut self,
         rt: &L,
@@ -179,7 +179,7 @@ impl<P: ProofProcessor, T: ProofTranscriptProcessor> CheckerOf<P, T> {
         Ok(())
     }
 
-    /// The answer for a fault of a formula's text. Want of memory fails the checker.
+    /// The answer for a fault of a formula's text. Without memory the checker has failed.
     fn text_fault(&mut self, fault: DimacsFault) -> DimacsError
         ensures fault { IsTextFault fault (state self.old) result (state self.new) }
         ensures listeners { listeners self.new ≡ listeners self.old }

@@ -16,7 +16,7 @@ use proof_bytes::{ProofFault, StepReader};
 use std::alloc::Global;
 use std::io::Read;
 
-/// Every so many steps one line goes to the log.
+/// Every this many steps one line goes to the log.
 const STEPS_A_LINE: u64 = 100_000;
 
 /// Checks the steps of a proof up to `End`, and then the closing conflict.

@@ -53,7 +53,7 @@ pub fn at_clause<P: ProofProcessor, T: ProofTranscriptProcessor>(
     }
 }
 
-/// The same of any clause, by its canonical list.
+/// Checks and adds any clause, by its canonical list.
 #[inline(never)]
 fn at_unordered<P: ProofProcessor, T: ProofTranscriptProcessor>(
     alloc: Global,
@@ -83,8 +83,8 @@ fn at_unordered<P: ProofProcessor, T: ProofTranscriptProcessor>(
     taken
 }
 
-/// The same of a clause that has its canonical list, without opposite literals. It stands for each
-/// list of these literals.
+/// Checks and adds a clause that has its canonical list, without opposite literals. It stands for
+/// each list of these literals.
 #[inline(always)]
 fn at_canonical<P: ProofProcessor, T: ProofTranscriptProcessor>(
     alloc: Global,

@@ -60,7 +60,7 @@ pub fn delete_clause<P: ProofProcessor, T: ProofTranscriptProcessor>(
     }
 }
 
-/// The same of any clause, by its canonical list.
+/// Deletes a copy of any clause, by its canonical list.
 #[inline(never)]
 fn delete_unordered<P: ProofProcessor, T: ProofTranscriptProcessor>(
     alloc: Global,
@@ -89,8 +89,8 @@ fn delete_unordered<P: ProofProcessor, T: ProofTranscriptProcessor>(
     deleted
 }
 
-/// The same of a clause that has its canonical list, without opposite literals. It stands for each
-/// list of these literals.
+/// Deletes a copy of a clause that has its canonical list, without opposite literals. It stands for
+/// each list of these literals.
 #[inline(always)]
 fn delete_canonical<P: ProofProcessor, T: ProofTranscriptProcessor>(
     alloc: Global,

@@ -150,7 +150,7 @@ const OTHER_WORDS: [Row; 14] = [
     (b"a\x08\x02\x00\x02\x00", &[(1, "malformed line")]),
 ];
 
-/// Shows what is answered where so many lines were read to their LF and the next read fails.
+/// Shows what is answered where this many lines were read to their LF and the next read fails.
 fn show_expected(shown: &mut Shown, answers: &[(usize, &str)], lines: usize) {
     let mut is_broken = lines < usize::MAX;
     for (line, answer) in answers {
@@ -175,7 +175,7 @@ fn show_expected(shown: &mut Shown, answers: &[(usize, &str)], lines: usize) {
     shown.words("end");
 }
 
-/// The answers to this text are these, up to those of so many lines.
+/// The answers to this text are these, up to those of this many lines.
 fn is_answered(
     rt: &impl Abort,
     alloc: Global,
