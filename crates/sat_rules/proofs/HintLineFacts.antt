@@ -1,104 +1,57 @@
 -- Hints in turn are a chain, and lines from a formula keep to what the formula says.
-use Rattle.std.proofs.Common.{◌≡◌, ℕ, suc, Bool, true, false, not, cond, ◌||◌, eqb, ltb, List, [], ◌∷◌, Option, Some, None, refl, sym, ap, ◌∙◌, subst, inl, inr}
-use Rattle.std.specs.List.{list_all}
-use Rattle.std.proofs.lemmas.Bool.{eqb-true, and_parts, and_from, or_cases, false≢true, true≢false, not-true, both_ways}
+use Rattle.sat_rules.proofs.Members.{all_at}
+use Rattle.std.proofs.Common.{◌≡◌, ℕ, suc, Bool, true, false, cond, ◌||◌, eqb, ltb, List, [], ◌∷◌, Option, Some, None, refl, sym, ap, ◌∙◌, arith}
+use Rattle.std.proofs.lemmas.Bool.{eqb-true, and_parts, and_from, false≢true, true≢false, true_from_ne_false}
 use Rattle.std.proofs.lemmas.Option.{none-some, cond_some}
-use Rattle.sat_rules.specs.Clauses.{Agrees, IsChain, add_lit, all_true, clause_true, has, is_falsified, is_unit_on, lit_true, negate}
-use Rattle.sat_rules.specs.HintLines.{Follows, HintCause, HintLine, HintsDecide, HintsRefute, Listed, adds_clause, after_line, deletes_clauses, drop_ids, go_on, hints_cause, id_not_greater, is_empty, last_cause, list_from, listing, next_cause, no_conflict, not_unit, unit_among, unknown_id}
+use Rattle.sat_rules.specs.Clauses.{Agrees, IsChain, add_lit, all_true, clause_true, has, is_falsified, is_unit_on, negate}
+use Rattle.sat_rules.specs.HintLines.{Follows, HintCause, HintLine, HintsDecide, HintsRefute, Listed, adds_clause, after_line, deletes_clauses, drop_ids, hints_cause, id_not_greater, is_empty, list_from, listing, unit_among}
 use Rattle.sat_rules.specs.Named.{IsAdmitted, Machine, NamedBy, drop_id, negated_set, put_id}
 use Rattle.sat_rules.proofs.Chains.{chains_sound, lit_true-negate}
-
--- a refusal is a refusal
-refused : (x : HintCause) → Some x ≡ None → ⊥
-refused x h = none-some x (sym h)
 
 pub some-same : {A : Type 0} (x y : A) → Some x ≡ Some y → x ≡ y
 some-same x y h = (cond_some true x y h).1
 
--- what holds of all members holds of one
-all_has : (p : ℕ → Bool) (k : ℕ) (c : List ℕ) → has k c ≡ true → list_all p c ≡ true → p k ≡ true
-all_has p k [] h a = absurd (false≢true h)
-all_has p k (m ∷ ms) h a =
-    let parts = and_parts (p m) (list_all p ms) a in
-    elim (or_cases (eqb k m) (has k ms) h) [
-      | inl same ↦ subst (λ x. p x ≡ true) (sym (eqb-true k m same)) parts.0
-      | inr later ↦ all_has p k ms later parts.1
-    ]
-
 -- a clause is unit on one literal alone
 unit_is_one : (s : ℕ → Bool) (c : List ℕ) (l k : ℕ) → is_unit_on s c l ≡ true → is_unit_on s c k ≡ true → k ≡ l
-unit_is_one s c l k u v =
-    let first = and_parts _ _ (and_parts _ _ u).1 in
-    let second = and_parts _ _ v in
-    let free = and_parts _ _ (and_parts _ _ second.1).1 in
-    elim (or_cases (eqb k l) (s (negate k)) (all_has (λ m. eqb m l || s (negate m)) k c second.0 first.0)) [
-      | inl same ↦ eqb-true k l same
-      | inr taken ↦ absurd (both_ways (s (negate k)) (not-true _ free.1) taken)
-    ]
+unit_is_one s c l k u v = grind (arith, eqb-true k l, all_at (λ m. eqb m l || s (negate m)) c k)
 
 -- what is found is such a literal
 pub found_unit : (s : ℕ → Bool) (c ls : List ℕ) (l : ℕ) → unit_among s c ls ≡ Some l → is_unit_on s c l ≡ true
 found_unit s c [] l h = absurd (none-some l h)
-found_unit s c (m ∷ ms) l h = go (found_unit s c ms l) (is_unit_on s c m) refl h
-  where
-    go : (unit_among s c ms ≡ Some l → is_unit_on s c l ≡ true) → (b : Bool) → is_unit_on s c m ≡ b → cond b (Some m) (unit_among s c ms) ≡ Some l → is_unit_on s c l ≡ true
-    go later true e k = subst (λ x. is_unit_on s c x ≡ true) (some-same m l k) e
-    go later false e k = later k
+found_unit s c (m ∷ ms) l h = grind (arith, found_unit s c ms l)
 
 -- where there is one it is found
 pub finds_unit : (s : ℕ → Bool) (c ls : List ℕ) (l : ℕ) → is_unit_on s c l ≡ true → has l ls ≡ true → unit_among s c ls ≡ Some l
 finds_unit s c [] l u h = absurd (false≢true h)
-finds_unit s c (m ∷ ms) l u h = go (finds_unit s c ms l u) (is_unit_on s c m) refl
-  where
-    go : (has l ms ≡ true → unit_among s c ms ≡ Some l) → (b : Bool) → is_unit_on s c m ≡ b → cond b (Some m) (unit_among s c ms) ≡ Some l
-    go there true e = ap (λ x. Some x) (unit_is_one s c l m u e)
-    go there false e = elim (or_cases (eqb l m) (has l ms) h) [
-      | inl same ↦ absurd (both_ways (is_unit_on s c m) e (subst (λ x. is_unit_on s c x ≡ true) (eqb-true l m same) u))
-      | inr later ↦ there later
-    ]
+finds_unit s c (m ∷ ms) l u h = grind (arith, eqb-true l m, unit_is_one s c l m u, finds_unit s c ms l u)
 
 -- hints that are not refused name a chain
-admits : (f : ℕ → Option (List ℕ)) (s : ℕ → Bool) (ids : List ℕ) → hints_cause f s ids ≡ None → (cs : List (List ℕ)) × NamedBy f ids cs × IsChain s cs
-admits f s [] h = absurd (refused no_conflict h)
-admits f s (i ∷ []) h = last (f i) refl h
-  where
-    ends : (c : List ℕ) → f i ≡ Some c → (b : Bool) → is_falsified s c ≡ b → cond b None (Some no_conflict) ≡ None → (cs : List (List ℕ)) × NamedBy f (i ∷ []) cs × IsChain s cs
-    ends c e true k g = (c ∷ [], (e, tt), k)
-    ends c e false k g = absurd (refused no_conflict g)
+abbrev Chained : (ℕ → Option (List ℕ)) → (ℕ → Bool) → List ℕ → Type 0
+Chained f s ids = (cs : List (List ℕ)) × NamedBy f ids cs × IsChain s cs
 
-    last : (o : Option (List ℕ)) → f i ≡ o → last_cause s o ≡ None → (cs : List (List ℕ)) × NamedBy f (i ∷ []) cs × IsChain s cs
-    last None e g = absurd (refused unknown_id g)
-    last (Some c) e g = ends c e (is_falsified s c) refl g
-admits f s (i ∷ j ∷ ids) h = next (λ l. admits f (add_lit l s) (j ∷ ids)) (f i) refl h
-  where
-    Rest : Type 0
-    Rest = (l : ℕ) → hints_cause f (add_lit l s) (j ∷ ids) ≡ None → (cs : List (List ℕ)) × NamedBy f (j ∷ ids) cs × IsChain (add_lit l s) cs
+chained_last : (f : ℕ → Option (List ℕ)) (s : ℕ → Bool) (i : ℕ) (c : List ℕ) → f i ≡ Some c → is_falsified s c ≡ true → Chained f s (i ∷ [])
+chained_last f s i c e w = (c ∷ [], (e, tt), w)
 
-    goes : Rest → (c : List ℕ) → f i ≡ Some c → (o : Option ℕ) → unit_among s c c ≡ o →
-        go_on o (λ l. hints_cause f (add_lit l s) (j ∷ ids)) ≡ None → (cs : List (List ℕ)) × NamedBy f (i ∷ j ∷ ids) cs × IsChain s cs
-    goes after c e None k g = absurd (refused not_unit g)
-    goes after c e (Some l) k g =
-        let rest = after l g in
-        elim rest.0 as (λ (ds : List (List ℕ)). NamedBy f (j ∷ ids) ds → IsChain (add_lit l s) ds → (cs : List (List ℕ)) × NamedBy f (i ∷ j ∷ ids) cs × IsChain s cs) [
-          | [] ↦ λ n w. absurd w
-          | d ∷ ds ↦ λ n w. (c ∷ d ∷ ds, (e, n), (l, found_unit s c c l k, w))
-        ] rest.1 rest.2
+chained_next : (f : ℕ → Option (List ℕ)) (s : ℕ → Bool) (i l : ℕ) (c ids : List ℕ) → f i ≡ Some c → unit_among s c c ≡ Some l → Chained f (add_lit l s) ids → Chained f s (i ∷ ids)
+chained_next f s i l c ids e k ([], n, w) = absurd w
+chained_next f s i l c ids e k (d ∷ ds, n, w) = (c ∷ d ∷ ds, (e, n), (l, found_unit s c c l k, w))
 
-    next : Rest → (o : Option (List ℕ)) → f i ≡ o → next_cause s o (λ t. hints_cause f t (j ∷ ids)) ≡ None → (cs : List (List ℕ)) × NamedBy f (i ∷ j ∷ ids) cs × IsChain s cs
-    next after None e g = absurd (refused unknown_id g)
-    next after (Some c) e g = goes after c e (unit_among s c c) refl g
+admits : (f : ℕ → Option (List ℕ)) (s : ℕ → Bool) (ids : List ℕ) → hints_cause f s ids ≡ None → Chained f s ids
+admits f s [] h = absurd (cc)
+admits f s (i ∷ []) h = grind (arith, chained_last f s i)
+admits f s (i ∷ j ∷ ids) h = grind (arith, λ (l : ℕ) (c : List ℕ). chained_next f s i l c (j ∷ ids), λ (l : ℕ). admits f (add_lit l s) (j ∷ ids))
 
 -- hints that name a chain are not refused
 pub passes : (f : ℕ → Option (List ℕ)) (s : ℕ → Bool) (ids : List ℕ) (cs : List (List ℕ)) → NamedBy f ids cs → IsChain s cs → hints_cause f s ids ≡ None
 passes f s [] [] n w = absurd w
 passes f s [] (c ∷ cs) n w = absurd n
 passes f s (i ∷ []) [] n w = absurd n
-passes f s (i ∷ []) (c ∷ []) n w = rw n.0 (rw w refl)
+passes f s (i ∷ []) (c ∷ []) n w = rw (n.0, w)
 passes f s (i ∷ []) (c ∷ d ∷ cs) n w = absurd n.1
 passes f s (i ∷ j ∷ ids) [] n w = absurd n
 passes f s (i ∷ j ∷ ids) (c ∷ []) n w = absurd n.1
 passes f s (i ∷ j ∷ ids) (c ∷ d ∷ cs) n w =
-    rw n.0 (rw (finds_unit s c c w.0 w.1 (and_parts _ _ w.1).0) (passes f (add_lit w.0 s) (j ∷ ids) (d ∷ cs) n.1 w.2))
+    rw (n.0, finds_unit s c c w.0 w.1 (and_parts _ _ w.1).0) (passes f (add_lit w.0 s) (j ∷ ids) (d ∷ cs) n.1 w.2)
 
 pub hints_decide : HintsDecide
 hints_decide f c ids = record {
@@ -109,14 +62,7 @@ hints_decide f c ids = record {
 -- under an assignment that makes a clause false, the negations of its literals are true
 agrees_negated : (a : ℕ → Bool) (c : List ℕ) → clause_true a c ≡ false → Agrees a (negated_set c)
 agrees_negated a [] h m k = absurd (false≢true k)
-agrees_negated a (l ∷ ls) h m k = go (λ g. agrees_negated a ls g m) (lit_true a l) refl h
-  where
-    go : (clause_true a ls ≡ false → negated_set ls m ≡ true → lit_true a m ≡ true) → (b : Bool) → lit_true a l ≡ b → (b || clause_true a ls) ≡ false → lit_true a m ≡ true
-    go rest true e g = absurd (true≢false g)
-    go rest false e g = elim (or_cases (eqb m (negate l)) (negated_set ls m) k) [
-      | inl same ↦ subst (λ x. lit_true a x ≡ true) (sym (eqb-true m (negate l) same)) (lit_true-negate a l ∙ ap not e)
-      | inr later ↦ rest g later
-    ]
+agrees_negated a (l ∷ ls) h m k = grind (arith, eqb-true m (negate l), lit_true-negate a l, agrees_negated a ls)
 
 -- every clause that the map names is true
 abbrev AllNamedTrue : (ℕ → Bool) → Machine → Type 0
@@ -130,26 +76,14 @@ named_true a m t (i ∷ ids) (c ∷ cs) n = and_from (clause_true a c) (all_true
 
 -- an admitted clause is true
 admitted_true : (a : ℕ → Bool) (m : Machine) (c ids : List ℕ) → AllNamedTrue a m → IsAdmitted m.named c ids → clause_true a c ≡ true
-admitted_true a m c ids t h = go (clause_true a c) refl
-  where
-    go : (b : Bool) → clause_true a c ≡ b → clause_true a c ≡ true
-    go true e = e
-    go false e = absurd (chains_sound (negated_set c) h.0 h.2 a (agrees_negated a c e) (named_true a m t ids h.0 h.1))
+admitted_true a m c ids t h = true_from_ne_false (clause_true a c) (λ e. chains_sound (negated_set c) h.0 h.2 a (agrees_negated a c e) (named_true a m t ids h.0 h.1))
 
 put_true : (a : ℕ → Bool) (m : Machine) (i : ℕ) (c : List ℕ) → AllNamedTrue a m → clause_true a c ≡ true → AllNamedTrue a (put_id i c m)
-put_true a m i c t h k d e = go (eqb k i) e
-  where
-    go : (b : Bool) → cond b (Some c) (m.named k) ≡ Some d → clause_true a d ≡ true
-    go true g = subst (λ x. clause_true a x ≡ true) (some-same c d g) h
-    go false g = t k d g
+put_true a m i c t h k d e = grind (arith, t k d)
 
 drop_true : (a : ℕ → Bool) (ids : List ℕ) (m : Machine) → AllNamedTrue a m → AllNamedTrue a (drop_ids ids m)
 drop_true a [] m t = t
-drop_true a (i ∷ ids) m t = drop_true a ids (drop_id i m) (λ k d e. go k d (eqb k i) e)
-  where
-    go : (k : ℕ) (d : List ℕ) (b : Bool) → cond b None (m.named k) ≡ Some d → clause_true a d ≡ true
-    go k d true g = absurd (none-some d g)
-    go k d false g = t k d g
+drop_true a (i ∷ ids) m t = drop_true a ids (drop_id i m) (λ k d e. grind (arith, t k d))
 
 list_true : (a : ℕ → Bool) (cs : List (List ℕ)) (i : ℕ) (m : Machine) → all_true a cs ≡ true → AllNamedTrue a m → AllNamedTrue a (list_from i cs m)
 list_true a [] i m h t = t
@@ -164,8 +98,7 @@ not_empty a (l ∷ ls) h = refl
 
 -- what is refused for no id is refused for no hint
 accepted : (b : Bool) (x : Option HintCause) → cond b (Some id_not_greater) x ≡ None → x ≡ None
-accepted true x h = absurd (refused id_not_greater h)
-accepted false x h = h
+accepted b x h = grind arith
 
 -- lines keep all that is named true, and don't add the empty clause
 follows_true : (a : ℕ → Bool) (xs : List HintLine) (h k : Listed) → AllNamedTrue a h.machine → h.added_empty ≡ false → Follows h xs k → k.added_empty ≡ false
