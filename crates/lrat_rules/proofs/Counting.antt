@@ -1,6 +1,6 @@
 -- Clauses of distinct ids hold a literal as often as it is stored at most, and as often only where they are all that hold it.
-use Rattle.std.proofs.Common.{◌≡◌, ℕ, ◌+◌, ◌<◌, ◌≤◌, Bool, true, false, cond, not, ◌||◌, eqb, List, [], ◌∷◌, Option, Some, None, is_none, refl, sym, ap, ◌∙◌, subst, arith, eq-eqb}
-use Rattle.std.proofs.lemmas.Bool.{eqb-true, eqb-false, and_parts, and_from, false≢true, not-true, ne_eqb, or_parts, true_from_ne_false}
+use Rattle.std.proofs.Common.{◌≡◌, ℕ, ◌+◌, ◌<◌, ◌≤◌, true, false, not, eqb, List, [], ◌∷◌, Option, Some, None, is_none, refl, ap, arith}
+use Rattle.std.proofs.lemmas.Bool.{eqb-true, and_parts, and_from, false≢true, true_from_ne_false}
 use Rattle.sat_rules.specs.Clauses.{has}
 use Rattle.sat_rules.specs.Named.{Item}
 use Rattle.lrat_rules.specs.Counts.{CountsCover, all_once, count_in, count_of, is_holder, uses, uses_by}
@@ -12,81 +12,37 @@ use Rattle.lrat_rules.proofs.Mapping.{found_left, left_once}
 
 pub held_counts : (n : ℕ) (c : List ℕ) → has n c ≡ true → 0 < count_of n c
 held_counts n [] h = absurd (false≢true h)
-held_counts n (l ∷ ls) h = go (held_counts n ls) (eqb n l) h
-  where
-    go : (has n ls ≡ true → 0 < count_of n ls) → (b : Bool) → (b || has n ls) ≡ true → 0 < cond b 1 0 + count_of n ls
-    go rest true t = omega arith
-    go rest false t = let some = rest t in omega arith
+held_counts n (l ∷ ls) h = grind (arith, held_counts n ls)
 
 pub not_held_counts : (n : ℕ) (c : List ℕ) → has n c ≡ false → count_of n c ≡ 0
 not_held_counts n [] h = refl
-not_held_counts n (l ∷ ls) h =
-    let p = or_parts (eqb n l) (has n ls) h in
-    ap (λ b. cond b 1 0 + count_of n ls) p.0 ∙ ap (λ k. 0 + k) (not_held_counts n ls p.1)
+not_held_counts n (l ∷ ls) h = grind (arith, not_held_counts n ls)
 
 -- ---- the store without one id
 
 -- one more use at least for each that the clause of the id has
 more_uses : (n d : ℕ) (st : List Item) → uses n (without_ids (d ∷ []) st) + count_in n (find st d) ≤ uses n st
 more_uses n d [] = omega arith
-more_uses n d (x ∷ st) = go (more_uses n d st) (eqb d x.id) refl
-  where
-    go : uses n (without_ids (d ∷ []) st) + count_in n (find st d) ≤ uses n st → (b : Bool) → eqb d x.id ≡ b →
-        uses n (cond (not (eqb x.id d || false)) (x ∷ without_ids (d ∷ []) st) (without_ids (d ∷ []) st)) +
-        count_in n (cond b (Some x.lits) (find st d)) ≤ count_of n x.lits + uses n st
-    go rest true e =
-        let at : (eqb x.id d || false) ≡ true = ap (λ b. b || false) (eq-eqb x.id d (sym (eqb-true d x.id e))) in
-        subst (λ b. uses n (cond (not b) (x ∷ without_ids (d ∷ []) st) (without_ids (d ∷ []) st)) + count_of n x.lits ≤ count_of n x.lits + uses n st) (sym at) (omega (arith, rest))
-    go rest false e =
-        let off : (eqb x.id d || false) ≡ false = ap (λ b. b || false) (ne_eqb x.id d (λ k. eqb-false d x.id e (sym k))) in
-        subst (λ b. uses n (cond (not b) (x ∷ without_ids (d ∷ []) st) (without_ids (d ∷ []) st)) + count_in n (find st d) ≤ count_of n x.lits + uses n st) (sym off) (omega (arith, rest))
+more_uses n d (x ∷ st) = grind (arith, eqb-true, more_uses n d st)
 
 -- and no more, where no id stands twice
 pub uses_without : (n d : ℕ) (st : List Item) → ids_once st ≡ true → uses n (without_ids (d ∷ []) st) + count_in n (find st d) ≡ uses n st
 uses_without n d [] o = refl
-uses_without n d (x ∷ st) o = go (uses_without n d st once.1) (eqb d x.id) refl
-  where
-    once : (is_none (find st x.id) ≡ true) × (ids_once st ≡ true)
-    once = and_parts (is_none (find st x.id)) (ids_once st) o
-
-    none : (o : Option (List ℕ)) → is_none o ≡ true → count_in n o ≡ 0
-    none None h = refl
-    none (Some c) h = absurd (false≢true h)
-
-    go : uses n (without_ids (d ∷ []) st) + count_in n (find st d) ≡ uses n st → (b : Bool) → eqb d x.id ≡ b →
-        uses n (cond (not (eqb x.id d || false)) (x ∷ without_ids (d ∷ []) st) (without_ids (d ∷ []) st)) +
-        count_in n (cond b (Some x.lits) (find st d)) ≡ count_of n x.lits + uses n st
-    go rest true e =
-        let at : (eqb x.id d || false) ≡ true = ap (λ b. b || false) (eq-eqb x.id d (sym (eqb-true d x.id e))) in
-        let gone : count_in n (find st d) ≡ 0 = none (find st d) (ap (λ k. is_none (find st k)) (eqb-true d x.id e) ∙ once.0) in
-        subst (λ b. uses n (cond (not b) (x ∷ without_ids (d ∷ []) st) (without_ids (d ∷ []) st)) + count_of n x.lits ≡ count_of n x.lits + uses n st) (sym at) (omega (arith, rest, gone))
-    go rest false e =
-        let off : (eqb x.id d || false) ≡ false = ap (λ b. b || false) (ne_eqb x.id d (λ k. eqb-false d x.id e (sym k))) in
-        subst (λ b. uses n (cond (not b) (x ∷ without_ids (d ∷ []) st) (without_ids (d ∷ []) st)) + count_in n (find st d) ≡ count_of n x.lits + uses n st) (sym off) (omega (arith, rest))
+uses_without n d (x ∷ st) o = grind (arith, eqb-true, uses_without n d st)
 
 -- another id names what it named
 other_found : (d k : ℕ) (st : List Item) → eqb k d ≡ false → find (without_ids (d ∷ []) st) k ≡ find st k
-other_found d k st e = found_left st (d ∷ []) k ∙ ap (λ b. cond (b || false) None (find st k)) e
+other_found d k st e = grind (arith, found_left st (d ∷ []) k)
 
 others_used : (n d : ℕ) (st : List Item) (ds : List ℕ) → has d ds ≡ false → uses_by n (without_ids (d ∷ []) st) ds ≡ uses_by n st ds
 others_used n d st [] a = refl
-others_used n d st (k ∷ ds) a =
-    let p = or_parts (eqb d k) (has d ds) a in
-    let off : eqb k d ≡ false = ne_eqb k d (λ e. eqb-false d k p.0 (sym e)) in
-    let here = ap (count_in n) (other_found d k st off) in
-    let rest = others_used n d st ds p.1 in
-    omega arith
+others_used n d st (k ∷ ds) a = grind (arith, other_found d k st, others_used n d st ds)
 
 -- ---- distinct ids
 
 never_more : (n : ℕ) (ds : List ℕ) (st : List Item) → all_once ds ≡ true → uses_by n st ds ≤ uses n st
 never_more n [] st h = omega arith
-never_more n (d ∷ ds) st h =
-    let p = and_parts (not (has d ds)) (all_once ds) h in
-    let others = others_used n d st ds (not-true _ p.0) in
-    let rest = never_more n ds (without_ids (d ∷ []) st) p.1 in
-    let one = more_uses n d st in
-    omega arith
+never_more n (d ∷ ds) st h = grind (arith, others_used n d st ds, never_more n ds (without_ids (d ∷ []) st), more_uses n d st)
 
 pub holder_counts : (n : ℕ) (o : Option (List ℕ)) → is_holder n o ≡ true → 0 < count_in n o
 holder_counts n None h = absurd (false≢true h)
@@ -107,34 +63,12 @@ counts_cover st n ds h = record {
 none_uses : (n : ℕ) (st : List Item) → ids_once st ≡ true → ((i : ℕ) → is_holder n (find st i) ≡ true → ⊥) → uses n st ≡ 0
 none_uses n [] o h = refl
 none_uses n (x ∷ st) o h =
-    let here : count_of n x.lits ≡ 0 = not_held_counts n x.lits (lacks (has n x.lits) refl) in
-    let rest : uses n st ≡ 0 = none_uses n st once.1 (λ i t. h i (ap (λ b. is_holder n (cond b (Some x.lits) (find st i))) (apart i t) ∙ t)) in
-    omega arith
-  where
-    once : (is_none (find st x.id) ≡ true) × (ids_once st ≡ true)
-    once = and_parts (is_none (find st x.id)) (ids_once st) o
-
-    lacks : (b : Bool) → has n x.lits ≡ b → has n x.lits ≡ false
-    lacks true e = absurd (h x.id (ap (λ b. is_holder n (cond b (Some x.lits) (find st x.id))) (eq-eqb x.id x.id refl) ∙ e))
-    lacks false e = e
-
-    not_none : (o : Option (List ℕ)) → is_holder n o ≡ true → is_none o ≡ true → ⊥
-    not_none None t e = false≢true t
-    not_none (Some c) t e = false≢true e
-
-    apart : (i : ℕ) → is_holder n (find st i) ≡ true → eqb i x.id ≡ false
-    apart i t = ne_eqb i x.id (λ e. not_none (find st x.id) (subst (λ k. is_holder n (find st k) ≡ true) e t) once.0)
+    let rest = none_uses n st (and_parts (is_none (find st x.id)) (ids_once st) o).1 (λ i t. h i (grind (arith, eqb-true i x.id))) in
+    grind (arith, rest, h x.id, not_held_counts n x.lits)
 
 -- all that hold it are listed
 pub all_uses : (n : ℕ) (ds : List ℕ) (st : List Item) → ids_once st ≡ true → all_once ds ≡ true → ((i : ℕ) → is_holder n (find st i) ≡ true → has i ds ≡ true) → uses n st ≡ uses_by n st ds
 all_uses n [] st o u h = none_uses n st o (λ i t. false≢true (h i t))
 all_uses n (d ∷ ds) st o u h =
-    let p = and_parts (not (has d ds)) (all_once ds) u in
-    let one = uses_without n d st o in
-    let others = others_used n d st ds (not-true _ p.0) in
-    let rest = all_uses n ds (without_ids (d ∷ []) st) (left_once (d ∷ []) st o) p.1 (λ i t. listed i (eqb i d) refl t) in
-    omega arith
-  where
-    listed : (i : ℕ) (b : Bool) → eqb i d ≡ b → is_holder n (find (without_ids (d ∷ []) st) i) ≡ true → has i ds ≡ true
-    listed i true e t = absurd (false≢true (sym (ap (is_holder n) (found_left st (d ∷ []) i ∙ ap (λ b. cond (b || false) None (find st i)) e)) ∙ t))
-    listed i false e t = sym (ap (λ b. b || has i ds) e) ∙ h i (sym (ap (is_holder n) (other_found d i st e)) ∙ t)
+    let rest = all_uses n ds (without_ids (d ∷ []) st) (left_once (d ∷ []) st o) (and_parts (not (has d ds)) (all_once ds) u).1 (λ i t. grind (arith, h i, found_left st (d ∷ []) i)) in
+    grind (arith, uses_without n d st o, others_used n d st ds, rest)

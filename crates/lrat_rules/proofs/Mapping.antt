@@ -1,15 +1,15 @@
 -- The checks rest on the map from ids to clauses.
-use Rattle.std.proofs.Common.{◌≡◌, ℕ, suc, ◌<◌, Bool, true, false, cond, not, ◌&&◌, ◌||◌, eqb, List, [], ◌∷◌, filter, Option, Some, None, is_none, refl, sym, ap, ◌∙◌, subst, arith, eq-eqb, inl, inr}
+use Rattle.std.proofs.Common.{◌≡◌, ℕ, suc, ◌<◌, Bool, true, false, cond, not, ◌||◌, eqb, List, [], ◌∷◌, filter, Option, Some, None, is_none, refl, sym, ap, ◌∙◌, arith, eq-eqb}
 use mathlib.Core.Path.{fun_ext}
 use Rattle.std.specs.List.{list_any, list_all}
-use Rattle.std.proofs.lemmas.Bool.{eqb-true, and_parts, and_from, or_cases, or_left, or_right, false≢true, both_ways, not-true, ne_eqb, false_from_ne_true}
+use Rattle.std.proofs.lemmas.Bool.{eqb-true, and_parts, or_right, false≢true}
 use Rattle.sat_rules.specs.Clauses.{add_lit, clause_true, has, negate, unfalsified}
 use Rattle.sat_rules.specs.Named.{Item, negated_set}
 use Rattle.sat_rules.proofs.Members.{all_at, all_from, any_at, any_from, has_first, kept_from, kept_in, kept_test}
 use Rattle.lrat_rules.specs.Causes.{not_unit}
 use Rattle.lrat_rules.specs.Groups.{Group, add_negated, all_met, group_for, is_met, rest_met, without}
 use Rattle.lrat_rules.specs.Laws.{RatResolves}
-use Rattle.lrat_rules.specs.Lines.{Hint, Line, accepts, adds, by_rat, by_rup, deletes, groups, leading, led, run, step, then_run}
+use Rattle.lrat_rules.specs.Lines.{Hint, Line, accepts, adds, by_rat, by_rup, deletes, groups, leading, led, run, step}
 use Rattle.lrat_rules.specs.Maps.{MapDecides, MetByMap, SameLits, SameMap, SameNamed, SameStep, ids_once}
 use Rattle.lrat_rules.specs.Propagation.{Ending, at_end, by_left, conflict, is_conflict, on_named, open_at, propagate, stuck}
 use Rattle.lrat_rules.specs.Stores.{find, formula_store, numbered, without_ids}
@@ -18,70 +18,33 @@ use Rattle.lrat_rules.proofs.Propagating.{led_sound}
 use Rattle.lrat_rules.proofs.Stepping.{added}
 
 bool_same : (x y : Bool) → (x ≡ true → y ≡ true) → (y ≡ true → x ≡ true) → x ≡ y
-bool_same true y f g = sym (f refl)
-bool_same false true f g = absurd (false≢true (g refl))
-bool_same false false f g = refl
+bool_same x y f g = grind arith
 
 -- the map after a deletion
 pub found_left : (st : List Item) (is : List ℕ) (k : ℕ) → find (without_ids is st) k ≡ cond (has k is) None (find st k)
-found_left [] is k = both (has k is) None
-  where
-    both : (b : Bool) (o : Option (List ℕ)) → o ≡ cond b o o
-    both true o = refl
-    both false o = refl
-found_left (x ∷ st) is k = elim (has x.id is) as (λ b. has x.id is ≡ b →
-    find (cond (not b) (x ∷ without_ids is st) (without_ids is st)) k ≡ cond (has k is) None (cond (eqb k x.id) (Some x.lits) (find st k))) [
-      | true ↦ λ h. elim (eqb k x.id) as (λ b. eqb k x.id ≡ b → find (without_ids is st) k ≡ cond (has k is) None (cond b (Some x.lits) (find st k))) [
-        | true ↦ λ e.
-            let y : has k is ≡ true = subst (λ i. has i is ≡ true) (sym (eqb-true k x.id e)) h in
-            found_left st is k ∙ ap (λ b. cond b None (find st k)) y ∙ sym (ap (λ b. cond b None (Some x.lits)) y)
-        | false ↦ λ e. found_left st is k
-      ] refl
-      | false ↦ λ h. elim (eqb k x.id) as (λ b. eqb k x.id ≡ b → cond b (Some x.lits) (find (without_ids is st) k) ≡ cond (has k is) None (cond b (Some x.lits) (find st k))) [
-        | true ↦ λ e.
-            let y : has k is ≡ false = subst (λ i. has i is ≡ false) (sym (eqb-true k x.id e)) h in
-            sym (ap (λ b. cond b None (Some x.lits)) y)
-        | false ↦ λ e. found_left st is k
-      ] refl
-    ] refl
+found_left [] is k = grind arith
+found_left (x ∷ st) is k = grind (arith, eqb-true k x.id, found_left st is k)
 
 -- no id stands twice
 pub below_none : (k n : ℕ) (cs : List (List ℕ)) → k < n → find (numbered n cs) k ≡ None
 below_none k n [] h = refl
-below_none k n (c ∷ cs) h = ap (λ b. cond b (Some c) (find (numbered (suc n) cs) k)) (ne_eqb k n (λ e. omega arith)) ∙ below_none k (suc n) cs (omega arith)
+below_none k n (c ∷ cs) h = grind (arith, below_none k (suc n) cs)
 
 pub numbered_once : (n : ℕ) (cs : List (List ℕ)) → ids_once (numbered n cs) ≡ true
 numbered_once n [] = refl
-numbered_once n (c ∷ cs) = and_from (is_none (find (numbered (suc n) cs) n)) (ids_once (numbered (suc n) cs)) (ap is_none (below_none n (suc n) cs (omega arith))) (numbered_once (suc n) cs)
-
-none_left : (b : Bool) (o : Option (List ℕ)) → is_none o ≡ true → is_none (cond b None o) ≡ true
-none_left true o h = refl
-none_left false o h = h
+numbered_once n (c ∷ cs) = grind (arith, below_none n (suc n) cs, numbered_once (suc n) cs)
 
 pub left_once : (is : List ℕ) (st : List Item) → ids_once st ≡ true → ids_once (without_ids is st) ≡ true
 left_once is [] h = refl
-left_once is (x ∷ st) h =
-    let p = and_parts (is_none (find st x.id)) (ids_once st) h in
-    elim (has x.id is) as (λ b. ids_once (cond (not b) (x ∷ without_ids is st) (without_ids is st)) ≡ true) [
-      | true ↦ left_once is st p.1
-      | false ↦ and_from (is_none (find (without_ids is st) x.id)) (ids_once (without_ids is st))
-          (ap is_none (found_left st is x.id) ∙ none_left (has x.id is) (find st x.id) p.0) (left_once is st p.1)
-    ]
+left_once is (x ∷ st) h = grind (arith, found_left st is x.id, left_once is st)
 
 step_once : (st su : List Item) (l : Line) → step st l ≡ Some su → ids_once st ≡ true → ids_once su ≡ true
-step_once st su (adds i c hs) h o =
-    let t = added st su i c hs h in
-    subst (λ r. ids_once r ≡ true) (sym t.1) (and_from (is_none (find st i)) (ids_once st) (and_parts (is_none (find st i)) (by_rup st c hs || by_rat st c hs) t.0).0 o)
-step_once st su (deletes is) h o =
-    let e : without_ids is st ≡ su = cc in
-    subst (λ r. ids_once r ≡ true) e (left_once is st o)
+step_once st su (adds i c hs) h o = let t = added st su i c hs h in rw t.1 (grind (arith, t.0))
+step_once st su (deletes is) h o = let e : without_ids is st ≡ su = cc in rw (← e) (left_once is st o)
 
 run_once : (st su : List Item) (ls : List Line) → run st ls ≡ Some su → ids_once st ≡ true → ids_once su ≡ true
-run_once st su [] h o = let e : st ≡ su = cc in subst (λ r. ids_once r ≡ true) e o
-run_once st su (l ∷ ls) h o = elim (step st l) as (λ q. step st l ≡ q → then_run q (λ r. run r ls) ≡ Some su → ids_once su ≡ true) [
-  | None ↦ λ w k. absurd (cc)
-  | Some r ↦ λ w k. run_once r su ls k (step_once st r l w o)
-] refl h
+run_once st su [] h o = let e : st ≡ su = cc in rw (← e) o
+run_once st su (l ∷ ls) h o = grind (arith, λ (r : List Item). step_once st r l, λ (r : List Item). run_once r su ls)
 
 -- the same literals
 same_sym : (c d : List ℕ) → SameLits c d → SameLits d c
@@ -101,10 +64,7 @@ same_kept p c d h l = bool_same _ _ (one c d h) (one d c (same_sym c d h))
 
 -- the one literal of a list
 only : (l : ℕ) (ls : List ℕ) → list_all (eqb l) ls ≡ true → (m : ℕ) → has m (l ∷ ls) ≡ true → m ≡ l
-only l ls h m t = elim (or_cases (eqb m l) (has m ls) t) [
-  | inl y ↦ eqb-true m l y
-  | inr y ↦ sym (eqb-true l m (all_at (eqb l) ls m h y))
-]
+only l ls h m t = grind (arith, eqb-true, all_at (eqb l) ls m h)
 
 all_one : (l : ℕ) (ls : List ℕ) (k : ℕ) (ks : List ℕ) → SameLits (l ∷ ls) (k ∷ ks) → list_all (eqb l) ls ≡ true → (k ≡ l) × (list_all (eqb k) ks ≡ true)
 all_one l ls k ks h t =
@@ -115,15 +75,7 @@ left_same : (one : ℕ → Ending) (u v : List ℕ) → SameLits u v → by_left
 left_same one [] [] h = refl
 left_same one [] (k ∷ ks) h = absurd (false≢true (h k ∙ has_first k ks))
 left_same one (l ∷ ls) [] h = absurd (false≢true (sym (h l) ∙ has_first l ls))
-left_same one (l ∷ ls) (k ∷ ks) h = go (list_all (eqb l) ls) refl
-  where
-    go : (b : Bool) → list_all (eqb l) ls ≡ b → cond (list_all (eqb l) ls) (one l) (stuck not_unit) ≡ cond (list_all (eqb k) ks) (one k) (stuck not_unit)
-    go true e =
-        let r = all_one l ls k ks h e in
-        ap (λ b. cond b (one l) (stuck not_unit)) e ∙ sym (ap one r.0) ∙ sym (ap (λ b. cond b (one k) (stuck not_unit)) r.1)
-    go false e =
-        let f : list_all (eqb k) ks ≡ false = false_from_ne_true _ (λ y. both_ways _ e (all_one k ks l ls (same_sym (l ∷ ls) (k ∷ ks) h) y).1) in
-        ap (λ b. cond b (one l) (stuck not_unit)) e ∙ sym (ap (λ b. cond b (one k) (stuck not_unit)) f)
+left_same one (l ∷ ls) (k ∷ ks) h = grind (arith, all_one l ls k ks h, all_one k ks l ls (same_sym (l ∷ ls) (k ∷ ks) h))
 
 -- propagation
 go_same : (s : ℕ → Bool) (go ga : (ℕ → Bool) → Ending) → ((r : ℕ → Bool) → go r ≡ ga r) → (u : List ℕ) → by_left u conflict (λ l. go (add_lit l s)) ≡ by_left u conflict (λ l. ga (add_lit l s))
@@ -148,9 +100,7 @@ rup_same st su e c hs = ap is_conflict (led_same st su e c hs)
 
 rest_same : (st su : List Item) → SameMap st su → (s : ℕ → Bool) (c d : List ℕ) → SameLits c d → (o : Option (List ℕ)) → rest_met (find st) s c o ≡ rest_met (find su) s d o
 rest_same st su e s c d h None = refl
-rest_same st su e s c d h (Some is) =
-    ap (λ b. b || is_conflict (propagate (find st) (add_negated c s) is)) (same_any s c d h)
-    ∙ ap (λ q. list_any s d || is_conflict q) (propagate_same st su e is (add_negated c s) ∙ ap (λ t. propagate (find su) t is) sets)
+rest_same st su e s c d h (Some is) = cc (same_any s c d h, sets, propagate_same st su e is (add_negated c s))
   where
     sets : add_negated c s ≡ add_negated d s
     sets = fun_ext (λ m. ap (λ b. b || s m) (same_any (λ l. eqb m (negate l)) c d h))
@@ -161,34 +111,13 @@ AllMet st s n gs su = (i : ℕ) (d : List ℕ) → find su i ≡ Some d → has 
 
 pub met_at : (st : List Item) (s : ℕ → Bool) (n : ℕ) (gs : List Group) (su : List Item) → list_all (is_met st s n gs) su ≡ true → AllMet st s n gs su
 met_at st s n gs [] h i d f t = absurd (cc)
-met_at st s n gs (x ∷ su) h i d f t =
-    let p = and_parts (is_met st s n gs x) (list_all (is_met st s n gs) su) h in
-    elim (eqb i x.id) as (λ b. eqb i x.id ≡ b → cond b (Some x.lits) (find su i) ≡ Some d → rest_met (find st) s (without n d) (group_for i gs) ≡ true) [
-      | true ↦ λ e g.
-          let same : x.lits ≡ d = cc in
-          let at : i ≡ x.id = eqb-true i x.id e in
-          let y : has n x.lits ≡ true = subst (λ c. has n c ≡ true) (sym same) t in
-          subst (λ c. rest_met (find st) s (without n c) (group_for i gs) ≡ true) same (subst (λ k. rest_met (find st) s (without n x.lits) (group_for k gs) ≡ true) (sym at) (
-          elim (or_cases (not (has n x.lits)) (rest_met (find st) s (without n x.lits) (group_for x.id gs)) p.0) [
-            | inl none ↦ absurd (both_ways (has n x.lits) (not-true _ none) y)
-            | inr met ↦ met
-          ]))
-      | false ↦ λ e g. met_at st s n gs su p.1 i d g t
-    ] refl f
+met_at st s n gs (x ∷ su) h i d f t = grind (arith, eqb-true i x.id, met_at st s n gs su)
 
 pub met_from : (st : List Item) (s : ℕ → Bool) (n : ℕ) (gs : List Group) (su : List Item) → ids_once su ≡ true → AllMet st s n gs su → list_all (is_met st s n gs) su ≡ true
 met_from st s n gs [] o h = refl
 met_from st s n gs (x ∷ su) o h =
-    let p = and_parts (is_none (find su x.id)) (ids_once su) o in
-    and_from (is_met st s n gs x) (list_all (is_met st s n gs) su) (first (has n x.lits) refl)
-    (met_from st s n gs su p.1 (λ i d f t. h i d (ap (λ b. cond b (Some x.lits) (find su i)) (other i d p.0 f) ∙ f) t))
-  where
-    first : (b : Bool) → has n x.lits ≡ b → is_met st s n gs x ≡ true
-    first false e = or_left (not (has n x.lits)) (rest_met (find st) s (without n x.lits) (group_for x.id gs)) (ap not e)
-    first true e = or_right (not (has n x.lits)) (rest_met (find st) s (without n x.lits) (group_for x.id gs)) (h x.id x.lits (ap (λ b. cond b (Some x.lits) (find su x.id)) (eq-eqb x.id x.id refl)) e)
-
-    other : (i : ℕ) (d : List ℕ) → is_none (find su x.id) ≡ true → find su i ≡ Some d → eqb i x.id ≡ false
-    other i d none f = false_from_ne_true (eqb i x.id) (λ y. false≢true (sym (ap is_none (sym (ap (λ k. find su k) (eqb-true i x.id y)) ∙ f)) ∙ none))
+    let rest = met_from st s n gs su (and_parts (is_none (find su x.id)) (ids_once su) o).1 (λ i d f t. h i d (grind (arith, eqb-true i x.id)) t) in
+    grind (arith, rest, h x.id x.lits)
 
 pub met_by_map : MetByMap
 met_by_map st s n gs o = (met_at st s n gs st, met_from st s n gs st o)
@@ -203,7 +132,7 @@ map_sym : (st su : List Item) → SameMap st su → SameMap su st
 map_sym st su e i = named_sym (find st i) (find su i) (e i)
 
 carried : (st su : List Item) → SameMap st su → (s : ℕ → Bool) (n : ℕ) (gs : List Group) → AllMet st s n gs st → AllMet su s n gs su
-carried st su e s n gs h i d f t = go (find st i) refl (subst (λ o. SameNamed (find st i) o) f (e i))
+carried st su e s n gs h i d f t = go (find st i) refl (rw f at (e i))
   where
     go : (o : Option (List ℕ)) → find st i ≡ o → SameNamed o (Some d) → rest_met (find su) s (without n d) (group_for i gs) ≡ true
     go None k same = absurd same
@@ -211,10 +140,9 @@ carried st su e s n gs h i d f t = go (find st i) refl (subst (λ o. SameNamed (
 
 all_met_same : (st su : List Item) → SameMap st su → ids_once st ≡ true → ids_once su ≡ true → (s : ℕ → Bool) (c : List ℕ) (gs : List Group) → all_met st s c gs ≡ all_met su s c gs
 all_met_same st su e o q s [] gs = refl
-all_met_same st su e o q s (p ∷ ps) gs = bool_same _ _ (one st su e q) (one su st (map_sym st su e) o)
-  where
-    one : (st su : List Item) → SameMap st su → ids_once su ≡ true → list_all (is_met st s (negate p) gs) st ≡ true → list_all (is_met su s (negate p) gs) su ≡ true
-    one st su e q h = met_from su s (negate p) gs su q (carried st su e s (negate p) gs (met_at st s (negate p) gs st h))
+all_met_same st su e o q s (p ∷ ps) gs = bool_same _ _
+    (λ h. met_from su s (negate p) gs su q (carried st su e s (negate p) gs (met_at st s (negate p) gs st h)))
+    (λ h. met_from st s (negate p) gs st o (carried su st (map_sym st su e) s (negate p) gs (met_at su s (negate p) gs su h)))
 
 end_same : (e : Ending) (t u : (ℕ → Bool) → Bool) → ((s : ℕ → Bool) → t s ≡ u s) → at_end e t ≡ at_end e u
 end_same conflict t u h = refl
@@ -222,8 +150,7 @@ end_same (open_at s) t u h = h s
 end_same (stuck k) t u h = refl
 
 rat_same : (st su : List Item) → SameMap st su → ids_once st ≡ true → ids_once su ≡ true → (c : List ℕ) (hs : List Hint) → by_rat st c hs ≡ by_rat su c hs
-rat_same st su e o q c hs = ap (λ d. at_end d (λ s. all_met st s c (groups hs))) (led_same st su e c hs) ∙ end_same (led su c hs)
-    (λ s. all_met st s c (groups hs)) (λ s. all_met su s c (groups hs)) (λ s. all_met_same st su e o q s c (groups hs))
+rat_same st su e o q c hs = rw (led_same st su e c hs) (end_same (led su c hs) (λ s. all_met st s c (groups hs)) (λ s. all_met su s c (groups hs)) (λ s. all_met_same st su e o q s c (groups hs)))
 
 none_same : (o q : Option (List ℕ)) → SameNamed o q → is_none o ≡ is_none q
 none_same None None h = refl
@@ -232,33 +159,17 @@ none_same (Some c) None h = absurd h
 none_same (Some c) (Some d) h = refl
 
 add_same : (st su : List Item) → SameMap st su → ids_once st ≡ true → ids_once su ≡ true → (i : ℕ) (c : List ℕ) (hs : List Hint) → accepts st (adds i c hs) ≡ accepts su (adds i c hs)
-add_same st su e o q i c hs =
-    ap (λ b. b && (by_rup st c hs || by_rat st c hs)) (none_same (find st i) (find su i) (e i))
-    ∙ ap (λ b. is_none (find su i) && (b || by_rat st c hs)) (rup_same st su e c hs)
-    ∙ ap (λ b. is_none (find su i) && (by_rup su c hs || b)) (rat_same st su e o q c hs)
+add_same st su e o q i c hs = cc (none_same (find st i) (find su i) (e i), rup_same st su e c hs, rat_same st su e o q c hs)
 
 -- the map after a line
 stored_same : (st su : List Item) → SameMap st su → (i : ℕ) (c d : List ℕ) → SameLits c d → SameMap (record { id = i; lits = c } ∷ st) (record { id = i; lits = d } ∷ su)
-stored_same st su e i c d h k = elim (eqb k i) as (λ b. SameNamed (cond b (Some c) (find st k)) (cond b (Some d) (find su k))) [
-  | true ↦ h
-  | false ↦ e k
-]
+stored_same st su e i c d h k = grind (arith, e k)
 
 left_map : (st su : List Item) → SameMap st su → (is : List ℕ) → SameMap (without_ids is st) (without_ids is su)
-left_map st su e is k = subst (λ o. SameNamed o (find (without_ids is su) k)) (sym (found_left st is k))
-    (subst (λ o. SameNamed (cond (has k is) None (find st k)) o) (sym (found_left su is k)) (go (has k is)))
-  where
-    go : (b : Bool) → SameNamed (cond b None (find st k)) (cond b None (find su k))
-    go true = tt
-    go false = e k
+left_map st su e is k = rw (found_left st is k, found_left su is k) (grind (arith, e k))
 
 step_same : (st su : List Item) → SameMap st su → ids_once st ≡ true → ids_once su ≡ true → (l : Line) → SameStep (step st l) (step su l)
-step_same st su e o q (adds i c hs) = subst (λ b. SameStep (step st (adds i c hs)) (cond b (Some (record { id = i; lits = c } ∷ su)) None))
-    (add_same st su e o q i c hs) (go (accepts st (adds i c hs)))
-  where
-    go : (b : Bool) → SameStep (cond b (Some (record { id = i; lits = c } ∷ st)) None) (cond b (Some (record { id = i; lits = c } ∷ su)) None)
-    go true = stored_same st su e i c c (λ l. refl)
-    go false = tt
+step_same st su e o q (adds i c hs) = grind (arith, add_same st su e o q i c hs, stored_same st su e i c c (λ l. refl))
 step_same st su e o q (deletes is) = left_map st su e is
 
 pub map_decides : MapDecides
@@ -272,9 +183,9 @@ map_decides = record {
 
 -- each resolvent follows
 pub rat_resolves : RatResolves
-rat_resolves st p ps hs h i d f t a m = elim (clause_true a (p ∷ ps)) as (λ b. clause_true a (p ∷ ps) ≡ b → (b || clause_true a (without (negate p) d)) ≡ true) [
-  | true ↦ λ e. refl
-  | false ↦ λ e.
-      let s = ends_open a (led st (p ∷ ps) hs) (λ s. all_met st s (p ∷ ps) (groups hs)) (led_sound st a (p ∷ ps) hs m e) h in
-      rest_true st a s.0 (without (negate p) d) (group_for i (groups hs)) m s.1 (met_at st s.0 (negate p) (groups hs) st s.2 i d f t)
-] refl
+rat_resolves st p ps hs h i d f t a m = grind (arith, resolvent)
+  where
+    resolvent : clause_true a (p ∷ ps) ≡ false → clause_true a (without (negate p) d) ≡ true
+    resolvent e =
+        let s = ends_open a (led st (p ∷ ps) hs) (λ s. all_met st s (p ∷ ps) (groups hs)) (led_sound st a (p ∷ ps) hs m e) h in
+        rest_true st a s.0 (without (negate p) d) (group_for i (groups hs)) m s.1 (met_at st s.0 (negate p) (groups hs) st s.2 i d f t)

@@ -1,7 +1,7 @@
 -- Propagation is sound: whoever agrees with the set and makes all stored clauses true agrees with what follows.
-use Rattle.std.proofs.Common.{◌≡◌, ℕ, Bool, true, false, not, eqb, List, [], ◌∷◌, filter, Option, Some, None, sym, ap, ◌∙◌, subst, inl, inr}
+use Rattle.std.proofs.Common.{◌≡◌, ℕ, Bool, true, false, not, eqb, List, [], ◌∷◌, filter, Option, Some, None, sym, subst, inl, inr, arith}
 use Rattle.std.specs.List.{list_all, list_any}
-use Rattle.std.proofs.lemmas.Bool.{eqb-true, and_parts, or_cases, false≢true, both_ways, not-true, cond_both, false_from_ne_true, true_from_ne_false}
+use Rattle.std.proofs.lemmas.Bool.{eqb-true, or_cases, false≢true, cond_both, true_from_ne_false}
 use Rattle.sat_rules.specs.Clauses.{Agrees, add_lit, clause_true, has, lit_true, negate, unfalsified}
 use Rattle.sat_rules.specs.Named.{Item, negated_set}
 use Rattle.sat_rules.proofs.Chains.{agrees_more, lit_true-negate}
@@ -11,7 +11,7 @@ use Rattle.lrat_rules.specs.Groups.{add_negated}
 use Rattle.lrat_rules.specs.Laws.{IsModel}
 use Rattle.lrat_rules.specs.Lines.{Hint, by_rup, leading, led}
 use Rattle.lrat_rules.specs.Propagation.{Ending, by_left, conflict, is_conflict, on_named, open_at, propagate, stuck}
-use Rattle.lrat_rules.specs.Stores.{clauses_of, find}
+use Rattle.lrat_rules.specs.Stores.{find}
 
 -- what an ending says of an assignment
 abbrev pub Sound : (ℕ → Bool) → Ending → Type 0
@@ -25,13 +25,11 @@ TrueAt a (Some c) = clause_true a c ≡ true
 
 found_true : (st : List Item) (a : ℕ → Bool) (i : ℕ) → IsModel a st → TrueAt a (find st i)
 found_true [] a i m = tt
-found_true (x ∷ st) a i m =
-    let parts = and_parts (clause_true a x.lits) (list_all (clause_true a) (clauses_of st)) m in
-    cond_both (eqb i x.id) (Some x.lits) (find st i) (TrueAt a) (λ e. parts.0) (λ e. found_true st a i parts.1)
+found_true (x ∷ st) a i m = grind (arith, found_true st a i)
 
 -- a true literal is not false in the set
 not_false : (s a : ℕ → Bool) (m : ℕ) → Agrees a s → lit_true a m ≡ true → not (s (negate m)) ≡ true
-not_false s a m ag t = ap not (false_from_ne_true (s (negate m)) (λ y. both_ways (lit_true a m) (not-true _ (sym (lit_true-negate a m) ∙ ag (negate m) y)) t))
+not_false s a m ag t = grind (arith, lit_true-negate a m, ag (negate m))
 
 -- a test that some kept element passes
 pub any_kept : (q p : ℕ → Bool) (c : List ℕ) (l : ℕ) → has l c ≡ true → p l ≡ true → q l ≡ true → list_any q (filter p c) ≡ true
@@ -70,14 +68,10 @@ sound_is_open a (stuck k) s h = false≢true h
 pub agrees_negated : (a : ℕ → Bool) (c : List ℕ) → clause_true a c ≡ false → Agrees a (negated_set c)
 agrees_negated a c f m h =
     let l = any_at (λ l. eqb m (negate l)) c h in
-    let n : lit_true a l.0 ≡ false = false_from_ne_true (lit_true a l.0) (λ y. both_ways (clause_true a c) f (any_from (lit_true a) c l.0 l.1 y)) in
-    subst (λ x. lit_true a x ≡ true) (sym (eqb-true m (negate l.0) l.2)) (lit_true-negate a l.0 ∙ ap not n)
+    rw (eqb-true m (negate l.0) l.2) (grind (arith, lit_true-negate a l.0, any_from (lit_true a) c l.0 l.1))
 
 pub agrees_add : (a s : ℕ → Bool) (c : List ℕ) → clause_true a c ≡ false → Agrees a s → Agrees a (add_negated c s)
-agrees_add a s c f ag m h = elim (or_cases (negated_set c m) (s m) h) [
-  | inl y ↦ agrees_negated a c f m y
-  | inr y ↦ ag m y
-]
+agrees_add a s c f ag m h = grind (arith, agrees_negated a c f m, ag m)
 
 -- where the leading hints of a false clause lead
 pub led_sound : (st : List Item) (a : ℕ → Bool) (c : List ℕ) (hs : List Hint) → IsModel a st → clause_true a c ≡ false → Sound a (led st c hs)

@@ -1,7 +1,5 @@
 -- A line has no cause exactly where it is accepted.
-use Rattle.std.proofs.Common.{◌≡◌, ◌↔◌, ℕ, Bool, true, false, cond, not, ◌&&◌, ◌||◌, Option, Some, None, is_some, refl, sym}
-use Rattle.std.proofs.lemmas.Bool.{false≢true}
-use Rattle.std.proofs.lemmas.Option.{none-some}
+use Rattle.std.proofs.Common.{◌≡◌, ◌↔◌, ℕ, Bool, true, cond, not, ◌&&◌, ◌||◌, Option, Some, None, is_some, refl, arith}
 use Rattle.lrat_rules.specs.Causes.{Cause, id_taken}
 use Rattle.lrat_rules.specs.Groups.{all_met}
 use Rattle.lrat_rules.specs.Lines.{adds, deletes, groups, led}
@@ -13,17 +11,12 @@ use Rattle.lrat_rules.specs.Stores.{find}
 end_exact : (e : Ending) (test : (ℕ → Bool) → Bool) (k : (ℕ → Bool) → Cause) →
     (cause_at e (λ s. cond (test s) None (Some (k s))) ≡ None) ↔ ((is_conflict e || at_end e test) ≡ true)
 end_exact conflict test k = (λ h. refl, λ h. refl)
-end_exact (open_at s) test k = go (test s)
-  where
-    go : (b : Bool) → (cond b None (Some (k s)) ≡ None) ↔ (b ≡ true)
-    go true = (λ h. refl, λ h. refl)
-    go false = (λ h. absurd (none-some (k s) (sym h)), λ h. absurd (false≢true h))
-end_exact (stuck j) test k = (λ h. absurd (none-some j (sym h)), λ h. absurd (false≢true h))
+end_exact (open_at s) test k = grind arith
+end_exact (stuck j) test k = grind arith
 
 -- first the id
 id_exact : (taken t : Bool) (o : Option Cause) → (o ≡ None) ↔ (t ≡ true) → (cond taken (Some id_taken) o ≡ None) ↔ ((not taken && t) ≡ true)
-id_exact true t o h = (λ e. absurd (none-some id_taken (sym e)), λ e. absurd (false≢true e))
-id_exact false t o h = h
+id_exact taken t o h = grind arith
 
 pub causes_exact : CausesAreExact
 causes_exact st (adds i c hs) = id_exact (is_some (find st i)) _ _ (end_exact (led st c hs) (λ s. all_met st s c (groups hs)) (λ s. unmet st s c (groups hs)))

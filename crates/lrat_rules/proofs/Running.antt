@@ -1,23 +1,20 @@
 -- What a list of lines keeps and refutes.
-use Rattle.std.proofs.Common.{◌≡◌, ℕ, suc, Bool, true, false, ◌||◌, List, [], ◌∷◌, ◌++◌, Some, None, refl, ap, ◌∙◌, subst, inl, inr}
-use Rattle.std.proofs.lemmas.Bool.{and_parts, and_from, or_cases, false≢true}
+use Rattle.std.proofs.Common.{◌≡◌, ℕ, suc, Bool, true, false, ◌||◌, List, [], ◌∷◌, ◌++◌, Some, refl, subst, inl, inr, arith}
+use Rattle.std.proofs.lemmas.Bool.{and_parts, or_cases, false≢true}
 use Rattle.sat_rules.specs.Clauses.{all_true, clause_true}
 use Rattle.sat_rules.specs.Named.{Item}
-use Rattle.lrat_rules.specs.Laws.{IsModel, IsSatisfiable, RunsJoin, RunsKeepModels, RupRunsFollow, all_rup, is_rup}
-use Rattle.lrat_rules.specs.Lines.{Line, RunsRefute, adds, adds_empty, deletes, has_empty, refutes, run, step, then_run, then_test}
+use Rattle.lrat_rules.specs.Laws.{IsModel, IsSatisfiable, RunsJoin, RunsKeepModels, RupRunsFollow, all_rup}
+use Rattle.lrat_rules.specs.Lines.{Line, RunsRefute, adds, adds_empty, deletes, has_empty, refutes, run, step}
 use Rattle.lrat_rules.specs.Stores.{clauses_of, formula_store, numbered}
 use Rattle.lrat_rules.proofs.Stepping.{added, line_keeps, rup_line_keeps}
 
 pub runs_keep : RunsKeepModels
-runs_keep st su [] h sat = let e : st ≡ su = cc in subst IsSatisfiable e sat
-runs_keep st su (l ∷ ls) h sat = elim (step st l) as (λ o. step st l ≡ o → then_run o (λ r. run r ls) ≡ Some su → IsSatisfiable su) [
-  | None ↦ λ w k. absurd (cc)
-  | Some r ↦ λ w k. runs_keep r su ls k (line_keeps st r l w sat)
-] refl h
+runs_keep st su [] h sat = let e : st ≡ su = cc in rw (← e) sat
+runs_keep st su (l ∷ ls) h sat = grind (arith, λ (r : List Item) (w : step st l ≡ Some r) (k : run r ls ≡ Some su). runs_keep r su ls k (line_keeps st r l w sat))
 
 formula_model : (n : ℕ) (cs : List (List ℕ)) (a : ℕ → Bool) → all_true a cs ≡ true → IsModel a (numbered n cs)
 formula_model n [] a h = refl
-formula_model n (c ∷ cs) a h = let p = and_parts (clause_true a c) (all_true a cs) h in and_from (clause_true a c) (all_true a (clauses_of (numbered (suc n) cs))) p.0 (formula_model (suc n) cs a p.1)
+formula_model n (c ∷ cs) a h = grind (arith, formula_model (suc n) cs a)
 
 -- after the empty clause nothing satisfies the store
 empty_ends : (st su : List Item) (l : Line) → adds_empty l ≡ true → step st l ≡ Some su → IsSatisfiable su → ⊥
@@ -27,13 +24,7 @@ empty_ends st su (deletes is) e h sat = false≢true e
 
 refuted : (st : List Item) (ls : List Line) → refutes st ls ≡ true → IsSatisfiable st → ⊥
 refuted st [] h sat = false≢true h
-refuted st (l ∷ ls) h sat = elim (step st l) as (λ o. step st l ≡ o → then_test o (λ r. adds_empty l || refutes r ls) ≡ true → ⊥) [
-  | None ↦ λ w k. false≢true k
-  | Some r ↦ λ w k. elim (or_cases (adds_empty l) (refutes r ls) k) [
-    | inl e ↦ empty_ends st r l e w (line_keeps st r l w sat)
-    | inr later ↦ refuted r ls later (line_keeps st r l w sat)
-  ]
-] refl h
+refuted st (l ∷ ls) h sat = grind (arith, λ (r : List Item) (w : step st l ≡ Some r). empty_ends st r l, λ (r : List Item) (w : step st l ≡ Some r). line_keeps st r l w sat, λ (r : List Item). refuted r ls)
 
 -- no assignment makes an empty clause true
 empty_is_false : (cs : List (List ℕ)) → has_empty cs ≡ true → (a : ℕ → Bool) → all_true a cs ≡ true → ⊥
@@ -48,35 +39,19 @@ runs_refute cs ls h a t = elim (or_cases (has_empty cs) (refutes (formula_store 
 ]
 
 follows : (st su : List Item) (ls : List Line) (a : ℕ → Bool) → run st ls ≡ Some su → all_rup st ls ≡ true → IsModel a st → IsModel a su
-follows st su [] a h r m = let e : st ≡ su = cc in subst (IsModel a) e m
-follows st su (l ∷ ls) a h r m =
-    let p = and_parts (is_rup st l) (then_test (step st l) (λ su. all_rup su ls)) r in
-    elim (step st l) as (λ o. step st l ≡ o → then_run o (λ r. run r ls) ≡ Some su → then_test o (λ su. all_rup su ls) ≡ true → IsModel a su) [
-      | None ↦ λ w k t. absurd (cc)
-      | Some q ↦ λ w k t. follows q su ls a k t (rup_line_keeps st q l a p.0 w m)
-    ] refl h p.1
+follows st su [] a h r m = let e : st ≡ su = cc in rw (← e) m
+follows st su (l ∷ ls) a h r m = grind (arith, λ (q : List Item). rup_line_keeps st q l a, λ (q : List Item). follows q su ls a)
 
 pub rup_runs_follow : RupRunsFollow
 rup_runs_follow cs su ls h r a t = follows (formula_store cs) su ls a h r (formula_model 1 cs a t)
 
 run_joins : (st su : List Item) (ls ms : List Line) → run st ls ≡ Some su → run st (ls ++ ms) ≡ run su ms
-run_joins st su [] ms h = let e : st ≡ su = cc in subst (λ r. run st ms ≡ run r ms) e refl
-run_joins st su (l ∷ ls) ms h = elim (step st l) as (λ o. then_run o (λ r. run r ls) ≡ Some su → then_run o (λ r. run r (ls ++ ms)) ≡ run su ms) [
-  | None ↦ λ k. absurd (cc)
-  | Some r ↦ λ k. run_joins r su ls ms k
-] h
+run_joins st su [] ms h = let e : st ≡ su = cc in rw e
+run_joins st su (l ∷ ls) ms h = grind (arith, λ (r : List Item). run_joins r su ls ms)
 
 refutes_joins : (st su : List Item) (ls ms : List Line) → run st ls ≡ Some su → refutes st (ls ++ ms) ≡ (refutes st ls || refutes su ms)
-refutes_joins st su [] ms h = let e : st ≡ su = cc in ap (λ r. refutes r ms) e
-refutes_joins st su (l ∷ ls) ms h = elim (step st l) as (λ o. then_run o (λ r. run r ls) ≡ Some su →
-    then_test o (λ r. adds_empty l || refutes r (ls ++ ms)) ≡ (then_test o (λ r. adds_empty l || refutes r ls) || refutes su ms)) [
-      | None ↦ λ k. absurd (cc)
-      | Some r ↦ λ k. ap (λ b. adds_empty l || b) (refutes_joins r su ls ms k) ∙ or_assoc (adds_empty l) (refutes r ls) (refutes su ms)
-    ] h
-  where
-    or_assoc : (a b c : Bool) → (a || (b || c)) ≡ ((a || b) || c)
-    or_assoc true b c = refl
-    or_assoc false b c = refl
+refutes_joins st su [] ms h = let e : st ≡ su = cc in rw e
+refutes_joins st su (l ∷ ls) ms h = grind (arith, λ (r : List Item). refutes_joins r su ls ms)
 
 pub runs_join : RunsJoin
 runs_join = record { run_on = run_joins; refutes_on = refutes_joins }

@@ -1,6 +1,6 @@
 -- What an accepted line keeps.
-use Rattle.std.proofs.Common.{◌≡◌, ℕ, Bool, true, false, cond, not, ◌||◌, List, [], ◌∷◌, filter, Some, None, is_none, refl, sym, ap, subst, inl, inr}
-use Rattle.std.proofs.lemmas.Bool.{and_parts, and_from, or_cases, both_ways}
+use Rattle.std.proofs.Common.{◌≡◌, ℕ, Bool, true, cond, not, ◌||◌, List, [], ◌∷◌, filter, Some, is_none, refl, arith}
+use Rattle.std.proofs.lemmas.Bool.{and_parts, and_from}
 use Rattle.sat_rules.specs.Clauses.{all_true, clause_true, has}
 use Rattle.sat_rules.specs.Named.{Item}
 use Rattle.lrat_rules.specs.Laws.{IsModel, IsSatisfiable, LinesKeepModels, flip_pivot, is_rup, repaired}
@@ -11,42 +11,25 @@ use Rattle.lrat_rules.proofs.Propagating.{rup_sound}
 
 -- an accepted addition
 pub added : (st su : List Item) (i : ℕ) (c : List ℕ) (hs : List Hint) → step st (adds i c hs) ≡ Some su → (accepts st (adds i c hs) ≡ true) × (su ≡ record { id = i; lits = c } ∷ st)
-added st su i c hs h = elim (accepts st (adds i c hs)) as (λ b. accepts st (adds i c hs) ≡ b →
-    cond b (Some (record { id = i; lits = c } ∷ st)) None ≡ Some su →
-    (accepts st (adds i c hs) ≡ true) × (su ≡ record { id = i; lits = c } ∷ st)) [
-      | true ↦ λ e k. (e, cc)
-      | false ↦ λ e k. absurd (cc)
-    ] refl h
+added st su i c hs h = grind arith
 
 kept_model : (a : ℕ → Bool) (q : Item → Bool) (st : List Item) → IsModel a st → IsModel a (filter q st)
 kept_model a q [] m = refl
-kept_model a q (x ∷ st) m =
-    let parts = and_parts (clause_true a x.lits) (all_true a (clauses_of st)) m in
-    elim (q x) as (λ b. IsModel a (cond b (x ∷ filter q st) (filter q st))) [
-      | true ↦ and_from (clause_true a x.lits) (all_true a (clauses_of (filter q st))) parts.0 (kept_model a q st parts.1)
-      | false ↦ kept_model a q st parts.1
-    ]
+kept_model a q (x ∷ st) m = grind (arith, kept_model a q st)
 
 -- the new clause under the repaired assignment, with the stored ones
 clause_repaired : (st : List Item) (c : List ℕ) (hs : List Hint) → (by_rup st c hs || by_rat st c hs) ≡ true → (a : ℕ → Bool) → IsModel a st →
     (clause_true (cond (clause_true a c) a (flip_pivot a c)) c ≡ true) × IsModel (cond (clause_true a c) a (flip_pivot a c)) st
-clause_repaired st c hs h a m = elim (clause_true a c) as (λ b. clause_true a c ≡ b → (clause_true (cond b a (flip_pivot a c)) c ≡ true) × IsModel (cond b a (flip_pivot a c)) st) [
-  | true ↦ λ e. (e, m)
-  | false ↦ λ e. elim (or_cases (by_rup st c hs) (by_rat st c hs) h) [
-    | inl rup ↦ absurd (both_ways (clause_true a c) e (rup_sound st c hs rup a m))
-    | inr rat ↦ rat_flips st c hs rat a m e
-  ]
-] refl
+clause_repaired st c hs h a m = grind (arith, λ (rup : by_rup st c hs ≡ true). rup_sound st c hs rup a m, λ (rat : by_rat st c hs ≡ true). rat_flips st c hs rat a m)
 
 pub line_repairs : (st su : List Item) (l : Line) → step st l ≡ Some su → (a : ℕ → Bool) → IsModel a st → IsModel (repaired a l) su
 line_repairs st su (adds i c hs) h a m =
     let t = added st su i c hs h in
-    let p = and_parts (is_none (find st i)) (by_rup st c hs || by_rat st c hs) t.0 in
-    let r = clause_repaired st c hs p.1 a m in
-    subst (IsModel (repaired a (adds i c hs))) (sym t.1) (and_from (clause_true (repaired a (adds i c hs)) c) (all_true (repaired a (adds i c hs)) (clauses_of st)) r.0 r.1)
+    let r = clause_repaired st c hs (and_parts (is_none (find st i)) (by_rup st c hs || by_rat st c hs) t.0).1 a m in
+    rw t.1 (and_from (clause_true (repaired a (adds i c hs)) c) (all_true (repaired a (adds i c hs)) (clauses_of st)) r.0 r.1)
 line_repairs st su (deletes is) h a m =
     let e : without_ids is st ≡ su = cc in
-    subst (IsModel a) e (kept_model a (λ x. not (has x.id is)) st m)
+    rw (← e) (kept_model a (λ x. not (has x.id is)) st m)
 
 pub line_keeps : (st su : List Item) (l : Line) → step st l ≡ Some su → IsSatisfiable st → IsSatisfiable su
 line_keeps st su l h sat = (repaired sat.0 l, line_repairs st su l h sat.0 sat.1)
@@ -56,8 +39,8 @@ lines_keep = record { rup = rup_sound; repairs = line_repairs; keeps = line_keep
 
 -- a line without a pivot leaves the assignment
 repaired_same : (st : List Item) (l : Line) (a : ℕ → Bool) → is_rup st l ≡ true → IsModel a st → repaired a l ≡ a
-repaired_same st (adds i c hs) a h m = ap (λ b. cond b a (flip_pivot a c)) (rup_sound st c hs h a m)
+repaired_same st (adds i c hs) a h m = rw (rup_sound st c hs h a m)
 repaired_same st (deletes is) a h m = refl
 
 pub rup_line_keeps : (st su : List Item) (l : Line) (a : ℕ → Bool) → is_rup st l ≡ true → step st l ≡ Some su → IsModel a st → IsModel a su
-rup_line_keeps st su l a r h m = subst (λ b. IsModel b su) (repaired_same st l a r m) (line_repairs st su l h a m)
+rup_line_keeps st su l a r h m = rw (repaired_same st l a r m) at (line_repairs st su l h a m)
