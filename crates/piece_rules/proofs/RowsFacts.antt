@@ -1,5 +1,5 @@
 -- The rows, by computation and by the laws.
-use Rattle.std.proofs.Common.{◌≡◌, ◌==◌, Bool, true, false, not, ◌&&◌, ◌||◌, [], ◌∷◌, refl, sym}
+use Rattle.std.proofs.Common.{◌==◌, true, [], ◌∷◌, refl, sym, arith}
 use Rattle.std.proofs.lemmas.Bool.{false≢true}
 use Rattle.sat_rules.specs.Clauses.{pos}
 use Rattle.lrat_rules.specs.Lines.{adds, against, along}
@@ -7,15 +7,8 @@ use Rattle.cube_rules.specs.Cubes.{IsRefuted}
 use Rattle.piece_rules.specs.Rows.{PieceRows, behind, bound, first, three, whole}
 use Rattle.piece_rules.proofs.Joining.{piece_carries}
 
--- by the two variables
-two_values : (x y : Bool) → ((not x || (y || false)) && ((not x || (not y || false)) && ((x || false) && true))) ≡ false
-two_values true true = refl
-two_values true false = refl
-two_values false true = refl
-two_values false false = refl
-
 bound_refuted : IsRefuted bound
-bound_refuted a = two_values (a 0) (a 1)
+bound_refuted a = grind arith
 
 pub piece_rows : PieceRows
 piece_rows = record {
