@@ -1,25 +1,23 @@
 -- A run that records `unsat` and adds no input clause refutes what held before it.
-use Rattle.std.proofs.Common.{◌≡◌, ◌⊎◌, ◌≤◌, ℕ, suc, Bool, true, false, ltb, List, [], ◌∷◌, map, Option, Some, None, refl, sym, ap, ◌∙◌, subst, arith, inl, inr}
+use Rattle.checker_rules.proofs.Openings.{closing_cases, move_cases, attempt-counted}
+use Rattle.std.proofs.Common.{◌≡◌, ◌⊎◌, ◌≤◌, ℕ, Bool, true, false, ltb, List, [], ◌∷◌, map, Option, None, refl, sym, ap, ◌∙◌, subst, arith, inl, inr}
 use Rattle.std.proofs.lemmas.Bool.{cond_both, or_parts}
 use Rattle.sat_rules.specs.Clauses.{flip}
-use Rattle.checker_rules.specs.AddClause.{step_add_clause}
 use Rattle.checker_rules.specs.AddFormula.{add_clauses}
-use Rattle.checker_rules.specs.Calls.{attempt, close_by, closing_conflict, count_step, step_limit}
+use Rattle.checker_rules.specs.Calls.{attempt, closing_conflict, count_step, step_limit}
 use Rattle.checker_rules.specs.Covers.{Covers}
 use Rattle.checker_rules.specs.Headline.{changed, holds, run}
 use Rattle.checker_rules.specs.Outcome.{Cause, Outcome}
 use Rattle.checker_rules.specs.Refutations.{FormulasAreRefuted, RunsRefute}
-use Rattle.checker_rules.specs.Run.{Runs, Stop, after_attempt, after_read, move}
+use Rattle.checker_rules.specs.Run.{Runs, Stop, move}
 use Rattle.checker_rules.specs.State.{State}
-use Rattle.checker_rules.specs.Step.{Step, add_clause, assumptions, at_clause, change_hash_bits, change_sampling_mode, delete_clause}
-use Rattle.checker_rules.specs.Step.{delete_var, end_proof, failed_assumptions, model, solver_var_name, unit_clauses, user_var_name}
+use Rattle.checker_rules.specs.Step.{Step, add_clause}
+use Rattle.checker_rules.specs.Step.{delete_var}
 use Rattle.checker_rules.specs.Steps.{new_state, step}
-use Rattle.checker_rules.specs.Store.{id_limit}
 use Rattle.checker_rules.proofs.AddedClauses.{formulas_are_fold, members}
 use Rattle.checker_rules.proofs.Inputs.{counted, counts-add}
-use Rattle.checker_rules.proofs.Openings.{attempt-counted}
 use Rattle.checker_rules.proofs.StepKinds.{step-add_clause}
-use Rattle.checker_rules.proofs.WholeRuns.{MoveCovers, empty_where, move_covers}
+use Rattle.checker_rules.proofs.WholeRuns.{empty_where, move_covers}
 
 -- what a move says of the step that it accepts, and of the number of input clauses that it leaves
 abbrev Moved : {X F : Type 0} → State → (Step × X) ⊎ Stop F → Type 0
@@ -31,58 +29,30 @@ unfolding attempt
 counted_attempt s t = cond_both (ltb s.steps step_limit) _ _ (λ (o : Outcome). s.inputs ≤ o.after.inputs) (λ e. counted (count_step s) t) (λ e. omega arith)
 
 counted_closing : (s : State) → s.inputs ≤ (closing_conflict s).after.inputs
-unfolding closing_conflict
-counted_closing s = elim s.conflict as (λ c. s.inputs ≤ (close_by c s).after.inputs) [
-  | None ↦ omega arith
-  | Some pair ↦ cond_both (ltb s.next id_limit) _ _ (λ (o : Outcome). s.inputs ≤ o.after.inputs) (λ e. omega arith) (λ e. omega arith)
-]
+counted_closing s = closing_cases (λ o. s.inputs ≤ o.after.inputs) s (omega arith) (omega arith) (omega arith)
 
 module _ (X F : Type 0) where
   moved : (next : X → (Step × X) ⊎ F) (s : State) (x : X) → Moved s (move next s x)
-  moved next s x =
-      cond_both s.ended _ _ (Moved {X = X} {F = F} s) (λ e. counted_closing s)
-      (λ e. cond_both (ltb s.steps step_limit) _ _ (Moved {X = X} {F = F} s) (λ d. read d (next x)) (λ d. omega arith))
-    where
-      tried : ltb s.steps step_limit ≡ true → (t : Step) (rest : X) (c : Option Cause) → (attempt s t).refused ≡ c → Moved {X = X} {F = F} s (after_attempt c (attempt s t).after t rest)
-      tried d t rest None e = (attempt-counted s t d, ap (λ (o : Outcome). o.refused) (sym (attempt-counted s t d)) ∙ e)
-      tried d t rest (Some c) e = counted_attempt s t
-
-      read : ltb s.steps step_limit ≡ true → (p : (Step × X) ⊎ F) → Moved {X = X} {F = F} s (after_read s p)
-      read d (inl p) = tried d p.0 p.1 (attempt s p.0).refused refl
-      read d (inr f) = omega arith
+  moved next s x = move_cases X F (Moved {X = X} {F = F} s) next s x (counted_closing s) (omega arith) (λ f. omega arith)
+      (λ t rest d e. (attempt-counted s t d, rw (attempt-counted s t d) at e)) (λ t c e. counted_attempt s t)
 
   pub counted_run : (next : X → (Step × X) ⊎ F) (s : State) (x : X) (ts : List Step) (answer : Option (Cause ⊎ F)) (r : State) → Runs next s x ts answer r → s.inputs ≤ r.inputs
-  counted_run next s x [] answer r run = subst (Moved {X = X} {F = F} s) run (moved next s x)
+  counted_run next s x [] answer r run = rw run at (moved next s x)
   counted_run next s x (t ∷ ts) answer r run = let a = counted_attempt s t in let b = counted_run next (attempt s t).after run.0 ts answer r run.2 in omega arith
 
   -- back over one accepted step that adds no input clause
   back : (p : (ℕ → Bool) → Bool) (s : State) (t : Step) → s.unsat ≡ false → (step (count_step s) t).refused ≡ None → (step (count_step s) t).after.inputs ≡ s.inputs
       → ((a : ℕ → Bool) → changed t p a ≡ false) → (a : ℕ → Bool) → p a ≡ false
-  back p s (add_clause c) u h same e a = absurd
-      (more ((counts-add (count_step s) c).1 u (sym (ap (λ (o : Outcome). o.refused) (step-add_clause (count_step s) c)) ∙ h))
-      (ap (λ (o : Outcome). o.after.inputs) (sym (step-add_clause (count_step s) c)) ∙ same))
-    where
-      more : (step_add_clause (count_step s) c).after.inputs ≡ suc s.inputs → (step_add_clause (count_step s) c).after.inputs ≡ s.inputs → ⊥
-      more f g = omega arith
+  back p s (add_clause c) u h same e a = absurd (omega (arith, (counts-add (count_step s) c).1 u (rw step-add_clause at h), rw step-add_clause at same))
   back p s (delete_var x) u h same e a = (or_parts (p a) (p (flip a x)) (e a)).0
-  back p s (solver_var_name x v) u h same e a = e a
-  back p s (user_var_name x n) u h same e a = e a
-  back p s (change_sampling_mode x b) u h same e a = e a
-  back p s (at_clause r c hs) u h same e a = e a
-  back p s (delete_clause j c) u h same e a = e a
-  back p s (unit_clauses us) u h same e a = e a
-  back p s (change_hash_bits n) u h same e a = e a
-  back p s (model m) u h same e a = e a
-  back p s (assumptions c) u h same e a = e a
-  back p s (failed_assumptions c hs) u h same e a = e a
-  back p s end_proof u h same e a = e a
+  back p s _ u h same e a = e a
 
   pub runs_refute : RunsRefute X F
-  runs_refute next p s x [] answer r c run u same a = empty_where p r (subst (MoveCovers {X = X} {F = F} p s) run (move_covers X F next p s x c)) u a
+  runs_refute next p s x [] answer r c run u same a = empty_where p r (rw run at (move_covers X F next p s x c)) u a
   runs_refute next p s x (t ∷ ts) answer r c run u same a =
       let after = (attempt s t).after in
-      let cov : Covers (changed t p) after = subst (MoveCovers {X = X} {F = F} p s) run.1 (move_covers X F next p s x c) in
-      let m : Moved {X = X} {F = F} s (inl (t, run.0)) = subst (Moved {X = X} {F = F} s) run.1 (moved next s x) in
+      let cov : Covers (changed t p) after = rw run.1 at (move_covers X F next p s x c) in
+      let m : Moved {X = X} {F = F} s (inl (t, run.0)) = rw run.1 at (moved next s x) in
       let low = counted_attempt s t in
       let high = counted_run next after run.0 ts answer r run.2 in
       let rest = runs_refute next (changed t p) after run.0 ts answer r cov run.2 u (omega arith) in

@@ -1,5 +1,7 @@
 -- Runs over texts in parts, their moves, and what they emit.
-use Rattle.std.proofs.Common.{◌≡◌, ◌⊎◌, Bool, true, false, cond, ltb, List, [], ◌∷◌, ◌++◌, map, Option, Some, None, refl, sym, ap, ◌∙◌, subst, inl, inr}
+use Rattle.std.proofs.lemmas.List.{append-nil, append_assoc}
+use Rattle.checker_rules.proofs.Openings.{inl_same}
+use Rattle.std.proofs.Common.{◌≡◌, ◌⊎◌, true, false, ltb, List, [], ◌∷◌, ◌++◌, map, Option, Some, None, refl, sym, ap, ◌∙◌, subst, inl, inr, arith}
 use Rattle.sat_rules.specs.Named.{Machine}
 use Rattle.checker_rules.specs.CallEmissions.{EmitsCalls}
 use Rattle.checker_rules.specs.Calls.{Call, answer_of, attempt, calls_after, checks, closes, closing_conflict, step_limit}
@@ -10,7 +12,7 @@ use Rattle.checker_rules.specs.Machine.{Mirrors}
 use Rattle.checker_rules.specs.Outcome.{Cause, steps_exhausted}
 use Rattle.checker_rules.specs.Reaching.{MovesAre, Reaches, RunsJoin}
 use Rattle.checker_rules.specs.Run.{Runs, Stop, after_attempt, after_read, as_answer, move}
-use Rattle.checker_rules.specs.RunEmissions.{EmissionsJoin, EmitsRun, RunsRunMachine, last_calls, read_calls}
+use Rattle.checker_rules.specs.RunEmissions.{EmissionsJoin, EmitsRun, RunsRunMachine, last_calls}
 use Rattle.checker_rules.specs.State.{State}
 use Rattle.checker_rules.specs.Step.{Step}
 use Rattle.checker_rules.specs.WellFormed.{WellFormed}
@@ -19,24 +21,18 @@ use Rattle.checker_rules.proofs.DeletedVars.{hints-append}
 use Rattle.checker_rules.proofs.Emissions.{after-append, run-append}
 
 assoc : (xs ys zs : List NamedStep) → (xs ++ ys) ++ zs ≡ xs ++ (ys ++ zs)
-assoc [] ys zs = refl
-assoc (x ∷ xs) ys zs = ap (λ r. x ∷ r) (assoc xs ys zs)
+assoc xs ys zs = append_assoc xs ys zs
 
 module _ (X F : Type 0) where
   -- one move
   move-ended : (next : X → (Step × X) ⊎ F) (s : State) (x : X) → s.ended ≡ true → move next s x ≡ inr (as_answer (closing_conflict s).refused, (closing_conflict s).after)
-  move-ended next s x e = ap (λ b. cond b (inr (as_answer (closing_conflict s).refused, (closing_conflict s).after))
-      (cond (ltb s.steps step_limit) (after_read s (next x)) (inr (Some (inl steps_exhausted), s)))) e
-
-  move-open : (next : X → (Step × X) ⊎ F) (s : State) (x : X) → s.ended ≡ false → move next s x ≡ cond (ltb s.steps step_limit) (after_read s (next x)) (inr (Some (inl steps_exhausted), s))
-  move-open next s x e = ap (λ b. cond b (inr (as_answer (closing_conflict s).refused, (closing_conflict s).after))
-      (cond (ltb s.steps step_limit) (after_read s (next x)) (inr (Some (inl steps_exhausted), s)))) e
+  move-ended next s x e = rw e
 
   move-exhausted : (next : X → (Step × X) ⊎ F) (s : State) (x : X) → s.ended ≡ false → ltb s.steps step_limit ≡ false → move next s x ≡ inr (Some (inl steps_exhausted), s)
-  move-exhausted next s x e h = move-open next s x e ∙ ap (λ b. cond b (after_read s (next x)) (inr (Some (inl steps_exhausted), s))) h
+  move-exhausted next s x e h = rw (e, h)
 
   move-read : (next : X → (Step × X) ⊎ F) (s : State) (x : X) (p : (Step × X) ⊎ F) → s.ended ≡ false → ltb s.steps step_limit ≡ true → next x ≡ p → move next s x ≡ after_read s p
-  move-read next s x p e h k = move-open next s x e ∙ ap (λ b. cond b (after_read s (next x)) (inr (Some (inl steps_exhausted), s))) h ∙ ap (after_read s) k
+  move-read next s x p e h k = rw (e, h, k)
 
   move-refused : (next : X → (Step × X) ⊎ F) (s : State) (x : X) (t : Step) (rest : X) (cause : Cause) → s.ended ≡ false → ltb s.steps step_limit ≡ true → next x ≡ inl (t, rest) →
       (attempt s t).refused ≡ Some cause → move next s x ≡ inr (Some (inl cause), (attempt s t).after)
@@ -52,12 +48,12 @@ module _ (X F : Type 0) where
   -- parts of a run
   reached : (next : X → (Step × X) ⊎ F) (s : State) (x : X) (ts : List Step) (r : State) (y : X) (us : List Step) (q : State) (z : X) →
       Reaches next s x ts r y → Reaches next r y us q z → Reaches next s x (ts ++ us) q z
-  reached next s x [] r y us q z h k = subst (λ v. Reaches next v x us q z) (sym h.0) (subst (λ v. Reaches next r v us q z) (sym h.1) k)
+  reached next s x [] r y us q z h k = rw (h.0, h.1) k
   reached next s x (t ∷ ts) r y us q z h k = (h.0, h.1, reached next (attempt s t).after h.0 ts r y us q z h.2 k)
 
   ends : (next : X → (Step × X) ⊎ F) (s : State) (x : X) (ts : List Step) (r : State) (y : X) (us : List Step) (answer : Option (Cause ⊎ F)) (q : State) →
       Reaches next s x ts r y → Runs next r y us answer q → Runs next s x (ts ++ us) answer q
-  ends next s x [] r y us answer q h k = subst (λ v. Runs next v x us answer q) (sym h.0) (subst (λ v. Runs next r v us answer q) (sym h.1) k)
+  ends next s x [] r y us answer q h k = rw (h.0, h.1) k
   ends next s x (t ∷ ts) r y us answer q h k = (h.0, h.1, ends next (attempt s t).after h.0 ts r y us answer q h.2 k)
 
   state : (next : X → (Step × X) ⊎ F) (s : State) (x : X) (ts : List Step) (r : State) (y : X) → Reaches next s x ts r y → r ≡ calls_after s (map checks ts)
@@ -75,7 +71,7 @@ module _ (X F : Type 0) where
 
   -- what parts emit
   calls : (s : State) (first second : List Call) (xs ys : List NamedStep) → EmitsCalls s first xs → EmitsCalls (calls_after s first) second ys → EmitsCalls s (first ++ second) (xs ++ ys)
-  calls s [] second xs ys h k = subst (λ l. EmitsCalls s second (l ++ ys)) (sym h) k
+  calls s [] second xs ys h k = rw h k
   calls s (call ∷ first) second xs ys h k = (
     h.0,
     h.1 ++ ys,
@@ -86,7 +82,7 @@ module _ (X F : Type 0) where
 
   emits_ends : (next : X → (Step × X) ⊎ F) (s : State) (x : X) (ts : List Step) (r : State) (y : X) (us : List Step) (xs ys : List NamedStep) →
       Reaches next s x ts r y → EmitsCalls s (map checks ts) xs → EmitsRun next r y us ys → EmitsRun next s x (ts ++ us) (xs ++ ys)
-  emits_ends next s x [] r y us xs ys h e k = subst (λ l. EmitsRun next s x us (l ++ ys)) (sym e) (subst (λ v. EmitsRun next v x us ys) (sym h.0) (subst (λ v. EmitsRun next r v us ys) (sym h.1) k))
+  emits_ends next s x [] r y us xs ys h e k = rw (e, h.0, h.1) k
   emits_ends next s x (t ∷ ts) r y us xs ys h e k = (
     h.0,
     h.1,
@@ -110,54 +106,13 @@ module _ (X F : Type 0) where
 
   -- the last move, over its cases
   last_kept : (next : X → (Step × X) ⊎ F) (m : Machine) (s : State) (x : X) (es : List NamedStep) → Mirrors m s → WellFormed s → EmitsCalls s (last_calls next s x) es → MoveKept m es (move next s x)
-  last_kept next m s x es t w = by_end s.ended
-    where
-      silent : es ≡ [] → Kept m es s
-      silent e = subst (λ l. Kept m l s) (sym e) (tt, t, w)
-
-      by_answer : (u : Step) (rest : X) (c : Option Cause) → EmitsCalls s (checks u ∷ []) es → MoveKept m es (after_attempt c (attempt s u).after u rest)
-      by_answer u rest None em = tt
-      by_answer u rest (Some cause) em = calls_run_machine m s (checks u ∷ []) es t w em
-
-      by_read : (p : (Step × X) ⊎ F) → EmitsCalls s (read_calls p) es → MoveKept m es (after_read s p)
-      by_read (inl p) em = by_answer p.0 p.1 (attempt s p.0).refused em
-      by_read (inr f) em = silent em
-
-      by_count : (b : Bool) → EmitsCalls s (cond b (read_calls (next x)) []) es → MoveKept m es (cond b (after_read s (next x)) (inr (Some (inl steps_exhausted), s)))
-      by_count true em = by_read (next x) em
-      by_count false em = silent em
-
-      by_end : (b : Bool) → EmitsCalls s (cond b (closes ∷ []) (cond (ltb s.steps step_limit) (read_calls (next x)) [])) es
-          → MoveKept m es (cond b (inr (as_answer (closing_conflict s).refused, (closing_conflict s).after))
-          (cond (ltb s.steps step_limit) (after_read s (next x)) (inr (Some (inl steps_exhausted), s))))
-      by_end true em = calls_run_machine m s (closes ∷ []) es t w em
-      by_end false em = by_count (ltb s.steps step_limit) em
+  last_kept next m s x es t w em = let silent : Kept m [] s = (tt, t, w) in
+      grind (arith, silent, calls_run_machine m s (closes ∷ []) es t w, λ (u : Step). calls_run_machine m s (checks u ∷ []) es t w)
 
   pub runs_run_machine : RunsRunMachine X F
   runs_run_machine next m s x [] answer r es t w run em = subst (MoveKept m es) run (last_kept next m s x es t w em)
   runs_run_machine next m s x (u ∷ us) answer r es t w run em =
-      let k = calls_run_machine m s (checks u ∷ []) em.2 t w (em.2, [], em.4, refl, sym (none_more em.2)) in
-      let q = runs_run_machine next (machine_after m (hint_steps em.2)) (attempt s u).after run.0 us answer r em.3 k.1 k.2 run.2 (subst (λ y. EmitsRun next (attempt s u).after y us em.3) same em.5) in
-      subst (λ l. Kept m l r) (sym em.6)
-      (subst (λ z. IsRun m z × Mirrors (machine_after m z) r × WellFormed r) (sym (hints-append em.2 em.3)) (
-        run-append m (hint_steps em.2) (hint_steps em.3) k.0 q.0,
-        subst (λ z. Mirrors z r) (sym (after-append m (hint_steps em.2) (hint_steps em.3))) q.1,
-        q.2,
-      ))
-    where
-      none_more : (xs : List NamedStep) → xs ++ [] ≡ xs
-      none_more [] = refl
-      none_more (x ∷ xs) = ap (λ l. x ∷ l) (none_more xs)
-
-      eq : (Step × X) ⊎ Stop F → (Step × X) ⊎ Stop F → Type 0
-      eq a b = a ≡ b
-
-      rests : eq (inl (u, em.0)) (inl (u, run.0)) → em.0 ≡ run.0
-      rests e = ap (λ z. (read z).1) e
-        where
-          read : (Step × X) ⊎ Stop F → Step × X
-          read (inl z) = z
-          read (inr z) = (u, em.0)
-
-      same : em.0 ≡ run.0
-      same = rests (sym em.1 ∙ run.1)
+      let k = calls_run_machine m s (checks u ∷ []) em.2 t w (em.2, [], em.4, refl, sym (append-nil em.2)) in
+      let same = ap (λ p. p.1) (inl_same (u, em.0) (u, run.0) (sym em.1 ∙ run.1)) in
+      let q = runs_run_machine next (machine_after m (hint_steps em.2)) (attempt s u).after run.0 us answer r em.3 k.1 k.2 run.2 (rw same at em.5) in
+      rw (em.6, hints-append) (run-append m (hint_steps em.2) (hint_steps em.3) k.0 q.0, rw after-append q.1, q.2)

@@ -1,10 +1,11 @@
 -- Steps, calls and runs leave sound states.
-use Rattle.std.proofs.Common.{◌⊎◌, ltb, List, [], ◌∷◌, Option, Some, None, subst, inl, inr}
+use Rattle.checker_rules.proofs.Openings.{move_cases}
+use Rattle.std.proofs.Common.{◌⊎◌, ltb, List, [], ◌∷◌, inl, inr}
 use Rattle.std.proofs.lemmas.Bool.{cond_both}
 use Rattle.checker_rules.specs.Calls.{Call, adds, answer_of, attempt, calls_after, checks, closes, closing_conflict, count_step, step_limit}
 use Rattle.checker_rules.specs.Headline.{run}
-use Rattle.checker_rules.specs.Outcome.{Cause, Outcome}
-use Rattle.checker_rules.specs.Run.{Stop, after_attempt, after_read, move}
+use Rattle.checker_rules.specs.Outcome.{Outcome}
+use Rattle.checker_rules.specs.Run.{Stop, move}
 use Rattle.checker_rules.specs.Sound.{RunsStaySound, Sound, StatesStaySound}
 use Rattle.checker_rules.specs.State.{State}
 use Rattle.checker_rules.specs.Step.{Step, add_clause}
@@ -50,22 +51,12 @@ MoveSound s (inl p) = Sound (attempt s p.0).after
 MoveSound s (inr p) = Sound p.1
 
 sound_move : (X F : Type 0) (next : X → (Step × X) ⊎ F) (s : State) (x : X) → Sound s → MoveSound s (move next s x)
-sound_move X F next s x h =
-    cond_both s.ended _ _ (MoveSound {X = X} {F = F} s) (λ e. sound_closing s h)
-    (λ e. cond_both (ltb s.steps step_limit) _ _ (MoveSound {X = X} {F = F} s) (λ d. read (next x)) (λ d. h))
-  where
-    tried : (t : Step) (rest : X) (c : Option Cause) → MoveSound {X = X} {F = F} s (after_attempt c (attempt s t).after t rest)
-    tried t rest None = sound_attempt s t h
-    tried t rest (Some c) = sound_attempt s t h
-
-    read : (p : (Step × X) ⊎ F) → MoveSound {X = X} {F = F} s (after_read s p)
-    read (inl p) = tried p.0 p.1 (attempt s p.0).refused
-    read (inr f) = sound-count_step s h
+sound_move X F next s x h = move_cases X F (MoveSound {X = X} {F = F} s) next s x (sound_closing s h) h (λ f. sound-count_step s h) (λ t rest d e. sound_attempt s t h) (λ t c e. sound_attempt s t h)
 
 pub runs_stay_sound : (X F : Type 0) → RunsStaySound X F
-runs_stay_sound X F next s x [] answer r h run = subst (MoveSound {X = X} {F = F} s) run (sound_move X F next s x h)
+runs_stay_sound X F next s x [] answer r h run = rw run at (sound_move X F next s x h)
 runs_stay_sound X F next s x (t ∷ ts) answer r h run =
-    runs_stay_sound X F next (attempt s t).after run.0 ts answer r (subst (MoveSound {X = X} {F = F} s) run.1 (sound_move X F next s x h)) run.2
+    runs_stay_sound X F next (attempt s t).after run.0 ts answer r (rw run.1 at (sound_move X F next s x h)) run.2
 
 pub states_stay_sound : StatesStaySound
 states_stay_sound = record {

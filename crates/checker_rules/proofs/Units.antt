@@ -1,6 +1,6 @@
 -- Units by their variables: ids below a bound, and the unit that a recorded conflict is on.
-use Rattle.std.proofs.Common.{◌≡◌, ◌⊎◌, ℕ, zero, suc, ◌+◌, true, false, List, [], ◌∷◌, ◌++◌, set, replicate, Option, Some, None, refl, sym, ap, ◌∙◌, arith, inl, inr, eq-eqb}
-use Rattle.std.proofs.lemmas.Bool.{or_cases, or_left, or_right, false≢true, true≢false, ltb-true, lt-ltb, eqb-true}
+use Rattle.std.proofs.Common.{◌≡◌, ◌⊎◌, ℕ, zero, suc, ◌+◌, true, false, List, [], ◌∷◌, ◌++◌, set, replicate, Option, Some, None, refl, ap, ◌∙◌, arith, inl, inr, eq-eqb}
+use Rattle.std.proofs.lemmas.Bool.{or_cases, or_left, or_right, false≢true, ltb-true, lt-ltb, eqb-true}
 use Rattle.checker_rules.specs.DeleteVar.{is_conflict_on, is_unit_with}
 use Rattle.checker_rules.specs.State.{StoredUnit, unit_of}
 use Rattle.checker_rules.specs.WellFormed.{conflict_stands, has_unit, is_unit_below}
@@ -20,18 +20,12 @@ below_later n (Some u) h = lt-ltb u.id (n + 1) (let k = ltb-true u.id n h in ome
 
 pub below_set : (us : List (Option StoredUnit)) (n x : ℕ) (u : Option StoredUnit) → ((v : ℕ) → is_unit_below n (unit_of us v) ≡ true) →
     is_unit_below n u ≡ true → (v : ℕ) → is_unit_below n (unit_of (set us x u) v) ≡ true
-below_set us n x u h k v = elim (get_set us x u v) [
-  | inl e ↦ ap (is_unit_below n) e.1 ∙ k
-  | inr e ↦ ap (is_unit_below n) e ∙ h v
-]
+below_set us n x u h k v = grind (arith, get_set us x u v, h v)
 
 -- the variable whose unit has an id
 pub unit_at : (id : ℕ) (us : List (Option StoredUnit)) → has_unit id us ≡ true → (v : ℕ) × (is_unit_with id (unit_of us v) ≡ true)
 unit_at id [] h = absurd (false≢true h)
-unit_at id (u ∷ us) h = elim (or_cases (is_unit_with id u) (has_unit id us) h) [
-  | inl k ↦ (0, k)
-  | inr k ↦ let r = unit_at id us k in (suc r.0, r.1)
-]
+unit_at id (u ∷ us) h = elim (or_cases (is_unit_with id u) (has_unit id us) h) [ inl k ↦ (0, k) | inr k ↦ let r = unit_at id us k in (suc r.0, r.1) ]
 
 pub unit_from : (id : ℕ) (us : List (Option StoredUnit)) (v : ℕ) → is_unit_with id (unit_of us v) ≡ true → has_unit id us ≡ true
 unit_from id [] v h = absurd (false≢true h)
@@ -40,10 +34,7 @@ unit_from id (u ∷ us) (suc v) h = or_right (is_unit_with id u) (has_unit id us
 
 -- another unit in place of one without the id
 unit_kept : (id : ℕ) (us : List (Option StoredUnit)) (x : ℕ) (w : Option StoredUnit) → is_unit_with id (unit_of us x) ≡ false → has_unit id us ≡ true → has_unit id (set us x w) ≡ true
-unit_kept id us x w off h = let r = unit_at id us h in elim (get_set us x w r.0) [
-  | inl e ↦ absurd (true≢false (sym r.1 ∙ ap (λ v. is_unit_with id (unit_of us v)) e.0 ∙ off))
-  | inr e ↦ unit_from id (set us x w) r.0 (ap (is_unit_with id) e ∙ r.1)
-]
+unit_kept id us x w off h = let r = unit_at id us h in grind (arith, r.1, get_set us x w r.0, unit_from id (set us x w) r.0)
 
 -- the conflict goes on standing: a unit set off it, more variables known, a conflict recorded
 pub stands_set : (us : List (Option StoredUnit)) (x : ℕ) (w : Option StoredUnit) (conflict : Option (ℕ × ℕ)) →

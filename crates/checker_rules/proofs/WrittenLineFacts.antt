@@ -1,19 +1,20 @@
 -- The lines that a writer writes of a run are accepted by a checker of hints that holds the formula.
 --     Same c d      lists of the same literals
 --     Matches n k w m h      the map of the hint machine and that of the checker of hints, by the numbers of a writer
-use Rattle.std.proofs.Common.{◌≡◌, ℕ, suc, ◌+◌, ◌<◌, ◌≤◌, Bool, true, false, cond, ◌&&◌, ◌||◌, eqb, ltb, List, [], ◌∷◌}
+use Rattle.checker_rules.proofs.Canonicals.{all-canonical, any-canonical}
+use Rattle.std.proofs.Common.{◌≡◌, ℕ, suc, ◌+◌, ◌<◌, ◌≤◌, Bool, true, false, cond, ◌||◌, eqb, ltb, List, [], ◌∷◌}
 use Rattle.std.proofs.Common.{◌++◌, length, map, Option, Some, None, refl, sym, ap, ◌∙◌, subst, arith, length-append}
 use Rattle.std.specs.Prelude.{take, drop}
 use Rattle.std.specs.List.{list_any, list_all}
-use Rattle.std.proofs.lemmas.Bool.{eqb-true, eqb-false, lt-ltb, le-ltb, ltb-true, ltb-false, false≢true, ne_eqb}
+use Rattle.std.proofs.lemmas.Bool.{eqb-true, le-ltb, false≢true}
 use Rattle.std.proofs.lemmas.List.{take-append-drop}
 use Rattle.std.proofs.lemmas.Option.{none-some}
 use Rattle.sat_rules.specs.Clauses.{IsChain, add_lit, is_unit_on, negate}
 use Rattle.sat_rules.specs.HintLines.{Follows, Listed, adds_clause, after_line, deletes_clauses, line_cause, list_from, listing}
 use Rattle.sat_rules.specs.Named.{IsAdmitted, Machine, NamedBy, drop_id, negated_set, put_id}
-use Rattle.sat_rules.proofs.HintLineFacts.{passes, some-same}
+use Rattle.sat_rules.proofs.HintLineFacts.{passes}
 use Rattle.checker_rules.specs.CallEmissions.{empty_machine}
-use Rattle.checker_rules.specs.Canonical.{canonical, insert_lit}
+use Rattle.checker_rules.specs.Canonical.{canonical}
 use Rattle.checker_rules.specs.FormulaEmissions.{input_steps}
 use Rattle.checker_rules.specs.HintRun.{HintStep, IsRun, fails_core, lowers, puts_derived, puts_input, removes}
 use Rattle.checker_rules.specs.WrittenLines.{LinesFollow, Writer, after_written, lines_of, new_writer, no_input, number_of}
@@ -26,54 +27,8 @@ pub record Same (c d : List ℕ) : Type 0 where
 same_itself : (c : List ℕ) → Same c c
 same_itself c = record { all = λ p. refl; any = λ p. refl }
 
-and_twice : (a b : Bool) → (a && b) ≡ (a && (a && b))
-and_twice true b = refl
-and_twice false b = refl
-
-and_swap : (a b c : Bool) → (b && (a && c)) ≡ (a && (b && c))
-and_swap true true c = refl
-and_swap true false c = refl
-and_swap false true c = refl
-and_swap false false c = refl
-
-or_twice : (a b : Bool) → (a || b) ≡ (a || (a || b))
-or_twice true b = refl
-or_twice false b = refl
-
-or_swap : (a b c : Bool) → (b || (a || c)) ≡ (a || (b || c))
-or_swap true true c = refl
-or_swap true false c = refl
-or_swap false true c = refl
-or_swap false false c = refl
-
-all_insert : (p : ℕ → Bool) (l : ℕ) (c : List ℕ) → list_all p (insert_lit l c) ≡ (p l && list_all p c)
-all_insert p l [] = refl
-all_insert p l (m ∷ ms) = go (all_insert p l ms) (ltb l m) (eqb l m) refl
-  where
-    go : list_all p (insert_lit l ms) ≡ (p l && list_all p ms) → (b e : Bool) → eqb l m ≡ e → list_all p (cond b (l ∷ m ∷ ms) (cond e (m ∷ ms) (m ∷ insert_lit l ms))) ≡ (p l && (p m && list_all p ms))
-    go rest true e h = refl
-    go rest false true h = rw (eqb-true l m h) (and_twice (p m) (list_all p ms))
-    go rest false false h = ap (λ x. p m && x) rest ∙ and_swap (p l) (p m) (list_all p ms)
-
-any_insert : (p : ℕ → Bool) (l : ℕ) (c : List ℕ) → list_any p (insert_lit l c) ≡ (p l || list_any p c)
-any_insert p l [] = refl
-any_insert p l (m ∷ ms) = go (any_insert p l ms) (ltb l m) (eqb l m) refl
-  where
-    go : list_any p (insert_lit l ms) ≡ (p l || list_any p ms) → (b e : Bool) → eqb l m ≡ e → list_any p (cond b (l ∷ m ∷ ms) (cond e (m ∷ ms) (m ∷ insert_lit l ms))) ≡ (p l || (p m || list_any p ms))
-    go rest true e h = refl
-    go rest false true h = rw (eqb-true l m h) (or_twice (p m) (list_any p ms))
-    go rest false false h = ap (λ x. p m || x) rest ∙ or_swap (p l) (p m) (list_any p ms)
-
-all_canonical : (p : ℕ → Bool) (c : List ℕ) → list_all p (canonical c) ≡ list_all p c
-all_canonical p [] = refl
-all_canonical p (l ∷ ls) = all_insert p l (canonical ls) ∙ ap (λ x. p l && x) (all_canonical p ls)
-
-any_canonical : (p : ℕ → Bool) (c : List ℕ) → list_any p (canonical c) ≡ list_any p c
-any_canonical p [] = refl
-any_canonical p (l ∷ ls) = any_insert p l (canonical ls) ∙ ap (λ x. p l || x) (any_canonical p ls)
-
 same_canonical : (c : List ℕ) → Same (canonical c) c
-same_canonical c = record { all = λ p. all_canonical p c; any = λ p. any_canonical p c }
+same_canonical c = record { all = λ p. all-canonical p c; any = λ p. any-canonical p c }
 
 -- a chain of clauses with the same literals
 abbrev AllSame : List (List ℕ) → List (List ℕ) → Type 0
@@ -83,7 +38,7 @@ AllSame (c ∷ cs) [] = ⊥
 AllSame (c ∷ cs) (d ∷ ds) = Same c d × AllSame cs ds
 
 same_unit : (s : ℕ → Bool) (c d : List ℕ) (l : ℕ) → Same c d → is_unit_on s c l ≡ is_unit_on s d l
-same_unit s c d l h = rw (h.any (eqb l)) (rw (h.all (λ m. eqb m l || s (negate m))) refl)
+same_unit s c d l h = rw (h.any (eqb l), h.all (λ m. eqb m l || s (negate m)))
 
 same_chain : (s : ℕ → Bool) (cs ds : List (List ℕ)) → AllSame cs ds → IsChain s cs → IsChain s ds
 same_chain s [] [] h w = w
@@ -100,16 +55,7 @@ number n k i = cond (ltb i k) (suc i) (n + suc i)
 
 -- different ids have different numbers
 number_apart : (n k i j : ℕ) → k ≤ n → eqb i j ≡ false → eqb (number n k i) (number n k j) ≡ false
-number_apart n k i j few h = go (ltb i k) (ltb j k) refl refl
-  where
-    apart : i ≡ j → ⊥
-    apart = eqb-false i j h
-
-    go : (b d : Bool) → ltb i k ≡ b → ltb j k ≡ d → eqb (cond b (suc i) (n + suc i)) (cond d (suc j) (n + suc j)) ≡ false
-    go true true x y = ne_eqb _ _ (λ e. apart (omega arith))
-    go true false x y = ne_eqb _ _ (λ e. let p = ltb-true i k x in omega arith)
-    go false true x y = ne_eqb _ _ (λ e. let p = ltb-true j k y in omega arith)
-    go false false x y = ne_eqb _ _ (λ e. apart (omega arith))
+number_apart n k i j few h = grind arith
 
 -- what an id names for the hint machine, its number names for the checker of hints
 abbrev Matched : (ℕ → Option (List ℕ)) → ℕ → List ℕ → Type 0
@@ -126,7 +72,7 @@ pub record Matches (n k : ℕ) (w : Writer) (m : Machine) (h : Listed) : Type 0 
 
 -- the writer's number is that of the place
 writer_number : (n k : ℕ) (w : Writer) (m : Machine) (h : Listed) → Matches n k w m h → (i : ℕ) → number_of w i ≡ number n k i
-writer_number n k w m h r i = rw (r.inputs i) (rw r.announced refl)
+writer_number n k w m h r i = rw (r.inputs i, r.announced)
 
 -- named clauses have their like under the numbers
 named_like : (n k : ℕ) (w : Writer) (m : Machine) (h : Listed) → Matches n k w m h → (ids : List ℕ) (cs : List (List ℕ)) → NamedBy m.named ids cs →
@@ -144,38 +90,34 @@ addition_accepted : (n k : ℕ) (w : Writer) (m : Machine) (h : Listed) (i : ℕ
     line_cause h (adds_clause (w.announced + suc i) c (map (number_of w) ids)) ≡ None
 addition_accepted n k w m h i c ids r low a =
     let like = named_like n k w m h r ids a.0 a.1 in
-    let high : h.machine.above ≤ w.announced + suc i = let p = r.next in let q = r.announced in omega arith in
-    rw (le-ltb (w.announced + suc i) h.machine.above high)
+    rw (le-ltb (w.announced + suc i) h.machine.above (omega (arith, r.next, r.announced)))
     (passes h.machine.named (negated_set c) (map (number_of w) ids) like.0 like.1 (same_chain (negated_set c) a.0 like.0 like.2 a.2))
 
 -- both maps after an addition
 matches_put : (n k : ℕ) (w : Writer) (m : Machine) (h : Listed) (i : ℕ) (c ids : List ℕ) → Matches n k w m h → m.above ≤ i →
     Matches n k (after_written w (puts_derived i c ids)) (put_id i c m) (after_line h (adds_clause (w.announced + suc i) c (map (number_of w) ids)))
 matches_put n k w m h i c ids r low =
-    let fresh : ltb i k ≡ false = le-ltb i k (let p = r.above in omega arith) in
+    let fresh : ltb i k ≡ false = le-ltb i k (omega arith) in
     let here : number n k i ≡ w.announced + suc i = rw fresh (ap (λ x. x + suc i) (sym r.announced)) in
     record {
       announced = r.announced;
       inputs = r.inputs;
       few = r.few;
-      above = let p = r.above in omega arith;
-      next = let p = r.announced in omega arith;
-      below = λ j d e. below j d (eqb j i) refl e;
+      above = omega arith;
+      next = omega arith;
+      below = λ j d e. grind (arith, r.below j d);
       names = λ j d e. names here j d (eqb j i) refl e;
     }
   where
-    below : (j : ℕ) (d : List ℕ) (b : Bool) → eqb j i ≡ b → cond b (Some c) (m.named j) ≡ Some d → j < suc i
-    below j d true x e = let p = eqb-true j i x in omega arith
-    below j d false x e = let p = r.below j d e in omega arith
-
     names : number n k i ≡ w.announced + suc i → (j : ℕ) (d : List ℕ) (b : Bool) → eqb j i ≡ b → cond b (Some c) (m.named j) ≡ Some d →
         Matched (put_id (w.announced + suc i) c h.machine).named (number n k j) d
     names here j d true x e =
-        let at : eqb (number n k j) (w.announced + suc i) ≡ true = rw (eqb-true j i x) (rw here (grind arith)) in
-        (c, rw at refl, subst (λ y. Same y c) (some-same c d e) (same_itself c))
+        let at : eqb (number n k j) (w.announced + suc i) ≡ true = rw (eqb-true j i x, here) (grind arith) in
+        let same : c ≡ d = cc in
+        (c, rw at, rw (← same) (same_itself c))
     names here j d false x e =
         let old = r.names j d e in
-        let other : eqb (number n k j) (w.announced + suc i) ≡ false = subst (λ y. eqb (number n k j) y ≡ false) here (number_apart n k j i r.few x) in
+        let other : eqb (number n k j) (w.announced + suc i) ≡ false = rw here at (number_apart n k j i r.few x) in
         (old.0, rw other old.1, old.2)
 
 -- both maps after a deletion
@@ -186,20 +128,9 @@ matches_drop n k w m h l i r = record {
   few = r.few;
   above = r.above;
   next = r.next;
-  below = λ j d e. below j d (eqb j i) e;
-  names = λ j d e. names j d (eqb j i) refl e;
+  below = λ j d e. grind (arith, r.below j d);
+  names = λ j d e. grind (arith, r.names j d, number_apart n k j i r.few, writer_number n k w m h r i);
 }
-  where
-    below : (j : ℕ) (d : List ℕ) (b : Bool) → cond b None (m.named j) ≡ Some d → j < m.above
-    below j d true e = absurd (none-some d e)
-    below j d false e = r.below j d e
-
-    names : (j : ℕ) (d : List ℕ) (b : Bool) → eqb j i ≡ b → cond b None (m.named j) ≡ Some d → Matched (drop_id (number_of w i) h.machine).named (number n k j) d
-    names j d true x e = absurd (none-some d e)
-    names j d false x e =
-        let old = r.names j d e in
-        let other : eqb (number n k j) (number_of w i) ≡ false = rw (writer_number n k w m h r i) (number_apart n k j i r.few x) in
-        (old.0, rw other old.1, old.2)
 
 -- the steps after the input clauses
 steps_follow : (n k : ℕ) (es : List HintStep) (w : Writer) (m : Machine) (h : Listed) → Matches n k w m h → no_input es ≡ true → IsRun m es → (l : Listed) × Follows h (lines_of w es) l
@@ -224,14 +155,11 @@ StandFrom f i (c ∷ cs) = (f i ≡ Some c) × StandFrom f (suc i) cs
 
 later_kept : (cs : List (List ℕ)) (i : ℕ) (m : Machine) (j : ℕ) → j < i → (list_from i cs m).named j ≡ m.named j
 later_kept [] i m j h = refl
-later_kept (c ∷ cs) i m j h = later_kept cs (suc i) (put_id i c m) j (omega arith) ∙ rw (ne_eqb j i (λ e. omega arith)) refl
+later_kept (c ∷ cs) i m j h = later_kept cs (suc i) (put_id i c m) j (omega arith) ∙ grind arith
 
 listed_stand : (cs : List (List ℕ)) (i : ℕ) (m : Machine) → StandFrom (list_from i cs m).named i cs
 listed_stand [] i m = tt
-listed_stand (c ∷ cs) i m = (later_kept cs (suc i) (put_id i c m) i (omega arith) ∙ rw (eqb-same i) refl, listed_stand cs (suc i) (put_id i c m))
-  where
-    eqb-same : (x : ℕ) → eqb x x ≡ true
-    eqb-same x = grind arith
+listed_stand (c ∷ cs) i m = (later_kept cs (suc i) (put_id i c m) i (omega arith) ∙ grind arith, listed_stand cs (suc i) (put_id i c m))
 
 front_stand : (f : ℕ → Option (List ℕ)) (xs ys : List (List ℕ)) (i : ℕ) → StandFrom f i (xs ++ ys) → StandFrom f i xs
 front_stand f [] ys i h = tt
@@ -246,38 +174,13 @@ matches_input : (n j : ℕ) (w : Writer) (m : Machine) (h : Listed) (y : List �
     Matches n (j + 1) (after_written w (puts_input j (canonical y))) (put_id j (canonical y) m) h
 matches_input n j w m h y r exact stands low = record {
   announced = r.announced;
-  inputs = λ i. inputs i (eqb i j) refl;
+  inputs = λ i. grind (arith, r.inputs i);
   few = omega arith;
   above = omega arith;
   next = let p = r.next in let q = exact in omega arith;
-  below = λ i c e. below i c (eqb i j) refl e;
-  names = λ i c e. names i c (eqb i j) refl e;
+  below = λ i c e. grind (arith, r.below i c);
+  names = λ i c e. grind (arith, exact, stands, r.names i c, r.below i c, same_canonical y);
 }
-  where
-    inputs : (i : ℕ) (b : Bool) → eqb i j ≡ b → (b || w.inputs i) ≡ ltb i (j + 1)
-    inputs i true x = sym (lt-ltb i (j + 1) (let p = eqb-true i j x in omega arith))
-    inputs i false x = r.inputs i ∙ same (ltb i j) refl
-      where
-        same : (b : Bool) → ltb i j ≡ b → b ≡ ltb i (j + 1)
-        same true e = sym (lt-ltb i (j + 1) (let p = ltb-true i j e in omega arith))
-        same false e = sym (le-ltb i (j + 1) (let p = ltb-false i j e in let q = eqb-false i j x in omega arith))
-
-    below : (i : ℕ) (c : List ℕ) (b : Bool) → eqb i j ≡ b → cond b (Some (canonical y)) (m.named i) ≡ Some c → i < suc j
-    below i c true x e = let p = eqb-true i j x in omega arith
-    below i c false x e = let p = r.below i c e in let q = exact in omega arith
-
-    names : (i : ℕ) (c : List ℕ) (b : Bool) → eqb i j ≡ b → cond b (Some (canonical y)) (m.named i) ≡ Some c → Matched h.machine.named (number n (j + 1) i) c
-    names i c true x e =
-        let place : i ≡ j = eqb-true i j x in
-        let early : ltb i (j + 1) ≡ true = lt-ltb i (j + 1) (omega arith) in
-        (y, rw early (ap (λ z. h.machine.named (suc z)) place ∙ stands), subst (λ z. Same z y) (some-same (canonical y) c e) (same_canonical y))
-    names i c false x e =
-        let old = r.names i c e in
-        let low_before : i < j = let p = r.below i c e in let q = exact in omega arith in
-        let before : ltb i j ≡ true = lt-ltb i j low_before in
-        let after : ltb i (j + 1) ≡ true = lt-ltb i (j + 1) (omega arith) in
-        let number_kept : number n (j + 1) i ≡ number n j i = rw after (rw before refl) in
-        (old.0, ap h.machine.named number_kept ∙ old.1, old.2)
 
 -- the input clauses, and then the steps after them
 inputs_follow : (n : ℕ) (es : List HintStep) (ys : List (List ℕ)) (j : ℕ) (w : Writer) (m : Machine) (h : Listed) → Matches n j w m h →
