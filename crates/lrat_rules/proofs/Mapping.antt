@@ -83,10 +83,8 @@ go_same s go ga h [] = refl
 go_same s go ga h (l ∷ ls) = ap (λ e. cond (list_all (eqb l) ls) e (stuck not_unit)) (h (add_lit l s))
 
 named_same : (s : ℕ → Bool) (go ga : (ℕ → Bool) → Ending) → ((r : ℕ → Bool) → go r ≡ ga r) → (o q : Option (List ℕ)) → SameNamed o q → on_named o s go ≡ on_named q s ga
-named_same s go ga h None None e = refl
-named_same s go ga h None (Some d) e = absurd e
-named_same s go ga h (Some c) None e = absurd e
-named_same s go ga h (Some c) (Some d) e = left_same (λ l. go (add_lit l s)) (unfalsified s c) (unfalsified s d) (same_kept (λ m. not (s (negate m))) c d e) ∙ go_same s go ga h (unfalsified s d)
+named_same s go ga h o q e = grind (arith, λ (c d : List ℕ) (same : SameLits c d).
+    left_same (λ l. go (add_lit l s)) (unfalsified s c) (unfalsified s d) (same_kept (λ m. not (s (negate m))) c d same) ∙ go_same s go ga h (unfalsified s d))
 
 propagate_same : (st su : List Item) → SameMap st su → (is : List ℕ) (s : ℕ → Bool) → propagate (find st) s is ≡ propagate (find su) s is
 propagate_same st su e [] s = refl
@@ -122,14 +120,8 @@ met_from st s n gs (x ∷ su) o h =
 pub met_by_map : MetByMap
 met_by_map st s n gs o = (met_at st s n gs st, met_from st s n gs st o)
 
-named_sym : (o q : Option (List ℕ)) → SameNamed o q → SameNamed q o
-named_sym None None h = tt
-named_sym None (Some d) h = absurd h
-named_sym (Some c) None h = absurd h
-named_sym (Some c) (Some d) h = same_sym c d h
-
 map_sym : (st su : List Item) → SameMap st su → SameMap su st
-map_sym st su e i = named_sym (find st i) (find su i) (e i)
+map_sym st su e i = grind (arith, e i)
 
 carried : (st su : List Item) → SameMap st su → (s : ℕ → Bool) (n : ℕ) (gs : List Group) → AllMet st s n gs st → AllMet su s n gs su
 carried st su e s n gs h i d f t = go (find st i) refl (rw f at (e i))
@@ -153,10 +145,7 @@ rat_same : (st su : List Item) → SameMap st su → ids_once st ≡ true → id
 rat_same st su e o q c hs = rw (led_same st su e c hs) (end_same (led su c hs) (λ s. all_met st s c (groups hs)) (λ s. all_met su s c (groups hs)) (λ s. all_met_same st su e o q s c (groups hs)))
 
 none_same : (o q : Option (List ℕ)) → SameNamed o q → is_none o ≡ is_none q
-none_same None None h = refl
-none_same None (Some d) h = absurd h
-none_same (Some c) None h = absurd h
-none_same (Some c) (Some d) h = refl
+none_same o q h = grind arith
 
 add_same : (st su : List Item) → SameMap st su → ids_once st ≡ true → ids_once su ≡ true → (i : ℕ) (c : List ℕ) (hs : List Hint) → accepts st (adds i c hs) ≡ accepts su (adds i c hs)
 add_same st su e o q i c hs = cc (none_same (find st i) (find su i) (e i), rup_same st su e c hs, rat_same st su e o q c hs)
