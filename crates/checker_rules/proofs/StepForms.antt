@@ -1,7 +1,7 @@
 -- Each step keeps the form of the state.
-use Rattle.std.proofs.Common.{◌≡◌, ℕ, suc, ◌-◌, ◌≤◌, Bool, true, false, cond, not, ◌||◌, eqb, ltb, List, [], ◌∷◌}
+use Rattle.std.proofs.Common.{◌≡◌, ℕ, suc, ◌-◌, ◌≤◌, Bool, true, false, cond, not, List, [], ◌∷◌}
 use Rattle.std.proofs.Common.{map, length, replicate, Option, Some, None, refl, arith, length-append, ◌<◌}
-use Rattle.std.proofs.lemmas.Bool.{or_parts, eqb-false, ltb-false, cond_both}
+use Rattle.std.proofs.lemmas.Bool.{cond_both}
 use Rattle.std.proofs.lemmas.List.{length-replicate}
 use Rattle.sat_rules.specs.Clauses.{is_canonical, is_tautology, negate}
 use Rattle.checker_rules.specs.AddClause.{step_add_clause, store_input, take_input}
@@ -15,9 +15,9 @@ use Rattle.checker_rules.specs.Check.{apply_if_named, check, ready, some_pending
 use Rattle.checker_rules.specs.DeleteClause.{delete_justified, forget, justified}
 use Rattle.checker_rules.specs.DeleteVar.{close_conflict, drop_unit, is_conflict_on, step_delete_var}
 use Rattle.checker_rules.specs.FailedAssumptions.{step_failed_assumptions}
-use Rattle.checker_rules.specs.KnownVars.{know, know_clause, known_of, name_taken, new_known, some_not_sampling}
+use Rattle.checker_rules.specs.KnownVars.{know, know_clause, known_of, name_taken, new_known}
 use Rattle.checker_rules.specs.Model.{step_model}
-use Rattle.checker_rules.specs.Outcome.{Outcome, accept, and_then, and_then_by}
+use Rattle.checker_rules.specs.Outcome.{Outcome, accept, and_then}
 use Rattle.checker_rules.specs.State.{State, hide, sample, unit_of, witness, Known}
 use Rattle.checker_rules.specs.Step.{Justification, add_clause, assumptions, at_clause, by_redundant, by_satisfied, by_simplified, change_hash_bits}
 use Rattle.checker_rules.specs.Step.{change_sampling_mode, delete_clause, delete_var, end_proof, failed_assumptions, model, solver_var_name, unit_clauses, user_var_name}
@@ -60,7 +60,7 @@ form-at_clause s r c hs w =
     (form-store_derived (canonical c) r (ready s (canonical c)) (canonical-is c, e, bound-know (canonical c) (apply_if_named s)) (form-ready s (canonical c) w))))
 
 form-then : (o : Outcome) (next : State → Outcome) → W o → ((r : State) → WellFormed r → W (next r)) → W (and_then o next)
-form-then o next k f = elim o.refused as (λ x. W (and_then_by x o.after next)) [ None ↦ f o.after k | Some cause ↦ k ]
+form-then o next k f = grind (arith, f o.after k)
 
 form-unit_clauses : (s : State) (us : List (ℕ × ℕ)) → WellFormed s → W (step_unit_clauses s us)
 form-unit_clauses s [] w = w
@@ -106,29 +106,14 @@ form-delete_var : (s : State) (x : ℕ) → WellFormed s → W (step_delete_var 
 form-delete_var s x w = grind (arith, form-know (suc x) s w, form-drop_unit x (know (suc x) s) (form-know (suc x) s w))
 
 form-set : (s : State) (width : ℕ) (assumed : List ℕ) → WellFormed s → 0 < width → width ≤ 64 → is_canonical assumed ≡ true → WellFormed (record s { width = width; assumed = assumed })
-form-set s width assumed w some fits canonical = record {
-  fine = w.fine;
-  rise = w.rise;
-  apart = w.apart;
-  same_known = w.same_known;
-  unit_ids = w.unit_ids;
-  conflict_on_unit = w.conflict_on_unit;
-  inputs_counted = w.inputs_counted;
-  some_width = some;
-  width_fits = fits;
-  names = w.names;
-  assumed_canonical = canonical;
-  previous_canonical = w.previous_canonical;
-}
+form-set s width assumed w some fits canonical = assumption
 
 form-hash_bits : (s : State) (n : ℕ) → WellFormed s → W (step_change_hash_bits s n)
-form-hash_bits s n w = cond_both (eqb n 0 || ltb 64 n) _ _ W (λ e. w)
-    (λ e. let p = or_parts (eqb n 0) (ltb 64 n) e in let a = eqb-false n 0 p.0 in let b = ltb-false 64 n p.1 in
-    form-set s n s.assumed w (omega arith) (omega arith) w.assumed_canonical)
+form-hash_bits s n w = grind (arith, λ (some : 0 < n) (fits : n ≤ 64). form-set s n s.assumed w some fits w.assumed_canonical)
 
 form-assumptions : (s : State) (c : List ℕ) → WellFormed s → W (step_assumptions s c)
-form-assumptions s c h = cond_both (some_not_sampling s (canonical c)) _ _ W (λ e. h)
-    (λ e. let w = form-know (var_bound (canonical c)) s h in form-set (know (var_bound (canonical c)) s) s.width (canonical c) w w.some_width w.width_fits (canonical-is c))
+form-assumptions s c h = let w = form-know (var_bound (canonical c)) s h in
+    grind (arith, form-set (know (var_bound (canonical c)) s) s.width (canonical c) w w.some_width w.width_fits (canonical-is c))
 
 form-add_clause : (s : State) (list : List ℕ) → WellFormed s → W (step_add_clause s list)
 form-add_clause s list w =
@@ -156,20 +141,7 @@ steps_keep_form s (solver_var_name x v) w = w
 steps_keep_form s end_proof w = w
 
 pub new_form : WellFormed new_state
-new_form = record {
-  fine = refl;
-  rise = refl;
-  apart = refl;
-  same_known = refl;
-  unit_ids = λ v. refl;
-  conflict_on_unit = refl;
-  inputs_counted = omega arith;
-  some_width = omega arith;
-  width_fits = omega arith;
-  names = refl;
-  assumed_canonical = refl;
-  previous_canonical = refl;
-}
+new_form = search arith
 
 pub form-close : (s : State) → WellFormed s → WellFormed (closing_conflict s).after
 unfolding closing_conflict

@@ -60,15 +60,15 @@ hints_decide f c ids = record {
 }
 
 -- under an assignment that makes a clause false, the negations of its literals are true
-agrees_negated : (a : ℕ → Bool) (c : List ℕ) → clause_true a c ≡ false → Agrees a (negated_set c)
+pub agrees_negated : (a : ℕ → Bool) (c : List ℕ) → clause_true a c ≡ false → Agrees a (negated_set c)
 agrees_negated a [] h m k = absurd (false≢true k)
 agrees_negated a (l ∷ ls) h m k = grind (arith, eqb-true m (negate l), lit_true-negate a l, agrees_negated a ls)
 
 -- every clause that the map names is true
-abbrev AllNamedTrue : (ℕ → Bool) → Machine → Type 0
+abbrev pub AllNamedTrue : (ℕ → Bool) → Machine → Type 0
 AllNamedTrue a m = (i : ℕ) (c : List ℕ) → m.named i ≡ Some c → clause_true a c ≡ true
 
-named_true : (a : ℕ → Bool) (m : Machine) → AllNamedTrue a m → (ids : List ℕ) (cs : List (List ℕ)) → NamedBy m.named ids cs → all_true a cs ≡ true
+pub named_true : (a : ℕ → Bool) (m : Machine) → AllNamedTrue a m → (ids : List ℕ) (cs : List (List ℕ)) → NamedBy m.named ids cs → all_true a cs ≡ true
 named_true a m t [] [] n = refl
 named_true a m t [] (c ∷ cs) n = absurd n
 named_true a m t (i ∷ ids) [] n = absurd n
