@@ -1,17 +1,17 @@
 -- Runs over texts in parts, their moves, and what they emit.
 use Rattle.std.proofs.lemmas.List.{append-nil, append_assoc}
 use Rattle.checker_rules.proofs.Openings.{inl_same}
-use Rattle.std.proofs.Common.{◌≡◌, ◌⊎◌, true, false, ltb, List, [], ◌∷◌, ◌++◌, map, Option, Some, None, refl, sym, ap, ◌∙◌, subst, inl, inr, arith}
+use Rattle.std.proofs.Common.{◌≡◌, ◌⊎◌, true, false, ltb, List, [], ◌∷◌, ◌++◌, map, Option, refl, sym, ap, ◌∙◌, subst, inl, inr, arith}
 use Rattle.sat_rules.specs.Named.{Machine}
 use Rattle.checker_rules.specs.CallEmissions.{EmitsCalls}
-use Rattle.checker_rules.specs.Calls.{Call, answer_of, attempt, calls_after, checks, closes, closing_conflict, step_limit}
+use Rattle.checker_rules.specs.Calls.{Call, answer_of, attempt, calls_after, checks, closes, step_limit}
 use Rattle.checker_rules.specs.CheckedSteps.{NamedStep, hint_steps}
 use Rattle.checker_rules.specs.Headline.{run}
 use Rattle.checker_rules.specs.HintRun.{IsRun, machine_after}
 use Rattle.checker_rules.specs.Machine.{Mirrors}
-use Rattle.checker_rules.specs.Outcome.{Cause, steps_exhausted}
+use Rattle.checker_rules.specs.Outcome.{Cause}
 use Rattle.checker_rules.specs.Reaching.{MovesAre, Reaches, RunsJoin}
-use Rattle.checker_rules.specs.Run.{Runs, Stop, after_attempt, after_read, as_answer, move}
+use Rattle.checker_rules.specs.Run.{Runs, Stop, after_attempt, after_read, move}
 use Rattle.checker_rules.specs.RunEmissions.{EmissionsJoin, EmitsRun, RunsRunMachine, last_calls}
 use Rattle.checker_rules.specs.State.{State}
 use Rattle.checker_rules.specs.Step.{Step}
@@ -20,30 +20,19 @@ use Rattle.checker_rules.proofs.CallRuns.{calls_run_machine}
 use Rattle.checker_rules.proofs.DeletedVars.{hints-append}
 use Rattle.checker_rules.proofs.Emissions.{after-append, run-append}
 
-assoc : (xs ys zs : List NamedStep) → (xs ++ ys) ++ zs ≡ xs ++ (ys ++ zs)
-assoc xs ys zs = append_assoc xs ys zs
-
 module _ (X F : Type 0) where
   -- one move
-  move-ended : (next : X → (Step × X) ⊎ F) (s : State) (x : X) → s.ended ≡ true → move next s x ≡ inr (as_answer (closing_conflict s).refused, (closing_conflict s).after)
-  move-ended next s x e = rw e
-
-  move-exhausted : (next : X → (Step × X) ⊎ F) (s : State) (x : X) → s.ended ≡ false → ltb s.steps step_limit ≡ false → move next s x ≡ inr (Some (inl steps_exhausted), s)
-  move-exhausted next s x e h = rw (e, h)
-
   move-read : (next : X → (Step × X) ⊎ F) (s : State) (x : X) (p : (Step × X) ⊎ F) → s.ended ≡ false → ltb s.steps step_limit ≡ true → next x ≡ p → move next s x ≡ after_read s p
   move-read next s x p e h k = rw (e, h, k)
 
-  move-refused : (next : X → (Step × X) ⊎ F) (s : State) (x : X) (t : Step) (rest : X) (cause : Cause) → s.ended ≡ false → ltb s.steps step_limit ≡ true → next x ≡ inl (t, rest) →
-      (attempt s t).refused ≡ Some cause → move next s x ≡ inr (Some (inl cause), (attempt s t).after)
-  move-refused next s x t rest cause e h k r = move-read next s x (inl (t, rest)) e h k ∙ ap (λ c. after_attempt c (attempt s t).after t rest) r
-
-  move-accepted : (next : X → (Step × X) ⊎ F) (s : State) (x : X) (t : Step) (rest : X) → s.ended ≡ false → ltb s.steps step_limit ≡ true → next x ≡ inl (t, rest) →
-      (attempt s t).refused ≡ None → move next s x ≡ inl (t, rest)
-  move-accepted next s x t rest e h k r = move-read next s x (inl (t, rest)) e h k ∙ ap (λ c. after_attempt c (attempt s t).after t rest) r
-
   pub moves_are : MovesAre X F
-  moves_are = record { ended = move-ended; exhausted = move-exhausted; fault = λ next s x f e h k. move-read next s x (inr f) e h k; refused = move-refused; accepted = move-accepted }
+  moves_are = record {
+    ended = λ next s x e. rw e;
+    exhausted = λ next s x e h. rw (e, h);
+    fault = λ next s x f e h k. move-read next s x (inr f) e h k;
+    refused = λ next s x t rest cause e h k r. move-read next s x (inl (t, rest)) e h k ∙ ap (λ c. after_attempt c (attempt s t).after t rest) r;
+    accepted = λ next s x t rest e h k r. move-read next s x (inl (t, rest)) e h k ∙ ap (λ c. after_attempt c (attempt s t).after t rest) r;
+  }
 
   -- parts of a run
   reached : (next : X → (Step × X) ⊎ F) (s : State) (x : X) (ts : List Step) (r : State) (y : X) (us : List Step) (q : State) (z : X) →
@@ -77,7 +66,7 @@ module _ (X F : Type 0) where
     h.1 ++ ys,
     h.2,
     calls (answer_of s call).after first second h.1 ys h.3 k,
-    ap (λ l. l ++ ys) h.4 ∙ assoc h.0 h.1 ys,
+    ap (λ l. l ++ ys) h.4 ∙ append_assoc h.0 h.1 ys,
   )
 
   emits_ends : (next : X → (Step × X) ⊎ F) (s : State) (x : X) (ts : List Step) (r : State) (y : X) (us : List Step) (xs ys : List NamedStep) →
@@ -90,7 +79,7 @@ module _ (X F : Type 0) where
     e.1 ++ ys,
     e.2,
     emits_ends next (attempt s t).after h.0 ts r y us e.1 ys h.2 e.3 k,
-    ap (λ l. l ++ ys) e.4 ∙ assoc e.0 e.1 ys,
+    ap (λ l. l ++ ys) e.4 ∙ append_assoc e.0 e.1 ys,
   )
 
   pub emissions_join : EmissionsJoin X F

@@ -98,7 +98,6 @@ matches_put : (n k : ℕ) (w : Writer) (m : Machine) (h : Listed) (i : ℕ) (c i
     Matches n k (after_written w (puts_derived i c ids)) (put_id i c m) (after_line h (adds_clause (w.announced + suc i) c (map (number_of w) ids)))
 matches_put n k w m h i c ids r low =
     let fresh : ltb i k ≡ false = le-ltb i k (omega arith) in
-    let here : number n k i ≡ w.announced + suc i = rw fresh (ap (λ x. x + suc i) (sym r.announced)) in
     record {
       announced = r.announced;
       inputs = r.inputs;
@@ -106,19 +105,11 @@ matches_put n k w m h i c ids r low =
       above = omega arith;
       next = omega arith;
       below = λ j d e. grind (arith, r.below j d);
-      names = λ j d e. names here j d (eqb j i) refl e;
+      names = λ j d e. elim (eqb j i) as (λ b. eqb j i ≡ b → Matched (put_id (w.announced + suc i) c h.machine).named (number n k j) d) [
+        | true ↦ λ x. let same : c ≡ d = grind (arith, x, e) in (c, grind (arith, eqb-true j i x, fresh, r.announced), rw (← same) (same_itself c))
+        | false ↦ λ x. grind (arith, x, e, fresh, r.announced, r.names j d, number_apart n k j i r.few)
+      ] refl;
     }
-  where
-    names : number n k i ≡ w.announced + suc i → (j : ℕ) (d : List ℕ) (b : Bool) → eqb j i ≡ b → cond b (Some c) (m.named j) ≡ Some d →
-        Matched (put_id (w.announced + suc i) c h.machine).named (number n k j) d
-    names here j d true x e =
-        let at : eqb (number n k j) (w.announced + suc i) ≡ true = rw (eqb-true j i x, here) (grind arith) in
-        let same : c ≡ d = cc in
-        (c, rw at, rw (← same) (same_itself c))
-    names here j d false x e =
-        let old = r.names j d e in
-        let other : eqb (number n k j) (w.announced + suc i) ≡ false = rw here at (number_apart n k j i r.few x) in
-        (old.0, rw other old.1, old.2)
 
 -- both maps after a deletion
 matches_drop : (n k : ℕ) (w : Writer) (m : Machine) (h : Listed) (l i : ℕ) → Matches n k w m h → Matches n k w (drop_id i m) (after_line h (deletes_clauses l (number_of w i ∷ [])))
