@@ -2,22 +2,18 @@
 use Rattle.std.proofs.Common.{◌≡◌, ℕ, Bool, true, not, ◌||◌, eqb, List, [], ◌∷◌, map, refl, sym, ◌∙◌, eq-eqb, arith}
 use Rattle.std.specs.List.{list_all}
 use Rattle.std.proofs.lemmas.Bool.{eqb-true, and_parts, or_right, false≢true}
-use Rattle.sat_rules.specs.Clauses.{IsChain, add_lit, has, is_falsified, is_unit_on, negate, unfalsified}
+use Rattle.sat_rules.specs.Clauses.{IsChain, add_lit, has, is_unit_on, negate, unfalsified}
 use Rattle.sat_rules.specs.Named.{Item, NamedBy, negated_set}
 use Rattle.sat_rules.proofs.Members.{all_at, all_from, has_first, kept_from, kept_in, kept_test}
 use Rattle.lrat_rules.specs.Lines.{along, leading}
 use Rattle.lrat_rules.specs.Maps.{AdmittedIsRup}
 use Rattle.lrat_rules.specs.Propagation.{Ending, by_left, conflict, is_conflict, propagate}
 use Rattle.lrat_rules.specs.Stores.{find}
+use Rattle.sat_rules.proofs.Chains.{falsified_left}
 
 leading_all : (ids : List ℕ) → leading (map along ids) ≡ ids
 leading_all [] = refl
 leading_all (i ∷ ids) = cc (leading_all ids)
-
--- nothing of a falsified clause is left
-none_left : (s : ℕ → Bool) (c : List ℕ) → is_falsified s c ≡ true → unfalsified s c ≡ []
-none_left s [] h = refl
-none_left s (m ∷ c) h = grind (arith, none_left s c)
 
 -- of a unit clause its literal is left
 one_left : (go : ℕ → Ending) (l : ℕ) (u : List ℕ) → has l u ≡ true → ((m : ℕ) → has m u ≡ true → m ≡ l) → by_left u conflict go ≡ go l
@@ -39,7 +35,7 @@ chain_conflict : (st : List Item) (s : ℕ → Bool) (ids : List ℕ) (cs : List
 chain_conflict st s [] [] n h = absurd h
 chain_conflict st s [] (c ∷ cs) n h = absurd n
 chain_conflict st s (i ∷ ids) [] n h = absurd n
-chain_conflict st s (i ∷ ids) (c ∷ []) n h = rw (n.0, none_left s c h)
+chain_conflict st s (i ∷ ids) (c ∷ []) n h = rw (n.0, falsified_left s c h)
 chain_conflict st s (i ∷ ids) (c ∷ d ∷ rest) n h = rw (n.0, unit_left s c h.0 (λ l. propagate (find st) (add_lit l s) ids) h.1) (chain_conflict st (add_lit h.0 s) ids (d ∷ rest) n.1 h.2)
 
 pub admitted_is_rup : AdmittedIsRup

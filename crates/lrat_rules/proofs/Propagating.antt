@@ -12,6 +12,7 @@ use Rattle.lrat_rules.specs.Laws.{IsModel}
 use Rattle.lrat_rules.specs.Lines.{Hint, by_rup, leading, led}
 use Rattle.lrat_rules.specs.Propagation.{Ending, by_left, conflict, is_conflict, on_named, open_at, propagate, stuck}
 use Rattle.lrat_rules.specs.Stores.{find}
+use Rattle.sat_rules.proofs.HintLineFacts.{agrees_negated}
 
 -- what an ending says of an assignment
 abbrev pub Sound : (ℕ → Bool) → Ending → Type 0
@@ -63,12 +64,6 @@ pub sound_is_open : (a : ℕ → Bool) (e : Ending) → Sound a e → is_conflic
 sound_is_open a conflict s h = s
 sound_is_open a (open_at r) s h = false≢true h
 sound_is_open a (stuck k) s h = false≢true h
-
--- where a clause is false, the negations of its literals are true
-pub agrees_negated : (a : ℕ → Bool) (c : List ℕ) → clause_true a c ≡ false → Agrees a (negated_set c)
-agrees_negated a c f m h =
-    let l = any_at (λ l. eqb m (negate l)) c h in
-    rw (eqb-true m (negate l.0) l.2) (grind (arith, lit_true-negate a l.0, any_from (lit_true a) c l.0 l.1))
 
 pub agrees_add : (a s : ℕ → Bool) (c : List ℕ) → clause_true a c ≡ false → Agrees a s → Agrees a (add_negated c s)
 agrees_add a s c f ag m h = grind (arith, agrees_negated a c f m, ag m)
