@@ -1,6 +1,6 @@
 -- A run that records `unsat` and adds no input clause refutes what held before it.
 use Rattle.checker_rules.proofs.Openings.{closing_cases, move_cases, attempt-counted}
-use Rattle.std.proofs.Common.{◌≡◌, ◌⊎◌, ◌≤◌, ℕ, Bool, true, false, ltb, List, [], ◌∷◌, map, Option, None, refl, sym, ap, ◌∙◌, subst, arith, inl, inr}
+use Rattle.std.proofs.Common.{◌≡◌, ◌⊎◌, ◌≤◌, ℕ, Bool, false, ltb, List, [], ◌∷◌, map, Option, None, refl, sym, ap, ◌∙◌, subst, arith, inl, inr}
 use Rattle.std.proofs.lemmas.Bool.{cond_both, or_parts}
 use Rattle.sat_rules.specs.Clauses.{flip}
 use Rattle.checker_rules.specs.AddFormula.{add_clauses}
@@ -57,10 +57,7 @@ module _ (X F : Type 0) where
       let high = counted_run next after run.0 ts answer r run.2 in
       let rest = runs_refute next (changed t p) after run.0 ts answer r cov run.2 u (omega arith) in
       let stays : (step (count_step s) t).after.inputs ≡ s.inputs = ap (λ (o : Outcome). o.after.inputs) (sym m.0) ∙ (omega arith) in
-      (elim s.unsat as (λ b. s.unsat ≡ b → p a ≡ false) [
-        | true ↦ λ e. empty_where p s c e a
-        | false ↦ λ e. back p s t e m.1 stays rest a
-      ]) refl
+      grind (arith, empty_where p s c, λ (e : s.unsat ≡ false). back p s t e m.1 stays rest a)
 
   pub formulas_are_refuted : FormulasAreRefuted X F
   formulas_are_refuted next cs x ts answer r h run u same a =

@@ -121,11 +121,8 @@ form-add_clause s list w =
     let r = know_clause c s in
     let t = takes_input c r in
     let k = w.inputs_counted in
-    grind (
-      arith,
-      form-counters false c true s (λ r. accept (take_input (store_input c (know_clause c r)))) w
-          (form-take_input (store_input c r) (omega (arith, t.0, t.1)) (form-store_input c r (canonical-is list) (bound-know c s) (form-know (var_bound c) s w))),
-    )
+    let stored = form-take_input (store_input c r) (omega (arith, t.0, t.1)) (form-store_input c r (canonical-is list) (bound-know c s) (form-know (var_bound c) s w)) in
+    grind (arith, form-counters false c true s (λ r. accept (take_input (store_input c (know_clause c r)))) w stored)
 
 pub steps_keep_form : StepsKeepForm
 unfolding step
