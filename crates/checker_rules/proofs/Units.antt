@@ -1,6 +1,6 @@
 -- Units by their variables: ids below a bound, and the unit that a recorded conflict is on.
 use Rattle.std.proofs.Common.{◌≡◌, ◌⊎◌, ℕ, zero, suc, ◌+◌, true, false, List, [], ◌∷◌, ◌++◌, set, replicate, Option, Some, None, refl, ap, ◌∙◌, arith, inl, inr, eq-eqb}
-use Rattle.std.proofs.lemmas.Bool.{or_cases, or_left, or_right, false≢true, ltb-true, lt-ltb, eqb-true}
+use Rattle.std.proofs.lemmas.Bool.{or_cases, or_left, or_right, false≢true, eqb-true}
 use Rattle.checker_rules.specs.DeleteVar.{is_conflict_on, is_unit_with}
 use Rattle.checker_rules.specs.State.{StoredUnit, unit_of}
 use Rattle.checker_rules.specs.WellFormed.{conflict_stands, has_unit, is_unit_below}
@@ -15,8 +15,7 @@ get_set (u ∷ us) (suc x) w (suc v) = elim (get_set us x w v) [ inl h ↦ inl (
 
 -- ids below a bound
 pub below_later : (n : ℕ) (u : Option StoredUnit) → is_unit_below n u ≡ true → is_unit_below (n + 1) u ≡ true
-below_later n None h = refl
-below_later n (Some u) h = lt-ltb u.id (n + 1) (let k = ltb-true u.id n h in omega arith)
+below_later n u h = grind arith
 
 pub below_set : (us : List (Option StoredUnit)) (n x : ℕ) (u : Option StoredUnit) → ((v : ℕ) → is_unit_below n (unit_of us v) ≡ true) →
     is_unit_below n u ≡ true → (v : ℕ) → is_unit_below n (unit_of (set us x u) v) ≡ true
@@ -39,12 +38,10 @@ unit_kept id us x w off h = let r = unit_at id us h in grind (arith, r.1, get_se
 -- the conflict goes on standing: a unit set off it, more variables known, a conflict recorded
 pub stands_set : (us : List (Option StoredUnit)) (x : ℕ) (w : Option StoredUnit) (conflict : Option (ℕ × ℕ)) →
     is_conflict_on (unit_of us x) conflict ≡ false → conflict_stands us conflict ≡ true → conflict_stands (set us x w) conflict ≡ true
-stands_set us x w None off h = refl
-stands_set us x w (Some pair) off h = unit_kept pair.0 us x w off h
+stands_set us x w conflict off h = grind (arith, λ (id : ℕ). unit_kept id us x w)
 
 pub on_none : (conflict : Option (ℕ × ℕ)) → is_conflict_on None conflict ≡ false
-on_none None = refl
-on_none (Some pair) = refl
+on_none conflict = grind arith
 
 pub stands_more : (us : List (Option StoredUnit)) (n : ℕ) (conflict : Option (ℕ × ℕ)) → conflict_stands us conflict ≡ true → conflict_stands (us ++ replicate n None) conflict ≡ true
 stands_more us n None h = refl
