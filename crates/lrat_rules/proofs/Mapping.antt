@@ -83,8 +83,11 @@ go_same s go ga h [] = refl
 go_same s go ga h (l ∷ ls) = ap (λ e. cond (list_all (eqb l) ls) e (stuck not_unit)) (h (add_lit l s))
 
 named_same : (s : ℕ → Bool) (go ga : (ℕ → Bool) → Ending) → ((r : ℕ → Bool) → go r ≡ ga r) → (o q : Option (List ℕ)) → SameNamed o q → on_named o s go ≡ on_named q s ga
-named_same s go ga h o q e = grind (arith, λ (c d : List ℕ) (same : SameLits c d).
-    left_same (λ l. go (add_lit l s)) (unfalsified s c) (unfalsified s d) (same_kept (λ m. not (s (negate m))) c d same) ∙ go_same s go ga h (unfalsified s d))
+named_same s go ga h o q e = grind (
+  arith,
+  λ (c d : List ℕ) (same : SameLits c d).
+      left_same (λ l. go (add_lit l s)) (unfalsified s c) (unfalsified s d) (same_kept (λ m. not (s (negate m))) c d same) ∙ go_same s go ga h (unfalsified s d),
+)
 
 propagate_same : (st su : List Item) → SameMap st su → (is : List ℕ) (s : ℕ → Bool) → propagate (find st) s is ≡ propagate (find su) s is
 propagate_same st su e [] s = refl

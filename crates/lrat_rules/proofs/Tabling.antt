@@ -3,7 +3,7 @@ use Rattle.std.proofs.Common.{◌⊎◌}
 use Rattle.std.proofs.Common.{◌≡◌, ℕ, suc, ◌+◌, Bool, true, false, cond, eqb, List, [], ◌∷◌, Option, Some, None, is_none, is_some, refl, ap, ◌∙◌, arith, inl, inr}
 use mathlib.Core.Path.{fun_ext}
 use Rattle.std.specs.List.{list_all, list_any}
-use Rattle.std.proofs.lemmas.Bool.{eqb-true, and_parts, and_from, or_cases, false≢true, false_from_ne_true}
+use Rattle.std.proofs.lemmas.Bool.{eqb-true, and_parts, or_cases, false≢true, false_from_ne_true}
 use Rattle.std.proofs.lemmas.Option.{none-some}
 use Rattle.sat_rules.specs.Clauses.{has, negate}
 use Rattle.sat_rules.specs.Named.{Item, negated_set}
@@ -35,14 +35,10 @@ formula_counts : (cs : List (List ℕ)) (n : ℕ) (t : Table) (l : ℕ) → (put
 formula_counts [] n t l = omega arith
 formula_counts (c ∷ cs) n t l = let rest = formula_counts cs (suc n) (put n c t) l in omega arith
 
-or_none : (o : Option (List ℕ)) → found_or o None ≡ o
-or_none None = refl
-or_none (Some c) = refl
-
 formula_is : (cs : List (List ℕ)) → IsTableOf (put_from 1 cs empty_table) (formula_store cs)
 formula_is cs = record {
   once = numbered_once 1 cs;
-  named = λ i. formula_named cs 1 empty_table i ∙ or_none (find (numbered 1 cs) i);
+  named = λ i. grind (arith, formula_named cs 1 empty_table i);
   counts = λ n. let all = formula_counts cs 1 empty_table n in omega arith;
 }
 
@@ -66,13 +62,9 @@ all_dropped t st [] h = rw (all_kept st) h
     all_kept (x ∷ su) = cc (all_kept su)
 all_dropped t st (i ∷ is) h = rw (without_next i is st) (all_dropped (drop_one i t) (without_ids (i ∷ []) st) is (one_dropped t st i h))
 
--- an accepted clause has an id that is not stored
-not_taken : (st : List Item) (i : ℕ) (o : Option Cause) → cond (is_some (find st i)) (Some id_taken) o ≡ None → is_none (find st i) ≡ true
-not_taken st i o h = grind arith
-
 is_after : (t : Table) (st : List Item) → IsTableOf t st → (l : Line) → cause_of_line st l ≡ None → IsTableOf (table_after t l) (after st l)
 is_after t st h (adds i c hs) e = record {
-  once = and_from (is_none (find st i)) (ids_once st) (not_taken st i _ e) h.once;
+  once = grind (arith, e, h.once);
   named = λ k. ap (cond (eqb k i) (Some c)) (h.named k);
   counts = λ n. ap (λ x. count_of n c + x) (h.counts n);
 }
