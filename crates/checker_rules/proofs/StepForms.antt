@@ -67,8 +67,9 @@ form-unit_clauses s [] w = w
 form-unit_clauses s (p ∷ ps) w =
     let c = p.0 ∷ [] in
     let next : State → Outcome = λ r. counters false c (not (stands c r)) r (λ q. accept (store c false q)) in
+    let f = form-ready s c w in
     form-then (check s c (p.1 ∷ []) next) (λ r. step_unit_clauses r ps)
-    (form-check s c (p.1 ∷ []) next w (form-counters false c (not (stands c (ready s c))) (ready s c) (λ q. accept (store c false q)) (form-ready s c w) (form-store_unit p.0 (ready s c) (form-ready s c w))))
+    (form-check s c (p.1 ∷ []) next w (form-counters false c (not (stands c (ready s c))) (ready s c) (λ q. accept (store c false q)) f (form-store_unit p.0 (ready s c) f)))
     (λ r h. form-unit_clauses r ps h)
 
 form-justified : (r : Bool) (c : List ℕ) (s : State) → WellFormed s → W (delete_justified r c (forget s))
@@ -97,7 +98,8 @@ form-failed s c hs w = let neg = canonical (map negate (canonical c)) in grind (
 
 form-store_input : (c : List ℕ) (s : State) → is_canonical c ≡ true → var_bound c ≤ length s.known → WellFormed s → WellFormed (store_input c s)
 form-store_input c s can room w =
-    grind (arith, form-take_id s w, λ (e : is_tautology c ≡ false). form-store c false (take_id s) (can, e, room) (form-take_id s w), λ (e : is_tautology c ≡ false). form-store c false s (can, e, room) w)
+    let taken = form-take_id s w in
+    grind (arith, taken, λ (e : is_tautology c ≡ false). form-store c false (take_id s) (can, e, room) taken, λ (e : is_tautology c ≡ false). form-store c false s (can, e, room) w)
 
 pub form-drop_unit : (x : ℕ) (s : State) → WellFormed s → W (drop_unit x s)
 form-drop_unit x s w = grind (arith, form-free_var x (close_conflict s) refl (form-close_conflict s w), λ (e : is_conflict_on (unit_of s.units x) s.conflict ≡ false). form-free_var x s e w)

@@ -24,7 +24,9 @@ empty_ends st su (deletes is) e h sat = false≢true e
 
 refuted : (st : List Item) (ls : List Line) → refutes st ls ≡ true → IsSatisfiable st → ⊥
 refuted st [] h sat = false≢true h
-refuted st (l ∷ ls) h sat = grind (arith, λ (r : List Item) (w : step st l ≡ Some r). empty_ends st r l, λ (r : List Item) (w : step st l ≡ Some r). line_keeps st r l w sat, λ (r : List Item). refuted r ls)
+refuted st (l ∷ ls) h sat =
+    let keeps : (r : List Item) → step st l ≡ Some r → IsSatisfiable r = λ r w. line_keeps st r l w sat in
+    grind (arith, keeps, λ (r : List Item). empty_ends st r l, λ (r : List Item). refuted r ls)
 
 -- no assignment makes an empty clause true
 empty_is_false : (cs : List (List ℕ)) → has_empty cs ≡ true → (a : ℕ → Bool) → all_true a cs ≡ true → ⊥
