@@ -1,21 +1,20 @@
 -- The closing conflict and the deletion of a variable, as runs of the hint machine.
-use Rattle.std.proofs.Common.{◌≡◌, ℕ, suc, Bool, true, false, cond, ltb, List, [], ◌∷◌, ◌++◌, Option, Some, None, refl, sym, ap, ◌∙◌, subst, is_some}
-use Rattle.std.specs.List.{list_any}
+use Rattle.std.proofs.Common.{◌≡◌, ℕ, suc, Bool, true, false, cond, ltb, List, [], ◌∷◌, ◌++◌, Option, Some, None, refl, sym, ap, ◌∙◌, subst, arith, append_assoc}
 use Rattle.std.proofs.lemmas.Bool.{true≢false}
 use Rattle.sat_rules.specs.Named.{Machine}
 use Rattle.checker_rules.specs.Calls.{close_by, closing_conflict}
 use Rattle.checker_rules.specs.CheckedSteps.{NamedStep, checked_at_clause, hint_step, hint_steps, named_in}
-use Rattle.checker_rules.specs.DeleteVar.{close_conflict, drop_unit, free_var, holds_var, is_conflict_on, is_unit_with, step_delete_var}
+use Rattle.checker_rules.specs.DeleteVar.{close_conflict, drop_unit, free_var, is_conflict_on, is_unit_with, step_delete_var}
 use Rattle.checker_rules.specs.Emits.{ClosingsRun, emits_closing, emits_delete_var, emits_unit}
-use Rattle.checker_rules.specs.HintRun.{HintStep, IsRun, machine_after}
+use Rattle.checker_rules.specs.HintRun.{IsRun, machine_after}
 use Rattle.checker_rules.specs.Hints.{IsUnitNamed, unit_lit}
-use Rattle.checker_rules.specs.KnownVars.{know, known_of}
+use Rattle.checker_rules.specs.KnownVars.{know}
 use Rattle.checker_rules.specs.Machine.{ConflictNamed, Mirrors}
 use Rattle.checker_rules.specs.Outcome.{Outcome, accept, refuse}
 use Rattle.checker_rules.specs.State.{State, StoredUnit, unit_of}
 use Rattle.checker_rules.specs.Store.{id_limit, take_id}
 use Rattle.checker_rules.specs.WellFormed.{WellFormed, conflict_stands}
-use Rattle.checker_rules.proofs.Emissions.{accepted_cond, after-append, run-append, tied-know}
+use Rattle.checker_rules.proofs.Emissions.{after-append, run-append, tied-know, RunTo}
 use Rattle.checker_rules.proofs.Forms.{form-close_conflict, form-know}
 use Rattle.checker_rules.proofs.Lists.{exact_lists}
 use Rattle.checker_rules.proofs.Ties.{freed, freed_none, only_id}
@@ -24,14 +23,7 @@ use Rattle.checker_rules.specs.Outcome as causes
 
 pub hints-append : (xs ys : List NamedStep) → hint_steps (xs ++ ys) ≡ hint_steps xs ++ hint_steps ys
 hints-append [] ys = refl
-hints-append (x ∷ xs) ys = ap (λ r. hint_step x.step ++ r) (hints-append xs ys) ∙ assoc (hint_step x.step) (hint_steps xs) (hint_steps ys)
-  where
-    assoc : (a b c : List HintStep) → a ++ (b ++ c) ≡ (a ++ b) ++ c
-    assoc [] b c = refl
-    assoc (x ∷ a) b c = ap (λ r. x ∷ r) (assoc a b c)
-
-abbrev pub RunTo : Machine → List NamedStep → State → Type 0
-RunTo m es s = IsRun m (hint_steps es) × Mirrors (machine_after m (hint_steps es)) s
+hints-append (x ∷ xs) ys = rw (hints-append xs ys) (sym (append_assoc (hint_step x.step) (hint_steps xs) (hint_steps ys)))
 
 -- the closing conflict
 pub closings_run : ClosingsRun
@@ -61,12 +53,11 @@ run_unit_gone m s x t w = go (unit_of s.units x) refl
     go None e = (tt, freed_none m s x t e)
     go (Some u) e = ((tt, tt), freed m s x u t w e)
 
-two_runs : (m : Machine) (xs ys : List NamedStep) (r : State) → IsRun m (hint_steps xs) → RunTo (machine_after m (hint_steps xs)) ys r → RunTo m (xs ++ ys) r
-two_runs m xs ys r h k = subst (λ z. IsRun m z × Mirrors (machine_after m z) r) (sym (hints-append xs ys))
-    (run-append m (hint_steps xs) (hint_steps ys) h k.0, subst (λ z. Mirrors z r) (sym (after-append m (hint_steps xs) (hint_steps ys))) k.1)
+pub two_runs : (m : Machine) (xs ys : List NamedStep) (r : State) → IsRun m (hint_steps xs) → RunTo (machine_after m (hint_steps xs)) ys r → RunTo m (xs ++ ys) r
+two_runs m xs ys r h k = rw (hints-append xs ys) (rw after-append (run-append m (hint_steps xs) (hint_steps ys) h k.0, k.1))
 
 forgotten : (m : Machine) (s : State) → Mirrors m s → Mirrors m (record s { conflict = None })
-forgotten m s t = record { clauses_named = t.clauses_named; units_named = t.units_named; previous_named = t.previous_named; conflict_named = tt; ids_below = t.ids_below; above_next = t.above_next }
+forgotten m s t = assumption
 
 -- the conflict is closed, and then the unit goes
 run_closed : (m : Machine) (s : State) (x : ℕ) → Mirrors m s → WellFormed s → ltb s.next id_limit ≡ true →
@@ -85,27 +76,15 @@ run_closed m s x t w room on = go s.conflict refl on
         (run_unit_gone after (close_conflict s) x (forgotten after (take_id s) taken) (form-close_conflict s w))
 
 run_drop : (m : Machine) (s : State) (x : ℕ) → Mirrors m s → WellFormed s → (drop_unit x s).refused ≡ None → RunTo m (emits_delete_var s x) (drop_unit x s).after
-run_drop m s x t w h = go (is_conflict_on (unit_of s.units x) s.conflict) refl h
-  where
-    go : (b : Bool) → is_conflict_on (unit_of s.units x) s.conflict ≡ b →
-        (cond b (cond (ltb s.next id_limit) (accept (free_var x (close_conflict s))) (refuse causes.ids_exhausted s))
-        (accept (free_var x s))).refused ≡ None
-        → RunTo m (cond b (emits_closing s s.conflict) [] ++ emits_unit s x (unit_of s.units x))
-        (cond b (cond (ltb s.next id_limit) (accept (free_var x (close_conflict s))) (refuse causes.ids_exhausted s))
-        (accept (free_var x s))).after
-    go false e k = run_unit_gone m s x t w
-    go true e k = room (ltb s.next id_limit) refl k
-      where
-        room : (b : Bool) → ltb s.next id_limit ≡ b → (cond b (accept (free_var x (close_conflict s))) (refuse causes.ids_exhausted s)).refused ≡ None
-            → RunTo m (emits_closing s s.conflict ++ emits_unit s x (unit_of s.units x)) (cond b (accept (free_var x (close_conflict s))) (refuse causes.ids_exhausted s)).after
-        room true l k = run_closed m s x t w l e
-        room false l k = absurd (cc)
+run_drop m s x t w h =
+    let gone = run_unit_gone m s x t w in
+    let closed = run_closed m s x t w in
+    grind arith
+
+accepted_drop : (s : State) (x : ℕ) → (step_delete_var s x).refused ≡ None → step_delete_var s x ≡ drop_unit x (know (suc x) s)
+accepted_drop s x h = grind arith
 
 pub run_delete_var : (m : Machine) (s : State) (x : ℕ) → Mirrors m s → WellFormed s → (step_delete_var s x).refused ≡ None → RunTo m (emits_delete_var (know (suc x) s) x) (step_delete_var s x).after
 run_delete_var m s x t w h =
-    let r = know (suc x) s in
-    let p = accepted_cond (is_some (known_of r x).name) causes.deleted_var_named r _ h in
-    let hp = ap (λ o. o.refused) (sym p.1) ∙ h in
-    let q = accepted_cond (list_any (λ e. holds_var x e.lits) r.clauses) causes.deleted_var_has_clauses r (drop_unit x r) hp in
-    subst (λ (o : Outcome). RunTo m (emits_delete_var r x) o.after) (sym (p.1 ∙ q.1))
-    (run_drop m r x (tied-know m (suc x) s t) (form-know (suc x) s w) (ap (λ o. o.refused) (sym q.1) ∙ hp))
+    let e = accepted_drop s x h in
+    rw e (run_drop m (know (suc x) s) x (tied-know m (suc x) s t) (form-know (suc x) s w) (rw e at h))
