@@ -1,5 +1,5 @@
 -- What adding a formula emits, and the ids that runs put.
-use Rattle.std.proofs.Common.{◌≡◌, ◌≤◌, ℕ, suc, ◌+◌, true, false, leb, List, [], ◌∷◌, map, take, Some, None, refl, ap, ◌∙◌, subst, arith, Option, Bool}
+use Rattle.std.proofs.Common.{◌≡◌, ◌≤◌, ℕ, suc, ◌+◌, true, false, leb, List, [], ◌∷◌, map, take, Some, None, refl, ap, ◌∙◌, arith, Option, Bool}
 use Rattle.std.proofs.lemmas.Bool.{and_from, le-leb}
 use Rattle.sat_rules.specs.Named.{Machine, drop_id, put_id}
 use Rattle.checker_rules.specs.AddFormula.{added, added_by}
@@ -7,11 +7,11 @@ use Rattle.checker_rules.specs.CallEmissions.{EmitsCalls}
 use Rattle.checker_rules.specs.Calls.{adds}
 use Rattle.checker_rules.specs.Canonical.{canonical}
 use Rattle.checker_rules.specs.CheckedSteps.{NamedStep, hint_steps}
-use Rattle.checker_rules.specs.Emits.{Emits, EmitsAccepted, EmitsBy}
+use Rattle.checker_rules.specs.Emits.{EmitsAccepted}
 use Rattle.checker_rules.specs.FormulaEmissions.{FormulasEmit, input_steps}
 use Rattle.checker_rules.specs.Headline.{run}
 use Rattle.checker_rules.specs.HintRun.{HintStep, IsRun, PutIdsRise, fails_core, lowers, put_ids, puts_derived, puts_input, removes, rise_from}
-use Rattle.checker_rules.specs.Outcome.{Cause, Outcome, accept}
+use Rattle.checker_rules.specs.Outcome.{Cause, accept}
 use Rattle.checker_rules.specs.State.{State}
 use Rattle.checker_rules.specs.Step.{add_clause}
 use Rattle.checker_rules.specs.Steps.{step}
@@ -32,13 +32,10 @@ put_rise m low (fails_core c ids ∷ es) h run = put_rise m low es h run.1
 pub put_ids_rise : PutIdsRise
 put_ids_rise m es run = put_rise m m.above es (omega arith) run
 
--- an accepted input clause, by whether `unsat` stands
-abbrev Adds : State → List ℕ → Outcome → Type 0
-Adds s c o = o.refused ≡ None → s.unsat ≡ false → o.after.next ≡ s.next + 1
-
-adds_one : (s : State) (c : List ℕ) → Adds s c (step s (add_clause c))
+-- an accepted input clause, unless `unsat` stands
+adds_one : (s : State) (c : List ℕ) → (step s (add_clause c)).refused ≡ None → s.unsat ≡ false → (step s (add_clause c)).after.next ≡ s.next + 1
 unfolding step
-adds_one s list h u = grind (arith, takes_input)
+adds_one s c h u = grind (arith, takes_input)
 
 stays_unsat : (s : State) (c : List ℕ) → s.unsat ≡ true → step s (add_clause c) ≡ accept s
 unfolding step
@@ -53,12 +50,6 @@ silent s (c ∷ cs) es u em =
     let rest = silent (step s (add_clause c)).after cs em.1 (ap (λ o. o.after.unsat) same ∙ u) em.3 in
     let all = hints-append em.0 em.1 in
     let one = add_hints s (canonical c) in grind arith
-
-one_input : (s : State) (c : List ℕ) (xs : List NamedStep) → s.unsat ≡ false → EmitsAccepted s (add_clause c) xs → hint_steps xs ≡ puts_input s.next (canonical c) ∷ []
-one_input s c xs u h = let k = add_hints s (canonical c) in grind arith
-
-emits_of : (s : State) (c : List ℕ) (xs : List NamedStep) → (step s (add_clause c)).refused ≡ None → Emits s (add_clause c) xs → EmitsAccepted s (add_clause c) xs
-emits_of s c xs h em = subst (λ x. EmitsBy x s (add_clause c) xs) h em
 
 abbrev InputSteps : State → List (List ℕ) → List NamedStep → Type 0
 InputSteps s cs es = (n : ℕ) × (hint_steps es ≡ input_steps s.next (take n cs))
@@ -78,5 +69,6 @@ formulas_emit s (c ∷ cs) es em = go (step s (add_clause c)).refused s.unsat re
         let q = rec m.1 m.3 in
         let next = adds_one s c h u in
         let all = hints-append m.0 m.1 in
-        let one = one_input s c m.0 u (emits_of s c m.0 h m.2) in
+        let first : EmitsAccepted s (add_clause c) m.0 = rw h at m.2 in
+        let one = add_hints s (canonical c) in
         let e = q.1 in (suc q.0, grind arith)

@@ -1,5 +1,5 @@
 -- How steps change the number of input clauses.
-use Rattle.std.proofs.Common.{◌≡◌, ◌≤◌, ℕ, suc, ◌+◌, Bool, true, false, List}
+use Rattle.std.proofs.Common.{◌≡◌, ◌≤◌, ℕ, suc, ◌+◌, Bool, false, List}
 use Rattle.std.proofs.Common.{[], ◌∷◌, None, refl, ◌∙◌, arith}
 use Rattle.checker_rules.specs.AddClause.{step_add_clause, store_input}
 use Rattle.checker_rules.specs.AtClause.{step_at_clause}
@@ -10,19 +10,13 @@ use Rattle.checker_rules.specs.State.{State}
 use Rattle.checker_rules.specs.Step.{Step, add_clause, at_clause}
 use Rattle.checker_rules.specs.Step.{unit_clauses}
 use Rattle.checker_rules.specs.Steps.{step}
-use Rattle.checker_rules.specs.Store.{stands, store}
+use Rattle.checker_rules.specs.Store.{store}
 use Rattle.checker_rules.specs.UnitClauses.{step_unit, step_unit_clauses}
 use Rattle.checker_rules.proofs.Checks.{by_derived, by_unit}
 
 -- the number of input clauses and the next id
 abbrev pub Takes : ℕ → ℕ → State → Type 0
 Takes inputs next r = (r.inputs ≡ inputs) × (r.next ≡ next)
-
-pub takes_new : (c : List ℕ) (r : Bool) (s : State) → stands c s ≡ false → Takes s.inputs (s.next + 1) (store c r s)
-takes_new c r s h = grind arith
-
-pub takes_none : (c : List ℕ) (r : Bool) (s : State) → stands c s ≡ true → Takes s.inputs s.next (store c r s)
-takes_none c r s h = grind arith
 
 pub takes_input : (c : List ℕ) (s : State) → Takes s.inputs (s.next + 1) (store_input c s)
 takes_input c s = grind arith
