@@ -39,7 +39,8 @@ fold s before cs g h a =
 
 covers : (s : State) (before : List Step) (cs : List (List ℕ)) → Covers (holds before) s → Covers (holds (before ++ map add_clause (added s cs))) (add_clauses s cs).after
 covers s before [] h = rw append_none h
-covers s before (c ∷ cs) h = go (step s (add_clause c)).refused (steps_cover (holds before) s (add_clause c) h) (λ k. covers (step s (add_clause c)).after (before ++ add_clause c ∷ []) cs k)
+covers s before (c ∷ cs) h = go (step s (add_clause c)).refused (steps_cover (holds before) s (add_clause c) h)
+    (λ k. covers (step s (add_clause c)).after (before ++ add_clause c ∷ []) cs k)
   where
     r : State
     r = (step s (add_clause c)).after

@@ -20,9 +20,8 @@ all_named f (i ∷ ids) = followed_by (f i) (all_named f ids)
 
 named_are : (f : ℕ → Option (List ℕ)) (ids : List ℕ) (cs : List (List ℕ)) → NamedBy f ids cs → all_named f ids ≡ Some cs
 named_are f [] [] h = refl
-named_are f [] (c ∷ cs) h = absurd h
-named_are f (i ∷ ids) [] h = absurd h
 named_are f (i ∷ ids) (c ∷ cs) h = ap (λ x. followed_by x (all_named f ids)) h.0 ∙ ap (followed_by (Some c)) (named_are f ids cs h.1)
+named_are f ids cs h = absurd h
 
 -- a list that is not admitted
 same_clauses : (cs ds : List (List ℕ)) → Some cs ≡ Some ds → cs ≡ ds
