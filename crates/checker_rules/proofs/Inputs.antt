@@ -32,9 +32,7 @@ same-store : (c : List ℕ) (r : Bool) (s : State) → (store c r s).inputs ≡ 
 same-store c r s = grind arith
 
 same-at : (s : State) (r : Bool) (c hs : List ℕ) → Same s (step_at_clause s r c hs)
-same-at s r c hs =
-    let k = same-store (canonical c) r (ready s (canonical c)) in
-    by_derived (Same s) s r c hs refl (λ cause. same-apply s) (λ e. grind (arith, same-apply s))
+same-at s r c hs = by_derived (Same s) s r c hs refl (λ cause. same-apply s) (λ e. grind (arith, same-apply s, same-store (canonical c) r (ready s (canonical c))))
 
 same-unit : (s : State) (p : ℕ × ℕ) → Same s (step_unit s p)
 same-unit s p = by_unit (Same s) s p (λ cause. same-apply s) (λ e. same-store (p.0 ∷ []) false (ready s (p.0 ∷ [])) ∙ same-apply s)

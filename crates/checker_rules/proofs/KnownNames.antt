@@ -1,5 +1,5 @@
 -- Explicit user names are distinct.
-use Rattle.std.proofs.Common.{◌≡◌, ℕ, zero, suc, true, false, List, [], ◌∷◌, ◌++◌, get_or, set, replicate, Option, Some, None, refl, arith}
+use Rattle.std.proofs.Common.{◌≡◌, ℕ, zero, suc, true, false, List, [], ◌∷◌, ◌++◌, get_or, set, replicate, Option, refl, arith, ◌-◌}
 use Rattle.checker_rules.specs.KnownVars.{name_among, new_known, option_is}
 use Rattle.checker_rules.specs.State.{Known}
 use Rattle.checker_rules.specs.WellFormed.{is_name_among, names_apart}
@@ -23,22 +23,17 @@ names-more (k ∷ ks) n h = grind (arith, among-more k.name ks n, names-more ks 
 -- another name for one variable, given to none
 among-set : (u : ℕ) (ks : List Known) (v : ℕ) (k : Known) → name_among u ks ≡ false → option_is k.name u ≡ false → name_among u (set ks v k) ≡ false
 among-set u [] v k h other = refl
-among-set u (x ∷ ks) zero k h other = grind arith
-among-set u (x ∷ ks) (suc v) k h other = grind (arith, among-set u ks v k)
+among-set u (x ∷ ks) v k h other = grind (arith, among-set u ks (v - 1) k)
 
 pub names-set : (ks : List Known) (v : ℕ) (k : Known) → is_name_among k.name ks ≡ false → names_apart ks ≡ true → names_apart (set ks v k) ≡ true
 names-set [] v k free h = refl
-names-set (x ∷ ks) zero k free h = grind arith
-names-set (x ∷ ks) (suc v) k free h = grind (arith, names-set ks v k, among-set)
+names-set (x ∷ ks) v k free h = grind (arith, names-set ks (v - 1) k, among-set)
 
 -- another mode for one variable
 among_same : (a : Option ℕ) (ks : List Known) (v : ℕ) (k : Known) → k.name ≡ (get_or ks v new_known).name → is_name_among a (set ks v k) ≡ is_name_among a ks
-among_same None ks v k e = refl
-among_same (Some u) [] v k e = refl
-among_same (Some u) (x ∷ ks) zero k e = grind arith
-among_same (Some u) (x ∷ ks) (suc v) k e = grind (arith, among_same (Some u) ks v k)
+among_same a [] v k e = grind arith
+among_same a (x ∷ ks) v k e = grind (arith, among_same a ks (v - 1) k)
 
 pub names-same : (ks : List Known) (v : ℕ) (k : Known) → k.name ≡ (get_or ks v new_known).name → names_apart ks ≡ true → names_apart (set ks v k) ≡ true
 names-same [] v k e h = refl
-names-same (x ∷ ks) zero k e h = grind arith
-names-same (x ∷ ks) (suc v) k e h = grind (arith, among_same x.name ks v k, names-same ks v k)
+names-same (x ∷ ks) v k e h = grind (arith, among_same x.name ks (v - 1) k, names-same ks (v - 1) k)
