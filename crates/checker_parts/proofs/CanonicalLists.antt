@@ -1,5 +1,6 @@
 -- Canonical lists: determined by their members, and where they hold opposite literals.
 use Rattle.std.proofs.Common.{◌≡◌, ℕ, ◌+◌, ◌-◌, ◌%◌, ◌<◌, ◌⊎◌, Bool, true, false, cond, ◌||◌, eqb, ltb, List, [], ◌∷◌, refl, sym, ap, ◌∙◌, subst, arith, inl, inr, eq-eqb, ltb-true}
+use Rattle.std.proofs.lemmas.Bool.Decides.{nat_tests}
 use Rattle.std.specs.Cmp.{nat_eq_equiv}
 use Rattle.std.specs.List.{AllByRecursion, dedup, list_all}
 use Rattle.std.specs.List.Sorted.{IsPermutation, IsSorted, IsStrictlySortedBy}
@@ -19,60 +20,36 @@ use Rattle.checker_rules.proofs.Sets.{bool_ext}
 -- a number that stands in no list of greater ones
 pub has-above : (l : ℕ) (c : List ℕ) → list_all (ltb l) c ≡ true → has l c ≡ false
 has-above l [] h = refl
-has-above l (m ∷ c) h =
-    let q = and_parts (ltb l m) (list_all (ltb l) c) h in
-    let lower = ltb-true l m q.0 in
-    ap (λ b. b || has l c) (ne_eqb l m (λ e. omega arith)) ∙ has-above l c q.1
+has-above l (m ∷ c) h = grind (arith, nat_tests, has-above l c)
 
 -- members of the canonical list
 has-insert : (x l : ℕ) (c : List ℕ) → has x (insert_lit l c) ≡ (eqb x l || has x c)
 has-insert x l [] = refl
-has-insert x l (m ∷ c) = elim (ltb l m) as (λ b. has x (cond b (l ∷ m ∷ c) (cond (eqb l m) (m ∷ c) (m ∷ insert_lit l c))) ≡ (eqb x l || has x (m ∷ c))) [
-  | true ↦ refl
-  | false ↦ elim (eqb l m) as (λ b. eqb l m ≡ b → has x (cond b (m ∷ c) (m ∷ insert_lit l c)) ≡ (eqb x l || has x (m ∷ c))) [
-    | true ↦ λ e. subst (λ n. (eqb x n || has x c) ≡ (eqb x l || (eqb x n || has x c))) (eqb-true l m e) (twice (eqb x l) (has x c))
-    | false ↦ λ e. ap (λ b. eqb x m || b) (has-insert x l c) ∙ swapped (eqb x m) (eqb x l) (has x c)
-  ] refl
-]
-  where
-    twice : (a b : Bool) → (a || b) ≡ (a || (a || b))
-    twice true b = refl
-    twice false b = refl
-
-    swapped : (a b c : Bool) → (a || (b || c)) ≡ (b || (a || c))
-    swapped true true c = refl
-    swapped true false c = refl
-    swapped false b c = refl
+has-insert x l (m ∷ c) = grind (arith, nat_tests, has-insert x l c)
 
 has-canonical : (x : ℕ) (c : List ℕ) → has x (canonical c) ≡ has x c
 has-canonical x [] = refl
 has-canonical x (l ∷ c) = has-insert x l (canonical c) ∙ ap (λ b. eqb x l || b) (has-canonical x c)
 
 -- canonical lists with equal members are equal
+heads : (x y : ℕ) (xs ys : List ℕ) → list_all (ltb x) xs ≡ true → list_all (ltb y) ys ≡ true → has x (y ∷ ys) ≡ true → has y (x ∷ xs) ≡ true → x ≡ y
+heads x y xs ys h k a b = grind (arith, nat_tests, has-above, all_at)
+
+later : (x y z : ℕ) (xs ys : List ℕ) → x ≡ y → list_all (ltb x) xs ≡ true → list_all (ltb y) ys ≡ true → has z (x ∷ xs) ≡ has z (y ∷ ys) → has z xs ≡ has z ys
+later x y z xs ys e h k same = grind (arith, nat_tests, has-above)
+
+has-first : (x : ℕ) (xs : List ℕ) → has x (x ∷ xs) ≡ true
+has-first x xs = grind (arith, nat_tests)
+
 canonical_by_members : (c d : List ℕ) → is_canonical c ≡ true → is_canonical d ≡ true → ((x : ℕ) → has x c ≡ has x d) → c ≡ d
 canonical_by_members [] [] h k same = refl
-canonical_by_members [] (y ∷ ys) h k same = absurd (false≢true (same y ∙ or_left (eqb y y) (has y ys) (eq-eqb y y refl)))
-canonical_by_members (x ∷ xs) [] h k same = absurd (false≢true (sym (same x) ∙ or_left (eqb x x) (has x xs) (eq-eqb x x refl)))
+canonical_by_members [] (y ∷ ys) h k same = absurd (false≢true (same y ∙ has-first y ys))
+canonical_by_members (x ∷ xs) [] h k same = absurd (false≢true (sym (same x) ∙ has-first x xs))
 canonical_by_members (x ∷ xs) (y ∷ ys) h k same =
     let p = and_parts (list_all (ltb x) xs) (is_canonical xs) h in
     let q = and_parts (list_all (ltb y) ys) (is_canonical ys) k in
-    let first = heads (or_cases (eqb x y) (has x ys) (sym (same x) ∙ or_left (eqb x x) (has x xs) (eq-eqb x x refl)))
-    (or_cases (eqb y x) (has y xs) (same y ∙ or_left (eqb y y) (has y ys) (eq-eqb y y refl))) p.0 q.0 in
-    let rest = canonical_by_members xs ys p.1 q.1 (λ z. later z (list_all (ltb x) xs) first (same z) p.0 q.0) in cc
-  where
-    heads : (eqb x y ≡ true) ⊎ (has x ys ≡ true) → (eqb y x ≡ true) ⊎ (has y xs ≡ true) → list_all (ltb x) xs ≡ true → list_all (ltb y) ys ≡ true → x ≡ y
-    heads (inl e) b h k = eqb-true x y e
-    heads (inr a) (inl e) h k = sym (eqb-true y x e)
-    heads (inr a) (inr b) h k =
-        let upper = ltb-true x y (all_at (ltb x) xs y h b) in
-        let lower = ltb-true y x (all_at (ltb y) ys x k a) in absurd (omega arith)
-
-    later : (z : ℕ) (b : Bool) → x ≡ y → (eqb z x || has z xs) ≡ (eqb z y || has z ys) → list_all (ltb x) xs ≡ true → list_all (ltb y) ys ≡ true → has z xs ≡ has z ys
-    later z b e s h k = elim (eqb z x) as (λ t. eqb z x ≡ t → (t || has z xs) ≡ (t || has z ys) → has z xs ≡ has z ys) [
-      | true ↦ λ f g. let at = eqb-true z x f in
-          subst (λ n. has n xs ≡ false) (sym at) (has-above x xs h) ∙ sym (subst (λ n. has n ys ≡ false) (sym (at ∙ e)) (has-above y ys k))
-      | false ↦ λ f g. g
-    ] refl (s ∙ ap (λ n. eqb z n || has z ys) (sym e))
+    let first = heads x y xs ys p.0 q.0 (sym (same x) ∙ has-first x xs) (same y ∙ has-first y ys) in
+    let rest = canonical_by_members xs ys p.1 q.1 (λ z. later x y z xs ys first p.0 q.0 (same z)) in cc
 
 pub canonical_from : (src c : List ℕ) → is_canonical c ≡ true → ((x : ℕ) → has x c ≡ has x src) → c ≡ canonical src
 canonical_from src c h same = canonical_by_members c (canonical src) h (canonical-is src) (λ x. same x ∙ sym (has-canonical x src))
@@ -87,9 +64,7 @@ opposite : (x y : ℕ) → x < y → var_of x ≡ var_of y → negate x ≡ y
 opposite x y h e = ap (λ b. cond b (x - 1) (x + 1)) (ne_eqb (x % 2) 1 (λ d. omega arith)) ∙ omega arith
 
 tautology-cons : (x : ℕ) (c : List ℕ) → is_tautology c ≡ true → is_tautology (x ∷ c) ≡ true
-tautology-cons x c h =
-    let at = any_at (λ l. has (negate l) c) c h in
-    any_from (λ l. has (negate l) (x ∷ c)) (x ∷ c) at.0 (or_right (eqb at.0 x) (has at.0 c) at.1) (or_right (eqb (negate at.0) x) (has (negate at.0) c) at.2)
+tautology-cons x c h = grind (arith, any_at, any_from, or_right)
 
 from_neighbours : (c : List ℕ) → is_canonical c ≡ true → shares_var c ≡ true → is_tautology c ≡ true
 from_neighbours [] h t = absurd (false≢true t)
@@ -104,63 +79,45 @@ from_neighbours (x ∷ y ∷ ys) h t =
     ]
 
 -- a literal and the next code, of the same variable
+lower : (x l : ℕ) (c : List ℕ) → list_all (ltb x) c ≡ true → has l c ≡ true → x < l
+lower x l c h k = ltb-true x l (all_at (ltb x) c l h k)
+
+second_is : (x y : ℕ) (ys : List ℕ) → list_all (ltb y) ys ≡ true → has (x + 1) (x ∷ y ∷ ys) ≡ true → x < y → x + 1 ≡ y
+second_is x y ys k b less = grind (arith, nat_tests, lower y (x + 1) ys)
+
+among_later : (x l : ℕ) (c : List ℕ) → list_all (ltb x) c ≡ true → has l c ≡ true → has (l + 1) (x ∷ c) ≡ true → has (l + 1) c ≡ true
+among_later x l c h k b = grind (arith, nat_tests, lower x l c)
+
 pair_shares : (c : List ℕ) (l : ℕ) → is_canonical c ≡ true → has l c ≡ true → has (l + 1) c ≡ true → var_of l ≡ var_of (l + 1) → shares_var c ≡ true
 pair_shares [] l h a b e = absurd (false≢true a)
-pair_shares (x ∷ xs) l h a b e =
-    let q = and_parts (list_all (ltb x) xs) (is_canonical xs) h in
-    elim (or_cases (eqb (l + 1) x) (has (l + 1) xs) b) [
-      | inl same ↦ absurd (too_low (eqb-true (l + 1) x same) q.0)
-      | inr later ↦ elim (or_cases (eqb l x) (has l xs) a) [
-        | inl first ↦ next xs (eqb-true l x first) h later
-        | inr both ↦ further xs (pair_shares xs l q.1 both later e)
-      ]
+pair_shares (x ∷ []) l h a b e = grind (arith, nat_tests)
+pair_shares (x ∷ y ∷ ys) l h a b e =
+    let p = and_parts (list_all (ltb x) (y ∷ ys)) (is_canonical (y ∷ ys)) h in
+    let q = and_parts (list_all (ltb y) ys) (is_canonical ys) p.1 in
+    let less = ltb-true x y (and_parts (ltb x y) (list_all (ltb x) ys) p.0).0 in
+    elim (or_cases (eqb l x) (has l (y ∷ ys)) a) [
+      | inl first ↦
+          let same = eqb-true l x first in let next = second_is x y ys q.0 (subst (λ n. has (n + 1) (x ∷ y ∷ ys) ≡ true) same b) less in
+          or_left (eqb (var_of x) (var_of y)) (shares_var (y ∷ ys)) (eq-eqb (var_of x) (var_of y) (omega (arith, same, next, e)))
+      | inr both ↦ or_right (eqb (var_of x) (var_of y)) (shares_var (y ∷ ys)) (pair_shares (y ∷ ys) l p.1 both (among_later x l (y ∷ ys) p.0 both b) e)
     ]
-  where
-    too_low : l + 1 ≡ x → list_all (ltb x) xs ≡ true → ⊥
-    too_low s k = elim (or_cases (eqb l x) (has l xs) a) [
-      | inl now ↦ let same = eqb-true l x now in omega arith
-      | inr later ↦ let above = ltb-true x l (all_at (ltb x) xs l k later) in omega arith
-    ]
-
-    further : (ys : List ℕ) → shares_var ys ≡ true → shares_var (x ∷ ys) ≡ true
-    further [] t = t
-    further (y ∷ ys) t = or_right (eqb (var_of x) (var_of y)) (shares_var (y ∷ ys)) t
-
-    next : (ys : List ℕ) → l ≡ x → is_canonical (x ∷ ys) ≡ true → has (l + 1) ys ≡ true → shares_var (x ∷ ys) ≡ true
-    next [] s k t = absurd (false≢true t)
-    next (y ∷ ys) s k t =
-        let q = and_parts (list_all (ltb x) (y ∷ ys)) (is_canonical (y ∷ ys)) k in
-        let below = ltb-true x y (and_parts (ltb x y) (list_all (ltb x) ys) q.0).0 in
-        let above = and_parts (list_all (ltb y) ys) (is_canonical ys) q.1 in
-        elim (or_cases (eqb (l + 1) y) (has (l + 1) ys) t) [
-          | inl now ↦ let same = eqb-true (l + 1) y now in or_left (eqb (var_of x) (var_of y)) (shares_var (y ∷ ys)) (eq-eqb (var_of x) (var_of y) (omega arith))
-          | inr later ↦ let over = ltb-true y (l + 1) (all_at (ltb y) ys (l + 1) above.0 later) in absurd (omega arith)
-        ]
 
 to_neighbours : (c : List ℕ) → is_canonical c ≡ true → is_tautology c ≡ true → shares_var c ≡ true
-to_neighbours c h t = let at = any_at (λ l. has (negate l) c) c t in go at.0 at.1 (is_negative at.0) refl at.2
-  where
-    go : (l : ℕ) → has l c ≡ true → (b : Bool) → is_negative l ≡ b → has (cond b (l - 1) (l + 1)) c ≡ true → shares_var c ≡ true
-    go l a true e o = let odd = eqb-true (l % 2) 1 e in pair_shares c (l - 1) h o (subst (λ n. has n c ≡ true) (omega arith) a) (omega arith)
-    go l a false e o = let even = eqb-false (l % 2) 1 e in pair_shares c l h a o (omega arith)
+to_neighbours c h t = grind (arith, any_at, eqb-true, pair_shares, eqb-false)
 
 -- opposite literals of a canonical list are neighbours
 pub shares_var-canonical : (c : List ℕ) → is_canonical c ≡ true → shares_var c ≡ is_tautology c
 shares_var-canonical c h = bool_ext (shares_var c) (is_tautology c) (from_neighbours c h) (to_neighbours c h)
 
 -- a list that rises is canonical
+above-sorted : (x : ℕ) (ys : List ℕ) → AllByRecursion (λ y. nat_cmp x y ≡ Less) ys → list_all (ltb x) ys ≡ true
+above-sorted x [] k = refl
+above-sorted x (y ∷ ys) k = grind (arith, nat_tests, above-sorted x ys k.1)
+
 canonical_from_sorted : (c : List ℕ) → IsStrictlySortedBy nat_cmp c → is_canonical c ≡ true
 unfolding IsStrictlySortedBy
 canonical_from_sorted [] h = refl
-canonical_from_sorted (x ∷ c) h = and_from (list_all (ltb x) c) (is_canonical c) (above c h.0) (canonical_from_sorted c h.1)
-  where
-    less : (y : ℕ) (b : Bool) → ltb x y ≡ b → cond b Less (cond (eqb x y) Equal Greater) ≡ Less → ltb x y ≡ true
-    less y true e k = e
-    less y false e k = elim (eqb x y) as (λ b. cond b Equal Greater ≡ Less → ltb x y ≡ true) [ true ↦ λ k. cc | false ↦ λ k. cc ] k
-
-    above : (ys : List ℕ) → AllByRecursion (λ y. nat_cmp x y ≡ Less) ys → list_all (ltb x) ys ≡ true
-    above [] k = refl
-    above (y ∷ ys) k = and_from (ltb x y) (list_all (ltb x) ys) (less y (ltb x y) refl k.0) (above ys k.1)
+canonical_from_sorted (x ∷ c) h = and_from (list_all (ltb x) c) (is_canonical c) (above-sorted x c h.0) (canonical_from_sorted c h.1)
 
 -- the sorted list of a list, without its repeats
 pub sorted-canonical : (src sorted : List ℕ) → IsPermutation src sorted → IsSorted nat_cmp sorted → dedup eqb sorted ≡ canonical src

@@ -85,12 +85,7 @@ pub known-parts : (k : Known) (o : Option ℕ) (w : Mode) → o ≡ k.name → w
 known-parts k o w name mode = ap (λ (o : Option ℕ). record { name = o; mode = w }) name ∙ ap (λ w. record { name = k.name; mode = w }) mode
 
 pub columns_mode : (ns : List ℕ) (ms : List SamplingMode) (ts : List Bool) (i : ℕ) (m : SamplingMode) → AreColumns ns ms ts → i < length ns → AreColumns ns (set ms i m) ts
-columns_mode ns ms ts i m h less = record {
-  modes = length-set ms i m ∙ h.modes;
-  taken = h.taken;
-  marked = subst (λ ks. IsMarked ks ts) (sym (known_by-mode ns ms i m h.modes))
-      (marked_same (known_by ns ms) ts i (record { name = (known_at (known_by ns ms) i).name; mode = mode_of m }) h.marked (omega (arith, length-known_by ns ms h.modes)) refl);
-}
+columns_mode ns ms ts i m h less = grind (arith, length-set, known_by-mode, marked_same, length-known_by)
 
 -- a variable is hidden, and its name goes
 pub known_by-hidden : (ns : List ℕ) (ms : List SamplingMode) (i n : ℕ) → name_of n ≡ None → length ms ≡ length ns →
@@ -100,11 +95,7 @@ known_by-hidden ns ms i n none h = known_by-both ns ms i n Hide h ∙ ap (λ o. 
 pub columns_hidden : (ns : List ℕ) (ms : List SamplingMode) (ts ts' : List Bool) (i n : ℕ) → name_of n ≡ None → AreColumns ns ms ts →
     length ts' ≡ length ts → IsMarked (set (known_by ns ms) i (record { name = None; mode = hide })) ts'
     → AreColumns (set ns i n) (set ms i Hide) ts'
-columns_hidden ns ms ts ts' i n none h long marked = record {
-  modes = length-set ms i Hide ∙ h.modes ∙ sym (length-set ns i n);
-  taken = long ∙ h.taken ∙ sym (length-set ns i n);
-  marked = subst (λ ks. IsMarked ks ts') (sym (known_by-hidden ns ms i n none h.modes)) marked;
-}
+columns_hidden ns ms ts ts' i n none h long marked = grind (arith, length-set, known_by-hidden)
 
 -- the columns grow
 pub known_by-grown : (ns ns' : List ℕ) (ms ms' : List SamplingMode) (n k : ℕ) → name_of n ≡ None → length ms ≡ length ns →
@@ -113,18 +104,12 @@ known_by-grown ns ns' ms ms' n k none h names modes = ap (λ ns. known_by ns ms'
 
 pub columns_grown : (ns ns' : List ℕ) (ms ms' : List SamplingMode) (ts ts' : List Bool) (n k : ℕ) → name_of n ≡ None → AreColumns ns ms ts →
     ns' ≡ ns ++ replicate k n → ms' ≡ ms ++ replicate k Sample → ts' ≡ ts ++ replicate k false → AreColumns ns' ms' ts'
-columns_grown ns ns' ms ms' ts ts' n k none h names modes taken = rw (names, modes, taken) (record {
-  modes = length-append ms (replicate k Sample) ∙ omega (arith, h.modes, length-replicate k Sample, length-replicate k n) ∙ sym (length-append ns (replicate k n));
-  taken = length-append ts (replicate k false) ∙ omega (arith, h.taken, length-replicate k false, length-replicate k n) ∙ sym (length-append ns (replicate k n));
-  marked = subst (λ ks. IsMarked ks (ts ++ replicate k false)) (sym (known_by-more ns ms n k none h.modes)) (marked_more (known_by ns ms) ts k h.marked);
-})
+columns_grown ns ns' ms ms' ts ts' n k none h names modes taken = grind (arith, length-append, length-replicate, known_by-more, marked_more)
 
 -- a column grows to n elements where it had m
 pub grown : {X : Type 0} (old mid new : List X) (len m n : ℕ) (x : X) → length old ≡ m → mid ≡ old → len ≡ length mid →
     new ≡ take n mid ++ replicate (n - len) x → m < n → new ≡ old ++ replicate (n - m) x
-grown {X} old mid new len m n x long same at is less =
-    let size = ap (λ (xs : List X). length xs) same in
-    is ∙ ap (λ (xs : List X). xs ++ replicate (n - len) x) (take_all n mid (omega arith) ∙ same) ∙ ap (λ k. old ++ replicate (n - k) x) (at ∙ size ∙ long)
+grown old mid new len m n x long same at is less = grind (arith, take_all)
 
 -- a column with room for n elements does not fail to grow to them
 pub no_room : {X : Type 0} (l len n size cap : ℕ) → size ≡ l → len ≡ l → size + (n - len) ≤ cap → cap < n → X

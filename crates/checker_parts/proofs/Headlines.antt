@@ -1,5 +1,5 @@
 -- The headline of a call, and the unsatisfiable side, follow from its answer by the definitions.
-use Rattle.std.proofs.Common.{◌≡◌, ℕ, Bool, List, [], ◌∷◌, ◌++◌, Option, Some, None, Result, Ok, Err, sym, ap, ◌∙◌, subst}
+use Rattle.std.proofs.Common.{◌≡◌, ℕ, Bool, List, [], ◌∷◌, ◌++◌, Option, Some, None, Result, Ok, Err, sym, ap, ◌∙◌, subst, arith}
 use Rattle.checker_rules.specs.Calls.{attempt, closing_conflict}
 use Rattle.checker_rules.specs.Covers.{Covers, CoversAfter}
 use Rattle.checker_rules.specs.Headline.{EntailsRedundant, SetAfter, changed, holds}
@@ -35,40 +35,20 @@ fold-last ts t p s f h a = h a ∙ changed_same t p (holds ts) f a ∙ sym (hold
 -- one step, from what its outcome does to the set
 pub sets_fold : (s : State) (t : Step) (o : Outcome) → SetAfter (sat s) t o.refused o.after → (ts : List Step) → IsFold ts s →
     (r : Result (Unit {0}) CheckerError) (u : State) → AnswersStep r o u → SetsFold r ts t u
-sets_fold s t o k ts f (Ok x) u h = fold-last ts t (sat s) u f (λ a. ap (λ w. sat w a) h.1 ∙ accepted o.refused h.0 k a)
-  where
-    accepted : (x : Option Cause) → x ≡ None → SetAfter (sat s) t x o.after → (a : ℕ → Bool) → sat o.after a ≡ changed t (sat s) a
-    accepted None e k = k
-    accepted (Some cause) e k = cc
-sets_fold s t o k ts f (Err (CheckFailed number cause debug_step)) u h = λ a. ap (λ w. sat w a) h.1 ∙ kept o.refused (cause_of cause) h.0 k a ∙ f a
-  where
-    kept : (x : Option Cause) (c : Cause) → x ≡ Some c → SetAfter (sat s) t x o.after → (a : ℕ → Bool) → sat o.after a ≡ sat s a
-    kept None c e k = cc
-    kept (Some d) c e k = k
-sets_fold s t o k ts f (Err (ProofIncomplete number)) u h = absurd h
-sets_fold s t o k ts f (Err (IoError number cause)) u h = absurd h
-sets_fold s t o k ts f (Err (ParseError number cause)) u h = absurd h
+sets_fold s t o k ts f (Ok x) u h = fold-last ts t (sat s) u f (λ a. grind (arith, h, k))
+sets_fold s t o k ts f (Err (CheckFailed number cause debug_step)) u h = λ a. ap (λ w. sat w a) h.1 ∙ grind (arith, h.0, k) ∙ f a
 sets_fold s t o k ts f (Err (ProofProcessorError cause)) u h = tt
 sets_fold s t o k ts f (Err OutOfMemory) u h = tt
 sets_fold s t o k ts f (Err Failed) u h = tt
+sets_fold s t o k ts f _ u h = absurd h
 
 pub covers_fold : (t : Step) (o : Outcome) (ts : List Step) → CoversAfter (holds ts) t o.refused o.after → (r : Result (Unit {0}) CheckerError) (u : State) → AnswersStep r o u → CoversFold r ts t u
-covers_fold t o ts k (Ok x) u h = covers-last ts t u (subst (Covers (changed t (holds ts))) (sym h.1) (accepted o.refused h.0 k))
-  where
-    accepted : (x : Option Cause) → x ≡ None → CoversAfter (holds ts) t x o.after → Covers (changed t (holds ts)) o.after
-    accepted None e k = k
-    accepted (Some cause) e k = cc
-covers_fold t o ts k (Err (CheckFailed number cause debug_step)) u h = subst (Covers (holds ts)) (sym h.1) (kept o.refused (cause_of cause) h.0 k)
-  where
-    kept : (x : Option Cause) (c : Cause) → x ≡ Some c → CoversAfter (holds ts) t x o.after → Covers (holds ts) o.after
-    kept None c e k = cc
-    kept (Some d) c e k = k
-covers_fold t o ts k (Err (ProofIncomplete number)) u h = absurd h
-covers_fold t o ts k (Err (IoError number cause)) u h = absurd h
-covers_fold t o ts k (Err (ParseError number cause)) u h = absurd h
+covers_fold t o ts k (Ok x) u h = covers-last ts t u (subst (Covers (changed t (holds ts))) (sym h.1) (grind (arith, h.0, k)))
+covers_fold t o ts k (Err (CheckFailed number cause debug_step)) u h = subst (Covers (holds ts)) (sym h.1) (grind (arith, h.0, k))
 covers_fold t o ts k (Err (ProofProcessorError cause)) u h = tt
 covers_fold t o ts k (Err OutOfMemory) u h = tt
 covers_fold t o ts k (Err Failed) u h = tt
+covers_fold t o ts k _ u h = absurd h
 
 -- `check_step` and `add_clause`
 pub sets_fold-step : (s : State) (t : Step) (ts : List Step) (r : Result (Unit {0}) CheckerError) (u : State) → EntailsRedundant s → IsFold ts s → AnswersStep r (step s t) u → SetsFold r ts t u
@@ -88,12 +68,10 @@ covers_fold-attempt s t ts r u k h = covers_fold t (attempt s t) ts (covers_atte
 pub unless_failed : (P : State → Type 0) (o : Outcome) → P o.after → (r : Result (Unit {0}) CheckerError) (u : State) → AnswersStep r o u → UnlessFailed r (P u)
 unless_failed P o k (Ok x) u h = subst P (sym h.1) k
 unless_failed P o k (Err (CheckFailed number cause debug_step)) u h = subst P (sym h.1) k
-unless_failed P o k (Err (ProofIncomplete number)) u h = absurd h
-unless_failed P o k (Err (IoError number cause)) u h = absurd h
-unless_failed P o k (Err (ParseError number cause)) u h = absurd h
 unless_failed P o k (Err (ProofProcessorError cause)) u h = tt
 unless_failed P o k (Err OutOfMemory) u h = tt
 unless_failed P o k (Err Failed) u h = tt
+unless_failed P o k _ u h = absurd h
 
 -- a closing conflict
 pub sets_fold-closing : (s : State) (ts : List Step) (r : Result (Unit {0}) CheckerError) (u : State) → EntailsRedundant s → IsFold ts s →
@@ -106,7 +84,5 @@ covers_fold-closing s ts r u k h = unless_failed (IsCovered ts) (closing_conflic
 -- the clauses of a text
 pub sets_text : {P : Type 0} (o : Outcome) (u : State) → ((r : Result (Unit {0}) CheckerError) → AnswersStep r o u → UnlessFailed r P) →
     (r : Result (Unit {0}) DimacsError) → AnswersText r o u → UnlessTextFailed r P
-sets_text o u k (Ok x) h = k ok_answer h
-sets_text o u k (Err (Read cause)) h = k ok_answer h
-sets_text o u k (Err (Malformed line kind)) h = k ok_answer h
 sets_text o u k (Err (Checker e)) h = k (err_answer e) h
+sets_text o u k _ h = k ok_answer h

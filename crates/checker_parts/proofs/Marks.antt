@@ -36,70 +36,28 @@ times-set ks i u k h = sum_by-set (λ (k : Known). names_it k.name u) ks i k new
 -- a name is taken exactly where its index is marked
 taken-times : (ks : List Known) (u : ℕ) → times_taken ks u ≡ 0 → is_taken ks u ≡ false
 taken-times [] u h = refl
-taken-times (k ∷ ks) u h = elim (option_is k.name u) as (λ b. cond b 1 0 + times_taken ks u ≡ 0 → (b || is_taken ks u) ≡ false) [
-  | true ↦ λ e. absurd (omega arith)
-  | false ↦ λ e. taken-times ks u (omega arith)
-] (sym (sum_by-cons (λ (k : Known). names_it k.name u) k ks) ∙ h)
+taken-times (k ∷ ks) u h = grind (arith, sum_by-cons (λ (k : Known). names_it k.name u) k ks, taken-times ks u)
 
 times-taken : (ks : List Known) (u : ℕ) → is_taken ks u ≡ false → times_taken ks u ≡ 0
 times-taken [] u h = refl
-times-taken (k ∷ ks) u h = sum_by-cons (λ (k : Known). names_it k.name u) k ks ∙ elim (option_is k.name u) as (λ b. (b || is_taken ks u) ≡ false → cond b 1 0 + times_taken ks u ≡ 0) [
-  | true ↦ λ e. absurd (true≢false e)
-  | false ↦ λ e. let none = times-taken ks u e in omega arith
-] h
+times-taken (k ∷ ks) u h = grind (arith, sum_by-cons (λ (k : Known). names_it k.name u) k ks, times-taken ks u)
 
 pub taken-mark : (ks : List Known) (ts : List Bool) (u : ℕ) → IsMarked ks ts → is_taken ks u ≡ get_or ts u false
-taken-mark ks ts u m = go (get_or ts u false) (m u)
-  where
-    go : (b : Bool) → times_taken ks u ≡ cond b 1 0 → is_taken ks u ≡ b
-    go true e = elim (is_taken ks u) as (λ b. is_taken ks u ≡ b → b ≡ true) [
-      | true ↦ λ d. refl
-      | false ↦ λ d. let none = times-taken ks u d in absurd (omega arith)
-    ] refl
-    go false e = taken-times ks u e
+taken-mark ks ts u m = grind (arith, times-taken, taken-times)
 
 -- the name stays
 pub marked_same : (ks : List Known) (ts : List Bool) (i : ℕ) (k : Known) → IsMarked ks ts → i < length ks → k.name ≡ (known_at ks i).name → IsMarked (set ks i k) ts
-marked_same ks ts i k m h name u =
-    let times = times-set ks i u k h in
-    let same = ap (λ o. names_it o u) name in
-    let before = m u in omega arith
+marked_same ks ts i k m h name u = grind (arith, times-set)
 
 -- a name is given, and its index is marked
 pub marked_name : (ks : List Known) (ts : List Bool) (i j : ℕ) (k : Known) → IsMarked ks ts → i < length ks → j < length ts
     → (known_at ks i).name ≡ None → k.name ≡ Some j → is_taken ks j ≡ false → IsMarked (set ks i k) (set ts j true)
-marked_name ks ts i j k m hi hj unnamed name free u =
-    let times = times-set ks i u k hi in
-    let old : names_it (known_at ks i).name u ≡ 0 = ap (λ o. names_it o u) unnamed in
-    let new : names_it k.name u ≡ names_it (Some j) u = ap (λ o. names_it o u) name in
-    let before = m u in
-    elim (cases_eq u j) [
-      | inl eq ↦
-          let one : names_it (Some j) u ≡ 1 = ap (λ b. cond b 1 0) (eq-eqb j u (sym eq)) in
-          let none : times_taken ks u ≡ 0 = ap (λ n. times_taken ks n) eq ∙ times-taken ks j free in
-          let marked = mark-set_same ts j u true eq hj in omega arith
-      | inr ne ↦
-          let other : names_it (Some j) u ≡ 0 = ap (λ b. cond b 1 0) (ne_eqb j u (λ t. ne (sym t))) in
-          let same = mark-set_other ts j u true ne in omega arith
-    ]
+marked_name ks ts i j k m hi hj unnamed name free u = grind (arith, times-set, cases_eq, eq-eqb, times-taken, mark-set_same, ne_eqb, mark-set_other)
 
 -- a name goes, and the mark of its index
 pub marked_unnamed : (ks : List Known) (ts : List Bool) (i j : ℕ) (k : Known) → IsMarked ks ts → i < length ks → j < length ts
     → (known_at ks i).name ≡ Some j → k.name ≡ None → IsMarked (set ks i k) (set ts j false)
-marked_unnamed ks ts i j k m hi hj named name u =
-    let times = times-set ks i u k hi in
-    let old : names_it (known_at ks i).name u ≡ names_it (Some j) u = ap (λ o. names_it o u) named in
-    let new : names_it k.name u ≡ 0 = ap (λ o. names_it o u) name in
-    let most = mark-le-one (get_or ts u false) in
-    let before = m u in
-    elim (cases_eq u j) [
-      | inl eq ↦
-          let one : names_it (Some j) u ≡ 1 = ap (λ b. cond b 1 0) (eq-eqb j u (sym eq)) in
-          let marked = mark-set_same ts j u false eq hj in omega arith
-      | inr ne ↦
-          let other : names_it (Some j) u ≡ 0 = ap (λ b. cond b 1 0) (ne_eqb j u (λ t. ne (sym t))) in
-          let same = mark-set_other ts j u false ne in omega arith
-    ]
+marked_unnamed ks ts i j k m hi hj named name u = grind (arith, times-set, mark-le-one, cases_eq, eq-eqb, mark-set_same, ne_eqb, mark-set_other)
 
 -- a name in use is the index of a known variable
 pub name-in_range : (ks : List Known) (ts : List Bool) (i j : ℕ) → IsMarked ks ts → i < length ks → (known_at ks i).name ≡ Some j → j < length ts
@@ -113,19 +71,15 @@ name-in_range ks ts i j m h name = elim (cases_lt j (length ts)) [
 ]
 
 -- new variables
+get_or-new : (n u : ℕ) → get_or (replicate n false) u false ≡ false
+get_or-new zero u = refl
+get_or-new (suc n) zero = refl
+get_or-new (suc n) (suc u) = get_or-new n u
+
 get_or-more : (ts : List Bool) (n u : ℕ) → get_or (ts ++ replicate n false) u false ≡ get_or ts u false
 get_or-more [] n u = get_or-new n u
-  where
-    get_or-new : (n u : ℕ) → get_or (replicate n false) u false ≡ false
-    get_or-new zero u = refl
-    get_or-new (suc n) zero = refl
-    get_or-new (suc n) (suc u) = get_or-new n u
 get_or-more (t ∷ ts) n zero = refl
 get_or-more (t ∷ ts) n (suc u) = get_or-more ts n u
 
 pub marked_more : (ks : List Known) (ts : List Bool) (n : ℕ) → IsMarked ks ts → IsMarked (ks ++ replicate n new_known) (ts ++ replicate n false)
-marked_more ks ts n m u =
-    let list = sum_by-append (λ (k : Known). names_it k.name u) ks (replicate n new_known) in
-    let none = sum_by-replicate (λ (k : Known). names_it k.name u) n new_known in
-    let same : mark (ts ++ replicate n false) u ≡ mark ts u = ap (λ b. cond b 1 0) (get_or-more ts n u) in
-    let before = m u in omega (arith, mul-zero n)
+marked_more ks ts n m u = grind (arith, sum_by-append, sum_by-replicate, get_or-more)

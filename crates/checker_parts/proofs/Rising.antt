@@ -9,31 +9,19 @@ use Rattle.checker_rules.specs.Canonical.{canonical}
 use Rattle.checker_parts.specs.RisingVars.{has_rising_vars}
 use Rattle.checker_parts.proofs.CanonicalLists.{canonical_from, shares_var, shares_var-canonical}
 
-not_less : (v n : ℕ) → n ≤ v → ltb v n ≡ false
-not_less v n h = grind (arith, nat_tests)
-
 all_above : (k m : ℕ) (ms : List ℕ) → k < m → has_rising_vars (m ∷ ms) ≡ true → list_all (ltb k) (m ∷ ms) ≡ true
-all_above k m [] lt h = and_from (ltb k m) true (lt-ltb k m lt) refl
-all_above k m (n ∷ ns) lt h =
-    let p = and_parts (ltb (var_of m) (var_of n)) (has_rising_vars (n ∷ ns)) h in
-    let v = ltb-true (var_of m) (var_of n) p.0 in
-    and_from (ltb k m) (list_all (ltb k) (n ∷ ns)) (lt-ltb k m lt) (all_above k n ns (omega arith) p.1)
+all_above k m [] lt h = grind (arith, nat_tests)
+all_above k m (n ∷ ns) lt h = grind (arith, nat_tests, all_above k n ns)
 
 pub rising_canonical : (c : List ℕ) → has_rising_vars c ≡ true → is_canonical c ≡ true
 rising_canonical [] h = refl
 rising_canonical (l ∷ []) h = refl
-rising_canonical (l ∷ m ∷ ms) h =
-    let p = and_parts (ltb (var_of l) (var_of m)) (has_rising_vars (m ∷ ms)) h in
-    let v = ltb-true (var_of l) (var_of m) p.0 in
-    and_from (list_all (ltb l) (m ∷ ms)) (is_canonical (m ∷ ms)) (all_above l m ms (omega arith) p.1) (rising_canonical (m ∷ ms) p.1)
+rising_canonical (l ∷ m ∷ ms) h = grind (arith, nat_tests, all_above, rising_canonical (m ∷ ms))
 
 rising_apart : (c : List ℕ) → has_rising_vars c ≡ true → shares_var c ≡ false
 rising_apart [] h = refl
 rising_apart (l ∷ []) h = refl
-rising_apart (l ∷ m ∷ ms) h =
-    let p = and_parts (ltb (var_of l) (var_of m)) (has_rising_vars (m ∷ ms)) h in
-    let v = ltb-true (var_of l) (var_of m) p.0 in
-    ap (λ b. b || shares_var (m ∷ ms)) (ne_eqb (var_of l) (var_of m) (λ e. omega arith)) ∙ rising_apart (m ∷ ms) p.1
+rising_apart (l ∷ m ∷ ms) h = grind (arith, nat_tests, rising_apart (m ∷ ms))
 
 -- a canonical list is its own
 pub canonical_itself : (c : List ℕ) → is_canonical c ≡ true → c ≡ canonical c
@@ -63,7 +51,7 @@ module _ (v : ℕ) (c : List ℕ) (i : ℕ) where
     next = at_drop_more (rises_after v) c i m within ∙ ap (λ l. ltb v (var_of l) && rises_after (var_of l) (drop (i + 1) c)) (sym here)
 
     pub rises_after-more : v < var_of m → rises_after (var_of m) (drop (i + 1) c) ≡ rises_after v (drop i c)
-    rises_after-more less = sym (next ∙ ap (λ b. b && rises_after (var_of m) (drop (i + 1) c)) (lt-ltb v (var_of m) less))
+    rises_after-more less = grind (arith, nat_tests, next)
 
     pub rises_after-less : var_of m ≤ v → rises_after v (drop i c) ≡ false
-    rises_after-less more = next ∙ ap (λ b. b && rises_after (var_of m) (drop (i + 1) c)) (not_less v (var_of m) more)
+    rises_after-less more = grind (arith, nat_tests, next)

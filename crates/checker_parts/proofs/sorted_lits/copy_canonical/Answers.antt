@@ -1,4 +1,5 @@
-use Rattle.std.proofs.Common.{◌≡◌, ℕ, List, [], ◌++◌, eqb, sym, ap, ◌∙◌, subst}
+use Rattle.std.proofs.lemmas.Grind.{common_steps}
+use Rattle.std.proofs.Common.{◌≡◌, ℕ, List, [], ◌++◌, eqb, sym, ap, ◌∙◌, subst, arith}
 use Rattle.std.specs.List.Retain.{DiffersFromLast, IsFiltered}
 use Rattle.std.specs.List.Sorted.{IsPermutation, IsSorted}
 use Rattle.std.specs.Ordering.{nat_cmp}
@@ -40,14 +41,10 @@ copied : (src cleared items : List ℕ) → cleared ≡ [] → items ≡ cleared
 copied src cleared items none more = more ∙ ap (λ (front : List ℕ). front ++ src) none
 
 pub returns-then-has_rising_vars-clause-items : goal.returns-then-has_rising_vars-clause-items
-returns-then-has_rising_vars-clause-items c =
-    copied _ _ _ c.clear.ensures.items c.in_ok-extend_from_slice.ensures.items ∙ rising_is c.args.src.now
-    (sym c.has_rising_vars.ensures ∙ c.if-has_rising_vars.true)
+returns-then-has_rising_vars-clause-items c = grind (arith, common_steps, copied, rising_is)
 
 pub returns-then-has_rising_vars-clause-canonical : goal.returns-then-has_rising_vars-clause-canonical
-returns-then-has_rising_vars-clause-canonical c =
-    ap is_canonical (copied _ _ _ c.clear.ensures.items c.in_ok-extend_from_slice.ensures.items) ∙ rising_canonical c.args.src.now
-    (sym c.has_rising_vars.ensures ∙ c.if-has_rising_vars.true)
+returns-then-has_rising_vars-clause-canonical c = grind (arith, common_steps, copied, rising_canonical)
 
 pub returns-then-has_rising_vars-clause-tautology : goal.returns-then-has_rising_vars-clause-tautology
 returns-then-has_rising_vars-clause-tautology c = rising_sound c.args.src.now (sym c.has_rising_vars.ensures ∙ c.if-has_rising_vars.true)

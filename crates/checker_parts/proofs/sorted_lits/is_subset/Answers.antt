@@ -13,8 +13,4 @@ pub returns-then-is_empty : goal.returns-then-is_empty
 returns-then-is_empty c = grind (arith, common_steps) ∙ subset_walk-canonical c.args.strict c.args.subset.now c.args.superset.now c.requires.subset c.requires.superset
 
 pub returns-else-is_empty : goal.returns-else-is_empty
-returns-else-is_empty c =
-    let short : length c.loop-present.superset.now ≡ 0 = grind (arith, common_steps) in
-    c.if-is_empty.false ∙ ap (λ b. b && not c.loop-present.strict) (sym c.if-is_empty.false ∙ c.is_empty.ensures)
-    ∙ sym (subset_walk-end c.loop-present.strict c.loop-present.subset.now c.loop-present.superset.now short) ∙ c.loop-present.invariant
-    ∙ subset_walk-canonical c.args.strict c.args.subset.now c.args.superset.now c.requires.subset c.requires.superset
+returns-else-is_empty c = grind (arith, common_steps, subset_walk-end, subset_walk-canonical)

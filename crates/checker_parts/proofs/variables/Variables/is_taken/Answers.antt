@@ -13,9 +13,4 @@ returns-in-Some-clause-value c =
     ∙ ap (λ ks. is_taken ks c.index.result) c.self.view_is ∙ ap (λ n. is_taken c.args.self.now n) c.index.ensures.value
 
 pub returns-in-None-clause-value : goal.returns-in-None-clause-value
-returns-in-None-clause-value c =
-    let past : length c.self.inside.taken.items ≤ c.index.result = grind (arith, common_steps) in
-    sym (get_or_past c.self.inside.taken.items c.index.result false past) ∙ sym
-    (taken-mark (known_by c.self.inside.names.items c.self.inside.modes.items) c.self.inside.taken.items c.index.result
-    c.self.invariant.marked)
-    ∙ ap (λ ks. is_taken ks c.index.result) c.self.view_is ∙ ap (λ n. is_taken c.args.self.now n) c.index.ensures.value
+returns-in-None-clause-value c = grind (arith, common_steps, get_or_past, taken-mark)

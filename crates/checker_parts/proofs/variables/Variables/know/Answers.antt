@@ -1,3 +1,4 @@
+use Rattle.std.proofs.lemmas.Grind.{common_steps}
 use Rattle.std.proofs.Common.{◌≡◌, ◌∙◌, ◌-◌, ◌++◌, ◌<◌, ℕ, false, length, replicate, refl, ap, arith, sym}
 use Rattle.checker_rules.specs.KnownVars.{new_known}
 use Rattle.checker_parts.specs.declared.variables.SamplingMode.TheVariants.{Sample}
@@ -5,28 +6,16 @@ use Rattle.checker_parts.proofs.Columns.{columns_grown, grown, known_by-grown, l
 use Rattle.checker_parts.proofs.variables.Variables.know.Goals as goal
 
 pub invariant_of-self-in_err-resize-2 : goal.invariant_of-self-in_err-resize-2
-invariant_of-self-in_err-resize-2 c =
-    let long = length_by_view _ _ _ c.self.invariant.modes c.self.view_is in
-    no_room _ _ _ _ _ (c.reserve-then-len-count.ensures.len ∙ c.self.inside.modes.ok.0 ∙ c.self.invariant.modes ∙ sym long)
-    c.len-then-len-count.ensures c.in_ok-reserve-2.ensures.ok c.in_err-resize-2.ensures.full
+invariant_of-self-in_err-resize-2 c = grind (arith, common_steps, length_by_view, no_room)
 
 pub returns-in_err-resize-2-clause-err : goal.returns-in_err-resize-2-clause-err
-returns-in_err-resize-2-clause-err c =
-    let long = length_by_view _ _ _ c.self.invariant.modes c.self.view_is in
-    no_room _ _ _ _ _ (c.reserve-then-len-count.ensures.len ∙ c.self.inside.modes.ok.0 ∙ c.self.invariant.modes ∙ sym long)
-    c.len-then-len-count.ensures c.in_ok-reserve-2.ensures.ok c.in_err-resize-2.ensures.full
+returns-in_err-resize-2-clause-err c = grind (arith, common_steps, length_by_view, no_room)
 
 pub invariant_of-self-in_err-resize-3 : goal.invariant_of-self-in_err-resize-3
-invariant_of-self-in_err-resize-3 c =
-    let long = length_by_view _ _ _ c.self.invariant.modes c.self.view_is in
-    no_room _ _ _ _ _ (c.reserve-then-len-count-2.ensures.len ∙ c.self.inside.taken.ok.0 ∙ c.self.invariant.taken ∙ sym long)
-    c.len-then-len-count.ensures c.in_ok-reserve-3.ensures.ok c.in_err-resize-3.ensures.full
+invariant_of-self-in_err-resize-3 c = grind (arith, common_steps, length_by_view, no_room)
 
 pub returns-in_err-resize-3-clause-err : goal.returns-in_err-resize-3-clause-err
-returns-in_err-resize-3-clause-err c =
-    let long = length_by_view _ _ _ c.self.invariant.modes c.self.view_is in
-    no_room _ _ _ _ _ (c.reserve-then-len-count-2.ensures.len ∙ c.self.inside.taken.ok.0 ∙ c.self.invariant.taken ∙ sym long)
-    c.len-then-len-count.ensures c.in_ok-reserve-3.ensures.ok c.in_err-resize-3.ensures.full
+returns-in_err-resize-3-clause-err c = grind (arith, common_steps, length_by_view, no_room)
 
 below : (c : goal.In_ok-resize-3) → length c.self.inside.names.items < c.args.count
 below c = omega (arith, c.if-len-count.true, c.len.ensures, length_by_view _ _ _ c.self.invariant.modes c.self.view_is)

@@ -9,10 +9,7 @@ use Rattle.checker_parts.proofs.Columns.{known_at-known_by, known_at-past, name_
 use Rattle.checker_parts.proofs.variables.Variables.name.Goals as goal
 
 pub returns-in_err-get : goal.returns-in_err-get
-returns-in_err-get c =
-    let past : length c.self.inside.names.items ≤ c.args.index = grind (arith, common_steps) in
-    ap indexes_of c.from_residual.ensures ∙ sym (ap (λ (k : Known). k.name) (known_at-past c.self.inside.names.items c.self.inside.modes.items c.args.index c.self.invariant.modes past))
-    ∙ ap (λ (ks : List Known). (known_at ks c.args.index).name) c.self.view_is
+returns-in_err-get c = grind (arith, common_steps, known_at-past)
 
 pub returns : goal.returns
 returns c =

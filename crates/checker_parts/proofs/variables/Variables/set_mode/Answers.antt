@@ -1,3 +1,4 @@
+use Rattle.std.proofs.lemmas.Grind.{common_steps}
 use Rattle.std.proofs.Common.{◌∙◌, ℕ, List, ap, arith, set}
 use Rattle.checker_rules.specs.State.{Known}
 use Rattle.checker_rules.specs.Transcript.{known_at}
@@ -12,6 +13,4 @@ pub invariant_of-self : goal.invariant_of-self
 invariant_of-self c = columns_mode _ _ _ _ _ c.self.invariant (within _ _ _ _ _ _ c.self.invariant c.self.view_is c.index.ensures.value c.requires)
 
 pub returns : goal.returns
-returns c =
-    let written = λ (ks : List Known) (i : ℕ). set ks i (record { name = (known_at ks i).name; mode = mode_of c.args.sampling_mode }) in
-    known_by-mode _ _ c.index.result c.args.sampling_mode c.self.invariant.modes ∙ ap (λ ks. written ks c.index.result) c.self.view_is ∙ ap (λ i. written c.args.self.now i) c.index.ensures.value
+returns c = grind (arith, common_steps, known_by-mode)
