@@ -1,9 +1,9 @@
 -- The headline of a call, and the unsatisfiable side, follow from its answer by the definitions.
-use Rattle.std.proofs.Common.{◌≡◌, ℕ, Bool, List, [], ◌∷◌, ◌++◌, Option, Some, None, Result, Ok, Err, sym, ap, ◌∙◌, subst, arith}
+use Rattle.std.proofs.Common.{◌≡◌, ℕ, Bool, List, [], ◌∷◌, ◌++◌, Result, Ok, Err, sym, ap, ◌∙◌, subst, arith}
 use Rattle.checker_rules.specs.Calls.{attempt, closing_conflict}
 use Rattle.checker_rules.specs.Covers.{Covers, CoversAfter}
 use Rattle.checker_rules.specs.Headline.{EntailsRedundant, SetAfter, changed, holds}
-use Rattle.checker_rules.specs.Outcome.{Cause, Outcome}
+use Rattle.checker_rules.specs.Outcome.{Outcome}
 use Rattle.checker_rules.specs.State.{State, sat}
 use Rattle.checker_rules.specs.Step.{Step}
 use Rattle.checker_rules.specs.Steps.{step}
@@ -12,11 +12,10 @@ use Rattle.checker_rules.proofs.Keeping.{step_keeps}
 use Rattle.checker_rules.proofs.Runs.{changed_same, holds_last}
 use Rattle.checker_rules.proofs.WholeRuns.{close_keeps, covers_attempt, covers_close, covers_same, keeps_attempt}
 use Rattle.checker_parts.specs.Answers.{AnswersStep, AnswersText, CoversFold, IsCovered, IsFold, SetsFold, UnlessFailed, UnlessTextFailed}
-use Rattle.checker_parts.specs.Causes.{cause_of}
 use Rattle.checker_parts.specs.declared.error.CheckerError.{CheckerError}
 use Rattle.checker_parts.specs.declared.error.DimacsError.{DimacsError}
-use Rattle.checker_parts.specs.declared.error.DimacsError.TheVariants.{Read, Malformed, Checker}
-use Rattle.checker_parts.specs.declared.error.CheckerError.TheVariants.{ProofIncomplete, IoError, ParseError, CheckFailed, ProofProcessorError, OutOfMemory, Failed}
+use Rattle.checker_parts.specs.declared.error.DimacsError.TheVariants.{Checker}
+use Rattle.checker_parts.specs.declared.error.CheckerError.TheVariants.{CheckFailed, ProofProcessorError, OutOfMemory, Failed}
 
 -- the answers of a call
 abbrev ok_answer : Result (Unit {0}) CheckerError
@@ -43,12 +42,7 @@ sets_fold s t o k ts f (Err Failed) u h = tt
 sets_fold s t o k ts f _ u h = absurd h
 
 pub covers_fold : (t : Step) (o : Outcome) (ts : List Step) → CoversAfter (holds ts) t o.refused o.after → (r : Result (Unit {0}) CheckerError) (u : State) → AnswersStep r o u → CoversFold r ts t u
-covers_fold t o ts k (Ok x) u h = covers-last ts t u (subst (Covers (changed t (holds ts))) (sym h.1) (grind (arith, h.0, k)))
-covers_fold t o ts k (Err (CheckFailed number cause debug_step)) u h = subst (Covers (holds ts)) (sym h.1) (grind (arith, h.0, k))
-covers_fold t o ts k (Err (ProofProcessorError cause)) u h = tt
-covers_fold t o ts k (Err OutOfMemory) u h = tt
-covers_fold t o ts k (Err Failed) u h = tt
-covers_fold t o ts k _ u h = absurd h
+covers_fold t o ts k r u h = grind (arith, covers-last)
 
 -- `check_step` and `add_clause`
 pub sets_fold-step : (s : State) (t : Step) (ts : List Step) (r : Result (Unit {0}) CheckerError) (u : State) → EntailsRedundant s → IsFold ts s → AnswersStep r (step s t) u → SetsFold r ts t u
@@ -66,12 +60,7 @@ covers_fold-attempt s t ts r u k h = covers_fold t (attempt s t) ts (covers_atte
 
 -- an outcome that changes no set, and one that keeps what the members make true
 pub unless_failed : (P : State → Type 0) (o : Outcome) → P o.after → (r : Result (Unit {0}) CheckerError) (u : State) → AnswersStep r o u → UnlessFailed r (P u)
-unless_failed P o k (Ok x) u h = subst P (sym h.1) k
-unless_failed P o k (Err (CheckFailed number cause debug_step)) u h = subst P (sym h.1) k
-unless_failed P o k (Err (ProofProcessorError cause)) u h = tt
-unless_failed P o k (Err OutOfMemory) u h = tt
-unless_failed P o k (Err Failed) u h = tt
-unless_failed P o k _ u h = absurd h
+unless_failed P o k r u h = grind arith
 
 -- a closing conflict
 pub sets_fold-closing : (s : State) (ts : List Step) (r : Result (Unit {0}) CheckerError) (u : State) → EntailsRedundant s → IsFold ts s →

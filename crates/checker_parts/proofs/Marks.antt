@@ -1,14 +1,14 @@
 -- The marks of user names, and what a write of one variable does to them.
-use Rattle.std.proofs.Common.{◌≡◌, ◌≢◌, ℕ, ◌+◌, ◌<◌, ◌≤◌, Bool, true, false, cond, ◌||◌, List, [], ◌∷◌, ◌++◌, length, get_or}
-use Rattle.std.proofs.Common.{set, replicate, Option, Some, None, refl, sym, ap, ◌∙◌, arith, inl, inr, zero, suc, mul-zero}
-use Rattle.std.proofs.lemmas.Bool.{cases_eq, cases_lt, eq-eqb, ne_eqb, true≢false}
+use Rattle.std.proofs.Common.{◌≡◌, ◌≢◌, ℕ, ◌+◌, ◌<◌, ◌≤◌, Bool, true, false, cond, List, [], ◌∷◌, ◌++◌, length, get_or}
+use Rattle.std.proofs.Common.{set, replicate, Option, Some, None, refl, ap, ◌∙◌, arith, inl, inr, zero, suc}
+use Rattle.std.proofs.lemmas.Bool.{cases_eq, cases_lt, eq-eqb, ne_eqb}
 use Rattle.std.proofs.lemmas.List.{get_or-set_other, get_or-set_same, get_or_past}
 use Rattle.std.proofs.lemmas.List.Sums.{sum_by-append, sum_by-cons, sum_by-set}
 use Rattle.std.proofs.lemmas.List.Folds.{sum_by-replicate}
 use Rattle.checker_rules.specs.KnownVars.{new_known, option_is}
 use Rattle.checker_rules.specs.State.{Known}
 use Rattle.checker_rules.specs.Transcript.{known_at}
-use Rattle.checker_parts.specs.Names.{AreDistinct, is_taken, times_taken}
+use Rattle.checker_parts.specs.Names.{is_taken, times_taken}
 use Rattle.checker_parts.specs.Variables.{IsMarked}
 
 -- whether the index is marked, as a number
@@ -20,8 +20,7 @@ abbrev pub names_it : Option ℕ → ℕ → ℕ
 names_it o u = cond (option_is o u) 1 0
 
 mark-le-one : (b : Bool) → cond b 1 0 ≤ 1
-mark-le-one true = omega arith
-mark-le-one false = omega arith
+mark-le-one b = grind arith
 
 mark-set_other : (ts : List Bool) (j u : ℕ) (b : Bool) → u ≢ j → mark (set ts j b) u ≡ mark ts u
 mark-set_other ts j u b h = ap (λ b. cond b 1 0) (get_or-set_other ts j u b false h)

@@ -1,14 +1,11 @@
 -- Accepted models and cores prove what the headline says of them.
-use Rattle.std.proofs.Common.{◌≡◌, ℕ, ◌&&◌, ◌||◌, Bool, true, false, cond, not, eqb, ltb, List, [], ◌∷◌, ◌++◌, None, refl, sym, ◌∙◌, subst, append-nil, append_assoc, arith}
-use Rattle.std.proofs.lemmas.Bool.{and_from, and_parts, or_right}
-use Rattle.sat_rules.specs.Clauses.{clause_true}
-use Rattle.checker_rules.specs.Calls.{attempt, count_step, step_limit}
+use Rattle.std.proofs.Common.{◌≡◌, ℕ, Bool, true, List, [], ◌∷◌, ◌++◌, None, refl, sym, ◌∙◌, subst, append-nil, append_assoc, arith}
+use Rattle.checker_rules.specs.Calls.{attempt, count_step}
 use Rattle.checker_rules.specs.Covers.{all_sat}
 use Rattle.checker_rules.specs.Headline.{EntailsRedundant}
-use Rattle.checker_rules.specs.Outcome.{refuse, steps_exhausted}
-use Rattle.checker_rules.specs.State.{State, Stored, irredundant_true, sat, stored_true, units_true}
-use Rattle.checker_rules.specs.Step.{Step, add_clause, assumptions, at_clause, change_hash_bits, change_sampling_mode, delete_clause}
-use Rattle.checker_rules.specs.Step.{delete_var, end_proof, failed_assumptions, model, solver_var_name, unit_clauses, user_var_name}
+use Rattle.checker_rules.specs.State.{State, Stored, irredundant_true, sat, stored_true}
+use Rattle.checker_rules.specs.Step.{Step}
+use Rattle.checker_rules.specs.Step.{failed_assumptions, model}
 use Rattle.checker_rules.specs.Steps.{step}
 use Rattle.checker_rules.proofs.Models.{cores_fail, models_are_members}
 use Rattle.checker_parts.specs.Answers.{IsCovered, IsFold}
@@ -16,17 +13,11 @@ use Rattle.checker_parts.specs.Models.{Proves, Refutes, RunProves, RunRefutes, a
 
 -- a step that is accepted
 step_proves : (s : State) (t : Step) (ts : List Step) → EntailsRedundant s → IsFold ts s → (step s t).refused ≡ None → Proves t ts s
-step_proves s (model m) ts g f h =
-    let k = models_are_members s m h in
-    record { members = λ a e. sym (f a) ∙ k.members a e; one = k.one }
-step_proves s (failed_assumptions c hs) ts g f h = λ a member all. cores_fail s c hs g h a (f a ∙ member) all
-step_proves s _ ts g f h = tt
+step_proves s t ts g f h = grind (arith, models_are_members, cores_fail)
 
 -- counting a step changes nothing of that
 proves-uncounted : (t : Step) (ts : List Step) (s : State) → Proves t ts (count_step s) → Proves t ts s
-proves-uncounted (model m) ts s h = h
-proves-uncounted (failed_assumptions c hs) ts s h = h
-proves-uncounted _ ts s h = tt
+proves-uncounted t ts s h = grind arith
 
 pub attempt_proves : (s : State) (t : Step) (ts : List Step) → EntailsRedundant s → IsFold ts s → (attempt s t).refused ≡ None → Proves t ts s
 unfolding attempt sat

@@ -1,9 +1,9 @@
 -- One walk down two canonical lists decides the subset test.
-use Rattle.std.proofs.Common.{◌≡◌, ℕ, ◌<◌, Bool, true, false, cond, not, ◌&&◌, ◌||◌, eqb, ltb, List, [], ◌∷◌, length, refl, sym, ap, ◌∙◌, subst, arith, ltb-true}
+use Rattle.std.proofs.Common.{◌≡◌, ℕ, ◌<◌, Bool, true, false, cond, not, ◌&&◌, eqb, ltb, List, [], ◌∷◌, length, refl, sym, ap, arith}
 use Rattle.std.proofs.lemmas.Bool.Decides.{nat_tests}
 use Rattle.std.specs.List.{list_all}
-use Rattle.std.proofs.lemmas.Bool.{and_parts, and_from, eq-eqb, eqb-true, eqb-false, ne_eqb, ltb-false, lt-ltb}
-use Rattle.sat_rules.specs.Clauses.{has, is_canonical}
+use Rattle.std.proofs.lemmas.Bool.{and_parts, eq-eqb, ne_eqb}
+use Rattle.sat_rules.specs.Clauses.{is_canonical}
 use Rattle.checker_rules.specs.Canonical.{is_subset}
 use Rattle.checker_parts.specs.Subsets.{is_subset_by}
 use Rattle.checker_parts.proofs.CanonicalLists.{has-above}

@@ -1,8 +1,6 @@
 use Rattle.std.proofs.lemmas.Grind.{common_steps}
-use Rattle.std.proofs.Common.{◌≡◌, ◌+◌, ◌<◌, ◌≤◌, drop, sym, ap, ◌∙◌, arith}
-use Rattle.sat_rules.specs.Clauses.{var_of}
-use Rattle.checker_parts.specs.RisingVars.{has_rising_vars}
-use Rattle.checker_parts.proofs.Rising.{rises_after, rises_after-end, rises_after-is, rises_after-less, rises_after-more}
+use Rattle.std.proofs.Common.{sym, ◌∙◌, arith}
+use Rattle.checker_parts.proofs.Rising.{rises_after-end, rises_after-is, rises_after-less, rises_after-more}
 use Rattle.checker_parts.proofs.sorted_lits.has_rising_vars.Goals as goal
 
 pub loop-lit-init : goal.loop-lit-init

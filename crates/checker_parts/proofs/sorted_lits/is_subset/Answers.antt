@@ -1,4 +1,4 @@
-use Rattle.std.proofs.Common.{arith, ◌≡◌, ◌∙◌, ◌&&◌, not, length, sym, ap}
+use Rattle.std.proofs.Common.{arith, ◌∙◌}
 use Rattle.std.proofs.lemmas.Grind.{common_steps}
 use Rattle.checker_parts.proofs.SubsetWalks.{subset_walk-canonical, subset_walk-end}
 use Rattle.checker_parts.proofs.sorted_lits.is_subset.Goals as goal

@@ -1,7 +1,5 @@
-use Rattle.std.proofs.Common.{◌≡◌, ◌<◌, ◌≤◌, ◌∙◌, List, get_or, length, ap, sym, arith}
+use Rattle.std.proofs.Common.{arith}
 use Rattle.std.proofs.lemmas.Grind.{common_steps}
-use Rattle.checker_rules.specs.State.{Known}
-use Rattle.checker_rules.specs.Transcript.{known_at}
 use Rattle.checker_parts.proofs.Columns.{known-parts, known_at-past, mode-read}
 use Rattle.checker_parts.proofs.variables.Variables.get.Goals as goal
 

@@ -1,5 +1,5 @@
 use Rattle.std.proofs.lemmas.Grind.{common_steps}
-use Rattle.std.proofs.Common.{◌∙◌, ◌<◌, ℕ, List, None, Some, ap, arith, false, length, refl, set, sym}
+use Rattle.std.proofs.Common.{◌∙◌, ◌<◌, ℕ, List, None, Some, ap, arith, false, length, refl, sym}
 use Rattle.std.proofs.lemmas.List.{length-set}
 use Rattle.sat_formula.specs.Vars.{indexes_of}
 use Rattle.checker_rules.specs.State.{Known, hide}

@@ -1,6 +1,5 @@
-use Rattle.std.proofs.Common.{◌≡◌, ◌<◌, ◌≤◌, ◌∙◌, List, get_or, length, ap, sym, arith}
+use Rattle.std.proofs.Common.{◌≡◌, ◌<◌, ◌∙◌, List, get_or, length, ap, sym, arith}
 use Rattle.std.proofs.lemmas.Grind.{common_steps}
-use Rattle.sat_formula.specs.Vars.{indexes_of}
 use Rattle.checker_rules.specs.State.{Known}
 use Rattle.checker_rules.specs.Transcript.{known_at}
 use Rattle.checker_parts.specs.Variables.{name_of}

@@ -1,8 +1,5 @@
 use Rattle.std.proofs.lemmas.Grind.{common_steps}
-use Rattle.std.proofs.Common.{◌∙◌, ℕ, List, ap, arith, set}
-use Rattle.checker_rules.specs.State.{Known}
-use Rattle.checker_rules.specs.Transcript.{known_at}
-use Rattle.checker_parts.specs.Variables.{mode_of}
+use Rattle.std.proofs.Common.{arith}
 use Rattle.checker_parts.proofs.Columns.{columns_mode, known_by-mode, within}
 use Rattle.checker_parts.proofs.variables.Variables.set_mode.Goals as goal
 

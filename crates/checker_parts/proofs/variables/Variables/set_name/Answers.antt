@@ -1,10 +1,6 @@
 use Rattle.std.proofs.lemmas.Grind.{common_steps}
-use Rattle.std.proofs.Common.{◌∙◌, ℕ, List, Some, ap, arith, set, subst, sym, true}
+use Rattle.std.proofs.Common.{arith}
 use Rattle.std.proofs.lemmas.List.{length-set}
-use Rattle.checker_rules.specs.State.{Known}
-use Rattle.checker_rules.specs.Transcript.{known_at}
-use Rattle.checker_parts.specs.Names.{is_taken}
-use Rattle.checker_parts.specs.Variables.{IsMarked, known_by, name_of}
 use Rattle.checker_parts.proofs.Columns.{known_by-name, length-known_by, name_of-some, within}
 use Rattle.checker_parts.proofs.Marks.{marked_name}
 use Rattle.checker_parts.proofs.variables.Variables.set_name.Goals as goal
