@@ -1,29 +1,19 @@
 -- Calls, and runs over a text, whose emissions are runs of the hint machine.
 use Rattle.std.proofs.Common.{◌≡◌, ℕ, false, List, [], ◌∷◌, map, refl, sym, subst, append-nil, None, Ok, Err}
 use Rattle.sat_rules.specs.Named.{Machine}
-use Rattle.checker_rules.specs.AddFormula.{add_clauses, added}
-use Rattle.checker_rules.specs.CallEmissions.{EmitsCall, EmitsCalls}
-use Rattle.checker_rules.specs.Calls.{Call, adds, answer_of, calls_after, attempt, checks}
-use Rattle.checker_rules.specs.CheckedSteps.{hint_steps, NamedStep}
+use Rattle.varisat_checker.proofs.Common.{add_clauses, added, EmitsCall, EmitsCalls, Call, adds, answer_of, calls_after, attempt, checks, hint_steps}
+use Rattle.varisat_checker.proofs.Common.{NamedStep, State, Step, WellFormed, runs_run_machine, AnswersParts, AnswersStep, UnlessFailed, ending}
+use Rattle.varisat_checker.proofs.Common.{ProofProcessorError, OutOfMemory, Failed, unless_failed, EmitsProof, EndsProof}
 use Rattle.checker_rules.specs.HintRun.{machine_after, IsRun}
 use Rattle.checker_rules.specs.Machine.{Mirrors}
-use Rattle.checker_rules.specs.State.{State}
-use Rattle.checker_rules.specs.WellFormed.{WellFormed}
 use Rattle.checker_rules.proofs.AddedClauses.{formulas_are_fold}
 use Rattle.checker_rules.proofs.CallRuns.{calls_run_machine}
-use Rattle.checker_parts.specs.Answers.{AnswersParts, AnswersStep, UnlessFailed}
-use Rattle.checker_parts.proofs.Headlines.{unless_failed}
 use Rattle.checker_steps.specs.Failing.{has_failed}
 use Rattle.varisat_checker.specs.Certified.{Certifies}
 use Rattle.varisat_checker.proofs.FailingLemmas.{Answer, after-parts}
 use Rattle.checker_rules.specs.Run.{Runs}
 use Rattle.checker_rules.specs.RunEmissions.{EmitsRun, last_calls}
-use Rattle.checker_rules.specs.Step.{Step}
-use Rattle.checker_rules.proofs.RunJoins.{runs_run_machine}
 use Rattle.proof_bytes.specs.Texts.{Place, next_of, start_of}
-use Rattle.checker_parts.specs.Endings.{ending}
-use Rattle.checker_parts.specs.declared.error.CheckerError.TheVariants.{ProofProcessorError, OutOfMemory, Failed}
-use Rattle.varisat_checker.specs.ProofRun.{EmitsProof, EndsProof}
 use Rattle.proof_bytes.specs.TextRuns as runs
 
 -- a list of calls

@@ -1,13 +1,10 @@
 -- Steps leave the step counter and whether the checker has failed; a counted one raises the counter by one.
-use Rattle.std.proofs.Common.{◌≡◌, ℕ, ◌+◌, Bool, true, false, cond, ltb, List, [], ◌∷◌, Option, None, Some, refl, ap, ◌∙◌, rules}
+use Rattle.std.proofs.Common.{◌≡◌, ℕ, ◌+◌, Bool, true, false, cond, ltb, List, [], ◌∷◌, Option, None, Some, refl, ap, ◌∙◌, rules, arith}
+use Rattle.varisat_checker.proofs.Common.{add_clauses, attempt, count_step, step_limit, Cause, Outcome, and_then_by, State, StoredUnit, Justification}
+use Rattle.varisat_checker.proofs.Common.{Step, add_clause, at_clause, by_redundant, unit_clauses, user_var_name}
 use Rattle.checker_rules.specs.AtClause.{store_derived}
-use Rattle.checker_rules.specs.Calls.{attempt, count_step, step_limit}
 use Rattle.checker_rules.specs.Check.{apply_if_named, ready}
 use Rattle.checker_rules.specs.DeleteClause.{justified}
-use Rattle.checker_rules.specs.Outcome.{Cause, Outcome, and_then_by}
-use Rattle.checker_rules.specs.State.{State, StoredUnit}
-use Rattle.checker_rules.specs.Step.{Justification, Step, add_clause, at_clause, by_redundant}
-use Rattle.checker_rules.specs.Step.{unit_clauses, user_var_name}
 use Rattle.checker_rules.specs.Steps.{step}
 use Rattle.checker_rules.specs.Store.{store, store_unit}
 use Rattle.checker_rules.specs.UnitClauses.{step_unit, step_unit_clauses}
@@ -35,9 +32,7 @@ unit-same l None s r h = fields-same s _ h.steps h.failed
 unit-same l (Some u) s r h = search (rules, branch-same, fields-same, h.steps, h.failed)
 
 store-same : (c : List ℕ) (redundant : Bool) (s r : State) → Same s r → Same s (store c redundant r)
-store-same [] redundant s r h = fields-same s _ h.steps h.failed
-store-same (l ∷ []) redundant s r h = unit-same l _ s r h
-store-same (l ∷ k ∷ ls) redundant s r h = search (rules, branch-same, fields-same, h.steps, h.failed)
+store-same c redundant s r h = grind (arith, fields-same, unit-same, branch-same)
 
 derived-same : (c : List ℕ) (redundant : Bool) (s r : State) → Same s r → Same s (store_derived c redundant r)
 derived-same c true s r h = store-same c true s r h
@@ -56,9 +51,7 @@ then-same s r None next h k = k
 then-same s r (Some cause) next h k = h
 
 unit_step-same : (s r : State) (p : ℕ × ℕ) → Same s r → Same s (step_unit r p).after
-unit_step-same s r p h =
-    let k = ready-same r (p.0 ∷ []) in let q : Same s (ready r (p.0 ∷ [])) = fields-same s _ (k.steps ∙ h.steps) (k.failed ∙ h.failed) in
-    search (rules, outcome-same, q, unit-same)
+unit_step-same s r p h = grind (arith, ready-same, fields-same, outcome-same, unit-same)
 
 units-same : (s r : State) (ps : List (ℕ × ℕ)) → Same s r → Same s (step_unit_clauses r ps).after
 units-same s r [] h = h
@@ -77,6 +70,11 @@ step-same s _ = search (rules, outcome-same, fields-same, branch-same, store-sam
 -- an input clause leaves whether the checker has failed
 pub add-failed : (s : State) (c : List ℕ) → (step s (add_clause c)).after.failed ≡ s.failed
 add-failed s c = (step-same s (add_clause c)).failed
+
+-- nor does adding clauses fail it
+pub adding-failed : (s : State) (cs : List (List ℕ)) → (add_clauses s cs).after.failed ≡ s.failed
+adding-failed s [] = refl
+adding-failed s (c ∷ cs) = grind (arith, add-failed s c, adding-failed (step s (add_clause c)).after cs)
 
 -- a counted step raises the counter by one
 pub attempt-steps : (s : State) (t : Step) → ltb s.steps step_limit ≡ true → (attempt s t).after.steps ≡ s.steps + 1

@@ -5,26 +5,15 @@
 --     adds-more, adds-stop      what is delivered on: at a turn, and at a clause that is refused or meets a fault
 --     AddedDelivered      both over a formula, of which some clauses are left
 --     formula-none, formula-more, of-stops, formula-stops, of-all, formula-all      the same over a formula
-use Rattle.std.proofs.Common.{◌≡◌, ℕ, false, List, [], ◌∷◌, ◌++◌, map, Option, Some, None, refl, sym, ap, ◌∙◌, subst, append-nil, append_assoc}
+use Rattle.std.proofs.Common.{◌≡◌, ℕ, false, List, [], ◌∷◌, ◌++◌, map, Option, Some, None, refl, sym, ap, ◌∙◌, subst, append-nil, append_assoc, arith}
 use Rattle.std.proofs.lemmas.List.{map-append}
-use Rattle.checker_rules.specs.AddFormula.{add_clauses, added, added_by}
-use Rattle.checker_rules.specs.CallEmissions.{EmitsCall, EmitsCalls}
-use Rattle.checker_rules.specs.Calls.{adds, calls_after}
-use Rattle.checker_rules.specs.CheckedSteps.{NamedStep}
+use Rattle.varisat_checker.proofs.Common.{add_clauses, added, added_by, EmitsCall, EmitsCalls, adds, calls_after, NamedStep, EntailsRedundant, Cause}
+use Rattle.varisat_checker.proofs.Common.{Outcome, accept, and_then, State, Step, add_clause, emissions_join, AnswersStep, IsCovered, IsFold}
+use Rattle.varisat_checker.proofs.Common.{UnlessFailed, CheckerError, CheckFailed, ProofProcessorError, OutOfMemory, unless_failed, Listeners}
+use Rattle.varisat_checker.proofs.Common.{Listens, ListensImage, Delivered, DeliveredWhole, beginning-first, beginning-second, ran-append, ran-none}
 use Rattle.checker_rules.specs.Emits.{Emits, EmitsBy}
-use Rattle.checker_rules.specs.Headline.{EntailsRedundant}
-use Rattle.checker_rules.specs.Outcome.{Cause, Outcome, accept, and_then}
-use Rattle.checker_rules.specs.State.{State}
-use Rattle.checker_rules.specs.Step.{Step, add_clause}
 use Rattle.checker_rules.specs.Steps.{step}
 use Rattle.checker_rules.proofs.AddedClauses.{formulas_are_fold, formulas_join}
-use Rattle.checker_rules.proofs.RunJoins.{emissions_join}
-use Rattle.checker_parts.specs.Answers.{AnswersStep, IsCovered, IsFold, UnlessFailed}
-use Rattle.checker_parts.specs.declared.error.CheckerError.{CheckerError}
-use Rattle.checker_parts.specs.declared.error.CheckerError.TheVariants.{CheckFailed, ProofProcessorError, OutOfMemory}
-use Rattle.checker_parts.proofs.Headlines.{unless_failed}
-use Rattle.checker_steps.specs.Delivered.{Listeners, Listens, ListensImage, Delivered, DeliveredWhole}
-use Rattle.checker_steps.proofs.DeliveryLemmas.{beginning-first, beginning-second, ran-append, ran-none}
 use Rattle.varisat_checker.proofs.CountLemmas.{add-failed}
 use Rattle.varisat_checker.proofs.FailingLemmas.{Answer, err_answer, ok_answer}
 
@@ -50,10 +39,7 @@ module _ {s u : State} {cs : List (List ℕ)} (p : AddedSoFar s cs u) where
   joined ds = formulas_join.outcome s cs ds ∙ ap (λ o. and_then o (λ r. add_clauses r ds)) p.accepted
 
   pub added-more : (c : List ℕ) (w : State) → AnswersStep ok_answer (step u (add_clause c)) w → AddedSoFar s (cs ++ c ∷ []) w
-  added-more c w h = record {
-    running = ap (λ (r : State). r.failed) h.1 ∙ add-failed u c ∙ p.running;
-    accepted = joined (c ∷ []) ∙ rw (h.0, h.1) refl;
-  }
+  added-more c w h = grind (arith, add-failed, joined)
 
   pub added-stops : (c : List ℕ) (ds : List (List ℕ)) (e : CheckerError) (w : State) → AnswersStep (err_answer e) (step u (add_clause c)) w →
       AnswersStep (err_answer e) (add_clauses s (cs ++ c ∷ ds)) w
@@ -103,12 +89,7 @@ first-emits u c ds = let k = by (step u (add_clause c)).refused in (k.0, λ es h
 -- where it is refused or the last, it alone
 alone-emits : (u : State) (c : List ℕ) (ds : List (List ℕ)) (es : List NamedStep) → ((step u (add_clause c)).refused ≡ None → ds ≡ []) →
     Emits u (add_clause c) es → EmitsAdded u (c ∷ ds) es
-alone-emits u c ds es last h = by (step u (add_clause c)).refused last h
-  where
-    by : (x : Option Cause) → (x ≡ None → ds ≡ []) → EmitsBy x u (add_clause c) es →
-        EmitsCalls u (map adds (added_by x c (added (step u (add_clause c)).after ds))) es
-    by None last k = rw (last refl) (es, [], h, refl, sym (append-nil es))
-    by (Some cause) last k = k
+alone-emits u c ds es last h = grind arith
 
 -- after the clauses so far, more of them
 emits-on : {s u : State} {cs : List (List ℕ)} → AddedSoFar s cs u → (ds : List (List ℕ)) (xs ys : List NamedStep) → EmitsAdded s cs xs →

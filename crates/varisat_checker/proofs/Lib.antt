@@ -1,7 +1,7 @@
 pub mod CertifiedLemmas
+pub mod Common
 pub mod CountLemmas
 pub mod DeliveredAdds
-pub mod EntailedLemmas
 pub mod FailingLemmas
 pub mod ProofRuns
 pub mod ReadDelivered

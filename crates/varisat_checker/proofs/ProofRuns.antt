@@ -3,21 +3,16 @@
 --     AnswerSets s steps r s'      the same of the answer
 --     sets-begin, sets-go      the loop's start, and a turn of it
 --     sets-stand, sets-counted, sets-refused, sets-close      how it ends
-use Rattle.std.proofs.Common.{◌≡◌, List, [], ◌∷◌, ◌++◌, Ok, Err, refl, sym, ap, ◌∙◌}
-use Rattle.checker_rules.specs.Calls.{attempt, checks, closes, closing_conflict, count_step}
-use Rattle.checker_rules.specs.Headline.{EntailsRedundant}
-use Rattle.checker_rules.specs.State.{State}
-use Rattle.checker_rules.specs.Step.{Step}
+use Rattle.std.proofs.Common.{◌≡◌, List, [], ◌∷◌, ◌++◌, Ok, Err, sym, ap, ◌∙◌, arith}
+use Rattle.varisat_checker.proofs.Common.{attempt, checks, closes, closing_conflict, count_step, EntailsRedundant, State, Step, AnswersParts}
+use Rattle.varisat_checker.proofs.Common.{IsCovered, IsFold, UnlessFailed, CheckerError, covers_fold-attempt, covers_fold-closing, sets_fold-attempt}
+use Rattle.varisat_checker.proofs.Common.{sets_fold-closing}
 use Rattle.checker_rules.proofs.Openings.{sat-count_step}
 use Rattle.checker_rules.proofs.Runs.{append_none}
 use Rattle.checker_rules.proofs.WholeRuns.{append_append}
-use Rattle.checker_parts.specs.Answers.{AnswersParts, IsCovered, IsFold, UnlessFailed}
 use Rattle.checker_parts.specs.Models.{RunProves, RunRefutes, attempted}
-use Rattle.checker_parts.specs.declared.error.CheckerError.{CheckerError}
-use Rattle.checker_parts.proofs.Headlines.{covers_fold-attempt, covers_fold-closing, sets_fold-attempt, sets_fold-closing}
 use Rattle.checker_parts.proofs.Proving.{attempt_proves, attempt_refutes, attempted-more, run_proves-more, run_refutes-more}
-use Rattle.varisat_checker.proofs.EntailedLemmas.{entails-call}
-use Rattle.varisat_checker.proofs.FailingLemmas.{Answer, err_answer, ok_answer, unless-always, unless-bind}
+use Rattle.varisat_checker.proofs.FailingLemmas.{entails-call, Answer, err_answer, ok_answer, unless-always, unless-bind}
 
 -- what follows from a call that accepted these steps
 pub record AnswerSets (s : State) (steps : List Step) (r : Answer) (s' : State) : Type 0 where
@@ -33,16 +28,7 @@ pub record SoFarSets (s : State) (steps : List Step) (s' : State) : Type 0 where
   pub sets : AnswerSets s steps (Ok tt) s'
 
 pub sets-begin : (s : State) → SoFarSets s [] s
-sets-begin s = record {
-  led = refl;
-  sets = record {
-    covers = λ before h. rw append_none h;
-    entails = λ good. good;
-    folds = λ good before h. rw append_none h;
-    proves = λ good before h. tt;
-    refutes = λ good before h. tt;
-  };
-}
+sets-begin s = grind (arith, append_none)
 
 module _ {s : State} {steps : List Step} {s' : State} (p : SoFarSets s steps s') where
   -- a turn of the loop
@@ -65,13 +51,7 @@ module _ {s : State} {steps : List Step} {s' : State} (p : SoFarSets s steps s')
   ends : (r : Answer) (u : State) → ((ts : List Step) → IsCovered ts s' → UnlessFailed r (IsCovered ts u)) →
       (EntailsRedundant s' → UnlessFailed r (EntailsRedundant u)) → (EntailsRedundant s' → (ts : List Step) → IsFold ts s' → UnlessFailed r (IsFold ts u))
       → AnswerSets s steps r u
-  ends r u covers entails folds = record {
-    covers = λ before f. covers (before ++ steps) (p.sets.covers before f);
-    entails = λ good. entails (p.sets.entails good);
-    folds = λ good before f. folds (p.sets.entails good) (before ++ steps) (p.sets.folds good before f);
-    proves = p.sets.proves;
-    refutes = p.sets.refutes;
-  }
+  ends r u covers entails folds = grind arith
 
   -- nothing more was attempted
   pub sets-stand : (r : Answer) → AnswerSets s steps r s'

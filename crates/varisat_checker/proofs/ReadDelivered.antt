@@ -4,32 +4,20 @@
 --     delivered-stops, delivered-ends, delivered-fault      how it ends
 use Rattle.std.proofs.Common.{◌≡◌, ℕ, Bool, true, false, List, [], ◌∷◌, ◌++◌, Option, Result, Ok, Err, refl}
 use Rattle.sat_rules.specs.Named.{Machine}
-use Rattle.checker_rules.specs.AddFormula.{add_clauses}
-use Rattle.checker_rules.specs.CallEmissions.{EmitsCall}
-use Rattle.checker_rules.specs.Calls.{adds}
-use Rattle.checker_rules.specs.CheckedSteps.{NamedStep, hint_steps}
-use Rattle.checker_rules.specs.Headline.{EntailsRedundant}
+use Rattle.varisat_checker.proofs.Common.{add_clauses, EmitsCall, adds, NamedStep, hint_steps, EntailsRedundant, State, add_clause, WellFormed}
+use Rattle.varisat_checker.proofs.Common.{AnswersStep, AnswersText, UnlessTextFailed, text_ending, CheckerError, OutOfMemory, sets_text, Listeners}
+use Rattle.varisat_checker.proofs.Common.{Listens, ListensImage, Delivered, DeliveredEnd, DeliveredWhole, ran-none}
 use Rattle.checker_rules.specs.HintRun.{IsRun, machine_after}
 use Rattle.checker_rules.specs.Machine.{Mirrors}
-use Rattle.checker_rules.specs.State.{State}
-use Rattle.checker_rules.specs.Step.{add_clause}
 use Rattle.checker_rules.specs.Steps.{step}
-use Rattle.checker_rules.specs.WellFormed.{WellFormed}
 use Rattle.sat_formula.specs.declared.dimacs.DimacsReader.{DimacsReader}
 use Rattle.sat_formula.specs.declared.fault.DimacsFault.{DimacsFault}
 use Rattle.sat_formula.specs.declared.fault.DimacsFault.TheVariants as faults
 use Rattle.sat_formula.specs.DimacsReader.{IsNext, has_ended}
 use Rattle.sat_formula.specs.Whole.{HasGiven, outcome_left}
 use Rattle.sat_formula.proofs.Whole.{BeginsWith-given, FailsAfter-given, HasGiven-more, HasGiven-nil, IsOutcome-ended}
-use Rattle.checker_parts.specs.Answers.{AnswersStep, AnswersText, UnlessTextFailed}
-use Rattle.checker_parts.specs.Endings.{text_ending}
-use Rattle.checker_parts.specs.declared.error.CheckerError.{CheckerError}
-use Rattle.checker_parts.specs.declared.error.CheckerError.TheVariants.{OutOfMemory}
 use Rattle.checker_parts.specs.declared.error.DimacsError.{DimacsError}
 use Rattle.checker_parts.specs.declared.error.DimacsError.TheVariants.{Read, Malformed, Checker}
-use Rattle.checker_parts.proofs.Headlines.{sets_text}
-use Rattle.checker_steps.specs.Delivered.{Listeners, Listens, ListensImage, Delivered, DeliveredEnd, DeliveredWhole}
-use Rattle.checker_steps.proofs.DeliveryLemmas.{ran-none}
 use Rattle.varisat_checker.specs.TextFault.{IsTextFault}
 use Rattle.varisat_checker.specs.TextRun.{EndsText, TextRun, outcome_of}
 use Rattle.varisat_checker.proofs.CertifiedLemmas.{certifies-adds}

@@ -6,16 +6,13 @@ use Rattle.std.proofs.Common.{◌≡◌, ◌⊎◌, ℕ, true, false, ltb, List,
 use Rattle.std.proofs.KnownBytes.{Consumes-nil, Consumes-trans}
 use Rattle.std.specs.Io.KnownBytes.{Consumes, IsAtEnd}
 use Rattle.std.proofs.lemmas.List.{map-append}
-use Rattle.checker_rules.specs.CallEmissions.{EmitsCall, EmitsCalls}
-use Rattle.checker_rules.specs.Calls.{Call, attempt, checks, closes, closing_conflict, count_step, step_limit}
-use Rattle.checker_rules.specs.CheckedSteps.{NamedStep}
-use Rattle.checker_rules.specs.Outcome.{Cause, Outcome, refuse, steps_exhausted}
+use Rattle.varisat_checker.proofs.Common.{EmitsCall, EmitsCalls, Call, attempt, checks, closes, closing_conflict, count_step, step_limit, NamedStep}
+use Rattle.varisat_checker.proofs.Common.{Cause, Outcome, refuse, steps_exhausted, State, Step, WellFormed, emissions_join, runs_join, AnswersParts}
+use Rattle.varisat_checker.proofs.Common.{ending, CheckerError, ProofIncomplete, IoError, ParseError, CheckFailed, ProofProcessorError, OutOfMemory}
+use Rattle.varisat_checker.proofs.Common.{Failed, Listeners, Listens, ListensImage, Delivered, DeliveredWhole, beginning-second, ran-append, ran-none}
+use Rattle.varisat_checker.proofs.Common.{EmitsProof, EndsProof, IsReadText, PartsRun}
 use Rattle.checker_rules.specs.Run.{Runs, as_answer, move}
 use Rattle.checker_rules.specs.RunEmissions.{EmitsRun, last_calls, read_calls}
-use Rattle.checker_rules.specs.State.{State}
-use Rattle.checker_rules.specs.Step.{Step}
-use Rattle.checker_rules.specs.WellFormed.{WellFormed}
-use Rattle.checker_rules.proofs.RunJoins.{emissions_join, runs_join}
 use Rattle.proof_bytes.specs.declared.fault.ProofFault.{ProofFault}
 use Rattle.proof_bytes.specs.declared.fault.ProofFault.TheVariants as faults
 use Rattle.proof_bytes.specs.declared.format.Format.{Format}
@@ -28,18 +25,11 @@ use Rattle.proof_bytes.specs.Texts.{Place, next_of, start_of}
 use Rattle.proof_bytes.proofs.Leading.{Known, bytes_on}
 use Rattle.proof_bytes.proofs.TextRuns.{MayRead, SoFar, all_taken, found_fault, found_step, move_closed, move_exhausted, move_fault, move_step}
 use Rattle.proof_bytes.proofs.TextRuns.{nothing_yet, of_text, one_more, run_ends, some_taken}
-use Rattle.checker_parts.specs.Answers.{AnswersParts}
 use Rattle.checker_parts.specs.Causes.{cause_of}
-use Rattle.checker_parts.specs.Endings.{ending}
 use Rattle.checker_parts.specs.Faults.{IsErrorOf}
 use Rattle.checker_parts.specs.declared.error.CheckCause.TheVariants.{StepsExhausted}
-use Rattle.checker_parts.specs.declared.error.CheckerError.{CheckerError}
-use Rattle.checker_parts.specs.declared.error.CheckerError.TheVariants.{ProofIncomplete, IoError, ParseError, CheckFailed, ProofProcessorError, OutOfMemory, Failed}
 use Rattle.checker_parts.specs.declared.error.StepFault.TheVariants.{Refused}
-use Rattle.checker_steps.specs.Delivered.{Listeners, Listens, ListensImage, Delivered, DeliveredWhole}
 use Rattle.checker_steps.proofs.CallAnswers.{error-answers, error-delivered}
-use Rattle.checker_steps.proofs.DeliveryLemmas.{beginning-second, ran-append, ran-none}
-use Rattle.varisat_checker.specs.ProofRun.{EmitsProof, EndsProof, IsReadText, PartsRun}
 use Rattle.varisat_checker.specs.ReadFault.{IsReadFault}
 use Rattle.varisat_checker.proofs.FailingLemmas.{Answer, err_answer, ok_answer}
 use Rattle.varisat_checker.proofs.ProofRuns.{AnswerSets, SoFarSets, sets-begin, sets-close, sets-counted, sets-go, sets-refused, sets-stand}
@@ -157,15 +147,7 @@ module _ {P T : Type 0} {listens : Listens P} {listens_image : ListensImage T} {
     parts-run r text sets is_text ends delivered = record {
       text = text;
       steps = p.steps;
-      answered = record {
-        is_text = is_text;
-        ends = ends;
-        covers = sets.covers;
-        entails = sets.entails;
-        folds = sets.folds;
-        proves = sets.proves;
-        refutes = sets.refutes;
-      };
+      answered = assumption (sets, is_text, ends);
       delivered = delivered;
       certified = certifies-proof s u text p.steps form r ends;
     }

@@ -1,8 +1,7 @@
-use Rattle.std.proofs.Common.{◌≡◌, ℕ, ◌+◌, ◌-◌, ◌<◌, ◌^◌, refl, sym, ap, ◌∙◌, arith}
+use Rattle.varisat_checker.proofs.Common.{common_steps, context_state}
+use Rattle.std.proofs.Common.{◌≡◌, ℕ, ◌+◌, ◌-◌, ◌<◌, ◌^◌, refl, sym, ◌∙◌, arith}
 use Rattle.std.proofs.lemmas.Bool.{true≢false}
-use Rattle.checker_rules.specs.State.{State}
 use Rattle.proof_bytes.proofs.TextRuns.{MayRead, reader_open}
-use Rattle.checker_steps.specs.Context.{context_state}
 use Rattle.checker_steps.proofs.CallAnswers.{error-answers, error-delivered, error-unless}
 use Rattle.checker_steps.proofs.StepAnswers.{no-number, not-exhausted, some-number}
 use Rattle.varisat_checker.proofs.CountLemmas.{attempt-steps}
@@ -10,22 +9,13 @@ use Rattle.varisat_checker.proofs.RunDelivered.{delivered-begins, delivered-clos
 use Rattle.varisat_checker.proofs.proof.check_proof.Goals as goal
 
 pub steps-init : goal.steps-init
-steps-init g c = record {
-  open_reader = λ going. c.new-reader.ensures.ended;
-  kept = c.requires;
-  so_far = delivered-begins c.new-reader.ensures.bytes c.new-reader.ensures.format;
-  ended = λ e. e;
-  exhausted = λ none. none;
-}
+steps-init g c = grind (arith, common_steps, delivered-begins)
 
 fewer-left : (a b : ℕ) → a < 2 ^ 64 → (a ≡ 2 ^ 64 - 1 → ⊥) → b ≡ a + 1 → 2 ^ 64 - 1 - b < 2 ^ 64 - 1 - a
 fewer-left a b fits some e = omega (arith, fits, some, e)
 
 pub steps-smaller : goal.steps-smaller
-steps-smaller g c =
-    let counted = some-number _ (omega arith) c.if-ctx.false in
-    let h = rw c.in_default.is at c.take_counted.ensures.step in
-    fewer-left _ _ (omega arith) c.if-ctx.false (ap (λ (x : State). x.steps) h.1 ∙ attempt-steps _ _ counted)
+steps-smaller g c = grind (arith, common_steps, some-number, fewer-left, attempt-steps)
 
 pub steps-preserved : goal.steps-preserved
 steps-preserved g c =

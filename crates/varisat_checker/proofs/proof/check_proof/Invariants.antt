@@ -1,8 +1,6 @@
 use Rattle.std.proofs.Common.{◌≡◌, ◌≤◌, ◌-◌, ◌^◌, true, false}
-use Rattle.checker_rules.specs.Calls.{step_limit}
+use Rattle.varisat_checker.proofs.Common.{step_limit, ContextInvariant, context_state, listeners_of}
 use Rattle.proof_bytes.specs.NextStep.{bytes_left, format_of, has_ended}
-use Rattle.checker_steps.specs.Context.{ContextInvariant, context_state}
-use Rattle.checker_steps.specs.Delivered.{listeners_of}
 use Rattle.varisat_checker.proofs.RunDelivered.{RunDelivered}
 use Rattle.varisat_checker.proofs.proof.check_proof.Given as goal
 

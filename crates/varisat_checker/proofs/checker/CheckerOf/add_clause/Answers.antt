@@ -1,10 +1,8 @@
 use Rattle.std.proofs.Common.{refl}
-use Rattle.checker_rules.specs.Calls.{adds}
-use Rattle.checker_parts.proofs.Headlines.{covers_fold-step, sets_fold-step}
+use Rattle.varisat_checker.proofs.Common.{adds, covers_fold-step, sets_fold-step}
 use Rattle.varisat_checker.specs.Shown.{state}
 use Rattle.varisat_checker.proofs.CertifiedLemmas.{certifies-call}
-use Rattle.varisat_checker.proofs.EntailedLemmas.{entails-on}
-use Rattle.varisat_checker.proofs.FailingLemmas.{went-on}
+use Rattle.varisat_checker.proofs.FailingLemmas.{entails-on, went-on}
 use Rattle.varisat_checker.proofs.checker.CheckerOf.add_clause.Goals as goal
 
 pub returns-else-fails-clause-headline : goal.returns-else-fails-clause-headline

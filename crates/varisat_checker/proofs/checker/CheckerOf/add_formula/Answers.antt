@@ -1,4 +1,5 @@
-use Rattle.std.proofs.Common.{Ok}
+use Rattle.varisat_checker.proofs.Common.{common_steps}
+use Rattle.std.proofs.Common.{Ok, arith}
 use Rattle.std.proofs.lemmas.Result.{err_from_is_err_and}
 use Rattle.varisat_checker.specs.Shown.{state}
 use Rattle.varisat_checker.proofs.CertifiedLemmas.{certifies-adds}
@@ -10,10 +11,7 @@ unfolding state
 clauses-init g c = formula-none c.if-self.false c.into_iter-clause-iterator.ensures.into_iter_gives
 
 pub clauses-preserved : goal.clauses-preserved
-clauses-preserved g c =
-    let p = c.clauses.invariant in
-    formula-more p c.in-Some.ensures.steps (rw c.in_ok-add_clause.was at (c.add_clause.ensures.step p.so_far.running))
-    (rw c.in_ok-add_clause.was at (c.add_clause.ensures.delivered p.so_far.running))
+clauses-preserved g c = grind (arith, common_steps, formula-more)
 
 pub returns-in_err-add_clause-clause-steps : goal.returns-in_err-add_clause-clause-steps
 returns-in_err-add_clause-clause-steps g c = λ running.

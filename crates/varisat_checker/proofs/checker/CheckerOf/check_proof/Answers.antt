@@ -1,7 +1,6 @@
 use Rattle.std.proofs.Common.{refl}
 use Rattle.varisat_checker.specs.Shown.{listeners, state}
-use Rattle.varisat_checker.proofs.EntailedLemmas.{proof-run}
-use Rattle.varisat_checker.proofs.FailingLemmas.{gave-up, kept-on}
+use Rattle.varisat_checker.proofs.FailingLemmas.{proof-run, gave-up, kept-on}
 use Rattle.varisat_checker.proofs.checker.CheckerOf.check_proof.Goals as goal
 
 pub returns-then-fails-clause-run : goal.returns-then-fails-clause-run

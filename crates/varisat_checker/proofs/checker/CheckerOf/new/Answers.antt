@@ -1,6 +1,5 @@
 use Rattle.std.proofs.Common.{sym, subst}
-use Rattle.checker_rules.specs.Headline.{EntailsRedundant}
-use Rattle.checker_rules.specs.State.{State}
+use Rattle.varisat_checker.proofs.Common.{EntailsRedundant, State}
 use Rattle.checker_rules.proofs.Runs.{new_good}
 use Rattle.varisat_checker.proofs.checker.CheckerOf.new.Goals as goal
 

@@ -1,11 +1,8 @@
 use Rattle.std.proofs.Common.{refl}
-use Rattle.checker_rules.specs.Calls.{closes, fail}
-use Rattle.checker_parts.proofs.Headlines.{covers_fold-closing, sets_fold-closing}
-use Rattle.checker_steps.specs.Context.{context_state}
+use Rattle.varisat_checker.proofs.Common.{closes, fail, covers_fold-closing, sets_fold-closing, context_state}
 use Rattle.varisat_checker.specs.Shown.{state}
 use Rattle.varisat_checker.proofs.CertifiedLemmas.{certifies-call}
-use Rattle.varisat_checker.proofs.EntailedLemmas.{entails-on}
-use Rattle.varisat_checker.proofs.FailingLemmas.{gave-up, went-on}
+use Rattle.varisat_checker.proofs.FailingLemmas.{entails-on, gave-up, went-on}
 use Rattle.varisat_checker.proofs.checker.CheckerOfSelfChecker.self_check_delayed_steps.Goals as goal
 
 pub returns-else-fails-clause-headline : goal.returns-else-fails-clause-headline

@@ -1,13 +1,10 @@
-use Rattle.std.proofs.Common.{refl}
-use Rattle.checker_rules.specs.Calls.{checks, fail}
+use Rattle.varisat_checker.proofs.Common.{common_steps, checks, fail, covers_fold-attempt, sets_fold-attempt, context_state}
+use Rattle.std.proofs.Common.{refl, arith}
 use Rattle.proof_bytes.specs.NextStep.{view}
-use Rattle.checker_parts.proofs.Headlines.{covers_fold-attempt, sets_fold-attempt}
 use Rattle.checker_parts.proofs.Proving.{attempt_proves, attempt_refutes}
-use Rattle.checker_steps.specs.Context.{context_state}
 use Rattle.varisat_checker.specs.Shown.{state}
 use Rattle.varisat_checker.proofs.CertifiedLemmas.{certifies-call}
-use Rattle.varisat_checker.proofs.EntailedLemmas.{entails-on}
-use Rattle.varisat_checker.proofs.FailingLemmas.{gave-up, went-on, where-accepted}
+use Rattle.varisat_checker.proofs.FailingLemmas.{entails-on, gave-up, went-on, where-accepted}
 use Rattle.varisat_checker.proofs.checker.CheckerOfSelfChecker.self_check_step.Goals as goal
 
 pub returns-else-fails-clause-headline : goal.returns-else-fails-clause-headline
@@ -33,9 +30,7 @@ returns-else-fails-clause-certified g c = λ running.
 
 pub returns-else-fails-clause-proves : goal.returns-else-fails-clause-proves
 unfolding state
-returns-else-fails-clause-proves g c = λ running before fold.
-    where-accepted _ _ _ (attempt_proves _ _ before (c.args.self.now.entails running) fold)
-    (went-on _ _ _ c.fails.ensures c.if-fails.false c.attempt_step-answer.ensures.step)
+returns-else-fails-clause-proves g c = grind (arith, common_steps, where-accepted, attempt_proves, went-on)
 
 pub returns-else-fails-clause-refutes : goal.returns-else-fails-clause-refutes
 unfolding state
