@@ -1,26 +1,15 @@
 -- The step of an input clause, by its cause.
-use Rattle.std.proofs.Common.{◌≡◌, ℕ, ◌<◌, ◌≤◌, ◌-◌, ◌^◌, Bool, true, false, cond, ltb, List, Option, Some, None, refl, ◌∙◌, arith, Err, lt-ltb, le-ltb, le-leb}
-use Rattle.std.proofs.lemmas.Bool.{lt-leb}
-use Rattle.checker_rules.specs.Canonical.{canonical}
-use Rattle.checker_rules.specs.KnownVars.{some_not_sampling}
-use Rattle.checker_rules.specs.Outcome.{Cause, Outcome, accept, count_exhausted, ids_exhausted, not_sampling, refuse}
-use Rattle.checker_rules.specs.State.{State}
-use Rattle.checker_rules.specs.Step.{add_clause}
-use Rattle.checker_rules.specs.Steps.{step}
-use Rattle.checker_rules.specs.Store.{count_limit, count_of, id_limit}
-use Rattle.checker_rules.proofs.StepKinds.{step-add_clause}
-use Rattle.checker_steps.specs.InputCause.{IsFaultOf, early_cause, input_cause, taken}
-use Rattle.checker_parts.specs.Faults.{AnswersOutcome, UnlessStopped}
-use Rattle.checker_parts.specs.Causes.{cause_of}
+use Rattle.std.proofs.Common.{◌≡◌, ℕ, ◌<◌, ◌≤◌, ◌-◌, ◌^◌, Bool, true, false, cond, ltb, List, Option, Some, None, refl, ◌∙◌, arith, Err, lt-ltb, le-ltb, le-leb, [], ap}
+use Rattle.checker_steps.proofs.Common.{lt-leb, canonical, NamedStep, Emits, emits_input, some_not_sampling, know_clause, Cause, Outcome, accept}
+use Rattle.checker_steps.proofs.Common.{count_exhausted, ids_exhausted, not_sampling, refuse, State, add_clause, step, count_limit, count_of}
+use Rattle.checker_steps.proofs.Common.{step-add_clause, cause_of, AnswersOutcome, UnlessStopped, Refused, store_fault, UnlessOutOfMemory, StoreFault}
+use Rattle.checker_steps.proofs.Common.{answers-refuse, IsFaultOf, early_cause, input_cause, taken}
+use Rattle.checker_rules.specs.Store.{id_limit}
 use Rattle.checker_parts.specs.declared.error.CheckCause.{CheckCause}
-use Rattle.checker_parts.specs.declared.error.CheckCause.TheVariants as causes
-use Rattle.checker_parts.specs.declared.error.StepFault.TheVariants.{Refused}
-use Rattle.clause_store.specs.Refusal.{store_fault}
-use Rattle.clause_store.specs.Store.{UnlessOutOfMemory}
-use Rattle.clause_store.specs.declared.clauses.store.StoreFault.{StoreFault}
-use Rattle.clause_store.specs.declared.clauses.store.StoreFault.TheVariants as storing
-use Rattle.clause_store.proofs.RefusalLemmas.{answers-refuse}
 use Rattle.checker_steps.specs.declared.steps.add_clause.Added.{Added}
+use Rattle.checker_steps.proofs.EmissionLemmas.{emits-accepted}
+use Rattle.checker_parts.specs.declared.error.CheckCause.TheVariants as causes
+use Rattle.clause_store.specs.declared.clauses.store.StoreFault.TheVariants as storing
 
 -- refused with the cause, where there is one
 abbrev pub by_cause : Option Cause → State → Outcome → Outcome
@@ -85,13 +74,19 @@ module _ (s : State) (c : List ℕ) (none : early_cause s c ≡ None) where
 -- the refusal where the clause was not stored
 pub answers-unstored_input : (fault : StoreFault) (s t : State) (ls : List ℕ) → s.unsat ≡ false → early_cause s (canonical ls) ≡ None →
     IsFaultOf fault (canonical ls) s t → AnswersOutcome {A = Unit {0}} (Err (store_fault fault)) (step s (add_clause ls)) t
-answers-unstored_input storing.OutOfMemory s t ls live none h = tt
-answers-unstored_input storing.IdsExhausted s t ls live none h = absurd h
-answers-unstored_input storing.CountExhausted s t ls live none h =
-    rw h.1 (answers-input causes.CountExhausted s ls live (early-full s (canonical ls) none h.0))
+answers-unstored_input fault s t ls live none h = grind (arith, answers-input, early-full)
 
 -- what holds of the store unless memory was refused holds unless the step gave up
 pub unless-unstored : (P : Type 0) (fault : StoreFault) → UnlessOutOfMemory {A = Added} (Err fault) P → UnlessStopped {A = Unit {0}} (Err (store_fault fault)) P
-unless-unstored P storing.OutOfMemory h = tt
-unless-unstored P storing.IdsExhausted h = h
-unless-unstored P storing.CountExhausted h = h
+unless-unstored P fault h = grind arith
+
+-- ---- what an input clause emits, by its cause
+
+-- an input clause that is accepted
+pub emits-added : (s : State) (ls : List ℕ) (es : List NamedStep) → s.unsat ≡ false → input_cause s (canonical ls) ≡ None →
+    es ≡ emits_input (canonical ls) (know_clause (canonical ls) s) → Emits s (add_clause ls) es
+emits-added s ls es live room h = grind (arith, emits-accepted, add-accepts)
+
+-- where `unsat` is recorded nothing is emitted
+pub emits-unsat : (s : State) (ls : List ℕ) → s.unsat ≡ true → Emits s (add_clause ls) []
+emits-unsat s ls dead = emits-accepted s (add_clause ls) [] (ap (λ (o : Outcome). o.refused) (add-unsat s ls dead)) (rw dead refl)

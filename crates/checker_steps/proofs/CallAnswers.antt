@@ -2,16 +2,12 @@
 --     error-answers, error-unless, error-delivered      what the error of a fault says
 --     call-answers, call-unless, call-delivered, call-stopped, call-memory      what the answer of a call says
 use Rattle.std.proofs.Common.{◌≡◌, ℕ, List, Result, Err, arith}
-use Rattle.checker_rules.specs.CheckedSteps.{NamedStep}
-use Rattle.checker_rules.specs.Outcome.{Outcome}
-use Rattle.checker_rules.specs.State.{State}
+use Rattle.checker_steps.proofs.Common.{NamedStep, Outcome, State, AnswersOutcome, IsAnswerOf, IsErrorOf, UnlessStopped, has_stopped, StepFault}
+use Rattle.checker_steps.proofs.Common.{Delivered, DeliveredList, Listeners, Listens, ListensImage}
 use Rattle.checker_parts.specs.Answers.{AnswersParts, UnlessFailed}
-use Rattle.checker_parts.specs.Faults.{AnswersOutcome, IsAnswerOf, IsErrorOf, UnlessStopped, has_stopped}
 use Rattle.checker_parts.specs.declared.error.CheckerError.{CheckerError}
 use Rattle.checker_parts.specs.declared.error.CheckerError.TheVariants.{OutOfMemory}
-use Rattle.checker_parts.specs.declared.error.StepFault.{StepFault}
 use Rattle.checker_parts.specs.declared.error.StepFault.TheVariants as faults
-use Rattle.checker_steps.specs.Delivered.{Delivered, DeliveredList, Listeners, Listens, ListensImage}
 use Rattle.checker_steps.specs.Failing.{has_failed}
 
 pub error-answers : (n : ℕ) (f : StepFault) (e : CheckerError) (o : Outcome) (s : State) → IsErrorOf n f e → n ≡ s.steps →

@@ -1,23 +1,12 @@
 -- The step of a failed core, part by part.
-use Rattle.std.proofs.Common.{◌≡◌, ℕ, ◌<◌, Bool, true, false, cond, not, eqb, ltb, List, [], ◌∷◌, map, Option, None, Some, is_none, refl, sym, ap, ◌∙◌, subst, arith}
-use Rattle.std.specs.List.{list_any, list_all}
-use Rattle.std.proofs.lemmas.Bool.Decides.{nat_tests}
-use Rattle.std.proofs.lemmas.Bool.{and_parts, both_ways, eq-eqb, false_from_ne_true, lt-ltb, ltb-true, or_left, or_right}
-use Rattle.sat_rules.specs.Clauses.{has, is_canonical, is_tautology, negate, var_of}
+use Rattle.std.proofs.Common.{◌≡◌, ℕ, ◌<◌, Bool, true, false, cond, eqb, List, [], ◌∷◌, map, Option, None, Some, refl, ap, ◌∙◌, subst, arith}
+use Rattle.checker_steps.proofs.Common.{both_ways, eq-eqb, false_from_ne_true, or_left, or_right}
+use Rattle.checker_steps.proofs.Common.{nat_tests, has, is_canonical, is_tautology, negate, canonical, check, ready}
+use Rattle.checker_steps.proofs.Common.{NamedStep, checked_failed_assumptions, named_in, Cause, Outcome, accept}
+use Rattle.checker_steps.proofs.Common.{refuse, State, failed_assumptions, step, check_trace, traced, traced_when}
+use Rattle.checker_steps.proofs.Common.{step-failed_assumptions, steps_unless, core_cause, core_clause, core_steps}
 use Rattle.sat_rules.proofs.Members.{any_at, any_from}
-use Rattle.checker_rules.specs.Canonical.{canonical, insert_lit, is_subset}
-use Rattle.checker_rules.specs.Check.{check, ready}
-use Rattle.checker_rules.specs.CheckedSteps.{NamedStep, checked_failed_assumptions, named_in}
-use Rattle.checker_rules.specs.KnownVars.{user_from_proof_var}
-use Rattle.checker_rules.specs.Outcome.{Cause, Outcome, accept, core_var_hidden, not_assumed, refuse}
-use Rattle.checker_rules.specs.State.{State}
-use Rattle.checker_rules.specs.Step.{failed_assumptions}
-use Rattle.checker_rules.specs.Steps.{step}
-use Rattle.checker_rules.specs.Traced.{check_trace, traced, traced_when}
-use Rattle.checker_rules.proofs.StepKinds.{step-failed_assumptions}
 use Rattle.checker_rules.proofs.TracedSteps.{core_apart}
-use Rattle.checker_steps.specs.Derived.{steps_unless}
-use Rattle.checker_steps.specs.FailedCore.{core_cause, core_clause, core_steps}
 use Rattle.checker_steps.proofs.DerivedLemmas.{check-after}
 
 -- negations keep the order of literals of different variables
@@ -30,23 +19,14 @@ apart-tail l c h = false_from_ne_true _ (λ t.
     both_ways (is_tautology (l ∷ c)) h (any_from (λ x. has (negate x) (l ∷ c)) (l ∷ c) k.0 (or_right (eqb k.0 l) (has k.0 c) k.1) (or_right (eqb (negate k.0) l) (has (negate k.0) c) k.2)))
 
 apart-next : (l m : ℕ) (c : List ℕ) → is_tautology (l ∷ m ∷ c) ≡ false → m ≡ negate l → ⊥
-apart-next l m c h e =
-    let all = l ∷ m ∷ c in
-    both_ways (is_tautology all) h (any_from (λ x. has (negate x) all) all l (or_left (eqb l l) (has l (m ∷ c)) (eq-eqb l l refl))
-    (or_right (eqb (negate l) l) (has (negate l) (m ∷ c))
-    (or_left (eqb (negate l) m) (has (negate l) c) (eq-eqb (negate l) m (sym e)))))
+apart-next l m c h e = grind (arith, both_ways, any_from, or_left, eq-eqb, or_right)
 
 -- the negations of a canonical core without opposite literals are canonical
 pub negations-canonical : (c : List ℕ) → is_canonical c ≡ true → is_tautology c ≡ false → canonical (map negate c) ≡ map negate c
 negations-canonical [] h t = refl
 negations-canonical (l ∷ []) h t = refl
 negations-canonical (l ∷ m ∷ c) h t =
-    let p = and_parts (list_all (ltb l) (m ∷ c)) (is_canonical (m ∷ c)) h in
-    let less = ltb-true l m (and_parts (ltb l m) (list_all (ltb l) c) p.0).0 in
-    ap (insert_lit (negate l)) (negations-canonical (m ∷ c) p.1 (apart-tail l (m ∷ c) t))
-    ∙ ap (λ b. cond b (negate l ∷ negate m ∷ map negate c)
-    (cond (eqb (negate l) (negate m)) (negate m ∷ map negate c) (negate m ∷ insert_lit (negate l) (map negate c))))
-    (lt-ltb (negate l) (negate m) (negate-below l m less (apart-next l m c t)))
+    grind (arith, nat_tests, negate-below l m, apart-next l m c t, apart-tail l (m ∷ c) t, negations-canonical (m ∷ c))
 
 -- they hold no opposite literals
 pub negations-apart : (c : List ℕ) → is_canonical c ≡ true → is_tautology c ≡ false → is_tautology (map negate c) ≡ false
@@ -70,12 +50,7 @@ core_shown t s c hs = named_in t (checked_failed_assumptions c (check_trace (rea
 -- c is the canonical list of the core
 module _ (s : State) (ls hs c : List ℕ) (list : c ≡ canonical ls) where
   core-by : (cause : Option Cause) → core_cause s c ≡ cause → step s (failed_assumptions ls hs) ≡ by_cause cause s (ended_by (is_tautology c) s c hs)
-  core-by cause e =
-      step-failed_assumptions s ls hs
-      ∙ ap (λ (x : List ℕ). cond (not (is_subset x s.assumed)) (refuse not_assumed s)
-      (cond (list_any (λ l. is_none (user_from_proof_var s (var_of l))) x) (refuse core_var_hidden s) (ended_by (is_tautology x) s x hs))) (sym list)
-      ∙ choose (not (is_subset c s.assumed)) (list_any (λ l. is_none (user_from_proof_var s (var_of l))) c) _ _ s _
-      ∙ ap (λ (x : Option Cause). by_cause x s (ended_by (is_tautology c) s c hs)) e
+  core-by cause e = grind (arith, step-failed_assumptions, choose)
 
   -- it is refused before its check
   pub core-refused : (cause : Cause) → core_cause s c ≡ Some cause → step s (failed_assumptions ls hs) ≡ refuse cause s

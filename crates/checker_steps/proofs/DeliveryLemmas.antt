@@ -1,13 +1,9 @@
 -- What a call delivers on, put together from the steps that it delivers on.
 use Rattle.std.proofs.Common.{arith, ◌≡◌, List, [], ◌∷◌, ◌++◌, Some, Result, Ok, Err, OnOk, IfErr, sym, subst, append_assoc}
-use Rattle.checker_rules.specs.CheckedSteps.{NamedStep}
+use Rattle.checker_steps.proofs.Common.{NamedStep, TranscriptStep, image, both_ran_append, both_ran_line, both_ran_nil, IsFaultOrMemory, StepFault}
+use Rattle.checker_steps.proofs.Common.{Refused, Processor, OutOfMemory, Listeners, Listens, ListensImage, DeliveredList, DeliveredStep}
+use Rattle.checker_steps.proofs.Common.{DeliveredBeginning, DeliveredWhole, RanOver}
 use Rattle.checker_rules.specs.Ran.{AllTook, OneFaulted}
-use Rattle.checker_rules.specs.Transcript.{TranscriptStep, image}
-use Rattle.checker_rules.proofs.RanLemmas.{both_ran_append, both_ran_line, both_ran_nil}
-use Rattle.checker_parts.specs.Faults.{IsFaultOrMemory}
-use Rattle.checker_parts.specs.declared.error.StepFault.{StepFault}
-use Rattle.checker_parts.specs.declared.error.StepFault.TheVariants.{Refused, Processor, OutOfMemory}
-use Rattle.checker_steps.specs.Delivered.{Listeners, Listens, ListensImage, DeliveredList, DeliveredStep, DeliveredBeginning, DeliveredWhole, RanOver}
 
 -- the image is delivered to the transcripts, after every processor took the step
 pub delivers-image : {P T : Type 0} (listens : Listens P) (listens_image : ListensImage T)

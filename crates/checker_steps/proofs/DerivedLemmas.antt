@@ -1,21 +1,14 @@
 -- A derived clause: its outcome and the steps that show it, part by part.
-use Rattle.std.proofs.Common.{◌≡◌, ℕ, Bool, cond, arith, List, [], ◌∷◌, None, Some, Err, ◌∙◌}
+use Rattle.std.proofs.Common.{◌≡◌, ℕ, Bool, cond, arith, List, [], ◌∷◌, None, Some, Err, ◌∙◌, true, false}
 use Rattle.std.proofs.Math.Bool.{and-false}
-use Rattle.checker_rules.specs.Check.{check, ready}
-use Rattle.checker_rules.specs.CheckedSteps.{NamedStep, checked_at_clause, named_in}
-use Rattle.checker_rules.specs.Emits.{emits_irredundant}
-use Rattle.checker_rules.specs.Outcome.{Cause, accept, refuse}
-use Rattle.checker_rules.specs.State.{State}
-use Rattle.checker_rules.specs.Store.{id_of, stands, store}
-use Rattle.checker_rules.specs.Traced.{check_trace}
-use Rattle.checker_parts.specs.Faults.{AnswersOutcome}
+use Rattle.checker_steps.proofs.Common.{is_tautology, canonical, check, ready, NamedStep, checked_at_clause, named_in, emits_irredundant, Cause}
+use Rattle.checker_steps.proofs.Common.{accept, refuse, Outcome, and_then, tautology, State, at_clause, step, id_of, stands, store, check_trace}
+use Rattle.checker_steps.proofs.Common.{traced, step-at_clause, AnswersOutcome, store_fault, AnswersStore, Stores, result_of, StoreFault, derived}
+use Rattle.checker_steps.proofs.Common.{derived_steps, stored_steps}
 use Rattle.clause_store.specs.declared.clauses.StoreClauseResult.{StoreClauseResult}
-use Rattle.clause_store.specs.declared.clauses.store.StoreFault.{StoreFault}
 use Rattle.clause_store.specs.Quiet.{NoListenerFault}
-use Rattle.clause_store.specs.Refusal.{store_fault}
-use Rattle.clause_store.specs.Store.{AnswersStore, Stores, result_of}
-use Rattle.checker_steps.specs.Derived.{derived, derived_steps, stored_steps}
-use Rattle.checker_steps.proofs.EmitLemmas.{answers-accept}
+use Rattle.checker_rules.specs.AtClause.{set_previous}
+use Rattle.checker_steps.proofs.EmissionLemmas.{answers-accept}
 
 -- what is shown of a clause that passed its check, with these propagations
 abbrev pub steps_of : State → Bool → List ℕ → List ℕ → List NamedStep
@@ -61,3 +54,36 @@ module _ (s : State) (redundant : Bool) (c hs : List ℕ) where
 -- it is no fault of a processor
 pub quiet-unstored : (fault : StoreFault) → NoListenerFault {A = Unit {0}} (Err (store_fault fault))
 quiet-unstored fault = grind arith
+
+-- ---- the step of a derived clause, part by part
+
+-- an irredundant clause becomes the previous one, with its id
+abbrev pub kept_as_previous : Bool → List ℕ → ℕ → State → State
+kept_as_previous redundant c id s = cond redundant s (set_previous c id s)
+
+module _ (s : State) (redundant : Bool) (ls hs : List ℕ) where
+  -- a tautology is refused
+  pub at-tautology : is_tautology (canonical ls) ≡ true → step s (at_clause redundant ls hs) ≡ refuse tautology s
+  at-tautology h = step-at_clause s redundant ls hs ∙ rw h
+
+  -- c is its canonical list, without opposite literals
+  module _ (c : List ℕ) (list : c ≡ canonical ls) (apart : is_tautology (canonical ls) ≡ false) where
+    -- the clause that is stored becomes the previous one
+    abbrev after : State → Outcome
+    after q = accept (kept_as_previous redundant c (id_of c (ready s c)) q)
+
+    at-derived : step s (at_clause redundant ls hs) ≡ and_then (derived s redundant c hs) after
+    at-derived = step-at_clause s redundant ls hs ∙ rw (apart, ← list) (grind arith)
+
+    -- the check or a counter refuses
+    pub at-refused : (cause : Cause) → (derived s redundant c hs).refused ≡ Some cause → step s (at_clause redundant ls hs) ≡ refuse cause (derived s redundant c hs).after
+    at-refused cause e = at-derived ∙ grind (arith, e)
+
+    -- the clause is stored, under this id
+    pub at-stored : (t u : State) (id : ℕ) → ((derived s redundant c hs).refused ≡ None) × (t ≡ (derived s redundant c hs).after) → id ≡ id_of c (ready s c) → u ≡ kept_as_previous redundant c id t
+        → ((step s (at_clause redundant ls hs)).refused ≡ None) × (u ≡ (step s (at_clause redundant ls hs)).after)
+    at-stored t u id h named kept = grind (arith, at-derived, h.0, h.1, named, kept)
+
+    -- what it delivers on is what it emits
+    pub at-steps : derived_steps s redundant c hs ≡ traced s (at_clause redundant ls hs)
+    at-steps = grind (arith, list, at-derived)

@@ -1,32 +1,20 @@
 -- Storing an input clause, and what it emits.
-use Rattle.std.proofs.Common.{◌≡◌, ℕ, ◌+◌, ◌-◌, ◌<◌, ◌≤◌, Bool, true, false, cond, not, ◌||◌, leb, List, [], ◌∷◌, length, append-nil, Err, refl, sym, ap, ◌∙◌, subst, arith, lt-ltb}
-use Rattle.std.specs.List.{list_all}
+use Rattle.std.proofs.Common.{◌≡◌, ℕ, ◌+◌, ◌-◌, ◌<◌, ◌≤◌, Bool, true, false, cond, not, ◌||◌, leb, List, [], ◌∷◌, length, append-nil, Err, refl, ap, ◌∙◌, arith, lt-ltb}
+use Rattle.checker_steps.proofs.Common.{list_all, and_parts, leb-false, leb-true, not-true, is_canonical, is_tautology, same_list}
+use Rattle.checker_steps.proofs.Common.{var_bound, emits_input, is_only_redundant, know_clause, Cause, accept, count_exhausted}
+use Rattle.checker_steps.proofs.Common.{ids_exhausted, refuse, State, Stored, count_limit, count_of, id_limit, is_gone, is_stored, stands, take_id}
+use Rattle.checker_steps.proofs.Common.{WellFormed, is_fine, rise_next, AnswersStore, IsStore, Stores, store_counters, stored_list, Clauses}
+use Rattle.checker_steps.proofs.Common.{StoreFault, ClauseHasher, IsFaultOf}
 use Rattle.std.proofs.Math.Bool.{and-false}
-use Rattle.std.proofs.lemmas.Bool.{and_parts, leb-false, leb-true, not-true}
-use Rattle.sat_rules.specs.Clauses.{is_canonical, is_tautology}
 use Rattle.checker_rules.specs.AddClause.{store_input}
-use Rattle.checker_rules.specs.Canonical.{same_list, var_bound}
 use Rattle.checker_rules.specs.DeleteClause.{is_short}
-use Rattle.checker_rules.specs.Emits.{emits_input, is_only_redundant}
-use Rattle.checker_rules.specs.KnownVars.{know_clause}
-use Rattle.checker_rules.specs.Outcome.{Cause, Outcome, accept, count_exhausted, ids_exhausted, refuse}
-use Rattle.checker_rules.specs.State.{State, Stored}
-use Rattle.checker_rules.specs.Store.{count_limit, count_of, id_limit, is_gone, is_stored, stands, take_id}
-use Rattle.checker_rules.specs.WellFormed.{WellFormed, is_fine}
-use Rattle.checker_rules.proofs.Entries.{rise_next}
 use Rattle.checker_rules.proofs.Sets.{same_list-eq}
-use Rattle.clause_store.specs.declared.clauses.Clauses.{Clauses}
 use Rattle.clause_store.specs.declared.clauses.StoreClauseResult.{StoreClauseResult}
 use Rattle.clause_store.specs.declared.clauses.StoreClauseResult.TheVariants as results
-use Rattle.clause_store.specs.declared.hash.ClauseHasher.{ClauseHasher}
-use Rattle.clause_store.specs.View.{stored_list}
-use Rattle.clause_store.specs.Store.{AnswersStore, IsStore, Stores, store_counters}
-use Rattle.clause_store.specs.declared.clauses.store.StoreFault.{StoreFault}
 use Rattle.clause_store.specs.declared.clauses.store.StoreFault.TheVariants as storing
 use Rattle.clause_store.proofs.BucketLemmas.{count_limit-some}
 use Rattle.clause_store.proofs.FoundLemmas.{count_of-absent}
 use Rattle.checker_steps.specs.Added.{emitted_of}
-use Rattle.checker_steps.specs.InputCause.{IsFaultOf}
 use Rattle.checker_steps.specs.declared.steps.add_clause.Added.TheVariants.{Tautology, New, Duplicate}
 
 -- taking an id leaves the store in order
@@ -40,25 +28,13 @@ module _ (c : List ℕ) (s : State) (room : s.next < id_limit) where
 
   -- those that refuse do so for the copies
   pub refused-full : (cause : Cause) → store_counters c false s ≡ refuse cause s → count_limit ≤ count_of false c s.clauses
-  refused-full cause e = by (leb count_limit (count_of false c s.clauses)) refl
-    where
-      by : (b : Bool) → leb count_limit (count_of false c s.clauses) ≡ b → count_limit ≤ count_of false c s.clauses
-      by true q = leb-true count_limit (count_of false c s.clauses) q
-      by false q = let some = ap (λ (o : Outcome). o.refused) e in let none = ap (λ (o : Outcome). o.refused) (by_count false q) in cc
+  refused-full cause e = grind (arith, leb-true, by_count)
 
   pub refused-no_ids : store_counters c false s ≡ refuse ids_exhausted s → ⊥
-  refused-no_ids e = by (leb count_limit (count_of false c s.clauses)) refl
-    where
-      by : (b : Bool) → leb count_limit (count_of false c s.clauses) ≡ b → ⊥
-      by true q = let some = ap (λ (o : Outcome). o.refused) e in let other = ap (λ (o : Outcome). o.refused) (by_count true q) in cc
-      by false q = let some = ap (λ (o : Outcome). o.refused) e in let none = ap (λ (o : Outcome). o.refused) (by_count false q) in cc
+  refused-no_ids e = grind (arith, by_count)
 
   pub accepted-few : store_counters c false s ≡ accept s → count_of false c s.clauses < count_limit
-  accepted-few e = by (leb count_limit (count_of false c s.clauses)) refl
-    where
-      by : (b : Bool) → leb count_limit (count_of false c s.clauses) ≡ b → count_of false c s.clauses < count_limit
-      by true q = let none = ap (λ (o : Outcome). o.refused) e in let some = ap (λ (o : Outcome). o.refused) (by_count true q) in cc
-      by false q = leb-false count_limit (count_of false c s.clauses) q
+  accepted-few e = grind (arith, by_count, leb-false)
 
 -- what was stored has known variables, and is no tautology
 pub stored-fine : (n : ℕ) (c : List ℕ) (es : List Stored) → list_all (is_fine n) es ≡ true → is_stored c es ≡ true → (is_tautology c ≡ false) × (var_bound c ≤ n)
@@ -79,41 +55,26 @@ stored-fine n c (e ∷ es) fine h = by (same_list e.lits c) refl h (stored-fine 
     by false other k others = others k
 
 some-stored : (c : List ℕ) (es : List Stored) → 0 < count_of false c es → is_stored c es ≡ true
-some-stored c es some = by (is_stored c es) refl
-  where
-    by : (b : Bool) → is_stored c es ≡ b → b ≡ true
-    by true h = refl
-    by false h = let none = count_of-absent c false es h in absurd (omega (arith, some, none))
+some-stored c es some = grind (arith, count_of-absent)
 
 -- so its variables need not become known
 pub know-stored : (c : List ℕ) (s : State) → WellFormed s → is_stored c s.clauses ≡ true → know_clause c s ≡ s
 know-stored c s form h =
     let bound = (stored-fine (length s.known) c s.clauses form.fine h).1 in
     let known : var_bound c - length s.known ≡ 0 = omega (arith, bound) in
-    let units : var_bound c - length s.units ≡ 0 = omega (arith, bound, form.same_known) in
-    rw (known, units, append-nil s.known, append-nil s.units) refl
+    let units : var_bound c - length s.units ≡ 0 = omega (arith, bound, form.same_known) in rw (known, units, append-nil s.known, append-nil s.units)
 
 -- a tautology has no copies
 pub tautology-few : (c : List ℕ) (s : State) → WellFormed s → is_tautology c ≡ true → count_of false c s.clauses < count_limit
-tautology-few c s form h = by (is_stored c s.clauses) refl
-  where
-    by : (b : Bool) → is_stored c s.clauses ≡ b → count_of false c s.clauses < count_limit
-    by true k = let fine = (stored-fine (length s.known) c s.clauses form.fine k).0 in cc
-    by false k = subst (λ n. n < count_limit) (sym (count_of-absent c false s.clauses k)) count_limit-some
+tautology-few c s form h = grind (arith, stored-fine, count_of-absent, count_limit-some)
 
 -- a fault after the variables became known is one before
 pub fault-known : (fault : StoreFault) (c : List ℕ) (s t : State) → WellFormed s → IsFaultOf fault c (know_clause c s) t → IsFaultOf fault c s t
-fault-known storing.OutOfMemory c s t form h = tt
-fault-known storing.IdsExhausted c s t form h = h
-fault-known storing.CountExhausted c s t form h =
-    let some : 0 < count_of false c s.clauses = omega (arith, h.0, count_limit-some) in
-    (h.0, h.1 ∙ know-stored c s form (some-stored c s.clauses some))
+fault-known fault c s t form h = grind (arith, count_limit-some, know-stored, some-stored)
 
 -- what storing refused, in the words of the step
 pub fault-stored : (fault : StoreFault) (c : List ℕ) (s t : State) → s.next < id_limit → AnswersStore (Err fault) c false s t → IsFaultOf fault c s t
-fault-stored storing.OutOfMemory c s t room h = tt
-fault-stored storing.IdsExhausted c s t room h = refused-no_ids c s room h.0
-fault-stored storing.CountExhausted c s t room h = (refused-full c s room count_exhausted h.0, h.1)
+fault-stored fault c s t room h = grind (arith, refused-no_ids, refused-full)
 
 -- what the answer of storing tells of the clause before
 abbrev pub Tells : StoreClauseResult → (stood only_redundant : Bool) → Type 0

@@ -1,22 +1,15 @@
 -- The walk over all buckets, by which every stored clause is tested.
 use Rattle.std.proofs.Common.{◌≡◌, ℕ, ◌+◌, Bool, not, ◌&&◌, List, [], ◌∷◌, ◌++◌, length, map, All, nat_eq, refl, sym, ap, ◌∙◌, subst, arith, length-append}
 use Rattle.std.proofs.Math.ListN.{get_or-append}
-use Rattle.std.specs.List.{flat_map, list_all, list_any}
-use Rattle.std.specs.HashMap.{IsUnique, values}
-use Rattle.std.proofs.lemmas.List.{get_or-append-add}
+use Rattle.checker_steps.proofs.Common.{IsUnique, values, flat_map, list_all, list_any, get_or-append-add, Stored, IsIndexed, stored_of, Clauses}
+use Rattle.checker_steps.proofs.Common.{ClauseHasher, has_marked}
 use Rattle.std.proofs.lemmas.List.Folds.{list_all-append, list_all-map}
 use Rattle.std.proofs.lemmas.List.Sorted.{list_any-IsPermutation}
-use Rattle.checker_rules.specs.State.{Stored}
 use Rattle.clause_store.specs.declared.clauses.Clause.{Clause}
 use Rattle.clause_store.specs.declared.clauses.buckets.Bucket.{Bucket}
-use Rattle.clause_store.specs.declared.clauses.Clauses.{Clauses}
-use Rattle.clause_store.specs.declared.hash.ClauseHasher.{ClauseHasher}
 use Rattle.clause_store.specs.Buckets.{clauses_of}
 use Rattle.clause_store.specs.Lits.{IsWithin}
-use Rattle.clause_store.specs.Store.{IsIndexed}
-use Rattle.clause_store.specs.View.{stored_of}
 use Rattle.clause_store.proofs.GatheredLemmas.{in_other_order}
-use Rattle.checker_steps.specs.ModelCause.{has_marked}
 
 -- the clauses of buckets, one after the other
 abbrev pub clauses_in : List Bucket → List Clause

@@ -1,14 +1,10 @@
 -- The step of a model, by its cause.
-use Rattle.std.proofs.Common.{◌≡◌, ℕ, true, false, cond, List, [], ◌∷◌, Option, None, Some, refl, sym, ap, ◌∙◌, subst, arith}
-use Rattle.checker_rules.specs.CheckedSteps.{checked_model, named_in}
-use Rattle.checker_rules.specs.Emits.{Emits, EmitsBy}
-use Rattle.checker_rules.specs.Model.{model_cause, model_whole}
-use Rattle.checker_rules.specs.Outcome.{Cause, Outcome, accept, and_then_by, model_after_unsat, refuse}
-use Rattle.checker_rules.specs.State.{State}
-use Rattle.checker_rules.specs.Step.{model}
-use Rattle.checker_rules.specs.Steps.{step}
-use Rattle.checker_rules.proofs.StepKinds.{step-model}
-use Rattle.checker_steps.specs.ModelCause.{first_cause, list_cause, missing_cause}
+use Rattle.std.proofs.Common.{◌≡◌, ℕ, true, false, cond, List, [], ◌∷◌, Option, None, Some, refl, sym, ap, ◌∙◌, subst, arith, Bool, not, ◌&&◌, ◌||◌, eqb}
+use Rattle.checker_steps.proofs.Common.{list_all, add_lit, has, negate, var_of, checked_model, named_in, Emits, EmitsBy, is_known, Cause, Outcome}
+use Rattle.checker_steps.proofs.Common.{accept, and_then_by, model_after_unsat, refuse, model_against_itself, model_against_unit}
+use Rattle.checker_steps.proofs.Common.{model_misses_assumption, model_misses_clause, State, model, step, step-model, MarksOnly, is_marked}
+use Rattle.checker_steps.proofs.Common.{first_cause, list_cause, missing_cause, has_marked, lit_cause}
+use Rattle.checker_rules.specs.Model.{model_cause, model_whole, is_false_by_unit}
 
 -- the step
 abbrev by_cause : Option Cause → State → Outcome
@@ -19,9 +15,7 @@ list-by : (o : Option Cause) (s : State) (m : List ℕ) → and_then_by o s (λ 
 list-by o s m = grind arith
 
 model-by : (s : State) (m : List ℕ) → s.unsat ≡ false → step s (model m) ≡ by_cause (list_cause s m) s
-model-by s m live =
-    step-model s m ∙ ap (λ b. cond b (refuse model_after_unsat s) (and_then_by (model_cause s [] m) s (λ r. model_whole r m))) live
-    ∙ list-by (model_cause s [] m) s m
+model-by s m live = grind (arith, step-model, list-by)
 
 pub model-unsat : (s : State) (m : List ℕ) → s.unsat ≡ true → step s (model m) ≡ refuse model_after_unsat s
 model-unsat s m h = step-model s m ∙ ap (λ b. cond b (refuse model_after_unsat s) (and_then_by (model_cause s [] m) s (λ r. model_whole r m))) h
@@ -35,3 +29,64 @@ model-refuses s m cause live h = model-by s m live ∙ ap (λ o. by_cause o s) h
 -- a model that is accepted emits itself
 pub model-emits : (s : State) (m : List ℕ) → step s (model m) ≡ accept s → Emits s (model m) (named_in s (checked_model m) ∷ [])
 model-emits s m is = subst (λ x. EmitsBy x s (model m) (named_in s (checked_model m) ∷ [])) (sym (ap (λ (o : Outcome). o.refused) is)) refl
+
+-- ---- judging the literals of a model one after the other, those before being marked
+
+-- one literal
+pub lit-against_unit : (s : State) (f : ℕ → Bool) (l : ℕ) → is_known s (var_of l) ≡ true → is_false_by_unit s.units l ≡ true → lit_cause s f l ≡ Some model_against_unit
+lit-against_unit s f l known false_by = rw (known, false_by)
+
+pub lit-against_itself : (s : State) (f : ℕ → Bool) (l : ℕ) → is_known s (var_of l) ≡ true → is_false_by_unit s.units l ≡ false → f (negate l) ≡ true → lit_cause s f l ≡ Some model_against_itself
+lit-against_itself s f l known false_by opposite = rw (known, false_by, opposite) refl
+
+pub lit-none : (s : State) (f : ℕ → Bool) (l : ℕ) → is_known s (var_of l) ≡ true → is_false_by_unit s.units l ≡ false → f (negate l) ≡ false → lit_cause s f l ≡ None
+lit-none s f l known false_by opposite = rw (known, false_by, opposite) refl
+
+-- the first cause among the literals, those of a set being listed
+abbrev pub causes_from : State → (ℕ → Bool) → List ℕ → Option Cause
+causes_from s f [] = None
+causes_from s f (l ∷ ls) = first_cause (lit_cause s f l) (causes_from s (add_lit l f) ls)
+
+pub causes_from-listed : (s : State) (earlier ls : List ℕ) → causes_from s (λ k. has k earlier) ls ≡ model_cause s earlier ls
+causes_from-listed s earlier [] = refl
+causes_from-listed s earlier (l ∷ ls) = grind (arith, causes_from-listed s (l ∷ earlier) ls)
+
+pub causes_from-none : (s : State) (f : ℕ → Bool) (ls : List ℕ) → ((k : ℕ) → f k ≡ false) → causes_from s f ls ≡ model_cause s [] ls
+causes_from-none s f ls none = let same : f ≡ (λ k. has k []) = λ i k. none k i in ap (λ g. causes_from s g ls) same ∙ causes_from-listed s [] ls
+
+-- one literal after those of a set
+pub causes_from-goes : (s : State) (f g : ℕ → Bool) (l : ℕ) (ls : List ℕ) → lit_cause s f l ≡ None → g ≡ add_lit l f → causes_from s g ls ≡ causes_from s f (l ∷ ls)
+causes_from-goes s f g l ls none marked = grind (arith, none, marked)
+
+-- a literal that is refused is the first one
+pub cause-first : (cause : Cause) (s : State) (f : ℕ → Bool) (l : ℕ) (ls : List ℕ) (found : Option Cause) → causes_from s f (l ∷ ls) ≡ found → lit_cause s f l ≡ Some cause → found ≡ Some cause
+cause-first cause s f l ls found e h = grind (arith, e, h)
+
+-- what is marked, and what is still to be
+pub marked-none : (f : ℕ → Bool) (ls : List ℕ) (k : ℕ) → ((k : ℕ) → f k ≡ false) → (f k || has k ls) ≡ has k ls
+marked-none f ls k none = ap (λ b. b || has k ls) (none k)
+
+pub marked-turn : (f g : ℕ → Bool) (l : ℕ) (ls : List ℕ) (k : ℕ) → g ≡ add_lit l f → (g k || has k ls) ≡ (f k || has k (l ∷ ls))
+marked-turn f g l ls k marked = grind (arith, marked)
+
+pub marked-all : (f : ℕ → Bool) (whole ls : List ℕ) (k : ℕ) → ls ≡ [] → (f k || has k ls) ≡ has k whole → f k ≡ has k whole
+marked-all f whole ls k done h = grind (arith, done, h)
+
+-- what a list misses, its literals alone being marked
+pub judged-whole : (s : State) (f : ℕ → Bool) (m : List ℕ) (a b : Bool) →
+    ((k : ℕ) → f k ≡ has k m) → model_cause s [] m ≡ None →
+    a ≡ list_all f s.assumed → b ≡ list_all (has_marked f) s.clauses →
+    list_cause s m ≡ cond (not a) (Some model_misses_assumption)
+    (cond (not b) (Some model_misses_clause) None)
+judged-whole s f m a b marked none assumed clauses = grind arith
+
+-- only what is listed is marked
+pub marks_only : (marks : List Bool) (whole ls : List ℕ) → ((k : ℕ) → (is_marked marks k || has k ls) ≡ has k whole) → MarksOnly marks whole
+marks_only marks whole ls marked = λ k away. grind (arith, marked k, away)
+
+-- the marks that are still to be taken back, and those of an empty list
+pub unmarked-turn : (old new : List Bool) (l : ℕ) (ls : List ℕ) → MarksOnly old (l ∷ ls) → ((k : ℕ) → is_marked new k ≡ (not (eqb k l) && is_marked old k)) → MarksOnly new ls
+unmarked-turn old new l ls only taken = λ k away. grind (arith, taken k, only k, away)
+
+pub unmarked-all : (marks : List Bool) (ls : List ℕ) → ls ≡ [] → MarksOnly marks ls → (k : ℕ) → is_marked marks k ≡ false
+unmarked-all marks ls done only k = only k (ap (has k) done)

@@ -1,19 +1,13 @@
 -- The steps on user names and modes, part by part. Each is told over the state r in which the variable is known.
-use Rattle.std.proofs.Common.{◌≡◌, ℕ, suc, Bool, true, false, cond, not, ◌&&◌, ◌||◌, List, [], ◌∷◌, set, Option, None, Some, is_none, is_some, sym, ap, ◌∙◌, arith}
+use Rattle.std.proofs.Common.{◌≡◌, ℕ, suc, Bool, true, false, cond, List, [], ◌∷◌, Option, None, Some, is_none, is_some, ap, arith}
 use Rattle.sat_formula.specs.declared.lit.Var.{Var}
-use Rattle.sat_formula.specs.Vars.{indexes_of}
-use Rattle.checker_rules.specs.ChangeSamplingMode.{mode_is, step_change_sampling_mode}
-use Rattle.checker_rules.specs.CheckedSteps.{NamedStep, checked_user_var, named_in}
-use Rattle.checker_rules.specs.Emits.{Emits, emits_mode}
-use Rattle.checker_rules.specs.KnownVars.{is_hide, is_known, is_sample, know, known_of, name_taken, set_known}
-use Rattle.checker_rules.specs.Outcome.{Cause, Outcome, accept, name_in_use, no_name_to_remove, refuse, sample_hidden, still_hidden, user_name_taken}
-use Rattle.checker_rules.specs.State.{Known, State, hide, sample, witness}
-use Rattle.checker_rules.specs.Step.{change_sampling_mode, user_var_name}
-use Rattle.checker_rules.specs.Steps.{step}
-use Rattle.checker_rules.proofs.StepKinds.{step-change_sampling_mode, step-user_var_name}
+use Rattle.checker_steps.proofs.Common.{NamedStep, checked_user_var, named_in, Emits, emits_mode, is_sample, know, known_of}
+use Rattle.checker_steps.proofs.Common.{set_known, Cause, Outcome, accept, no_name_to_remove, refuse}
+use Rattle.checker_steps.proofs.Common.{Known, State, hide, sample, witness, change_sampling_mode, user_var_name, step}
+use Rattle.checker_steps.proofs.Common.{step-change_sampling_mode, step-user_var_name, indexes_of}
 use Rattle.checker_steps.specs.Naming.{changed_name, in_mode, mode_cause, naming_cause}
 use Rattle.checker_steps.proofs.AddClauseLemmas.{by_cause, conds-by_cause}
-use Rattle.checker_steps.proofs.EmitLemmas.{emits-accepted}
+use Rattle.checker_steps.proofs.EmissionLemmas.{emits-accepted}
 
 -- the state with the variable named
 abbrev pub named : ℕ → ℕ → State → State
@@ -25,10 +19,7 @@ hidden x r = set_known x (record { name = None; mode = hide }) r
 
 name-step : (s r : State) (x u : ℕ) (cause : Option Cause) → r ≡ know (suc x) s → naming_cause r.known x u ≡ cause →
     step s (user_var_name x (Some u)) ≡ by_cause cause r (accept (named x u r))
-name-step s r x u cause e h =
-    let k = know (suc x) s in
-    rw (← h, e) (step-user_var_name s x (Some u) ∙ conds-by_cause (not (is_known k u) || name_taken k u) (is_hide (known_of k x).mode)
-    (is_some (known_of k x).name) user_name_taken still_hidden name_in_use k (accept (named x u k)))
+name-step s r x u cause e h = grind (arith, step-user_var_name, conds-by_cause)
 
 pub name-refused : (s r : State) (x u : ℕ) (cause : Cause) → r ≡ know (suc x) s → naming_cause r.known x u ≡ Some cause → step s (user_var_name x (Some u)) ≡ refuse cause r
 name-refused s r x u cause e h = name-step s r x u (Some cause) e h
@@ -43,11 +34,7 @@ name_shown x u samples names = record { step = checked_user_var x (Some (record 
 pub emits-name : (s r : State) (x u : ℕ) (samples : Bool) (names : List Known) → r ≡ know (suc x) s → naming_cause r.known x u ≡ None →
     samples ≡ is_sample (known_of r x).mode → names ≡ (named x u r).known
     → Emits s (user_var_name x (Some u)) (name_shown x u samples names ∷ [])
-emits-name s r x u samples names e h mode is =
-    let o = name-given s r x u e h in
-    let after = ap (λ (y : Outcome). y.after) (sym (step-user_var_name s x (Some u)) ∙ o) in
-    emits-accepted s (user_var_name x (Some u)) _ (ap (λ (y : Outcome). y.refused) o)
-    (λ i. name_shown x u ((mode ∙ ap (λ (y : State). is_sample (known_of y x).mode) e) i) ((is ∙ sym (ap (λ (y : State). y.known) after)) i) ∷ [])
+emits-name s r x u samples names e h mode is = grind (arith, name-given, step-user_var_name, emits-accepted)
 
 remove-step : (s r : State) (x : ℕ) (none : Bool) → r ≡ know (suc x) s → is_none (known_of r x).name ≡ none →
     step s (user_var_name x None) ≡ cond none (refuse no_name_to_remove r) (accept (hidden x r))
@@ -76,11 +63,7 @@ mode-choose a b cause r known = grind arith
 
 mode-step : (s r : State) (x : ℕ) (to_sample : Bool) (cause : Option Cause) → r ≡ know (suc x) s → mode_cause r.known x to_sample ≡ cause →
     step s (change_sampling_mode x to_sample) ≡ by_cause cause r (accept (record r { known = in_mode r.known x to_sample }))
-mode-step s r x to_sample cause e h =
-    let k = know (suc x) s in
-    rw (← h, e) (step-change_sampling_mode s x to_sample
-    ∙ mode-choose (mode_is (known_of k x).mode to_sample) (to_sample && is_none (known_of k x).name) sample_hidden k
-    (set k.known x (record { name = (known_of k x).name; mode = cond to_sample sample witness })))
+mode-step s r x to_sample cause e h = grind (arith, step-change_sampling_mode, mode-choose)
 
 pub mode-refused : (s r : State) (x : ℕ) (to_sample : Bool) (cause : Cause) → r ≡ know (suc x) s →
     mode_cause r.known x to_sample ≡ Some cause → step s (change_sampling_mode x to_sample) ≡ refuse cause r
@@ -102,13 +85,7 @@ pub emits-change : (s r : State) (x : ℕ) (to_sample samples : Bool) (name : Op
     mode_cause r.known x to_sample ≡ None → names ≡ in_mode r.known x to_sample → name ≡ changed_name r.known x to_sample →
     samples ≡ to_sample
     → Emits s (change_sampling_mode x to_sample) (change_shown x samples name names)
-emits-change s r x to_sample samples name names e h is shown same =
-    let k = know (suc x) s in
-    let o = mode-changed s r x to_sample e h in
-    let after = ap (λ (y : Outcome). y.after) (sym (step-change_sampling_mode s x to_sample) ∙ o) in
-    emits-accepted s (change_sampling_mode x to_sample) _ (ap (λ (y : Outcome). y.refused) o)
-    ((λ i. change_shown x (same i) ((shown ∙ ap (λ (y : State). changed_name y.known x to_sample) e) i) ((is ∙ sym (ap (λ (y : State). y.known) after)) i))
-    ∙ mode-shown (mode_is (known_of k x).mode to_sample) x to_sample (known_of k x).name (step_change_sampling_mode s x to_sample).after)
+emits-change s r x to_sample samples name names e h is shown same = grind (arith, mode-changed, step-change_sampling_mode, emits-accepted, mode-shown)
 
 pub is_sample-asked : (to_sample : Bool) → is_sample (cond to_sample sample witness) ≡ to_sample
 is_sample-asked to_sample = grind arith

@@ -1,6 +1,6 @@
 -- What a walk over the listeners did so far, and of all of them.
 use Rattle.std.proofs.Common.{◌≡◌, ℕ, zero, suc, ◌<◌, ◌+◌, List, [], ◌∷◌, ◌++◌, take, drop, length, slice_index_or, slice_set, refl, arith, add-one, inl, inr}
-use Rattle.std.specs.List.{AllZip}
+use Rattle.checker_steps.proofs.Common.{AllZip}
 use Rattle.checker_rules.specs.Ran.{AllTook, OneFaulted}
 
 -- R holds of the first i items, place by place, and the others are the same

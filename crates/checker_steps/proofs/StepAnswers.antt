@@ -1,18 +1,11 @@
 -- Steps counted and not, and `End`.
 use Rattle.std.proofs.Common.{◌≡◌, ℕ, ◌<◌, ◌≤◌, ◌-◌, ◌^◌, true, false, ltb, lt-ltb, le-ltb, Result, Ok, Err, refl, arith}
-use Rattle.checker_rules.specs.Calls.{attempt, count_step, step_limit}
-use Rattle.checker_rules.specs.Outcome.{steps_exhausted}
-use Rattle.checker_rules.specs.State.{State}
-use Rattle.checker_rules.specs.Step.{Step, end_proof}
-use Rattle.checker_rules.specs.Steps.{step}
+use Rattle.checker_steps.proofs.Common.{attempt, count_step, steps_exhausted, State, Step, end_proof, step, step-end_proof, AnswersOutcome, StepFault}
+use Rattle.checker_steps.proofs.Common.{Refused, answers-refuse}
+use Rattle.checker_rules.specs.Calls.{step_limit}
 use Rattle.checker_rules.proofs.Openings.{attempt-counted, attempt-exhausted}
-use Rattle.checker_rules.proofs.StepKinds.{step-end_proof}
-use Rattle.checker_parts.specs.Faults.{AnswersOutcome}
 use Rattle.checker_parts.specs.declared.error.CheckCause.TheVariants.{StepsExhausted}
-use Rattle.checker_parts.specs.declared.error.StepFault.{StepFault}
-use Rattle.checker_parts.specs.declared.error.StepFault.TheVariants.{Refused}
-use Rattle.clause_store.proofs.RefusalLemmas.{answers-refuse}
-use Rattle.checker_steps.proofs.EmitLemmas.{answers-accept}
+use Rattle.checker_steps.proofs.EmissionLemmas.{answers-accept}
 
 -- `End`
 pub end-answers : (s : State) (t : Step) → t ≡ end_proof → AnswersOutcome {A = Unit {0}} (Ok tt) (step s t) (record s { ended = true })

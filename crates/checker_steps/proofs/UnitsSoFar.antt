@@ -1,27 +1,13 @@
 -- Derived units, one after the other.
 use Rattle.std.proofs.Common.{◌≡◌, arith, ℕ, ◌+◌, ◌<◌, add-one, drop, get_or, length, false, List, [], ◌∷◌, ◌++◌, Option, None, Some, Err, refl, sym, ap, ◌∙◌}
 use Rattle.std.proofs.Math.Seq.{drop-cons}
-use Rattle.std.proofs.lemmas.List.{append-nil, append_assoc}
-use Rattle.checker_rules.specs.CheckedSteps.{NamedStep}
-use Rattle.checker_rules.specs.Outcome.{Cause}
-use Rattle.checker_rules.specs.State.{State}
-use Rattle.checker_rules.specs.Step.{unit_clauses}
-use Rattle.checker_rules.specs.Steps.{step}
-use Rattle.checker_rules.specs.Traced.{traced, traced_units}
+use Rattle.checker_steps.proofs.Common.{append-nil, append_assoc, NamedStep, Emits, Cause, State, unit_clauses, step, traced, traced_units}
+use Rattle.checker_steps.proofs.Common.{WellFormed, both_ran_append, both_ran_nil, steps_keep_form, step-unit_clauses, AnswersOutcome, StepFault}
+use Rattle.checker_steps.proofs.Common.{Refused, Processor, OutOfMemory, Listeners, Listens, ListensImage, DeliveredList, DeliveredWhole, RanOver}
+use Rattle.checker_steps.proofs.Common.{derived_steps}
 use Rattle.checker_rules.specs.UnitClauses.{step_unit, step_unit_clauses}
-use Rattle.checker_rules.specs.WellFormed.{WellFormed}
-use Rattle.checker_rules.proofs.StepForms.{steps_keep_form}
-use Rattle.checker_rules.proofs.StepKinds.{step-unit_clauses}
-use Rattle.checker_parts.specs.Faults.{AnswersOutcome}
-use Rattle.checker_parts.specs.declared.error.StepFault.{StepFault}
-use Rattle.checker_parts.specs.declared.error.StepFault.TheVariants.{Refused, Processor, OutOfMemory}
-use Rattle.checker_steps.specs.Derived.{derived_steps}
-use Rattle.checker_steps.specs.Delivered.{Listeners, Listens, ListensImage, DeliveredList, DeliveredWhole, RanOver}
 use Rattle.checker_steps.proofs.DeliveryLemmas.{beginning-first, delivered-second}
-use Rattle.checker_rules.proofs.RanLemmas.{both_ran_append, both_ran_nil}
-use Rattle.checker_steps.proofs.EmitLemmas.{answers-accept}
-use Rattle.checker_steps.proofs.EmittedSteps.{traced-emits}
-use Rattle.checker_rules.specs.Emits.{Emits}
+use Rattle.checker_steps.proofs.EmissionLemmas.{answers-accept, traced-emits}
 
 -- the pairs from the next one on
 pub drop-pair : (us : List (ℕ × ℕ)) (i : ℕ) (p : ℕ × ℕ) → i < length us → p ≡ get_or us i p → drop i us ≡ p ∷ drop (i + 1) us

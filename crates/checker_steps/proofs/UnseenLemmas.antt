@@ -1,12 +1,7 @@
 -- Steps that transcripts can't tell apart, where no processor is registered.
 use Rattle.std.proofs.Common.{◌≡◌, ◌==◌, ℕ, Bool, true, not, List, [], ◌∷◌, length, Result, refl, ap, ◌∙◌, subst, arith}
-use Rattle.std.proofs.lemmas.Bool.{ne_eqb}
-use Rattle.checker_rules.specs.CheckedSteps.{NamedStep, checked_at_clause}
-use Rattle.checker_rules.specs.State.{Known}
-use Rattle.checker_rules.specs.Transcript.{image, image_of}
-use Rattle.checker_parts.specs.declared.error.StepFault.{StepFault}
-use Rattle.checker_steps.specs.Derived.{IsTraceFor}
-use Rattle.checker_steps.specs.Delivered.{Listeners, Listens, ListensImage, DeliveredStep}
+use Rattle.checker_steps.proofs.Common.{ne_eqb, NamedStep, checked_at_clause, Known, image, image_of, StepFault, Listeners, Listens, ListensImage}
+use Rattle.checker_steps.proofs.Common.{DeliveredStep, IsTraceFor}
 
 -- a derived clause with other propagations
 pub image-at_clause : (names : List Known) (id : ℕ) (redundant : Bool) (c ids told : List ℕ) →

@@ -1,11 +1,6 @@
+use Rattle.checker_steps.proofs.Common.{common_steps, both_ran_nil, view, context_state}
 use Rattle.std.proofs.Common.{[], arith}
-use Rattle.proof_bytes.specs.NextStep.{view}
-use Rattle.checker_rules.specs.CallEmissions.{EmitsCall}
-use Rattle.checker_rules.specs.Calls.{checks, count_step}
-use Rattle.checker_rules.specs.Emits.{Emits}
-use Rattle.checker_steps.specs.Context.{context_state}
-use Rattle.checker_rules.proofs.RanLemmas.{both_ran_nil}
-use Rattle.checker_steps.proofs.EmittedSteps.{emits-counted, emits-exhausted}
+use Rattle.checker_steps.proofs.EmissionLemmas.{emits-counted, emits-exhausted}
 use Rattle.checker_steps.proofs.DeliveryLemmas.{delivered-weaker}
 use Rattle.checker_steps.proofs.StepAnswers.{attempt-refused, counted-answers, no-number, not-exhausted, some-number}
 use Rattle.checker_steps.proofs.check.take_counted.Goals as goal
@@ -20,16 +15,10 @@ returns-then-ctx-clause-delivered g c =
     ([], emits-exhausted s t (no-number ctx.checker_state.step c.if-ctx.true), both_ran_nil _ _ _ _)
 
 pub returns-clause-step : goal.returns-clause-step
-returns-clause-step g c =
-    let ctx = c.args.ctx.now in
-    counted-answers c.take_step.result (context_state ctx) (context_state c.take_step.new.ctx) (view c.args.step.now)
-    (some-number ctx.checker_state.step (omega arith) c.if-ctx.false) c.take_step.ensures.step
+returns-clause-step g c = grind (arith, common_steps, counted-answers, some-number)
 
 pub returns-clause-delivered : goal.returns-clause-delivered
-returns-clause-delivered g c =
-    let ctx = c.args.ctx.now in let t = view c.args.step.now in let s = context_state ctx in
-    delivered-weaker g.P.ProofProcessor g.T.ProofTranscriptProcessor (Emits (count_step s) t) (EmitsCall s (checks t)) _ _ c.take_step.result
-    (λ es h. emits-counted s t es (some-number ctx.checker_state.step (omega arith) c.if-ctx.false) h) c.take_step.ensures.delivered
+returns-clause-delivered g c = grind (arith, common_steps, delivered-weaker, emits-counted, some-number)
 
 pub returns-clause-exhausted : goal.returns-clause-exhausted
 returns-clause-exhausted g c = λ none. absurd (not-exhausted c.args.ctx.now.checker_state.step (omega arith) c.if-ctx.false none)

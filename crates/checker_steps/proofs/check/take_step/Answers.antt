@@ -1,8 +1,6 @@
 use Rattle.std.proofs.Common.{[], ap}
-use Rattle.proof_bytes.specs.NextStep.{view}
-use Rattle.checker_steps.specs.Context.{context_state}
-use Rattle.checker_rules.proofs.RanLemmas.{both_ran_nil}
-use Rattle.checker_steps.proofs.EmittedSteps.{emits-end}
+use Rattle.checker_steps.proofs.Common.{both_ran_nil, view, context_state}
+use Rattle.checker_steps.proofs.EmissionLemmas.{emits-end}
 use Rattle.checker_steps.proofs.StepAnswers.{end-answers}
 use Rattle.checker_steps.proofs.check.take_step.Goals as goal
 

@@ -1,4 +1,4 @@
-use Rattle.checker_parts.specs.CheckedSteps.{told}
+use Rattle.checker_steps.proofs.Common.{told}
 use Rattle.checker_steps.proofs.PassedLemmas.{Passed}
 use Rattle.checker_steps.proofs.processing.tell.Given as goal
 

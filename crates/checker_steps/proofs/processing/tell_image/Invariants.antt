@@ -1,4 +1,4 @@
-use Rattle.checker_parts.specs.CheckedSteps.{transcript_of}
+use Rattle.checker_steps.proofs.Common.{transcript_of}
 use Rattle.checker_steps.proofs.PassedLemmas.{Passed}
 use Rattle.checker_steps.proofs.processing.tell_image.Given as goal
 

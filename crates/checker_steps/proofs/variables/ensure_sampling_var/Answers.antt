@@ -1,9 +1,6 @@
 use Rattle.std.proofs.Common.{suc}
-use Rattle.std.proofs.lemmas.Result.{on_ok_weaker}
-use Rattle.sat_formula.specs.Vars.{index_of}
-use Rattle.clause_store.specs.Store.{IsStore}
-use Rattle.clause_store.proofs.GrowthLemmas.{is_store-known}
-use Rattle.checker_steps.proofs.EmitLemmas.{unless-memory}
+use Rattle.checker_steps.proofs.Common.{on_ok_weaker, index_of, IsStore, is_store-known}
+use Rattle.checker_steps.proofs.EmissionLemmas.{unless-memory}
 use Rattle.checker_steps.proofs.variables.ensure_sampling_var.Goals as goal
 
 pub returns-clause-store : goal.returns-clause-store

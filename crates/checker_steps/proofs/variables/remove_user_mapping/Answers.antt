@@ -1,18 +1,7 @@
-use Rattle.std.proofs.Common.{[], suc, None, is_none, Err, refl, sym, ap, ◌∙◌}
-use Rattle.std.proofs.lemmas.Result.{err_from_is_err_and}
-use Rattle.checker_rules.specs.Emits.{Emits}
-use Rattle.checker_rules.specs.State.{Known}
-use Rattle.checker_rules.specs.Step.{user_var_name}
-use Rattle.checker_rules.specs.Steps.{step}
-use Rattle.clause_store.specs.declared.hash.ClauseHasher.{ClauseHasher}
-use Rattle.clause_store.specs.declared.state.CheckerState.{CheckerState}
-use Rattle.checker_rules.specs.Outcome.{no_name_to_remove}
-use Rattle.sat_formula.specs.Vars.{index_of}
-use Rattle.clause_store.specs.StateOf.{state_of}
-use Rattle.clause_store.proofs.GrowthLemmas.{is_store-known}
-use Rattle.clause_store.proofs.RefusalLemmas.{answers-refuse}
-use Rattle.checker_rules.proofs.RanLemmas.{both_ran_nil}
-use Rattle.checker_steps.proofs.EmitLemmas.{answers-accept, emits-refused}
+use Rattle.checker_steps.proofs.Common.{common_steps, err_from_is_err_and, Emits, no_name_to_remove, Known, user_var_name, step, both_ran_nil}
+use Rattle.checker_steps.proofs.Common.{index_of, state_of, ClauseHasher, CheckerState, is_store-known, answers-refuse}
+use Rattle.std.proofs.Common.{[], suc, None, is_none, Err, refl, sym, ap, ◌∙◌, arith}
+use Rattle.checker_steps.proofs.EmissionLemmas.{answers-accept, emits-refused}
 use Rattle.checker_steps.proofs.DeliveryLemmas.{delivered-one}
 use Rattle.checker_steps.proofs.NamingLemmas.{emits-removal, is_none-named, is_none-unnamed, name-removed, remove-refused}
 use Rattle.checker_steps.proofs.variables.remove_user_mapping.Goals as goal
@@ -41,10 +30,7 @@ returns-in_err-emit_user_var-clause-delivered g c = λ st h.
     (emits-removal s r x (c.in_ok-ensure_var.ensures.known.state st h) named) c.in_err-emit_user_var.ensures)
 
 pub returns-clause-step : goal.returns-clause-step
-returns-clause-step g c = λ st h.
-    let a = c.args in let s = state_of st h a.clauses.now a.variables.now in let r = state_of st h c.ensure_var.new.clauses c.ensure_var.new.variables in
-    let named = ap (λ (k : Known). is_none k.name) (sym c.get.ensures) ∙ is_none-named c.get.result.user_var c.if-is_none.ensures in
-    answers-accept (name-removed s r (index_of a.global) (c.in_ok-ensure_var.ensures.known.state st h) named) (ap (state_of st h c.ensure_var.new.clauses) c.hide.ensures)
+returns-clause-step g c = grind (arith, common_steps, is_none-named, answers-accept, name-removed)
 
 pub returns-clause-store : goal.returns-clause-store
 returns-clause-store g c = λ h store. is_store-known (suc (index_of c.args.global)) h _ _ _ _ c.in_ok-ensure_var.ensures.known store

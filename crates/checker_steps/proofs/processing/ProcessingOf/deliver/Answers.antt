@@ -1,7 +1,5 @@
 use Rattle.std.proofs.Common.{sym, ap, ◌∙◌, arith}
-use Rattle.std.proofs.lemmas.Result.{IfErr-weaker, on_ok_weaker}
-use Rattle.checker_parts.specs.CheckedSteps.{transcripts_of}
-use Rattle.checker_rules.proofs.RanLemmas.{both_ran_alone, both_ran_quiet}
+use Rattle.checker_steps.proofs.Common.{IfErr-weaker, on_ok_weaker, both_ran_alone, both_ran_quiet, transcripts_of}
 use Rattle.checker_steps.proofs.DeliveryLemmas.{fault-weaker, delivers-image}
 use Rattle.checker_steps.proofs.PassedLemmas.{fault_of_slice, took_of_slice}
 use Rattle.checker_steps.proofs.processing.ProcessingOf.deliver.Goals as goal

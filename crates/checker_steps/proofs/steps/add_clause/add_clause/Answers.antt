@@ -1,25 +1,11 @@
 use Rattle.std.proofs.Common.{◌≡◌, ◌<◌, ℕ, false, List, [], None, Some, Err, ap, ◌∙◌, subst, refl}
-use Rattle.sat_rules.specs.Clauses.{is_canonical}
-use Rattle.checker_rules.specs.Emits.{Emits, emits_input}
-use Rattle.checker_rules.specs.Canonical.{canonical}
-use Rattle.checker_rules.specs.KnownVars.{know_clause}
-use Rattle.checker_rules.specs.Step.{add_clause}
-use Rattle.checker_rules.specs.Steps.{step}
-use Rattle.checker_rules.specs.Store.{count_limit, count_of}
-use Rattle.checker_rules.proofs.Entries.{canonical-is}
-use Rattle.checker_parts.specs.Causes.{cause_of}
-use Rattle.clause_store.specs.Refusal.{store_fault}
-use Rattle.clause_store.specs.StateOf.{state_of}
-use Rattle.clause_store.proofs.RefusalLemmas.{kept-answer}
-use Rattle.checker_steps.specs.Context.{context_state}
-use Rattle.checker_steps.specs.InputCause.{IsFaultOf, early_cause, taken}
-use Rattle.checker_rules.proofs.RanLemmas.{both_ran_nil}
+use Rattle.checker_steps.proofs.Common.{is_canonical, canonical, Emits, emits_input, know_clause, add_clause, step, count_limit, count_of}
+use Rattle.checker_steps.proofs.Common.{canonical-is, both_ran_nil, cause_of, store_fault, state_of, kept-answer, context_state, IsFaultOf}
+use Rattle.checker_steps.proofs.Common.{early_cause, taken}
 use Rattle.checker_steps.proofs.AddClauseLemmas.{add-accepts, add-unsat, answers-input, answers-unstored_input, early-first, early-ids, early-room, unless-unstored}
+use Rattle.checker_steps.proofs.AddClauseLemmas.{emits-added, emits-unsat}
 use Rattle.checker_steps.proofs.DerivedLemmas.{quiet-unstored}
-use Rattle.checker_steps.proofs.EmissionLemmas.{answers-all, delivered-all, unless-stopped}
-use Rattle.checker_steps.proofs.EmitLemmas.{answers-accept, emits-refused}
-use Rattle.checker_steps.proofs.EmittedInputs.{emits-added, emits-unsat}
-use Rattle.checker_steps.proofs.QuietLemmas.{delivered-refused}
+use Rattle.checker_steps.proofs.EmissionLemmas.{answers-all, delivered-all, unless-stopped, answers-accept, emits-refused, delivered-refused}
 use Rattle.checker_steps.proofs.steps.add_clause.add_clause.Goals as goal
 
 pub returns-then-ctx-clause-step : goal.returns-then-ctx-clause-step

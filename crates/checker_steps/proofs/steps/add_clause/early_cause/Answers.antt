@@ -1,5 +1,5 @@
 use Rattle.std.proofs.Common.{sym, ◌∙◌, arith}
-use Rattle.clause_store.specs.StateOf.{state_of}
+use Rattle.checker_steps.proofs.Common.{state_of}
 use Rattle.checker_steps.proofs.AddClauseLemmas.{cause-ids, cause-none, cause-sampling, id-left}
 use Rattle.checker_steps.proofs.steps.add_clause.early_cause.Goals as goal
 

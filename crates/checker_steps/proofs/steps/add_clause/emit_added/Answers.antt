@@ -1,8 +1,8 @@
-use Rattle.std.proofs.lemmas.Result.{err_from_is_err_and}
-use Rattle.checker_steps.specs.Delivered.{listeners_of}
+use Rattle.checker_steps.proofs.Common.{common_steps, err_from_is_err_and, listeners_of}
+use Rattle.std.proofs.Common.{arith}
 use Rattle.checker_steps.proofs.EmissionLemmas.{all-fault, all-one, all-second}
-use Rattle.checker_steps.proofs.steps.add_clause.emit_added.Goals as goal
 use Rattle.checker_steps.proofs.steps.add_clause.emit_added.Goals.{then-newly_irredundant+in_ok-emit_make_irredundant-in-Duplicate, else-newly_irredundant}
+use Rattle.checker_steps.proofs.steps.add_clause.emit_added.Goals as goal
 
 pub returns-in-Tautology : goal.returns-in-Tautology
 returns-in-Tautology g c =
@@ -13,11 +13,7 @@ returns-in-New g c =
     rw c.in-New.is (all-one g.P.ProofProcessor g.T.ProofTranscriptProcessor _ _ _ c.emit_add_clause.result c.emit_add_clause.ensures)
 
 pub returns-in_err-emit_make_irredundant-in-Duplicate : goal.returns-in_err-emit_make_irredundant-in-Duplicate
-returns-in_err-emit_make_irredundant-in-Duplicate g c =
-    let q = err_from_is_err_and c.from_residual.result c.from_residual.ensures.1 in
-    rw (q.1, q.2, c.in-Duplicate.is, c.if-newly_irredundant.true)
-    (all-fault g.P.ProofProcessor g.T.ProofTranscriptProcessor _ _ _ _ c.in_err-emit_make_irredundant-in-Duplicate.field-0.0
-    (rw c.in_err-emit_make_irredundant-in-Duplicate.was at c.emit_make_irredundant.ensures))
+returns-in_err-emit_make_irredundant-in-Duplicate g c = grind (arith, common_steps, err_from_is_err_and, all-fault)
 
 pub returns-after-newly_irredundant : goal.returns-after-newly_irredundant
 returns-after-newly_irredundant g c =

@@ -1,8 +1,6 @@
+use Rattle.checker_steps.proofs.Common.{common_steps, err_from_is_err_and, Known, state_of}
 use Rattle.std.proofs.Common.{◌<◌, List, [], true, false, refl, sym, ◌∙◌, arith, subst}
-use Rattle.std.proofs.lemmas.Result.{err_from_is_err_and}
-use Rattle.checker_rules.specs.State.{Known}
 use Rattle.checker_rules.specs.Store.{id_limit}
-use Rattle.clause_store.specs.StateOf.{state_of}
 use Rattle.checker_steps.proofs.InputLemmas.{accepted-few, emits-new, emits-repeated, emits-tautology, fault-stored, input-new, input-repeated, input-tautology, is_store-next, same-inputs, same-next, told}
 use Rattle.checker_steps.proofs.steps.add_clause.store_input_clause.Goals as goal
 
@@ -24,17 +22,7 @@ returns-then-tautology c =
     }
 
 pub returns-in_err-stored_id : goal.returns-in_err-stored_id
-returns-in_err-stored_id c =
-    let e = c.in_err-stored_id.field-0.0 in let h = c.in_err-stored_id.ensures in
-    let q = err_from_is_err_and c.from_residual.result c.from_residual.ensures.1 in
-    rw (q.1, q.2) (record {
-      state = tt;
-      store = h.store;
-      fault = λ known. fault-stored e c.args.clause.now (state_of c.args.state.now c.args.hasher.now c.args.clauses.now known) _ c.requires.room (h.answer known);
-      room = tt;
-      inputs = tt;
-      emitted = tt;
-    })
+returns-in_err-stored_id c = grind (arith, common_steps, err_from_is_err_and, fault-stored)
 
 pub repeated-requires : goal.repeated-requires
 repeated-requires c =

@@ -1,10 +1,6 @@
+use Rattle.checker_steps.proofs.Common.{common_steps, err_from_is_err_and, emits_input, count_limit, count_of, state_of, stored_list, is_store-known}
 use Rattle.std.proofs.Common.{◌≡◌, ◌<◌, true, false, refl, sym, ap, ◌∙◌, subst, arith}
-use Rattle.std.proofs.lemmas.Result.{err_from_is_err_and}
-use Rattle.checker_rules.specs.Emits.{emits_input}
-use Rattle.checker_rules.specs.Store.{count_limit, count_of, id_limit}
-use Rattle.clause_store.specs.StateOf.{state_of}
-use Rattle.clause_store.specs.View.{stored_list}
-use Rattle.clause_store.proofs.GrowthLemmas.{is_store-known}
+use Rattle.checker_rules.specs.Store.{id_limit}
 use Rattle.checker_steps.proofs.InputLemmas.{fault-known, tautology-few}
 use Rattle.checker_steps.proofs.steps.add_clause.take_clause.Goals as goal
 
@@ -20,12 +16,7 @@ store_input_clause-requires-clause-store c =
 
 -- what is not stored leaves the state as it was
 pub returns-in_err-added-clause-fault : goal.returns-in_err-added-clause-fault
-returns-in_err-added-clause-fault c =
-    let a = c.args in let s = state_of a.state.now a.hasher.now a.clauses.now a.variables.now in
-    let e = c.in_err-added.field-0.0 in
-    let q = err_from_is_err_and c.from_residual-in_err-added.result c.from_residual-in_err-added.ensures.1 in
-    let known = rw c.var_bound.ensures at (c.in_ok-ensure_vars.ensures.state a.state.now a.hasher.now) in
-    rw (q.1, q.2) (fault-known e a.clause.now s _ c.requires.kept.form (rw known at (c.in_err-added.ensures.fault c.ensure_vars.new.variables)))
+returns-in_err-added-clause-fault c = grind (arith, common_steps, err_from_is_err_and, fault-known)
 
 pub returns-clause-room : goal.returns-clause-room
 returns-clause-room c =

@@ -1,26 +1,14 @@
-use Rattle.std.proofs.Common.{◌≡◌, ℕ, Bool, true, false, cond, List, [], ◌∷◌, refl, sym, ap, ◌∙◌}
-use Rattle.checker_rules.specs.Canonical.{canonical, var_bound}
-use Rattle.checker_rules.specs.CheckedSteps.{checked_assumptions, named_in}
-use Rattle.checker_rules.specs.KnownVars.{know, know_clause, some_not_sampling}
-use Rattle.checker_rules.specs.Outcome.{accept, not_sampling, refuse}
-use Rattle.checker_rules.specs.State.{State}
-use Rattle.checker_rules.specs.Step.{assumptions}
-use Rattle.checker_rules.specs.Steps.{step}
-use Rattle.checker_rules.proofs.StepKinds.{step-assumptions}
-use Rattle.clause_store.proofs.GrowthLemmas.{is_store-known}
-use Rattle.clause_store.proofs.RefusalLemmas.{answers-refuse, kept-answer}
-use Rattle.checker_steps.specs.Context.{context_state}
-use Rattle.checker_steps.proofs.ClauseLemmas.{answers-accept, quiet-refusal}
-use Rattle.checker_steps.proofs.EmissionLemmas.{answers-delivers, unless-stopped}
-use Rattle.checker_steps.proofs.EmitLemmas.{emits-accepted}
+use Rattle.std.proofs.Common.{◌≡◌, ℕ, Bool, true, false, cond, List, [], ◌∷◌, refl, sym, ap, ◌∙◌, arith}
+use Rattle.checker_steps.proofs.Common.{canonical, var_bound, checked_assumptions, named_in, know, know_clause, some_not_sampling, accept}
+use Rattle.checker_steps.proofs.Common.{not_sampling, refuse, State, assumptions, step, step-assumptions, is_store-known, answers-refuse, kept-answer}
+use Rattle.checker_steps.proofs.Common.{context_state}
+use Rattle.checker_steps.proofs.EmissionLemmas.{quiet-refusal, answers-accept, answers-delivers, unless-stopped, emits-accepted}
 use Rattle.checker_steps.proofs.DeliveryLemmas.{delivered-one}
 use Rattle.checker_steps.proofs.steps.assumptions.assumptions.Goals as goal
 
 assumptions-by : (s : State) (ls c : List ℕ) (b : Bool) → c ≡ canonical ls → some_not_sampling s c ≡ b →
     step s (assumptions ls) ≡ cond b (refuse not_sampling s) (accept (record (know_clause (canonical ls) s) { assumed = canonical ls }))
-assumptions-by s ls c b list h =
-    step-assumptions s ls
-    ∙ ap (λ b. cond b (refuse not_sampling s) (accept (record (know_clause (canonical ls) s) { assumed = canonical ls }))) (ap (some_not_sampling s) (sym list) ∙ h)
+assumptions-by s ls c b list h = grind (arith, step-assumptions)
 
 pub returns-then-some_not_sampling : goal.returns-then-some_not_sampling
 returns-then-some_not_sampling g c =
@@ -35,7 +23,7 @@ returns g c =
     let list = c.as_slice-list.ensures.value ∙ c.in-Ok.ensures.items in let items : c.swap.new.x.items ≡ canonical c.args.lits.now = rw c.swap.ensures.x_after c.in-Ok.ensures.items in
     let here = known.state ctx.checker_state ctx.clause_hasher ∙ ap (λ n. know n s) (c.var_bound.ensures ∙ ap var_bound list) in
     let shown = sym (c.some_not_sampling.ensures ctx.checker_state ctx.clause_hasher ctx.clauses) ∙ c.if-some_not_sampling.false in
-    let a = answers-accept _ _ _ (assumptions-by s _ _ false list shown) (λ i. record (here i) { assumed = items i }) in
+    let a = answers-accept (assumptions-by s _ _ false list shown) (λ i. record (here i) { assumed = items i }) in
     let answer = answers-delivers g.P.ProofProcessor g.T.ProofTranscriptProcessor _ _ _ told.result _ _ told.ensures a in record {
       step = answer;
       kept = kept-answer told.result _ _ _ _ _ _ _ _ _ c.requires answer (unless-stopped told.result (is_store-known _ _ _ _ _ _ known c.requires.store));

@@ -1,18 +1,8 @@
-use Rattle.std.proofs.Common.{ℕ, List, Err, sym, ap, ◌∙◌, ◌≡◌, Ok}
-use Rattle.sat_rules.specs.Clauses.{is_tautology}
-use Rattle.checker_rules.specs.Canonical.{canonical}
-use Rattle.checker_rules.specs.Step.{at_clause}
-use Rattle.checker_rules.specs.Steps.{step}
-use Rattle.std.proofs.lemmas.Result.{err_from_is_err_and, on_ok_weaker}
-use Rattle.checker_rules.specs.Emits.{Emits}
-use Rattle.checker_parts.proofs.Rising.{canonical_itself}
-use Rattle.clause_store.specs.StateOf.{state_of}
-use Rattle.clause_store.proofs.RefusalLemmas.{answers-part, answers-unless-memory, kept-answer}
-use Rattle.checker_steps.specs.Context.{context_state}
-use Rattle.checker_steps.proofs.AtClauseLemmas.{at-refused, at-steps, at-stored, kept_as_previous}
-use Rattle.checker_steps.proofs.EmissionLemmas.{unless-stopped}
-use Rattle.checker_steps.proofs.EmittedSteps.{delivered-traced, traced-emits}
-use Rattle.checker_steps.proofs.FaultLemmas.{delivered-unless-memory}
+use Rattle.checker_steps.proofs.Common.{err_from_is_err_and, on_ok_weaker, is_tautology, canonical, Emits, at_clause, step}
+use Rattle.checker_steps.proofs.Common.{canonical_itself, state_of, answers-part, answers-unless-memory, kept-answer, context_state}
+use Rattle.std.proofs.Common.{ℕ, List, sym, ap, ◌∙◌, ◌≡◌, Ok, Err}
+use Rattle.checker_steps.proofs.DerivedLemmas.{at-refused, at-steps, at-stored, kept_as_previous}
+use Rattle.checker_steps.proofs.EmissionLemmas.{unless-stopped, delivered-traced, traced-emits, delivered-unless-memory}
 use Rattle.checker_steps.proofs.steps.at_clause.at_canonical.Goals as goal
 
 pub returns-in_err-id : goal.returns-in_err-id

@@ -1,14 +1,8 @@
-use Rattle.std.proofs.Common.{[], sym, ap, ◌∙◌, refl}
-use Rattle.sat_rules.specs.Clauses.{is_canonical, is_tautology}
-use Rattle.checker_rules.specs.Outcome.{tautology}
-use Rattle.checker_rules.specs.Step.{at_clause}
-use Rattle.checker_rules.specs.Steps.{step}
-use Rattle.checker_rules.proofs.Entries.{canonical-is}
-use Rattle.checker_rules.proofs.RanLemmas.{both_ran_nil}
-use Rattle.clause_store.proofs.RefusalLemmas.{answers-refuse}
-use Rattle.checker_steps.specs.Context.{context_state}
-use Rattle.checker_steps.proofs.AtClauseLemmas.{at-tautology}
-use Rattle.checker_steps.proofs.EmitLemmas.{emits-refused}
+use Rattle.checker_steps.proofs.Common.{common_steps, is_canonical, is_tautology, tautology, at_clause, step, canonical-is, both_ran_nil}
+use Rattle.checker_steps.proofs.Common.{answers-refuse, context_state}
+use Rattle.std.proofs.Common.{[], sym, ap, ◌∙◌, refl, arith}
+use Rattle.checker_steps.proofs.DerivedLemmas.{at-tautology}
+use Rattle.checker_steps.proofs.EmissionLemmas.{emits-refused}
 use Rattle.checker_steps.proofs.steps.at_clause.at_unordered.Goals as goal
 
 pub returns-then-tautology : goal.returns-then-tautology
@@ -31,7 +25,4 @@ at_canonical-taken-requires-clause-no_tautology g c =
     ap is_tautology (c.deref.ensures.value ∙ ap (λ v. v.items) c.replace-clause.ensures.value ∙ c.in-Ok.ensures.items) ∙ sym c.in-Ok.ensures.tautology ∙ c.if-tautology.false
 
 pub returns : goal.returns
-returns g c =
-    let list = c.deref.ensures.value ∙ ap (λ v. v.items) c.replace-clause.ensures.value ∙ c.in-Ok.ensures.items in
-    let h = c.at_canonical-taken.ensures in
-    record { step = h.step c.args.lits.now list; kept = h.kept; delivered = h.delivered c.args.lits.now list }
+returns g c = grind (arith, common_steps)

@@ -1,15 +1,8 @@
 use Rattle.std.proofs.Common.{◌≡◌, ◌⊎◌, ℕ, ◌<◌, Bool, true, false, cond, ◌||◌, eqb, ltb, [], inl, inr, refl, ap, ◌∙◌, arith}
-use Rattle.std.proofs.lemmas.Bool.Decides.{nat_tests}
-use Rattle.checker_rules.specs.Check.{apply_pending}
-use Rattle.checker_rules.specs.Outcome.{accept, hash_bits, refuse}
-use Rattle.checker_rules.specs.State.{State}
-use Rattle.checker_rules.specs.Step.{change_hash_bits}
-use Rattle.checker_rules.specs.Steps.{step}
-use Rattle.checker_rules.proofs.StepKinds.{step-change_hash_bits}
-use Rattle.clause_store.proofs.RefusalLemmas.{answers-refuse}
-use Rattle.checker_steps.specs.Context.{context_state}
-use Rattle.checker_steps.proofs.ClauseLemmas.{answers-accept, kept-after, quiet-refusal, told-nothing}
-use Rattle.checker_steps.proofs.EmitLemmas.{emits-accepted}
+use Rattle.checker_steps.proofs.Common.{nat_tests, apply_pending, accept, hash_bits, refuse, State, change_hash_bits, step, step-change_hash_bits}
+use Rattle.checker_steps.proofs.Common.{answers-refuse, context_state}
+use Rattle.checker_steps.proofs.EmissionLemmas.{kept-after, quiet-refusal, answers-accept, emits-accepted}
+use Rattle.checker_steps.proofs.DeliveryLemmas.{whole-none}
 use Rattle.checker_steps.proofs.steps.change_hash_bits.change_hash_bits.Goals as goal
 use Rattle.checker_steps.proofs.steps.change_hash_bits.change_hash_bits.Goals.{then-bits-eq0-via-then-bits-eq0, then-bits-eq0-via-else-bits-eq0+then-bits-gt-BITS}
 
@@ -37,5 +30,5 @@ returns-then-bits-eq0 g c =
 pub returns-in-Ok : goal.returns-in-Ok
 returns-in-Ok g c =
     let fits = in_range c.args.bits c.if-bits-eq0.false (λ h. omega (arith, h, c.if-bits-gt-BITS.false)) in
-    let s = answers-accept _ _ _ (bits-by (context_state c.args.ctx.now) _ false fits) (c.in-Ok.ensures.state c.args.ctx.now.checker_state c.args.ctx.now.variables) in
-    record { step = s; kept = kept-after _ c.requires s.1 c.in-Ok.ensures.store; delivered = told-nothing g.P.ProofProcessor g.T.ProofTranscriptProcessor _ _ (emits-accepted _ _ [] s.0 refl) }
+    let s = answers-accept (bits-by (context_state c.args.ctx.now) _ false fits) (c.in-Ok.ensures.state c.args.ctx.now.checker_state c.args.ctx.now.variables) in
+    record { step = s; kept = kept-after _ c.requires s.1 c.in-Ok.ensures.store; delivered = whole-none g.P.ProofProcessor g.T.ProofTranscriptProcessor _ _ (emits-accepted _ _ [] s.0 refl) }

@@ -1,17 +1,8 @@
+use Rattle.checker_steps.proofs.Common.{is_tautology, canonical, delete_clause, why, canonical_itself, delete_fault, CheckerState}
+use Rattle.checker_steps.proofs.Common.{answers-refuse, kept-answer, context_state}
 use Rattle.std.proofs.Common.{◌≡◌, ℕ, List, None, Err, refl, sym, ap, ◌∙◌}
-use Rattle.sat_rules.specs.Clauses.{is_tautology}
-use Rattle.checker_rules.specs.Canonical.{canonical}
-use Rattle.checker_rules.specs.Step.{delete_clause}
-use Rattle.checker_parts.proofs.Rising.{canonical_itself}
-use Rattle.proof_bytes.specs.NextStep.{why}
-use Rattle.clause_store.specs.Refusal.{delete_fault}
-use Rattle.clause_store.specs.declared.state.CheckerState.{CheckerState}
-use Rattle.clause_store.proofs.RefusalLemmas.{answers-refuse, kept-answer}
-use Rattle.checker_steps.specs.Context.{context_state}
-use Rattle.checker_steps.proofs.ClauseLemmas.{answers-accept, quiet-refusal}
+use Rattle.checker_steps.proofs.EmissionLemmas.{quiet-refusal, answers-accept, answers-all, delivered-all, unless-stopped, emits-accepted}
 use Rattle.checker_steps.proofs.DeleteStepLemmas.{answers-fault, delete-asked, delete-justified, emits-deleted, delivered-fault, unless-fault}
-use Rattle.checker_steps.proofs.EmissionLemmas.{answers-all, delivered-all, unless-stopped}
-use Rattle.checker_steps.proofs.EmitLemmas.{emits-accepted}
 use Rattle.checker_steps.proofs.steps.delete_clause.delete_canonical.Goals as goal
 
 pub returns-in-Err : goal.returns-in-Err
@@ -27,7 +18,7 @@ returns-in-Ok-deleted g c =
     let clause = c.args.clause.now in let why = c.in-Ok.ensures ctx.clause_hasher ctx.variables in
     let asked = λ (ls : List ℕ) (list : clause ≡ canonical ls). delete-justified s j ls clause _ _ (sym (ap is_tautology list) ∙ c.requires.no_tautology) list why c.is_none-redundant.ensures in
     let st : CheckerState = record ctx.checker_state { previous_id = None } in let d = deleted.ensures.answer st ctx.variables in
-    let a = λ (ls : List ℕ) (list : clause ≡ canonical ls). answers-accept _ _ _ ((asked ls list).0 ∙ d.after) refl in
+    let a = λ (ls : List ℕ) (list : clause ≡ canonical ls). answers-accept ((asked ls list).0 ∙ d.after) refl in
     let answer = λ (ls : List ℕ) (list : clause ≡ canonical ls). answers-all g.P.ProofProcessor g.T.ProofTranscriptProcessor _ _ _ told.result _ _ told.ensures (a ls list) in record {
       step = answer;
       kept = kept-answer told.result _ _ _ _ _ _ _ _ (delete_clause j clause) c.requires.kept (answer clause (canonical_itself clause c.requires.canonical)) (unless-stopped told.result deleted.ensures.store);

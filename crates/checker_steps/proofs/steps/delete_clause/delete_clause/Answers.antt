@@ -1,6 +1,5 @@
-use Rattle.std.proofs.Common.{sym, ap, ◌∙◌}
-use Rattle.sat_rules.specs.Clauses.{is_tautology}
-use Rattle.checker_parts.proofs.Rising.{rising_canonical, rising_is, rising_sound}
+use Rattle.checker_steps.proofs.Common.{common_steps, is_tautology, rising_canonical, rising_is, rising_sound}
+use Rattle.std.proofs.Common.{sym, ap, ◌∙◌, arith}
 use Rattle.checker_steps.proofs.steps.delete_clause.delete_clause.Goals as goal
 
 pub delete_canonical-requires-clause-canonical : goal.delete_canonical-requires-clause-canonical
@@ -12,7 +11,4 @@ delete_canonical-requires-clause-no_tautology g c =
     ap is_tautology (rising_is c.args.lits.now rises) ∙ sym (rising_sound c.args.lits.now rises)
 
 pub returns-then-has_rising_vars : goal.returns-then-has_rising_vars
-returns-then-has_rising_vars g c =
-    let list = rising_is c.args.lits.now (sym c.has_rising_vars.ensures ∙ c.if-has_rising_vars.true) in
-    let h = c.delete_canonical.ensures in
-    record { step = h.step c.args.lits.now list; kept = h.kept; delivered = h.delivered c.args.lits.now list }
+returns-then-has_rising_vars g c = grind (arith, common_steps, rising_is)

@@ -1,10 +1,6 @@
-use Rattle.std.proofs.Common.{refl, sym, ap, ◌∙◌}
-use Rattle.sat_rules.specs.Clauses.{is_canonical, is_tautology}
-use Rattle.checker_rules.proofs.Entries.{canonical-is}
-use Rattle.proof_bytes.specs.NextStep.{why}
-use Rattle.clause_store.proofs.RefusalLemmas.{answers-refuse}
-use Rattle.checker_steps.specs.Context.{context_state}
-use Rattle.checker_steps.proofs.ClauseLemmas.{quiet-refusal}
+use Rattle.checker_steps.proofs.Common.{common_steps, is_canonical, is_tautology, canonical-is, why, answers-refuse, context_state}
+use Rattle.std.proofs.Common.{refl, sym, ap, ◌∙◌, arith}
+use Rattle.checker_steps.proofs.EmissionLemmas.{quiet-refusal}
 use Rattle.checker_steps.proofs.DeleteStepLemmas.{delete-tautology}
 use Rattle.checker_steps.proofs.steps.delete_clause.delete_unordered.Goals as goal
 
@@ -22,7 +18,4 @@ delete_canonical-deleted-requires-clause-no_tautology g c =
     ap is_tautology (c.deref.ensures.value ∙ ap (λ v. v.items) c.replace-clause.ensures.value ∙ c.in-Ok.ensures.items) ∙ sym c.in-Ok.ensures.tautology ∙ c.if-tautology.false
 
 pub returns : goal.returns
-returns g c =
-    let list = c.deref.ensures.value ∙ ap (λ v. v.items) c.replace-clause.ensures.value ∙ c.in-Ok.ensures.items in
-    let h = c.delete_canonical-deleted.ensures in
-    record { step = h.step c.args.lits.now list; kept = h.kept; delivered = h.delivered c.args.lits.now list }
+returns g c = grind (arith, common_steps)

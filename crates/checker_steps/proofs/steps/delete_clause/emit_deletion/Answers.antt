@@ -1,5 +1,5 @@
+use Rattle.checker_steps.proofs.Common.{common_steps, Known}
 use Rattle.std.proofs.Common.{◌≡◌, ℕ, List, Option, None, [], arith}
-use Rattle.checker_rules.specs.State.{Known}
 use Rattle.clause_store.specs.declared.clauses.DeleteClauseResult.{DeleteClauseResult}
 use Rattle.clause_store.specs.declared.clauses.DeleteClauseResult.TheVariants.{Unchanged, Removed}
 use Rattle.checker_steps.specs.DeletionSteps.{deletion_steps}
@@ -22,9 +22,7 @@ returns-in-Some-Removed g c =
     rw (c.in-Some-Removed.is-0, c.in-Some-Removed.is-1) (all-one g.P.ProofProcessor g.T.ProofTranscriptProcessor _ _ _ c.emit_delete_at_clause.result c.emit_delete_at_clause.ensures)
 
 pub returns-in-Some-NewlyRedundant : goal.returns-in-Some-NewlyRedundant
-returns-in-Some-NewlyRedundant g c =
-    let told = c.emit_delete_at_clause-in-Some-NewlyRedundant in
-    rw (c.in-Some-NewlyRedundant.is-0, c.in-Some-NewlyRedundant.is-1) (all-one g.P.ProofProcessor g.T.ProofTranscriptProcessor _ _ _ told.result told.ensures)
+returns-in-Some-NewlyRedundant g c = grind (arith, common_steps, all-one)
 
 pub returns-in_default : goal.returns-in_default
 returns-in_default g c =

@@ -1,15 +1,8 @@
-use Rattle.std.proofs.Common.{Result, Ok, Err, sym, ap, ◌∙◌, refl}
-use Rattle.std.proofs.lemmas.Result.{err_from_is_err_and}
-use Rattle.checker_rules.specs.DeleteVar.{free_var}
-use Rattle.checker_parts.specs.declared.error.StepFault.{StepFault}
-use Rattle.sat_formula.specs.Vars.{index_of}
-use Rattle.clause_store.specs.StateOf.{state_of, stored_units}
-use Rattle.clause_store.proofs.GrowthLemmas.{is_store-known}
-use Rattle.clause_store.proofs.RefusalLemmas.{answers-part, answers-refuse, kept-answer}
-use Rattle.checker_steps.specs.Delivered.{listeners_of}
-use Rattle.checker_steps.proofs.ClauseLemmas.{answers-accept, kept-after, quiet-refusal}
-use Rattle.checker_steps.proofs.DeleteVarSteps.{delete-closed, delete-held, delete-named, delete-unclosed, delivered-dropped, delivered-unclosed, named-is}
-use Rattle.checker_steps.proofs.EmissionLemmas.{unless-stopped}
+use Rattle.checker_steps.proofs.Common.{err_from_is_err_and, StepFault, is_store-known}
+use Rattle.checker_steps.proofs.Common.{answers-part, answers-refuse, kept-answer, free_var, index_of, state_of, stored_units, listeners_of}
+use Rattle.std.proofs.Common.{Result, Err, sym, ◌∙◌, refl, Ok, ap}
+use Rattle.checker_steps.proofs.EmissionLemmas.{kept-after, quiet-refusal, answers-accept, unless-stopped}
+use Rattle.checker_steps.proofs.DeleteVarLemmas.{delete-closed, delete-held, delete-named, delete-unclosed, delivered-dropped, delivered-unclosed, named-is}
 use Rattle.checker_steps.proofs.steps.delete_var.delete_var.Goals as goal
 
 pub returns-then-is_some : goal.returns-then-is_some
@@ -55,7 +48,7 @@ returns g c =
     let store = is_store-known _ _ _ _ _ _ known c.requires.store in let held = sym (c.is_held.ensures _ _ store.counts) ∙ c.if-is_held.false in
     let st = c.args.ctx.now.checker_state in let h = c.args.ctx.now.clause_hasher in let closed = c.in_ok-close_conflict_on.ensures in
     let is = known.state st h in let a = closed.answer st h in
-    let s = answers-accept _ _ _ (delete-closed _ _ _ is named held a.0) (c.free_var.ensures.state h ∙ ap (free_var (index_of c.args.var)) a.1) in record {
+    let s = answers-accept (delete-closed _ _ _ is named held a.0) (c.free_var.ensures.state h ∙ ap (free_var (index_of c.args.var)) a.1) in record {
       step = s;
       kept = kept-after _ c.requires s.1 (c.free_var.ensures.store h (closed.store h store));
       delivered = delivered-dropped g.P.ProofProcessor g.T.ProofTranscriptProcessor _ _ _ is named held (Ok tt)

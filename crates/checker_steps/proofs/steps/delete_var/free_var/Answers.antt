@@ -1,12 +1,7 @@
-use Rattle.std.proofs.Common.{◌≡◌, ℕ, List, set, Option, None, refl, ap, ◌∙◌, arith}
+use Rattle.checker_steps.proofs.Common.{common_steps, length-set, map-set, forget_var, Known, sample, index_of, state_of, stored_unit, stored_units}
+use Rattle.checker_steps.proofs.Common.{Clauses}
+use Rattle.std.proofs.Common.{◌≡◌, ℕ, List, set, Option, None, ap, ◌∙◌, arith}
 use Rattle.std.specs.Option.{option_map}
-use Rattle.std.proofs.lemmas.List.{length-set, map-set}
-use Rattle.checker_rules.specs.DeleteVar.{forget_var}
-use Rattle.checker_rules.specs.State.{Known, sample}
-use Rattle.sat_formula.specs.Vars.{index_of}
-use Rattle.clause_store.specs.declared.clauses.Clauses.{Clauses}
-use Rattle.clause_store.specs.StateOf.{state_of, stored_unit, stored_units}
-use Rattle.clause_store.specs.Store.{is_stored_unit}
 use Rattle.clause_store.proofs.StoreLemmas.{is_store-units, list_all-set}
 use Rattle.checker_steps.proofs.steps.delete_var.free_var.Goals as goal
 
@@ -21,6 +16,4 @@ returns-clause-state c h =
     c.forget_previous_with.ensures h cs' c.set_mode.new.self ∙ (λ i. record s { units = units i; known = free i; previous = forget_var x s.previous })
 
 pub returns-clause-store : goal.returns-clause-store
-returns-clause-store c h kept =
-    let us = c.args.clauses.now.unit_clauses in let all = list_all-set is_stored_unit us c.index.result None refl kept.units in
-    rw c.set.ensures (is_store-units h c.args.clauses.now _ _ _ (omega arith) all (length-set us c.index.result None) kept)
+returns-clause-store c h kept = grind (arith, common_steps, list_all-set, is_store-units, length-set)

@@ -1,18 +1,8 @@
 use Rattle.std.proofs.Common.{◌==◌, ℕ, ap, ◌∙◌, Err}
-use Rattle.std.proofs.lemmas.Result.{err_from_is_err_and}
-use Rattle.checker_rules.specs.Check.{check, ready}
-use Rattle.checker_rules.specs.Outcome.{accept}
-use Rattle.checker_rules.specs.Traced.{check_trace}
-use Rattle.clause_store.specs.Refusal.{store_fault}
-use Rattle.clause_store.specs.StateOf.{state_of}
-use Rattle.clause_store.proofs.RefusalLemmas.{answers-part}
-use Rattle.checker_steps.specs.Context.{context_state}
-use Rattle.checker_steps.specs.Derived.{derived}
-use Rattle.checker_steps.specs.Delivered.{listeners_of}
+use Rattle.checker_steps.proofs.Common.{err_from_is_err_and, check, ready, accept, check_trace, store_fault, state_of, answers-part, context_state}
+use Rattle.checker_steps.proofs.Common.{listeners_of, derived}
 use Rattle.checker_steps.proofs.DerivedLemmas.{answers-unstored, derived-answer, derived-steps, derived-unchecked, quiet-unstored, steps-refused, steps-unchecked}
-use Rattle.checker_steps.proofs.EmissionLemmas.{unless-stopped}
-use Rattle.checker_steps.proofs.FaultLemmas.{answers-fault, delivered-fault}
-use Rattle.checker_steps.proofs.QuietLemmas.{delivered-refused}
+use Rattle.checker_steps.proofs.EmissionLemmas.{unless-stopped, answers-fault, delivered-fault, delivered-refused}
 use Rattle.checker_steps.proofs.UnseenLemmas.{seen-where}
 use Rattle.checker_steps.proofs.steps.derived.derive.Goals as goal
 

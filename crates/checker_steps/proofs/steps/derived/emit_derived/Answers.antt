@@ -1,18 +1,12 @@
-use Rattle.std.proofs.Common.{ℕ, List}
-use Rattle.checker_rules.specs.CheckedSteps.{NamedStep, checked_at_clause}
-use Rattle.checker_steps.specs.Delivered.{listeners_of}
+use Rattle.checker_steps.proofs.Common.{common_steps, listeners_of}
+use Rattle.std.proofs.Common.{arith}
 use Rattle.checker_steps.proofs.EmissionLemmas.{all-one}
 use Rattle.checker_steps.proofs.DeliveryLemmas.{ran-none}
 use Rattle.checker_steps.proofs.UnseenLemmas.{delivers-seen, image-at_clause}
 use Rattle.checker_steps.proofs.steps.derived.emit_derived.Goals as goal
 
 pub returns-in-New : goal.returns-in-New
-returns-in-New g c = λ ids seen.
-    let a = c.args in
-    let shown : List ℕ → NamedStep = λ x. record { step = checked_at_clause a.id a.redundant a.clause.now x; names = a.variables.now } in
-    rw c.in-New.is (all-one g.P.ProofProcessor g.T.ProofTranscriptProcessor (shown ids) _ _ c.emit_at_clause.result
-    (delivers-seen g.P.ProofProcessor g.T.ProofTranscriptProcessor c.emit_at_clause.result shown ids a.propagations.now _ _ seen
-    (image-at_clause a.variables.now a.id a.redundant a.clause.now ids a.propagations.now) c.emit_at_clause.ensures.delivers))
+returns-in-New g c = grind (arith, common_steps, all-one, delivers-seen, image-at_clause)
 
 pub returns-in-NewlyIrredundant : goal.returns-in-NewlyIrredundant
 returns-in-NewlyIrredundant g c = λ ids seen.

@@ -1,15 +1,9 @@
-use Rattle.std.proofs.Common.{◌==◌, ℕ, List, refl, sym, ap, ◌∙◌}
-use Rattle.std.proofs.lemmas.Result.{err_from_is_err_and}
-use Rattle.checker_rules.specs.Check.{check, ready}
-use Rattle.checker_rules.specs.CheckedSteps.{NamedStep, checked_failed_assumptions}
-use Rattle.checker_rules.specs.Outcome.{accept}
-use Rattle.checker_rules.specs.Traced.{check_trace}
-use Rattle.checker_steps.specs.Context.{context_state}
-use Rattle.checker_steps.specs.FailedCore.{core_clause}
+use Rattle.checker_steps.proofs.Common.{common_steps, err_from_is_err_and, check, ready, NamedStep, checked_failed_assumptions, accept, check_trace}
+use Rattle.checker_steps.proofs.Common.{context_state, core_clause}
+use Rattle.std.proofs.Common.{◌==◌, ℕ, List, refl, sym, ap, ◌∙◌, arith}
 use Rattle.checker_steps.proofs.CoreLemmas.{core-told, core-unchecked, negations-apart, negations-canonical}
-use Rattle.checker_steps.proofs.EmissionLemmas.{answers-delivers}
+use Rattle.checker_steps.proofs.EmissionLemmas.{answers-delivers, delivered-refused}
 use Rattle.checker_steps.proofs.DeliveryLemmas.{delivered-one}
-use Rattle.checker_steps.proofs.QuietLemmas.{delivered-refused}
 use Rattle.checker_steps.proofs.UnseenLemmas.{delivers-seen, seen-where}
 use Rattle.checker_steps.proofs.steps.failed_assumptions.check_core.Goals as goal
 
@@ -18,10 +12,7 @@ check_clause_with_hashes-requires-clause-no_tautology g c =
     rw (c.deref.ensures.value ∙ c.in-Ok.ensures) (negations-apart c.args.core.now c.requires.canonical c.requires.no_tautology)
 
 pub returns-in_err-check_clause_with_hashes-clause-answer : goal.returns-in_err-check_clause_with_hashes-clause-answer
-returns-in_err-check_clause_with_hashes-clause-answer g c =
-    let clause = c.deref.ensures.value ∙ c.in-Ok.ensures ∙ sym (negations-canonical c.args.core.now c.requires.canonical c.requires.no_tautology) in
-    let q = err_from_is_err_and c.from_residual.result c.from_residual.ensures.1 in
-    rw (q.1, q.2) (rw clause at c.in_err-check_clause_with_hashes.ensures.answer)
+returns-in_err-check_clause_with_hashes-clause-answer g c = grind (arith, common_steps, negations-canonical, err_from_is_err_and)
 
 pub returns-in_err-check_clause_with_hashes-clause-delivered : goal.returns-in_err-check_clause_with_hashes-clause-delivered
 returns-in_err-check_clause_with_hashes-clause-delivered g c =
@@ -33,9 +24,7 @@ returns-in_err-check_clause_with_hashes-clause-delivered g c =
     err.ensures.quiet (core-unchecked s a.core.now a.hashes.now) (rw clause at err.ensures.answer))
 
 pub returns-clause-answer : goal.returns-clause-answer
-returns-clause-answer g c =
-    let clause = c.deref.ensures.value ∙ c.in-Ok.ensures ∙ sym (negations-canonical c.args.core.now c.requires.canonical c.requires.no_tautology) in
-    answers-delivers g.P.ProofProcessor g.T.ProofTranscriptProcessor _ _ _ c.emit_failed_assumptions.result _ _ c.emit_failed_assumptions.ensures (rw clause at c.in_ok-check_clause_with_hashes.ensures.answer)
+returns-clause-answer g c = grind (arith, common_steps, negations-canonical, answers-delivers)
 
 pub returns-clause-delivered : goal.returns-clause-delivered
 returns-clause-delivered g c =

@@ -1,12 +1,7 @@
-use Rattle.std.proofs.Common.{refl, sym, ap, ◌∙◌}
-use Rattle.sat_rules.specs.Clauses.{is_tautology}
-use Rattle.clause_store.proofs.RefusalLemmas.{answers-refuse, kept-answer}
-use Rattle.checker_steps.specs.Context.{context_state}
-use Rattle.checker_steps.specs.FailedCore.{core_cause}
-use Rattle.checker_steps.proofs.ClauseLemmas.{answers-accept, quiet-refusal}
+use Rattle.checker_steps.proofs.Common.{answers-refuse, kept-answer, context_state, is_tautology, core_cause}
+use Rattle.std.proofs.Common.{refl, ◌∙◌, sym, ap}
+use Rattle.checker_steps.proofs.EmissionLemmas.{quiet-refusal, answers-accept, answers-delivers, unless-stopped, delivered-traced}
 use Rattle.checker_steps.proofs.CoreLemmas.{core-checked, core-opposites, core-opposites-steps, core-refused, core-traced}
-use Rattle.checker_steps.proofs.EmissionLemmas.{answers-delivers, unless-stopped}
-use Rattle.checker_steps.proofs.EmittedSteps.{delivered-traced}
 use Rattle.checker_steps.proofs.DeliveryLemmas.{delivered-one}
 use Rattle.checker_steps.proofs.steps.failed_assumptions.failed_assumptions.Goals as goal
 
@@ -21,7 +16,7 @@ returns-then-has_opposites g c =
     let ctx = c.args.ctx.now in let told = c.emit_failed_assumptions in let list = c.as_slice-core.ensures.value ∙ c.in-Ok.ensures.items in
     let allowed = c.in_default-judge.ensures ctx.clause_hasher ctx.clauses in let opposite = ap is_tautology list ∙ sym c.in-Ok.ensures.tautology ∙ c.if-has_opposites.true in
     let o = core-opposites (context_state ctx) _ c.args.hashes.now _ list allowed opposite in record {
-      step = answers-delivers g.P.ProofProcessor g.T.ProofTranscriptProcessor _ _ _ told.result _ _ told.ensures (answers-accept _ _ _ o refl);
+      step = answers-delivers g.P.ProofProcessor g.T.ProofTranscriptProcessor _ _ _ told.result _ _ told.ensures (answers-accept o refl);
       kept = unless-stopped told.result c.requires;
       delivered = delivered-traced g.P.ProofProcessor g.T.ProofTranscriptProcessor told.result _ _ _ _ _ c.requires.form (core-opposites-steps _ _ _ _ list allowed opposite)
           (delivered-one g.P.ProofProcessor g.T.ProofTranscriptProcessor _ _ _ _ told.result refl told.ensures);

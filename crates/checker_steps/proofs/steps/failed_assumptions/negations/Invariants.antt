@@ -1,5 +1,5 @@
 use Rattle.std.proofs.Common.{◌≡◌, map, take}
-use Rattle.sat_rules.specs.Clauses.{negate}
+use Rattle.checker_steps.proofs.Common.{negate}
 use Rattle.checker_steps.proofs.steps.failed_assumptions.negations.Given as goal
 
 abbrev pub invariant-loop-lit : goal.invariant-loop-lit

@@ -1,18 +1,11 @@
-use Rattle.std.proofs.Common.{◌||◌, sym, ap, ◌∙◌}
-use Rattle.std.proofs.lemmas.List.{drop_all}
-use Rattle.std.proofs.lemmas.Result.{err_from_is_err_and}
-use Rattle.sat_rules.specs.Clauses.{has}
-use Rattle.clause_store.specs.StateOf.{state_of}
+use Rattle.checker_steps.proofs.Common.{common_steps, drop_all, err_from_is_err_and, has, state_of, is_marked}
+use Rattle.std.proofs.Common.{◌||◌, sym, ap, ◌∙◌, arith}
 use Rattle.clause_store.proofs.StatusLemmas.{drop-at}
-use Rattle.checker_steps.specs.Marks.{is_marked}
-use Rattle.checker_steps.proofs.MarkLemmas.{causes_from, causes_from-goes, causes_from-none, cause-first, marked-all, marked-none, marked-turn, marks_only}
+use Rattle.checker_steps.proofs.ModelLemmas.{causes_from, causes_from-goes, causes_from-none, cause-first, marked-all, marked-none, marked-turn, marks_only}
 use Rattle.checker_steps.proofs.steps.model.mark_literals.Goals as goal
 
 pub loop-lit-init : goal.loop-lit-init
-loop-lit-init c = record {
-  same = λ st h. causes_from-none (state_of st h c.args.clauses.now c.args.variables.now) _ _ c.requires.unset;
-  marked = λ k. marked-none _ c.args.assignment.now k c.requires.unset;
-}
+loop-lit-init c = grind (arith, common_steps, causes_from-none, marked-none)
 
 pub loop-lit-preserved : goal.loop-lit-preserved
 loop-lit-preserved c =
@@ -33,9 +26,7 @@ returns-in_err-mark_literal-clause-cause c st h =
     rw (p.1, p.2) (cause-first _ s old _ _ _ (sym (ap (causes_from s old) cut) ∙ c.loop-lit.invariant.same st h) (c.in_err-mark_literal.ensures.cause st h))
 
 pub returns-clause-cause : goal.returns-clause-cause
-returns-clause-cause c st h =
-    let s = state_of st h c.args.clauses.now c.args.variables.now in
-    sym (c.loop-lit.invariant.same st h) ∙ ap (causes_from s (is_marked c.loop-lit.marks)) (drop_all c.loop-lit.lit-index c.args.assignment.now c.loop-lit-test.false)
+returns-clause-cause c st h = grind (arith, common_steps, drop_all)
 
 pub returns-clause-marked : goal.returns-clause-marked
 returns-clause-marked c k =

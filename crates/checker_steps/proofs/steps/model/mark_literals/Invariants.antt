@@ -1,11 +1,7 @@
 use Rattle.std.proofs.Common.{◌≡◌, ℕ, ◌||◌, [], drop}
-use Rattle.sat_rules.specs.Clauses.{has}
+use Rattle.checker_steps.proofs.Common.{has, state_of, ClauseHasher, CheckerState, is_marked}
 use Rattle.checker_rules.specs.Model.{model_cause}
-use Rattle.clause_store.specs.StateOf.{state_of}
-use Rattle.clause_store.specs.declared.hash.ClauseHasher.{ClauseHasher}
-use Rattle.clause_store.specs.declared.state.CheckerState.{CheckerState}
-use Rattle.checker_steps.specs.Marks.{is_marked}
-use Rattle.checker_steps.proofs.MarkLemmas.{causes_from}
+use Rattle.checker_steps.proofs.ModelLemmas.{causes_from}
 use Rattle.checker_steps.proofs.steps.model.mark_literals.Given as goal
 
 abbrev pub invariant-loop-lit : goal.invariant-loop-lit

@@ -1,6 +1,5 @@
 use Rattle.std.proofs.Common.{◌≡◌}
-use Rattle.std.specs.HashMap.{values}
-use Rattle.checker_steps.specs.Marks.{is_marked}
+use Rattle.checker_steps.proofs.Common.{values, is_marked}
 use Rattle.checker_steps.proofs.MetLemmas.{AllWithin, all_met}
 use Rattle.checker_steps.proofs.steps.model.meets_clauses.Given as goal
 

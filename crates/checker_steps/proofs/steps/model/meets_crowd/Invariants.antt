@@ -1,9 +1,6 @@
 use Rattle.std.proofs.Common.{◌≡◌, drop}
-use Rattle.std.specs.List.{list_all}
+use Rattle.checker_steps.proofs.Common.{list_all, stored_of, is_marked, has_marked}
 use Rattle.clause_store.specs.Crowds.{standing}
-use Rattle.clause_store.specs.View.{stored_of}
-use Rattle.checker_steps.specs.Marks.{is_marked}
-use Rattle.checker_steps.specs.ModelCause.{has_marked}
 use Rattle.checker_steps.proofs.steps.model.meets_crowd.Given as goal
 
 abbrev pub invariant-loop-place : goal.invariant-loop-place

@@ -1,5 +1,5 @@
 use Rattle.std.proofs.Common.{drop}
-use Rattle.checker_steps.specs.Marks.{MarksOnly}
+use Rattle.checker_steps.proofs.Common.{MarksOnly}
 use Rattle.checker_steps.proofs.steps.model.unmark_literals.Given as goal
 
 -- what is still marked comes later in the list

@@ -1,10 +1,6 @@
+use Rattle.checker_steps.proofs.Common.{err_from_is_err_and, kept-answer, context_state, listeners_of, unit_clauses}
 use Rattle.std.proofs.Common.{Err}
 use Rattle.std.proofs.Math.ListN.{drop_of_length-le}
-use Rattle.std.proofs.lemmas.Result.{err_from_is_err_and}
-use Rattle.checker_rules.specs.Step.{unit_clauses}
-use Rattle.clause_store.proofs.RefusalLemmas.{kept-answer}
-use Rattle.checker_steps.specs.Context.{context_state}
-use Rattle.checker_steps.specs.Delivered.{listeners_of}
 use Rattle.checker_steps.proofs.UnitsSoFar.{drop-pair, form-unit, so-far-answer, so-far-delivered, so-far-more, so-far-none, so-far-refused, so-far-stopped}
 use Rattle.checker_steps.proofs.steps.unit_clauses.unit_clauses.Goals as goal
 

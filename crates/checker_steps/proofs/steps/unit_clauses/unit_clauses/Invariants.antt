@@ -1,6 +1,5 @@
 use Rattle.std.proofs.Common.{drop}
-use Rattle.checker_steps.specs.Context.{ContextInvariant, context_state}
-use Rattle.checker_steps.specs.Delivered.{listeners_of}
+use Rattle.checker_steps.proofs.Common.{ContextInvariant, context_state, listeners_of}
 use Rattle.checker_steps.proofs.UnitsSoFar.{UnitsSoFar}
 use Rattle.checker_steps.proofs.steps.unit_clauses.unit_clauses.Given as goal
 

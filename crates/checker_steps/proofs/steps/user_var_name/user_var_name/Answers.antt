@@ -1,4 +1,4 @@
-use Rattle.clause_store.proofs.RefusalLemmas.{kept-answer}
+use Rattle.checker_steps.proofs.Common.{kept-answer}
 use Rattle.checker_steps.proofs.steps.user_var_name.user_var_name.Goals as goal
 
 pub returns-in-Some-clause-kept : goal.returns-in-Some-clause-kept
