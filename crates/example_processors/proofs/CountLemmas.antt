@@ -3,19 +3,17 @@
 --     Told, told      by what the calls of a run ensure, the one box that is left shows as many bytes more as steps were told
 --     some-left, grown      what is read of that box
 --     no-memory, processor-refused, formula-refused, proof-refused      what else is answered
-use Rattle.std.proofs.Common.{◌≡◌, ℕ, ◌+◌, ◌-◌, ◌≤◌, ◌<◌, false, List, [], ◌∷◌, ◌++◌, map, length, get_or, Option, Some, None, Ok, Err, inl, inr, refl, sym, ap, ◌∙◌, subst, arith, length-append}
+use Rattle.std.proofs.Common.{◌≡◌, ℕ, ◌+◌, ◌-◌, ◌≤◌, ◌<◌, false, List, [], ◌∷◌, ◌++◌, map, length, get_or, Option, None, Ok, Err, inl, refl, sym, ap, ◌∙◌, subst, arith, length-append}
 use Rattle.std.specs.declared.dyn_box.DynBox.{DynBox}
 use Rattle.checker_rules.specs.AddFormula.{add_clauses, added}
 use Rattle.checker_rules.specs.CallEmissions.{EmitsCalls}
 use Rattle.checker_rules.specs.Calls.{adds, fail}
 use Rattle.checker_rules.specs.CheckedSteps.{NamedStep}
-use Rattle.checker_rules.specs.Outcome.{and_then_by}
 use Rattle.checker_rules.specs.Ran.{AllRan, Ran}
 use Rattle.checker_rules.specs.Run.{Runs}
 use Rattle.checker_rules.specs.RunEmissions.{EmitsRun}
 use Rattle.checker_rules.specs.State.{State}
-use Rattle.checker_rules.specs.Step.{add_clause}
-use Rattle.checker_rules.specs.Steps.{new_state, step}
+use Rattle.checker_rules.specs.Steps.{new_state}
 use Rattle.checker_rules.proofs.AddedClauses.{formulas_are_fold}
 use Rattle.checker_rules.proofs.RanLemmas.{all_ran_append}
 use Rattle.checker_parts.specs.Answers.{AnswersStep}
@@ -24,20 +22,9 @@ use Rattle.checker_parts.specs.declared.error.CheckerError.{CheckerError}
 use Rattle.checker_parts.specs.declared.error.CheckerError.TheVariants.{OutOfMemory}
 use Rattle.proof_bytes.specs.Texts.{next_of, start_of}
 use Rattle.checker_steps.specs.Delivered.{Listeners, Listens, ListensImage, DeliveredWhole}
-use Rattle.varisat_checker.specs.ProofRun.{ProofAnswer, ProofRun}
-use Rattle.varisat_checker.proofs.CountLemmas.{add-failed}
+use Rattle.varisat_checker.specs.ProofRun.{ProofRun}
+use Rattle.varisat_checker.proofs.CountLemmas.{adding-failed}
 use Rattle.example_processors.specs.Counts.{Grows, IsCount, IsRefused}
-
--- adding clauses does not fail a checker
-adding-failed : (s : State) (cs : List (List ℕ)) → (add_clauses s cs).after.failed ≡ s.failed
-adding-failed s [] = refl
-adding-failed s (c ∷ cs) =
-    let o = step s (add_clause c) in
-    let first : o.after.failed ≡ s.failed = add-failed s c in
-    elim o.refused as (λ x. (and_then_by x o.after (λ r. add_clauses r cs)).after.failed ≡ s.failed) [
-      | None ↦ adding-failed o.after cs ∙ first
-      | Some cause ↦ first
-    ]
 
 -- what the calls for a formula and a proof emit is what IsCount counts
 is-count : {B C : Type 0} (listens : Listens B) (listens_image : ListensImage C)
@@ -137,14 +124,7 @@ pub grown : {V A : Type 0} {F : V → Type 0} (shown : (v : V) → F v → List 
     (known : Option (List ℕ)) (news items : List (DynBox V A F)) (before after : List ℕ) →
     Told shown old formula known news → items ≡ news → here ≡ get_or items 0 here → before ≡ shown old.vtable old.value →
     after ≡ shown here.vtable here.value → (length before ≤ length after) × IsCount known formula (length after - length before)
-grown shown old here formula known news items before after left same place b a =
-    let one = left.one in
-    let found : here ≡ one.new = place ∙ ap (λ bs. get_or bs 0 here) (same ∙ one.alone) in
-    let end : length after ≡ length (shown one.new.vtable one.new.value) = ap length (a ∙ ap (λ x. shown x.vtable x.value) found) in
-    let start : length before ≡ length (shown old.vtable old.value) = ap length b in
-    let grew = one.grew in
-    let much : left.count ≡ length after - length before = omega arith in
-    (omega arith, subst (IsCount known formula) much left.is_count)
+grown shown old here formula known news items before after left same place b a = grind arith
 
 -- "out of memory" is answered at any time
 pub no-memory : (known : Option (List ℕ)) (formula : List (List ℕ)) → IsRefused known formula OutOfMemory
@@ -168,8 +148,4 @@ pub proof-refused : {B C : Type 0} {listens : Listens B} {listens_image : Listen
     → (s.failed ≡ false → AnswersStep {A = Unit {0}} (Ok tt) (add_clauses s formula) s') →
     (s'.failed ≡ false → ProofRun {A = Unit {0}} known s' (Err e) u listens listens_image mid last) →
     IsRefused known formula e
-proof-refused known formula e r s s' u new same answers runs =
-    let fresh : s ≡ new_state = same ∙ new in
-    let answer = subst (λ x. AnswersStep {A = Unit {0}} (Ok tt) (add_clauses x formula) s') fresh (answers (ap (λ (x : State). x.failed) fresh)) in
-    let run = runs (ap (λ (x : State). x.failed) answer.1 ∙ adding-failed new_state formula) in
-    inr (answer.0, run.text, run.steps, u, subst (λ x. ProofAnswer {A = Unit {0}} known x run.text run.steps (Err e) u) answer.1 run.answered)
+proof-refused known formula e r s s' u new same answers runs = grind (arith, adding-failed)

@@ -1,18 +1,17 @@
-use Rattle.std.proofs.Common.{◌≡◌, ◌⊎◌, ℕ, Bool, true, false, ltb, List, [], ◌∷◌, ◌++◌, length, Option, Some, None, inl, inr, sym, ap, ◌∙◌, subst, length-append, arith}
+use Rattle.std.proofs.Common.{◌≡◌, ◌⊎◌, ℕ, Bool, true, false, List, [], ◌∷◌, ◌++◌, length, Option, Some, None, inl, inr, sym, ap, ◌∙◌, subst, length-append, arith}
 use Rattle.sat_rules.specs.Clauses.{is_tautology}
-use Rattle.checker_rules.specs.CallEmissions.{EmitsCall, EmitsCalls, EmitsCounted}
-use Rattle.checker_rules.specs.Calls.{Call, adds, answer_of, attempt, checks, closes, count_step, step_limit}
+use Rattle.checker_rules.specs.CallEmissions.{EmitsCall, EmitsCalls}
+use Rattle.checker_rules.specs.Calls.{Call, adds, answer_of, attempt, checks, closes, count_step}
 use Rattle.checker_rules.specs.Canonical.{canonical}
 use Rattle.checker_rules.specs.Check.{ready}
 use Rattle.checker_rules.specs.CheckedSteps.{NamedStep}
-use Rattle.checker_rules.specs.Emits.{Emits, EmitsAccepted, EmitsBy, EmitsCoreBy, EmitsDerived, EmitsDerivedBy, EmitsRefused, EmitsThen, EmitsUnits}
+use Rattle.checker_rules.specs.Emits.{Emits, EmitsAccepted, EmitsCoreBy, EmitsDerived, EmitsDerivedBy, EmitsRefused, EmitsThen, EmitsUnits}
 use Rattle.checker_rules.specs.Outcome.{Cause}
 use Rattle.checker_rules.specs.Run.{Runs, Stop, move}
 use Rattle.checker_rules.specs.RunEmissions.{EmitsRun, last_calls}
 use Rattle.checker_rules.specs.State.{State}
-use Rattle.checker_rules.specs.Step.{Step, add_clause, assumptions, at_clause, change_hash_bits, change_sampling_mode, delete_clause}
-use Rattle.checker_rules.specs.Step.{delete_var, end_proof, failed_assumptions, model, solver_var_name, unit_clauses, user_var_name}
-use Rattle.checker_rules.specs.Steps.{step}
+use Rattle.checker_rules.specs.Step.{Step, add_clause, at_clause}
+use Rattle.checker_rules.specs.Step.{failed_assumptions, unit_clauses}
 use Rattle.checker_rules.specs.Store.{stands}
 use Rattle.checker_rules.specs.UnitClauses.{step_unit}
 use Rattle.checker_rules.proofs.WholeRuns.{runs_agree}
@@ -60,46 +59,18 @@ accepted : (s : State) (t : Step) → OneLength (EmitsAccepted s t)
 accepted s (at_clause r c hs) = derived (stands (canonical c) (ready s (canonical c))) (ready s (canonical c)) r (canonical c)
 accepted s (unit_clauses us) = units s us
 accepted s (failed_assumptions c hs) = core (is_tautology (canonical c)) s (canonical c)
-accepted s (solver_var_name x v) = alone _
-accepted s (user_var_name x u) = alone _
-accepted s (delete_var x) = alone _
-accepted s (change_sampling_mode x b) = alone _
-accepted s (add_clause c) = alone _
-accepted s (delete_clause j c) = alone _
-accepted s (change_hash_bits n) = alone _
-accepted s (model m) = alone _
-accepted s (assumptions c) = alone _
-accepted s end_proof = alone _
+accepted s _ = alone _
 
 refused : (s : State) (t : Step) → OneLength (EmitsRefused s t)
 refused s (unit_clauses us) = units s us
-refused s (at_clause r c hs) = alone _
-refused s (failed_assumptions c hs) = alone _
-refused s (solver_var_name x v) = alone _
-refused s (user_var_name x u) = alone _
-refused s (delete_var x) = alone _
-refused s (change_sampling_mode x b) = alone _
-refused s (add_clause c) = alone _
-refused s (delete_clause j c) = alone _
-refused s (change_hash_bits n) = alone _
-refused s (model m) = alone _
-refused s (assumptions c) = alone _
-refused s end_proof = alone _
+refused s _ = alone _
 
 of_step : (s : State) (t : Step) → OneLength (Emits s t)
-of_step s t = by (step s t).refused
-  where
-    by : (o : Option Cause) → OneLength (EmitsBy o s t)
-    by None = accepted s t
-    by (Some cause) = refused s t
+of_step s t es fs h k = grind (arith, h, k, accepted s t es fs, refused s t es fs)
 
 of_call : (s : State) (call : Call) → OneLength (EmitsCall s call)
 of_call s (adds c) = of_step s (add_clause c)
-of_call s (checks t) = by (ltb s.steps step_limit)
-  where
-    by : (b : Bool) → OneLength (EmitsCounted b s t)
-    by true = of_step (count_step s) t
-    by false = alone []
+of_call s (checks t) = λ es fs h k. grind (arith, h, k, of_step (count_step s) t es fs)
 of_call s closes = alone _
 
 of_calls : (s : State) (calls : List Call) → OneLength (EmitsCalls s calls)
