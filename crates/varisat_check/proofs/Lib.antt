@@ -1,4 +1,3 @@
 pub mod LratLemmas
 pub mod ReadFormulaLemmas
-pub mod Unfailed
 pub mod VerdictLemmas

@@ -32,7 +32,7 @@ use Rattle.varisat_check.specs.Verdicts.{verdict_of}
 use Rattle.varisat_check.specs.declared.verdict.Verdict.{Verdict}
 use Rattle.varisat_check.specs.declared.verdict.Verdict.TheVariants.{Unsatisfiable}
 use Rattle.varisat_check.proofs.VerdictLemmas.{more_inputs, refuted_before}
-use Rattle.varisat_check.proofs.Unfailed.{failed-add_clauses}
+use Rattle.varisat_checker.proofs.CountLemmas.{adding-failed}
 
 -- the steps of two lists
 hint_steps-append : (xs ys : List NamedStep) → hint_steps (xs ++ ys) ≡ hint_steps xs ++ hint_steps ys
@@ -67,7 +67,7 @@ fresh_run {P} {C} listens listens_image formula known old none first mid last r 
     let given = delivers running in
     let emitted = subst (λ x. EmitsCalls x (map adds (added x formula)) given.0) fresh given.1 in
     let whole = formulas_are_fold.accepted new_state formula answer.0 in
-    let run = runs (ap (λ (x : State). x.failed) answer.1 ∙ failed-add_clauses new_state formula) in
+    let run = runs (ap (λ (x : State). x.failed) answer.1 ∙ adding-failed new_state formula) in
     let alone : first.processors ≡ old ∷ [] = ap (λ x. x.processors) registered ∙ ap (λ bs. bs ++ old ∷ []) empty in
     let ran = all_ran_append listens.took given.0 run.delivered.0 first.processors mid.processors last.processors given.2.processors run.delivered.2.processors in
     let one = one_ran listens.took old (given.0 ++ run.delivered.0) last.processors (subst (λ bs. AllRan listens.took bs (given.0 ++ run.delivered.0) last.processors) alone ran) in
@@ -117,17 +117,14 @@ added_whole : (formula : List (List ℕ)) (r s s' : State) → Adding formula r 
 added_whole formula r s s' a = subst (λ x. AnswersStep {A = Unit {0}} (Ok tt) (add_clauses x formula) s') (a.1 ∙ a.0) (a.2 (running_from r s a.0 a.1))
 
 still_running : (formula : List (List ℕ)) (r s s' : State) → Adding formula r s s' → s'.failed ≡ false
-still_running formula r s s' a = ap (λ (x : State). x.failed) (added_whole formula r s s' a).1 ∙ failed-add_clauses new_state formula
+still_running formula r s s' a = ap (λ (x : State). x.failed) (added_whole formula r s s' a).1 ∙ adding-failed new_state formula
 
 module _ {P C : Type 0} {listens : Listens P} {listens_image : ListensImage C} {mid last : Listeners P C} where
   -- the input clauses before and after an accepted proof
   pub counted : (formula : List (List ℕ)) (known : Option (List ℕ)) (r s s' u : State) (n : ℕ) → Adding formula r s s' →
       (s'.failed ≡ false → ProofRun {A = Unit {0}} known s' (Ok tt) u listens listens_image mid last) → n ≡ shown_inputs s' →
       shown_unsat u ≡ true → n ≤ shown_inputs u
-  counted formula known r s s' u n a runs inputs h =
-      let lives = still_running formula r s s' a in
-      let most = more_inputs s' u (runs lives).answered lives h in
-      omega (arith, inputs, most)
+  counted formula known r s s' u n a runs inputs h = grind (arith, still_running, more_inputs)
 
   -- a verdict of unsatisfiability
   pub formula_refuted : (formula : List (List ℕ)) (known : Option (List ℕ)) (r s s' u : State) (n : ℕ) (verdict : Verdict) → Adding formula r s s' →

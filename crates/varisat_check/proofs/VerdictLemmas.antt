@@ -5,9 +5,9 @@
 --     whole_run, refuted_text      the run over both texts, and what it says of a text whose bytes are known
 --     unwritten_run      and where its line was not written whole
 --     told_run      what it tells of the formula's header
-use Rattle.std.proofs.Common.{◌≡◌, ◌≤◌, ℕ, Bool, true, false, not, List, [], map, Option, Some, None, Result, Ok, Err, refl, sym, ap, ◌∙◌, subst, arith}
-use Rattle.std.specs.Prelude.{◌==◌, ◌-◌, if◌then◌else◌, IfOk}
-use Rattle.std.proofs.lemmas.Bool.{and_parts, eqb-true}
+use Rattle.std.proofs.Common.{◌≡◌, ◌≤◌, ℕ, Bool, true, false, List, [], map, Option, Some, None, Result, Ok, Err, refl, sym, ap, ◌∙◌, subst, arith}
+use Rattle.std.specs.Prelude.{◌-◌, IfOk}
+use Rattle.std.proofs.lemmas.Bool.Decides.{nat_tests}
 use Rattle.sat_rules.specs.Clauses.{all_true}
 use Rattle.checker_rules.specs.Calls.{shown_inputs, shown_unsat}
 use Rattle.checker_rules.specs.Headline.{holds}
@@ -19,7 +19,6 @@ use Rattle.checker_rules.proofs.Refuting.{counted_run, runs_refute}
 use Rattle.proof_bytes.specs.Reading.{Fault}
 use Rattle.proof_bytes.specs.Texts.{Place, next_of, start_of}
 use Rattle.checker_parts.specs.Answers.{IsCovered}
-use Rattle.checker_parts.specs.declared.error.CheckerError.{CheckerError}
 use Rattle.checker_parts.specs.declared.error.DimacsError.{DimacsError}
 use Rattle.checker_steps.specs.Delivered.{Listeners, Listens, ListensImage}
 use Rattle.varisat_checker.specs.ProofRun.{ProofAnswer, ProofRun}
@@ -31,11 +30,11 @@ use Rattle.whole_formulas.specs.Lies.{IsLie}
 use Rattle.whole_writes.specs.Beginnings.{AppendsBeginning}
 use Rattle.varisat_check.specs.Runs.{BeginsLine, CheckRun, IsUnwritten, OnProof, RefusedText, RunTellsLie}
 use Rattle.varisat_check.specs.declared.fault.RunFault.{RunFault}
-use Rattle.varisat_check.specs.declared.fault.RunFault.TheVariants.{Formula, Proof, Write}
+use Rattle.varisat_check.specs.declared.fault.RunFault.TheVariants.{Formula, Write}
 use Rattle.varisat_check.specs.Verdicts.{shown_line, verdict_of}
 use Rattle.varisat_check.specs.declared.verdict.Verdict.{Verdict}
-use Rattle.varisat_check.specs.declared.verdict.Verdict.TheVariants.{Unsatisfiable, UnsatisfiableWithAdded, NotShown}
-use Rattle.varisat_check.proofs.Unfailed.{failed-add_clauses}
+use Rattle.varisat_check.specs.declared.verdict.Verdict.TheVariants.{Unsatisfiable}
+use Rattle.varisat_checker.proofs.CountLemmas.{adding-failed}
 
 abbrev Known : Type 0
 Known = Option (List ℕ)
@@ -48,41 +47,18 @@ Accepts known text steps s s' = ProofAnswer {A = Unit {0}} known s text steps (O
 abbrev Adds : Known → List (List ℕ) → State → Type 0
 Adds known clauses s' = TextAnswer {A = Unit {0}} known new_state clauses (Ok tt) s'
 
-not_true : (b : Bool) → not b ≡ true → b ≡ false
-not_true true h = absurd (cc)
-not_true false h = refl
-
-alive : (s : State) → s.failed ≡ false → shown_inputs s ≡ s.inputs
-alive s h = rw h refl
-
-records : (s' : State) → shown_unsat s' ≡ true → (s'.unsat ≡ true) × (s'.failed ≡ false)
-records s' h = let parts = and_parts s'.unsat (not s'.failed) h in (parts.0, not_true s'.failed parts.1)
-
 pub more_inputs : {known : Known} {text : List ℕ} {steps : List Step} (s s' : State) → Accepts known text steps s s' → s.failed ≡ false → shown_unsat s' ≡ true → shown_inputs s ≤ shown_inputs s'
-more_inputs {text = text} {steps = steps} s s' run lives h =
-    let more = counted_run Place Fault next_of s (start_of text) steps None s' run.ends in
-    let before = alive s lives in
-    let after = alive s' (records s' h).1 in
-    omega arith
-
-verdict_parts : (b e : Bool) (n : ℕ) → (if b then (if e then Unsatisfiable else UnsatisfiableWithAdded n) else NotShown) ≡ Unsatisfiable → (b ≡ true) × (e ≡ true)
-verdict_parts true true n h = (refl, refl)
-verdict_parts true false n h = absurd (cc)
-verdict_parts false e n h = absurd (cc)
+more_inputs {text = text} {steps = steps} s s' run lives h = grind (arith, lives, h, counted_run Place Fault next_of s (start_of text) steps None s' run.ends)
 
 pub refuted_before : {known : Known} {text : List ℕ} {steps : List Step} (s s' : State) (before : List Step) → Accepts known text steps s s' →
     s.failed ≡ false → verdict_of (shown_inputs s) s' ≡ Unsatisfiable
     → IsCovered before s → (a : ℕ → Bool) → holds before a ≡ false
 refuted_before {text = text} {steps = steps} s s' before run lives v covered a =
-    let parts = verdict_parts (shown_unsat s') (shown_inputs s' == shown_inputs s) (shown_inputs s' - shown_inputs s) v in
-    let recorded = records s' parts.0 in
-    let same : shown_inputs s' ≡ shown_inputs s = eqb-true _ _ parts.1 in
-    runs_refute Place Fault next_of (holds before) s (start_of text) steps None s' covered run.ends recorded.0
-    (sym (alive s' recorded.1) ∙ same ∙ alive s lives) a
+    runs_refute Place Fault next_of (holds before) s (start_of text) steps None s' covered run.ends (grind (arith, v)) (grind (arith, nat_tests, lives, v)) a
 
 -- a new checker with the whole formula has not failed
 pub lives_on : {known : Known} {clauses : List (List ℕ)} (s : State) → Adds known clauses s → s.failed ≡ false
-lives_on {clauses = clauses} s text = ap (λ (r : State). r.failed) text.answer.1 ∙ failed-add_clauses new_state clauses
+lives_on {clauses = clauses} s text = ap (λ (r : State). r.failed) text.answer.1 ∙ adding-failed new_state clauses
 
 -- its clauses are the steps before the proof
 refuted_clauses : {known : Known} {clauses : List (List ℕ)} (s : State) → Adds known clauses s →
@@ -122,24 +98,18 @@ pub whole_run : {P T : Type 0} (listens : Listens P) (listens_image : ListensIma
     (old new : Listeners P T) (cnf proof : Known) (s s' : State) (r : Result Verdict RunFault) → AddsText cnf s
     → OnProof (λ answer. ProofRun proof s answer s' listens listens_image old new) r → IfOk r (λ v. v ≡ verdict_of (shown_inputs s) s')
     → (r ≡ Ok Unsatisfiable → (before : List Step) → IsCovered before s → (a : ℕ → Bool) → holds before a ≡ false) → CheckRun cnf proof r
-whole_run listens listens_image old new cnf proof s s' (Ok v) text run told refuted =
-    record { clauses = text.0; formula = s; adds = text.1; text = run.text; steps = run.steps; left = s'; runs = run.answered; verdict = told; refutes = λ h. refuted_clauses s text.1 (refuted h) }
-whole_run listens listens_image old new cnf proof s s' (Err (Write cause)) text run told refuted =
-    record { clauses = text.0; formula = s; adds = text.1; text = run.text; steps = run.steps; left = s'; runs = run.answered; verdict = told; refutes = λ h. refuted_clauses s text.1 (refuted h) }
-whole_run listens listens_image old new cnf proof s s' (Err (Proof e)) text run told refuted =
-    record { clauses = text.0; formula = s; adds = text.1; text = run.text; steps = run.steps; left = s'; runs = run.answered; verdict = told; refutes = λ h. refuted_clauses s text.1 (refuted h) }
 whole_run listens listens_image old new cnf proof s s' (Err (Formula e)) text run told refuted = absurd run
+whole_run listens listens_image old new cnf proof s s' _ text run told refuted =
+    record { clauses = text.0; formula = s; adds = text.1; text = run.text; steps = run.steps; left = s'; runs = run.answered; verdict = told; refutes = λ h. refuted_clauses s text.1 (refuted h) }
 
 -- its line was not written whole
 pub unwritten_run : {P T : Type 0} (listens : Listens P) (listens_image : ListensImage T)
     (old new : Listeners P T) (cnf proof : Known) (s s' : State) (r : Result Verdict RunFault) (before after : Known) → AddsText cnf s
     → OnProof (λ answer. ProofRun proof s answer s' listens listens_image old new) r
     → (IsUnwritten r → AppendsBeginning before after (shown_line (verdict_of (shown_inputs s) s'))) → IsUnwritten r → BeginsLine cnf proof before after
-unwritten_run listens listens_image old new cnf proof s s' (Ok v) before after text run begins is = absurd is
 unwritten_run listens listens_image old new cnf proof s s' (Err (Write cause)) before after text run begins is =
     record { clauses = text.0; formula = s; adds = text.1; text = run.text; steps = run.steps; left = s'; runs = run.answered; begins = begins is }
-unwritten_run listens listens_image old new cnf proof s s' (Err (Proof e)) before after text run begins is = absurd is
-unwritten_run listens listens_image old new cnf proof s s' (Err (Formula e)) before after text run begins is = absurd is
+unwritten_run listens listens_image old new cnf proof s s' _ before after text run begins is = absurd is
 
 -- of a text whose bytes are known
 pub refuted_text : (cnf : Known) (bytes : List ℕ) (s : State) → cnf ≡ Some bytes → AddsText cnf s →
@@ -152,7 +122,4 @@ refuted_text cnf bytes s known text refuted =
 pub told_run : {P T : Type 0} (listens : Listens P) (listens_image : ListensImage T)
     (old new : Listeners P T) (cnf proof : Known) (s s' : State) (r : Result Verdict RunFault) (told : Option LyingHeader)
     → OnProof (λ answer. ProofRun proof s answer s' listens listens_image old new) r → IsLie cnf told → RunTellsLie cnf r told
-told_run listens listens_image old new cnf proof s s' (Ok verdict) told run h = h
-told_run listens listens_image old new cnf proof s s' (Err (Write cause)) told run h = h
-told_run listens listens_image old new cnf proof s s' (Err (Proof e)) told run h = h
-told_run listens listens_image old new cnf proof s s' (Err (Formula e)) told run h = absurd run
+told_run listens listens_image old new cnf proof s s' r told run h = grind arith

@@ -1,3 +1,5 @@
+use Rattle.std.proofs.lemmas.Grind.{common_steps}
+use Rattle.std.proofs.Common.{arith}
 use Rattle.varisat_checker.specs.Shown.{state}
 use Rattle.varisat_check.proofs.VerdictLemmas.{more_inputs, not_failed, refuted_before, verdict_told}
 use Rattle.varisat_check.proofs.run.run_proof.Goals as goal
@@ -8,7 +10,4 @@ verdict_after-verdict-requires g c =
     λ h. rw c.input_clauses-inputs.ensures (more_inputs (state c.args.checker.now) (state c.check_proof.new.self) (c.in_default.ensures.run lives).answered lives h)
 
 pub returns-in-Ok-clause-refutes : goal.returns-in-Ok-clause-refutes
-returns-in-Ok-clause-refutes g c =
-    let lives = not_failed (state c.args.checker.now).failed c.in_default.field-0 c.in_default.ensures.failed in
-    λ h before covered a. refuted_before (state c.args.checker.now) (state c.check_proof.new.self) before (c.in_default.ensures.run lives).answered lives
-    (verdict_told _ _ (state c.args.checker.now) (state c.check_proof.new.self) h c.verdict_after-verdict.ensures c.input_clauses-inputs.ensures) covered a
+returns-in-Ok-clause-refutes g c = grind (arith, common_steps, not_failed, refuted_before, verdict_told)
