@@ -1,5 +1,5 @@
 -- The step of an input clause, by its cause.
-use Rattle.std.proofs.Common.{◌≡◌, ℕ, ◌<◌, ◌≤◌, ◌-◌, ◌^◌, Bool, true, false, cond, ltb, List, Option, Some, None, refl, ◌∙◌, arith, Err, lt-ltb, le-ltb, le-leb, [], ap}
+use Rattle.std.proofs.Common.{◌≡◌, ℕ, ◌<◌, ◌≤◌, ◌-◌, ◌^◌, true, false, ltb, List, Option, Some, None, refl, ◌∙◌, arith, Err, lt-ltb, le-ltb, le-leb, [], ap}
 use Rattle.checker_steps.proofs.Common.{lt-leb, canonical, NamedStep, Emits, emits_input, some_not_sampling, know_clause, Cause, Outcome, accept}
 use Rattle.checker_steps.proofs.Common.{count_exhausted, ids_exhausted, not_sampling, refuse, State, add_clause, step, count_limit, count_of}
 use Rattle.checker_steps.proofs.Common.{step-add_clause, cause_of, AnswersOutcome, UnlessStopped, Refused, store_fault, UnlessOutOfMemory, StoreFault}
@@ -15,11 +15,6 @@ use Rattle.clause_store.specs.declared.clauses.store.StoreFault.TheVariants as s
 abbrev pub by_cause : Option Cause → State → Outcome → Outcome
 by_cause None s o = o
 by_cause (Some cause) s o = refuse cause s
-
-pub conds-by_cause : (a b d : Bool) (x y z : Cause) (s : State) (o : Outcome) →
-    cond a (refuse x s) (cond b (refuse y s) (cond d (refuse z s) o)) ≡
-    by_cause (cond a (Some x) (cond b (Some y) (cond d (Some z) None))) s o
-conds-by_cause a b d x y z s o = grind arith
 
 -- where `unsat` is recorded nothing happens
 pub add-unsat : (s : State) (ls : List ℕ) → s.unsat ≡ true → step s (add_clause ls) ≡ accept s

@@ -12,15 +12,15 @@ pub use Rattle.checker_rules.specs.CallEmissions.{EmitsCall}
 pub use Rattle.checker_rules.specs.Calls.{checks, count_step, step_limit, attempt}
 pub use Rattle.checker_rules.specs.Canonical.{canonical, same_list, var_bound}
 pub use Rattle.checker_rules.specs.Check.{check, ready, apply_pending}
-pub use Rattle.checker_rules.specs.CheckedSteps.{NamedStep, checked_failed_assumptions, named_in, checked_delete_at_clause, checked_delete_clause}
+pub use Rattle.checker_rules.specs.CheckedSteps.{NamedStep, checked_failed_assumptions, named_in}
 pub use Rattle.checker_rules.specs.CheckedSteps.{checked_at_clause, checked_model, checked_user_var, checked_assumptions}
-pub use Rattle.checker_rules.specs.DeleteVar.{holds_var, is_conflict_on, drop_unit, free_var, forget_var}
+pub use Rattle.checker_rules.specs.DeleteVar.{holds_var, is_conflict_on, free_var, forget_var}
 pub use Rattle.checker_rules.specs.Emits.{Emits, emits_input, EmitsRefused, emits_deletion, emits_lowered, previous_id, emits_closing}
-pub use Rattle.checker_rules.specs.Emits.{emits_irredundant, EmitsAccepted, EmitsBy, is_only_redundant, emits_mode, emits_unit}
+pub use Rattle.checker_rules.specs.Emits.{emits_irredundant, EmitsAccepted, EmitsBy, is_only_redundant, emits_unit}
 pub use Rattle.checker_rules.specs.KnownVars.{some_not_sampling, know_clause, know, is_known, is_sample, known_of}
 pub use Rattle.checker_rules.specs.KnownVars.{set_known}
 pub use Rattle.checker_rules.specs.Outcome.{Cause, Outcome, accept, count_exhausted, ids_exhausted, not_sampling, refuse}
-pub use Rattle.checker_rules.specs.Outcome.{delete_irredundant_is_redundant, delete_redundant_is_irredundant, tautology, and_then}
+pub use Rattle.checker_rules.specs.Outcome.{tautology, and_then}
 pub use Rattle.checker_rules.specs.Outcome.{and_then_by, deleted_var_has_clauses, deleted_var_named, model_after_unsat, model_against_itself}
 pub use Rattle.checker_rules.specs.Outcome.{model_against_unit, model_misses_assumption, model_misses_clause, no_name_to_remove}
 pub use Rattle.checker_rules.specs.Outcome.{steps_exhausted, hash_bits}
@@ -65,4 +65,4 @@ pub use Rattle.checker_steps.specs.Derived.{steps_unless, derived, derived_steps
 pub use Rattle.checker_steps.specs.FailedCore.{core_cause, core_clause, core_steps}
 pub use Rattle.checker_steps.specs.InputCause.{IsFaultOf, early_cause, input_cause, taken}
 pub use Rattle.checker_steps.specs.Marks.{MarksOnly, is_marked}
-pub use Rattle.checker_steps.specs.ModelCause.{has_marked, first_cause, list_cause, missing_cause, lit_cause}
+pub use Rattle.checker_steps.specs.ModelCause.{has_marked, first_cause, list_cause, lit_cause}

@@ -36,9 +36,6 @@ abbrev by_cause : Option Cause → State → Outcome → Outcome
 by_cause None s o = o
 by_cause (Some cause) s o = refuse cause s
 
-choose : (b d : Bool) (x y : Cause) (s : State) (o : Outcome) → cond b (refuse x s) (cond d (refuse y s) o) ≡ by_cause (cond b (Some x) (cond d (Some y) None)) s o
-choose b d x y s o = grind arith
-
 -- the outcome of a core that is allowed
 abbrev ended_by : Bool → State → (c hs : List ℕ) → Outcome
 ended_by opposite s c hs = cond opposite (accept s) (check s (core_clause c) hs accept)
@@ -50,7 +47,7 @@ core_shown t s c hs = named_in t (checked_failed_assumptions c (check_trace (rea
 -- c is the canonical list of the core
 module _ (s : State) (ls hs c : List ℕ) (list : c ≡ canonical ls) where
   core-by : (cause : Option Cause) → core_cause s c ≡ cause → step s (failed_assumptions ls hs) ≡ by_cause cause s (ended_by (is_tautology c) s c hs)
-  core-by cause e = grind (arith, step-failed_assumptions, choose)
+  core-by cause e = grind (arith, step-failed_assumptions)
 
   -- it is refused before its check
   pub core-refused : (cause : Cause) → core_cause s c ≡ Some cause → step s (failed_assumptions ls hs) ≡ refuse cause s

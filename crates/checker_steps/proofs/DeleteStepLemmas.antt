@@ -1,15 +1,14 @@
 -- The step that deletes a clause, part by part.
-use Rattle.std.proofs.Common.{◌≡◌, ℕ, ◌-◌, Bool, true, false, cond, not, ◌&&◌, eqb, List, [], ◌∷◌, Option, None, Some, Ok, Err, is_some, sym, ap, ◌∙◌, subst, arith}
-use Rattle.checker_steps.proofs.Common.{list_all, common_steps, is_tautology, canonical, checked_delete_at_clause, checked_delete_clause, named_in}
-use Rattle.checker_steps.proofs.Common.{Emits, EmitsRefused, emits_deletion, emits_lowered, previous_id, delete_irredundant_is_redundant}
-use Rattle.checker_steps.proofs.Common.{delete_redundant_is_irredundant, refuse, tautology, State, Justification, Step, by_redundant, by_satisfied}
-use Rattle.checker_steps.proofs.Common.{by_simplified, delete_clause, step, count_of, is_stored, are_apart, step-delete_clause, cause_of}
+use Rattle.std.proofs.Common.{◌≡◌, ℕ, ◌-◌, Bool, true, false, cond, not, eqb, List, [], Option, None, Some, Ok, Err, is_some, sym, ap, ◌∙◌, subst, arith}
+use Rattle.checker_steps.proofs.Common.{list_all, common_steps, is_tautology, canonical}
+use Rattle.checker_steps.proofs.Common.{Emits, EmitsRefused, emits_deletion, emits_lowered, previous_id}
+use Rattle.checker_steps.proofs.Common.{refuse, tautology, State, Justification, Step, by_redundant, by_satisfied}
+use Rattle.checker_steps.proofs.Common.{by_simplified, delete_clause, step, count_of, is_stored, are_apart, step-delete_clause}
 use Rattle.checker_steps.proofs.Common.{AnswersOutcome, UnlessStopped, delete_fault, is_whole, answers-refuse, Listeners, Listens, ListensImage}
 use Rattle.checker_steps.proofs.Common.{DeliveredList}
 use Rattle.checker_rules.specs.DeleteClause.{delete_justified, forget, justified}
 use Rattle.checker_parts.specs.declared.error.CheckCause.TheVariants as causes
 use Rattle.clause_store.specs.declared.clauses.DeleteClauseResult.{DeleteClauseResult}
-use Rattle.clause_store.specs.declared.clauses.DeleteClauseResult.TheVariants.{Unchanged, NewlyRedundant, Removed}
 use Rattle.clause_store.specs.declared.clauses.delete.DeleteFault.{DeleteFault}
 use Rattle.clause_store.specs.declared.clauses.delete.DeleteFault.TheVariants.{OutOfMemory, UnitOrEmpty, Unknown, NoCopy}
 use Rattle.clause_store.specs.Delete.{AnswersDelete, Deletes, UnlessOutOfMemory}
@@ -28,21 +27,15 @@ delete-asked s j ls c h same =
     step-delete_clause s j ls ∙ ap (λ b. cond b (refuse tautology s) (justified j (canonical ls) s)) h ∙ ap (λ x. justified j x s) (sym same)
 
 -- what is deleted where the justification passes
-kind_of : (j : Justification) (c : List ℕ) (s : State) (r : Bool) → is_some (implying_id j c s) ≡ not r → of_redundant j ≡ r
-kind_of j c s r e = grind arith
-
 pub delete-justified : (s : State) (j : Justification) (ls c : List ℕ) (id : Option ℕ) (r : Bool) → is_tautology (canonical ls) ≡ false →
     c ≡ canonical ls → AnswersJustified (Ok id) j c s → is_some id ≡ not r
     → (step s (delete_clause j ls) ≡ delete_justified r c (forget s)) × (of_redundant j ≡ r)
-delete-justified s j ls c id r apart same a some = grind (arith, kind_of, delete-asked)
+delete-justified s j ls c id r apart same a some = grind (arith, delete-asked)
 
 -- a copy that was not deleted
-no_copy : (r : Bool) → cond r delete_redundant_is_irredundant delete_irredundant_is_redundant ≡ cause_of (cond r causes.DeleteRedundantIsIrredundant causes.DeleteIrredundantIsRedundant)
-no_copy r = grind arith
-
 pub answers-fault : (r : Bool) (c : List ℕ) (s t : State) (f : DeleteFault) → AnswersDelete (Err f) c r s t →
     AnswersOutcome {A = Unit {0}} (Err (delete_fault f r)) (delete_justified r c s) t
-answers-fault r c s t f a = grind (arith, answers-refuse, no_copy)
+answers-fault r c s t f a = grind (arith, answers-refuse)
 
 -- what holds unless memory was refused holds unless the step gave up
 pub unless-fault : (P : Type 0) (f : DeleteFault) (r : Bool) → UnlessOutOfMemory {A = ℕ × DeleteClauseResult} (Err f) P →
@@ -53,24 +46,12 @@ unless-fault P f r p = grind arith
 stored_part : (r : Bool) (c : List ℕ) (s : State) → (delete_justified r c s).refused ≡ None → (is_stored c s.clauses ≡ true) × (eqb (count_of r c s.clauses) 0 ≡ false)
 stored_part r c s h = (grind (arith, h), grind (arith, h))
 
-one_less : (n : ℕ) → eqb n 0 ≡ false → eqb (n - 1) 0 ≡ eqb n 1
-one_less n h = grind (arith, common_steps)
-
 module _ (c : List ℕ) (s : State) (apart : are_apart s.clauses ≡ true) (whole : list_all is_whole s.clauses ≡ true) where
-  redundant-by : (id : ℕ) (x y : Bool) → deletion_steps s.known None (cond (x && y) Removed (cond (not true && x) NewlyRedundant Unchanged))
-      id c ≡ cond (not (x && y)) [] (named_in s (checked_delete_clause id c) ∷ [])
-  redundant-by id x y = grind arith
-
-  irredundant-by : (id n : ℕ) (x y : Bool) →
-      deletion_steps s.known (Some n) (cond (x && y) Removed (cond (not false && x) NewlyRedundant Unchanged)) id c ≡
-      cond x (named_in s (checked_delete_at_clause id (not (x && y)) c (n ∷ [])) ∷ []) []
-  irredundant-by id n x y = grind arith
-
   emits-redundant : (id : ℕ) (t : State) (did : DeleteClauseResult) → Deletes c true (forget s) t id did → deletion_steps s.known None did id c ≡ emits_deletion s by_redundant c
-  emits-redundant id t did d = grind (arith, stored_part, is_stored-lowered, redundant-by)
+  emits-redundant id t did d = grind (arith, stored_part, is_stored-lowered)
 
   emits-irredundant : (id n : ℕ) (t : State) (did : DeleteClauseResult) → Deletes c false (forget s) t id did → deletion_steps s.known (Some n) did id c ≡ emits_lowered s c n
-  emits-irredundant id n t did d = grind (arith, stored_part, is_stored-lowered, irredundant-by, one_less)
+  emits-irredundant id n t did d = grind (arith, common_steps, stored_part, is_stored-lowered)
 
   emits-by : (j : Justification) (id : ℕ) (t : State) (did : DeleteClauseResult) → Deletes c (of_redundant j) (forget s) t id did →
       deletion_steps s.known (implying_id j c s) did id c ≡ emits_deletion s j c

@@ -1,7 +1,7 @@
 -- The step `DeleteVar`, part by part.
 use Rattle.std.proofs.Common.{◌≡◌, ℕ, ◌+◌, ◌*◌, ◌<◌, ◌≤◌, Bool, true, false, cond, ◌||◌, eqb, ltb, nat_lt, List, [], ◌∷◌, get_or, if◌then◌else◌, Option, None, Some}
 use Rattle.std.proofs.Common.{refl, sym, ap, ◌∙◌, arith, suc, ◌++◌, is_some, ◌⊎◌, Result, Err, ⊎_elim}
-use Rattle.checker_steps.proofs.Common.{list_any, lt-ltb, nat_tests, has, var_of, checked_at_clause, named_in, holds_var, is_conflict_on, drop_unit}
+use Rattle.checker_steps.proofs.Common.{list_any, lt-ltb, nat_tests, has, var_of, checked_at_clause, named_in, holds_var, is_conflict_on}
 use Rattle.checker_steps.proofs.Common.{free_var, emits_closing, Emits, know, Cause, Outcome, accept, and_then, and_then_by, deleted_var_has_clauses}
 use Rattle.checker_steps.proofs.Common.{deleted_var_named, refuse, State, Stored, StoredUnit, unit_of, Known, delete_var, step, id_limit, known_at}
 use Rattle.checker_steps.proofs.Common.{step-delete_var, indexes_of, AnswersOutcome, StepFault, Refused, Processor, OutOfMemory, Listeners, Listens}
@@ -55,9 +55,6 @@ unit_lit-is x b = grind arith
 conflict-none : (u : Option StoredUnit) (p : Option (ℕ × ℕ)) → None ≡ conflict_on u p → is_conflict_on u p ≡ false
 conflict-none u p e = grind arith
 
-conflict-some : (u : Option StoredUnit) (p : Option (ℕ × ℕ)) (q : ℕ × ℕ) → Some q ≡ conflict_on u p → (is_conflict_on u p ≡ true) × (p ≡ Some q)
-conflict-some u p q e = (grind arith, grind arith)
-
 -- what closing it emits
 module _ (x : ℕ) (s : State) where
   pub emits-none : None ≡ conflict_on (unit_of s.units x) s.conflict → emits_close x s ≡ []
@@ -65,7 +62,7 @@ module _ (x : ℕ) (s : State) where
 
   module _ (q : ℕ × ℕ) (some : Some q ≡ conflict_on (unit_of s.units x) s.conflict) where
     emits-by : (b : Bool) → ltb s.next id_limit ≡ b → emits_close x s ≡ cond b (named_in s (checked_at_clause s.next false [] (q.0 ∷ q.1 ∷ [])) ∷ []) []
-    emits-by b room = grind (arith, conflict-some)
+    emits-by b room = grind arith
 
     pub emits-taken : s.next < id_limit → emits_close x s ≡ named_in s (checked_at_clause s.next false [] (q.0 ∷ q.1 ∷ [])) ∷ []
     emits-taken room = emits-by true (lt-ltb s.next id_limit room)
@@ -85,13 +82,10 @@ is_in_clause x t = list_any (λ e. holds_var x e.lits) t.clauses
 abbrev tested : (named held : Bool) → State → Outcome → Outcome
 tested named held t o = cond named (refuse deleted_var_named t) (cond held (refuse deleted_var_has_clauses t) o)
 
-drop-parts : (x : ℕ) (t : State) → drop_unit x t ≡ and_then (close_on x t) (λ r. accept (free_var x r))
-drop-parts x t = grind arith
-
 module _ (s t : State) (x : ℕ) (is : t ≡ know (suc x) s) where
   delete-by : (named held : Bool) → is_named x t ≡ named → is_in_clause x t ≡ held →
       step s (delete_var x) ≡ tested named held t (and_then (close_on x t) (λ r. accept (free_var x r)))
-  delete-by named held n h = grind (arith, step-delete_var, drop-parts)
+  delete-by named held n h = grind (arith, step-delete_var)
 
   pub delete-named : is_named x t ≡ true → step s (delete_var x) ≡ refuse deleted_var_named t
   delete-named named = delete-by true (is_in_clause x t) named refl

@@ -9,14 +9,14 @@
 --     quiet-refusal      a refusal that emits nothing delivers nothing on
 --     emits-counted, emits-closed, traced-emits      a step counted and not, the closing conflict, and steps with the traces of their checks
 use Rattle.std.specs.Result.{OnErr, OnOk}
-use Rattle.std.proofs.Common.{◌≡◌, List, Option, None, Some, Result, Err, refl, sym, ap, ◌∙◌, subst, arith, [], ◌∷◌, ◌++◌, Ok, ℕ, ◌<◌, true, false, ltb, lt-ltb}
-use Rattle.std.proofs.Common.{le-ltb}
+use Rattle.std.proofs.Common.{◌≡◌, List, Option, None, Some, Result, Err, refl, sym, ap, ◌∙◌, subst, arith, [], ◌∷◌, ◌++◌, ℕ, ◌<◌, true, false, ltb, lt-ltb, rules}
+use Rattle.std.proofs.Common.{le-ltb, Ok}
 use Rattle.checker_steps.proofs.Common.{EmitsCall, checks, count_step, step_limit, NamedStep, checked_at_clause, named_in, Emits, EmitsAccepted}
 use Rattle.checker_steps.proofs.Common.{EmitsBy, EmitsRefused, emits_closing, Cause, Outcome, accept, refuse, State, Known, Step, end_proof, step}
 use Rattle.checker_steps.proofs.Common.{id_limit, traced, WellFormed, steps_keep_form, step-end_proof, cause_of, AnswersOutcome, UnlessStopped}
-use Rattle.checker_steps.proofs.Common.{StepFault, Refused, OutOfMemory, Processor, PartsInvariant, state_of, IsStore, Clauses, ClauseHasher}
+use Rattle.checker_steps.proofs.Common.{StepFault, Refused, OutOfMemory, PartsInvariant, state_of, IsStore, Clauses, ClauseHasher}
 use Rattle.checker_steps.proofs.Common.{CheckerState, answers-refuse, Listeners, Listens, ListensImage, DeliveredList, DeliveredStep, DeliveredAll}
-use Rattle.checker_steps.proofs.Common.{DeliveredWhole, RanOver}
+use Rattle.checker_steps.proofs.Common.{DeliveredWhole, RanOver, Processor}
 use Rattle.checker_parts.specs.declared.error.CheckCause.{CheckCause}
 use Rattle.clause_store.specs.Quiet.{NoListenerFault}
 use Rattle.checker_rules.proofs.TracedSteps.{traced_is_emitted}

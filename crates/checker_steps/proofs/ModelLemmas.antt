@@ -3,7 +3,7 @@ use Rattle.std.proofs.Common.{◌≡◌, ℕ, true, false, cond, List, [], ◌�
 use Rattle.checker_steps.proofs.Common.{list_all, add_lit, has, negate, var_of, checked_model, named_in, Emits, EmitsBy, is_known, Cause, Outcome}
 use Rattle.checker_steps.proofs.Common.{accept, and_then_by, model_after_unsat, refuse, model_against_itself, model_against_unit}
 use Rattle.checker_steps.proofs.Common.{model_misses_assumption, model_misses_clause, State, model, step, step-model, MarksOnly, is_marked}
-use Rattle.checker_steps.proofs.Common.{first_cause, list_cause, missing_cause, has_marked, lit_cause}
+use Rattle.checker_steps.proofs.Common.{first_cause, list_cause, has_marked, lit_cause}
 use Rattle.checker_rules.specs.Model.{model_cause, model_whole, is_false_by_unit}
 
 -- the step
@@ -11,11 +11,8 @@ abbrev by_cause : Option Cause → State → Outcome
 by_cause None s = accept s
 by_cause (Some cause) s = refuse cause s
 
-list-by : (o : Option Cause) (s : State) (m : List ℕ) → and_then_by o s (λ r. model_whole r m) ≡ by_cause (first_cause o (missing_cause s m)) s
-list-by o s m = grind arith
-
 model-by : (s : State) (m : List ℕ) → s.unsat ≡ false → step s (model m) ≡ by_cause (list_cause s m) s
-model-by s m live = grind (arith, step-model, list-by)
+model-by s m live = grind (arith, step-model)
 
 pub model-unsat : (s : State) (m : List ℕ) → s.unsat ≡ true → step s (model m) ≡ refuse model_after_unsat s
 model-unsat s m h = step-model s m ∙ ap (λ b. cond b (refuse model_after_unsat s) (and_then_by (model_cause s [] m) s (λ r. model_whole r m))) h

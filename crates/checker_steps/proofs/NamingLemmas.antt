@@ -1,12 +1,12 @@
 -- The steps on user names and modes, part by part. Each is told over the state r in which the variable is known.
 use Rattle.std.proofs.Common.{◌≡◌, ℕ, suc, Bool, true, false, cond, List, [], ◌∷◌, Option, None, Some, is_none, is_some, ap, arith}
 use Rattle.sat_formula.specs.declared.lit.Var.{Var}
-use Rattle.checker_steps.proofs.Common.{NamedStep, checked_user_var, named_in, Emits, emits_mode, is_sample, know, known_of}
+use Rattle.checker_steps.proofs.Common.{NamedStep, checked_user_var, named_in, Emits, is_sample, know, known_of}
 use Rattle.checker_steps.proofs.Common.{set_known, Cause, Outcome, accept, no_name_to_remove, refuse}
 use Rattle.checker_steps.proofs.Common.{Known, State, hide, sample, witness, change_sampling_mode, user_var_name, step}
 use Rattle.checker_steps.proofs.Common.{step-change_sampling_mode, step-user_var_name, indexes_of}
 use Rattle.checker_steps.specs.Naming.{changed_name, in_mode, mode_cause, naming_cause}
-use Rattle.checker_steps.proofs.AddClauseLemmas.{by_cause, conds-by_cause}
+use Rattle.checker_steps.proofs.AddClauseLemmas.{by_cause}
 use Rattle.checker_steps.proofs.EmissionLemmas.{emits-accepted}
 
 -- the state with the variable named
@@ -19,7 +19,7 @@ hidden x r = set_known x (record { name = None; mode = hide }) r
 
 name-step : (s r : State) (x u : ℕ) (cause : Option Cause) → r ≡ know (suc x) s → naming_cause r.known x u ≡ cause →
     step s (user_var_name x (Some u)) ≡ by_cause cause r (accept (named x u r))
-name-step s r x u cause e h = grind (arith, step-user_var_name, conds-by_cause)
+name-step s r x u cause e h = grind (arith, step-user_var_name)
 
 pub name-refused : (s r : State) (x u : ℕ) (cause : Cause) → r ≡ know (suc x) s → naming_cause r.known x u ≡ Some cause → step s (user_var_name x (Some u)) ≡ refuse cause r
 name-refused s r x u cause e h = name-step s r x u (Some cause) e h
@@ -56,14 +56,9 @@ is_none-unnamed o h = grind arith
 pub is_none-named : (o : Option Var) → is_some o ≡ true → is_none (indexes_of o) ≡ false
 is_none-named o h = grind arith
 
-mode-choose : (a b : Bool) (cause : Cause) (r : State) (known : List Known) →
-    cond a (accept r) (cond b (refuse cause r) (accept (record r { known = known }))) ≡
-    by_cause (cond a None (cond b (Some cause) None)) r (accept (record r { known = cond a r.known known }))
-mode-choose a b cause r known = grind arith
-
 mode-step : (s r : State) (x : ℕ) (to_sample : Bool) (cause : Option Cause) → r ≡ know (suc x) s → mode_cause r.known x to_sample ≡ cause →
     step s (change_sampling_mode x to_sample) ≡ by_cause cause r (accept (record r { known = in_mode r.known x to_sample }))
-mode-step s r x to_sample cause e h = grind (arith, step-change_sampling_mode, mode-choose)
+mode-step s r x to_sample cause e h = grind (arith, step-change_sampling_mode)
 
 pub mode-refused : (s r : State) (x : ℕ) (to_sample : Bool) (cause : Cause) → r ≡ know (suc x) s →
     mode_cause r.known x to_sample ≡ Some cause → step s (change_sampling_mode x to_sample) ≡ refuse cause r
@@ -78,14 +73,11 @@ abbrev pub change_shown : ℕ → Bool → Option ℕ → List Known → List Na
 change_shown x samples None names = []
 change_shown x samples (Some u) names = record { step = checked_user_var x (Some (record { user_var = u; samples = samples; new_var = false })); names = names } ∷ []
 
-mode-shown : (same : Bool) (x : ℕ) (to_sample : Bool) (name : Option ℕ) (after : State) → change_shown x to_sample (cond same None name) after.known ≡ cond same [] (emits_mode after x to_sample name)
-mode-shown same x to_sample name after = grind arith
-
 pub emits-change : (s r : State) (x : ℕ) (to_sample samples : Bool) (name : Option ℕ) (names : List Known) → r ≡ know (suc x) s →
     mode_cause r.known x to_sample ≡ None → names ≡ in_mode r.known x to_sample → name ≡ changed_name r.known x to_sample →
     samples ≡ to_sample
     → Emits s (change_sampling_mode x to_sample) (change_shown x samples name names)
-emits-change s r x to_sample samples name names e h is shown same = grind (arith, mode-changed, step-change_sampling_mode, emits-accepted, mode-shown)
+emits-change s r x to_sample samples name names e h is shown same = grind (arith, mode-changed, step-change_sampling_mode, emits-accepted)
 
 pub is_sample-asked : (to_sample : Bool) → is_sample (cond to_sample sample witness) ≡ to_sample
 is_sample-asked to_sample = grind arith

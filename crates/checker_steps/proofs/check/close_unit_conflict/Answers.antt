@@ -1,6 +1,6 @@
-use Rattle.checker_steps.proofs.Common.{common_steps, emits_closing, ids_exhausted, id_limit, both_ran_nil, form-close}
-use Rattle.checker_steps.proofs.Common.{state_of, Clauses, answers-refuse, context_state}
-use Rattle.std.proofs.Common.{[], refl, sym, ap, le-ltb, arith}
+use Rattle.checker_steps.proofs.Common.{common_steps, emits_closing, both_ran_nil, form-close}
+use Rattle.checker_steps.proofs.Common.{answers-refuse, context_state}
+use Rattle.std.proofs.Common.{[], refl, sym, ap, arith, rules}
 use Rattle.checker_rules.proofs.Openings.{closing_conflict-exhausted, closing_conflict-none, closing_conflict-taken}
 use Rattle.checker_steps.proofs.EmissionLemmas.{answers-delivers, unless-stopped, answers-accept, emits-closed, emits-unclosed}
 use Rattle.checker_steps.proofs.DeliveryLemmas.{delivered-one}
@@ -21,7 +21,4 @@ pub returns-in-None-clause-delivered : goal.returns-in-None-clause-delivered
 returns-in-None-clause-delivered g c = ([], emits-unclosed (context_state c.args.ctx.now) c.in-None.ensures.id, both_ran_nil _ _ _ _)
 
 pub returns-in-None-clause-answer : goal.returns-in-None-clause-answer
-returns-in-None-clause-answer g c =
-    let ctx = c.args.ctx.now in let s = context_state ctx in let none = c.in-None.ensures.id in
-    answers-refuse ids_exhausted _ s _ (closing_conflict-exhausted s (c.in-Some.stored, c.in-Some.refuting) c.in-Some.is (le-ltb s.next id_limit (omega arith)))
-    (ap (λ (cs : Clauses). state_of ctx.checker_state ctx.clause_hasher cs ctx.variables) c.in-None.ensures.unchanged)
+returns-in-None-clause-answer g c = search (rules, answers-refuse, closing_conflict-exhausted)

@@ -1,6 +1,6 @@
-use Rattle.checker_steps.proofs.Common.{common_steps, err_from_is_err_and, check, ready, NamedStep, checked_failed_assumptions, accept, check_trace}
-use Rattle.checker_steps.proofs.Common.{context_state, core_clause}
-use Rattle.std.proofs.Common.{◌==◌, ℕ, List, refl, sym, ap, ◌∙◌, arith}
+use Rattle.checker_steps.proofs.Common.{common_steps, err_from_is_err_and, check, accept}
+use Rattle.checker_steps.proofs.Common.{context_state, core_clause, ready, NamedStep, checked_failed_assumptions, check_trace}
+use Rattle.std.proofs.Common.{sym, ◌∙◌, arith, ◌==◌, ℕ, List, refl, ap}
 use Rattle.checker_steps.proofs.CoreLemmas.{core-told, core-unchecked, negations-apart, negations-canonical}
 use Rattle.checker_steps.proofs.EmissionLemmas.{answers-delivers, delivered-refused}
 use Rattle.checker_steps.proofs.DeliveryLemmas.{delivered-one}
