@@ -1,9 +1,9 @@
 -- The columns of names and modes as one list.
-use Rattle.std.proofs.Common.{◌≡◌, ℕ, zero, suc, ◌+◌, ◌<◌, ◌≤◌, ◌^◌, cond, List, [], ◌∷◌, ◌++◌, length, get_or, set}
+use Rattle.std.proofs.Common.{◌≡◌, ℕ, zero, suc, ◌+◌, ◌<◌, ◌^◌, cond, List, [], ◌∷◌, ◌++◌, length, get_or, set}
 use Rattle.std.proofs.Common.{replicate, Option, Some, None, refl, sym, ap, ◌∙◌, Bool, false, take, ◌-◌, arith}
 use Rattle.std.specs.Option.{SomeIff}
 use Rattle.std.proofs.lemmas.Bool.{le-ltb, lt-ltb}
-use Rattle.std.proofs.lemmas.List.{get_or_past, length-append, length-replicate, length-set, take_all}
+use Rattle.std.proofs.lemmas.List.{length-append, length-replicate, length-set, take_all}
 use Rattle.checker_rules.specs.KnownVars.{new_known}
 use Rattle.checker_rules.specs.State.{Known, Mode, hide}
 use Rattle.checker_rules.specs.Transcript.{known_at}
@@ -33,9 +33,6 @@ known_at-known_by [] ms i n m h less = absurd (omega (arith, less))
 known_at-known_by (k ∷ ns) [] i n m h less = absurd (omega (arith, h))
 known_at-known_by (k ∷ ns) (l ∷ ms) zero n m h less = refl
 known_at-known_by (k ∷ ns) (l ∷ ms) (suc i) n m h less = known_at-known_by ns ms i n m (tail l ms k ns h) (omega (arith, less))
-
-pub known_at-past : (ns : List ℕ) (ms : List SamplingMode) (i : ℕ) → length ms ≡ length ns → length ns ≤ i → known_at (known_by ns ms) i ≡ new_known
-known_at-past ns ms i h past = get_or_past (known_by ns ms) i new_known (omega (arith, length-known_by ns ms h))
 
 -- one place is written
 pub known_by-name : (ns : List ℕ) (ms : List SamplingMode) (i n : ℕ) → length ms ≡ length ns
@@ -88,14 +85,10 @@ pub columns_mode : (ns : List ℕ) (ms : List SamplingMode) (ts : List Bool) (i 
 columns_mode ns ms ts i m h less = grind (arith, length-set, known_by-mode, marked_same, length-known_by)
 
 -- a variable is hidden, and its name goes
-pub known_by-hidden : (ns : List ℕ) (ms : List SamplingMode) (i n : ℕ) → name_of n ≡ None → length ms ≡ length ns →
-    known_by (set ns i n) (set ms i Hide) ≡ set (known_by ns ms) i (record { name = None; mode = hide })
-known_by-hidden ns ms i n none h = known_by-both ns ms i n Hide h ∙ ap (λ o. set (known_by ns ms) i (record { name = o; mode = hide })) none
-
 pub columns_hidden : (ns : List ℕ) (ms : List SamplingMode) (ts ts' : List Bool) (i n : ℕ) → name_of n ≡ None → AreColumns ns ms ts →
     length ts' ≡ length ts → IsMarked (set (known_by ns ms) i (record { name = None; mode = hide })) ts'
     → AreColumns (set ns i n) (set ms i Hide) ts'
-columns_hidden ns ms ts ts' i n none h long marked = grind (arith, length-set, known_by-hidden)
+columns_hidden ns ms ts ts' i n none h long marked = grind (arith, length-set, known_by-both)
 
 -- the columns grow
 pub known_by-grown : (ns ns' : List ℕ) (ms ms' : List SamplingMode) (n k : ℕ) → name_of n ≡ None → length ms ≡ length ns →
@@ -110,7 +103,3 @@ columns_grown ns ns' ms ms' ts ts' n k none h names modes taken = grind (arith, 
 pub grown : {X : Type 0} (old mid new : List X) (len m n : ℕ) (x : X) → length old ≡ m → mid ≡ old → len ≡ length mid →
     new ≡ take n mid ++ replicate (n - len) x → m < n → new ≡ old ++ replicate (n - m) x
 grown old mid new len m n x long same at is less = grind (arith, take_all)
-
--- a column with room for n elements does not fail to grow to them
-pub no_room : {X : Type 0} (l len n size cap : ℕ) → size ≡ l → len ≡ l → size + (n - len) ≤ cap → cap < n → X
-no_room l len n size cap long at room short = absurd (omega arith)

@@ -1,7 +1,7 @@
 -- The headline of a call, and the unsatisfiable side, follow from its answer by the definitions.
-use Rattle.std.proofs.Common.{◌≡◌, ℕ, Bool, List, [], ◌∷◌, ◌++◌, Result, Ok, Err, sym, ap, ◌∙◌, subst, arith}
+use Rattle.std.proofs.Common.{◌≡◌, ℕ, Bool, List, [], ◌∷◌, ◌++◌, Result, Ok, Err, sym, ap, ◌∙◌, arith}
 use Rattle.checker_rules.specs.Calls.{attempt, closing_conflict}
-use Rattle.checker_rules.specs.Covers.{Covers, CoversAfter}
+use Rattle.checker_rules.specs.Covers.{CoversAfter}
 use Rattle.checker_rules.specs.Headline.{EntailsRedundant, SetAfter, changed, holds}
 use Rattle.checker_rules.specs.Outcome.{Outcome}
 use Rattle.checker_rules.specs.State.{State, sat}
@@ -25,9 +25,6 @@ abbrev err_answer : CheckerError → Result (Unit {0}) CheckerError
 err_answer e = Err e
 
 -- the members after one more step
-covers-last : (ts : List Step) (t : Step) (s : State) → Covers (changed t (holds ts)) s → IsCovered (ts ++ t ∷ []) s
-covers-last ts t s h = covers_same (changed t (holds ts)) (holds (ts ++ t ∷ [])) s (λ a. sym (holds_last ts t a)) h
-
 fold-last : (ts : List Step) (t : Step) (p : (ℕ → Bool) → Bool) (s : State) → ((a : ℕ → Bool) → p a ≡ holds ts a) → ((a : ℕ → Bool) → sat s a ≡ changed t p a) → IsFold (ts ++ t ∷ []) s
 fold-last ts t p s f h a = h a ∙ changed_same t p (holds ts) f a ∙ sym (holds_last ts t a)
 
@@ -42,7 +39,7 @@ sets_fold s t o k ts f (Err Failed) u h = tt
 sets_fold s t o k ts f _ u h = absurd h
 
 pub covers_fold : (t : Step) (o : Outcome) (ts : List Step) → CoversAfter (holds ts) t o.refused o.after → (r : Result (Unit {0}) CheckerError) (u : State) → AnswersStep r o u → CoversFold r ts t u
-covers_fold t o ts k r u h = grind (arith, covers-last)
+covers_fold t o ts k r u h = grind (arith, covers_same, holds_last)
 
 -- `check_step` and `add_clause`
 pub sets_fold-step : (s : State) (t : Step) (ts : List Step) (r : Result (Unit {0}) CheckerError) (u : State) → EntailsRedundant s → IsFold ts s → AnswersStep r (step s t) u → SetsFold r ts t u

@@ -1,5 +1,5 @@
 -- The marks of user names, and what a write of one variable does to them.
-use Rattle.std.proofs.Common.{◌≡◌, ◌≢◌, ℕ, ◌+◌, ◌<◌, ◌≤◌, Bool, true, false, cond, List, [], ◌∷◌, ◌++◌, length, get_or}
+use Rattle.std.proofs.Common.{◌≡◌, ℕ, ◌+◌, ◌<◌, Bool, true, false, cond, List, [], ◌∷◌, ◌++◌, length, get_or}
 use Rattle.std.proofs.Common.{set, replicate, Option, Some, None, refl, ap, ◌∙◌, arith, inl, inr, zero, suc}
 use Rattle.std.proofs.lemmas.Bool.{cases_eq, cases_lt, eq-eqb, ne_eqb}
 use Rattle.std.proofs.lemmas.List.{get_or-set_other, get_or-set_same, get_or_past}
@@ -18,15 +18,6 @@ mark ts u = cond (get_or ts u false) 1 0
 -- whether this is the name, as a number
 abbrev pub names_it : Option ℕ → ℕ → ℕ
 names_it o u = cond (option_is o u) 1 0
-
-mark-le-one : (b : Bool) → cond b 1 0 ≤ 1
-mark-le-one b = grind arith
-
-mark-set_other : (ts : List Bool) (j u : ℕ) (b : Bool) → u ≢ j → mark (set ts j b) u ≡ mark ts u
-mark-set_other ts j u b h = ap (λ b. cond b 1 0) (get_or-set_other ts j u b false h)
-
-mark-set_same : (ts : List Bool) (j u : ℕ) (b : Bool) → u ≡ j → j < length ts → mark (set ts j b) u ≡ cond b 1 0
-mark-set_same ts j u b e h = ap (λ n. mark (set ts j b) n) e ∙ ap (λ b. cond b 1 0) (get_or-set_same ts j b false h)
 
 -- how often a name stands after a write
 times-set : (ks : List Known) (i u : ℕ) (k : Known) → i < length ks → times_taken (set ks i k) u + names_it (known_at ks i).name u ≡ times_taken ks u + names_it k.name u
@@ -51,12 +42,12 @@ marked_same ks ts i k m h name u = grind (arith, times-set)
 -- a name is given, and its index is marked
 pub marked_name : (ks : List Known) (ts : List Bool) (i j : ℕ) (k : Known) → IsMarked ks ts → i < length ks → j < length ts
     → (known_at ks i).name ≡ None → k.name ≡ Some j → is_taken ks j ≡ false → IsMarked (set ks i k) (set ts j true)
-marked_name ks ts i j k m hi hj unnamed name free u = grind (arith, times-set, cases_eq, eq-eqb, times-taken, mark-set_same, ne_eqb, mark-set_other)
+marked_name ks ts i j k m hi hj unnamed name free u = grind (arith, times-set, cases_eq, eq-eqb, times-taken, get_or-set_same, ne_eqb, get_or-set_other)
 
 -- a name goes, and the mark of its index
 pub marked_unnamed : (ks : List Known) (ts : List Bool) (i j : ℕ) (k : Known) → IsMarked ks ts → i < length ks → j < length ts
     → (known_at ks i).name ≡ Some j → k.name ≡ None → IsMarked (set ks i k) (set ts j false)
-marked_unnamed ks ts i j k m hi hj named name u = grind (arith, times-set, mark-le-one, cases_eq, eq-eqb, mark-set_same, ne_eqb, mark-set_other)
+marked_unnamed ks ts i j k m hi hj named name u = grind (arith, times-set, cases_eq, eq-eqb, get_or-set_same, ne_eqb, get_or-set_other)
 
 -- a name in use is the index of a known variable
 pub name-in_range : (ks : List Known) (ts : List Bool) (i j : ℕ) → IsMarked ks ts → i < length ks → (known_at ks i).name ≡ Some j → j < length ts

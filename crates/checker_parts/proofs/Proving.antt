@@ -1,11 +1,11 @@
 -- Accepted models and cores prove what the headline says of them.
-use Rattle.std.proofs.Common.{◌≡◌, ℕ, Bool, true, List, [], ◌∷◌, ◌++◌, None, refl, sym, ◌∙◌, subst, append-nil, append_assoc, arith}
+use Rattle.std.proofs.Common.{◌≡◌, ℕ, Bool, true, List, [], ◌∷◌, ◌++◌, None, refl, sym, subst, append-nil, append_assoc, arith}
 use Rattle.checker_rules.specs.Calls.{attempt, count_step}
 use Rattle.checker_rules.specs.Covers.{all_sat}
 use Rattle.checker_rules.specs.Headline.{EntailsRedundant}
 use Rattle.checker_rules.specs.State.{State, Stored, irredundant_true, sat, stored_true}
 use Rattle.checker_rules.specs.Step.{Step}
-use Rattle.checker_rules.specs.Step.{failed_assumptions, model}
+use Rattle.checker_rules.specs.Step.{failed_assumptions}
 use Rattle.checker_rules.specs.Steps.{step}
 use Rattle.checker_rules.proofs.Models.{cores_fail, models_are_members}
 use Rattle.checker_parts.specs.Answers.{IsCovered, IsFold}

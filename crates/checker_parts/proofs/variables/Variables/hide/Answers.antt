@@ -5,7 +5,7 @@ use Rattle.sat_formula.specs.Vars.{indexes_of}
 use Rattle.checker_rules.specs.State.{Known, hide}
 use Rattle.checker_rules.specs.Transcript.{known_at}
 use Rattle.checker_parts.specs.Variables.{known_by}
-use Rattle.checker_parts.proofs.Columns.{columns_hidden, known_by-hidden, within}
+use Rattle.checker_parts.proofs.Columns.{columns_hidden, within, known_by-both}
 use Rattle.checker_parts.proofs.Marks.{marked_same, marked_unnamed, name-in_range}
 use Rattle.checker_parts.proofs.variables.Variables.hide.Goals as goal
 
@@ -47,7 +47,7 @@ invariant_of-self-in_default c =
     (sym (ap (λ (ks : List Known). (known_at ks c.index-index.result).name) c.self.view_is ∙ sym c.name-name.ensures ∙ ap indexes_of c.in_default.is)))
 
 pub returns-in-Some : goal.returns-in-Some
-returns-in-Some c = grind (arith, common_steps, known_by-hidden)
+returns-in-Some c = grind (arith, common_steps, known_by-both)
 
 pub returns-in_default : goal.returns-in_default
-returns-in_default c = grind (arith, common_steps, known_by-hidden)
+returns-in_default c = grind (arith, common_steps, known_by-both)

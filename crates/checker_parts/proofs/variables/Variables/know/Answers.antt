@@ -2,20 +2,20 @@ use Rattle.std.proofs.lemmas.Grind.{common_steps}
 use Rattle.std.proofs.Common.{◌≡◌, ◌∙◌, ◌-◌, ◌++◌, ◌<◌, ℕ, false, length, replicate, refl, ap, arith, sym}
 use Rattle.checker_rules.specs.KnownVars.{new_known}
 use Rattle.checker_parts.specs.declared.variables.SamplingMode.TheVariants.{Sample}
-use Rattle.checker_parts.proofs.Columns.{columns_grown, grown, known_by-grown, length_by_view, no_room}
+use Rattle.checker_parts.proofs.Columns.{columns_grown, grown, known_by-grown, length_by_view}
 use Rattle.checker_parts.proofs.variables.Variables.know.Goals as goal
 
 pub invariant_of-self-in_err-resize-2 : goal.invariant_of-self-in_err-resize-2
-invariant_of-self-in_err-resize-2 c = grind (arith, common_steps, length_by_view, no_room)
+invariant_of-self-in_err-resize-2 c = grind (arith, common_steps, length_by_view)
 
 pub returns-in_err-resize-2-clause-err : goal.returns-in_err-resize-2-clause-err
-returns-in_err-resize-2-clause-err c = grind (arith, common_steps, length_by_view, no_room)
+returns-in_err-resize-2-clause-err c = grind (arith, common_steps, length_by_view)
 
 pub invariant_of-self-in_err-resize-3 : goal.invariant_of-self-in_err-resize-3
-invariant_of-self-in_err-resize-3 c = grind (arith, common_steps, length_by_view, no_room)
+invariant_of-self-in_err-resize-3 c = grind (arith, common_steps, length_by_view)
 
 pub returns-in_err-resize-3-clause-err : goal.returns-in_err-resize-3-clause-err
-returns-in_err-resize-3-clause-err c = grind (arith, common_steps, length_by_view, no_room)
+returns-in_err-resize-3-clause-err c = grind (arith, common_steps, length_by_view)
 
 below : (c : goal.In_ok-resize-3) → length c.self.inside.names.items < c.args.count
 below c = omega (arith, c.if-len-count.true, c.len.ensures, length_by_view _ _ _ c.self.invariant.modes c.self.view_is)

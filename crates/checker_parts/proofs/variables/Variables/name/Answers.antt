@@ -1,14 +1,15 @@
+use Rattle.std.proofs.lemmas.List.{get_or_past}
 use Rattle.std.proofs.Common.{◌≡◌, ◌<◌, ◌∙◌, List, get_or, length, ap, sym, arith}
 use Rattle.std.proofs.lemmas.Grind.{common_steps}
 use Rattle.checker_rules.specs.State.{Known}
 use Rattle.checker_rules.specs.Transcript.{known_at}
 use Rattle.checker_parts.specs.Variables.{name_of}
 use Rattle.checker_parts.specs.declared.variables.SamplingMode.TheVariants.{Sample}
-use Rattle.checker_parts.proofs.Columns.{known_at-known_by, known_at-past, name_of-read}
+use Rattle.checker_parts.proofs.Columns.{known_at-known_by, name_of-read, length-known_by}
 use Rattle.checker_parts.proofs.variables.Variables.name.Goals as goal
 
 pub returns-in_err-get : goal.returns-in_err-get
-returns-in_err-get c = grind (arith, common_steps, known_at-past)
+returns-in_err-get c = grind (arith, common_steps, get_or_past, length-known_by)
 
 pub returns : goal.returns
 returns c =
