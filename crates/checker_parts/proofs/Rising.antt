@@ -1,8 +1,8 @@
 -- Lists whose variables rise are canonical, and no tautologies.
-use Rattle.std.proofs.Common.{◌≡◌, ℕ, ◌+◌, ◌<◌, ◌≤◌, Bool, true, false, ◌&&◌, ltb, List, [], ◌∷◌, length, get_or, drop, refl, sym, ap, ◌∙◌, arith}
+use Rattle.std.proofs.Common.{◌≡◌, ℕ, ◌<◌, Bool, true, false, ◌&&◌, ltb, List, [], ◌∷◌, length, drop, refl, sym, ap, ◌∙◌, arith}
 use Rattle.std.specs.List.{list_all}
 use Rattle.std.proofs.lemmas.Bool.Decides.{nat_tests}
-use Rattle.std.proofs.lemmas.List.{at_drop_more, at_drop_all}
+use Rattle.std.proofs.lemmas.List.{at_drop_all}
 use Rattle.sat_rules.specs.Clauses.{is_canonical, is_tautology, var_of}
 use Rattle.checker_rules.specs.Canonical.{canonical}
 use Rattle.checker_parts.specs.RisingVars.{has_rising_vars}
@@ -44,13 +44,3 @@ rises_after-is l (m ∷ ms) = ap (λ b. ltb (var_of l) (var_of m) && b) (rises_a
 module _ (v : ℕ) (c : List ℕ) (i : ℕ) where
   pub rises_after-end : i ≡ length c → rises_after v (drop i c) ≡ true
   rises_after-end e = at_drop_all (rises_after v) c i (omega (arith, e))
-
-  module _ (m : ℕ) (within : i < length c) (here : m ≡ get_or c i m) where
-    next : rises_after v (drop i c) ≡ (ltb v (var_of m) && rises_after (var_of m) (drop (i + 1) c))
-    next = at_drop_more (rises_after v) c i m within ∙ ap (λ l. ltb v (var_of l) && rises_after (var_of l) (drop (i + 1) c)) (sym here)
-
-    pub rises_after-more : v < var_of m → rises_after (var_of m) (drop (i + 1) c) ≡ rises_after v (drop i c)
-    rises_after-more less = grind (arith, nat_tests, next)
-
-    pub rises_after-less : var_of m ≤ v → rises_after v (drop i c) ≡ false
-    rises_after-less more = grind (arith, nat_tests, next)
