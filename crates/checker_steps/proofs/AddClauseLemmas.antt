@@ -1,7 +1,7 @@
 -- The step of an input clause, by its cause.
-use Rattle.std.proofs.Common.{◌≡◌, ℕ, ◌<◌, ◌≤◌, ◌-◌, ◌^◌, true, false, ltb, List, Option, Some, None, refl, ◌∙◌, arith, Err, lt-ltb, le-ltb, le-leb, [], ap}
+use Rattle.std.proofs.Common.{◌≡◌, ℕ, ◌<◌, ◌-◌, ◌^◌, true, false, ltb, List, Option, Some, None, refl, ◌∙◌, arith, Err, lt-ltb, le-ltb, [], ap}
 use Rattle.checker_steps.proofs.Common.{lt-leb, canonical, NamedStep, Emits, emits_input, some_not_sampling, know_clause, Cause, Outcome, accept}
-use Rattle.checker_steps.proofs.Common.{count_exhausted, ids_exhausted, not_sampling, refuse, State, add_clause, step, count_limit, count_of}
+use Rattle.checker_steps.proofs.Common.{ids_exhausted, not_sampling, refuse, State, add_clause, step, count_limit, count_of}
 use Rattle.checker_steps.proofs.Common.{step-add_clause, cause_of, AnswersOutcome, UnlessStopped, Refused, store_fault, UnlessOutOfMemory, StoreFault}
 use Rattle.checker_steps.proofs.Common.{answers-refuse, IsFaultOf, early_cause, input_cause, taken}
 use Rattle.checker_rules.specs.Store.{id_limit}
@@ -60,16 +60,13 @@ module _ (s : State) (c : List ℕ) (none : early_cause s c ≡ None) where
   pub early-ids : s.next < id_limit
   early-ids = grind (arith, none)
 
-  pub early-full : count_limit ≤ count_of false c s.clauses → input_cause s c ≡ Some count_exhausted
-  early-full many = grind (arith, none, le-leb count_limit (count_of false c s.clauses) many)
-
   pub early-room : count_of false c s.clauses < count_limit → input_cause s c ≡ None
   early-room few = grind (arith, none, lt-leb count_limit (count_of false c s.clauses) few)
 
 -- the refusal where the clause was not stored
 pub answers-unstored_input : (fault : StoreFault) (s t : State) (ls : List ℕ) → s.unsat ≡ false → early_cause s (canonical ls) ≡ None →
     IsFaultOf fault (canonical ls) s t → AnswersOutcome {A = Unit {0}} (Err (store_fault fault)) (step s (add_clause ls)) t
-answers-unstored_input fault s t ls live none h = grind (arith, answers-input, early-full)
+answers-unstored_input fault s t ls live none h = grind (arith, answers-input)
 
 -- what holds of the store unless memory was refused holds unless the step gave up
 pub unless-unstored : (P : Type 0) (fault : StoreFault) → UnlessOutOfMemory {A = Added} (Err fault) P → UnlessStopped {A = Unit {0}} (Err (store_fault fault)) P

@@ -13,16 +13,16 @@ pub use Rattle.checker_rules.specs.Calls.{checks, count_step, step_limit, attemp
 pub use Rattle.checker_rules.specs.Canonical.{canonical, same_list, var_bound}
 pub use Rattle.checker_rules.specs.Check.{check, ready, apply_pending}
 pub use Rattle.checker_rules.specs.CheckedSteps.{NamedStep, checked_failed_assumptions, named_in}
-pub use Rattle.checker_rules.specs.CheckedSteps.{checked_at_clause, checked_model, checked_user_var, checked_assumptions}
+pub use Rattle.checker_rules.specs.CheckedSteps.{checked_at_clause, checked_user_var, checked_assumptions}
 pub use Rattle.checker_rules.specs.DeleteVar.{holds_var, is_conflict_on, free_var, forget_var}
 pub use Rattle.checker_rules.specs.Emits.{Emits, emits_input, EmitsRefused, emits_deletion, emits_lowered, previous_id, emits_closing}
 pub use Rattle.checker_rules.specs.Emits.{emits_irredundant, EmitsAccepted, EmitsBy, is_only_redundant, emits_unit}
-pub use Rattle.checker_rules.specs.KnownVars.{some_not_sampling, know_clause, know, is_known, is_sample, known_of}
+pub use Rattle.checker_rules.specs.KnownVars.{some_not_sampling, know_clause, know, is_sample, known_of}
 pub use Rattle.checker_rules.specs.KnownVars.{set_known}
 pub use Rattle.checker_rules.specs.Outcome.{Cause, Outcome, accept, count_exhausted, ids_exhausted, not_sampling, refuse}
 pub use Rattle.checker_rules.specs.Outcome.{tautology, and_then}
-pub use Rattle.checker_rules.specs.Outcome.{and_then_by, deleted_var_has_clauses, deleted_var_named, model_after_unsat, model_against_itself}
-pub use Rattle.checker_rules.specs.Outcome.{model_against_unit, model_misses_assumption, model_misses_clause, no_name_to_remove}
+pub use Rattle.checker_rules.specs.Outcome.{and_then_by, deleted_var_has_clauses, deleted_var_named, model_after_unsat}
+pub use Rattle.checker_rules.specs.Outcome.{no_name_to_remove}
 pub use Rattle.checker_rules.specs.Outcome.{steps_exhausted, hash_bits}
 pub use Rattle.checker_rules.specs.State.{State, Stored, StoredUnit, unit_of, Known, hide, sample, witness}
 pub use Rattle.checker_rules.specs.Step.{add_clause, failed_assumptions, Justification, Step, by_redundant, by_satisfied, by_simplified}
@@ -31,7 +31,7 @@ pub use Rattle.checker_rules.specs.Step.{assumptions, change_hash_bits}
 pub use Rattle.checker_rules.specs.Steps.{step, new_state}
 pub use Rattle.checker_rules.specs.Store.{count_limit, count_of, is_stored, id_limit, id_of, stands, store, is_gone, take_id}
 pub use Rattle.checker_rules.specs.Traced.{check_trace, traced, traced_when, traced_units}
-pub use Rattle.checker_rules.specs.Transcript.{known_at, TranscriptStep, image, image_of}
+pub use Rattle.checker_rules.specs.Transcript.{known_at, TranscriptStep, image}
 pub use Rattle.checker_rules.specs.WellFormed.{are_apart, WellFormed, is_fine}
 pub use Rattle.checker_rules.proofs.Entries.{rise_next, canonical-is}
 pub use Rattle.checker_rules.proofs.RanLemmas.{both_ran_append, both_ran_line, both_ran_nil, both_ran_alone, both_ran_quiet}
@@ -43,7 +43,7 @@ pub use Rattle.sat_formula.specs.Vars.{indexes_of, index_of}
 pub use Rattle.proof_bytes.specs.NextStep.{view, why}
 pub use Rattle.checker_parts.specs.Causes.{cause_of}
 pub use Rattle.checker_parts.specs.CheckedSteps.{transcripts_of, told, transcript_of}
-pub use Rattle.checker_parts.specs.Faults.{AnswersOutcome, UnlessStopped, IsAnswerOf, IsErrorOf, has_stopped, IsFaultOrMemory}
+pub use Rattle.checker_parts.specs.Faults.{AnswersOutcome, UnlessStopped, IsErrorOf, IsFaultOrMemory}
 pub use Rattle.checker_parts.specs.declared.error.StepFault.{StepFault}
 pub use Rattle.checker_parts.specs.declared.error.StepFault.TheVariants.{Refused, Processor, OutOfMemory}
 pub use Rattle.checker_parts.proofs.Rising.{canonical_itself, rising_canonical, rising_is, rising_sound}

@@ -1,9 +1,9 @@
 -- The step that deletes a clause, part by part.
-use Rattle.std.proofs.Common.{◌≡◌, ℕ, ◌-◌, Bool, true, false, cond, not, eqb, List, [], Option, None, Some, Ok, Err, is_some, sym, ap, ◌∙◌, subst, arith}
+use Rattle.std.proofs.Common.{◌≡◌, ℕ, ◌-◌, Bool, true, false, cond, not, List, [], Option, None, Some, Ok, Err, is_some, sym, ap, ◌∙◌, subst, arith}
 use Rattle.checker_steps.proofs.Common.{list_all, common_steps, is_tautology, canonical}
 use Rattle.checker_steps.proofs.Common.{Emits, EmitsRefused, emits_deletion, emits_lowered, previous_id}
 use Rattle.checker_steps.proofs.Common.{refuse, tautology, State, Justification, Step, by_redundant, by_satisfied}
-use Rattle.checker_steps.proofs.Common.{by_simplified, delete_clause, step, count_of, is_stored, are_apart, step-delete_clause}
+use Rattle.checker_steps.proofs.Common.{by_simplified, delete_clause, step, are_apart, step-delete_clause}
 use Rattle.checker_steps.proofs.Common.{AnswersOutcome, UnlessStopped, delete_fault, is_whole, answers-refuse, Listeners, Listens, ListensImage}
 use Rattle.checker_steps.proofs.Common.{DeliveredList}
 use Rattle.checker_rules.specs.DeleteClause.{delete_justified, forget, justified}
@@ -43,15 +43,12 @@ pub unless-fault : (P : Type 0) (f : DeleteFault) (r : Bool) → UnlessOutOfMemo
 unless-fault P f r p = grind arith
 
 -- what the deletion delivers on is what the rules emit
-stored_part : (r : Bool) (c : List ℕ) (s : State) → (delete_justified r c s).refused ≡ None → (is_stored c s.clauses ≡ true) × (eqb (count_of r c s.clauses) 0 ≡ false)
-stored_part r c s h = (grind (arith, h), grind (arith, h))
-
 module _ (c : List ℕ) (s : State) (apart : are_apart s.clauses ≡ true) (whole : list_all is_whole s.clauses ≡ true) where
   emits-redundant : (id : ℕ) (t : State) (did : DeleteClauseResult) → Deletes c true (forget s) t id did → deletion_steps s.known None did id c ≡ emits_deletion s by_redundant c
-  emits-redundant id t did d = grind (arith, stored_part, is_stored-lowered)
+  emits-redundant id t did d = grind (arith, is_stored-lowered)
 
   emits-irredundant : (id n : ℕ) (t : State) (did : DeleteClauseResult) → Deletes c false (forget s) t id did → deletion_steps s.known (Some n) did id c ≡ emits_lowered s c n
-  emits-irredundant id n t did d = grind (arith, common_steps, stored_part, is_stored-lowered)
+  emits-irredundant id n t did d = grind (arith, common_steps, is_stored-lowered)
 
   emits-by : (j : Justification) (id : ℕ) (t : State) (did : DeleteClauseResult) → Deletes c (of_redundant j) (forget s) t id did →
       deletion_steps s.known (implying_id j c s) did id c ≡ emits_deletion s j c

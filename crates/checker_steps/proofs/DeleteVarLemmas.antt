@@ -1,12 +1,11 @@
 -- The step `DeleteVar`, part by part.
-use Rattle.std.proofs.Common.{◌≡◌, ℕ, ◌+◌, ◌*◌, ◌<◌, ◌≤◌, Bool, true, false, cond, ◌||◌, eqb, ltb, nat_lt, List, [], ◌∷◌, get_or, if◌then◌else◌, Option, None, Some}
+use Rattle.std.proofs.Common.{◌≡◌, ℕ, ◌+◌, ◌*◌, ◌<◌, ◌≤◌, Bool, true, false, cond, ◌||◌, eqb, ltb, nat_lt, List, [], ◌∷◌, get_or, Option, None, Some}
 use Rattle.std.proofs.Common.{refl, sym, ap, ◌∙◌, arith, suc, ◌++◌, is_some, ◌⊎◌, Result, Err, ⊎_elim}
 use Rattle.checker_steps.proofs.Common.{list_any, lt-ltb, nat_tests, has, var_of, checked_at_clause, named_in, holds_var, is_conflict_on}
 use Rattle.checker_steps.proofs.Common.{free_var, emits_closing, Emits, know, Cause, Outcome, accept, and_then, and_then_by, deleted_var_has_clauses}
 use Rattle.checker_steps.proofs.Common.{deleted_var_named, refuse, State, Stored, StoredUnit, unit_of, Known, delete_var, step, id_limit, known_at}
 use Rattle.checker_steps.proofs.Common.{step-delete_var, indexes_of, AnswersOutcome, StepFault, Refused, Processor, OutOfMemory, Listeners, Listens}
 use Rattle.checker_steps.proofs.Common.{ListensImage, DeliveredList, DeliveredWhole}
-use Rattle.checker_rules.specs.Hints.{unit_lit}
 use Rattle.clause_store.specs.Counts.{AreCounts, times_held}
 use Rattle.checker_parts.specs.Variables.{known_of_data}
 use Rattle.checker_parts.specs.declared.variables.VarData.{VarData}
@@ -34,22 +33,15 @@ held-var x (e ∷ es) =
 
 -- a variable is held where one of its literals is counted
 module _ (counts : List ℕ) (n x : ℕ) (es : List Stored) (a : AreCounts counts n es) where
-  held-counted : list_any (λ e. holds_var x e.lits) es ≡ (nat_lt 0 (get_or counts (2 * x) 0) || nat_lt 0 (get_or counts (2 * x + 1) 0))
-  held-counted = held-var x es ∙ (λ i. nat_lt 0 (sym (a.held (2 * x)) i) || nat_lt 0 (sym (a.held (2 * x + 1)) i))
-
   held-by : (k l : ℕ) (b : Bool) → k ≡ get_or counts l 0 → l ≡ 2 * x + 0 → nat_lt 0 k ≡ b →
       list_any (λ e. holds_var x e.lits) es ≡ (b || nat_lt 0 (get_or counts (2 * x + 1) 0))
-  held-by k l b e p h = grind (arith, held-counted)
+  held-by k l b e p h = grind (arith, held-var)
 
   pub held-positive : (k l : ℕ) → k ≡ get_or counts l 0 → l ≡ 2 * x + 0 → 0 < k → nat_lt 0 k ≡ list_any (λ e. holds_var x e.lits) es
   held-positive k l e p some = let is : nat_lt 0 k ≡ true = grind (arith, nat_tests, some) in is ∙ sym (held-by k l true e p is)
 
   pub held-negative : (k l k' l' : ℕ) → k ≡ get_or counts l 0 → l ≡ 2 * x + 0 → k ≤ 0 → k' ≡ get_or counts l' 0 → l' ≡ 2 * x + 1 → nat_lt 0 k' ≡ list_any (λ e. holds_var x e.lits) es
   held-negative k l k' l' e p none e' p' = ap (nat_lt 0) (e' ∙ ap (λ m. get_or counts m 0) p') ∙ sym (held-by k l false e p (grind (arith, nat_tests, none)))
-
--- the literal that the value makes true
-pub unit_lit-is : (x : ℕ) (b : Bool) → 2 * x + (if b then 0 else 1) ≡ unit_lit x b
-unit_lit-is x b = grind arith
 
 -- the conflict on the unit
 conflict-none : (u : Option StoredUnit) (p : Option (ℕ × ℕ)) → None ≡ conflict_on u p → is_conflict_on u p ≡ false
@@ -116,10 +108,6 @@ some-indexes_of o = grind arith
 pub named-is : (d : VarData) (k : Known) (b : Bool) → known_of_data d ≡ k → b ≡ is_some d.user_var → is_some k.name ≡ b
 named-is d k b read is = ap (λ (x : Known). is_some x.name) (sym read) ∙ some-indexes_of d.user_var ∙ sym is
 
--- what is emitted hangs on the names and the units alone
-emits_dropped-by : (x : ℕ) (t r : State) → r.units ≡ t.units → r.known ≡ t.known → emits_dropped x r ≡ emits_dropped x t
-emits_dropped-by x t r units known = rw (units, known)
-
 -- a conflict whose closing is refused emits nothing, and one that emits is closed
 close-by : (x : ℕ) (t : State) → ((close_on x t).refused ≡ None) ⊎ (emits_close x t ≡ [])
 close-by x t = grind arith
@@ -153,4 +141,4 @@ module _ {P T : Type 0} (listens : Listens P) (listens_image : ListensImage T)
       r.units ≡ t.units → r.known ≡ t.known → DeliveredWhole (λ es. es ≡ emits_close x t) listens listens_image old mid
       → DeliveredList res (λ es. es ≡ emits_dropped x r) listens listens_image mid new →
       DeliveredList res (Emits s (delete_var x)) listens listens_image old new
-  delivered-dropped res r old mid new closed units known first h = grind (arith, delivered-second, emits_dropped-by, emits)
+  delivered-dropped res r old mid new closed units known first h = grind (arith, delivered-second, emits)

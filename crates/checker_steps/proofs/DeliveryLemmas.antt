@@ -1,5 +1,5 @@
 -- What a call delivers on, put together from the steps that it delivers on.
-use Rattle.std.proofs.Common.{arith, ◌≡◌, List, [], ◌∷◌, ◌++◌, Some, Result, OnOk, IfErr, sym, subst, append_assoc, rules, Ok, Err}
+use Rattle.std.proofs.Common.{arith, ◌≡◌, List, [], ◌∷◌, ◌++◌, Some, Result, OnOk, IfErr, sym, subst, append_assoc, Ok, Err}
 use Rattle.checker_steps.proofs.Common.{NamedStep, TranscriptStep, image, both_ran_append, both_ran_line, both_ran_nil, IsFaultOrMemory, StepFault}
 use Rattle.checker_steps.proofs.Common.{Listeners, Listens, ListensImage, DeliveredList, DeliveredStep}
 use Rattle.checker_steps.proofs.Common.{DeliveredBeginning, DeliveredWhole, RanOver, Refused, Processor, OutOfMemory}

@@ -7,11 +7,11 @@
 --     delivered-unless-memory      where only memory can fail
 --     kept-after      what the parts keep, where the step answers an outcome
 --     quiet-refusal      a refusal that emits nothing delivers nothing on
---     emits-counted, emits-closed, traced-emits      a step counted and not, the closing conflict, and steps with the traces of their checks
+--     emits-closed, traced-emits      the closing conflict, and steps with the traces of their checks
 use Rattle.std.specs.Result.{OnErr, OnOk}
-use Rattle.std.proofs.Common.{◌≡◌, List, Option, None, Some, Result, Err, refl, sym, ap, ◌∙◌, subst, arith, [], ◌∷◌, ◌++◌, ℕ, ◌<◌, true, false, ltb, lt-ltb, rules}
+use Rattle.std.proofs.Common.{◌≡◌, List, Option, None, Some, Result, Err, refl, sym, ap, ◌∙◌, subst, arith, [], ◌∷◌, ◌++◌, ℕ, ◌<◌, false, ltb, lt-ltb}
 use Rattle.std.proofs.Common.{le-ltb, Ok}
-use Rattle.checker_steps.proofs.Common.{EmitsCall, checks, count_step, step_limit, NamedStep, checked_at_clause, named_in, Emits, EmitsAccepted}
+use Rattle.checker_steps.proofs.Common.{EmitsCall, checks, step_limit, NamedStep, checked_at_clause, named_in, Emits, EmitsAccepted}
 use Rattle.checker_steps.proofs.Common.{EmitsBy, EmitsRefused, emits_closing, Cause, Outcome, accept, refuse, State, Known, Step, end_proof, step}
 use Rattle.checker_steps.proofs.Common.{id_limit, traced, WellFormed, steps_keep_form, step-end_proof, cause_of, AnswersOutcome, UnlessStopped}
 use Rattle.checker_steps.proofs.Common.{StepFault, Refused, OutOfMemory, PartsInvariant, state_of, IsStore, Clauses, ClauseHasher}
@@ -123,7 +123,7 @@ module _ {P T : Type 0} (listens : Listens P) (listens_image : ListensImage T) w
       DeliveredWhole (Emits s t) listens listens_image old old
   quiet-refusal s t cause old refused quiet = whole-none listens listens_image (Emits s t) old (emits-refused s t [] cause refused quiet)
 
--- ---- what a step emits, counted and not, and what the closing conflict emits
+-- ---- what a step emits that has no number, and what the closing conflict emits
 
 -- `End` emits nothing
 pub emits-end : (s : State) (t : Step) → t ≡ end_proof → Emits s t []
@@ -132,10 +132,6 @@ emits-end s t e = rw e (emits-accepted s end_proof [] (ap (λ (o : Outcome). o.r
 -- nor does a step without a number
 pub emits-exhausted : (s : State) (t : Step) → ltb s.steps step_limit ≡ false → EmitsCall s (checks t) []
 emits-exhausted s t e = rw e refl
-
--- a counted step
-pub emits-counted : (s : State) (t : Step) (es : List NamedStep) → ltb s.steps step_limit ≡ true → Emits (count_step s) t es → EmitsCall s (checks t) es
-emits-counted s t es e h = rw e h
 
 -- the closing conflict
 pub emits-closed : (s : State) (id first second : ℕ) → s.conflict ≡ Some (first, second) → s.next < id_limit → id ≡ s.next →

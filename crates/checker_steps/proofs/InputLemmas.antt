@@ -1,8 +1,8 @@
 -- Storing an input clause, and what it emits.
 use Rattle.std.proofs.Common.{◌≡◌, ℕ, ◌+◌, ◌-◌, ◌<◌, ◌≤◌, Bool, true, false, cond, not, ◌||◌, leb, List, [], ◌∷◌, length, append-nil, Err, refl, ap, ◌∙◌, arith, lt-ltb}
 use Rattle.checker_steps.proofs.Common.{list_all, and_parts, leb-false, leb-true, not-true, is_canonical, is_tautology, same_list}
-use Rattle.checker_steps.proofs.Common.{var_bound, emits_input, is_only_redundant, know_clause, Cause, accept, count_exhausted}
-use Rattle.checker_steps.proofs.Common.{ids_exhausted, refuse, State, Stored, count_limit, count_of, id_limit, is_gone, is_stored, stands, take_id}
+use Rattle.checker_steps.proofs.Common.{var_bound, emits_input, is_only_redundant, know_clause, accept, count_exhausted}
+use Rattle.checker_steps.proofs.Common.{refuse, State, Stored, count_limit, count_of, id_limit, is_gone, is_stored, stands, take_id}
 use Rattle.checker_steps.proofs.Common.{WellFormed, is_fine, rise_next, AnswersStore, IsStore, Stores, store_counters, stored_list, Clauses}
 use Rattle.checker_steps.proofs.Common.{StoreFault, ClauseHasher, IsFaultOf}
 use Rattle.std.proofs.Math.Bool.{and-false}
@@ -26,15 +26,8 @@ module _ (c : List ℕ) (s : State) (room : s.next < id_limit) where
   by_count : (b : Bool) → leb count_limit (count_of false c s.clauses) ≡ b → store_counters c false s ≡ cond b (refuse count_exhausted s) (accept s)
   by_count b e = rw (lt-ltb s.next id_limit room, and-false (not (stands c s)), e) refl
 
-  -- those that refuse do so for the copies
-  pub refused-full : (cause : Cause) → store_counters c false s ≡ refuse cause s → count_limit ≤ count_of false c s.clauses
-  refused-full cause e = grind (arith, leb-true, by_count)
-
-  pub refused-no_ids : store_counters c false s ≡ refuse ids_exhausted s → ⊥
-  refused-no_ids e = grind (arith, by_count)
-
   pub accepted-few : store_counters c false s ≡ accept s → count_of false c s.clauses < count_limit
-  accepted-few e = grind (arith, by_count, leb-false)
+  accepted-few e = grind (arith, lt-ltb, and-false, leb-false)
 
 -- what was stored has known variables, and is no tautology
 pub stored-fine : (n : ℕ) (c : List ℕ) (es : List Stored) → list_all (is_fine n) es ≡ true → is_stored c es ≡ true → (is_tautology c ≡ false) × (var_bound c ≤ n)
@@ -74,7 +67,7 @@ fault-known fault c s t form h = grind (arith, count_limit-some, know-stored, so
 
 -- what storing refused, in the words of the step
 pub fault-stored : (fault : StoreFault) (c : List ℕ) (s t : State) → s.next < id_limit → AnswersStore (Err fault) c false s t → IsFaultOf fault c s t
-fault-stored fault c s t room h = grind (arith, refused-no_ids, refused-full)
+fault-stored fault c s t room h = grind (arith, lt-ltb, and-false, leb-true)
 
 -- what the answer of storing tells of the clause before
 abbrev pub Tells : StoreClauseResult → (stood only_redundant : Bool) → Type 0

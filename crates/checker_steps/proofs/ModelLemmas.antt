@@ -1,10 +1,10 @@
 -- The step of a model, by its cause.
-use Rattle.std.proofs.Common.{◌≡◌, ℕ, true, false, cond, List, [], ◌∷◌, Option, None, Some, refl, sym, ap, ◌∙◌, subst, arith, Bool, not, ◌&&◌, ◌||◌, eqb}
-use Rattle.checker_steps.proofs.Common.{list_all, add_lit, has, negate, var_of, checked_model, named_in, Emits, EmitsBy, is_known, Cause, Outcome}
-use Rattle.checker_steps.proofs.Common.{accept, and_then_by, model_after_unsat, refuse, model_against_itself, model_against_unit}
-use Rattle.checker_steps.proofs.Common.{model_misses_assumption, model_misses_clause, State, model, step, step-model, MarksOnly, is_marked}
-use Rattle.checker_steps.proofs.Common.{first_cause, list_cause, has_marked, lit_cause}
-use Rattle.checker_rules.specs.Model.{model_cause, model_whole, is_false_by_unit}
+use Rattle.std.proofs.Common.{◌≡◌, ℕ, true, false, cond, List, [], ◌∷◌, Option, None, Some, refl, ap, ◌∙◌, arith, Bool, ◌||◌}
+use Rattle.checker_steps.proofs.Common.{add_lit, has, Cause, Outcome}
+use Rattle.checker_steps.proofs.Common.{accept, and_then_by, model_after_unsat, refuse}
+use Rattle.checker_steps.proofs.Common.{State, model, step, step-model, MarksOnly, is_marked}
+use Rattle.checker_steps.proofs.Common.{first_cause, list_cause, lit_cause}
+use Rattle.checker_rules.specs.Model.{model_cause, model_whole}
 
 -- the step
 abbrev by_cause : Option Cause → State → Outcome
@@ -23,21 +23,7 @@ model-accepts s m live e = model-by s m live ∙ ap (λ o. by_cause o s) e
 pub model-refuses : (s : State) (m : List ℕ) (cause : Cause) → s.unsat ≡ false → list_cause s m ≡ Some cause → step s (model m) ≡ refuse cause s
 model-refuses s m cause live h = model-by s m live ∙ ap (λ o. by_cause o s) h
 
--- a model that is accepted emits itself
-pub model-emits : (s : State) (m : List ℕ) → step s (model m) ≡ accept s → Emits s (model m) (named_in s (checked_model m) ∷ [])
-model-emits s m is = subst (λ x. EmitsBy x s (model m) (named_in s (checked_model m) ∷ [])) (sym (ap (λ (o : Outcome). o.refused) is)) refl
-
 -- ---- judging the literals of a model one after the other, those before being marked
-
--- one literal
-pub lit-against_unit : (s : State) (f : ℕ → Bool) (l : ℕ) → is_known s (var_of l) ≡ true → is_false_by_unit s.units l ≡ true → lit_cause s f l ≡ Some model_against_unit
-lit-against_unit s f l known false_by = rw (known, false_by)
-
-pub lit-against_itself : (s : State) (f : ℕ → Bool) (l : ℕ) → is_known s (var_of l) ≡ true → is_false_by_unit s.units l ≡ false → f (negate l) ≡ true → lit_cause s f l ≡ Some model_against_itself
-lit-against_itself s f l known false_by opposite = rw (known, false_by, opposite) refl
-
-pub lit-none : (s : State) (f : ℕ → Bool) (l : ℕ) → is_known s (var_of l) ≡ true → is_false_by_unit s.units l ≡ false → f (negate l) ≡ false → lit_cause s f l ≡ None
-lit-none s f l known false_by opposite = rw (known, false_by, opposite) refl
 
 -- the first cause among the literals, those of a set being listed
 abbrev pub causes_from : State → (ℕ → Bool) → List ℕ → Option Cause
@@ -69,21 +55,10 @@ marked-turn f g l ls k marked = grind (arith, marked)
 pub marked-all : (f : ℕ → Bool) (whole ls : List ℕ) (k : ℕ) → ls ≡ [] → (f k || has k ls) ≡ has k whole → f k ≡ has k whole
 marked-all f whole ls k done h = grind (arith, done, h)
 
--- what a list misses, its literals alone being marked
-pub judged-whole : (s : State) (f : ℕ → Bool) (m : List ℕ) (a b : Bool) →
-    ((k : ℕ) → f k ≡ has k m) → model_cause s [] m ≡ None →
-    a ≡ list_all f s.assumed → b ≡ list_all (has_marked f) s.clauses →
-    list_cause s m ≡ cond (not a) (Some model_misses_assumption)
-    (cond (not b) (Some model_misses_clause) None)
-judged-whole s f m a b marked none assumed clauses = grind arith
-
 -- only what is listed is marked
 pub marks_only : (marks : List Bool) (whole ls : List ℕ) → ((k : ℕ) → (is_marked marks k || has k ls) ≡ has k whole) → MarksOnly marks whole
 marks_only marks whole ls marked = λ k away. grind (arith, marked k, away)
 
 -- the marks that are still to be taken back, and those of an empty list
-pub unmarked-turn : (old new : List Bool) (l : ℕ) (ls : List ℕ) → MarksOnly old (l ∷ ls) → ((k : ℕ) → is_marked new k ≡ (not (eqb k l) && is_marked old k)) → MarksOnly new ls
-unmarked-turn old new l ls only taken = λ k away. grind (arith, taken k, only k, away)
-
 pub unmarked-all : (marks : List Bool) (ls : List ℕ) → ls ≡ [] → MarksOnly marks ls → (k : ℕ) → is_marked marks k ≡ false
 unmarked-all marks ls done only k = only k (ap (has k) done)

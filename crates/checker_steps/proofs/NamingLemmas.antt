@@ -34,7 +34,7 @@ name_shown x u samples names = record { step = checked_user_var x (Some (record 
 pub emits-name : (s r : State) (x u : ℕ) (samples : Bool) (names : List Known) → r ≡ know (suc x) s → naming_cause r.known x u ≡ None →
     samples ≡ is_sample (known_of r x).mode → names ≡ (named x u r).known
     → Emits s (user_var_name x (Some u)) (name_shown x u samples names ∷ [])
-emits-name s r x u samples names e h mode is = grind (arith, name-given, step-user_var_name, emits-accepted)
+emits-name s r x u samples names e h mode is = grind (arith, name-step, step-user_var_name, emits-accepted)
 
 remove-step : (s r : State) (x : ℕ) (none : Bool) → r ≡ know (suc x) s → is_none (known_of r x).name ≡ none →
     step s (user_var_name x None) ≡ cond none (refuse no_name_to_remove r) (accept (hidden x r))

@@ -1,9 +1,9 @@
 -- Steps counted and not, and `End`.
-use Rattle.std.proofs.Common.{◌≡◌, ℕ, ◌<◌, ◌≤◌, ◌-◌, ◌^◌, true, false, ltb, lt-ltb, le-ltb, Result, Ok, Err, refl, arith}
-use Rattle.checker_steps.proofs.Common.{attempt, count_step, steps_exhausted, State, Step, end_proof, step, step-end_proof, AnswersOutcome, StepFault}
+use Rattle.std.proofs.Common.{◌≡◌, ℕ, ◌<◌, ◌≤◌, ◌-◌, ◌^◌, true, false, ltb, lt-ltb, le-ltb, Ok, Err, refl, arith}
+use Rattle.checker_steps.proofs.Common.{attempt, steps_exhausted, State, Step, end_proof, step, step-end_proof, AnswersOutcome}
 use Rattle.checker_steps.proofs.Common.{Refused, answers-refuse}
 use Rattle.checker_rules.specs.Calls.{step_limit}
-use Rattle.checker_rules.proofs.Openings.{attempt-counted, attempt-exhausted}
+use Rattle.checker_rules.proofs.Openings.{attempt-exhausted}
 use Rattle.checker_parts.specs.declared.error.CheckCause.TheVariants.{StepsExhausted}
 use Rattle.checker_steps.proofs.EmissionLemmas.{answers-accept}
 
@@ -26,7 +26,3 @@ not-exhausted n fits some none = some (omega (arith, fits, none))
 
 pub attempt-refused : (s : State) (t : Step) → ltb s.steps step_limit ≡ false → AnswersOutcome {A = Unit {0}} (Err (Refused StepsExhausted)) (attempt s t) s
 attempt-refused s t none = answers-refuse steps_exhausted (attempt s t) s s (attempt-exhausted s t none) refl
-
--- a counted step
-pub counted-answers : (r : Result (Unit {0}) StepFault) (s u : State) (t : Step) → ltb s.steps step_limit ≡ true → AnswersOutcome r (step (count_step s) t) u → AnswersOutcome r (attempt s t) u
-counted-answers r s u t room h = rw (attempt-counted s t room) h

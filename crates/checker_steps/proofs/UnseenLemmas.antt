@@ -1,12 +1,7 @@
 -- Steps that transcripts can't tell apart, where no processor is registered.
 use Rattle.std.proofs.Common.{◌≡◌, ◌==◌, ℕ, Bool, true, not, List, [], ◌∷◌, length, Result, refl, ap, ◌∙◌, subst, arith}
-use Rattle.checker_steps.proofs.Common.{ne_eqb, NamedStep, checked_at_clause, Known, image, image_of, StepFault, Listeners, Listens, ListensImage}
+use Rattle.checker_steps.proofs.Common.{ne_eqb, NamedStep, image, StepFault, Listeners, Listens, ListensImage}
 use Rattle.checker_steps.proofs.Common.{DeliveredStep, IsTraceFor}
-
--- a derived clause with other propagations
-pub image-at_clause : (names : List Known) (id : ℕ) (redundant : Bool) (c ids told : List ℕ) →
-    image_of names (checked_at_clause id redundant c told) ≡ image_of names (checked_at_clause id redundant c ids)
-image-at_clause names id redundant c ids told = grind arith
 
 module _ {P T : Type 0} (listens : Listens P) (listens_image : ListensImage T) where
   -- delivered to these boxes

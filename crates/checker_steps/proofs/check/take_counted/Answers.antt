@@ -1,8 +1,9 @@
+use Rattle.checker_rules.proofs.Openings.{attempt-counted}
 use Rattle.checker_steps.proofs.Common.{common_steps, both_ran_nil, view, context_state}
 use Rattle.std.proofs.Common.{[], arith}
-use Rattle.checker_steps.proofs.EmissionLemmas.{emits-counted, emits-exhausted}
+use Rattle.checker_steps.proofs.EmissionLemmas.{emits-exhausted}
 use Rattle.checker_steps.proofs.DeliveryLemmas.{delivered-weaker}
-use Rattle.checker_steps.proofs.StepAnswers.{attempt-refused, counted-answers, no-number, not-exhausted, some-number}
+use Rattle.checker_steps.proofs.StepAnswers.{attempt-refused, no-number, not-exhausted, some-number}
 use Rattle.checker_steps.proofs.check.take_counted.Goals as goal
 
 pub returns-then-ctx-clause-step : goal.returns-then-ctx-clause-step
@@ -15,10 +16,10 @@ returns-then-ctx-clause-delivered g c =
     ([], emits-exhausted s t (no-number ctx.checker_state.step c.if-ctx.true), both_ran_nil _ _ _ _)
 
 pub returns-clause-step : goal.returns-clause-step
-returns-clause-step g c = grind (arith, common_steps, counted-answers, some-number)
+returns-clause-step g c = grind (arith, common_steps, attempt-counted, some-number)
 
 pub returns-clause-delivered : goal.returns-clause-delivered
-returns-clause-delivered g c = grind (arith, common_steps, delivered-weaker, emits-counted, some-number)
+returns-clause-delivered g c = grind (arith, common_steps, delivered-weaker, some-number)
 
 pub returns-clause-exhausted : goal.returns-clause-exhausted
 returns-clause-exhausted g c = λ none. absurd (not-exhausted c.args.ctx.now.checker_state.step (omega arith) c.if-ctx.false none)

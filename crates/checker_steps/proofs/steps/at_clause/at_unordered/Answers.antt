@@ -1,6 +1,6 @@
-use Rattle.checker_steps.proofs.Common.{common_steps, is_canonical, is_tautology, tautology, at_clause, step, canonical-is, both_ran_nil}
+use Rattle.checker_steps.proofs.Common.{is_canonical, is_tautology, tautology, at_clause, step, canonical-is, both_ran_nil}
 use Rattle.checker_steps.proofs.Common.{answers-refuse, context_state}
-use Rattle.std.proofs.Common.{[], sym, ap, ◌∙◌, refl, arith}
+use Rattle.std.proofs.Common.{[], sym, ap, ◌∙◌, refl}
 use Rattle.checker_steps.proofs.DerivedLemmas.{at-tautology}
 use Rattle.checker_steps.proofs.EmissionLemmas.{emits-refused}
 use Rattle.checker_steps.proofs.steps.at_clause.at_unordered.Goals as goal
@@ -23,6 +23,3 @@ at_canonical-taken-requires-clause-canonical g c =
 pub at_canonical-taken-requires-clause-no_tautology : goal.at_canonical-taken-requires-clause-no_tautology
 at_canonical-taken-requires-clause-no_tautology g c =
     ap is_tautology (c.deref.ensures.value ∙ ap (λ v. v.items) c.replace-clause.ensures.value ∙ c.in-Ok.ensures.items) ∙ sym c.in-Ok.ensures.tautology ∙ c.if-tautology.false
-
-pub returns : goal.returns
-returns g c = grind (arith, common_steps)

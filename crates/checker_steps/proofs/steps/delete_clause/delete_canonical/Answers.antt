@@ -1,6 +1,6 @@
 use Rattle.checker_steps.proofs.Common.{is_tautology, canonical, delete_clause, why, canonical_itself, CheckerState}
 use Rattle.checker_steps.proofs.Common.{answers-refuse, kept-answer, context_state, delete_fault}
-use Rattle.std.proofs.Common.{◌≡◌, ℕ, List, None, refl, sym, ap, ◌∙◌, arith, Err}
+use Rattle.std.proofs.Common.{◌≡◌, ℕ, List, None, refl, sym, ap, ◌∙◌, Err}
 use Rattle.checker_steps.proofs.EmissionLemmas.{quiet-refusal, answers-accept, answers-all, delivered-all, unless-stopped, emits-accepted}
 use Rattle.checker_steps.proofs.DeleteStepLemmas.{answers-fault, delete-asked, delete-justified, emits-deleted, delivered-fault, unless-fault}
 use Rattle.checker_steps.proofs.steps.delete_clause.delete_canonical.Goals as goal

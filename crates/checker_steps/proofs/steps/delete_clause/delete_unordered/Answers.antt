@@ -1,5 +1,5 @@
-use Rattle.checker_steps.proofs.Common.{common_steps, is_canonical, is_tautology, canonical-is, why, answers-refuse, context_state}
-use Rattle.std.proofs.Common.{refl, sym, ap, ◌∙◌, arith}
+use Rattle.checker_steps.proofs.Common.{is_canonical, is_tautology, canonical-is, why, answers-refuse, context_state}
+use Rattle.std.proofs.Common.{refl, sym, ap, ◌∙◌}
 use Rattle.checker_steps.proofs.EmissionLemmas.{quiet-refusal}
 use Rattle.checker_steps.proofs.DeleteStepLemmas.{delete-tautology}
 use Rattle.checker_steps.proofs.steps.delete_clause.delete_unordered.Goals as goal
@@ -16,6 +16,3 @@ delete_canonical-deleted-requires-clause-canonical g c =
 pub delete_canonical-deleted-requires-clause-no_tautology : goal.delete_canonical-deleted-requires-clause-no_tautology
 delete_canonical-deleted-requires-clause-no_tautology g c =
     ap is_tautology (c.deref.ensures.value ∙ ap (λ v. v.items) c.replace-clause.ensures.value ∙ c.in-Ok.ensures.items) ∙ sym c.in-Ok.ensures.tautology ∙ c.if-tautology.false
-
-pub returns : goal.returns
-returns g c = grind (arith, common_steps)

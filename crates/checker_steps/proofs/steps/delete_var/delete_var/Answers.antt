@@ -1,6 +1,6 @@
 use Rattle.checker_steps.proofs.Common.{err_from_is_err_and, is_store-known}
 use Rattle.checker_steps.proofs.Common.{answers-part, answers-refuse, kept-answer, free_var, index_of, state_of, stored_units, listeners_of, StepFault}
-use Rattle.std.proofs.Common.{Err, sym, ◌∙◌, refl, Ok, ap, arith, Result}
+use Rattle.std.proofs.Common.{Err, sym, ◌∙◌, refl, Ok, ap, Result}
 use Rattle.checker_steps.proofs.EmissionLemmas.{kept-after, quiet-refusal, answers-accept, unless-stopped}
 use Rattle.checker_steps.proofs.DeleteVarLemmas.{delete-closed, delete-held, delete-named, delete-unclosed, delivered-dropped, delivered-unclosed, named-is}
 use Rattle.checker_steps.proofs.steps.delete_var.delete_var.Goals as goal

@@ -2,7 +2,6 @@ use Rattle.checker_steps.proofs.Common.{common_steps, emits_unit, index_of, stat
 use Rattle.std.proofs.Common.{None, sym, ap, arith}
 use Rattle.clause_store.proofs.StoreLemmas.{unit_is}
 use Rattle.checker_steps.proofs.DeliveryLemmas.{whole-none}
-use Rattle.checker_steps.proofs.DeleteVarLemmas.{unit_lit-is}
 use Rattle.checker_steps.proofs.DeliveryLemmas.{delivered-one}
 use Rattle.checker_steps.proofs.steps.delete_var.emit_unit.Goals as goal
 
@@ -12,4 +11,4 @@ returns-in_default-clause-delivered g c st h =
     whole-none g.P.ProofProcessor g.T.ProofTranscriptProcessor _ _ (sym (ap (emits_unit s x) (unit_is c.args.clauses.now.unit_clauses None c.index.result x c.in_default.ensures c.index.ensures.value)))
 
 pub returns-clause-delivered : goal.returns-clause-delivered
-returns-clause-delivered g c st h = grind (arith, common_steps, unit_lit-is, unit_is, delivered-one)
+returns-clause-delivered g c st h = grind (arith, common_steps, unit_is, delivered-one)

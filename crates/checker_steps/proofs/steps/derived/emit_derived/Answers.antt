@@ -2,11 +2,11 @@ use Rattle.checker_steps.proofs.Common.{common_steps, listeners_of}
 use Rattle.std.proofs.Common.{arith}
 use Rattle.checker_steps.proofs.EmissionLemmas.{all-one}
 use Rattle.checker_steps.proofs.DeliveryLemmas.{ran-none}
-use Rattle.checker_steps.proofs.UnseenLemmas.{delivers-seen, image-at_clause}
+use Rattle.checker_steps.proofs.UnseenLemmas.{delivers-seen}
 use Rattle.checker_steps.proofs.steps.derived.emit_derived.Goals as goal
 
 pub returns-in-New : goal.returns-in-New
-returns-in-New g c = grind (arith, common_steps, all-one, delivers-seen, image-at_clause)
+returns-in-New g c = grind (arith, common_steps, all-one, delivers-seen)
 
 pub returns-in-NewlyIrredundant : goal.returns-in-NewlyIrredundant
 returns-in-NewlyIrredundant g c = λ ids seen.

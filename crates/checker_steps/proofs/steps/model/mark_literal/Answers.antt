@@ -1,13 +1,12 @@
 use Rattle.checker_steps.proofs.Common.{lt-ltb, common_steps}
 use Rattle.std.proofs.Common.{arith}
-use Rattle.checker_steps.proofs.ModelLemmas.{lit-against_itself, lit-against_unit, lit-none}
 use Rattle.checker_steps.proofs.steps.model.mark_literal.Goals as goal
 
 pub returns-then-is_false-clause-cause : goal.returns-then-is_false-clause-cause
-returns-then-is_false-clause-cause c st h = grind (arith, common_steps, lt-ltb, lit-against_unit)
+returns-then-is_false-clause-cause c st h = grind (arith, common_steps, lt-ltb)
 
 pub returns-then-is_marked-clause-cause : goal.returns-then-is_marked-clause-cause
-returns-then-is_marked-clause-cause c st h = grind (arith, common_steps, lt-ltb, lit-against_itself)
+returns-then-is_marked-clause-cause c st h = grind (arith, common_steps, lt-ltb)
 
 pub returns-clause-cause : goal.returns-clause-cause
-returns-clause-cause c st h = grind (arith, common_steps, lt-ltb, lit-none)
+returns-clause-cause c st h = grind (arith, common_steps, lt-ltb)

@@ -1,5 +1,5 @@
 use Rattle.checker_steps.proofs.Common.{stored_list, is_marked}
-use Rattle.std.proofs.Common.{false, true, sym, ap, ◌∙◌, subst, arith, rules}
+use Rattle.std.proofs.Common.{false, true, sym, ap, ◌∙◌, subst}
 use Rattle.clause_store.proofs.GatheredLemmas.{walked_within}
 use Rattle.checker_steps.proofs.MetLemmas.{AllWithin, all_met, met-by, met-stored, within-first, within-rest}
 use Rattle.checker_steps.proofs.steps.model.meets_clauses.Goals as goal

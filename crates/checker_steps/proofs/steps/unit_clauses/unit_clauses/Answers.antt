@@ -1,5 +1,5 @@
 use Rattle.checker_steps.proofs.Common.{err_from_is_err_and, kept-answer, context_state, listeners_of, unit_clauses}
-use Rattle.std.proofs.Common.{Err, rules}
+use Rattle.std.proofs.Common.{Err}
 use Rattle.std.proofs.Math.ListN.{drop_of_length-le}
 use Rattle.checker_steps.proofs.UnitsSoFar.{drop-pair, form-unit, so-far-answer, so-far-delivered, so-far-more, so-far-none, so-far-refused, so-far-stopped}
 use Rattle.checker_steps.proofs.steps.unit_clauses.unit_clauses.Goals as goal
