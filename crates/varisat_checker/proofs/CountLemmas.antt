@@ -1,12 +1,12 @@
 -- Steps leave the step counter and whether the checker has failed; a counted one raises the counter by one.
 use Rattle.std.proofs.Common.{◌≡◌, ℕ, ◌+◌, Bool, true, false, cond, ltb, List, [], ◌∷◌, Option, None, Some, refl, ap, ◌∙◌, rules, arith}
-use Rattle.varisat_checker.proofs.Common.{add_clauses, attempt, count_step, step_limit, Cause, Outcome, and_then_by, State, StoredUnit, Justification}
+use Rattle.varisat_checker.proofs.Common.{add_clauses, attempt, count_step, step_limit, Cause, Outcome, and_then_by, State, Justification}
 use Rattle.varisat_checker.proofs.Common.{Step, add_clause, at_clause, by_redundant, unit_clauses, user_var_name}
 use Rattle.checker_rules.specs.AtClause.{store_derived}
 use Rattle.checker_rules.specs.Check.{apply_if_named, ready}
 use Rattle.checker_rules.specs.DeleteClause.{justified}
 use Rattle.checker_rules.specs.Steps.{step}
-use Rattle.checker_rules.specs.Store.{store, store_unit}
+use Rattle.checker_rules.specs.Store.{store}
 use Rattle.checker_rules.specs.UnitClauses.{step_unit, step_unit_clauses}
 use Rattle.checker_rules.proofs.Openings.{attempt-counted}
 
@@ -27,23 +27,19 @@ outcome-same s false o p h k = k
 fields-same : (s t : State) → t.steps ≡ s.steps → t.failed ≡ s.failed → Same s t
 fields-same s t e f = record { steps = e; failed = f }
 
-unit-same : (l : ℕ) (o : Option StoredUnit) (s r : State) → Same s r → Same s (store_unit l o r)
-unit-same l None s r h = fields-same s _ h.steps h.failed
-unit-same l (Some u) s r h = search (rules, branch-same, fields-same, h.steps, h.failed)
-
 store-same : (c : List ℕ) (redundant : Bool) (s r : State) → Same s r → Same s (store c redundant r)
-store-same c redundant s r h = grind (arith, fields-same, unit-same, branch-same)
+store-same c redundant s r h = grind (arith, fields-same)
 
 derived-same : (c : List ℕ) (redundant : Bool) (s r : State) → Same s r → Same s (store_derived c redundant r)
 derived-same c true s r h = store-same c true s r h
 derived-same c false s r h = let k = store-same c false s r h in fields-same s _ k.steps k.failed
 
 ready-same : (s : State) (c : List ℕ) → Same s (ready s c)
-ready-same s c = let k : Same s (apply_if_named s) = search (rules, branch-same, fields-same) in fields-same s _ k.steps k.failed
+ready-same s c = let k : Same s (apply_if_named s) = search (rules, fields-same) in fields-same s _ k.steps k.failed
 
 justified-same : (j : Justification) (c : List ℕ) (s : State) → Same s (justified j c s).after
-justified-same by_redundant c s = search (rules, outcome-same, fields-same)
-justified-same _ c s = search (rules, outcome-same, fields-same)
+justified-same by_redundant c s = search (rules, fields-same)
+justified-same _ c s = search (rules, fields-same)
 
 then-same : (s r : State) (refused : Option Cause) (next : State → Outcome) → Same s r → Same s (next r).after →
     Same s (and_then_by refused r next).after
@@ -51,7 +47,7 @@ then-same s r None next h k = k
 then-same s r (Some cause) next h k = h
 
 unit_step-same : (s r : State) (p : ℕ × ℕ) → Same s r → Same s (step_unit r p).after
-unit_step-same s r p h = grind (arith, ready-same, fields-same, outcome-same, unit-same)
+unit_step-same s r p h = grind (arith, fields-same)
 
 units-same : (s r : State) (ps : List (ℕ × ℕ)) → Same s r → Same s (step_unit_clauses r ps).after
 units-same s r [] h = h

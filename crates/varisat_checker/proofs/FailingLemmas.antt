@@ -6,9 +6,9 @@
 --     entails-call, entails-on      after one call over parts, and where the checker did not fail at it
 --     proof-run      a run over parts as one of the checker, which goes on after it or fails
 use Rattle.std.proofs.Common.{◌≡◌, Bool, true, false, None, Result, Ok, Err, OnOk, arith, ℕ, List, Option}
-use Rattle.varisat_checker.proofs.Common.{Call, adds, answer_of, checks, closes, EntailsRedundant, Outcome, State, Step, add_clause, AnswersParts}
+use Rattle.varisat_checker.proofs.Common.{Call, adds, answer_of, checks, closes, EntailsRedundant, Outcome, State, add_clause, AnswersParts}
 use Rattle.varisat_checker.proofs.Common.{AnswersStep, UnlessFailed, UnlessGivenUp, ending, CheckerError, unless_failed, Listeners, Listens}
-use Rattle.varisat_checker.proofs.Common.{ListensImage, EndsProof, PartsRun, ProofRun}
+use Rattle.varisat_checker.proofs.Common.{ListensImage, PartsRun, ProofRun}
 use Rattle.checker_steps.specs.Failing.{has_failed}
 use Rattle.checker_rules.proofs.Keeping.{step_keeps}
 use Rattle.checker_rules.proofs.WholeRuns.{close_keeps, keeps_attempt}
@@ -67,12 +67,8 @@ module _ (s : State) (good : EntailsRedundant s) (call : Call) (r : Answer) (u :
   pub entails-on : {b : Bool} → b ≡ has_failed r → b ≡ false → AnswersParts r (answer_of s call) u → EntailsRedundant u
   entails-on e on h = kept-on r e on (entails-call (went-on r (answer_of s call) u e on h))
 
-ends-moved : (r : Answer) (text : List ℕ) (s : State) (steps : List Step) (s' u : State) → (has_failed r ≡ false → u ≡ s') → EndsProof (ending r) text s steps s' →
-    EndsProof (ending r) text s steps u
-ends-moved r text s steps s' u same h = grind arith
-
 -- the entailment is the checker's own, and of the state after a failure nothing is said
 pub proof-run : {P T : Type 0} {listens : Listens P} {listens_image : ListensImage T}
     {known : Option (List ℕ)} {s : State} {r : Answer} {s' u : State} {old new : Listeners P T} → EntailsRedundant s → (has_failed r ≡ false → u ≡ s') →
     PartsRun known s r s' listens listens_image old new → ProofRun known s r u listens listens_image old new
-proof-run h k p = grind (arith, unless-moved, ends-moved)
+proof-run h k p = grind (arith, unless-moved)

@@ -1,5 +1,4 @@
-use Rattle.varisat_checker.proofs.Common.{common_steps}
-use Rattle.std.proofs.Common.{[], ◌∷◌, ◌++◌, arith}
+use Rattle.std.proofs.Common.{[], ◌∷◌, ◌++◌}
 use Rattle.sat_formula.proofs.Whole.{outcome_left-new}
 use Rattle.whole_formulas.proofs.Telling.{HasTold-more, HasTold-nil, IsLie-ended}
 use Rattle.varisat_checker.specs.Shown.{state}
