@@ -9,7 +9,7 @@ pub use Rattle.std.proofs.lemmas.List.{get_or-append-add, append-nil, append_ass
 pub use Rattle.std.proofs.lemmas.Result.{IfErr-weaker, on_ok_weaker, err_from_is_err_and}
 pub use Rattle.sat_rules.specs.Clauses.{has, is_canonical, is_tautology, negate, var_of, add_lit}
 pub use Rattle.checker_rules.specs.CallEmissions.{EmitsCall}
-pub use Rattle.checker_rules.specs.Calls.{checks, count_step, step_limit, attempt}
+pub use Rattle.checker_rules.specs.Calls.{checks, step_limit, attempt}
 pub use Rattle.checker_rules.specs.Canonical.{canonical, same_list, var_bound}
 pub use Rattle.checker_rules.specs.Check.{check, ready, apply_pending}
 pub use Rattle.checker_rules.specs.CheckedSteps.{NamedStep, checked_failed_assumptions, named_in}

@@ -25,9 +25,6 @@ returns-in_err-mark_literal-clause-cause c st h =
     let cut = drop-at c.args.assignment.now c.loop-lit.lit-index c.lit-item.result c.loop-lit-test.true c.lit-item.is in
     rw (p.1, p.2) (cause-first _ s old _ _ _ (sym (ap (causes_from s old) cut) ∙ c.loop-lit.invariant.same st h) (c.in_err-mark_literal.ensures.cause st h))
 
-pub returns-clause-cause : goal.returns-clause-cause
-returns-clause-cause c st h = grind (arith, common_steps, drop_all)
-
 pub returns-clause-marked : goal.returns-clause-marked
 returns-clause-marked c k =
     marked-all (is_marked c.loop-lit.marks) _ _ k (drop_all c.loop-lit.lit-index c.args.assignment.now c.loop-lit-test.false) (c.loop-lit.invariant.marked k)

@@ -1,11 +1,7 @@
-use Rattle.checker_steps.proofs.Common.{common_steps, drop_all}
-use Rattle.std.proofs.Common.{drop, arith}
-use Rattle.clause_store.proofs.StatusLemmas.{drop-at}
+use Rattle.checker_steps.proofs.Common.{drop_all}
+use Rattle.std.proofs.Common.{drop}
 use Rattle.checker_steps.proofs.ModelLemmas.{unmarked-all}
 use Rattle.checker_steps.proofs.steps.model.unmark_literals.Goals as goal
-
-pub loop-lit-preserved : goal.loop-lit-preserved
-loop-lit-preserved c = grind (arith, common_steps, drop-at)
 
 pub returns : goal.returns
 returns c = unmarked-all c.loop-lit.marks (drop c.loop-lit.lit-index c.args.lits.now) (drop_all c.loop-lit.lit-index c.args.lits.now c.loop-lit-test.false) c.loop-lit.invariant
