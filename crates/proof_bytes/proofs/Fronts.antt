@@ -1,10 +1,10 @@
 -- What is read of the bytes ahead.
-use Rattle.std.proofs.Common.{◌≡◌, ℕ, zero, suc, ◌+◌, ◌-◌, ◌*◌, ◌^◌, ◌<◌, ◌≤◌, List, [], ◌∷◌, ◌++◌, length, get_or, take, Ok, Err, true, cond, ltb, refl, sym, ap, ◌∙◌, arith, append_assoc}
+use Rattle.std.proofs.Common.{◌≡◌, ℕ, zero, suc, ◌+◌, ◌-◌, ◌*◌, ◌<◌, ◌≤◌, List, [], ◌∷◌, ◌++◌, length, get_or, take, Ok, Err, refl, ap, ◌∙◌, arith, append_assoc}
 use Rattle.std.proofs.lemmas.List.{take_more}
-use Rattle.std.proofs.lemmas.Bool.{lt-ltb, le-ltb, eq-eqb, ne_eqb}
+use Rattle.std.proofs.lemmas.Bool.{lt-ltb, le-ltb, ne_eqb}
 use Rattle.std.specs.Io.KnownBytes.{Consumes}
 use Rattle.proof_bytes.specs.declared.fault.MalformedStep.TheVariants.{BadNumber}
-use Rattle.proof_bytes.specs.Reading.{Wrong, Found, ◌>>=◌, byte_at, number_at, more_at}
+use Rattle.proof_bytes.specs.Reading.{Short, Wrong, number_at, more_at}
 use Rattle.proof_bytes.specs.Taking.{Leads, IsBytes}
 use Rattle.proof_bytes.proofs.Leading.{Known}
 
@@ -22,30 +22,42 @@ leads_ahead f g ahead front n e p c s = record { taken = take n ahead; bytes = b
 -- one byte more
 pub one_more : {A : Type 0} (f g : List ℕ → A) (xs : List ℕ) (i n : ℕ) → n ≡ i + 1 → i < length xs →
     ((more : List ℕ) → f (take i xs ++ more) ≡ g more) → (more : List ℕ) → f (take n xs ++ more) ≡ g (get_or xs i 0 ∷ more)
-one_more f g xs i n e lt h more = ap f (ap (λ (l : List ℕ). l ++ more) (ap (λ k. take k xs) e ∙ take_more xs i 0 lt) ∙ append_assoc (take i xs) (get_or xs i 0 ∷ []) more) ∙ h (get_or xs i 0 ∷ more)
+one_more f g xs i n e lt h more = ap f (ap (λ (l : List ℕ). l ++ more) (ap (λ k. take k xs) e ∙ take_more xs i 0 lt) ∙ append_assoc (take i xs) (get_or xs i 0 ∷ []) more)
+    ∙ h (get_or xs i 0 ∷ more)
+
+-- no byte
+pub more_short : (n v w : ℕ) → more_at n v w [] ≡ Err Short
+unfolding more_at
+more_short zero v w = refl
+more_short (suc n) v w = refl
 
 module _ (x : ℕ) (more : List ℕ) where
   pub alone : x < 128 → number_at (x ∷ more) ≡ Ok (x, more)
   unfolding number_at
-  alone lt = ap (λ c. cond c (Ok (x, more)) (more_at 8 (x - 128) 128 more)) (lt-ltb x 128 lt)
+  alone lt = rw (lt-ltb x 128 lt) refl
 
   pub begins : 128 ≤ x → number_at (x ∷ more) ≡ more_at 8 (x - 128) 128 more
   unfolding number_at
-  begins le = ap (λ c. cond c (Ok (x, more)) (more_at 8 (x - 128) 128 more)) (le-ltb x 128 le)
+  begins le = rw (le-ltb x 128 le) refl
 
   module _ (left v w n : ℕ) (is : n ≡ suc left) where
-    some : (x ≡ 0 → ⊥) → more_at n v w (x ∷ more) ≡ cond (ltb x 128) (Ok (v + w * x, more)) (more_at left (v + w * (x - 128)) (w * 128) more)
+    pub zero_group : x ≡ 0 → more_at n v w (x ∷ more) ≡ Err (Wrong BadNumber)
     unfolding more_at
-    some nz = ap (λ k. more_at k v w (x ∷ more)) is ∙ ap
-        (λ t. cond t (Err (Wrong BadNumber)) (cond (ltb x 128) (Ok (v + w * x, more)) (more_at left (v + w * (x - 128)) (w * 128) more)))
-        (ne_eqb x 0 nz)
+    zero_group z = rw (is, z) refl
 
     pub ends : (x ≡ 0 → ⊥) → x < 128 → more_at n v w (x ∷ more) ≡ Ok (v + w * x, more)
-    ends nz lt = some nz ∙ ap (λ t. cond t (Ok (v + w * x, more)) (more_at left (v + w * (x - 128)) (w * 128) more)) (lt-ltb x 128 lt)
+    unfolding more_at
+    ends nz lt = rw (is, ne_eqb x 0 nz, lt-ltb x 128 lt) refl
 
     pub goes_on : 128 ≤ x → more_at n v w (x ∷ more) ≡ more_at left (v + w * (x - 128)) (w * 128) more
-    goes_on le = some (λ z. omega arith) ∙ ap (λ t. cond t (Ok (v + w * x, more)) (more_at left (v + w * (x - 128)) (w * 128) more)) (le-ltb x 128 le)
+    unfolding more_at
+    goes_on le = rw (is, ne_eqb x 0 (λ z. omega arith), le-ltb x 128 le) refl
 
-  pub tenth : (v w n : ℕ) → n ≡ 0 → x ≡ 1 → more_at n v w (x ∷ more) ≡ Ok (v + w, more)
-  unfolding more_at
-  tenth v w n is e = ap (λ k. more_at k v w (x ∷ more)) is ∙ ap (λ t. cond t (Ok (v + w, more)) (Err (Wrong BadNumber))) (eq-eqb x 1 e)
+  module _ (v w n : ℕ) (is : n ≡ 0) where
+    pub tenth : x ≡ 1 → more_at n v w (x ∷ more) ≡ Ok (v + w, more)
+    unfolding more_at
+    tenth e = rw (is, e) refl
+
+    pub no_tenth : (x ≡ 1 → ⊥) → more_at n v w (x ∷ more) ≡ Err (Wrong BadNumber)
+    unfolding more_at
+    no_tenth n1 = rw (is, ne_eqb x 1 n1) refl

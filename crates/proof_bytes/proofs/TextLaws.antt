@@ -1,8 +1,7 @@
 -- How texts begin, and texts of many steps.
-use Rattle.std.proofs.Common.{◌≡◌, ◌≢◌, ℕ, suc, List, [], ◌∷◌, ◌++◌, Err, refl, sym, ap, subst, ◌∙◌, inl, append_assoc, append-nil, arith}
+use Rattle.std.proofs.Common.{◌≡◌, ◌≢◌, ℕ, suc, List, [], ◌∷◌, ◌++◌, Err, refl, sym, ap, subst, ◌∙◌, inl, append_assoc, append-nil}
 use Rattle.std.proofs.lemmas.Bool.{ne_eqb}
-use Rattle.checker_rules.specs.Step.{Step, solver_var_name, user_var_name, delete_var, change_sampling_mode, add_clause, at_clause}
-use Rattle.checker_rules.specs.Step.{delete_clause, unit_clauses, change_hash_bits, model, assumptions, failed_assumptions, end_proof}
+use Rattle.checker_rules.specs.Step.{Step, change_hash_bits, end_proof}
 use Rattle.proof_bytes.specs.declared.fault.MalformedStep.TheVariants.{UnknownTag}
 use Rattle.proof_bytes.specs.declared.format.Format.{Format}
 use Rattle.proof_bytes.specs.declared.format.Format.TheVariants as formats
@@ -14,7 +13,7 @@ use Rattle.proof_bytes.specs.Spelling.{spells, IsStep}
 use Rattle.proof_bytes.specs.Steps.{step_at, next_at, tag_at, marked_at, then_after}
 use Rattle.proof_bytes.specs.Texts.{Place, start_of, next_of, step_or_fault, ReadsTo, text, AreSteps, after_all}
 use Rattle.proof_bytes.specs.Version2.{mark, text_2, writing, written_after}
-use Rattle.proof_bytes.proofs.Codec.{given}
+use Rattle.proof_bytes.proofs.NumberLaws.{given}
 use Rattle.proof_bytes.proofs.StepLaws.{step_again, step_exact}
 
 pub spelled_is_read : SpelledIsRead
@@ -31,14 +30,12 @@ read_is_spelled format s bytes rest fits e = let took = step_exact format s byte
 later : (format : Format) (bytes : List ℕ) → format ≢ formats.Start → next_at format bytes ≡ (step_at format bytes >>= then_after format)
 unfolding next_at tag_at step_at made_at
 later formats.Start bytes n = absurd (n refl)
-later formats.Numbers [] n = refl
-later formats.Numbers (tag ∷ bytes) n = refl
-later (formats.Bytes width) [] n = refl
-later (formats.Bytes width) (tag ∷ bytes) n = refl
+later _ [] n = refl
+later _ (tag ∷ bytes) n = refl
 
-plain : (tag : ℕ) (bytes : List ℕ) → next_at formats.Start (suc tag ∷ bytes) ≡ next_at formats.Numbers (suc tag ∷ bytes)
+plain : (tag : ℕ) (bytes : List ℕ) → tag ≢ 0 → next_at formats.Start (tag ∷ bytes) ≡ next_at formats.Numbers (tag ∷ bytes)
 unfolding next_at tag_at made_at
-plain tag bytes = rw (ne_eqb (suc tag) 0 (λ e. omega arith)) refl
+plain tag bytes n = rw (ne_eqb tag 0 n) refl
 
 broken : (second : ℕ) (bytes : List ℕ) → second ≢ 2 → next_at formats.Start (0 ∷ second ∷ bytes) ≡ Err (Wrong UnknownTag)
 unfolding next_at tag_at marked_at
@@ -49,7 +46,7 @@ unfolding next_at tag_at marked_at made_at
 start_is_read = record {
   later = later;
   empty = refl;
-  plain = plain;
+  plain = λ tag bytes. plain (suc tag) bytes (λ e. absurd cc);
   marked = λ bytes. refl;
   half = refl;
   broken = broken;
@@ -58,16 +55,15 @@ start_is_read = record {
 -- ---- many steps
 
 after_begun : (step : Step) (format : Format) → format ≢ formats.Start → after step format ≢ formats.Start
-after_begun (change_hash_bits bits) formats.Start n = n
-after_begun (change_hash_bits bits) formats.Numbers n = n
 after_begun (change_hash_bits bits) (formats.Bytes width) n = λ e. absurd cc
-after_begun _ format n = n
+after_begun _ _ n = n
 
 next_step : (format : Format) (step : Step) (rest : List ℕ) → format ≢ formats.Start → IsStep format step → next_of (format, spells format step ++ rest) ≡ inl (step, (after step format, rest))
 unfolding next_of
 next_step format step rest n h = ap step_or_fault (later format (spells format step ++ rest) n ∙ ap (λ (found : Found Step). found >>= then_after format) (step_again format step rest h))
 
-later_steps : (format : Format) (steps : List Step) (rest : List ℕ) → format ≢ formats.Start → AreSteps format steps → ReadsTo (format, text format steps ++ rest) steps (after_all format steps, rest)
+later_steps : (format : Format) (steps : List Step) (rest : List ℕ) → format ≢ formats.Start → AreSteps format steps → ReadsTo (format, text format steps ++ rest) steps
+    (after_all format steps, rest)
 unfolding text
 later_steps format [] rest n h = refl
 later_steps format (step ∷ steps) rest n h =
@@ -82,30 +78,10 @@ reads_from : (here other there : Place) (step : Step) (steps : List Step) → ne
 reads_from here other there step steps e p = (p.0, e ∙ p.1, p.2)
 
 -- a spelling begins with a tag, which is not 0
-record Tagged (bytes : List ℕ) : Type 0 where
-  tag : ℕ
-  tail : List ℕ
-  is : bytes ≡ suc tag ∷ tail
-
-tagged : (format : Format) (step : Step) → Tagged (spells format step)
-unfolding spells
-tagged format (solver_var_name var named) = record { tag = 0; tail = _; is = refl }
-tagged format (user_var_name var named) = record { tag = 1; tail = _; is = refl }
-tagged format (delete_var var) = record { tag = 2; tail = _; is = refl }
-tagged format (change_sampling_mode var sample) = record { tag = 3; tail = _; is = refl }
-tagged format (add_clause clause) = record { tag = 4; tail = _; is = refl }
-tagged format (at_clause redundant clause hashes) = record { tag = 5; tail = _; is = refl }
-tagged format (delete_clause proof clause) = record { tag = 6; tail = _; is = refl }
-tagged format (unit_clauses units) = record { tag = 7; tail = _; is = refl }
-tagged format (change_hash_bits bits) = record { tag = 8; tail = _; is = refl }
-tagged format (model assignment) = record { tag = 9; tail = _; is = refl }
-tagged format (assumptions lits) = record { tag = 10; tail = _; is = refl }
-tagged format (failed_assumptions core hashes) = record { tag = 11; tail = _; is = refl }
-tagged format end_proof = record { tag = 12; tail = _; is = refl }
-
-plain_start : (bytes rest : List ℕ) → Tagged bytes → next_of (start_of (bytes ++ rest)) ≡ next_of (formats.Numbers, bytes ++ rest)
-unfolding next_of
-plain_start bytes rest h = rw h.is (ap step_or_fault (start_is_read.plain h.tag (h.tail ++ rest)))
+plain_start : (step : Step) (rest : List ℕ) → next_of (start_of (spells formats.Numbers step ++ rest)) ≡ next_of (formats.Numbers, spells formats.Numbers step ++ rest)
+unfolding next_of spells
+plain_start end_proof rest = ap step_or_fault (plain _ _ (λ e. absurd cc))
+plain_start _ rest = ap step_or_fault (plain _ _ (λ e. absurd cc))
 
 marked_start : (bytes : List ℕ) → next_of (start_of (0 ∷ 2 ∷ bytes)) ≡ next_of (formats.Bytes 64, bytes)
 unfolding next_of
@@ -125,8 +101,8 @@ unfolding text
 version_1 step steps rest h =
     let tail = text (after step formats.Numbers) steps in
     let bytes = text formats.Numbers (step ∷ steps) ++ rest in
-    let begins = ap (λ (l : List ℕ). next_of (start_of l)) (append_assoc (spells formats.Numbers step) tail rest) ∙ plain_start
-    (spells formats.Numbers step) (tail ++ rest) (tagged formats.Numbers step) ∙ ap (λ (l : List ℕ). next_of (formats.Numbers, l))
+    let begins = ap (λ (l : List ℕ). next_of (start_of l)) (append_assoc (spells formats.Numbers step) tail rest) ∙ plain_start step (tail ++ rest) ∙ ap
+    (λ (l : List ℕ). next_of (formats.Numbers, l))
     (sym (append_assoc (spells formats.Numbers step) tail rest)) in
     let there = later_steps formats.Numbers (step ∷ steps) rest (λ e. absurd cc) h in
     reads_from (start_of bytes) (formats.Numbers, bytes) (formats.Numbers, rest) step steps begins
@@ -165,13 +141,11 @@ after_all_begun (step ∷ steps) format n = after_all_begun steps (after step fo
 
 writing_begun : (format : Format) → format ≢ formats.Start → writing format ≡ format
 writing_begun formats.Start n = absurd (n refl)
-writing_begun formats.Numbers n = refl
-writing_begun (formats.Bytes width) n = refl
+writing_begun _ n = refl
 
 mark_begun : (format : Format) → format ≢ formats.Start → mark format ≡ []
 mark_begun formats.Start n = absurd (n refl)
-mark_begun formats.Numbers n = refl
-mark_begun (formats.Bytes width) n = refl
+mark_begun _ n = refl
 
 begun : (first : Step) (steps : List Step) → written_after (first ∷ steps) ≢ formats.Start
 begun first steps = after_all_begun (first ∷ steps) (formats.Bytes 64) (λ e. absurd cc)

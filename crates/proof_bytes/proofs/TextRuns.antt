@@ -10,8 +10,7 @@ use Rattle.checker_rules.specs.Calls.{attempt, closing_conflict, count_step, ste
 use Rattle.checker_rules.specs.Outcome.{Cause, Outcome, steps_exhausted}
 use Rattle.checker_rules.specs.Run.{Runs, after_attempt, after_read, as_answer, move}
 use Rattle.checker_rules.specs.State.{State}
-use Rattle.checker_rules.specs.Step.{Step, solver_var_name, user_var_name, delete_var, change_sampling_mode, add_clause, at_clause}
-use Rattle.checker_rules.specs.Step.{delete_clause, unit_clauses, change_hash_bits, model, assumptions, failed_assumptions, end_proof}
+use Rattle.checker_rules.specs.Step.{Step, end_proof}
 use Rattle.checker_rules.proofs.Openings.{attempt-counted}
 use Rattle.checker_rules.proofs.StepKinds.{step-end_proof}
 use Rattle.proof_bytes.specs.declared.format.Format.{Format}
@@ -46,7 +45,8 @@ attempted : (o : Outcome) (refused : Option Cause) (step : Step) (next : Place) 
     after_attempt {X = Place} {F = Fault} o.refused o.after step next ≡ after_attempt refused o.after step next
 attempted o refused step next e = ap (λ (r : Option Cause). after_attempt {X = Place} {F = Fault} r o.after step next) e
 
-pub move_step : (t : State) (place next : Place) (step : Step) (refused : Option Cause) → MayRead t → next_at place.0 place.1 ≡ Ok ((next.0, step), next.1) → (attempt t step).refused ≡ refused →
+pub move_step : (t : State) (place next : Place) (step : Step) (refused : Option Cause) → MayRead t → next_at place.0 place.1 ≡ Ok ((next.0, step), next.1) →
+    (attempt t step).refused ≡ refused →
     move next_of t place ≡ after_attempt refused (attempt t step).after step next
 move_step t place next step refused h e r =
     move_reads t place h ∙ ap (λ (found : (Step × Place) ⊎ Fault). after_read t found) (found_step place next step e) ∙ attempted (attempt t step) refused step next r
@@ -62,19 +62,8 @@ move_closed t place ended = rw ended refl
 
 -- after `End` nothing more is read
 pub ended_after_end : (t : State) (step : Step) → is_end step ≡ true → ltb t.steps step_limit ≡ true → (attempt t step).after.ended ≡ true
-ended_after_end t (solver_var_name global solver) e counted = absurd cc
-ended_after_end t (user_var_name global user) e counted = absurd cc
-ended_after_end t (delete_var var) e counted = absurd cc
-ended_after_end t (change_sampling_mode var sample) e counted = absurd cc
-ended_after_end t (add_clause clause) e counted = absurd cc
-ended_after_end t (at_clause redundant clause hashes) e counted = absurd cc
-ended_after_end t (delete_clause proof clause) e counted = absurd cc
-ended_after_end t (unit_clauses units) e counted = absurd cc
-ended_after_end t (change_hash_bits bits) e counted = absurd cc
-ended_after_end t (model assignment) e counted = absurd cc
-ended_after_end t (assumptions lits) e counted = absurd cc
-ended_after_end t (failed_assumptions core hashes) e counted = absurd cc
 ended_after_end t end_proof e counted = ap (λ (o : Outcome). o.after.ended) (attempt-counted t end_proof counted ∙ step-end_proof (count_step t))
+ended_after_end t _ e counted = absurd cc
 
 -- so while the checker has not ended, nor has the reader
 pub reader_open : (ended : Bool) (step : Step) {t u : State} → ended ≡ is_end step → MayRead t → u ≡ (attempt t step).after → u.ended ≡ false → ended ≡ false

@@ -1,4 +1,4 @@
-use Rattle.std.proofs.Common.{arith, refl, ◌≡◌, ◌∙◌, ◌+◌, ◌-◌, ◌*◌, get_or}
+use Rattle.std.proofs.Common.{arith, refl, ◌≡◌, ◌∙◌, ◌+◌, ◌-◌, get_or}
 use Rattle.proof_bytes.specs.Reading.{number_at, more_at}
 use Rattle.proof_bytes.proofs.Numbers.{fits, next_weight}
 use Rattle.proof_bytes.proofs.Fronts.{one_more, alone, begins, ends, goes_on, tenth}

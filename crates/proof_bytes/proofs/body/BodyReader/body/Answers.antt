@@ -57,20 +57,4 @@ unfolding fields_at
 returns-in-13 g c = rw c.in-13.is (leads_nil _ _)
 
 pub returns-in_default : goal.returns-in_default
-returns-in_default g c = malformed (unknown_tag _ _ _
-    (record {
-      n1 = λ e. omega arith;
-      n2 = λ e. omega arith;
-      n3 = λ e. omega arith;
-      n4 = λ e. omega arith;
-      n5 = λ e. omega arith;
-      n6 = λ e. omega arith;
-      n7 = λ e. omega arith;
-      n8 = λ e. omega arith;
-      n9 = λ e. omega arith;
-      n10 = λ e. omega arith;
-      n11 =
-          λ e. omega arith;
-      n12 = λ e. omega arith;
-      n13 = λ e. omega arith;
-    }))
+returns-in_default g c = malformed (unknown_tag _ _ _ (omega arith))

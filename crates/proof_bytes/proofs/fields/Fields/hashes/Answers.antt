@@ -1,12 +1,12 @@
 use Rattle.std.proofs.Common.{arith, refl, ◌-◌, ◌+◌}
 use Rattle.proof_bytes.specs.Fields.{hash_at}
-use Rattle.proof_bytes.proofs.Leading.{exits, no_memory}
+use Rattle.proof_bytes.proofs.Leading.{exits, exits_by, no_memory}
 use Rattle.proof_bytes.proofs.FieldLemmas.{list_fails, list_begins, item_fails, item_read, list_ends}
 use Rattle.proof_bytes.proofs.ListFronts.{front_taken}
 use Rattle.proof_bytes.proofs.fields.Fields.hashes.Goals as goal
 
 pub returns-in_err-count : goal.returns-in_err-count
-returns-in_err-count g c = exits _ _ c.from_residual.ensures.1 (list_fails (hash_at c.args.format) c.in_err-count.ensures.0, c.in_err-count.ensures.1)
+returns-in_err-count g c = exits_by _ _ c.from_residual.ensures.1 (list_fails (hash_at c.args.format)) c.in_err-count.ensures
 
 pub hashes-init : goal.hashes-init
 hashes-init g c = front_taken (hash_at c.args.format) c.hashes_ahead-spelled.new.into.items c.in_ok-count.count _
@@ -15,11 +15,8 @@ hashes-init g c = front_taken (hash_at c.args.format) c.hashes_ahead-spelled.new
     c.ahead.result.now _ c.hashes_ahead-spelled.result c.hashes_ahead-spelled.ensures.read c.ahead.ensures c.hashes_ahead-spelled.ensures.bytes c.take_ahead.ensures.bytes
 
 pub returns-in_err-hash : goal.returns-in_err-hash
-returns-in_err-hash g c = exits _ _ c.from_residual-in_err-hash.ensures.1 (
-  item_fails _ (hash_at c.args.format) _ _ (c.in_ok-count.count - (c.hashes.counter + 1))
-      (omega arith) c.hashes.invariant c.in_err-hash.ensures.0,
-  c.in_err-hash.ensures.1,
-)
+returns-in_err-hash g c = exits_by _ _ c.from_residual-in_err-hash.ensures.1
+    (item_fails _ (hash_at c.args.format) _ _ (c.in_ok-count.count - (c.hashes.counter + 1)) (omega arith) c.hashes.invariant) c.in_err-hash.ensures
 
 pub hashes-preserved : goal.hashes-preserved
 hashes-preserved g c = rw c.in_ok-push.ensures.items

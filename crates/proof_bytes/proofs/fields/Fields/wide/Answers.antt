@@ -1,4 +1,3 @@
-use Rattle.std.proofs.Common.{Ok}
 use Rattle.proof_bytes.specs.Fields.{wide_at}
 use Rattle.proof_bytes.proofs.Fronts.{leads_ahead}
 use Rattle.proof_bytes.proofs.fields.Fields.wide.Goals as goal
