@@ -1,5 +1,5 @@
 -- Fields, one after the other.
-use Rattle.std.proofs.Common.{◌≡◌, ℕ, zero, suc, ◌-◌, ◌^◌, ◌<◌, ◌≤◌, List, [], ◌∷◌, ◌++◌, Ok, Err, cond, refl, sym, ap, ◌∙◌, arith, append_assoc, append-nil}
+use Rattle.std.proofs.Common.{◌≡◌, ℕ, zero, suc, ◌+◌, ◌-◌, ◌^◌, ◌<◌, ◌≤◌, List, [], ◌∷◌, ◌++◌, Ok, Err, cond, refl, sym, ap, ◌∙◌, arith, append_assoc, append-nil}
 use Rattle.std.proofs.lemmas.Bool.{lt-ltb, le-ltb}
 use Rattle.std.specs.Prelude.{SomeIff, Option, Some, None, if◌then◌else◌, nat_lt}
 use Rattle.proof_bytes.specs.declared.fault.MalformedStep.TheVariants.{OutOfRange}
@@ -108,17 +108,19 @@ regroup : {A : Type 0} (front : List A) (x : A) (read : Found (List A)) → with
 regroup {A} front x (Ok r) = ap (λ (l : List A). Ok (l, r.1)) (sym (append_assoc front (x ∷ []) r.0))
 regroup front x (Err e) = refl
 
-module _ {A : Type 0} {a b : Known} (f : List ℕ → Found (List A)) (item : List ℕ → Found A) (front : List A) (k n : ℕ) (is : k ≡ suc n)
-    (so_far : Leads a b f (λ more. with_front front (many_at item k more))) where
-  next_item : Leads a b f (λ more. item more >>= after_front front item n)
+module _ {A : Type 0} {a b : Known} (f : List ℕ → Found (List A)) (item : List ℕ → Found A) (front : List A) (count i : ℕ) (below : i < count)
+    (so_far : Leads a b f (λ more. with_front front (many_at item (count - i) more))) where
+  next_item : Leads a b f (λ more. item more >>= after_front front item (count - (i + 1)))
   unfolding many_at
-  next_item = leads_same _ so_far (λ more. ap (λ m. with_front front (many_at item m more)) is ∙ front_of_bind front (item more) (after_item item n))
+  next_item =
+      let is : count - i ≡ suc (count - (i + 1)) = omega arith in
+      leads_same _ so_far (λ more. ap (λ m. with_front front (many_at item m more)) is ∙ front_of_bind front (item more) (after_item item (count - (i + 1))))
 
   pub item_fails : {c : Known} {e : Stop} → Faults b c e item → Faults a c e f
-  item_fails p = then_faults (after_front front item n) next_item p
+  item_fails p = then_faults (after_front front item (count - (i + 1))) next_item p
 
-  pub item_read : {c : Known} (x : A) → Leads b c item (λ more. Ok (x, more)) → Leads a c f (λ more. with_front (front ++ x ∷ []) (many_at item n more))
-  item_read x p = leads_same _ (then_leads (after_front front item n) next_item p) (λ more. regroup front x (many_at item n more))
+  pub item_read : {c : Known} (x : A) → Leads b c item (λ more. Ok (x, more)) → Leads a c f (λ more. with_front (front ++ x ∷ []) (many_at item (count - (i + 1)) more))
+  item_read x p = leads_same _ (then_leads (after_front front item (count - (i + 1))) next_item p) (λ more. regroup front x (many_at item (count - (i + 1)) more))
 
 pub list_ends : {A : Type 0} {a b : Known} (f : List ℕ → Found (List A)) (item : List ℕ → Found A) (front : List A) (k : ℕ) → k ≡ 0 →
     Leads a b f (λ more. with_front front (many_at item k more)) → Leads a b f (λ more. Ok (front, more))

@@ -4,6 +4,8 @@ use Rattle.std.specs.List.{AllByRecursion, list_all}
 use Rattle.std.proofs.lemmas.Bool.{cases_lt, le-ltb, false≢true}
 use Rattle.std.proofs.lemmas.List.{take_more}
 use Rattle.std.proofs.lemmas.List.Folds.{list_all_at, list_all-map}
+use Rattle.std.proofs.Math.ListN.{get_or-map}
+use Rattle.std.proofs.lemmas.List.{length-map}
 use Rattle.proof_bytes.specs.declared.format.Format.{Format}
 use Rattle.proof_bytes.specs.declared.format.Format.TheVariants as formats
 use Rattle.proof_bytes.specs.Spelling.{all_fit, IsHash}
@@ -26,21 +28,13 @@ fits_at (formats.Bytes width) hashes i d lt all h =
       | inr large ↦ absurd (false≢true (sym (list_all_at (λ n. ltb n (2 ^ width)) hashes i d lt (le-ltb (get_or hashes i d) (2 ^ width) large)) ∙ all))
     ]
 
+abbrev hash_of : ℕ × ℕ → ℕ
+hash_of u = u.1
+
 -- the hash of a unit, likewise
 pub unit_fits_at : (format : Format) (units : List (ℕ × ℕ)) (i : ℕ) (d : ℕ × ℕ) → i < length units →
     all_fit format (map (λ u. u.1) units) ≡ true → (get_or units i d).1 < 2 ^ 64 → IsHash format (get_or units i d).1
-unit_fits_at formats.Start units i d lt all h = h
-unit_fits_at formats.Numbers units i d lt all h = h
-unit_fits_at (formats.Bytes width) units i d lt all h =
-    elim (cases_lt (get_or units i d).1 (2 ^ width)) [
-      | inl small ↦ small
-      | inr large ↦
-          let none = list_all_at (λ (u : ℕ × ℕ). ltb u.1 (2 ^ width)) units i d lt (le-ltb (get_or units i d).1 (2 ^ width) large) in
-          absurd (false≢true (sym none ∙ sym (list_all-map (λ n. ltb n (2 ^ width)) (λ (u : ℕ × ℕ). u.1) units) ∙ all))
-    ]
-
-abbrev hash_of : ℕ × ℕ → ℕ
-hash_of u = u.1
+unit_fits_at format units i d lt all h = rw (get_or-map hash_of units i d) at (fits_at format (map hash_of units) i d.1 (rw (length-map units hash_of) lt) all (rw (get_or-map hash_of units i d) h))
 
 -- the test of all units at a width
 pub units_fit_all : (format : Format) (width : ℕ) (units : List (ℕ × ℕ)) → format ≡ formats.Bytes width → all_fit format (map (λ u. u.1) units) ≡ list_all (λ (u : ℕ × ℕ). ltb u.1 (2 ^ width)) units

@@ -78,10 +78,10 @@ reads_from : (here other there : Place) (step : Step) (steps : List Step) → ne
 reads_from here other there step steps e p = (p.0, e ∙ p.1, p.2)
 
 -- a spelling begins with a tag, which is not 0
-plain_start : (step : Step) (rest : List ℕ) → next_of (start_of (spells formats.Numbers step ++ rest)) ≡ next_of (formats.Numbers, spells formats.Numbers step ++ rest)
+plain_start : (step : Step) (tail rest : List ℕ) → next_of (start_of ((spells formats.Numbers step ++ tail) ++ rest)) ≡ next_of (formats.Numbers, (spells formats.Numbers step ++ tail) ++ rest)
 unfolding next_of spells
-plain_start end_proof rest = ap step_or_fault (plain _ _ (λ e. absurd cc))
-plain_start _ rest = ap step_or_fault (plain _ _ (λ e. absurd cc))
+plain_start end_proof tail rest = ap step_or_fault (plain _ _ (λ e. absurd cc))
+plain_start _ tail rest = ap step_or_fault (plain _ _ (λ e. absurd cc))
 
 marked_start : (bytes : List ℕ) → next_of (start_of (0 ∷ 2 ∷ bytes)) ≡ next_of (formats.Bytes 64, bytes)
 unfolding next_of
@@ -99,15 +99,10 @@ version_1 : (step : Step) (steps : List Step) (rest : List ℕ) → AreSteps for
     ReadsTo (start_of (text formats.Numbers (step ∷ steps) ++ rest)) (step ∷ steps) (formats.Numbers, rest)
 unfolding text
 version_1 step steps rest h =
-    let tail = text (after step formats.Numbers) steps in
     let bytes = text formats.Numbers (step ∷ steps) ++ rest in
-    let begins = ap (λ (l : List ℕ). next_of (start_of l)) (append_assoc (spells formats.Numbers step) tail rest) ∙ plain_start step (tail ++ rest) ∙ ap
-    (λ (l : List ℕ). next_of (formats.Numbers, l))
-    (sym (append_assoc (spells formats.Numbers step) tail rest)) in
-    let there = later_steps formats.Numbers (step ∷ steps) rest (λ e. absurd cc) h in
-    reads_from (start_of bytes) (formats.Numbers, bytes) (formats.Numbers, rest) step steps begins
+    reads_from (start_of bytes) (formats.Numbers, bytes) (formats.Numbers, rest) step steps (plain_start step (text (after step formats.Numbers) steps) rest)
     (subst (λ (format : Format). ReadsTo (formats.Numbers, bytes) (step ∷ steps) (format, rest)) (after_all_numbers (step ∷ steps))
-    there)
+    (later_steps formats.Numbers (step ∷ steps) rest (λ e. absurd cc) h))
 
 pub text_is_read : TextIsRead
 text_is_read = record {
