@@ -156,13 +156,13 @@ module _ (xs : List ℕ) (bytes : (i : ℕ) → get_or xs i 0 < 256) where
 
           pub nine : (get_or xs 8 0 ≡ 0 → ⊥) → get_or xs 8 0 < 128 → (more : List ℕ) → number_at (take 9 xs ++ more) ≡ Ok (v + get_or xs 8 0 * 72057594037927936, more)
           nine nz lt more =
-              one_more number_at (more_at 1 (low 7) 72057594037927936) xs 8 9 refl (omega arith) (read 7 1 refl (omega arith)) more
+              one_more number_at _ xs 8 9 refl (omega arith) (read 7 1 refl (omega arith)) more
               ∙ ends _ more 0 (low 7) 72057594037927936 1 refl nz lt ∙ ap (λ k. Ok (k, more)) (omega (arith, value))
 
           pub ten : 128 ≤ get_or xs 8 0 → get_or xs 9 0 ≡ 1 → (more : List ℕ) →
               number_at (take 10 xs ++ more) ≡ Ok (v + (get_or xs 8 0 - 128) * 72057594037927936 + 9223372036854775808, more)
           ten le one more =
               one_more number_at (more_at 0 (low 7 + 72057594037927936 * (get_or xs 8 0 - 128)) 9223372036854775808) xs 9 10 refl (omega arith)
-              (λ m. one_more number_at (more_at 1 (low 7) 72057594037927936) xs 8 9 refl (omega arith) (read 7 1 refl (omega arith)) m
+              (λ m. one_more number_at _ xs 8 9 refl (omega arith) (read 7 1 refl (omega arith)) m
               ∙ goes_on _ m 0 (low 7) 72057594037927936 1 refl le) more
               ∙ tenth _ more (low 7 + 72057594037927936 * (get_or xs 8 0 - 128)) 9223372036854775808 0 refl one ∙ ap (λ k. Ok (k, more)) (omega (arith, value))

@@ -14,16 +14,14 @@ use Rattle.proof_bytes.proofs.FieldLemmas.{with_front, nothing_before}
 -- after one of two bytes, or after both
 pub two_more : (xs : List ℕ) (i n : ℕ) → i + 1 < length xs → n ≤ 2 →
     take (i + n) xs ≡ take i xs ++ take n (get_or xs i 0 ∷ get_or xs (i + 1) 0 ∷ [])
-two_more [] i n lt le = let none : ⊥ = omega arith in absurd none
-two_more (x ∷ []) i n lt le = let none : ⊥ = omega arith in absurd none
-two_more (x ∷ y ∷ xs) zero zero lt le = refl
-two_more (x ∷ y ∷ xs) zero (suc zero) lt le = refl
+two_more (x ∷ y ∷ xs) zero (suc (suc (suc n))) lt le = absurd (omega arith)
 two_more (x ∷ y ∷ xs) zero (suc (suc zero)) lt le = refl
-two_more (x ∷ y ∷ xs) zero (suc (suc (suc n))) lt le = let none : ⊥ = omega arith in absurd none
+two_more (x ∷ y ∷ xs) zero _ lt le = refl
 two_more (x ∷ y ∷ xs) (suc i) n lt le =
     let e : suc i + n ≡ suc (i + n) = omega arith in
     let f : suc i + 1 ≡ suc (i + 1) = omega arith in
     rw (e, f) (ap (λ (l : List ℕ). x ∷ l) (two_more (y ∷ xs) i n (omega arith) le))
+two_more _ i n lt le = absurd (omega arith)
 
 -- after so many of the bytes that are left
 module _ (xs : List ℕ) (i n : ℕ) where

@@ -1,5 +1,5 @@
 use Rattle.std.proofs.Common.{arith, refl, ◌≡◌, ◌∙◌, ◌+◌, ◌-◌, get_or}
-use Rattle.proof_bytes.specs.Reading.{number_at, more_at}
+use Rattle.proof_bytes.specs.Reading.{number_at}
 use Rattle.proof_bytes.proofs.Numbers.{fits, next_weight}
 use Rattle.proof_bytes.proofs.Fronts.{one_more, alone, begins, ends, goes_on, tenth}
 use Rattle.proof_bytes.proofs.ahead.number_ahead.Goals as goal
@@ -15,8 +15,7 @@ groups-init c = let b = c.type_inv.bytes 0 in record {
 }
 
 pub returns-then-byte-lt128-clause-read : goal.returns-then-byte-lt128-clause-read
-returns-then-byte-lt128-clause-read c = λ more. one_more number_at (more_at (8 - c.groups.before) c.groups.value c.groups.weight)
-    c.args.bytes.now (c.groups.before + 1) (c.groups.before + 2) (omega arith) (omega arith) c.groups.invariant.read more
+returns-then-byte-lt128-clause-read c = λ more. one_more number_at _ c.args.bytes.now (c.groups.before + 1) (c.groups.before + 2) (omega arith) (omega arith) c.groups.invariant.read more
     ∙ ends _ more (7 - c.groups.before) c.groups.value c.groups.weight (8 - c.groups.before) (omega arith) c.if-byte-eq0.false c.if-byte-lt128.true
 
 pub groups-preserved : goal.groups-preserved
@@ -26,13 +25,13 @@ groups-preserved c =
     record {
       weight = next_weight _ _ c.groups.invariant.weight;
       small = f.sum;
-      read = λ more. one_more number_at (more_at (8 - c.groups.before) c.groups.value c.groups.weight) c.args.bytes.now
+      read = λ more. one_more number_at _ c.args.bytes.now
           (c.groups.before + 1) (c.groups.before + 1 + 1) refl (omega arith) c.groups.invariant.read more
           ∙ goes_on _ more (8 - (c.groups.before + 1)) c.groups.value c.groups.weight (8 - c.groups.before) (omega arith) c.if-byte-lt128.false;
     }
 
 pub returns-then-bytes-eq1-clause-read : goal.returns-then-bytes-eq1-clause-read
 returns-then-bytes-eq1-clause-read c = λ more. let e : c.groups.before + 1 ≡ 9 = omega arith in
-    one_more number_at (more_at (8 - c.groups.before) c.groups.value c.groups.weight) c.args.bytes.now 9 10 refl (omega arith)
+    one_more number_at _ c.args.bytes.now 9 10 refl (omega arith)
     (rw e at c.groups.invariant.read) more
     ∙ tenth _ more c.groups.value c.groups.weight (8 - c.groups.before) (omega arith) c.if-bytes-eq1.true
