@@ -1,9 +1,9 @@
 -- The byte machine gives what the lines of a text say.
-use Rattle.std.proofs.Common.{◌≡◌, ℕ, ◌+◌, ◌-◌, ◌*◌, ◌^◌, ◌<◌, min, Bool, true, false, cond, List, [], ◌∷◌, ◌++◌, Some, None, refl, sym, ap, subst, ◌∙◌, arith, inl, inr, ◌⊎◌}
+use Rattle.std.proofs.Common.{◌≡◌, ℕ, ◌+◌, ◌-◌, ◌*◌, ◌^◌, ◌<◌, min, Bool, true, false, cond, List, [], ◌∷◌, ◌++◌, Some, refl, sym, ap, ◌∙◌, arith, inl, inr}
 use Rattle.std.specs.Prelude.{◌&&◌, codes, filter, ◌==◌}
 use Rattle.std.specs.List.{slice_split, onto_first, list_all, fold}
 use Rattle.std.specs.Str.{bytes_eq}
-use Rattle.std.proofs.lemmas.Bool.{ne_eqb, cases_eq, cases_lt, lt-ltb}
+use Rattle.std.proofs.lemmas.Bool.{cases_Bool, ne_eqb, cases_eq, cases_lt, lt-ltb}
 use Rattle.sat_formula.specs.declared.fault.DimacsKind.TheVariants.{BadNumber, VarTooLarge, BadHeader, LateHeader, UnterminatedClause}
 use Rattle.sat_formula.specs.declared.word.Number.TheVariants as numbers
 use Rattle.sat_formula.specs.declared.word.Token.{Token}
@@ -16,9 +16,9 @@ use Rattle.sat_formula.specs.declared.past.Past.{Past}
 use Rattle.sat_formula.specs.Counts.{no_counts, counts_after}
 use Rattle.sat_formula.specs.Past.{nothing_past, past_after, with_header}
 use Rattle.sat_formula.specs.Words.{begun_by, number_after, token_of, header_after, is_whole}
-use Rattle.sat_formula.specs.Text.{State, At, Place, Start, Between, Comment, InHeader, InNumber, After, Goes, Gives, Stops, step, header_ends, number_ends, number_last, at_end, outcome_at, start}
-use Rattle.sat_formula.specs.Lines.{has_bytes, words_of, value_from, value_of, judged, token_of_word, all_pass, is_digits, is_header, LineKind, EmptyLine, CommentLine}
-use Rattle.sat_formula.specs.Lines.{EndMark, HeaderLine, TokenLine, kind_of_line, token_then, tokens_from, header_then, line_then, lines_from, outcome_of}
+use Rattle.sat_formula.specs.Text.{At, Place, Start, Between, Comment, InHeader, InNumber, After, Goes, Gives, Stops, number_ends, number_last, at_end, outcome_at, start}
+use Rattle.sat_formula.specs.Lines.{has_bytes, words_of, value_from, value_of, judged, token_of_word, all_pass, is_digits, is_header, LineKind}
+use Rattle.sat_formula.specs.Lines.{HeaderLine, TokenLine, kind_of_line, token_then, tokens_from, header_then, line_then, lines_from, outcome_of}
 use Rattle.sat_formula.proofs.Steps.{word_blank, word_number, number_blank, number_goes}
 
 -- ---- a list cut at bytes: the part that is open, and the others
@@ -37,9 +37,9 @@ module _ (ends : ℕ → Bool) where
   pub slice_split-front : (bs : List ℕ) → slice_split ends bs ≡ front bs ∷ others bs
   slice_split-front [] = refl
   slice_split-front (b ∷ bs) =
-      elim (ends b) as (λ t. cond t ([] ∷ slice_split ends bs) (onto_first b (slice_split ends bs)) ≡ cond t [] (b ∷ front bs) ∷ cond t (slice_split ends bs) (others bs)) [
-        | true ↦ refl
-        | false ↦ ap (onto_first b) (slice_split-front bs)
+      elim (cases_Bool (ends b)) [
+        | inl e ↦ rw e refl
+        | inr e ↦ rw e (ap (onto_first b) (slice_split-front bs))
       ]
 
 -- ---- headers
@@ -66,16 +66,7 @@ comes_after headers.Bad w ws = false
 
 comes_after-nothing : (h : Header) → is_whole h ≡ comes_after h [] []
 comes_after-nothing headers.P = refl
-comes_after-nothing headers.AfterP = refl
-comes_after-nothing headers.C = refl
-comes_after-nothing headers.N = refl
-comes_after-nothing headers.F = refl
-comes_after-nothing headers.AfterCnf = refl
-comes_after-nothing headers.Variables = refl
-comes_after-nothing headers.AfterVariables = refl
-comes_after-nothing headers.Clauses = refl
-comes_after-nothing headers.AfterClauses = refl
-comes_after-nothing headers.Bad = refl
+comes_after-nothing _ = refl
 
 -- a blank is none of the other bytes
 blank_ne : (b k : ℕ) → is_blank k ≡ false → is_blank b ≡ true → (b == k) ≡ false
@@ -83,17 +74,10 @@ blank_ne b k other blank = elim (cases_eq b k) [ inl e ↦ let bad = rw e at bla
 
 module _ (b : ℕ) (w : List ℕ) (ws : List (List ℕ)) where
   comes_after-blank : (h : Header) → is_blank b ≡ true → comes_after (header_after h b) w ws ≡ comes_after h [] (w ∷ ws)
-  comes_after-blank headers.P e = rw e refl
-  comes_after-blank headers.AfterP e = rw e refl
   comes_after-blank headers.C e = rw (blank_ne b 110 refl e) refl
   comes_after-blank headers.N e = rw (blank_ne b 102 refl e) refl
-  comes_after-blank headers.F e = rw e refl
-  comes_after-blank headers.AfterCnf e = rw e refl
-  comes_after-blank headers.Variables e = rw e refl
-  comes_after-blank headers.AfterVariables e = rw e refl
-  comes_after-blank headers.Clauses e = rw e refl
-  comes_after-blank headers.AfterClauses e = rw e refl
   comes_after-blank headers.Bad e = refl
+  comes_after-blank _ e = rw e refl
 
   -- the part goes on with a byte that passes a test, or the header is bad
   goes_on : (h : Header) (t x y : Bool) → comes_after h w ws ≡ (x && y) → comes_after (cond t h headers.Bad) w ws ≡ ((t && x) && y)
@@ -101,27 +85,21 @@ module _ (b : ℕ) (w : List ℕ) (ws : List (List ℕ)) where
   goes_on h false x y e = refl
 
   comes_after-byte : (h : Header) → is_blank b ≡ false → comes_after (header_after h b) w ws ≡ comes_after h (b ∷ w) ws
-  comes_after-byte headers.P e = rw e refl
   comes_after-byte headers.AfterP e = rw e (goes_on headers.C (b == 99) _ _ refl)
   comes_after-byte headers.C e = goes_on headers.N (b == 110) _ _ refl
   comes_after-byte headers.N e = goes_on headers.F (b == 102) _ _ refl
-  comes_after-byte headers.F e = rw e refl
   comes_after-byte headers.AfterCnf e = rw e (goes_on headers.Variables (is_digit b) _ _ refl)
   comes_after-byte headers.Variables e = rw e (goes_on headers.Variables (is_digit b) _ _ refl)
   comes_after-byte headers.AfterVariables e = rw e (goes_on headers.Clauses (is_digit b) _ _ refl)
   comes_after-byte headers.Clauses e = rw e (goes_on headers.Clauses (is_digit b) _ _ refl)
-  comes_after-byte headers.AfterClauses e = rw e refl
   comes_after-byte headers.Bad e = refl
-
-true_or_false : (t : Bool) → (t ≡ true) ⊎ (t ≡ false)
-true_or_false true = inl refl
-true_or_false false = inr refl
+  comes_after-byte _ e = rw e refl
 
 -- what was read of a header and then the rest of its line
 header-fold : (h : Header) (bytes : List ℕ) → is_whole (fold header_after h bytes) ≡ comes_after h (front is_blank bytes) (others is_blank bytes)
 header-fold h [] = comes_after-nothing h
 header-fold h (b ∷ bytes) =
-    header-fold (header_after h b) bytes ∙ elim (true_or_false (is_blank b)) [
+    header-fold (header_after h b) bytes ∙ elim (cases_Bool (is_blank b)) [
       | inl e ↦ rw (e, slice_split-front is_blank bytes) (comes_after-blank b (front is_blank bytes) (others is_blank bytes) h e)
       | inr e ↦ rw e (comes_after-byte b (front is_blank bytes) (others is_blank bytes) h e)
     ]
@@ -145,28 +123,24 @@ judged_alike negative v u e =
 
 bad-fold : (bytes : List ℕ) → token_of (fold number_after numbers.Bad bytes) ≡ tokens.Wrong BadNumber
 bad-fold [] = refl
-bad-fold (d ∷ bytes) =
-    elim (is_digit d) as (λ t. token_of (fold number_after (cond t numbers.Bad numbers.Bad) bytes) ≡ tokens.Wrong BadNumber) [ true ↦ bad-fold bytes | false ↦ bad-fold bytes ]
+bad-fold (d ∷ bytes) = elim (cases_Bool (is_digit d)) [ inl e ↦ rw e (bad-fold bytes) | inr e ↦ rw e (bad-fold bytes) ]
 
 digits-fold : (negative : Bool) (v u : ℕ) (bytes : List ℕ) → min v (2 ^ 28 + 1) ≡ min u (2 ^ 28 + 1) →
     token_of (fold number_after (numbers.Digits negative v) bytes) ≡ judged negative (value_from u bytes)
 digits-fold negative v u [] e = judged_alike negative v u e
 digits-fold negative v u (d ∷ bytes) e =
-    let next : min (min v (2 ^ 28 + 1) * 10 + (d - 48)) (2 ^ 28 + 1) ≡ min (u * 10 + (d - 48)) (2 ^ 28 + 1) = omega arith in
-    elim (is_digit d) as (λ t. token_of (fold number_after
-    (cond t (numbers.Digits negative (min v (2 ^ 28 + 1) * 10 + (d - 48))) numbers.Bad) bytes) ≡
-    judged negative (cond t (value_from (u * 10 + (d - 48)) bytes) None)) [
-      | true ↦ digits-fold negative (min v (2 ^ 28 + 1) * 10 + (d - 48)) (u * 10 + (d - 48)) bytes next
-      | false ↦ bad-fold bytes
+    elim (cases_Bool (is_digit d)) [
+      | inl t ↦ rw t (digits-fold negative (min v (2 ^ 28 + 1) * 10 + (d - 48)) (u * 10 + (d - 48)) bytes (omega arith))
+      | inr t ↦ rw t (bad-fold bytes)
     ]
 
 -- digits at the start of a value
-first-fold : (negative : Bool) (d : ℕ) (bytes : List ℕ) → token_of (fold number_after (cond (is_digit d) (numbers.Digits negative (d - 48)) numbers.Bad) bytes) ≡ judged negative (value_of (d ∷ bytes))
+first-fold : (negative : Bool) (d : ℕ) (bytes : List ℕ) → token_of
+    (fold number_after (cond (is_digit d) (numbers.Digits negative (d - 48)) numbers.Bad) bytes) ≡ judged negative (value_of (d ∷ bytes))
 first-fold negative d bytes =
-    let same : min (d - 48) (2 ^ 28 + 1) ≡ min (0 * 10 + (d - 48)) (2 ^ 28 + 1) = omega arith in
-    elim (is_digit d) as (λ t. token_of (fold number_after (cond t (numbers.Digits negative (d - 48)) numbers.Bad) bytes) ≡ judged negative (cond t (value_from (0 * 10 + (d - 48)) bytes) None)) [
-      | true ↦ digits-fold negative (d - 48) (0 * 10 + (d - 48)) bytes same
-      | false ↦ bad-fold bytes
+    elim (cases_Bool (is_digit d)) [
+      | inl t ↦ rw t (digits-fold negative (d - 48) (0 * 10 + (d - 48)) bytes (omega arith))
+      | inr t ↦ rw t (bad-fold bytes)
     ]
 
 sign-fold : (bytes : List ℕ) → token_of (fold number_after numbers.Sign bytes) ≡ judged true (value_of bytes)
@@ -176,11 +150,9 @@ sign-fold (d ∷ bytes) = first-fold true d bytes
 -- a word is judged alike in one piece and byte after byte
 number-fold : (b : ℕ) (bytes : List ℕ) → token_of (fold number_after (begun_by b) bytes) ≡ token_of_word (b ∷ bytes)
 number-fold b bytes =
-    elim (b == 45) as (λ t. token_of (fold number_after
-    (cond t numbers.Sign (cond (is_digit b) (numbers.Digits false (b - 48)) numbers.Bad)) bytes) ≡
-    cond t (judged true (value_of bytes)) (judged false (value_of (b ∷ bytes)))) [
-      | true ↦ sign-fold bytes
-      | false ↦ first-fold false b bytes
+    elim (cases_Bool (b == 45)) [
+      | inl t ↦ rw t (sign-fold bytes)
+      | inr t ↦ rw t (first-fold false b bytes)
     ]
 
 -- ---- the text
@@ -202,21 +174,14 @@ ending e = ([], e)
 
 -- between numbers a number came before
 abbrev IsFit : Place → Bool → Type 0
-IsFit Start seen = Unit {0}
 IsFit Between seen = seen ≡ true
-IsFit Comment seen = Unit {0}
-IsFit (InHeader h counts) seen = Unit {0}
-IsFit (InNumber n) seen = Unit {0}
+IsFit _ seen = Unit {0}
 
 -- what one byte of a text leads to
 abbrev then_at : List ℕ → After → Outcome
 then_at bytes (Goes t) = outcome_at t bytes
 then_at bytes (Gives clause t) = with_clause clause (outcome_at t bytes)
 then_at bytes (Stops past e) = ([], e)
-
-outcome_at-cons : (s : State) (b : ℕ) (bytes : List ℕ) (a : After) → step s b ≡ a → outcome_at s (b ∷ bytes) ≡ then_at bytes a
-unfolding outcome_at
-outcome_at-cons s b bytes a e = ap (then_at bytes) e
 
 -- a number that ends, with what follows it
 number_ends-then : (t : Token) (line : ℕ) (past : Past) (begun : List ℕ) (after : ℕ) (place : Place) (bytes : List ℕ) (next : List ℕ → Outcome) →
@@ -228,10 +193,10 @@ number_ends-then (tokens.Wrong kind) line past begun after place bytes next h = 
 
 -- a header that ends
 header_ends-then : (line : ℕ) (past now : Past) (seen whole : Bool) (begun : List ℕ) (bytes : List ℕ) (next : Outcome) → outcome_at (At (next_line line) now begun Start) bytes ≡ next
-    → then_at bytes (cond seen (Stops past (Faulty line LateHeader)) (cond whole (Goes (At (next_line line) now begun Start)) (Stops past (Faulty line BadHeader)))) ≡ header_then line seen whole next
-header_ends-then line past now true whole begun bytes next h = refl
+    → then_at bytes (cond seen (Stops past (Faulty line LateHeader))
+    (cond whole (Goes (At (next_line line) now begun Start)) (Stops past (Faulty line BadHeader)))) ≡ header_then line seen whole next
 header_ends-then line past now false true begun bytes next h = h
-header_ends-then line past now false false begun bytes next h = refl
+header_ends-then line past now _ _ begun bytes next h = refl
 
 -- ---- the end of the input
 
@@ -240,24 +205,20 @@ finish-open line [] code = refl
 finish-open line (l ∷ begun) code = refl
 
 number_last-then : (line : ℕ) (begun : List ℕ) (t : Token) → number_last line begun t ≡ token_then line begun t (λ still. ([], finish line still))
-number_last-then line begun tokens.Zero = refl
 number_last-then line begun (tokens.Literal code) = rw (finish-open line begun code) refl
-number_last-then line begun (tokens.Wrong kind) = refl
+number_last-then line begun _ = refl
 
 header_last-then : (line : ℕ) (seen whole : Bool) (begun : List ℕ) →
     ending (cond seen (Faulty line LateHeader) (cond whole (finish line begun) (Faulty line BadHeader))) ≡
     header_then line seen whole (ending (finish line begun))
-header_last-then line true whole begun = refl
 header_last-then line false true begun = refl
-header_last-then line false false begun = refl
+header_last-then line _ _ begun = refl
 
 at_end-rest : (p : Place) (line : ℕ) (past : Past) (begun : List ℕ) → at_end (At line past begun p) ≡ rest_of_line p line past.seen begun [] (λ now still. ([], finish line still))
 unfolding tokens_from
-at_end-rest Start line past begun = refl
-at_end-rest Between line past begun = refl
-at_end-rest Comment line past begun = refl
 at_end-rest (InHeader h counts) line past begun = header_last-then line past.seen (is_whole h) begun
 at_end-rest (InNumber n) line past begun = number_last-then line begun (token_of n)
+at_end-rest _ line past begun = refl
 
 -- ---- a blank, and the first byte of a word
 
@@ -269,11 +230,9 @@ words_of-byte b bytes e = rw (e, slice_split-front is_blank bytes) refl
 
 line_then-words : (k : LineKind) (line : ℕ) (seen : Bool) (begun xs ys : List ℕ) (next : Bool → List ℕ → Outcome) →
     words_of xs ≡ words_of ys → line_then k line seen begun xs next ≡ line_then k line seen begun ys next
-line_then-words EmptyLine line seen begun xs ys next e = refl
-line_then-words CommentLine line seen begun xs ys next e = refl
-line_then-words EndMark line seen begun xs ys next e = refl
 line_then-words HeaderLine line seen begun xs ys next e = ap (λ (ws : List (List ℕ)). header_then line seen (is_header ws) (next true begun)) e
 line_then-words TokenLine line seen begun xs ys next e = ap (λ (ws : List (List ℕ)). tokens_from line begun ws (next true)) e
+line_then-words _ line seen begun xs ys next e = refl
 
 line_by-blank : (line : ℕ) (seen : Bool) (begun : List ℕ) (b : ℕ) (bytes : List ℕ) (next : Bool → List ℕ → Outcome) → is_blank b ≡ true →
     line_by line seen begun bytes next ≡ line_by line seen begun (b ∷ bytes) next
@@ -304,18 +263,12 @@ module _ (bytes : List ℕ) (later : Agrees bytes) (line : ℕ) where
   at_lf : (p : Place) (past : Past) (begun : List ℕ) → IsFit p past.seen →
       outcome_at (At line past begun p) (10 ∷ bytes) ≡
       rest_of_line p line past.seen begun [] (λ now still. lines_from line now still (slice_split is_lf bytes))
-  unfolding tokens_from
-  at_lf Start past begun fit = outcome_at-cons (At line past begun Start) 10 bytes (Goes (At (next_line line) past begun Start)) refl ∙ next_lines past begun
-  at_lf Between past begun fit =
-      outcome_at-cons (At line past begun Between) 10 bytes (Goes (At (next_line line) past begun Start)) refl ∙ next_lines past begun ∙ ap
-      (λ now. lines_from line now begun (slice_split is_lf bytes)) fit
-  at_lf Comment past begun fit = outcome_at-cons (At line past begun Comment) 10 bytes (Goes (At (next_line line) past begun Start)) refl ∙ next_lines past begun
-  at_lf (InHeader h counts) past begun fit =
-      outcome_at-cons (At line past begun (InHeader h counts)) 10 bytes (header_ends line past begun h counts) refl
-      ∙ header_ends-then line past (with_header past counts) past.seen (is_whole h) begun bytes _ (next_lines (with_header past counts) begun)
+  unfolding outcome_at tokens_from
+  at_lf Between past begun fit = next_lines past begun ∙ ap (λ now. lines_from line now begun (slice_split is_lf bytes)) fit
+  at_lf (InHeader h counts) past begun fit = header_ends-then line past (with_header past counts) past.seen (is_whole h) begun bytes _ (next_lines (with_header past counts) begun)
   at_lf (InNumber n) past begun fit =
-      outcome_at-cons (At line past begun (InNumber n)) 10 bytes (number_ends line past begun (token_of n) (next_line line) Start) refl
-      ∙ number_ends-then (token_of n) line past begun (next_line line) Start bytes _ (λ now is still. next_lines now still ∙ ap (λ k. lines_from line k still (slice_split is_lf bytes)) is)
+      number_ends-then (token_of n) line past begun (next_line line) Start bytes _ (λ now is still. next_lines now still ∙ ap (λ k. lines_from line k still (slice_split is_lf bytes)) is)
+  at_lf _ past begun fit = next_lines past begun
 
   abbrev next : Bool → List ℕ → Outcome
   next now still = lines_from line now still (others is_lf bytes)
@@ -325,44 +278,35 @@ module _ (bytes : List ℕ) (later : Agrees bytes) (line : ℕ) where
 
   module _ (b : ℕ) (n : b ≡ 10 → ⊥) where
     at_first : (past : Past) (begun : List ℕ) → is_blank b ≡ false → outcome_at (At line past begun Start) (b ∷ bytes) ≡ line_by line past.seen begun (b ∷ l) next
+    unfolding outcome_at
     at_first past begun e =
-        let Goal : ℕ → Type 0 = λ k. outcome_at (At line past begun Start) (k ∷ bytes) ≡ line_by line past.seen begun (k ∷ l) next in
         elim (cases_eq b 99) [
-          | inl q ↦ subst Goal (sym q) (outcome_at-cons (At line past begun Start) 99 bytes (Goes (At line past begun Comment)) refl ∙ later Comment line past begun tt)
+          | inl q ↦ rw q (later Comment line past begun tt)
           | inr c ↦ elim (cases_eq b 37) [
-            | inl q ↦ subst Goal (sym q) (outcome_at-cons (At line past begun Start) 37 bytes (Stops past (finish line begun)) refl)
+            | inl q ↦ rw q refl
             | inr mark ↦ elim (cases_eq b 112) [
-              | inl q ↦ subst Goal (sym q) (outcome_at-cons (At line past begun Start) 112 bytes (Goes (At line past begun (InHeader headers.P no_counts))) refl ∙ later (InHeader headers.P no_counts) line past begun tt
-                  ∙ ap (λ right. header_then line past.seen right (next true begun)) (header_of_line l))
-              | inr p ↦ outcome_at-cons (At line past begun Start) b bytes (Goes (At line past begun (InNumber (begun_by b)))) (word_number b line past begun false n e (λ f. (c, mark, p)))
-                  ∙ later (InNumber (begun_by b)) line past begun tt ∙ word-then line begun b l (next true) e
-                  ∙ ap (λ k. line_then k line past.seen begun (b ∷ l) next) (sym (kind_of_tokens b l e c mark p))
+              | inl q ↦ rw q (later (InHeader headers.P no_counts) line past begun tt ∙ ap (λ right. header_then line past.seen right (next true begun)) (header_of_line l))
+              | inr p ↦ rw (word_number b line past begun false n e (λ f. (c, mark, p)), kind_of_tokens b l e c mark p, outcome_at)
+                  (later (InNumber (begun_by b)) line past begun tt ∙ word-then line begun b l (next true) e)
             ]
           ]
         ]
 
     at_byte : (p : Place) (past : Past) (begun : List ℕ) → IsFit p past.seen → outcome_at (At line past begun p) (b ∷ bytes) ≡ rest_of_line p line past.seen begun (b ∷ l) next
-    at_byte Start past begun fit = elim (true_or_false (is_blank b)) [
-      | inl e ↦ outcome_at-cons (At line past begun Start) b bytes (Goes (At line past begun Start))
-          (word_blank b line past begun false n e) ∙ later Start line past begun tt ∙ line_by-blank line past.seen begun b l next e
+    unfolding outcome_at
+    at_byte Start past begun fit = elim (cases_Bool (is_blank b)) [
+      | inl e ↦ rw (word_blank b line past begun false n e, outcome_at) (later Start line past begun tt ∙ line_by-blank line past.seen begun b l next e)
       | inr e ↦ at_first past begun e
     ]
-    at_byte Between past begun fit = elim (true_or_false (is_blank b)) [
-      | inl e ↦ outcome_at-cons (At line past begun Between) b bytes (Goes (At line past begun Between)) (word_blank b line past begun true n e) ∙ later Between line past begun fit
-          ∙ ap (λ (ws : List (List ℕ)). tokens_from line begun ws (next true)) (sym (words_of-blank b l e))
-      | inr e ↦ outcome_at-cons (At line past begun Between) b bytes (Goes (At line past begun (InNumber (begun_by b))))
-          (word_number b line past begun true n e (λ f. absurd cc)) ∙ later (InNumber (begun_by b)) line past begun tt
-          ∙ word-then line begun b l (next true) e
+    at_byte Between past begun fit = elim (cases_Bool (is_blank b)) [
+      | inl e ↦ rw (word_blank b line past begun true n e, words_of-blank b l e, outcome_at) (later Between line past begun fit)
+      | inr e ↦ rw (word_number b line past begun true n e (λ f. absurd cc), outcome_at) (later (InNumber (begun_by b)) line past begun tt ∙ word-then line begun b l (next true) e)
     ]
-    at_byte Comment past begun fit = outcome_at-cons (At line past begun Comment) b bytes (Goes (At line past begun Comment)) (rw (ne_eqb b 10 n) refl) ∙ later Comment line past begun tt
-    at_byte (InHeader h counts) past begun fit =
-        outcome_at-cons (At line past begun (InHeader h counts)) b bytes (Goes (At line past begun (InHeader (header_after h b) (counts_after (header_after h b) counts b))))
-        (rw (ne_eqb b 10 n) refl) ∙ later (InHeader (header_after h b) (counts_after (header_after h b) counts b)) line past begun tt
-    at_byte (InNumber m) past begun fit = elim (true_or_false (is_blank b)) [
-      | inl e ↦ outcome_at-cons (At line past begun (InNumber m)) b bytes (number_ends line past begun (token_of m) line Between) (number_blank b line past begun m n e)
-          ∙ number_ends-then (token_of m) line past begun line Between bytes _ (λ now is still. later Between line now still is) ∙ rw e refl
-      | inr e ↦ outcome_at-cons (At line past begun (InNumber m)) b bytes (Goes (At line past begun (InNumber (number_after m b))))
-          (number_goes b line past begun m n e) ∙ later (InNumber (number_after m b)) line past begun tt ∙ rw e refl
+    at_byte Comment past begun fit = rw (ne_eqb b 10 n, outcome_at) (later Comment line past begun tt)
+    at_byte (InHeader h counts) past begun fit = rw (ne_eqb b 10 n, outcome_at) (later (InHeader (header_after h b) (counts_after (header_after h b) counts b)) line past begun tt)
+    at_byte (InNumber m) past begun fit = elim (cases_Bool (is_blank b)) [
+      | inl e ↦ rw (number_blank b line past begun m n e, e, outcome_at) (number_ends-then (token_of m) line past begun line Between bytes _ (λ now is still. later Between line now still is))
+      | inr e ↦ rw (number_goes b line past begun m n e, e, outcome_at) (later (InNumber (number_after m b)) line past begun tt)
     ]
 
 agrees : (bytes : List ℕ) → Agrees bytes
@@ -370,9 +314,7 @@ unfolding outcome_at lines_from
 agrees [] p line past begun fit = at_end-rest p line past begun
 agrees (b ∷ bytes) p line past begun fit =
     elim (cases_eq b 10) [
-      | inl q ↦ subst (λ (k : ℕ). outcome_at (At line past begun p) (k ∷ bytes) ≡
-          rest_of_line p line past.seen begun (front is_lf (k ∷ bytes)) (λ now still. lines_from line now still (others is_lf (k ∷ bytes)))) (sym q)
-          (at_lf bytes (agrees bytes) line p past begun fit)
+      | inl q ↦ rw q (at_lf bytes (agrees bytes) line p past begun fit)
       | inr n ↦ rw (ne_eqb b 10 n) (at_byte bytes (agrees bytes) line b n p past begun fit)
     ]
 

@@ -1,20 +1,18 @@
 -- From the answers of many calls to the notes of a whole text, for the crates above.
-use Rattle.std.proofs.Common.{◌≡◌, ℕ, Bool, true, false, List, [], ◌∷◌, ◌++◌, Option, Some, None, Result, Ok, Err, refl, sym, ap, ◌∙◌, append-nil, append_assoc}
+use Rattle.std.proofs.Common.{◌≡◌, ℕ, Bool, true, false, List, [], ◌∷◌, ◌++◌, Option, Some, None, Ok, refl, sym, ap, ◌∙◌, append-nil, append_assoc}
 use Rattle.std.specs.Prelude.{IfSome, if◌then◌else◌, map}
 use Rattle.std.specs.Option.{option_map}
 use Rattle.sat_formula.specs.declared.dimacs.DimacsReader.{DimacsReader}
-use Rattle.sat_formula.specs.declared.fault.DimacsFault.{DimacsFault}
 use Rattle.sat_formula.specs.declared.past.Past.{Past}
-use Rattle.sat_formula.specs.DimacsReader.{has_ended, unread_of, standing, IsNext}
+use Rattle.sat_formula.specs.DimacsReader.{has_ended, unread_of, standing}
 use Rattle.sat_formula.specs.Reading.{GivesClause, more, last}
 use Rattle.sat_formula.specs.Taking.{Finishes, by_byte, by_input}
 use Rattle.sat_formula.specs.Outcome.{Ending, Ended, Outcome}
 use Rattle.sat_formula.specs.Text.{State, past_of, Next, Clause, Stopped, Waits, Goes, Gives, Stops, step, next_at, at_end, past_at_end, start}
 use Rattle.sat_formula.specs.Notes.{Notes, with_line, last_notes, notes_at, notes_of}
 use Rattle.sat_formula.specs.Noting.{notes_left, IsNotes, HasNoted}
-
-abbrev Known : Type 0
-Known = Option (List ℕ)
+use Rattle.sat_formula.proofs.Steps.{Known}
+use Rattle.sat_formula.proofs.Whole.{AfterEnd, Reads}
 
 -- ---- one call
 
@@ -72,13 +70,6 @@ of_text s None n h = tt
 of_text s (Some text) n h = h
 
 -- ---- many calls
-
--- the facts of a call: `after_end` and `next` of its contract
-abbrev AfterEnd : {R : Type 0} → DimacsReader R → DimacsReader R → List ℕ → Result Bool DimacsFault → Type 0
-AfterEnd mid new clause r = has_ended mid ≡ true → (r ≡ Ok false) × (new ≡ mid) × (clause ≡ [])
-
-abbrev Reads : {R : Type 0} → (R → Known) → DimacsReader R → DimacsReader R → List ℕ → Result Bool DimacsFault → Type 0
-Reads remaining mid new clause r = has_ended mid ≡ false → IsNext remaining mid new clause r
 
 pub HasNoted-nil : {R : Type 0} (remaining : R → Known) (r : DimacsReader R) → HasNoted remaining r [] r
 HasNoted-nil remaining r = record { back = λ n h. h }

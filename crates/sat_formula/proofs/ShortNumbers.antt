@@ -1,5 +1,5 @@
 -- Short numbers in front of the bytes that are read ahead.
-use Rattle.std.proofs.Common.{◌≡◌, ℕ, zero, suc, ◌+◌, ◌-◌, ◌*◌, ◌^◌, ◌<◌, ◌≤◌, Bool, true, false, List, [], ◌∷◌, ◌++◌, length, get_or, take, drop, cond, refl, sym, subst, ap, ◌∙◌, append_assoc, arith}
+use Rattle.std.proofs.Common.{◌≡◌, ℕ, zero, suc, ◌+◌, ◌-◌, ◌*◌, ◌^◌, ◌<◌, ◌≤◌, Bool, true, false, List, [], ◌∷◌, ◌++◌, length, get_or, take, drop, refl, sym, subst, ap, ◌∙◌, append_assoc, arith}
 use Rattle.std.proofs.Math.Nat.{pow-le-pow_right, pow-suc}
 use Rattle.std.proofs.lemmas.Bool.{eqb-true}
 use Rattle.std.proofs.lemmas.Bool.Decides.{nat_tests}
@@ -7,7 +7,7 @@ use Rattle.std.proofs.lemmas.List.{take_all, take_more}
 use Rattle.std.specs.Prelude.{◌==◌, ◌||◌, slice_index, min, IsTrue, if◌then◌else◌}
 use Rattle.std.specs.Io.KnownBytes.{Consumes}
 use Rattle.sat_formula.specs.declared.word.Number.{Number}
-use Rattle.sat_formula.specs.declared.word.Number.TheVariants.{Sign, Digits, Bad}
+use Rattle.sat_formula.specs.declared.word.Number.TheVariants.{Sign, Digits}
 use Rattle.sat_formula.specs.declared.past.Past.{Past}
 use Rattle.sat_formula.specs.Bytes.{is_blank, is_digit}
 use Rattle.sat_formula.specs.Words.{begun_by, number_after}
@@ -20,25 +20,13 @@ use Rattle.sat_formula.proofs.Steps.{Known, step_goes, number_runs, word_number}
 -- ---- a digit
 
 no_end : (x : ℕ) → is_digit x ≡ true → (is_blank x || (x == 10)) ≡ false
-no_end x e = go (is_blank x || (x == 10)) refl
-  where
-    go : (b : Bool) → (is_blank x || (x == 10)) ≡ b → b ≡ false
-    go true p = absurd (grind (arith, nat_tests, e, p))
-    go false p = refl
+no_end x e = grind (arith, nat_tests)
 
 no_blank : (x : ℕ) → is_digit x ≡ true → is_blank x ≡ false
-no_blank x e = go (is_blank x) refl
-  where
-    go : (b : Bool) → is_blank x ≡ b → b ≡ false
-    go true p = absurd (grind (arith, nat_tests, e, p))
-    go false p = refl
+no_blank x e = grind (arith, nat_tests)
 
 no_minus : (x : ℕ) → is_digit x ≡ true → (x == 45) ≡ false
-no_minus x e = go (x == 45) refl
-  where
-    go : (b : Bool) → (x == 45) ≡ b → b ≡ false
-    go true p = absurd (grind (arith, nat_tests, e, p))
-    go false p = refl
+no_minus x e = grind (arith, nat_tests)
 
 not_at : (x y : ℕ) → is_digit x ≡ true → is_digit y ≡ false → x ≡ y → ⊥
 not_at x y e f z = let bad : is_digit y ≡ true = subst (λ k. is_digit k ≡ true) z e in let no = f in absurd cc
@@ -55,7 +43,7 @@ sign_then x e = rw e refl
 digit_then : (negative : Bool) (v x : ℕ) → is_digit x ≡ true → v ≤ 2 ^ 28 → number_after (Digits negative v) x ≡ Digits negative (v * 10 + (x - 48))
 digit_then negative v x e small =
     let same : min v (2 ^ 28 + 1) ≡ v = omega (arith, small) in
-    ap (λ t. cond t (Digits negative (min v (2 ^ 28 + 1) * 10 + (x - 48))) Bad) e ∙ ap (λ m. Digits negative (m * 10 + (x - 48))) same
+    rw (e, same) refl
 
 module _ (line : ℕ) (past : Past) (begun : List ℕ) where
   abbrev within : Number → State

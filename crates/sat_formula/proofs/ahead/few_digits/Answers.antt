@@ -8,15 +8,13 @@ digits-init c = record { few = omega arith; digits = digits_none c.args.bytes.no
 
 pub overflow_mul-value : goal.overflow_mul-value
 overflow_mul-value c =
-    let small = c.digits.invariant.digits.small in
-    let fits = digit_fits_after c.digits.len c.digits.value (slice_index c.args.bytes.now c.digits.len) c.digits-test.true small (sym c.is_digit.ensures ∙ c.if-is_digit.true) in
-    omega (arith, fits)
+    let fits = digit_fits_after c.digits.len c.digits.value (slice_index c.args.bytes.now c.digits.len) c.digits-test.true c.digits.invariant.digits.small
+    (sym c.is_digit.ensures ∙ c.if-is_digit.true) in omega (arith, fits)
 
 pub overflow_add-value : goal.overflow_add-value
 overflow_add-value c =
-    let small = c.digits.invariant.digits.small in
-    let fits = digit_fits_after c.digits.len c.digits.value (slice_index c.args.bytes.now c.digits.len) c.digits-test.true small (sym c.is_digit.ensures ∙ c.if-is_digit.true) in
-    omega (arith, fits)
+    let fits = digit_fits_after c.digits.len c.digits.value (slice_index c.args.bytes.now c.digits.len) c.digits-test.true c.digits.invariant.digits.small
+    (sym c.is_digit.ensures ∙ c.if-is_digit.true) in omega (arith, fits)
 
 pub digits-preserved : goal.digits-preserved
 digits-preserved c = record {
@@ -24,12 +22,3 @@ digits-preserved c = record {
   digits = digits_more c.args.bytes.now c.digits.len c.digits.value c.digits.invariant.digits (omega (arith, c.digits-test.true, c.requires)) c.digits-test.true
       (sym c.is_digit.ensures ∙ c.if-is_digit.true);
 }
-
-pub returns-else-is_digit-clause-digits : goal.returns-else-is_digit-clause-digits
-returns-else-is_digit-clause-digits c = c.digits.invariant.digits
-
-pub returns-after-digits-clause-few : goal.returns-after-digits-clause-few
-returns-after-digits-clause-few c = c.digits.invariant.few
-
-pub returns-after-digits-clause-digits : goal.returns-after-digits-clause-digits
-returns-after-digits-clause-digits c = c.digits.invariant.digits

@@ -1,60 +1,56 @@
 use Rattle.std.proofs.Common.{rules, sym, ◌∙◌}
-use Rattle.sat_formula.specs.Text.{At}
-use Rattle.sat_formula.specs.Reading.{place_of}
-use Rattle.sat_formula.proofs.Steps.{word_exits, no_byte, byte_goes, byte_stops, leads_nil, leads_on, faults_on, word_on}
-use Rattle.sat_formula.proofs.Steps.{word_end, word_past, word_lf, word_blank, word_comment, word_mark, word_header, word_number}
+use Rattle.sat_formula.specs.Reading.{ReadsWord}
+use Rattle.sat_formula.proofs.Steps.{exits, no_byte, byte_stops, leads_nil, leads_on, faults_on, word_on}
+use Rattle.sat_formula.proofs.Steps.{word_end, word_first, word_goes, word_lf, word_blank, word_number}
 use Rattle.sat_formula.proofs.text.Text.word_by_bytes.Goals as goal
 use Rattle.sat_formula.proofs.text.Text.word_by_bytes.Goals.{then-not-self+else-byte-eq99+else-byte-eq37+else-byte-eq112, else-not-self}
 
 pub returns-in_err-byte-clause-read : goal.returns-in_err-byte-clause-read
 returns-in_err-byte-clause-read g c = λ begun. let s = c.args.self.now in
-    word_exits _ _ _ _ (record s { source = c.next_byte.new.self; limited = search rules }) begun _ c.from_residual.ensures.1
-    (no_byte c.next_byte.new.self (At s.line s.past begun (place_of s.in_line)) s.line s.past begun _ (word_end 0 s.line s.past begun s.in_line) (word_past 0 s.line s.past begun s.in_line)
+    exits (ReadsWord _ _ _ (record s { source = c.next_byte.new.self; limited = search rules }) begun) _ _ c.from_residual.ensures.1
+    (no_byte c.next_byte.new.self _ _ _ _ _ (λ _. word_end 0 s.line s.past begun s.in_line)
     (leads_nil _ _) c.in_err-byte.ensures.byte (λ e. search rules))
 
 pub returns-then-byte-eq10-clause-read : goal.returns-then-byte-eq10-clause-read
 returns-then-byte-eq10-clause-read g c = λ begun. let s = c.args.self.now in
     rw (c.end_line.ensures.source, c.end_line.ensures.state begun)
-    (byte_goes c.in_ok-byte.byte (At s.line s.past begun (place_of s.in_line)) (leads_nil _ _) c.in_ok-byte.ensures.byte (word_lf _ s.line s.past begun s.in_line c.if-byte-eq10.true))
+    (word_goes c.in_ok-byte.byte s begun c.in_ok-byte.ensures.byte (word_lf _ s.line s.past begun s.in_line c.if-byte-eq10.true))
 
 pub returns-then-is_blank-clause-read : goal.returns-then-is_blank-clause-read
 returns-then-is_blank-clause-read g c = λ begun. let s = c.args.self.now in
-    byte_goes c.in_ok-byte.byte (At s.line s.past begun (place_of s.in_line)) (leads_nil _ _) c.in_ok-byte.ensures.byte
-    (word_blank _ s.line s.past begun s.in_line c.if-byte-eq10.false (sym c.is_blank.ensures ∙ c.if-is_blank.true))
+    word_goes c.in_ok-byte.byte s begun c.in_ok-byte.ensures.byte (word_blank _ s.line s.past begun s.in_line c.if-byte-eq10.false (sym c.is_blank.ensures ∙ c.if-is_blank.true))
 
 pub returns-in_err-comment-clause-read : goal.returns-in_err-comment-clause-read
 returns-in_err-comment-clause-read g c = λ begun. let s = c.args.self.now in
-    word_exits _ _ _ _ c.comment.new.self begun _ c.from_residual-in_err-comment.ensures.1
-    (faults_on _ c.comment.new.self.source _ _ begun _
-    (byte_goes c.in_ok-byte.byte (At s.line s.past begun (place_of s.in_line)) (leads_nil _ _) c.in_ok-byte.ensures.byte
-    (word_comment _ s.line s.past begun s.in_line c.if-not-self.true c.if-byte-eq99.true)) (c.in_err-comment.ensures.read begun))
+    exits (ReadsWord _ _ _ c.comment.new.self begun) _ _ c.from_residual-in_err-comment.ensures.1
+    (faults_on _ c.comment.new.self.source _ _ begun _ (word_goes c.in_ok-byte.byte s begun c.in_ok-byte.ensures.byte
+    (word_first _ s.line s.past begun 99 s.in_line c.if-not-self.true c.if-byte-eq99.true)) (c.in_err-comment.ensures.read begun))
 
 pub returns-then-byte-eq99-clause-read : goal.returns-then-byte-eq99-clause-read
 returns-then-byte-eq99-clause-read g c = λ begun. let s = c.args.self.now in
-    leads_on (byte_goes c.in_ok-byte.byte (At s.line s.past begun (place_of s.in_line)) (leads_nil _ _) c.in_ok-byte.ensures.byte
-    (word_comment _ s.line s.past begun s.in_line c.if-not-self.true c.if-byte-eq99.true)) (c.in_ok-comment.ensures.read begun)
+    leads_on (word_goes c.in_ok-byte.byte s begun c.in_ok-byte.ensures.byte (word_first _ s.line s.past begun 99 s.in_line c.if-not-self.true c.if-byte-eq99.true))
+    (c.in_ok-comment.ensures.read begun)
 
 pub returns-then-byte-eq37-clause-read : goal.returns-then-byte-eq37-clause-read
 returns-then-byte-eq37-clause-read g c = λ begun. let s = c.args.self.now in
-    byte_stops c.in_ok-byte.byte (At s.line s.past begun (place_of s.in_line)) (leads_nil _ _) c.in_ok-byte.ensures.byte
-    (word_mark _ s.line s.past begun s.in_line c.if-not-self.true c.if-byte-eq37.true)
+    byte_stops c.in_ok-byte.byte _ (leads_nil _ _) c.in_ok-byte.ensures.byte
+    (word_first _ s.line s.past begun 37 s.in_line c.if-not-self.true c.if-byte-eq37.true)
 
 pub returns-in_err-header-clause-read : goal.returns-in_err-header-clause-read
 returns-in_err-header-clause-read g c = λ begun. let s = c.args.self.now in
-    word_exits _ _ _ _ c.header.new.self begun _ c.from_residual-in_err-header.ensures.1
-    (faults_on _ c.header.new.self.source _ _ begun _
-    (byte_goes c.in_ok-byte.byte (At s.line s.past begun (place_of s.in_line)) (leads_nil _ _) c.in_ok-byte.ensures.byte
-    (word_header _ s.line s.past begun s.in_line c.if-not-self.true c.if-byte-eq112.true)) (c.in_err-header.ensures.read begun))
+    exits (ReadsWord _ _ _ c.header.new.self begun) _ _ c.from_residual-in_err-header.ensures.1
+    (faults_on _ c.header.new.self.source _ _ begun _ (word_goes c.in_ok-byte.byte s begun c.in_ok-byte.ensures.byte
+    (word_first _ s.line s.past begun 112 s.in_line c.if-not-self.true c.if-byte-eq112.true)) (c.in_err-header.ensures.read begun))
 
 pub returns-then-byte-eq112-clause-read : goal.returns-then-byte-eq112-clause-read
 returns-then-byte-eq112-clause-read g c = λ begun. let s = c.args.self.now in
-    leads_on (byte_goes c.in_ok-byte.byte (At s.line s.past begun (place_of s.in_line)) (leads_nil _ _) c.in_ok-byte.ensures.byte
-    (word_header _ s.line s.past begun s.in_line c.if-not-self.true c.if-byte-eq112.true)) (c.in_ok-header.ensures.read begun)
+    leads_on (word_goes c.in_ok-byte.byte s begun c.in_ok-byte.ensures.byte (word_first _ s.line s.past begun 112 s.in_line c.if-not-self.true c.if-byte-eq112.true))
+    (c.in_ok-header.ensures.read begun)
 
 pub returns-clause-read : goal.returns-clause-read
 returns-clause-read g c = λ begun. let s = c.args.self.now in
     word_on _ c.number.new.self begun _
-    (byte_goes c.in_ok-byte.byte (At s.line s.past begun (place_of s.in_line)) (leads_nil _ _) c.in_ok-byte.ensures.byte
+    (word_goes c.in_ok-byte.byte s begun c.in_ok-byte.ensures.byte
     (word_number _ s.line s.past begun s.in_line c.if-byte-eq10.false (sym c.is_blank.ensures ∙ c.if-is_blank.false) (λ f. elim c.if-not-self.branch [
       | then-not-self+else-byte-eq99+else-byte-eq37+else-byte-eq112 w ↦ (w.if-byte-eq99.false, w.if-byte-eq37.false, w.if-byte-eq112.false)
       | else-not-self w ↦ let t = w.if-not-self.false in absurd cc
