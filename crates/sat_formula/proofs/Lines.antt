@@ -135,8 +135,7 @@ digits-fold negative v u (d ∷ bytes) e =
     ]
 
 -- digits at the start of a value
-first-fold : (negative : Bool) (d : ℕ) (bytes : List ℕ) → token_of
-    (fold number_after (cond (is_digit d) (numbers.Digits negative (d - 48)) numbers.Bad) bytes) ≡ judged negative (value_of (d ∷ bytes))
+first-fold : (negative : Bool) (d : ℕ) (bytes : List ℕ) → token_of (fold number_after (cond (is_digit d) (numbers.Digits negative (d - 48)) numbers.Bad) bytes) ≡ judged negative (value_of (d ∷ bytes))
 first-fold negative d bytes =
     elim (cases_Bool (is_digit d)) [
       | inl t ↦ rw t (digits-fold negative (d - 48) (0 * 10 + (d - 48)) bytes (omega arith))
@@ -193,8 +192,7 @@ number_ends-then (tokens.Wrong kind) line past begun after place bytes next h = 
 
 -- a header that ends
 header_ends-then : (line : ℕ) (past now : Past) (seen whole : Bool) (begun : List ℕ) (bytes : List ℕ) (next : Outcome) → outcome_at (At (next_line line) now begun Start) bytes ≡ next
-    → then_at bytes (cond seen (Stops past (Faulty line LateHeader))
-    (cond whole (Goes (At (next_line line) now begun Start)) (Stops past (Faulty line BadHeader)))) ≡ header_then line seen whole next
+    → then_at bytes (cond seen (Stops past (Faulty line LateHeader)) (cond whole (Goes (At (next_line line) now begun Start)) (Stops past (Faulty line BadHeader)))) ≡ header_then line seen whole next
 header_ends-then line past now false true begun bytes next h = h
 header_ends-then line past now _ _ begun bytes next h = refl
 
