@@ -1,14 +1,13 @@
 -- From the answers of many calls to what a header lies about, for the crates above.
 --     HasTold-nil, HasTold-more      a new reader; a call that gave a clause
 --     IsLie-ended      a call that found the end
-use Rattle.std.proofs.Common.{◌≡◌, ℕ, Bool, true, false, ◌+◌, ◌-◌, ◌^◌, List, [], ◌∷◌, ◌++◌, length, Option, Some, None, Result, Ok, refl, sym, ap, ◌∙◌, arith, length-append, subst}
+use Rattle.std.proofs.Common.{◌≡◌, ℕ, Bool, true, false, ◌+◌, ◌-◌, ◌^◌, List, [], ◌∷◌, ◌++◌, length, Some, None, Ok, refl, sym, ap, ◌∙◌, arith, length-append, subst}
 use Rattle.std.specs.Prelude.{min}
 use Rattle.std.specs.Option.{option_map}
 use Rattle.sat_formula.specs.declared.counts.Counts.{Counts}
 use Rattle.sat_formula.specs.declared.dimacs.DimacsReader.{DimacsReader}
-use Rattle.sat_formula.specs.declared.fault.DimacsFault.{DimacsFault}
 use Rattle.sat_formula.specs.Counts.{lie_of}
-use Rattle.sat_formula.specs.DimacsReader.{IsNext, clauses_given, counted, counts_given, has_ended, header_given, standing, unread_of, vars_given}
+use Rattle.sat_formula.specs.DimacsReader.{clauses_given, counted, counts_given, has_ended, header_given, standing, unread_of, vars_given}
 use Rattle.sat_formula.specs.Formula.{vars_with}
 use Rattle.sat_formula.specs.Lines.{outcome_of}
 use Rattle.sat_formula.specs.Notes.{Notes, notes_of}
@@ -18,12 +17,10 @@ use Rattle.sat_formula.specs.Text.{past_of, start}
 use Rattle.sat_formula.specs.Whole.{IsOutcome}
 use Rattle.sat_formula.proofs.Formulas.{var_count_of-append}
 use Rattle.sat_formula.proofs.Notes.{HasNoted-more, HasNoted-nil, IsNotes-ended, notes_left-new}
-use Rattle.sat_formula.proofs.Whole.{HasGiven-more, HasGiven-nil, IsOutcome-ended, outcome_left-new}
+use Rattle.sat_formula.proofs.Steps.{Known}
+use Rattle.sat_formula.proofs.Whole.{AfterEnd, Reads, HasGiven-more, HasGiven-nil, IsOutcome-ended, outcome_left-new}
 use Rattle.whole_formulas.specs.Given.{HasTold}
 use Rattle.whole_formulas.specs.Lies.{IsLie, counts_of}
-
-abbrev Known : Type 0
-Known = Option (List ℕ)
 
 -- ---- counts
 
@@ -51,13 +48,6 @@ lie_is (Some text) clauses n counts o p e =
     ∙ sym (ap (λ (m : Notes). lie_of m.1.header (counts_of (outcome_of text).0)) p)
 
 -- ---- many calls
-
--- the facts of a call: `after_end` and `next` of its contract
-abbrev AfterEnd : {R : Type 0} → DimacsReader R → DimacsReader R → List ℕ → Result Bool DimacsFault → Type 0
-AfterEnd mid new clause r = has_ended mid ≡ true → (r ≡ Ok false) × (new ≡ mid) × (clause ≡ [])
-
-abbrev Reads : {R : Type 0} → (R → Known) → DimacsReader R → DimacsReader R → List ℕ → Result Bool DimacsFault → Type 0
-Reads remaining mid new clause r = has_ended mid ≡ false → IsNext remaining mid new clause r
 
 pub HasTold-nil : {R : Type 0} (remaining : R → Known) (r : DimacsReader R) → vars_given r ≡ 0 → clauses_given r ≡ 0 → HasTold remaining r [] r
 HasTold-nil remaining r vars clauses = record {
