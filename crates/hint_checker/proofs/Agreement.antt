@@ -8,14 +8,13 @@ use Rattle.std.proofs.lemmas.Bool.{cases_Bool, eqb-false, eqb-true, ne_eqb}
 use Rattle.sat_rules.specs.HintLines.{HintLine, deletes_clauses}
 use Rattle.sat_formula.specs.Bytes.{letter_c, minus_sign}
 use Rattle.sat_formula.specs.Lines.{value_of}
-use Rattle.sat_formula.specs.Vars.{lit_code}
 use Rattle.lrat_rules.specs.Lines.{Line, adds, deletes}
 use Rattle.lrat_text.specs.Grammar as lrat
 use Rattle.lrat_text.specs.Grammar.{after_id, alone, clause_at, deletion_at, first_said, hint_of, says}
 use Rattle.lrat_text.specs.Items.{Found, Words, ◌>>=◌, hint_said, id_said, item_then, items_at, lit_said}
 use Rattle.lrat_text.specs.Numbers.{judged, number_of, signed}
 use Rattle.lrat_text.specs.declared.fault.LineKind.{LineKind}
-use Rattle.lrat_text.specs.declared.fault.LineKind.TheVariants.{Malformed, NumberTooLarge}
+use Rattle.lrat_text.specs.declared.fault.LineKind.TheVariants.{Malformed}
 use Rattle.lrat_text.specs.declared.line.Hint.{Hint}
 use Rattle.lrat_text.specs.declared.line.Hint.TheVariants.{Against, Along}
 use Rattle.hint_checker.specs.Given.{ids_along}
@@ -34,8 +33,7 @@ IsId (Err kind) o = o ≡ None
 abbrev IsHint : Result (Option Hint) LineKind → Option ℕ → Type 0
 IsHint (Ok None) o = o ≡ Some 0
 IsHint (Ok (Some (Along v))) o = (o ≡ Some v) × ((v == 0) ≡ false)
-IsHint (Ok (Some (Against v))) o = o ≡ None
-IsHint (Err kind) o = o ≡ None
+IsHint _ o = o ≡ None
 
 -- a line's first word
 abbrev IsNumber : Result ℕ LineKind → Option ℕ → Type 0
@@ -46,72 +44,28 @@ IsNumber (Err kind) o = o ≡ None
 no_value : (b : ℕ) (bs : List ℕ) → (b == minus_sign) ≡ true → value_of (b ∷ bs) ≡ None
 no_value b bs e = rw (eqb-true b 45 e) refl
 
-zero_or : (v : ℕ) (t : Bool) → (v == 0) ≡ t → IsId (cond t (Ok None) (Ok (Some v))) (Some v)
-zero_or v true e = ap (λ (n : ℕ). Some n) (eqb-true v 0 e)
-zero_or v false e = (refl, e)
-
-id_plain : (o : Option ℕ) → IsId (id_said (judged false o)) (small o)
-id_plain None = refl
-id_plain (Some v) = elim (nat_lt v (2 ^ 64)) as (λ t. IsId (id_said (signed false (cond t (Some v) None))) (cond t (Some v) None)) [
-  | true ↦ zero_or v (v == 0) refl
-  | false ↦ refl
+plain : (o : Option ℕ) → IsId (id_said (judged false o)) (small o) × IsHint (hint_said (judged false o)) (small o) × IsNumber (first_said (judged false o)) (small o)
+plain None = (refl, refl, refl)
+plain (Some v) = elim (cases_Bool (nat_lt v (2 ^ 64))) [
+  | inl e ↦ rw e (elim (cases_Bool (v == 0)) [
+    | inl z ↦ let zero = ap (λ (n : ℕ). Some n) (eqb-true v 0 z) in rw z (zero, zero, refl)
+    | inr z ↦ rw z ((refl, z), (refl, z), refl)
+  ])
+  | inr e ↦ rw e (refl, refl, refl)
 ]
 
-id_negative : (o : Option ℕ) → IsId (id_said (judged true o)) None
-id_negative None = refl
-id_negative (Some v) = elim (nat_lt v (2 ^ 64)) as (λ t. IsId (id_said (signed true (cond t (Some v) None))) None) [
-  | true ↦ elim (cases_Bool (v == 0)) [ inl e ↦ rw e refl | inr e ↦ rw e (rw e refl) ]
-  | false ↦ refl
+negative : (o : Option ℕ) → IsId (id_said (judged true o)) None × IsHint (hint_said (judged true o)) None × IsNumber (first_said (judged true o)) None
+negative None = (refl, refl, refl)
+negative (Some v) = elim (cases_Bool (nat_lt v (2 ^ 64))) [
+  | inl e ↦ rw e (elim (cases_Bool (v == 0)) [ inl z ↦ rw z (refl, refl, refl) | inr z ↦ rw z (rw z (refl, refl, refl)) ])
+  | inr e ↦ rw e (refl, refl, refl)
 ]
 
-hint_zero_or : (v : ℕ) (t : Bool) → (v == 0) ≡ t → IsHint (cond t (Ok None) (Ok (Some (Along v)))) (Some v)
-hint_zero_or v true e = ap (λ (n : ℕ). Some n) (eqb-true v 0 e)
-hint_zero_or v false e = (refl, e)
-
-hint_plain : (o : Option ℕ) → IsHint (hint_said (judged false o)) (small o)
-hint_plain None = refl
-hint_plain (Some v) = elim (nat_lt v (2 ^ 64)) as (λ t. IsHint (hint_said (signed false (cond t (Some v) None))) (cond t (Some v) None)) [
-  | true ↦ hint_zero_or v (v == 0) refl
-  | false ↦ refl
-]
-
-hint_negative : (o : Option ℕ) → IsHint (hint_said (judged true o)) None
-hint_negative None = refl
-hint_negative (Some v) = elim (nat_lt v (2 ^ 64)) as (λ t. IsHint (hint_said (signed true (cond t (Some v) None))) None) [
-  | true ↦ elim (cases_Bool (v == 0)) [ inl e ↦ rw e refl | inr e ↦ rw e (rw e refl) ]
-  | false ↦ refl
-]
-
-number_plain : (o : Option ℕ) → IsNumber (first_said (judged false o)) (small o)
-number_plain None = refl
-number_plain (Some v) = elim (nat_lt v (2 ^ 64)) as (λ t. IsNumber (first_said (signed false (cond t (Some v) None))) (cond t (Some v) None)) [ true ↦ refl | false ↦ refl ]
-
-number_negative : (o : Option ℕ) → IsNumber (first_said (judged true o)) None
-number_negative None = refl
-number_negative (Some v) = elim (nat_lt v (2 ^ 64)) as (λ t. IsNumber (first_said (signed true (cond t (Some v) None))) None) [
-  | true ↦ elim (cases_Bool (v == 0)) [ inl e ↦ rw e refl | inr e ↦ rw e refl ]
-  | false ↦ refl
-]
-
-id_word : (w : List ℕ) → IsId (id_said (number_of w)) (number_of_word w)
-id_word [] = refl
-id_word (b ∷ bs) = elim (cases_Bool (b == minus_sign)) [
-  | inl e ↦ rw (e, no_value b bs e) (id_negative (value_of bs))
-  | inr e ↦ rw e (id_plain (value_of (b ∷ bs)))
-]
-
-hint_word : (w : List ℕ) → IsHint (hint_said (number_of w)) (number_of_word w)
-hint_word [] = refl
-hint_word (b ∷ bs) = elim (cases_Bool (b == minus_sign)) [
-  | inl e ↦ rw (e, no_value b bs e) (hint_negative (value_of bs))
-  | inr e ↦ rw e (hint_plain (value_of (b ∷ bs)))
-]
-
-number_word : (w : List ℕ) → IsNumber (first_said (number_of w)) (number_of_word w)
-number_word [] = refl
-number_word (b ∷ bs) = elim (cases_Bool (b == minus_sign)) [
-  | inl e ↦ rw (e, no_value b bs e) (number_negative (value_of bs))
-  | inr e ↦ rw e (number_plain (value_of (b ∷ bs)))
+word_alike : (w : List ℕ) → IsId (id_said (number_of w)) (number_of_word w) × IsHint (hint_said (number_of w)) (number_of_word w) × IsNumber (first_said (number_of w)) (number_of_word w)
+word_alike [] = (refl, refl, refl)
+word_alike (b ∷ bs) = elim (cases_Bool (b == minus_sign)) [
+  | inl e ↦ rw (e, no_value b bs e) (negative (value_of bs))
+  | inr e ↦ rw e (plain (value_of (b ∷ bs)))
 ]
 
 -- a word in a clause
@@ -122,24 +76,14 @@ as_word (Err kind) = text.Bad
 
 lit_signed : (negative : Bool) (o : Option ℕ) → as_word (lit_said (judged negative o)) ≡ signed_word negative (small o)
 lit_signed negative None = refl
-lit_signed negative (Some v) = elim (nat_lt v (2 ^ 64)) as (λ t. as_word (lit_said (signed negative (cond t (Some v) None))) ≡ signed_word negative (cond t (Some v) None)) [
-  | true ↦ fits negative
-  | false ↦ refl
+lit_signed negative (Some v) = elim (cases_Bool (nat_lt v (2 ^ 64))) [
+  | inl e ↦ rw e (fits negative)
+  | inr e ↦ rw e refl
 ]
   where
-    by_size : (sign t : Bool) → as_word (cond t (Err NumberTooLarge) (Ok (Some (lit_code v sign)))) ≡ cond t text.Bad (text.Literal (lit_code v sign))
-    by_size sign true = refl
-    by_size sign false = refl
-
     fits : (sign : Bool) → as_word (lit_said (signed sign (Some v))) ≡ signed_word sign (Some v)
-    fits true = elim (cases_Bool (v == 0)) [
-      | inl e ↦ rw e refl
-      | inr e ↦ rw e (rw e (by_size true (nat_lt (2 ^ 28) v)))
-    ]
-    fits false = elim (cases_Bool (v == 0)) [
-      | inl e ↦ rw e refl
-      | inr e ↦ rw e (by_size false (nat_lt (2 ^ 28) v))
-    ]
+    fits true = elim (cases_Bool (v == 0)) [ inl e ↦ rw e refl | inr e ↦ rw e (rw e (elim (cases_Bool (nat_lt (2 ^ 28) v)) [ inl l ↦ rw l refl | inr l ↦ rw l refl ])) ]
+    fits false = elim (cases_Bool (v == 0)) [ inl e ↦ rw e refl | inr e ↦ rw e (elim (cases_Bool (nat_lt (2 ^ 28) v)) [ inl l ↦ rw l refl | inr l ↦ rw l refl ]) ]
 
 lit_word : (w : List ℕ) → as_word (lit_said (number_of w)) ≡ clause_word w
 lit_word [] = refl
@@ -177,48 +121,36 @@ none_left (w ∷ ws) = refl
 
 ids_words : (short : LineKind) (ws : Words) → ids_end (items_at id_said short ws) ≡ ids_to_end ws
 ids_words short [] = refl
-ids_words short (w ∷ ws) = step (id_said (number_of w)) (number_of_word w) (id_word w) (items_at id_said short ws) (ids_to_end ws) (ids_words short ws)
+ids_words short (w ∷ ws) = step (id_said (number_of w)) (number_of_word w) (word_alike w).0 (items_at id_said short ws) (ids_to_end ws) (ids_words short ws)
   where
-    more : (v : ℕ) (xs : List ℕ) (later : Words) → alone_with (v ∷ xs) later ≡ in_front v (alone_with xs later)
-    more v xs [] = refl
-    more v xs (x ∷ later) = refl
-
     front : (v : ℕ) (later : Found (List ℕ)) → ids_end (later >>= λ l. Ok (v ∷ l.0, l.1)) ≡ in_front v (ids_end later)
-    front v (Ok p) = more v p.0 p.1
-    front v (Err kind) = refl
+    front v (Ok (xs, [])) = refl
+    front v _ = refl
 
-    step : (r : Result (Option ℕ) LineKind) (o : Option ℕ) → IsId r o → (later : Found (List ℕ)) (rest : Option (List ℕ)) → ids_end later ≡ rest →
-        ids_end (item_then r ws later) ≡ id_or_end o ws rest
+    step : (r : Result (Option ℕ) LineKind) (o : Option ℕ) → IsId r o → (later : Found (List ℕ)) (rest : Option (List ℕ)) → ids_end later ≡ rest → ids_end
+        (item_then r ws later) ≡ id_or_end o ws rest
     step (Ok None) o e later rest f = rw e (none_left ws)
     step (Ok (Some v)) o e later rest f = rw (e.0, e.1) (front v later ∙ ap (in_front v) f)
     step (Err kind) o e later rest f = rw e refl
 
 hints_words : (short : LineKind) (ws : Words) → hints_end (items_at hint_said short ws) ≡ ids_to_end ws
 hints_words short [] = refl
-hints_words short (w ∷ ws) = step (hint_said (number_of w)) (number_of_word w) (hint_word w) (items_at hint_said short ws) (ids_to_end ws) (hints_words short ws)
+hints_words short (w ∷ ws) = step (hint_said (number_of w)) (number_of_word w) (word_alike w).1 (items_at hint_said short ws) (ids_to_end ws) (hints_words short ws)
   where
-    more : (v : ℕ) (hs : List Hint) (later : Words) → along_if (alone_with (Along v ∷ hs) later) ≡ in_front v (along_if (alone_with hs later))
-    more v hs [] = refl
-    more v hs (x ∷ later) = refl
-
     front : (v : ℕ) (later : Found (List Hint)) → hints_end (later >>= λ l. Ok (Along v ∷ l.0, l.1)) ≡ in_front v (hints_end later)
-    front v (Ok p) = more v p.0 p.1
-    front v (Err kind) = refl
-
-    no_more : (v : ℕ) (hs : List Hint) (later : Words) → along_if (alone_with (Against v ∷ hs) later) ≡ None
-    no_more v hs [] = refl
-    no_more v hs (x ∷ later) = refl
+    front v (Ok (hs, [])) = refl
+    front v _ = refl
 
     none : (v : ℕ) (later : Found (List Hint)) → hints_end (later >>= λ l. Ok (Against v ∷ l.0, l.1)) ≡ None
-    none v (Ok p) = no_more v p.0 p.1
-    none v (Err kind) = refl
+    none v (Ok (hs, [])) = refl
+    none v _ = refl
 
     ended : (later : Words) → along_if (alone_with [] later) ≡ ends_here later
     ended [] = refl
     ended (x ∷ later) = refl
 
-    step : (r : Result (Option Hint) LineKind) (o : Option ℕ) → IsHint r o → (later : Found (List Hint)) (rest : Option (List ℕ)) → hints_end later ≡ rest →
-        hints_end (item_then r ws later) ≡ id_or_end o ws rest
+    step : (r : Result (Option Hint) LineKind) (o : Option ℕ) → IsHint r o → (later : Found (List Hint)) (rest : Option (List ℕ)) → hints_end later ≡ rest → hints_end
+        (item_then r ws later) ≡ id_or_end o ws rest
     step (Ok None) o e later rest f = rw e (ended ws)
     step (Ok (Some (Along v))) o e later rest f = rw (e.0, e.1) (front v later ∙ ap (in_front v) f)
     step (Ok (Some (Against v))) o e later rest f = rw e (none v later)
@@ -248,26 +180,17 @@ LineAlike (Err kind) o = o ≡ None
 deletion_alike : (short : LineKind) (n : ℕ) (ws : Words) → LineAlike (deletion_at short ws) (deletion n (ids_to_end ws))
 deletion_alike short n ws = go (items_at id_said short ws) (ids_to_end ws) (ids_words short ws)
   where
-    last : (ids : List ℕ) (later : Words) (o : Option (List ℕ)) → alone_with ids later ≡ o → LineAlike (alone (deletes ids) later) (deletion n o)
-    last ids [] o e = (n, ap (deletion n) (sym e))
-    last ids (x ∷ later) o e = ap (deletion n) (sym e)
-
     go : (r : Found (List ℕ)) (o : Option (List ℕ)) → ids_end r ≡ o → LineAlike (r >>= λ ids. alone (deletes ids.0) ids.1) (deletion n o)
-    go (Ok p) o e = last p.0 p.1 o e
-    go (Err kind) o e = ap (deletion n) (sym e)
+    go (Ok (ids, [])) o e = (n, ap (deletion n) (sym e))
+    go _ o e = ap (deletion n) (sym e)
 
 clause_alike : (short : LineKind) (id : ℕ) (ws : Words) → LineAlike (clause_at short id ws) (on_clause id (clause_to_zero ws))
 clause_alike short id ws = go (items_at lit_said short ws) (clause_to_zero ws) (lits_words short ws)
   where
-    last : (c : List ℕ) (hs : List Hint) (later : Words) (o : Option (List ℕ)) → along_if (alone_with hs later) ≡ o →
-        LineAlike (alone (adds id c (map hint_of hs)) later) (addition id c o)
-    last c hs [] o e = ap (addition id c) (sym e)
-    last c hs (x ∷ later) o e = ap (addition id c) (sym e)
-
     hinted : (c : List ℕ) (r : Found (List Hint)) (o : Option (List ℕ)) → hints_end r ≡ o →
         LineAlike (r >>= λ hints. alone (adds id c (map hint_of hints.0)) hints.1) (addition id c o)
-    hinted c (Ok p) o e = last c p.0 p.1 o e
-    hinted c (Err kind) o e = ap (addition id c) (sym e)
+    hinted c (Ok (hs, [])) o e = ap (addition id c) (sym e)
+    hinted c _ o e = ap (addition id c) (sym e)
 
     go : (r : Found (List ℕ)) (o : Clause) → lits_end r ≡ o →
         LineAlike (r >>= λ lits. items_at hint_said short lits.1 >>= λ hints. alone (adds id lits.0 (map hint_of hints.0)) hints.1) (on_clause id o)
@@ -291,9 +214,8 @@ SaysAlike (Ok (Some (deletes ids))) s = (number : ℕ) × (s ≡ text.Line (dele
 SaysAlike (Err kind) s = s ≡ text.Malformed
 
 said_alike : (r : Result Line LineKind) (o : Option HintLine) → LineAlike r o → SaysAlike (r >>= λ line. Ok (Some line)) (said o)
-said_alike (Ok (adds id c hs)) o e = ap said e
 said_alike (Ok (deletes ids)) o e = (e.0, ap said e.1)
-said_alike (Err kind) o e = ap said e
+said_alike _ o e = ap said e
 
 same_comment : (w : List ℕ) → lrat.is_comment w ≡ is_comment w
 same_comment [] = refl
@@ -304,7 +226,7 @@ same_comment (b ∷ bs) = elim (cases_Bool (b == letter_c)) [
 
 pub says_alike : (short : LineKind) (ws : Words) → SaysAlike (says short ws) (said_by_words ws)
 says_alike short [] = refl
-says_alike short (w ∷ ws) = by_comment (lrat.is_comment w) (is_comment w) (same_comment w) _ _ (by_number (first_said (number_of w)) (number_of_word w) (number_word w))
+says_alike short (w ∷ ws) = by_comment (lrat.is_comment w) (is_comment w) (same_comment w) _ _ (by_number (first_said (number_of w)) (number_of_word w) (word_alike w).2)
   where
     by_comment : (a b : Bool) → a ≡ b → (r : Result (Option Line) LineKind) (s : Said) → SaysAlike r s → SaysAlike (cond a (Ok None) r) (cond b text.Nothing s)
     by_comment true b e r s alike = rw (← e) refl

@@ -66,9 +66,5 @@ pub answer_is_one : AnswerIsOne
 answer_is_one h k bytes a = record { one = λ j b. one_answer h j k bytes b a; never = never }
   where
     never : (fault : HintFault) → IsRefusal h bytes fault → fault ≡ faults.OutOfMemory
-    never (faults.Malformed n) r = absurd (never_refused h k bytes n _ a r)
-    never (faults.IdNotGreater n) r = absurd (never_refused h k bytes n _ a r)
-    never (faults.UnknownId n) r = absurd (never_refused h k bytes n _ a r)
-    never (faults.NotUnit n) r = absurd (never_refused h k bytes n _ a r)
-    never (faults.NoConflict n) r = absurd (never_refused h k bytes n _ a r)
     never faults.OutOfMemory r = refl
+    never _ r = absurd (never_refused h k bytes _ _ a r)

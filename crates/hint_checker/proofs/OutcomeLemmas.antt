@@ -1,20 +1,20 @@
 -- What the outcome of LRAT text says of the same lines as lines of hints.
 --     Run h xs k      the lines that a reader gives are accepted after h, and lead to k
 --     run_leads      then they are lines of hints that are accepted
---     all_accepted      and so are the lines of the text
---     stopped_at      a line that is refused, or malformed, after them is one of the text's
+--     accepts      and so are the lines of the text
+--     refuses      a line that is refused, or malformed, after them is one of the text's
 use Rattle.std.proofs.Common.{◌≡◌, ℕ, zero, suc, ◌+◌, ◌-◌, ◌^◌, ◌<◌, ◌≤◌, List, [], ◌∷◌, ◌++◌, length, Option, Some, None, Result, Ok, Err, refl, sym, ap, ◌∙◌, subst, arith}
 use Rattle.std.specs.Option.{option_map}
 use Rattle.std.proofs.lemmas.Option.{none-some}
 use Rattle.sat_rules.specs.HintLines.{HintCause, HintLine, Listed, line_cause}
-use Rattle.sat_formula.specs.Lines.{words_of}
+use Rattle.sat_formula.specs.Lines.{lines_of, words_of}
 use Rattle.sat_formula.specs.Outcome.{next_line}
 use Rattle.lrat_rules.specs.Lines.{Line, adds, deletes}
 use Rattle.lrat_text.specs.Grammar.{says}
-use Rattle.lrat_text.specs.Texts.{Ended, Ending, Faulty, line_then, lines_from, short_before}
+use Rattle.lrat_text.specs.Texts.{Ended, Ending, Faulty, Outcome, line_then, lines_from, outcome_of, short_before}
 use Rattle.lrat_text.specs.declared.fault.LineKind.{LineKind}
-use Rattle.hint_rules.specs.Accepted.{joined, said_all}
-use Rattle.hint_checker.specs.Checked.{Leads, after_said, cause_of, refusal}
+use Rattle.hint_rules.specs.Accepted.{Accepts, joined, said_all}
+use Rattle.hint_checker.specs.Checked.{Leads, Refuses, after_said, cause_of, refusal}
 use Rattle.hint_checker.specs.Given.{Stops, as_hints, lines_said}
 use Rattle.hint_rules.specs.Text as text
 use Rattle.hint_rules.specs.Text.{Said, in_front, said_by}
@@ -71,7 +71,7 @@ given_front : (l : List ℕ) (raw : List (List ℕ)) (h k : Listed) (line : Line
 given_front l raw h k line alike r a =
     accepted_front l raw h k (said_by l) refl (same_refusal h line (said_by l) alike ∙ r) (subst (λ s. Accepted raw s k) (sym (same_after h line (said_by l) alike)) a)
 
-pub all_accepted : (n : ℕ) (raw : List (List ℕ)) (h k : Listed) → (lines_from n raw).1 ≡ Ended → Run h (lines_from n raw).0 k → Accepted raw h k
+all_accepted : (n : ℕ) (raw : List (List ℕ)) (h k : Listed) → (lines_from n raw).1 ≡ Ended → Run h (lines_from n raw).0 k → Accepted raw h k
 all_accepted n [] h k e run = record { lines = []; all = refl; follow = run }
 all_accepted n (l ∷ raw) h k e run = go (all_accepted (next_line n) raw) (says (short_before raw) (words_of l)) (says_alike (short_before raw) (words_of l)) e run
   where
@@ -95,7 +95,7 @@ no_lower : (j n : ℕ) → n ≤ 2 ^ 64 - 1 → n ≤ numbered n j
 no_lower zero n fits = omega arith
 no_lower (suc j) n fits = let more = no_lower j (next_line n) (omega arith) in omega (arith, more)
 
-pub numbered-exact : (j n : ℕ) → n ≤ 2 ^ 64 - 1 → numbered n j < 2 ^ 64 - 1 → numbered n j ≡ n + j
+numbered-exact : (j n : ℕ) → n ≤ 2 ^ 64 - 1 → numbered n j < 2 ^ 64 - 1 → numbered n j ≡ n + j
 numbered-exact zero n fits below = omega arith
 numbered-exact (suc j) n fits below =
     let low = no_lower j (next_line n) (omega arith) in
@@ -103,15 +103,15 @@ numbered-exact (suc j) n fits below =
     omega (arith, low, rest)
 
 -- lines of text are accepted after h, and the one after them is refused
-pub record StoppedAt (raw : List (List ℕ)) (h : Listed) (n m : ℕ) (fault : LineFault) : Type 0 where
-  pub before : List (List ℕ)
-  pub line : List ℕ
-  pub after : List (List ℕ)
-  pub cut : raw ≡ before ++ line ∷ after
-  pub number : m ≡ numbered n (suc (length before))
-  pub held : Listed
-  pub accepted : Accepted before h held
-  pub refused : refusal held (said_by line) ≡ Some fault
+record StoppedAt (raw : List (List ℕ)) (h : Listed) (n m : ℕ) (fault : LineFault) : Type 0 where
+  before : List (List ℕ)
+  line : List ℕ
+  after : List (List ℕ)
+  cut : raw ≡ before ++ line ∷ after
+  number : m ≡ numbered n (suc (length before))
+  held : Listed
+  accepted : Accepted before h held
+  refused : refusal held (said_by line) ≡ Some fault
 
 stops_first : (l : List ℕ) (raw : List (List ℕ)) (h : Listed) (n m : ℕ) (fault : LineFault) → m ≡ next_line n → refusal h (said_by l) ≡ Some fault → StoppedAt (l ∷ raw) h n m fault
 stops_first l raw h n m fault number r = record {
@@ -138,7 +138,7 @@ stops_later l raw h j n m fault front s = record {
   refused = s.refused;
 }
 
-pub stopped_at : (n : ℕ) (raw : List (List ℕ)) (h k : Listed) (xs ys : List (ℕ × Line)) (ending : Ending) (m : ℕ) (fault : LineFault) →
+stopped_at : (n : ℕ) (raw : List (List ℕ)) (h k : Listed) (xs ys : List (ℕ × Line)) (ending : Ending) (m : ℕ) (fault : LineFault) →
     (lines_from n raw).0 ≡ xs ++ ys → (lines_from n raw).1 ≡ ending → Run h xs k → Stops k ys ending m fault → StoppedAt raw h n m fault
 stopped_at n [] h k [] ys ending m fault e f run stops =
     absurd (subst (λ (x : Ending). Stops k [] x m fault) (sym f) (subst (λ (zs : List (ℕ × Line)). Stops k zs ending m fault) (sym e) stops))
@@ -173,3 +173,31 @@ stopped_at n (l ∷ raw) h k xs ys ending m fault e f run stops = go (stopped_at
         stops_later l raw h h n m fault (λ before j. accepted_front l before h j text.Nothing alike refl) (rest h k zs ys ending m fault a b ran stops)
     go rest (Ok (Some line)) alike zs a b ran = given rest line alike zs a b ran
     go rest (Err kind) alike zs a b ran = malformed kind alike zs a b ran
+
+-- ---- a whole text
+
+module _ (h k : Listed) (xs : List (ℕ × Line)) (run : Run h xs k) (bytes : List ℕ) where
+  -- all its lines are accepted
+  pub accepts : outcome_of bytes ≡ (xs, Ended) → Accepts h bytes k
+  accepts e =
+      let a = all_accepted 0 (lines_of bytes) h k (ap (λ (o : Outcome). o.1) e) (subst (λ (ys : List (ℕ × Line)). Run h ys k) (sym (ap (λ (o : Outcome). o.0) e)) run) in
+      record { lines = a.lines; said = a.all; follow = a.follow }
+
+  -- a line after them is refused, or malformed
+  pub refuses : (later : Outcome) → outcome_of bytes ≡ (xs ++ later.0, later.1) → (m : ℕ) → m < 2 ^ 64 - 1 → (fault : LineFault) → Stops k later.0 later.1 m fault → Refuses h bytes m fault
+  refuses later e m below fault stops =
+      let s = stopped_at 0 (lines_of bytes) h k xs later.0 later.1 m fault (ap (λ (o : Outcome). o.0) e) (ap (λ (o : Outcome). o.1) e) run stops in
+      record {
+        before = s.before;
+        line = s.line;
+        after = s.after;
+        cut = s.cut;
+        number =
+            let exact = numbered-exact (suc (length s.before)) 0 (omega arith) (subst (λ j. j < 2 ^ 64 - 1) s.number below) in
+            s.number ∙ exact ∙ omega arith;
+        lines = s.accepted.lines;
+        said = s.accepted.all;
+        held = s.held;
+        follow = s.accepted.follow;
+        refused = s.refused;
+      }

@@ -1,14 +1,14 @@
 -- The lines of a reader's text in turn.
 --     SoFar      the lines that were read so far, all of them accepted
-use Rattle.std.proofs.Common.{◌≡◌, ℕ, suc, ◌+◌, ◌-◌, ◌^◌, ◌<◌, ◌≤◌, Bool, true, false, List, [], ◌∷◌, ◌++◌, length, Option, Some, None, Result, Ok, Err, refl, sym, ap, ◌∙◌, subst, arith, append_assoc, append-nil}
+use Rattle.std.proofs.Common.{◌≡◌, ℕ, ◌+◌, ◌-◌, ◌^◌, ◌<◌, ◌≤◌, Bool, true, false, List, [], ◌∷◌, ◌++◌, Option, Some, None, Result, Ok, Err, refl, sym, ap, ◌∙◌, subst, arith, inl, inr, append_assoc, append-nil}
 use Rattle.std.specs.Io.KnownBytes.{Consumes}
 use Rattle.std.proofs.KnownBytes.{Consumes-nil, Consumes-trans, Consumes-whole}
+use Rattle.std.proofs.lemmas.Bool.{cases_Bool}
 use Rattle.sat_rules.specs.HintLines.{Listed}
-use Rattle.sat_formula.specs.Lines.{lines_of}
 use Rattle.lrat_rules.specs.Lines.{Line}
 use Rattle.lrat_text.specs.NextLine.{Gives, bytes_left, has_ended, line_number, room_left, view}
 use Rattle.lrat_text.specs.Taking.{Breaks, Follows, Leads}
-use Rattle.lrat_text.specs.Texts.{Ended, Ending, Faulty, Outcome, outcome_after, outcome_of, with_line}
+use Rattle.lrat_text.specs.Texts.{Ended, Faulty, Outcome, outcome_after, outcome_of, with_line}
 use Rattle.lrat_text.specs.declared.fault.LineKind.{LineKind}
 use Rattle.lrat_text.specs.declared.fault.LratTextFault.{LratTextFault}
 use Rattle.lrat_text.specs.declared.fault.LratTextFault.TheVariants as reads
@@ -17,12 +17,12 @@ use Rattle.lrat_text.specs.declared.reader.LineReader.{LineReader}
 use Rattle.lrat_text.proofs.LineLemmas.{ends_on, leads_on}
 use Rattle.hint_rules.specs.Accepted.{Accepts}
 use Rattle.hint_checker.specs.Checked.{IsCause, IsRefusalBy, Refuses, after_said, in_line, refusal}
-use Rattle.hint_checker.specs.Given.{Stops, as_hints, of_text}
+use Rattle.hint_checker.specs.Given.{as_hints, of_text}
 use Rattle.hint_checker.specs.Streams.{GivesText, IsCutOff, IsTextRefusal}
 use Rattle.hint_checker.specs.declared.fault.HintTextFault.TheVariants.{Refused}
 use Rattle.hint_checker.specs.declared.fault.LineFault.{LineFault}
 use Rattle.hint_checker.specs.declared.fault.LineFault.TheVariants as causes
-use Rattle.hint_checker.proofs.OutcomeLemmas.{Run, all_accepted, numbered-exact, run_more, stopped_at}
+use Rattle.hint_checker.proofs.OutcomeLemmas.{Run, accepts, refuses, run_more}
 
 abbrev Known : Type 0
 Known = Option (List ℕ)
@@ -59,11 +59,14 @@ found known left true g f = record { text = f.taken; gives = Consumes-whole know
 abbrev behind : List (ℕ × Line) → Outcome → Outcome
 behind xs o = (xs ++ o.0, o.1)
 
+ended : (xs : List (ℕ × Line)) → behind xs ([], Ended) ≡ (xs, Ended)
+ended xs = rw append-nil refl
+
 -- after the text so far it goes on
-goes_on : (known left new : Known) (n : ℕ) (over : Bool) (xs : List (ℕ × Line)) (g : List ℕ → Outcome) → Leads known left (outcome_after 0) (λ more. behind xs (outcome_after n more)) →
-    Follows left new n over g → Follows known new 0 over (λ more. behind xs (g more))
-goes_on known left new n false xs g e f = leads_on e (record { taken = f.taken; consumed = f.consumed; same = λ more. ap (behind xs) (f.same more) })
-goes_on known left new n true xs g e f = ends_on e (record { taken = f.taken; consumed = f.consumed; at_end = f.at_end; same = ap (behind xs) f.same })
+goes_on : (known left new : Known) (n : ℕ) (over : Bool) (xs : List (ℕ × Line)) (g h : List ℕ → Outcome) → ((more : List ℕ) → behind xs (g more) ≡ h more) →
+    Leads known left (outcome_after 0) (λ more. behind xs (outcome_after n more)) → Follows left new n over g → Follows known new 0 over h
+goes_on known left new n false xs g h is e f = leads_on e (record { taken = f.taken; consumed = f.consumed; same = λ more. ap (behind xs) (f.same more) ∙ is more })
+goes_on known left new n true xs g h is e f = ends_on e (record { taken = f.taken; consumed = f.consumed; at_end = f.at_end; same = ap (behind xs) f.same ∙ is [] })
 
 -- the fault of a line, by its cause
 pub by_cause : (refuses : ℕ → LineFault → Type 0) (m : ℕ) (fault : LineFault) (o : Option LineFault) → IsCause fault o → ((g : LineFault) → o ≡ Some g → refuses m g) → IsRefusalBy refuses (in_line fault m)
@@ -95,33 +98,19 @@ module _ (known left : Known) (number : ℕ) (h k : Listed) where
       refusal k (as_hints line) ≡ None → SoFar known new m over h (after_said k (as_hints line))
   so_far_more so new over m line goes none = record {
     lines = so.lines ++ (m, line) ∷ [];
-    text = go over (goes_on known left new number over so.lines (λ more. with_line m line (outcome_after m more)) so.text goes);
+    text = goes_on known left new number over so.lines (λ more. with_line m line (outcome_after m more)) (λ more. behind (so.lines ++ (m, line) ∷ []) (outcome_after m more))
+        (λ more. let o = outcome_after m more in ap (λ (xs : List (ℕ × Line)). (xs, o.1)) (sym (append_assoc so.lines ((m, line) ∷ []) o.0))) so.text goes;
     run = run_more h k so.lines m line so.run none;
   }
-    where
-      one : (o : Outcome) → behind so.lines (with_line m line o) ≡ behind (so.lines ++ (m, line) ∷ []) o
-      one o = ap (λ (xs : List (ℕ × Line)). (xs, o.1)) (sym (append_assoc so.lines ((m, line) ∷ []) o.0))
-
-      go : (b : Bool) → Follows known new 0 b (λ more. behind so.lines (with_line m line (outcome_after m more))) →
-          Follows known new 0 b (λ more. behind (so.lines ++ (m, line) ∷ []) (outcome_after m more))
-      go false f = record { taken = f.taken; consumed = f.consumed; same = λ more. f.same more ∙ one (outcome_after m more) }
-      go true f = record { taken = f.taken; consumed = f.consumed; at_end = f.at_end; same = f.same ∙ one (outcome_after m []) }
-
-  -- the whole text
-  accepts : (xs : List (ℕ × Line)) → Run h xs k → (bytes : List ℕ) → outcome_of bytes ≡ (xs ++ [], Ended) → Accepts h bytes k
-  accepts xs run bytes e =
-      let all = ap (λ (o : Outcome). o.0) e ∙ append-nil xs in
-      let a = all_accepted 0 (lines_of bytes) h k (ap (λ (o : Outcome). o.1) e) (subst (λ (ys : List (ℕ × Line)). Run h ys k) (sym all) run) in
-      record { lines = a.lines; said = a.all; follow = a.follow }
 
   pub so_far_ended : (over : Bool) → SoFar known left number over h k → (new : Known) → (over ≡ false → Follows left new number true (λ more. ([], Ended))) →
       (text : List ℕ) × GivesText known text × Accepts h text k
   so_far_ended false so new goes =
-      let f = found known new true _ (goes_on known left new number true so.lines (λ more. ([], Ended)) so.text (goes refl)) in
-      (f.text, f.gives, accepts so.lines so.run f.text f.says)
+      let f = found known new true _ (goes_on known left new number true so.lines (λ more. ([], Ended)) (λ more. (so.lines, Ended)) (λ more. ended so.lines) so.text (goes refl)) in
+      (f.text, f.gives, accepts h k so.lines so.run f.text f.says)
   so_far_ended true so new goes =
       let text = so.text.taken in
-      (text, Consumes-whole known left text (λ bs. text ≡ bs) so.text.consumed so.text.at_end refl, accepts so.lines so.run text so.text.same)
+      (text, Consumes-whole known left text (λ bs. text ≡ bs) so.text.consumed so.text.at_end refl, accepts h k so.lines so.run text (so.text.same ∙ ended so.lines))
 
   -- a failed read
   pub so_far_cut : SoFar known left number false h k → (new : Known) (m : ℕ) → Breaks left new number m → IsCutOff known h
@@ -134,91 +123,57 @@ module _ (known left : Known) (number : ℕ) (h k : Listed) where
         consumed = rw (append_assoc so.text.taken b.passed b.begun) (Consumes-trans known left new so.text.taken (b.passed ++ b.begun) so.text.consumed b.consumed);
         is_open = b.is_open;
         held = k;
-        accepts = accepts so.lines so.run front
-            (so.text.same b.passed ∙ ap (behind so.lines) (ap (outcome_after number) (sym (append-nil b.passed)) ∙ b.same []));
+        accepts = accepts h k so.lines so.run front
+            (so.text.same b.passed ∙ ap (behind so.lines) (ap (outcome_after number) (sym (append-nil b.passed)) ∙ b.same []) ∙ ended so.lines);
       }
 
   -- a line that is refused, or malformed
-  stopped : (xs ys : List (ℕ × Line)) (ending : Ending) → Run h xs k → (bytes : List ℕ) → outcome_of bytes ≡ (xs ++ ys, ending) → (m : ℕ) → m < 2 ^ 64 - 1 →
-      (fault : LineFault) → Stops k ys ending m fault → Refuses h bytes m fault
-  stopped xs ys ending run bytes e m below fault stops =
-      let s = stopped_at 0 (lines_of bytes) h k xs ys ending m fault (ap (λ (o : Outcome). o.0) e) (ap (λ (o : Outcome). o.1) e) run stops in
-      record {
-        before = s.before;
-        line = s.line;
-        after = s.after;
-        cut = s.cut;
-        number =
-            let exact = numbered-exact (suc (length s.before)) 0 (omega arith) (subst (λ j. j < 2 ^ 64 - 1) s.number below) in
-            s.number ∙ exact ∙ omega arith;
-        lines = s.accepted.lines;
-        said = s.accepted.all;
-        held = s.held;
-        follow = s.accepted.follow;
-        refused = s.refused;
-      }
-
   pub so_far_refused : (so : SoFar known left number false h k) (new : Known) (over : Bool) (m : ℕ) (line : Line) → Follows left new number over (λ more. with_line m line (outcome_after m more)) →
       m < 2 ^ 64 - 1 → (fault : LineFault) → IsCause fault (refusal k (as_hints line)) → IsTextRefusal known h (Refused (in_line fault m))
   so_far_refused so new over m line goes below fault cause =
-      let f = found known new over _ (goes_on known left new number over so.lines (λ more. with_line m line (outcome_after m more)) so.text goes) in
+      let f = found known new over _ (goes_on known left new number over so.lines (λ more. with_line m line (outcome_after m more))
+      (λ more. behind so.lines (with_line m line (outcome_after m more))) (λ more. refl) so.text goes) in
       let later = outcome_after m f.rest in (
         f.text,
         f.gives,
         by_cause (Refuses h f.text) m fault (refusal k (as_hints line)) cause
-            (λ g is. stopped so.lines ((m, line) ∷ later.0) later.1 so.run f.text f.says m below g (refl, is)),
+            (λ g is. refuses h k so.lines so.run f.text (with_line m line later) f.says m below g (refl, is)),
       )
 
   pub so_far_malformed : (so : SoFar known left number false h k) (new : Known) (over : Bool) (m : ℕ) (kind : LineKind) → Follows left new number over (λ more. ([], Faulty m kind)) →
       m < 2 ^ 64 - 1 → IsTextRefusal known h (Refused (in_line causes.Malformed m))
   so_far_malformed so new over m kind goes below =
-      let f = found known new over _ (goes_on known left new number over so.lines (λ more. ([], Faulty m kind)) so.text goes) in
-      (f.text, f.gives, stopped so.lines [] (Faulty m kind) so.run f.text f.says m below causes.Malformed (refl, refl))
+      let f = found known new over _ (goes_on known left new number over so.lines (λ more. ([], Faulty m kind)) (λ more. behind so.lines ([], Faulty m kind)) (λ more. refl) so.text goes) in
+      (f.text, f.gives, refuses h k so.lines so.run f.text ([], Faulty m kind) f.says m below causes.Malformed (refl, refl))
 
 -- ---- what the reader gave
-
--- an answer, with a line or without one;  a fault
-abbrev answer : Option LratLine → Result (Option LratLine) LratTextFault
-answer o = Ok o
-
-abbrev failure : LratTextFault → Result (Option LratLine) LratTextFault
-failure fault = Err fault
 
 module _ {R : Type 0} (remaining : R → Option (List ℕ)) (old new : LineReader R) where
   -- only a reader that has not ended gives something
   open_still : (r : Result (Option LratLine) LratTextFault) → (r ≡ Ok None → ⊥) → Gives remaining old new r → has_ended old ≡ false
-  open_still r some gives = go (has_ended old) refl
-    where
-      go : (b : Bool) → has_ended old ≡ b → b ≡ false
-      go true e = absurd (some (gives.stays e).0)
-      go false e = refl
-
-  is_line : (line : LratLine) → answer (Some line) ≡ answer None → ⊥
-  is_line line e = absurd cc
-
-  is_fault : (fault : LratTextFault) → failure fault ≡ answer None → ⊥
-  is_fault fault e = absurd cc
+  open_still r some gives = elim (cases_Bool (has_ended old)) [ inl e ↦ absurd (some (gives.stays e).0) | inr e ↦ e ]
 
   -- the bytes that were taken bound the number of a line
   pub still_few : (line : LratLine) → Gives remaining old new (Ok (Some line)) → line_number old + room_left old ≤ 2 ^ 64 - 2 → line_number new + room_left new ≤ 2 ^ 64 - 2
-  still_few line gives few = let more = gives.counts (open_still (Ok (Some line)) (is_line line) gives) in omega arith
+  still_few line gives few = let more = gives.counts (open_still (Ok (Some line)) (λ e. absurd cc) gives) in omega arith
 
   module _ (known : Known) (h k : Listed) (so : SoFar known (bytes_left remaining old) (line_number old) (has_ended old) h k) where
-    still : (r : Result (Option LratLine) LratTextFault) → (r ≡ Ok None → ⊥) → Gives remaining old new r → SoFar known (bytes_left remaining old) (line_number old) false h k
-    still r some gives = subst (λ (b : Bool). SoFar known (bytes_left remaining old) (line_number old) b h k) (open_still r some gives) so
+    still : has_ended old ≡ false → SoFar known (bytes_left remaining old) (line_number old) false h k
+    still e = subst (λ (b : Bool). SoFar known (bytes_left remaining old) (line_number old) b h k) e so
 
     pub next_more : (line : LratLine) → Gives remaining old new (Ok (Some line)) → refusal k (as_hints (view line)) ≡ None →
         SoFar known (bytes_left remaining new) (line_number new) (has_ended new) h (after_said k (as_hints (view line)))
     next_more line gives none =
-        so_far_more known (bytes_left remaining old) (line_number old) h k (still (Ok (Some line)) (is_line line) gives) (bytes_left remaining new) (has_ended new)
-        (line_number new) (view line) (gives.reads (open_still (Ok (Some line)) (is_line line) gives)).0 none
+        let here = open_still (Ok (Some line)) (λ e. absurd cc) gives in
+        so_far_more known (bytes_left remaining old) (line_number old) h k (still here) (bytes_left remaining new) (has_ended new) (line_number new) (view line) (gives.reads here).0 none
 
     pub next_refused : (line : LratLine) → Gives remaining old new (Ok (Some line)) → line_number old + room_left old ≤ 2 ^ 64 - 2 → (fault : LineFault) →
         IsCause fault (refusal k (as_hints (view line))) → IsTextRefusal known h (Refused (in_line fault (line_number new)))
     next_refused line gives few fault cause =
         let within = still_few line gives few in
-        so_far_refused known (bytes_left remaining old) (line_number old) h k (still (Ok (Some line)) (is_line line) gives) (bytes_left remaining new) (has_ended new)
-        (line_number new) (view line) (gives.reads (open_still (Ok (Some line)) (is_line line) gives)).0 (omega arith) fault cause
+        let here = open_still (Ok (Some line)) (λ e. absurd cc) gives in
+        so_far_refused known (bytes_left remaining old) (line_number old) h k (still here) (bytes_left remaining new) (has_ended new) (line_number new) (view line)
+        (gives.reads here).0 (omega arith) fault cause
 
     pub next_ended : Gives remaining old new (Ok None) → (text : List ℕ) × GivesText known text × Accepts h text k
     next_ended gives =
@@ -226,13 +181,13 @@ module _ {R : Type 0} (remaining : R → Option (List ℕ)) (old new : LineReade
 
     pub next_unread : (fault : LratTextFault) → Gives remaining old new (Err fault) → line_number old + room_left old ≤ 2 ^ 64 - 2 → IsTextRefusal known h (of_text fault)
     next_unread (reads.Line n kind) gives few =
-        let here = open_still (Err (reads.Line n kind)) (is_fault (reads.Line n kind)) gives in
+        let here = open_still (Err (reads.Line n kind)) (λ e. absurd cc) gives in
         let a = gives.reads here in
         let counts = gives.counts here in
         let number = a.0 in
-        so_far_malformed known (bytes_left remaining old) (line_number old) h k (still (Err (reads.Line n kind)) (is_fault (reads.Line n kind)) gives) (bytes_left remaining new)
+        so_far_malformed known (bytes_left remaining old) (line_number old) h k (still here) (bytes_left remaining new)
         a.1.0 n kind (subst (λ m. Follows (bytes_left remaining old) (bytes_left remaining new) (line_number old) a.1.0 (λ more. ([], Faulty m kind))) (sym number) a.1.1) (omega arith)
     next_unread (reads.Read cause) gives few =
-        so_far_cut known (bytes_left remaining old) (line_number old) h k (still (Err (reads.Read cause)) (is_fault (reads.Read cause)) gives) (bytes_left remaining new) (line_number new)
-        (gives.reads (open_still (Err (reads.Read cause)) (is_fault (reads.Read cause)) gives)).0
+        let here = open_still (Err (reads.Read cause)) (λ e. absurd cc) gives in
+        so_far_cut known (bytes_left remaining old) (line_number old) h k (still here) (bytes_left remaining new) (line_number new) (gives.reads here).0
     next_unread reads.OutOfMemory gives few = let given = some_text known in (given.0, given.1, tt)

@@ -1,10 +1,9 @@
 -- Truth values by codes of literals, and the search for the literal on which a clause is unit.
-use Rattle.std.proofs.Common.{◌≡◌, ◌⊎◌, ℕ, zero, suc, ◌+◌, ◌<◌, ◌≤◌, Bool, true, false, cond, not, ◌&&◌, ◌||◌, eqb, List, [], ◌∷◌}
-use Rattle.std.proofs.Common.{◌++◌, length, replicate, get_or, set, take, drop, Option, Some, None, refl, sym, ap, ◌∙◌, inl, inr}
+use Rattle.std.proofs.Common.{◌≡◌, ◌⊎◌, ℕ, ◌+◌, ◌<◌, Bool, true, false, cond, not, ◌&&◌, ◌||◌, eqb, List, [], ◌∷◌}
+use Rattle.std.proofs.Common.{length, get_or, drop, Option, Some, None, refl, sym, ap, ◌∙◌, inl, inr}
 use Rattle.std.specs.List.{list_all}
-use Rattle.std.proofs.lemmas.Bool.{eqb-true, eqb-false, eq-eqb, and_parts, and_from, or_cases, false≢true, true≢false, not-true, both_ways}
-use Rattle.std.proofs.lemmas.Grind.{get_or-set_at}
-use Rattle.std.proofs.lemmas.List.{at_drop_more, get_or-set_other, take_all}
+use Rattle.std.proofs.lemmas.Bool.{eqb-true, eqb-false, eq-eqb, and_parts, and_from, or_cases, false≢true, not-true, both_ways, not-false}
+use Rattle.std.proofs.lemmas.List.{at_drop_more}
 use Rattle.std.proofs.lemmas.Option.{none-some}
 use Rattle.sat_rules.specs.Clauses.{has, is_unit_on, negate}
 use Rattle.sat_rules.specs.Named.{negated_set}
@@ -19,14 +18,6 @@ pub or_right : (a b : Bool) → b ≡ true → (a || b) ≡ true
 or_right true b e = refl
 or_right false b e = e
 
--- one value is set
-pub set_value : (xs : List Bool) (k l : ℕ) → k < length xs → get_or (set xs k true) l false ≡ (eqb l k || get_or xs l false)
-set_value xs k l w = go (eqb l k) refl
-  where
-    go : (b : Bool) → eqb l k ≡ b → get_or (set xs k true) l false ≡ (b || get_or xs l false)
-    go true e = get_or-set_at xs k l true false (eqb-true l k e) w
-    go false e = get_or-set_other xs k l true false (eqb-false l k e)
-
 -- what is true after the next literal is cleared comes after it
 pub later_in_trail : (trail : List ℕ) (i k m : ℕ) (b : Bool) → i < length trail → m ≡ get_or trail i m →
     (b ≡ true → has k (drop i trail) ≡ true) → (not (eqb k m) && b) ≡ true → has k (drop (i + 1) trail) ≡ true
@@ -37,17 +28,6 @@ later_in_trail trail i k m b w e h t =
       | inl y ↦ absurd (both_ways (eqb k m) (not-true _ parts.0) y)
       | inr y ↦ y
     ]
-
--- new values are false
-pub new_value : (n l : ℕ) → get_or (replicate n false) l false ≡ false
-new_value zero l = refl
-new_value (suc n) zero = refl
-new_value (suc n) (suc l) = new_value n l
-
-pub grown_value : (xs : List Bool) (n l : ℕ) → get_or (xs ++ replicate n false) l false ≡ get_or xs l false
-grown_value [] n l = new_value n l
-grown_value (x ∷ xs) n zero = refl
-grown_value (x ∷ xs) n (suc l) = grown_value xs n l
 
 -- where the clause is unit on l, l is found
 search_finds : (s : ℕ → Bool) (ls : List ℕ) (l : ℕ) (u : Option ℕ) → list_all (λ m. eqb m l || s (negate m)) ls ≡ true → s l ≡ false → s (negate l) ≡ false →
@@ -80,10 +60,6 @@ search_finds s (m ∷ ms) l u a t f p = go (λ v. search_finds s ms l v parts.1 
           | inr y ↦ rw y (after u (later (λ x. eqb-false m l e (sym x)) p))
         ]
 
-not-false : (b : Bool) → not b ≡ false → b ≡ true
-not-false true q = refl
-not-false false q = absurd (true≢false q)
-
 -- what is found is a literal on which the clause is unit
 search_found : (s : ℕ → Bool) (ls : List ℕ) (l : ℕ) (u : Option ℕ) → search s u ls ≡ Some l →
     (list_all (λ m. eqb m l || s (negate m)) ls ≡ true) × ((u ≡ Some l) ⊎ ((u ≡ None) × (has l ls ≡ true) × (s l ≡ false) × (s (negate l) ≡ false)))
@@ -108,9 +84,8 @@ search_found s (m ∷ ms) l u h = go (search_found s ms l) (s (negate m)) refl (
     go : ((v : Option ℕ) → search s v ms ≡ Some l → Found v ms) → (b : Bool) → s (negate m) ≡ b → (c : Bool) → s m ≡ c → (d : Bool) → is_other u m ≡ d →
         cond b (search s u ms) (cond (c || d) None (search s (Some m) ms)) ≡ Some l → Found u (m ∷ ms)
     go after true e c f d g k = skips e (after u k)
-    go after false e true f d g k = absurd (none-some l k)
-    go after false e false f true g k = absurd (none-some l k)
     go after false e false f false g k = finds g e f (after (Some m) k)
+    go after false e _ f _ g k = absurd (none-some l k)
 
 -- a literal on which the clause is unit, from its parts
 unit_on : (s : ℕ → Bool) (c : List ℕ) (l : ℕ) → list_all (λ m. eqb m l || s (negate m)) c ≡ true → has l c ≡ true → s l ≡ false → s (negate l) ≡ false → is_unit_on s c l ≡ true
@@ -142,10 +117,6 @@ search_is s c = go (unit_among s c c) refl
         let free = and_parts _ _ second.1 in
         search_finds s c l None second.0 (not-true _ free.0) (not-true _ free.1) (inl (refl, first.0))
 
--- values of a longer list
-pub resized_value : (xs : List Bool) (n k l : ℕ) → length xs ≤ n → get_or (take n xs ++ replicate k false) l false ≡ get_or xs l false
-resized_value xs n k l w = rw (take_all n xs w) (grown_value xs k l)
-
 -- the negation of the next literal is true
 pub negated_next : (c : List ℕ) (i k m : ℕ) (b : Bool) → i < length c → m ≡ get_or c i m → (negated_set (drop (i + 1) c) k || (eqb k (negate m) || b)) ≡ (negated_set (drop i c) k || b)
 negated_next c i k m b w e = move (eqb k (negate m)) (negated_set (drop (i + 1) c) k) b ∙ ap (λ x. x || b) (sym here)
@@ -155,9 +126,7 @@ negated_next c i k m b w e = move (eqb k (negate m)) (negated_set (drop (i + 1) 
 
     move : (x y z : Bool) → (y || (x || z)) ≡ ((x || y) || z)
     move true true z = refl
-    move true false z = refl
-    move false true z = refl
-    move false false z = refl
+    move _ _ z = refl
 
 -- the search goes on at the next literal
 module _ (s : ℕ → Bool) (c : List ℕ) (i m : ℕ) (w : i < length c) (e : m ≡ get_or c i m) where
