@@ -20,13 +20,12 @@ all_more P xs i d lt all h = rw (take_more xs i d lt) (all_append P (take i xs) 
 
 -- a hash fits, where all do
 pub fits_at : (format : Format) (hashes : List ℕ) (i d : ℕ) → i < length hashes → all_fit format hashes ≡ true → get_or hashes i d < 2 ^ 64 → IsHash format (get_or hashes i d)
-fits_at formats.Start hashes i d lt all h = h
-fits_at formats.Numbers hashes i d lt all h = h
 fits_at (formats.Bytes width) hashes i d lt all h =
     elim (cases_lt (get_or hashes i d) (2 ^ width)) [
       | inl small ↦ small
       | inr large ↦ absurd (false≢true (sym (list_all_at (λ n. ltb n (2 ^ width)) hashes i d lt (le-ltb (get_or hashes i d) (2 ^ width) large)) ∙ all))
     ]
+fits_at _ hashes i d lt all h = h
 
 abbrev hash_of : ℕ × ℕ → ℕ
 hash_of u = u.1

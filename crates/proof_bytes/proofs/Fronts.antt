@@ -22,8 +22,7 @@ leads_ahead f g ahead front n e p c s = record { taken = take n ahead; bytes = b
 -- one byte more
 pub one_more : {A : Type 0} (f g : List ℕ → A) (xs : List ℕ) (i n : ℕ) → n ≡ i + 1 → i < length xs →
     ((more : List ℕ) → f (take i xs ++ more) ≡ g more) → (more : List ℕ) → f (take n xs ++ more) ≡ g (get_or xs i 0 ∷ more)
-one_more f g xs i n e lt h more = ap f (ap (λ (l : List ℕ). l ++ more) (ap (λ k. take k xs) e ∙ take_more xs i 0 lt) ∙ append_assoc (take i xs) (get_or xs i 0 ∷ []) more)
-    ∙ h (get_or xs i 0 ∷ more)
+one_more f g xs i n e lt h more = ap f (ap (λ (l : List ℕ). l ++ more) (ap (λ k. take k xs) e ∙ take_more xs i 0 lt) ∙ append_assoc (take i xs) (get_or xs i 0 ∷ []) more) ∙ h (get_or xs i 0 ∷ more)
 
 -- no byte
 pub more_short : (n v w : ℕ) → more_at n v w [] ≡ Err Short

@@ -62,8 +62,7 @@ next_step : (format : Format) (step : Step) (rest : List ℕ) → format ≢ for
 unfolding next_of
 next_step format step rest n h = ap step_or_fault (later format (spells format step ++ rest) n ∙ ap (λ (found : Found Step). found >>= then_after format) (step_again format step rest h))
 
-later_steps : (format : Format) (steps : List Step) (rest : List ℕ) → format ≢ formats.Start → AreSteps format steps → ReadsTo (format, text format steps ++ rest) steps
-    (after_all format steps, rest)
+later_steps : (format : Format) (steps : List Step) (rest : List ℕ) → format ≢ formats.Start → AreSteps format steps → ReadsTo (format, text format steps ++ rest) steps (after_all format steps, rest)
 unfolding text
 later_steps format [] rest n h = refl
 later_steps format (step ∷ steps) rest n h =
@@ -134,13 +133,9 @@ after_all_begun : (steps : List Step) (format : Format) → format ≢ formats.S
 after_all_begun [] format n = n
 after_all_begun (step ∷ steps) format n = after_all_begun steps (after step format) (after_begun step format n)
 
-writing_begun : (format : Format) → format ≢ formats.Start → writing format ≡ format
-writing_begun formats.Start n = absurd (n refl)
-writing_begun _ n = refl
-
-mark_begun : (format : Format) → format ≢ formats.Start → mark format ≡ []
-mark_begun formats.Start n = absurd (n refl)
-mark_begun _ n = refl
+written_begun : (format : Format) → format ≢ formats.Start → (writing format ≡ format) × (mark format ≡ [])
+written_begun formats.Start n = absurd (n refl)
+written_begun _ n = (refl, refl)
 
 begun : (first : Step) (steps : List Step) → written_after (first ∷ steps) ≢ formats.Start
 begun first steps = after_all_begun (first ∷ steps) (formats.Bytes 64) (λ e. absurd cc)
@@ -149,18 +144,18 @@ version_2_grows : (steps : List Step) (step : Step) → text_2 (steps ++ step �
 unfolding text
 version_2_grows [] step = ap (λ (l : List ℕ). 0 ∷ 2 ∷ l) (append-nil (spells (formats.Bytes 64) step))
 version_2_grows (first ∷ steps) step =
-    let n = begun first steps in
-    rw (writing_begun (written_after (first ∷ steps)) n, mark_begun (written_after (first ∷ steps)) n) (ap (λ (l : List ℕ). 0 ∷ 2 ∷ l) (text_more (formats.Bytes 64) (first ∷ steps) step))
+    let as_begun = written_begun (written_after (first ∷ steps)) (begun first steps) in
+    rw (as_begun.0, as_begun.1) (ap (λ (l : List ℕ). 0 ∷ 2 ∷ l) (text_more (formats.Bytes 64) (first ∷ steps) step))
 
 format_grows : (steps : List Step) (step : Step) → written_after (steps ++ step ∷ []) ≡ after step (writing (written_after steps))
 format_grows [] step = refl
-format_grows (first ∷ steps) step = after_more (formats.Bytes 64) (first ∷ steps) step ∙ ap (after step) (sym (writing_begun (written_after (first ∷ steps)) (begun first steps)))
+format_grows (first ∷ steps) step = after_more (formats.Bytes 64) (first ∷ steps) step ∙ ap (after step) (sym (written_begun (written_after (first ∷ steps)) (begun first steps)).0)
 
 fits_2_grows : (steps : List Step) (step : Step) → AreSteps (formats.Bytes 64) steps → IsStep (writing (written_after steps)) step → AreSteps (formats.Bytes 64) (steps ++ step ∷ [])
 fits_2_grows [] step all h = fits_more (formats.Bytes 64) [] step all h
 fits_2_grows (first ∷ steps) step all h =
     fits_more (formats.Bytes 64) (first ∷ steps) step all
-    (subst (λ (format : Format). IsStep format step) (writing_begun (written_after (first ∷ steps)) (begun first steps)) h)
+    (subst (λ (format : Format). IsStep format step) (written_begun (written_after (first ∷ steps)) (begun first steps)).0 h)
 
 pub text_grows : TextGrows
 text_grows = record {

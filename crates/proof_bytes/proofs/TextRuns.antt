@@ -45,8 +45,7 @@ attempted : (o : Outcome) (refused : Option Cause) (step : Step) (next : Place) 
     after_attempt {X = Place} {F = Fault} o.refused o.after step next ≡ after_attempt refused o.after step next
 attempted o refused step next e = ap (λ (r : Option Cause). after_attempt {X = Place} {F = Fault} r o.after step next) e
 
-pub move_step : (t : State) (place next : Place) (step : Step) (refused : Option Cause) → MayRead t → next_at place.0 place.1 ≡ Ok ((next.0, step), next.1) →
-    (attempt t step).refused ≡ refused →
+pub move_step : (t : State) (place next : Place) (step : Step) (refused : Option Cause) → MayRead t → next_at place.0 place.1 ≡ Ok ((next.0, step), next.1) → (attempt t step).refused ≡ refused →
     move next_of t place ≡ after_attempt refused (attempt t step).after step next
 move_step t place next step refused h e r =
     move_reads t place h ∙ ap (λ (found : (Step × Place) ⊎ Fault). after_read t found) (found_step place next step e) ∙ attempted (attempt t step) refused step next r

@@ -1,9 +1,9 @@
-use Rattle.proof_bytes.proofs.Leading.{exits_by}
+use Rattle.proof_bytes.proofs.Leading.{exits_by, leads_nil}
 use Rattle.proof_bytes.proofs.StepFields.{only_fails, only_read}
 use Rattle.proof_bytes.proofs.body.BodyReader.change_hash_bits.Goals as goal
 
 pub returns-in_err-bits : goal.returns-in_err-bits
-returns-in_err-bits g c = exits_by _ _ c.from_residual.ensures.1 (only_fails _ _) c.in_err-bits.ensures.read
+returns-in_err-bits g c = exits_by _ _ c.from_residual.ensures.1 (only_fails _ (leads_nil _ _)) c.in_err-bits.ensures.read
 
 pub returns : goal.returns
 returns g c = only_read _ _ c.in_ok-bits.ensures.read

@@ -1,9 +1,9 @@
-use Rattle.proof_bytes.proofs.Leading.{exits_by}
+use Rattle.proof_bytes.proofs.Leading.{exits_by, leads_nil}
 use Rattle.proof_bytes.proofs.StepFields.{only_fails, only_read}
 use Rattle.proof_bytes.proofs.body.BodyReader.delete_var.Goals as goal
 
 pub returns-in_err-var : goal.returns-in_err-var
-returns-in_err-var g c = exits_by _ _ c.from_residual.ensures.1 (only_fails _ _) c.in_err-var.ensures
+returns-in_err-var g c = exits_by _ _ c.from_residual.ensures.1 (only_fails _ (leads_nil _ _)) c.in_err-var.ensures
 
 pub returns : goal.returns
 returns g c = only_read _ _ c.in_ok-var.ensures

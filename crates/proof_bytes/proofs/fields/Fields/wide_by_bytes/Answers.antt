@@ -12,15 +12,13 @@ returns-in_err-byte g c = exits_by _ _ c.from_residual.ensures.1
     (wide_fails _ (bytes_of c.args.width - (c.bytes.counter + 1)) _ _ _ c.bytes.invariant.leads (omega arith)) c.in_err-byte.ensures
 
 pub overflow_mul-value : goal.overflow_mul-value
-overflow_mul-value g c = let f = fits_256 c.bytes.counter _ _ c.in_ok-byte.byte (omega arith) c.bytes.invariant.weight c.bytes.invariant.small (omega arith) in omega
-    (arith, f.product, f.weight)
+overflow_mul-value g c = let f = fits_256 c.bytes.counter _ _ c.in_ok-byte.byte (omega arith) c.bytes.invariant.weight c.bytes.invariant.small (omega arith) in omega (arith, f.product, f.weight)
 
 pub overflow_add-value : goal.overflow_add-value
 overflow_add-value g c = let f = fits_256 c.bytes.counter _ _ c.in_ok-byte.byte (omega arith) c.bytes.invariant.weight c.bytes.invariant.small (omega arith) in omega (arith, f.sum, f.weight)
 
 pub overflow_mul-weight : goal.overflow_mul-weight
-overflow_mul-weight g c = let f = fits_256 (c.bytes.counter + 1) 0 (c.bytes.weight * 256) 0 (omega arith) (next_256 _ _ c.bytes.invariant.weight) (omega arith)
-    (omega arith) in omega (arith, f.weight)
+overflow_mul-weight g c = let f = fits_256 (c.bytes.counter + 1) 0 (c.bytes.weight * 256) 0 (omega arith) (next_256 _ _ c.bytes.invariant.weight) (omega arith) (omega arith) in omega (arith, f.weight)
 
 pub bytes-preserved : goal.bytes-preserved
 bytes-preserved g c =
@@ -35,8 +33,7 @@ pub returns-in_err-last : goal.returns-in_err-last
 returns-in_err-last g c = exits_by _ _ c.from_residual-in_err-last.ensures.1 (wide_fails _ 0 _ _ _ c.bytes.invariant.leads (omega arith)) c.in_err-last.ensures
 
 pub overflow_mul-value-2 : goal.overflow_mul-value-2
-overflow_mul-value-2 g c = let f = fits_256 c.bytes.counter _ _ c.in_ok-last.last (omega arith) c.bytes.invariant.weight c.bytes.invariant.small (omega arith) in omega
-    (arith, f.product, f.weight)
+overflow_mul-value-2 g c = let f = fits_256 c.bytes.counter _ _ c.in_ok-last.last (omega arith) c.bytes.invariant.weight c.bytes.invariant.small (omega arith) in omega (arith, f.product, f.weight)
 
 pub overflow_add-value-2 : goal.overflow_add-value-2
 overflow_add-value-2 g c = let f = fits_256 c.bytes.counter _ _ c.in_ok-last.last (omega arith) c.bytes.invariant.weight c.bytes.invariant.small (omega arith) in omega (arith, f.sum, f.weight)
