@@ -1,16 +1,15 @@
 -- The lines of a proof in turn.
 --     SoFar      the lines that were read so far, all of them accepted
-use Rattle.std.proofs.Common.{◌≡◌, ℕ, suc, ◌+◌, ◌-◌, ◌^◌, ◌<◌, Bool, List, [], ◌∷◌, ◌++◌, length, Option, Some, None, Result, Ok, Err, refl, sym, ap, ◌∙◌, subst, arith}
+use Rattle.std.proofs.Common.{◌≡◌, ℕ, Bool, List, [], ◌∷◌, ◌++◌, Option, Some, None, Result, Ok, Err, refl, sym, ◌∙◌, subst}
 use Rattle.std.specs.Prelude.{IfErr, IfOk}
 use Rattle.sat_rules.specs.HintLines.{Listed}
-use Rattle.sat_formula.specs.Lines.{lines_of}
 use Rattle.lrat_rules.specs.Lines.{Line}
 use Rattle.lrat_text.specs.NextLine.{view}
 use Rattle.lrat_text.specs.Texts.{Ended, Faulty, Outcome, with_line}
 use Rattle.lrat_text.specs.declared.fault.LratTextFault.{LratTextFault}
 use Rattle.lrat_text.specs.declared.fault.LratTextFault.TheVariants as reads
 use Rattle.lrat_text.specs.declared.line.LratLine.{LratLine}
-use Rattle.lrat_binary.specs.Proofs.{Gives, IsCounted, IsFresh, IsNoLine, form_now, line_number, lines_after, outcome_in, with_lines}
+use Rattle.lrat_binary.specs.Proofs.{Gives, IsCounted, IsFresh, IsNoLine, line_number, lines_after, outcome_in, with_lines}
 use Rattle.lrat_binary.specs.Telling.{form_of}
 use Rattle.lrat_binary.specs.declared.ids.Ids.{Ids}
 use Rattle.lrat_binary.specs.declared.ids.LratForm.{LratForm}
@@ -24,7 +23,7 @@ use Rattle.hint_checker.specs.declared.fault.HintTextFault.{HintTextFault}
 use Rattle.hint_checker.specs.declared.fault.HintTextFault.TheVariants.{Refused}
 use Rattle.hint_checker.specs.declared.fault.LineFault.{LineFault}
 use Rattle.hint_checker.specs.declared.fault.LineFault.TheVariants as causes
-use Rattle.hint_checker.proofs.OutcomeLemmas.{Run, all_accepted, numbered-exact, run_leads, run_more, stopped_at}
+use Rattle.hint_checker.proofs.OutcomeLemmas.{Run, accepts, refuses, run_leads, run_more}
 use Rattle.hint_checker.proofs.StreamLemmas.{by_cause, some_text}
 use Rattle.hint_check.specs.Proofs.{AcceptsIn, AcceptsProof, IsProofRefusal, IsToldForm, RefusesIn}
 
@@ -32,31 +31,14 @@ use Rattle.hint_check.specs.Proofs.{AcceptsIn, AcceptsProof, IsProofRefusal, IsT
 
 module _ (h k : Listed) (xs : List (ℕ × Line)) (run : Run h xs k) (bytes : List ℕ) where
   -- all of them
-  accepts : (form : LratForm) → outcome_in form bytes ≡ (xs, Ended) → AcceptsIn form h bytes k
-  accepts forms.Text e =
-      let a = all_accepted 0 (lines_of bytes) h k (ap (λ (o : Outcome). o.1) e) (subst (λ (ys : List (ℕ × Line)). Run h ys k) (sym (ap (λ (o : Outcome). o.0) e)) run) in
-      record { lines = a.lines; said = a.all; follow = a.follow }
-  accepts (forms.Binary ids) e = record { given = xs; says = e; leads_to = run_leads h k xs run }
+  accepted : (form : LratForm) → outcome_in form bytes ≡ (xs, Ended) → AcceptsIn form h bytes k
+  accepted forms.Text e = accepts h k xs run bytes e
+  accepted (forms.Binary ids) e = record { given = xs; says = e; leads_to = run_leads h k xs run }
 
   -- those before one that is refused, or can't be read
   stopped : (form : LratForm) (later : Outcome) → outcome_in form bytes ≡ with_lines xs later → (m : ℕ) → IsExact form m →
       (fault : LineFault) → Stops k later.0 later.1 m fault → RefusesIn form h bytes m fault
-  stopped forms.Text later e m below fault stops =
-      let s = stopped_at 0 (lines_of bytes) h k xs later.0 later.1 m fault (ap (λ (o : Outcome). o.0) e) (ap (λ (o : Outcome). o.1) e) run stops in
-      record {
-        before = s.before;
-        line = s.line;
-        after = s.after;
-        cut = s.cut;
-        number =
-            let exact = numbered-exact (suc (length s.before)) 0 (omega arith) (subst (λ j. j < 2 ^ 64 - 1) s.number below) in
-            s.number ∙ exact ∙ omega arith;
-        lines = s.accepted.lines;
-        said = s.accepted.all;
-        held = s.held;
-        follow = s.accepted.follow;
-        refused = s.refused;
-      }
+  stopped forms.Text later e m below fault stops = refuses h k xs run bytes later e m below fault stops
   stopped (forms.Binary ids) later e m below fault stops = record { before = xs; later = later; cut = e; held = k; leads_to = run_leads h k xs run; stops = stops }
 
 -- ---- the loop over lines
@@ -100,7 +82,7 @@ module _ {R : Type 0} (remaining : R → Option (List ℕ)) (known : Known) (for
     pub so_far_ended : Gives remaining old new (Ok None) → (found : Bool) → found ≡ k.added_empty → AcceptsProof form known h found
     so_far_ended gives found is =
         let f = given_end remaining known form old so.lines so.given new gives in
-        record { text = f.text; gives = f.gives; held = k; accepts = accepts h k so.lines so.run f.text form f.says; answer = is }
+        record { text = f.text; gives = f.gives; held = k; accepts = accepted h k so.lines so.run f.text form f.says; answer = is }
 
     -- a line that can't be read
     pub so_far_unread : (fault : LratTextFault) → Gives remaining old new (Err fault) → IsProofRefusal form known h (of_text fault)

@@ -4,6 +4,7 @@
 use Rattle.std.proofs.Common.{◌≡◌, ℕ, Bool, true, false, List, length, Option, refl, sym, subst}
 use Rattle.std.specs.Prelude.{Err}
 use Rattle.std.specs.declared.io.Error.{Error}
+use Rattle.std.proofs.lemmas.Bool.{false_from_ne_true}
 use Rattle.sat_rules.specs.Clauses.{all_true}
 use Rattle.sat_rules.specs.HintLines.{Follows, HintLine, Listed, listing}
 use Rattle.sat_rules.proofs.HintLineFacts.{hints_refute}
@@ -19,13 +20,9 @@ use Rattle.hint_check.specs.Proofs.{AcceptsIn, AcceptsProof, IsProofRefusal, IsT
 use Rattle.hint_check.specs.Runs.{AcceptsHints, ChecksHints, IsUnread}
 use Rattle.verdicts.specs.Verdicts.{verdict_of}
 use Rattle.hint_check.specs.declared.fault.RunFault.{RunFault}
-use Rattle.hint_check.specs.declared.fault.RunFault.TheVariants.{Formula, Hints, Read, Write}
+use Rattle.hint_check.specs.declared.fault.RunFault.TheVariants.{Hints, Read}
 use Rattle.verdicts.specs.declared.verdict.Verdict.TheVariants.{Verified}
 use Rattle.hint_check.proofs.LineLemmas.{not_opened}
-
-never_true : (b : Bool) → (b ≡ true → ⊥) → b ≡ false
-never_true true h = absurd (h refl)
-never_true false h = refl
 
 lines_follow : (form : LratForm) (h k : Listed) (text : List ℕ) → AcceptsIn form h text k → (lines : List HintLine) × Follows h lines k
 lines_follow forms.Text h k text a = (a.lines, a.follow)
@@ -46,7 +43,7 @@ accepted_hints ids known formula count answer counted found = record {
     by : (b : Bool) → b ≡ found.2.held.added_empty → verdict_of b ≡ Verified → (a : ℕ → Bool) → all_true a formula ≡ false
     by true r e a =
         let lines = lines_follow found.0 (listing formula) found.2.held found.2.text found.2.accepts in
-        never_true (all_true a formula) (hints_refute formula lines.0 found.2.held lines.1 (sym r) a)
+        false_from_ne_true (all_true a formula) (hints_refute formula lines.0 found.2.held lines.1 (sym r) a)
     by false r e a = absurd cc
 
 -- a line was refused
@@ -62,5 +59,4 @@ no_memory ids known formula fault e = rw e (refused_hints ids known formula (len
 pub unread_hints : (ids : Option Ids) (known : Known) (formula : List (List ℕ)) (cause : Error) (fault : RunFault) → IsUnread cause fault → ChecksHints ids known formula (Err fault)
 unread_hints ids known formula cause (Hints fault) u = no_memory ids known formula fault u.1
 unread_hints ids known formula cause (Read error) u = rw u.1 u.0
-unread_hints ids known formula cause (Formula fault) u = absurd u
-unread_hints ids known formula cause (Write error) u = absurd u
+unread_hints ids known formula cause _ u = absurd u

@@ -1,10 +1,7 @@
-use Rattle.std.proofs.Common.{◌∙◌, ap, sym, subst}
 use Rattle.lrat_text.specs.NextLine.{view}
 use Rattle.lrat_binary.specs.Proofs.{form_now}
-use Rattle.hint_checker.specs.Checked.{after_said, in_line}
+use Rattle.hint_checker.specs.Checked.{after_said}
 use Rattle.hint_checker.specs.Given.{as_hints}
-use Rattle.hint_checker.specs.declared.fault.HintTextFault.TheVariants.{Refused}
-use Rattle.hint_check.specs.Proofs.{IsProofRefusal}
 use Rattle.hint_check.proofs.LineLemmas.{so_far_ended, so_far_more, so_far_refused, so_far_start, so_far_unread}
 use Rattle.hint_check.proofs.checking.check_lines.Goals as goal
 
@@ -25,10 +22,8 @@ pub returns-in-Err-check_line-clause-refused : goal.returns-in-Err-check_line-cl
 returns-in-Err-check_line-clause-refused g c = λ h known held fresh.
     let gave = rw (c.in-Ok-Some.is, c.in-Ok-Some.field-0-is) at c.next_line.follows.holds-at-none in
     let so = c.lines.invariant h known held fresh in
-    subst (λ f. IsProofRefusal (form_now c.args.reader.now) known h (Refused f))
-    (sym (c.in_line.ensures ∙ ap (in_line c.in-Err-check_line.fault) c.line.ensures))
-    (so_far_refused g.R.Read.remaining known (form_now c.args.reader.now) c.lines.reader h so.0 so.2 c.next_line.follows.lender-at-none c.in-Ok-Some.line gave
-    c.in-Err-check_line.fault (c.in-Err-check_line.ensures.refused so.0 so.1).0)
+    rw (c.in_line.ensures, c.line.ensures) (so_far_refused g.R.Read.remaining known (form_now c.args.reader.now) c.lines.reader h so.0 so.2
+    c.next_line.follows.lender-at-none c.in-Ok-Some.line gave c.in-Err-check_line.fault (c.in-Err-check_line.ensures.refused so.0 so.1).0)
 
 pub returns-in-Ok-None-clause-accepted : goal.returns-in-Ok-None-clause-accepted
 returns-in-Ok-None-clause-accepted g c = λ h known held fresh.
@@ -41,5 +36,4 @@ pub returns-in-Err-clause-refused : goal.returns-in-Err-clause-refused
 returns-in-Err-clause-refused g c = λ h known held fresh.
     let gave = rw c.in-Err.is at c.next_line.follows.holds-at-none in
     let so = c.lines.invariant h known held fresh in
-    subst (λ f. IsProofRefusal (form_now c.args.reader.now) known h f) (sym c.from.ensures)
-    (so_far_unread g.R.Read.remaining known (form_now c.args.reader.now) c.lines.reader h so.0 so.2 c.next_line.follows.lender-at-none c.in-Err.fault gave)
+    rw c.from.ensures (so_far_unread g.R.Read.remaining known (form_now c.args.reader.now) c.lines.reader h so.0 so.2 c.next_line.follows.lender-at-none c.in-Err.fault gave)
