@@ -1,5 +1,7 @@
-use Rattle.sat_formula.proofs.WorkedTexts.{worked_texts}
+use Rattle.sat_formula.specs.Lines.{tokens_from, lines_from}
 use Rattle.sat_formula.proofs.laws.worked_texts.Goals as goal
 
+-- by computing what the lines say
 pub returns : goal.returns
-returns c = worked_texts
+unfolding tokens_from lines_from
+returns c = search
