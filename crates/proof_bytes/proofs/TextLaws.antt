@@ -7,23 +7,17 @@ use Rattle.proof_bytes.specs.declared.format.Format.{Format}
 use Rattle.proof_bytes.specs.declared.format.Format.TheVariants as formats
 use Rattle.proof_bytes.specs.Fields.{made_at}
 use Rattle.proof_bytes.specs.Formats.{after}
-use Rattle.proof_bytes.specs.Laws.{NoSpellingBeginsAnother, SpelledIsRead, ReadIsSpelled, StartIsRead, TextGrows, TextIsRead}
+use Rattle.proof_bytes.specs.Laws.{NoSpellingBeginsAnother, StartIsRead, TextGrows, TextIsRead}
 use Rattle.proof_bytes.specs.Reading.{Wrong, Found, ◌>>=◌}
 use Rattle.proof_bytes.specs.Spelling.{spells, IsStep}
 use Rattle.proof_bytes.specs.Steps.{step_at, next_at, tag_at, marked_at, then_after}
 use Rattle.proof_bytes.specs.Texts.{Place, start_of, next_of, step_or_fault, ReadsTo, text, AreSteps, after_all}
 use Rattle.proof_bytes.specs.Version2.{mark, text_2, writing, written_after}
 use Rattle.proof_bytes.proofs.NumberLaws.{given}
-use Rattle.proof_bytes.proofs.StepLaws.{step_again, step_exact}
-
-pub spelled_is_read : SpelledIsRead
-spelled_is_read = step_again
+use Rattle.proof_bytes.proofs.StepLaws.{step_again}
 
 pub no_spelling_begins_another : NoSpellingBeginsAnother
 no_spelling_begins_another format s t x y h k e = given s t x y (sym (step_again format s x h) ∙ ap (step_at format) e ∙ step_again format t y k)
-
-pub read_is_spelled : ReadIsSpelled
-read_is_spelled format s bytes rest fits e = let took = step_exact format s bytes rest fits e in (took.spelled, took.fits)
 
 -- ---- the start of a text
 

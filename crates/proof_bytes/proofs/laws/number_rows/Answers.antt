@@ -1,5 +1,7 @@
-use Rattle.proof_bytes.proofs.Rows.{number_rows}
+use Rattle.proof_bytes.specs.Reading.{more_at, number_at}
+use Rattle.proof_bytes.specs.Spelling.{groups, number}
 use Rattle.proof_bytes.proofs.laws.number_rows.Goals as goal
 
 pub returns : goal.returns
-returns c = number_rows
+unfolding number groups number_at more_at
+returns c = search

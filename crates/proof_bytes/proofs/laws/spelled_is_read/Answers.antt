@@ -1,5 +1,5 @@
-use Rattle.proof_bytes.proofs.TextLaws.{spelled_is_read}
+use Rattle.proof_bytes.proofs.StepLaws.{step_again}
 use Rattle.proof_bytes.proofs.laws.spelled_is_read.Goals as goal
 
 pub returns : goal.returns
-returns c = spelled_is_read
+returns c = step_again
