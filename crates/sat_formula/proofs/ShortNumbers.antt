@@ -78,8 +78,8 @@ suc-is n = omega arith
 power : (n : ℕ) → n < 9 → 10 ^ n ≤ 10 ^ 8
 power n few = pow-le-pow_right {n = 10} (omega arith) {i = n} {j = 8} (omega (arith, few))
 
-pub digit_fits_after : (n v x : ℕ) → n < 9 → v < 10 ^ n → is_digit x ≡ true → v * 10 + (x - 48) < 2 ^ 64
-digit_fits_after n v x few small e = omega (arith, small, digit_small x e, power n few)
+pub digits_below : (bytes : List ℕ) (n v : ℕ) → n ≤ 9 → HasDigits bytes n v → v < 10 ^ 9
+digits_below bytes n v few h = let small = h.small in let top : 10 ^ n ≤ 10 ^ 9 = pow-le-pow_right {n = 10} (omega arith) {i = n} {j = 9} few in omega arith
 
 pub digits_none : (bytes : List ℕ) → HasDigits bytes 0 0
 digits_none bytes = record { small = omega arith; digits = λ k lt. absurd (omega (arith, lt)); reads = λ line past begun negative more. refl }
