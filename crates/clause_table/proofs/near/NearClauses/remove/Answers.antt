@@ -4,16 +4,14 @@ use Rattle.clause_table.specs.Places.{len_at}
 use Rattle.clause_table.proofs.PlaceLemmas.{cleared-in_use, placed-below, rising-clear}
 use Rattle.clause_table.proofs.near.NearClauses.remove.Goals as goal
 
-pub invariant_of-self-clause-rising : goal.invariant_of-self-clause-rising
-invariant_of-self-clause-rising c =
-    let x = c.args.self.now in
-    rising-clear x.lits.items 0 x.places.items x.rising c.args.id
-
-pub invariant_of-self-clause-counted : goal.invariant_of-self-clause-counted
-invariant_of-self-clause-counted c =
+pub invariant_of-self : goal.invariant_of-self
+invariant_of-self c =
     let x = c.args.self.now in
     let len : c.code.result ≡ len_at x.lits.items c.place-place.result =
     c.code.ensures.value ∙ get_or_read x.lits.items (c.place-place.result - 1) c.index.result.now (omega (arith, c.place-place.ensures.within c.if-place-gt0.true)) c.index.ensures 0 in
     let here : c.code.result ≡ len_at x.lits.items (get_or x.places.items c.args.id 0) = len ∙ ap (len_at x.lits.items) c.place-place.ensures.value in
     let some : 0 < get_or x.places.items c.args.id 0 = omega (arith, c.place-place.ensures.value) in
-    omega (arith, cleared-in_use x.lits.items x.places.items c.args.id (placed-below x.places.items c.args.id some) some, x.counted)
+    record {
+      rising = rising-clear x.lits.items 0 x.places.items x.rising c.args.id;
+      counted = omega (arith, here, cleared-in_use x.lits.items x.places.items c.args.id (placed-below x.places.items c.args.id some) some, x.counted);
+    }
