@@ -1,15 +1,14 @@
 -- A clause before its groups, and groups in turn.
-use Rattle.std.proofs.Common.{◌≡◌, ℕ, ◌+◌, Bool, true, false, cond, eqb, List, [], ◌∷◌, Option, Some, None, is_some, sym, ap, ◌∙◌}
+use Rattle.std.proofs.Common.{◌≡◌, ℕ, ◌+◌, Bool, true, false, eqb, List, [], ◌∷◌, Option, Some, is_some, ◌∙◌}
 use mathlib.Core.Path.{fun_ext}
 use Rattle.std.proofs.Math.Bool.{or-false}
 use Rattle.sat_rules.specs.Named.{negated_set}
-use Rattle.lrat_rules.specs.Causes.{id_taken}
 use Rattle.lrat_rules.specs.Counts.{count_of}
 use Rattle.lrat_rules.specs.Groups.{Group, add_negated, rest_met, without}
 use Rattle.lrat_rules.specs.Lines.{Hint, adds, groups, leading}
 use Rattle.lrat_rules.specs.Propagation.{Ending, propagate}
 use Rattle.lrat_rules.specs.Refusals.{cause_at}
-use Rattle.lrat_rules.specs.Tables.{Table, add_id, cause_by_table, groups_cause_by, met_by_clause, met_by_groups}
+use Rattle.lrat_rules.specs.Tables.{Table, add_id, cause_by_table, groups_cause_by, met_by_groups}
 use Rattle.lrat_checker.specs.Values.{among}
 
 -- the negations of a clause alone
@@ -20,20 +19,11 @@ negated_alone c = fun_ext (λ m. or-false (negated_set c m))
 pub judged : (t : Table) (i : ℕ) (c : List ℕ) (hs : List Hint) (s : ℕ → Bool) (e : Ending) → is_some (t.named i) ≡ false → s ≡ add_negated c (among []) → e ≡ propagate t.named s (leading hs) →
     cause_by_table t (adds i c hs) ≡ cause_at e (λ r. groups_cause_by t r c (groups hs))
 judged t i c hs s e free start end =
-    ap (λ b. cond b (Some id_taken) (cause_at (propagate t.named (negated_set c) (leading hs)) (λ r. groups_cause_by t r c (groups hs)))) free
-    ∙ ap (λ x. cause_at (propagate t.named x (leading hs)) (λ r. groups_cause_by t r c (groups hs))) (sym (start ∙ negated_alone c))
-    ∙ ap (λ x. cause_at x (λ r. groups_cause_by t r c (groups hs))) (sym end)
-
--- by the clause of a group
-abbrev by_clause : (ℕ → Option (List ℕ)) → (ℕ → Bool) → ℕ → (ℕ → Bool) → ℕ → Group → List Group → Option (List ℕ) → Option ℕ
-by_clause f s n seen met g gs o = met_by_clause o n (λ d. rest_met f s (without n d) (Some g.hints)) (met_by_groups f s n seen met gs) (λ k. met_by_groups f s n (add_id g.id seen) (met + k) gs)
+    rw (free, ← (start ∙ negated_alone c), end)
 
 -- a group that is met counts
 pub group_met : (f : ℕ → Option (List ℕ)) (s : ℕ → Bool) (n : ℕ) (seen : ℕ → Bool) (met : ℕ) (g : Group) (gs : List Group) (d : List ℕ) →
     seen g.id ≡ false → f g.id ≡ Some d → eqb (count_of n d) 0 ≡ false →
     rest_met f s (without n d) (Some g.hints) ≡ true → met_by_groups f s n seen met (g ∷ gs) ≡ met_by_groups f s n (add_id g.id seen) (met + count_of n d) gs
 group_met f s n seen met g gs d unseen found some rest =
-    ap (λ b. cond b (met_by_groups f s n seen met gs) (by_clause f s n seen met g gs (f g.id))) unseen
-    ∙ ap (by_clause f s n seen met g gs) found
-    ∙ ap (λ b. cond b (met_by_groups f s n seen met gs) (cond (rest_met f s (without n d) (Some g.hints)) (met_by_groups f s n (add_id g.id seen) (met + count_of n d) gs) None)) some
-    ∙ ap (λ b. cond b (met_by_groups f s n (add_id g.id seen) (met + count_of n d) gs) None) rest
+    rw (unseen, found, some, rest)

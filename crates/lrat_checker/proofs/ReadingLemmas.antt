@@ -1,5 +1,6 @@
 -- What a reader of lines gave, for a checker that has accepted the lines before.
-use Rattle.std.proofs.Common.{◌≡◌, ℕ, Bool, true, false, ◌&&◌, List, [], ◌∷◌, ◌++◌, Option, Some, None, Result, Ok, Err, refl, sym, subst}
+use Rattle.std.proofs.Common.{◌≡◌, ℕ, Bool, true, false, ◌&&◌, List, [], ◌∷◌, ◌++◌, Option, Some, None, Result, Ok, Err}
+use Rattle.std.proofs.lemmas.Bool.{false_from_ne_true}
 use Rattle.lrat_rules.specs.Lines.{Line}
 use Rattle.lrat_text.specs.NextLine.{Gives, bytes_left, has_ended, line_number, view}
 use Rattle.lrat_text.specs.Taking.{Follows}
@@ -15,43 +16,26 @@ use Rattle.lrat_checker.specs.declared.checker.LratChecker.{LratChecker}
 use Rattle.lrat_checker.specs.declared.fault.LineFault.{LineFault}
 use Rattle.lrat_checker.proofs.TextLemmas.{SoFar, so_far_broken, so_far_cut, so_far_ended, so_far_more, so_far_refused, so_far_unread}
 
--- an answer, with a line or without one;  a fault
-abbrev answer : Option LratLine → Result (Option LratLine) LratTextFault
-answer o = Ok o
-
-abbrev failure : LratTextFault → Result (Option LratLine) LratTextFault
-failure fault = Err fault
-
 module _ {R : Type 0} (remaining : R → Option (List ℕ)) (old new : LineReader R) where
   -- only a reader that has not ended gives something
   open_still : (r : Result (Option LratLine) LratTextFault) → (r ≡ Ok None → ⊥) → Gives remaining old new r → has_ended old ≡ false
-  open_still r some gives = go (has_ended old) refl
-    where
-      go : (b : Bool) → has_ended old ≡ b → b ≡ false
-      go true e = absurd (some (gives.stays e).0)
-      go false e = refl
+  open_still r some gives = false_from_ne_true (has_ended old) (λ e. some (gives.stays e).0)
 
   module _ (known : Option (List ℕ)) (formula : List (List ℕ)) (before : List Line) (c : LratChecker)
       (so : SoFar known (bytes_left remaining old) (line_number old) (has_ended old) formula before c) where
     still : (r : Result (Option LratLine) LratTextFault) → (r ≡ Ok None → ⊥) → Gives remaining old new r → SoFar known (bytes_left remaining old) (line_number old) false formula before c
-    still r some gives = subst (λ (b : Bool). SoFar known (bytes_left remaining old) (line_number old) b formula before c) (open_still r some gives) so
-
-    is_line : (line : LratLine) → answer (Some line) ≡ answer None → ⊥
-    is_line line e = absurd (cc)
-
-    is_fault : (fault : LratTextFault) → failure fault ≡ answer None → ⊥
-    is_fault fault e = absurd (cc)
+    still r some gives = rw (open_still r some gives) at so
 
     -- how the text goes on with a line
     goes : (line : LratLine) → Gives remaining old new (Ok (Some line)) →
         Follows (bytes_left remaining old) (bytes_left remaining new) (line_number old) (has_ended new)
         (λ more. with_line (line_number new) (view line) (outcome_after (line_number new) more))
-    goes line gives = (gives.reads (open_still (Ok (Some line)) (is_line line) gives)).0
+    goes line gives = (gives.reads (open_still (Ok (Some line)) (λ e. absurd cc) gives)).0
 
     pub next_more : (line : LratLine) → Gives remaining old new (Ok (Some line)) → (d : LratChecker) → ((ls : List Line) → IsReady formula ls c → IsReady formula (ls ++ view line ∷ []) d) →
         SoFar known (bytes_left remaining new) (line_number new) (has_ended new) formula before d
     next_more line gives d more =
-        let s = still (Ok (Some line)) (is_line line) gives in
+        let s = still (Ok (Some line)) (λ e. absurd cc) gives in
         so_far_more known (bytes_left remaining old) (line_number old) formula before c s (bytes_left remaining new) (has_ended new)
         (line_number new) (view line) (goes line gives) d (more (before ++ said s.lines) s.ready)
 
@@ -60,7 +44,7 @@ module _ {R : Type 0} (remaining : R → Option (List ℕ)) (old new : LineReade
         ((ls : List Line) → IsReady formula ls c → IsAnswer formula ls (view line) fault) →
         IsTextAnswer until known formula before d (Err (in_line fault (line_number new)))
     next_refused until line gives d fault kept answers =
-        let s = still (Ok (Some line)) (is_line line) gives in
+        let s = still (Ok (Some line)) (λ e. absurd cc) gives in
         so_far_refused known (bytes_left remaining old) (line_number old) formula before c s (bytes_left remaining new) (has_ended new)
         (line_number new) (view line) (goes line gives) until d fault (kept (before ++ said s.lines) s.ready.accepted)
         (answers (before ++ said s.lines) s.ready)
@@ -70,9 +54,8 @@ module _ {R : Type 0} (remaining : R → Option (List ℕ)) (old new : LineReade
 
     pub next_unread : (until : Bool) (fault : LratTextFault) → Gives remaining old new (Err fault) → IsTextAnswer until known formula before (record c { failed = true }) (Err (of_text fault))
     next_unread until (reads.Line n kind) gives =
-        let a = gives.reads (open_still (Err (reads.Line n kind)) (is_fault (reads.Line n kind)) gives) in
-        subst (λ m. IsTextAnswer until known formula before (record c { failed = true }) (Err (of_text (reads.Line m kind)))) (sym a.0)
-        (so_far_unread known (bytes_left remaining old) (line_number old) formula before c (still _ (is_fault (reads.Line n kind)) gives)
+        let a = gives.reads (open_still (Err (reads.Line n kind)) (λ e. absurd cc) gives) in
+        rw a.0 (so_far_unread known (bytes_left remaining old) (line_number old) formula before c (still _ (λ e. absurd cc) gives)
         (bytes_left remaining new) a.1.0 (line_number new) kind a.1.1 until)
     next_unread until (reads.Read cause) gives = so_far_broken known (bytes_left remaining old) (line_number old) formula before c (has_ended old) so
     next_unread until reads.OutOfMemory gives = so_far_broken known (bytes_left remaining old) (line_number old) formula before c (has_ended old) so
@@ -80,6 +63,6 @@ module _ {R : Type 0} (remaining : R → Option (List ℕ)) (old new : LineReade
     pub next_cut : (fault : LratTextFault) → Gives remaining old new (Err fault) → IfCut (Err (of_text fault)) (IsCut remaining known formula before (record c { failed = true }))
     next_cut (reads.Line n kind) gives = tt
     next_cut (reads.Read cause) gives =
-        let a = gives.reads (open_still (Err (reads.Read cause)) (is_fault (reads.Read cause)) gives) in
-        so_far_cut known (bytes_left remaining old) (line_number old) formula before c remaining new cause (still _ (is_fault (reads.Read cause)) gives) a.0 a.1
+        let a = gives.reads (open_still (Err (reads.Read cause)) (λ e. absurd cc) gives) in
+        so_far_cut known (bytes_left remaining old) (line_number old) formula before c remaining new cause (still _ (λ e. absurd cc) gives) a.0 a.1
     next_cut reads.OutOfMemory gives = tt

@@ -1,7 +1,7 @@
 -- The literals of a clause that are not false, found from the last one on.
-use Rattle.std.proofs.Common.{◌≡◌, ℕ, Bool, true, false, cond, not, ◌&&◌, eqb, List, [], ◌∷◌, ◌++◌, refl, sym, ap, ◌∙◌, eq-eqb}
+use Rattle.std.proofs.Common.{arith, ◌≡◌, ℕ, Bool, true, false, cond, not, ◌&&◌, eqb, List, [], ◌∷◌, ◌++◌, refl, sym, ap, eq-eqb}
 use Rattle.std.specs.List.{list_all}
-use Rattle.std.proofs.lemmas.Bool.{and_parts, eqb-false, eqb-true}
+use Rattle.std.proofs.lemmas.Bool.{and_parts, eqb-false, eqb-true, false_from_ne_true}
 use Rattle.sat_rules.specs.Clauses.{is_falsified, negate, unfalsified}
 use Rattle.lrat_rules.specs.Causes.{not_unit}
 use Rattle.lrat_rules.specs.Propagation.{Ending, by_left, stuck}
@@ -14,9 +14,7 @@ unfalsified-false s (k ∷ c) m f = ap (λ u. cond (not (s (negate k))) (k ∷ u
 -- where all are false, none is left
 pub all_false : (s : ℕ → Bool) (c : List ℕ) → is_falsified s c ≡ true → unfalsified s c ≡ []
 all_false s [] all = refl
-all_false s (k ∷ c) all =
-    let parts = and_parts _ _ all in
-    ap (λ b. cond (not b) (k ∷ unfalsified s c) (unfalsified s c)) parts.0 ∙ all_false s c parts.1
+all_false s (k ∷ c) all = grind (arith, all_false s c)
 
 -- where all are as the first one, the last is
 last_as_first : (x l : ℕ) (v : List ℕ) → list_all (eqb x) (v ++ l ∷ []) ≡ true → x ≡ l
@@ -28,10 +26,6 @@ pub left_of : (v : List ℕ) (l : ℕ) (none : Ending) (one : ℕ → Ending) �
 left_of [] l none one = ap (λ b. cond (b && true) (one l) (stuck not_unit)) (sym (eq-eqb l l refl))
 left_of (x ∷ v) l none one = go (eqb l x) refl
   where
-    not_all : eqb l x ≡ false → (b : Bool) → list_all (eqb x) (v ++ l ∷ []) ≡ b → b ≡ false
-    not_all other true e = absurd (eqb-false l x other (sym (last_as_first x l v e)))
-    not_all other false e = refl
-
     go : (c : Bool) → eqb l x ≡ c → cond (list_all (eqb x) (v ++ l ∷ [])) (one x) (stuck not_unit) ≡ cond (c && list_all (eqb l) (v ++ l ∷ [])) (one l) (stuck not_unit)
     go true same = ap (λ k. cond (list_all (eqb k) (v ++ l ∷ [])) (one k) (stuck not_unit)) (sym (eqb-true l x same))
-    go false other = ap (λ b. cond b (one x) (stuck not_unit)) (not_all other (list_all (eqb x) (v ++ l ∷ [])) refl)
+    go false other = rw (false_from_ne_true (list_all (eqb x) (v ++ l ∷ [])) (λ e. eqb-false l x other (sym (last_as_first x l v e)))) refl

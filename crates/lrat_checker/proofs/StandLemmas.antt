@@ -1,9 +1,9 @@
 -- One line more after those that a checker has accepted.
-use Rattle.std.proofs.Common.{◌≡◌, ℕ, Bool, true, false, cond, ◌||◌, List, [], ◌∷◌, ◌++◌, Some, None, refl, sym, ap, ◌∙◌, subst}
+use Rattle.std.proofs.Common.{arith, ◌≡◌, ℕ, false, cond, ◌||◌, List, [], ◌∷◌, ◌++◌, Some, None, sym, ap, ◌∙◌, subst}
 use Rattle.std.proofs.Math.Bool.{or-false}
 use Rattle.sat_rules.specs.Named.{Item}
 use Rattle.sat_rules.proofs.HintLineFacts.{some-same}
-use Rattle.lrat_rules.specs.Lines.{Line, adds_empty, after, has_empty, is_refuted, refutes, run, step, then_run, then_test}
+use Rattle.lrat_rules.specs.Lines.{Line, adds_empty, after, is_refuted, refutes, run, step, then_run, then_test}
 use Rattle.lrat_rules.specs.Refusals.{cause_of_line}
 use Rattle.lrat_rules.specs.Stores.{formula_store}
 use Rattle.lrat_rules.specs.Tables.{IsTableOf, Table, cause_by_table, table_after}
@@ -15,10 +15,6 @@ use Rattle.lrat_checker.specs.Faults.{fault_of}
 use Rattle.lrat_checker.specs.Standing.{IsAnswer}
 use Rattle.lrat_checker.specs.declared.fault.Stop.{Stop}
 use Rattle.lrat_checker.specs.declared.fault.Stop.TheVariants.{OutOfMemory, Refused}
-
-pub or_assoc : (a b c : Bool) → (a || (b || c)) ≡ ((a || b) || c)
-or_assoc true b c = refl
-or_assoc false b c = refl
 
 module _ (formula : List (List ℕ)) (lines : List Line) (st : List Item) (t : Table) (l : Line) (ran : run (formula_store formula) lines ≡ Some st) (table : IsTableOf t st) where
   -- an accepted line
@@ -38,7 +34,7 @@ module _ (formula : List (List ℕ)) (lines : List Line) (st : List Item) (t : T
         ∙ ap (λ b. refutes (formula_store formula) lines || b) (or-false (adds_empty l))
 
     pub refutes_more : is_refuted formula (lines ++ l ∷ []) ≡ (is_refuted formula lines || adds_empty l)
-    refutes_more = ap (λ b. has_empty formula || b) refutes_on ∙ or_assoc (has_empty formula) (refutes (formula_store formula) lines) (adds_empty l)
+    refutes_more = grind (arith, refutes_on)
 
     pub table_more : IsTableOf (table_after t l) (after st l)
     table_more = tables_decide.after t st table l no_cause

@@ -1,8 +1,7 @@
 -- The lines of a text in turn.
 --     SoFar      the lines that were read so far, all of them accepted
-use Rattle.std.proofs.Common.{◌≡◌, ℕ, Bool, true, false, ◌&&◌, List, [], ◌∷◌, ◌++◌, Option, Some, None, Ok, Err, MatchBool, refl, sym, ap, ◌∙◌, subst, append_assoc, append-nil}
+use Rattle.std.proofs.Common.{◌≡◌, ℕ, Bool, true, false, ◌&&◌, List, [], ◌∷◌, ◌++◌, Option, Some, None, Ok, Err, refl, sym, ap, ◌∙◌, append_assoc, append-nil}
 use Rattle.std.specs.Prelude.{IfSome}
-use Rattle.std.specs.Io.KnownBytes.{Consumes}
 use Rattle.std.proofs.KnownBytes.{Consumes-nil, Consumes-trans}
 use Rattle.std.specs.declared.io.Error.{Error}
 use Rattle.lrat_rules.specs.Lines.{Line}
@@ -34,25 +33,20 @@ whole None left g e = tt
 whole (Some bytes) None g e = absurd e.consumed
 whole (Some bytes) (Some rest) g e = ap outcome_of (e.consumed ∙ ap (λ r. e.taken ++ r) e.at_end ∙ append-nil e.taken) ∙ e.same
 
-begun : (known left : Option (List ℕ)) (ls : List (ℕ × Line)) (g : List ℕ → Outcome) → Leads known left (outcome_after 0) (λ more. with_lines ls (g more)) → BeginsWith known ls
-begun None left ls g e = (([], Ended), tt)
-begun (Some bytes) None ls g e = absurd e.consumed
-begun (Some bytes) (Some rest) ls g e = (g rest, ap outcome_of e.consumed ∙ e.same rest)
-
--- one outcome, whatever comes after
-alike : (known left : Option (List ℕ)) (o : Outcome) → Leads known left (outcome_after 0) (λ more. o) → IfSome known (λ bytes. outcome_of bytes ≡ o)
-alike None left o e = tt
-alike (Some bytes) None o e = absurd e.consumed
-alike (Some bytes) (Some rest) o e = ap outcome_of e.consumed ∙ e.same rest
+-- and of one of which some bytes are left
+with_rest : (known left : Option (List ℕ)) (g : List ℕ → Outcome) → Leads known left (outcome_after 0) g → (rest : List ℕ) × IfSome known (λ bytes. outcome_of bytes ≡ g rest)
+with_rest None left g e = ([], tt)
+with_rest (Some bytes) None g e = absurd e.consumed
+with_rest (Some bytes) (Some rest) g e = (rest, ap outcome_of e.consumed ∙ e.same rest)
 
 -- the text so far, and how it goes on
 module _ (known left : Option (List ℕ)) (ls : List (ℕ × Line)) where
   pub text_begins : (n : ℕ) (over : Bool) → Follows known left 0 over (λ more. with_lines ls (outcome_after n more)) → BeginsWith known ls
-  text_begins n false e = begun known left ls (outcome_after n) e
+  text_begins n false e = let r = with_rest known left (λ more. with_lines ls (outcome_after n more)) e in (outcome_after n r.0, r.1)
   text_begins n true e = (outcome_after n [], whole known left (λ more. with_lines ls (outcome_after n more)) e)
 
   pub text_ended : (n : ℕ) → Follows known left 0 true (λ more. with_lines ls (outcome_after n more)) → SaysAll known ls Ended
-  text_ended n e = subst (λ xs. IfSome known (λ bytes. outcome_of bytes ≡ (xs, Ended))) (append-nil ls) (whole known left (λ more. with_lines ls (outcome_after n more)) e)
+  text_ended n e = rw (append-nil ls) at (whole known left (λ more. with_lines ls (outcome_after n more)) e)
 
   -- after the text so far it goes on
   goes_on : (n : ℕ) (new : Option (List ℕ)) (over : Bool) (g : List ℕ → Outcome) →
@@ -68,8 +62,8 @@ module _ (known left : Option (List ℕ)) (ls : List (ℕ × Line)) where
   text_ends n new over ending e f = go over (goes_on n new over (λ more. ([], ending)) e f)
     where
       go : (b : Bool) → Follows known new 0 b (λ more. with_lines ls ([], ending)) → SaysAll known ls ending
-      go false h = subst (λ xs. IfSome known (λ bytes. outcome_of bytes ≡ (xs, ending))) (append-nil ls) (alike known new (with_lines ls ([], ending)) h)
-      go true h = subst (λ xs. IfSome known (λ bytes. outcome_of bytes ≡ (xs, ending))) (append-nil ls) (whole known new (λ more. with_lines ls ([], ending)) h)
+      go false h = rw (append-nil ls) at (with_rest known new (λ more. with_lines ls ([], ending)) h).1
+      go true h = rw (append-nil ls) at (whole known new (λ more. with_lines ls ([], ending)) h)
 
   -- to a line
   pub text_more : (n : ℕ) (new : Option (List ℕ)) (over : Bool) (m : ℕ) (l : Line) →
@@ -113,9 +107,8 @@ module _ (known left : Option (List ℕ)) (number : ℕ) (formula : List (List �
   pub so_far_start : (over : Bool) → left ≡ known → number ≡ 0 → over ≡ false → IsReady formula before c → SoFar known left number over formula before c
   so_far_start over e n o ready = record {
     lines = [];
-    text = subst (λ (b : Bool). Follows known left 0 b (λ more. with_lines [] (outcome_after number more))) (sym o)
-        (record { taken = []; consumed = subst (λ k. Consumes known k []) (sym e) (Consumes-nil known); same = λ more. ap (λ m. outcome_after m more) (sym n) });
-    ready = subst (λ ls. IsReady formula ls c) (sym (append-nil before)) ready;
+    text = rw (o, e, n) (record { taken = []; consumed = Consumes-nil known; same = λ more. refl });
+    ready = rw append-nil ready;
   }
 
   -- one more line
@@ -125,7 +118,7 @@ module _ (known left : Option (List ℕ)) (number : ℕ) (formula : List (List �
     so_far_more d ready = record {
       lines = so.lines ++ (m, l) ∷ [];
       text = text_more known left so.lines number new over m l so.text goes;
-      ready = subst (λ ls. IsReady formula ls d) (append_assoc before (said so.lines) (l ∷ []) ∙ ap (λ ls. before ++ ls) (sym (said-more so.lines m l))) ready;
+      ready = rw said-more (rw append_assoc at ready);
     }
 
     pub so_far_refused : (until : Bool) (d : LratChecker) (fault : LineFault) → HasAccepted formula (before ++ said so.lines) d →
@@ -146,7 +139,7 @@ module _ (known left : Option (List ℕ)) (number : ℕ) (formula : List (List �
       IsTextAnswer until known formula before c (Ok (has_refuted c))
   so_far_ended until over so done new goes = record {
     lines = so.lines;
-    text = subst (λ (b : Bool). MatchBool b (BeginsWith known so.lines) (SaysAll known so.lines Ended)) (sym done) (says over so goes);
+    text = rw done (says over so goes);
     ready = so.ready;
     answer = refl;
   }
@@ -159,7 +152,7 @@ module _ (known left : Option (List ℕ)) (number : ℕ) (formula : List (List �
   pub so_far_done : (until over : Bool) → SoFar known left number over formula before c → (until && has_refuted c) ≡ true → IsTextAnswer until known formula before c (Ok (has_refuted c))
   so_far_done until over so done = record {
     lines = so.lines;
-    text = subst (λ (b : Bool). MatchBool b (BeginsWith known so.lines) (SaysAll known so.lines Ended)) (sym done) (text_begins known left so.lines number over so.text);
+    text = rw done (text_begins known left so.lines number over so.text);
     ready = so.ready;
     answer = refl;
   }

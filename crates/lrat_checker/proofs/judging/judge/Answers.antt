@@ -1,8 +1,7 @@
-use Rattle.std.proofs.Common.{◌≡◌, None, map, subst, sym, ap, ◌∙◌}
-use Rattle.std.specs.Result.{IfErr, OnOk}
+use Rattle.std.proofs.Common.{rules, map, sym, ap, ◌∙◌}
 use Rattle.lrat_rules.specs.Groups.{add_negated}
 use Rattle.lrat_rules.specs.Propagation.{conflict, open_at, stuck}
-use Rattle.lrat_checker.specs.Causes.{IsCause, cause_of}
+use Rattle.lrat_checker.specs.Causes.{cause_of}
 use Rattle.lrat_checker.specs.Held.{table_of}
 use Rattle.lrat_checker.specs.Propagating.{ending_of}
 use Rattle.lrat_checker.specs.Values.{among}
@@ -23,18 +22,10 @@ returns-in-Stuck-clause-err c =
     (c.in_ok-negate.ensures.set ∙ ap (λ t. add_negated c.args.clause.now (among t)) c.clear.ensures)
     (ap (λ x. ending_of x (among c.propagate.new.values)) (sym c.in-Stuck.is) ∙ c.in_ok-propagate.ensures.ending)
 
-pub returns-in-Open-clause-ok : goal.returns-in-Open-clause-ok
-returns-in-Open-clause-ok c =
+pub returns-in-Open : goal.returns-in-Open
+returns-in-Open c =
     let found = judged (table_of c.args.clauses.now) c.args.id c.args.clause.now (map hint_of c.args.hints.now) (among c.negate.new.self)
     (open_at (among c.propagate.new.values)) (sym c.contains.ensures ∙ c.if-contains.false)
     (c.in_ok-negate.ensures.set ∙ ap (λ t. add_negated c.args.clause.now (among t)) c.clear.ensures)
     (ap (λ x. ending_of x (among c.propagate.new.values)) (sym c.in-Open.is) ∙ c.in_ok-propagate.ensures.ending) in
-    subst (λ x. OnOk c.check_groups.result (x ≡ None)) (sym found) c.check_groups.ensures.ok
-
-pub returns-in-Open-clause-err : goal.returns-in-Open-clause-err
-returns-in-Open-clause-err c =
-    let found = judged (table_of c.args.clauses.now) c.args.id c.args.clause.now (map hint_of c.args.hints.now) (among c.negate.new.self)
-    (open_at (among c.propagate.new.values)) (sym c.contains.ensures ∙ c.if-contains.false)
-    (c.in_ok-negate.ensures.set ∙ ap (λ t. add_negated c.args.clause.now (among t)) c.clear.ensures)
-    (ap (λ x. ending_of x (among c.propagate.new.values)) (sym c.in-Open.is) ∙ c.in_ok-propagate.ensures.ending) in
-    subst (λ x. IfErr c.check_groups.result (λ stop. IsCause stop x)) (sym found) c.check_groups.ensures.err
+    record { ok = rw found c.check_groups.ensures.ok; taken = search rules; err = rw found c.check_groups.ensures.err }

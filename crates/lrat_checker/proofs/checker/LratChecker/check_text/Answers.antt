@@ -1,7 +1,6 @@
-use Rattle.std.proofs.Common.{true, Err, subst, sym, ap, ◌∙◌}
+use Rattle.std.proofs.Common.{Err, subst, sym, ◌∙◌}
 use Rattle.lrat_text.specs.NextLine.{bytes_left, has_ended, line_number}
-use Rattle.lrat_checker.specs.Faults.{in_line}
-use Rattle.lrat_checker.specs.TextAnswers.{IfCut, IsCut, IsTextAnswer}
+use Rattle.lrat_checker.specs.TextAnswers.{IsCut, IsTextAnswer}
 use Rattle.lrat_checker.proofs.ReadingLemmas.{next_cut, next_ended, next_more, next_refused, next_unread}
 use Rattle.lrat_checker.proofs.TextLemmas.{no_cut, so_far_done, so_far_start}
 use Rattle.lrat_checker.proofs.checker.LratChecker.check_text.Goals as goal
@@ -31,8 +30,7 @@ lines-preserved g c =
 pub returns-in-Err-check_line-clause-checked : goal.returns-in-Err-check_line-clause-checked
 returns-in-Err-check_line-clause-checked g c formula before ready =
     let gave = rw (c.in-Ok-Some.is, c.in-Ok-Some.field-0-is) at c.next_line.follows.holds-at-none in
-    subst (λ e. IsTextAnswer c.args.until_refuted (g.R.Read.remaining c.args.proof) formula before c.check_line.new.self (Err e))
-    (sym (c.in_line.ensures ∙ ap (in_line c.in-Err-check_line.fault) c.line.ensures))
+    rw (c.in_line.ensures, c.line.ensures)
     (next_refused g.R.Read.remaining c.lines.reader c.next_line.follows.lender-at-none (g.R.Read.remaining c.args.proof) formula before
     c.lines.self (c.lines.invariant.so_far formula before ready) c.args.until_refuted c.in-Ok-Some.line gave
     c.check_line.new.self c.in-Err-check_line.fault (c.in-Err-check_line.ensures.kept formula) (c.in-Err-check_line.ensures.refused formula))
@@ -48,8 +46,7 @@ pub returns-in-Err-clause-checked : goal.returns-in-Err-clause-checked
 returns-in-Err-clause-checked g c formula before ready =
     let gave = rw c.in-Err.is at c.next_line.follows.holds-at-none in
     subst (λ d. IsTextAnswer c.args.until_refuted (g.R.Read.remaining c.args.proof) formula before d (Err c.unreadable.result)) (sym c.unreadable.ensures.failed)
-    (subst (λ e. IsTextAnswer c.args.until_refuted (g.R.Read.remaining c.args.proof) formula before (record c.lines.self { failed = true }) (Err e)) (sym c.unreadable.ensures.fault)
-    (next_unread g.R.Read.remaining c.lines.reader c.next_line.follows.lender-at-none (g.R.Read.remaining c.args.proof) formula before
+    (rw c.unreadable.ensures.fault (next_unread g.R.Read.remaining c.lines.reader c.next_line.follows.lender-at-none (g.R.Read.remaining c.args.proof) formula before
     c.lines.self (c.lines.invariant.so_far formula before ready) c.args.until_refuted c.in-Err.fault gave))
 
 pub returns-clause-checked : goal.returns-clause-checked
@@ -60,13 +57,12 @@ returns-clause-checked g c formula before ready =
 
 pub returns-in-Err-check_line-clause-cut : goal.returns-in-Err-check_line-clause-cut
 returns-in-Err-check_line-clause-cut g c formula before ready =
-    subst (λ e. IfCut (Err e) (IsCut g.R.Read.remaining (g.R.Read.remaining c.args.proof) formula before c.check_line.new.self)) (sym c.in_line.ensures)
+    rw c.in_line.ensures
     (no_cut c.in-Err-check_line.fault c.line.result (IsCut g.R.Read.remaining (g.R.Read.remaining c.args.proof) formula before c.check_line.new.self))
 
 pub returns-in-Err-clause-cut : goal.returns-in-Err-clause-cut
 returns-in-Err-clause-cut g c formula before ready =
     let gave = rw c.in-Err.is at c.next_line.follows.holds-at-none in
-    subst (λ d. IfCut (Err c.unreadable.result) (IsCut g.R.Read.remaining (g.R.Read.remaining c.args.proof) formula before d)) (sym c.unreadable.ensures.failed)
-    (subst (λ e. IfCut (Err e) (IsCut g.R.Read.remaining (g.R.Read.remaining c.args.proof) formula before (record c.lines.self { failed = true }))) (sym c.unreadable.ensures.fault)
+    rw (c.unreadable.ensures.failed, c.unreadable.ensures.fault)
     (next_cut g.R.Read.remaining c.lines.reader c.next_line.follows.lender-at-none (g.R.Read.remaining c.args.proof) formula before
-    c.lines.self (c.lines.invariant.so_far formula before ready) c.in-Err.fault gave))
+    c.lines.self (c.lines.invariant.so_far formula before ready) c.in-Err.fault gave)
