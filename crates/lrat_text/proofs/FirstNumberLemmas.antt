@@ -1,11 +1,11 @@
 -- The number in front of a line.
-use Rattle.std.proofs.Common.{◌≡◌, ℕ, zero, suc, ◌+◌, ◌-◌, ◌*◌, ◌^◌, ◌<◌, ◌≤◌, Bool, true, false, List, [], ◌∷◌, ◌++◌, length}
+use Rattle.std.proofs.Common.{◌≡◌, ℕ, zero, suc, ◌+◌, ◌-◌, ◌*◌, ◌^◌, ◌<◌, ◌≤◌, true, false, List, [], ◌∷◌, ◌++◌, length}
 use Rattle.std.proofs.Common.{get_or, take, drop, Some, refl, sym, ap, ◌∙◌, arith, length-drop, subst}
-use Rattle.std.proofs.Math.Nat.{pow-le-pow_right, pow-suc}
-use Rattle.std.proofs.lemmas.Bool.{eqb-true}
+use Rattle.std.proofs.Math.Nat.{pow-le-pow_right}
+use Rattle.std.proofs.lemmas.Grind.{pow_more}
 use Rattle.std.specs.Prelude.{◌==◌, slice_index}
 use Rattle.std.proofs.lemmas.Bool.Decides.{nat_tests}
-use Rattle.std.proofs.lemmas.List.{drop_more, take_all}
+use Rattle.std.proofs.lemmas.List.{drop_more, take_all, take_more}
 use Rattle.sat_formula.specs.Bytes.{is_digit, is_lf}
 use Rattle.sat_formula.specs.Lines.{value_from}
 use Rattle.lrat_text.specs.Bytes.{IsLine, ends_word, words_in}
@@ -18,58 +18,27 @@ use Rattle.lrat_text.proofs.WordLemmas.{line_some, line_inside, line_rest, words
 -- ---- digits
 
 no_end : (b : ℕ) → is_digit b ≡ true → ends_word b ≡ false
-no_end b e = go (ends_word b) refl
-  where
-    go : (x : Bool) → ends_word b ≡ x → x ≡ false
-    go true p = absurd (grind (arith, nat_tests, e, p))
-    go false p = refl
+no_end b e = grind (arith, nat_tests)
 
 no_lf : (b : ℕ) → is_digit b ≡ true → is_lf b ≡ false
-no_lf b e = go (is_lf b) refl
-  where
-    go : (x : Bool) → is_lf b ≡ x → x ≡ false
-    go true p = absurd (grind (arith, nat_tests, e, p))
-    go false p = refl
+no_lf b e = grind (arith, nat_tests)
 
 digit_small : (b : ℕ) → is_digit b ≡ true → b - 48 ≤ 9
 digit_small b e = grind (arith, nat_tests, e)
 
 no_minus : (b : ℕ) → is_digit b ≡ true → (b == 45) ≡ false
-no_minus b e = go (b == 45) refl
-  where
-    go : (x : Bool) → (b == 45) ≡ x → x ≡ false
-    go true p = absurd (grind (arith, nat_tests, e, p))
-    go false p = refl
-
-some-value : (v w : ℕ) → Some v ≡ Some w → v ≡ w
-some-value v w e = cc
-
--- a digit more at the end
-digit_then : (v w d x : ℕ) (ds : List ℕ) (b : Bool) → is_digit x ≡ b → value_from v (x ∷ ds) ≡ Some w →
-    (value_from (v * 10 + (x - 48)) ds ≡ Some w → value_from (v * 10 + (x - 48)) (ds ++ d ∷ []) ≡ Some (w * 10 + (d - 48))) → value_from v (x ∷ ds ++ d ∷ []) ≡ Some (w * 10 + (d - 48))
-digit_then v w d x ds true p e later = rw p (later (rw p at e))
-digit_then v w d x ds false p e later = let bad = rw p at e in absurd cc
+no_minus b e = grind (arith, nat_tests)
 
 value_from-more : (v w d : ℕ) (ds : List ℕ) → value_from v ds ≡ Some w → is_digit d ≡ true → value_from v (ds ++ d ∷ []) ≡ Some (w * 10 + (d - 48))
-value_from-more v w d [] e f = rw f (ap (λ u. Some (u * 10 + (d - 48))) (some-value v w e))
-value_from-more v w d (x ∷ ds) e f = digit_then v w d x ds (is_digit x) refl e (λ more. value_from-more (v * 10 + (x - 48)) w d ds more f)
-
-take-more : (bytes : List ℕ) (n : ℕ) → n < length bytes → take (suc n) bytes ≡ take n bytes ++ get_or bytes n 0 ∷ []
-take-more [] n lt = absurd (omega arith)
-take-more (b ∷ bytes) zero lt = refl
-take-more (b ∷ bytes) (suc n) lt = ap (λ bs. b ∷ bs) (take-more bytes n (omega arith))
-
-suc-is : (n : ℕ) → n + 1 ≡ suc n
-suc-is n = omega arith
+value_from-more v w d [] e f = grind arith
+value_from-more v w d (x ∷ ds) e f = grind (arith, value_from-more (v * 10 + (x - 48)) w d ds)
 
 -- the value of some digits stays below a power of ten
 pub small_more : (n v d : ℕ) → v < 10 ^ n → is_digit d ≡ true → v * 10 + (d - 48) < 10 ^ (n + 1)
-small_more n v d small e = omega (arith, small, digit_small d e, pow-suc 10 n, ap (λ m. 10 ^ m) (suc-is n))
+small_more n v d small e = omega (arith, digit_small d e, pow_more 10 n)
 
 pub digit_fits_after : (n v d : ℕ) → n < 18 → v < 10 ^ n → is_digit d ≡ true → v * 10 + (d - 48) < 2 ^ 64
-digit_fits_after n v d few small e =
-    let below : 10 ^ n ≤ 10 ^ 17 = pow-le-pow_right {n = 10} (omega arith) {i = n} {j = 17} (omega (arith, few)) in
-    omega (arith, small, digit_small d e, below)
+digit_fits_after n v d few small e = omega (arith, digit_small d e, pow-le-pow_right {n = 10} (omega arith) {i = n} {j = 17} (omega (arith, few)))
 
 -- none yet, and one more
 pub digits_none : (bytes : List ℕ) → IsLine bytes → HasDigits bytes 0 0
@@ -79,14 +48,10 @@ pub digits_more : (bytes : List ℕ) (n v : ℕ) → IsLine bytes → HasDigits 
     HasDigits bytes (n + 1) (v * 10 + (slice_index bytes n - 48))
 digits_more bytes n v p h few small e = record {
   within = line_inside bytes n p h.within (no_lf (slice_index bytes n) e);
-  digits = λ k below. at_or_before k (k == n) refl below;
-  value = ap (λ m. value_from 0 (take m bytes)) (suc-is n) ∙ ap (value_from 0) (take-more bytes n h.within) ∙ value_from-more 0 v (slice_index bytes n) (take n bytes) h.value e;
+  digits = λ k below. grind (arith, h.digits k, e, below);
+  value = rw (take_more bytes n 0 h.within) (value_from-more 0 v (slice_index bytes n) (take n bytes) h.value e);
   fits = digit_fits_after n v (slice_index bytes n) few small e;
 }
-  where
-    at_or_before : (k : ℕ) (b : Bool) → (k == n) ≡ b → k < n + 1 → is_digit (slice_index bytes k) ≡ true
-    at_or_before k true p below = subst (λ i. is_digit (slice_index bytes i) ≡ true) (sym (eqb-true k n p)) e
-    at_or_before k false p below = h.digits k (grind (arith, nat_tests, p, below))
 
 -- a word of digits that a space ends
 pub space_after : (bytes : List ℕ) (n v : ℕ) → IsLine bytes → HasDigits bytes n v → 0 < n → slice_index bytes n ≡ 32 → IsDigitsWord bytes v (take (length bytes - (n + 1)) (drop (n + 1) bytes))
@@ -106,9 +71,8 @@ space_after bytes n v p h some e =
 -- ---- the number in front
 
 plain_says : (bytes : List ℕ) (n v : ℕ) → HasDigits bytes n v → 0 < n → v < 2 ^ 64 → number_of (take n bytes) ≡ Exact false v
-plain_says bytes zero v h some fits = absurd (omega arith)
-plain_says [] (suc n) v h some fits = let le = h.within in absurd (omega (arith, le))
 plain_says (b ∷ bytes) (suc n) v h some fits = rw (no_minus b (h.digits 0 (omega arith)), h.value) (judged-exact false v fits (λ e. absurd cc))
+plain_says bytes n v h some fits = let lt = h.within in absurd (omega (arith, lt, some))
 
 pub first_plain : (bytes rest : List ℕ) (v : ℕ) → IsDigitsWord bytes v rest → IsFirst (words_in bytes) (Exact false v) (words_in rest)
 first_plain bytes rest v w = record {
@@ -118,9 +82,8 @@ first_plain bytes rest v w = record {
 }
 
 negative_says : (bytes : List ℕ) (n v : ℕ) → HasDigits bytes n v → 0 < n → v < 2 ^ 64 → (v ≡ 0 → ⊥) → number_of (45 ∷ take n bytes) ≡ Exact true v
-negative_says bytes zero v h some fits other = absurd (omega arith)
-negative_says [] (suc n) v h some fits other = let le = h.within in absurd (omega (arith, le))
 negative_says (b ∷ bytes) (suc n) v h some fits other = rw h.value (judged-exact true v fits (λ e. other))
+negative_says bytes n v h some fits other = let lt = h.within in absurd (omega (arith, lt, some))
 
 pub first_negative : (bytes rest : List ℕ) (v : ℕ) → IsDigitsWord bytes v rest → (v ≡ 0 → ⊥) → IsFirst (words_in (45 ∷ bytes)) (Exact true v) (words_in rest)
 first_negative bytes rest v w other = record {

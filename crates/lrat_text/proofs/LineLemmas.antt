@@ -1,8 +1,8 @@
 -- The lines of a text, one after the other.
-use Rattle.std.proofs.Common.{◌≡◌, ℕ, ◌+◌, ◌<◌, Bool, true, false, List, [], ◌∷◌, ◌++◌, get_or, take, Option, Some, Result, refl, sym, ap, ◌∙◌, append_assoc, arith}
+use Rattle.std.proofs.Common.{◌≡◌, ℕ, ◌+◌, Bool, true, false, List, [], ◌∷◌, ◌++◌, get_or, take, Option, Some, Result, refl, sym, ap, ◌∙◌, append_assoc, arith}
 use Rattle.std.specs.Io.KnownBytes.{Consumes, IsAtEnd}
 use Rattle.std.proofs.KnownBytes.{Consumes-trans}
-use Rattle.std.proofs.lemmas.Bool.{eqb-true, false_from_ne_true}
+use Rattle.std.proofs.lemmas.Bool.{eqb-true}
 use Rattle.std.proofs.lemmas.List.{get_or-take, get_or_default, length-take-le, take_more}
 use Rattle.std.proofs.lemmas.List.Splits.{slice_split_at, slice_split_none}
 use Rattle.memchr.specs.Find.{IsFirstByte, is_byte}
@@ -58,11 +58,7 @@ pub first_line : (bytes : List ℕ) (n : ℕ) → IsFirstByte (is_byte 10) bytes
 first_line bytes n p = record {
   line = take n bytes;
   is = take_more bytes n 0 p.0.high ∙ ap (λ (b : ℕ). take n bytes ++ b ∷ []) (eqb-true (get_or bytes n 0) 10 p.1);
-  is_open = λ k d lt.
-      let high = p.0.high in
-      let below : k < n = omega (arith, lt, length-take-le n bytes) in
-      ap is_lf (get_or-take n bytes k d below ∙ get_or_default bytes k d 0 (omega (arith, below, high)))
-      ∙ false_from_ne_true (is_lf (get_or bytes k 0)) (p.0.before k (omega arith) below);
+  is_open = λ k d lt. grind (arith, get_or-take, get_or_default, length-take-le, p.0.high, p.0.before k, lt);
 }
 
 -- ---- line after line
@@ -82,11 +78,20 @@ ends_on {a} {b} {c} p q = record {
   same = p.same q.taken ∙ q.same;
 }
 
--- a line after those that were read
+-- a line after those that were read, which stand before the outcome so
+pub follows_under : {a b : Known} (c : Known) (before number : ℕ) (over : Bool) (h : Outcome → Outcome) (g : List ℕ → Outcome) →
+    Leads a b (outcome_after before) (λ more. h (outcome_after number more)) → Follows b c number over g → Follows a c before over (λ more. h (g more))
+follows_under c before number false h g p q = leads_on p (record { taken = q.taken; consumed = q.consumed; same = λ more. ap h (q.same more) })
+follows_under c before number true h g p q = ends_on p (record { taken = q.taken; consumed = q.consumed; at_end = q.at_end; same = ap h q.same })
+
 pub follows_on : {a b : Known} (c : Known) (before number : ℕ) (over : Bool) (rest : List ℕ → Outcome) →
     Leads a b (outcome_after before) (outcome_after number) → Follows b c number over rest → Follows a c before over rest
-follows_on c before number false rest p q = leads_on p q
-follows_on c before number true rest p q = ends_on p q
+follows_on c before number over rest p q = follows_under c before number over (λ o. o) rest p q
+
+-- a reading of f is one of a function that agrees with it
+pub follows_as : (a b : Known) (before : ℕ) (over : Bool) (f g : List ℕ → Outcome) → ((more : List ℕ) → f more ≡ g more) → Follows a b before over f → Follows a b before over g
+follows_as a b before false f g e p = record { taken = p.taken; consumed = p.consumed; same = λ more. p.same more ∙ e more }
+follows_as a b before true f g e p = record { taken = p.taken; consumed = p.consumed; at_end = p.at_end; same = p.same ∙ e [] }
 
 pub breaks_on : {a b c : Known} {before number last : ℕ} → Leads a b (outcome_after before) (outcome_after number) → Breaks b c number last → Breaks a c before last
 breaks_on {a} {b} {c} {before} p q = record {
@@ -96,8 +101,3 @@ breaks_on {a} {b} {c} {before} p q = record {
   same = λ more. ap (outcome_after before) (append_assoc p.taken q.passed more) ∙ p.same (q.passed ++ more) ∙ q.same more;
   is_open = q.is_open;
 }
-
--- a reading of f is one of a function that agrees with it
-pub follows_as : (a b : Known) (before : ℕ) (over : Bool) (f g : List ℕ → Outcome) → ((more : List ℕ) → f more ≡ g more) → Follows a b before over f → Follows a b before over g
-follows_as a b before false f g e p = record { taken = p.taken; consumed = p.consumed; same = λ more. p.same more ∙ e more }
-follows_as a b before true f g e p = record { taken = p.taken; consumed = p.consumed; at_end = p.at_end; same = p.same ∙ e [] }

@@ -1,8 +1,6 @@
 -- The value of digits, one after the other.
-use Rattle.std.proofs.Common.{◌≡◌, ℕ, ◌+◌, ◌-◌, ◌*◌, ◌^◌, ◌<◌, ◌≤◌, Bool, true, false, List, [], ◌∷◌, length, drop, Some, refl, sym, ap, ◌∙◌}
-use Rattle.std.proofs.lemmas.Bool.{lt-ltb, ne_eqb}
+use Rattle.std.proofs.Common.{arith, ◌≡◌, ℕ, ◌^◌, ◌<◌, ◌≤◌, Bool, true, false, List, [], ◌∷◌, length, drop, Some, refl, sym, ap, ◌∙◌}
 use Rattle.std.proofs.lemmas.List.{drop_all}
-use Rattle.sat_formula.specs.Bytes.{is_digit}
 use Rattle.sat_formula.specs.Lines.{value_from, value_of}
 use Rattle.lrat_text.specs.declared.number.Number.TheVariants.{Exact}
 use Rattle.lrat_text.specs.Numbers.{judged}
@@ -18,24 +16,11 @@ pub record SoFar (digits left : List ℕ) (kept : ℕ) (large : Bool) : Type 0 w
   pub same : value_from 0 digits ≡ value_from value left
   pub is_kept : IsKept large kept value
 
-pub none_read : (digits : List ℕ) → SoFar digits digits 0 false
-none_read digits = record { value = 0; same = refl; is_kept = refl }
-
-one_more : {digits : List ℕ} {kept : ℕ} {large : Bool} (d : ℕ) (left : List ℕ) (p : SoFar digits (d ∷ left) kept large) →
-    is_digit d ≡ true → value_from 0 digits ≡ value_from (p.value * 10 + (d - 48)) left
-one_more d left p e = p.same ∙ rw e refl
-
--- digits have the value that is read
-pub value_of-digits : (digits : List ℕ) → (digits ≡ [] → ⊥) → value_of digits ≡ value_from 0 digits
-value_of-digits [] some = absurd (some refl)
-value_of-digits (d ∷ digits) some = refl
-
 -- a value that fits, and is not -0
 pub judged-exact : (negative : Bool) (v : ℕ) → v < 2 ^ 64 → (negative ≡ true → v ≡ 0 → ⊥) → judged negative (Some v) ≡ Exact negative v
-judged-exact false v fits some = rw (lt-ltb v (2 ^ 64) fits) refl
-judged-exact true v fits some = rw (lt-ltb v (2 ^ 64) fits, ne_eqb v 0 (some refl)) refl
+judged-exact negative v fits some = grind arith
 
 -- all digits were read
 pub value_of-read : (digits : List ℕ) (n kept : ℕ) → SoFar digits (drop n digits) kept false → length digits ≤ n → (digits ≡ [] → ⊥) → value_of digits ≡ Some kept
-value_of-read digits n kept p all some =
-    value_of-digits digits some ∙ p.same ∙ ap (value_from p.value) (drop_all n digits all) ∙ ap (λ (v : ℕ). Some v) (sym p.is_kept)
+value_of-read [] n kept p all some = absurd (some refl)
+value_of-read (d ∷ digits) n kept p all some = p.same ∙ ap (value_from p.value) (drop_all n (d ∷ digits) all) ∙ ap (λ (v : ℕ). Some v) (sym p.is_kept)

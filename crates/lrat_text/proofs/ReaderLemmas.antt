@@ -1,7 +1,7 @@
 -- What reading a line says, and reading on to one that says something.
-use Rattle.std.proofs.Common.{◌≡◌, ℕ, ◌+◌, ◌<◌, ◌≤◌, Bool, true, false, List, [], ◌∷◌, length, Option, Some, None, Result, Ok, Err, refl, sym, ap, ◌∙◌, arith}
+use Rattle.std.proofs.Common.{◌≡◌, ℕ, ◌+◌, ◌<◌, ◌≤◌, Bool, true, false, List, [], ◌∷◌, length, Option, Some, None, Result, Ok, Err, refl, sym, ◌∙◌, arith}
 use Rattle.std.specs.Prelude.{not}
-use Rattle.std.proofs.lemmas.Bool.{true≢false}
+use Rattle.std.proofs.lemmas.Bool.{false_from_ne_true, true≢false}
 use Rattle.sat_formula.specs.Lines.{words_of}
 use Rattle.sat_formula.specs.Outcome.{next_line}
 use Rattle.sat_formula.specs.declared.source.Source.{Source}
@@ -12,15 +12,16 @@ use Rattle.lrat_text.specs.declared.fault.LratTextFault.{LratTextFault}
 use Rattle.lrat_text.specs.declared.fault.LratTextFault.TheVariants as faults
 use Rattle.lrat_text.specs.declared.fault.Stop.{Stop}
 use Rattle.lrat_text.specs.declared.fault.Stop.TheVariants as stops
+use Rattle.lrat_text.specs.declared.line.LratLine.{LratLine}
 use Rattle.lrat_text.specs.declared.reader.LineReader.{LineReader}
 use Rattle.lrat_text.specs.declared.row.Head.{Head}
 use Rattle.lrat_text.specs.Bytes.{IsOpen}
 use Rattle.lrat_text.specs.Grammar.{says}
 use Rattle.lrat_text.specs.Holding.{HoldsLine}
-use Rattle.lrat_text.specs.NextLine.{bytes_left, has_ended, line_number, room_left, work_left, rest_of, Reads, Answers, Counts, CountsBytes, CountsLine, JudgesLine, Explains}
+use Rattle.lrat_text.specs.NextLine.{Gives, bytes_left, has_ended, line_number, room_left, work_left, rest_of, Reads, Answers, Counts, CountsBytes, CountsLine, JudgesLine, Explains}
 use Rattle.lrat_text.specs.Reading.{ReadsAs, line_if, line_of}
 use Rattle.lrat_text.specs.Taking.{Follows}
-use Rattle.lrat_text.proofs.LineLemmas.{Known, said_then, line_leads, last_ends, follows_on, follows_as, breaks_on}
+use Rattle.lrat_text.proofs.LineLemmas.{Known, said_then, line_leads, last_ends, follows_on, breaks_on}
 
 -- ---- one line
 
@@ -41,17 +42,8 @@ holds_open a b source line false p = p.0
 module _ {R : Type 0} (remaining : R → Option (List ℕ)) (old new : LineReader R) (line : List ℕ) where
   pub line_judged : (whole : Bool) (r : Result (Option Head) Stop) → HoldsLine (bytes_left remaining old) (bytes_left remaining new) new.lines.source line (Ok whole)
       → line_number new ≡ next_line (line_number old) → has_ended new ≡ not whole → ReadsAs (line_if new.row) (says (short_for whole) (words_of line)) r → JudgesLine remaining old new r
-  line_judged whole (Ok head) p number over said =
-      rw (number, over) (follows_as (bytes_left remaining old) (bytes_left remaining new) (line_number old) (not whole) _ _
-      (λ more. ap (λ (s : Result (Option Line) LineKind). said_then (next_line (line_number old)) s more) said)
-      (held _ _ (line_number old) new.lines.source line whole p))
-  line_judged whole (Err (stops.Wrong kind)) p number over said =
-      rw number (
-        not whole,
-        follows_as (bytes_left remaining old) (bytes_left remaining new) (line_number old) (not whole) _ _
-            (λ more. ap (λ (s : Result (Option Line) LineKind). said_then (next_line (line_number old)) s more) said)
-            (held _ _ (line_number old) new.lines.source line whole p),
-      )
+  line_judged whole (Ok head) p number over said = rw (number, over) (rw said at (held _ _ (line_number old) new.lines.source line whole p))
+  line_judged whole (Err (stops.Wrong kind)) p number over said = rw number (not whole, rw said at (held _ _ (line_number old) new.lines.source line whole p))
   line_judged whole (Err stops.Read) p number over said = absurd said
   line_judged whole (Err stops.OutOfMemory) p number over said = tt
 
@@ -70,12 +62,10 @@ pub held_counts : {R : Type 0} (old new : LineReader R) (line : List ℕ) (whole
     → has_ended new ≡ not whole → (whole ≡ true → room_left new < room_left old) → room_left new + length line ≤ room_left old
     → ReadsAs (line_if new.row) (says (short_for whole) (words_of line)) r → CountsLine old new r
 held_counts old new line true r number over nearer taken said = counts_line old new (let less = nearer refl in omega arith) r
-held_counts old new [] false (Ok None) number over nearer taken said = λ open_still. absurd (true≢false (sym over ∙ open_still))
-held_counts old new [] false (Ok (Some head)) number over nearer taken said = absurd cc
-held_counts old new [] false (Err (stops.Wrong kind)) number over nearer taken said = absurd cc
-held_counts old new [] false (Err stops.Read) number over nearer taken said = absurd said
-held_counts old new [] false (Err stops.OutOfMemory) number over nearer taken said = tt
 held_counts old new (b ∷ line) false r number over nearer taken said = counts_line old new (omega arith) r
+held_counts old new [] false (Ok None) number over nearer taken said = λ open_still. absurd (true≢false (sym over ∙ open_still))
+held_counts old new [] false (Err stops.OutOfMemory) number over nearer taken said = tt
+held_counts old new [] false r number over nearer taken said = absurd (grind arith)
 
 pub counts_on : {R : Type 0} (old now new : LineReader R) → CountsBytes old now → CountsBytes now new → CountsBytes old new
 counts_on old now new p q = omega arith
@@ -84,8 +74,7 @@ pub stop_counts : {R : Type 0} (old now new last : LineReader R) (stop : Stop) (
     → Explains new.lines.source new.number stop fault → last ≡ record new { ended = true } → Counts {R = R} {X = Head} old last (Err fault)
 stop_counts old now new last (stops.Wrong kind) fault p q e is = rw (e, is) (counts_on old now new p q)
 stop_counts old now new last stops.Read (faults.Read e) p q told is = tt
-stop_counts old now new last stops.Read (faults.Line number kind) p q told is = absurd told
-stop_counts old now new last stops.Read faults.OutOfMemory p q told is = absurd told
+stop_counts old now new last stops.Read fault p q told is = absurd told
 stop_counts old now new last stops.OutOfMemory fault p q e is = rw e tt
 
 -- ---- line after line
@@ -105,8 +94,7 @@ module _ {R : Type 0} (remaining : R → Option (List ℕ)) (old now new : LineR
   stop_told last (stops.Wrong kind) fault p q e is =
       rw (e, is) (refl, (q.0, follows_on (bytes_left remaining new) (line_number old) (line_number now) q.0 _ p q.1), refl)
   stop_told last stops.Read (faults.Read e) p q told is = rw is (breaks_on p q.0, told, refl)
-  stop_told last stops.Read (faults.Line number kind) p q told is = absurd told
-  stop_told last stops.Read faults.OutOfMemory p q told is = absurd told
+  stop_told last stops.Read fault p q told is = absurd told
   stop_told last stops.OutOfMemory fault p q e is = rw (e, is) refl
 
 -- the end
@@ -115,3 +103,7 @@ pub text_ended : {R X : Type 0} (remaining : R → Option (List ℕ)) (seen : X 
 text_ended remaining seen old now e p =
     let q = rw e at p in
     (record { taken = q.taken; consumed = q.consumed; at_end = q.at_end; same = q.same }, e)
+
+-- only a reader that has not ended gives something
+pub open_still : {R : Type 0} (remaining : R → Option (List ℕ)) (old new : LineReader R) (r : Result (Option LratLine) LratTextFault) → (r ≡ Ok None → ⊥) → Gives remaining old new r → has_ended old ≡ false
+open_still remaining old new r some gives = false_from_ne_true (has_ended old) (λ e. some (gives.stays e).0)

@@ -1,7 +1,5 @@
 -- What a line says, by the first bytes of its words.
-use Rattle.std.proofs.Common.{◌≡◌, ℕ, true, false, List, [], ◌∷◌, get_or, refl, Ok, None, Some}
-use Rattle.std.specs.Prelude.{codes}
-use Rattle.std.specs.Str.{bytes_eq}
+use Rattle.std.proofs.Common.{◌≡◌, ℕ, false, List, [], ◌∷◌, get_or, refl, Ok, None, Some}
 use Rattle.std.proofs.lemmas.Bool.{ne_eqb}
 use Rattle.sat_formula.specs.Bytes.{is_blank}
 use Rattle.lrat_text.specs.declared.fault.LineKind.{LineKind}
@@ -12,14 +10,8 @@ use Rattle.lrat_text.specs.Grammar.{after_id, clause_at, first_said, is_comment,
 use Rattle.lrat_text.specs.Items.{Words, ◌>>=◌}
 use Rattle.lrat_text.proofs.WordLemmas.{begins}
 
-begun_comment : (word more : List ℕ) (b : ℕ) → word ≡ b ∷ more → b ≡ 99 → is_comment word ≡ true
-begun_comment word more b e c = rw (e, c) refl
-
 begun_otherwise : (word more : List ℕ) (b : ℕ) → word ≡ b ∷ more → (b ≡ 99 → ⊥) → is_comment word ≡ false
 begun_otherwise word more b e other = rw (e, ne_eqb 99 b (λ c. other (cc))) refl
-
-no_deletion : (word more : List ℕ) (b : ℕ) → word ≡ b ∷ more → (b ≡ 100 → ⊥) → bytes_eq word (codes "d") ≡ false
-no_deletion word more b e other = rw (e, ne_eqb b 100 other) refl
 
 module _ (bytes : List ℕ) (line : IsLine bytes) (blank : is_blank (get_or bytes 0 0) ≡ false) (short : LineKind) where
   -- a comment says nothing
@@ -28,7 +20,7 @@ module _ (bytes : List ℕ) (line : IsLine bytes) (blank : is_blank (get_or byte
     where
       go : (words : Words) → words_in bytes ≡ words → says short words ≡ Ok None
       go [] e = refl
-      go (word ∷ later) e = let b = begins bytes line blank word later e in rw (begun_comment word b.0 (get_or bytes 0 0) b.1 c) refl
+      go (word ∷ later) e = let b = begins bytes line blank word later e in rw (b.1, c) refl
 
   -- any other line begins with a number
   pub number_says : (get_or bytes 0 0 ≡ 99 → ⊥) → (number : Number) (later : Words) → IsFirst (words_in bytes) number later →
@@ -43,4 +35,4 @@ module _ (bytes : List ℕ) (line : IsLine bytes) (blank : is_blank (get_or byte
     where
       go : (words : Words) → words_in bytes ≡ words → after_id short id words ≡ clause_at short id words
       go [] e = refl
-      go (word ∷ later) e = let b = begins bytes line blank word later e in rw (no_deletion word b.0 (get_or bytes 0 0) b.1 other, ne_eqb id 0 some) refl
+      go (word ∷ later) e = let b = begins bytes line blank word later e in rw (b.1, ne_eqb (get_or bytes 0 0) 100 other, ne_eqb id 0 some) refl

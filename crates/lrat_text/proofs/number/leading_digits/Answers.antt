@@ -1,6 +1,7 @@
 use Rattle.std.proofs.Common.{sym, ◌∙◌, arith}
+use Rattle.std.proofs.Math.Nat.{pow-le-pow_right}
 use Rattle.std.specs.Prelude.{slice_index}
-use Rattle.lrat_text.proofs.FirstNumberLemmas.{digit_fits_after, digits_none, digits_more, small_more}
+use Rattle.lrat_text.proofs.FirstNumberLemmas.{digits_none, digits_more, small_more}
 use Rattle.lrat_text.proofs.number.leading_digits.Goals as goal
 
 pub digits-init : goal.digits-init
@@ -8,17 +9,11 @@ digits-init c = record { digits = digits_none c.args.bytes.now c.requires; small
 
 pub overflow_mul-value : goal.overflow_mul-value
 overflow_mul-value c =
-    let inv = c.digits.invariant in
-    let fits = digit_fits_after c.digits.len c.digits.value (slice_index c.args.bytes.now c.digits.len)
-    (omega (arith, c.digits-test.true)) inv.small (sym c.is_digit.ensures ∙ c.if-is_digit.true) in
-    omega (arith, fits)
+    omega (arith, pow-le-pow_right {n = 10} (omega arith) {i = c.digits.len} {j = 17} (omega (arith, c.digits-test.true)), c.digits.invariant.small)
 
 pub overflow_add-value : goal.overflow_add-value
 overflow_add-value c =
-    let inv = c.digits.invariant in
-    let fits = digit_fits_after c.digits.len c.digits.value (slice_index c.args.bytes.now c.digits.len)
-    (omega (arith, c.digits-test.true)) inv.small (sym c.is_digit.ensures ∙ c.if-is_digit.true) in
-    omega (arith, fits)
+    omega (arith, pow-le-pow_right {n = 10} (omega arith) {i = c.digits.len} {j = 17} (omega (arith, c.digits-test.true)), c.digits.invariant.small)
 
 pub digits-preserved : goal.digits-preserved
 digits-preserved c =
