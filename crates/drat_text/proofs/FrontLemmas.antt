@@ -1,19 +1,17 @@
 -- Bytes that are looked at before they are taken.
-use Rattle.std.proofs.Common.{◌≡◌, ℕ, zero, suc, ◌+◌, ◌≤◌, ◌<◌, List, [], ◌∷◌, Option, None, Some, IfSome, Bool, true, false, refl, sym, ap, ◌∙◌, length, take, get_or, arith}
+use Rattle.std.proofs.Common.{◌≡◌, ℕ, ◌+◌, ◌≤◌, ◌<◌, List, Option, None, Some, IfSome, Bool, true, false, refl, sym, ap, ◌∙◌, length, take, get_or, arith}
 use Rattle.std.specs.Prelude.{slice_get, ◌&&◌}
 use Rattle.std.specs.List.{list_all}
 use Rattle.std.proofs.lemmas.List.{length-take, get_or-take, take_all}
 use Rattle.std.proofs.lemmas.List.Folds.{list_all_more, list_all_at}
-use Rattle.std.proofs.lemmas.Option.{slice_get_within, get_or_from_slice_get, none-some}
+use Rattle.std.proofs.lemmas.Option.{slice_get_cases, slice_get_within, get_or_from_slice_get}
 
 abbrev pub Known : Type 0
 Known = Option (List ℕ)
 
 -- a place without a byte
 pub ends_before : (bytes : List ℕ) (place : ℕ) → slice_get bytes place ≡ None → length bytes ≤ place
-ends_before [] place e = omega arith
-ends_before (x ∷ xs) zero e = absurd (none-some x (sym e))
-ends_before (x ∷ xs) (suc i) e = let more : length xs ≤ i = ends_before xs i e in omega arith
+ends_before bytes place e = grind (arith, slice_get_cases bytes place, e)
 
 -- ---- a test of the first bytes
 

@@ -13,7 +13,7 @@ use Rattle.drat_text.specs.declared.fault.Stop.TheVariants as stops
 use Rattle.drat_text.specs.Bytes.{is_text_byte, by_text_bytes}
 use Rattle.drat_text.specs.Places.{Rules}
 use Rattle.drat_text.specs.Proofs.{format_of}
-use Rattle.drat_text.specs.Taking.{Looks}
+use Rattle.drat_text.specs.Taking.{Looks, Peeks}
 use Rattle.drat_text.proofs.FrontLemmas.{Known, Passes}
 
 -- what is known of the bytes that were kept
@@ -21,6 +21,10 @@ pub known_on : (a b : Known) (P : List ℕ → Type 0) → Keeps a b → IfSome 
 known_on None b P k h = tt
 known_on (Some xs) None P k h = absurd k
 known_on (Some xs) (Some ys) P k h = subst P k h
+
+-- a byte that is looked at stands at its place in all the bytes
+pub peeked_on : {R : Type 0} (a b c : Known) (place : ℕ) (source : Source R) (byte : Option ℕ) → Keeps a b → Peeks b c place source (Ok byte) → Peeks a c place source (Ok byte)
+peeked_on a b c place source byte k p = (Keeps-trans a b c k p.0, known_on a b (λ (bytes : List ℕ). slice_get bytes place ≡ byte) k p.1)
 
 -- ---- by the first 4,096 bytes
 
@@ -63,7 +67,6 @@ module _ {S T : Type 0} (r : Rules S T) where
       None ≡ r.first_tells x → Looks by_first_bytes b c source f → Looks (format_of r) a c source f
   looked_on a b c x source (Ok format) k at e w =
       (Keeps-trans a b c k w.0, later_told a x format at e (known_on a b (λ (bytes : List ℕ). format ≡ by_first_bytes bytes) k w.1))
-  looked_on a b c x source (Err stops.End) k at e w = absurd w
   looked_on a b c x source (Err stops.Read) k at e w = (Keeps-trans a b c k w.0, w.1)
-  looked_on a b c x source (Err (stops.Wrong kind)) k at e w = absurd w
   looked_on a b c x source (Err stops.OutOfMemory) k at e w = tt
+  looked_on a b c x source (Err stop) k at e w = absurd w

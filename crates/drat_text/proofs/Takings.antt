@@ -1,5 +1,5 @@
 -- Bytes, one after the other.
-use Rattle.std.proofs.Common.{◌≡◌, ℕ, List, [], ◌∷◌, ◌++◌, Option, None, Some, Result, Err, Bool, true, false, refl, sym, ap, ◌∙◌, subst, append_assoc, append-nil}
+use Rattle.std.proofs.Common.{◌≡◌, ℕ, List, [], ◌∷◌, ◌++◌, Option, None, Some, Result, Err, Bool, true, false, refl, sym, ap, ◌∙◌, append_assoc, append-nil}
 use Rattle.std.specs.Prelude.{IsErrAnd}
 use Rattle.std.proofs.lemmas.Result.{err_from_is_err_and}
 use Rattle.std.specs.Io.KnownBytes.{Consumes, Keeps, IsAtEnd, prepend_known}
@@ -85,8 +85,8 @@ source_none a b source front reasons.OutOfMemory e t stopped = tt
 
 -- ---- the exit of a `?`
 
-pub exits : {X : Type 0} (P : Result X Stop → Type 0) (r : Result X Stop) (e : Stop) → IsErrAnd r (λ d. d ≡ e) → P (Err e) → P r
-exits P r e h p = let q = err_from_is_err_and r h in subst P (sym (q.1 ∙ ap (λ (d : Stop). Err d) q.2)) p
+pub error_is : {X E : Type 0} (r : Result X E) (e : E) → IsErrAnd r (λ d. d ≡ e) → r ≡ Err e
+error_is r e h = let q = err_from_is_err_and r h in q.1 ∙ ap (λ d. Err d) q.2
 
 -- ---- by the rules of a proof
 
@@ -105,21 +105,17 @@ module _ {S T : Type 0} (r : Rules S T) (format : Format) where
   -- ---- a byte
 
   -- what a byte does is what the outcome goes on with
-  pub front_byte : (p : Place S) (x : ℕ) (m : List ℕ) → outcome_at r format p (x ∷ m) ≡ goes_on r format (after r format p x) m
+  pub front_byte : (p : Place S) (x : ℕ) {d : After S T} → after r format p x ≡ d → (m : List ℕ) → outcome_at r format p (x ∷ m) ≡ goes_on r format d m
   unfolding outcome_at
-  front_byte p x m = refl
-
-  one_byte : {b c : Known} (p : Place S) (x : ℕ) (d : After S T) → after r format p x ≡ d → Consumes b c (x ∷ []) → Leads b c (outcome_at r format p) (goes_on r format d)
-  unfolding outcome_at
-  one_byte {b} {c} p x d e h = record { taken = x ∷ []; consumed = h; same = λ m. ap (λ (d : After S T). goes_on r format d m) e }
+  front_byte p x e m = ap (λ (d : After S T). goes_on r format d m) e
 
   pub byte_on : {a b c : Known} {f : List ℕ → Outcome T} (p : Place S) (x : ℕ) {d : After S T} → Leads a b f (outcome_at r format p) → Consumes b c (x ∷ []) → after r format p x ≡ d
       → Leads a c f (goes_on r format d)
-  byte_on p x {d} l h e = leads_on l (one_byte p x d e h)
+  byte_on p x l h e = leads_on l (record { taken = x ∷ []; consumed = h; same = front_byte p x e })
 
   pub byte_before : {a b c : Known} {f : List ℕ → Outcome T} (p : Place S) (x : ℕ) → Leads a b f (outcome_at r format p) → Consumes b c (x ∷ []) →
       Leads a c f (λ m. outcome_at r format p (x ∷ m))
-  byte_before p x l h = leads_as (byte_on p x l h refl) (λ m. sym (front_byte p x m))
+  byte_before p x l h = leads_as (byte_on p x l h refl) (λ m. sym (front_byte p x refl m))
 
   pub byte_goes : {a b c : Known} {f : List ℕ → Outcome T} (p : Place S) {q : Place S} (x : ℕ) → Leads a b f (outcome_at r format p) → Consumes b c (x ∷ []) → after r format p x ≡ Goes q →
       Leads a c f (outcome_at r format q)
@@ -139,30 +135,18 @@ module _ {S T : Type 0} (r : Rules S T) (format : Format) where
   unfolding outcome_at
   end_at p l k e = ends_as (end_here l k.0 k.1) e
 
-  -- the input ends where it may
-  pub no_byte : {R : Type 0} {a b : Known} (c : Known) {f : List ℕ → Outcome T} (p : Place S) (source : Source R) (stop : Stop) → at_end r p ≡ ([], Ended) →
+  -- the input does not end here, or may end here
+  pub no_byte : {R : Type 0} {a b : Known} (c : Known) {f : List ℕ → Outcome T} (p : Place S) (source : Source R) (stop : Stop) → (stop ≡ stops.End → at_end r p ≡ ([], Ended)) →
       Leads a b f (outcome_at r format p) → Takes b c source (Err stop) → Stopped r format a c f source stop
-  no_byte c p source stops.End e l t = end_at p l t e
+  no_byte c p source stops.End e l t = end_at p l t (e refl)
   no_byte c p source stops.Read e l t = (record { place = p; leads = kept_on l t.0 }, t.1)
   no_byte c p source (stops.Wrong kind) e l t = absurd t
   no_byte c p source stops.OutOfMemory e l t = tt
-
-  -- the input ends otherwise than here
-  pub other_stop : {R : Type 0} {a b : Known} (c : Known) {f : List ℕ → Outcome T} (p : Place S) (source : Source R) (stop : Stop) → (stop ≡ stops.End → ⊥) →
-      Leads a b f (outcome_at r format p) → Takes b c source (Err stop) → Stopped r format a c f source stop
-  other_stop c p source stops.End n l t = absurd (n refl)
-  other_stop c p source stops.Read n l t = (record { place = p; leads = kept_on l t.0 }, t.1)
-  other_stop c p source (stops.Wrong kind) n l t = absurd t
-  other_stop c p source stops.OutOfMemory n l t = tt
 
   -- the input ends within a step
   pub cut_short : {R : Type 0} {a b : Known} (c : Known) {f : List ℕ → Outcome T} (p : Place S) (source : Source R) (stop : Stop) → at_end r p ≡ ([], Faulty Unfinished) →
       Leads a b f (outcome_at r format p) → TakesWithin b c source (Err stop) → Stopped r format a c f source stop
   cut_short c p source stops.End e l t = absurd t
   cut_short c p source stops.Read e l t = (record { place = p; leads = kept_on l t.0 }, t.1)
-  cut_short c p source (stops.Wrong kind) e l t =
-      by_end (end_at p l (t.0, t.1) (e ∙ ap (λ (k : DratKind). unfinished k) (sym t.2)))
-    where
-      unfinished : DratKind → Outcome T
-      unfinished k = ([], Faulty k)
+  cut_short c p source (stops.Wrong kind) e l t = by_end (end_at p l (t.0, t.1) (rw t.2 e))
   cut_short c p source stops.OutOfMemory e l t = tt

@@ -1,10 +1,9 @@
 use Rattle.std.proofs.Common.{rules, false}
 use Rattle.drat_text.specs.Taking.{source_of}
 use Rattle.drat_text.specs.declared.bytes.Format.TheVariants.{Binary}
-use Rattle.drat_text.specs.Places.{coded}
-use Rattle.drat_text.specs.Reading.{ReadsStep}
-use Rattle.drat_text.proofs.NumberLemmas.{code_ended, code_faulty, code_going}
-use Rattle.drat_text.proofs.Takings.{exits, given_on, leads_nil, leads_on, stopped_on}
+use Rattle.drat_text.specs.Places.{Gives, Goes, Within, coded}
+use Rattle.drat_text.proofs.NumberLemmas.{code_faulty}
+use Rattle.drat_text.proofs.Takings.{error_is, given_on, leads_nil, leads_on, on_as, stopped_on}
 use Rattle.drat_text.proofs.binary.codes.Goals as goal
 
 pub codes-init : goal.codes-init
@@ -13,30 +12,27 @@ codes-init g c = record { room = search rules; read = leads_nil _ _ }
 pub returns-in_err-code-clause-read : goal.returns-in_err-code-clause-read
 returns-in_err-code-clause-read g c =
     let G = g.G.Grammar in
-    exits (ReadsStep G.rules Binary (G.step_of c.codes.draft) _ _ _ (source_of c.number.new.bytes)) _ _ c.from_residual.ensures.1
+    rw (error_is _ _ c.from_residual.ensures.1)
     (stopped_on G.rules Binary _ (source_of c.number.new.bytes) _ c.codes.invariant.read (c.in_err-code.ensures.read (G.slot_of c.codes.draft)))
 
 pub returns-in_err-found-clause-read : goal.returns-in_err-found-clause-read
 returns-in_err-found-clause-read g c =
     let G = g.G.Grammar in let d = c.take_code.new.draft in
-    exits (ReadsStep G.rules Binary (G.step_of d) _ _ _ (source_of c.number.new.bytes)) _ _ c.from_residual-in_err-found.ensures.1
-    (stopped_on G.rules Binary _ (source_of c.number.new.bytes) _ c.codes.invariant.read
+    rw (error_is _ _ c.from_residual-in_err-found.ensures.1) (stopped_on G.rules Binary _ (source_of c.number.new.bytes) _ c.codes.invariant.read
     (code_faulty G.rules (G.step_of d) (G.slot_of d) (coded G.rules (G.slot_of c.codes.draft) c.in_ok-code.code) (source_of c.number.new.bytes) _
     (c.in_ok-code.ensures.read (G.slot_of c.codes.draft)) c.in_err-found.ensures))
 
 pub returns-in-Some-clause-read : goal.returns-in-Some-clause-read
 returns-in-Some-clause-read g c =
-    let G = g.G.Grammar in let d = c.take_code.new.draft in
+    let G = g.G.Grammar in let d = c.take_code.new.draft in let n = coded G.rules (G.slot_of c.codes.draft) c.in_ok-code.code in
     given_on G.rules Binary _ (G.step_of d c.in-Some.found) false c.codes.invariant.read
-    (code_ended G.rules (G.step_of d) (G.slot_of d) (coded G.rules (G.slot_of c.codes.draft) c.in_ok-code.code) c.in-Some.found
-    (c.in_ok-code.ensures.read (G.slot_of c.codes.draft)) (rw c.in-Some.is at c.in_ok-found.ensures))
+    (on_as G.rules Binary {d = n} {e = Gives (G.step_of d c.in-Some.found)} (c.in_ok-code.ensures.read (G.slot_of c.codes.draft)) (rw c.in-Some.is at c.in_ok-found.ensures))
 
 pub codes-preserved : goal.codes-preserved
 codes-preserved g c =
-    let G = g.G.Grammar in let d = c.take_code.new.draft in
+    let G = g.G.Grammar in let d = c.take_code.new.draft in let n = coded G.rules (G.slot_of c.codes.draft) c.in_ok-code.code in
     record {
       room = search rules;
       read = leads_on c.codes.invariant.read
-          (code_going G.rules (G.step_of d) (G.slot_of d) (coded G.rules (G.slot_of c.codes.draft) c.in_ok-code.code)
-          (c.in_ok-code.ensures.read (G.slot_of c.codes.draft)) (rw c.in_default.is at c.in_ok-found.ensures));
+          (on_as G.rules Binary {d = n} {e = Goes (Within (G.slot_of d))} (c.in_ok-code.ensures.read (G.slot_of c.codes.draft)) (rw c.in_default.is at c.in_ok-found.ensures));
     }

@@ -10,7 +10,7 @@ abbrev pub invariant-groups : goal.invariant-groups
 invariant-groups g l = record {
   room : room_in l.bytes ≤ room_in l.fn.bytes;
   value : l.value < l.weight;
-  weight : IsWeight l.weight;
+  weight : IsWeight l.last_weight l.weight;
   below : l.weight ≤ l.last_weight;
   read : (slot : g.G.Grammar.Slot) → Leads (unread_bytes g.R.Read.remaining l.fn.bytes) (unread_bytes g.R.Read.remaining l.bytes)
       (outcome_at g.G.Grammar.rules Binary (Within slot)) (outcome_at g.G.Grammar.rules Binary (InNumber slot (Groups l.value l.weight)));

@@ -2,14 +2,13 @@ use Rattle.std.proofs.Common.{refl}
 use Rattle.drat_text.specs.Taking.{source_of}
 use Rattle.drat_text.specs.declared.bytes.Format.TheVariants.{Text}
 use Rattle.drat_text.specs.Places.{InNumber, Sign, first_digit}
-use Rattle.drat_text.specs.Reading.{ReadsNumber}
 use Rattle.drat_text.proofs.NumberLemmas.{digit_first, number_on, sign_first}
-use Rattle.drat_text.proofs.Takings.{leads_nil, leads_as, exits, cut_short, byte_on}
+use Rattle.drat_text.proofs.Takings.{leads_nil, leads_as, error_is, cut_short, byte_on}
 use Rattle.drat_text.proofs.text.number.Goals as goal
 
 pub returns-in_err-digit-clause-read : goal.returns-in_err-digit-clause-read
 returns-in_err-digit-clause-read g c = λ slot.
-    exits (ReadsNumber g.G.Grammar.rules slot _ _ _ (source_of c.next_within.new.self)) _ _ c.from_residual.ensures.1
+    rw (error_is _ _ c.from_residual.ensures.1)
     (cut_short g.G.Grammar.rules Text _ (InNumber slot Sign) (source_of c.next_within.new.self) _ refl
     (leads_as (leads_nil _ _) (sign_first g.G.Grammar.rules slot c.args.first c.if-first-eq45.true)) c.in_err-digit.ensures.byte)
 
