@@ -1,5 +1,5 @@
 -- What a draft does with a letter and with a number.
-use Rattle.std.proofs.Common.{ℕ, [], ◌∷◌, Some, None, Result, Ok, Err}
+use Rattle.std.proofs.Common.{ℕ, [], ◌∷◌, Result, Ok, Err}
 use Rattle.std.specs.Io.KnownBytes.{Consumes}
 use Rattle.sat_formula.specs.declared.source.Source.{Source}
 use Rattle.lrat_text.specs.Taking.{Leads}
@@ -9,10 +9,10 @@ use Rattle.lrat_binary.specs.declared.draft.Head.{Head}
 use Rattle.lrat_binary.specs.declared.fault.Stop.{Stop}
 use Rattle.lrat_binary.specs.declared.fault.Stop.TheVariants as stops
 use Rattle.lrat_binary.specs.declared.ids.Ids.{Ids}
-use Rattle.lrat_binary.specs.Drafts.{BeginsLine, TakesNumber, line_of, slot_of}
+use Rattle.lrat_binary.specs.Drafts.{BeginsLine, TakesNumber, slot_of}
 use Rattle.lrat_binary.specs.Lines.{outcome_at}
-use Rattle.lrat_binary.specs.Places.{After, Goes, Gives, Outside, Stops, Within, begun}
-use Rattle.lrat_binary.specs.Reading.{ReadsLetter, ReadsLine, goes_on, line_then}
+use Rattle.lrat_binary.specs.Places.{After, Goes, Outside, Stops, Within, begun}
+use Rattle.lrat_binary.specs.Reading.{ReadsLetter, ReadsLine, goes_on}
 use Rattle.lrat_binary.specs.Taking.{Stopped, by_byte}
 use Rattle.lrat_binary.proofs.Takings.{Known, Tells, byte_on, on_as, stopped_on}
 
@@ -21,26 +21,16 @@ module _ (ids : Ids) (before : ℕ) where
   pub letter_on : {R X : Type 0} {a b : Known} (c : Known) {f : Tells} (x : ℕ) (source : Source R) (d : Draft) (r : Result X Stop) → Leads a b f (outcome_at ids before Outside) →
       Consumes b c (x ∷ []) → BeginsLine d (begun x) r → ReadsLetter ids before d a c f source r
   letter_on c x source d (Ok y) l h t = byte_on ids before Outside x {d = Goes (Within (slot_of d))} l h t
-  letter_on c x source d (Err stops.End) l h t = absurd t
-  letter_on c x source d (Err stops.Read) l h t = absurd t
   letter_on c x source d (Err (stops.Wrong kind)) l h t = by_byte (byte_on ids before Outside x {d = Stops kind} l h t)
-  letter_on c x source d (Err stops.OutOfMemory) l h t = absurd t
+  letter_on c x source d (Err stop) l h t = absurd t
 
   -- ---- a number that is taken
 
   pub code_faulty : {R : Type 0} {a b : Known} {f : Tells} (d : Draft) (n : After) (source : Source R) (stop : Stop) → Leads a b f (goes_on ids before n) → TakesNumber d n (Err stop) →
       Stopped ids before a b f source stop
-  code_faulty d n source stops.End s t = absurd t
-  code_faulty d n source stops.Read s t = absurd t
   code_faulty d n source (stops.Wrong kind) s t = by_byte (on_as ids before {e = Stops kind} s t)
   code_faulty d n source stops.OutOfMemory s t = tt
-
-  pub code_going : {a b : Known} {f : Tells} (d : Draft) (n : After) → Leads a b f (goes_on ids before n) → TakesNumber d n (Ok None) → Leads a b f (outcome_at ids before (Within (slot_of d)))
-  code_going d n s t = on_as ids before {e = Goes (Within (slot_of d))} s t
-
-  pub code_ended : {a b : Known} {f : Tells} (d : Draft) (n : After) (head : Head) → Leads a b f (goes_on ids before n) → TakesNumber d n (Ok (Some head)) →
-      Leads a b f (line_then ids before (line_of d head))
-  code_ended d n head s t = on_as ids before {e = Gives (line_of d head)} s t
+  code_faulty d n source stop s t = absurd t
 
   -- ---- a line
 

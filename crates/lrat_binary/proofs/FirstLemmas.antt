@@ -1,8 +1,7 @@
 -- The first bytes of a proof.
-use Rattle.std.proofs.Common.{◌≡◌, ℕ, suc, ◌≤◌, Bool, true, false, List, [], ◌∷◌, ◌++◌, length, take, Option, Some, None, Result, Ok, Err, ◌⊎◌, inl, inr, refl, sym, ap, ◌∙◌, append-nil, subst, arith}
+use Rattle.std.proofs.Common.{◌≡◌, ℕ, suc, ◌≤◌, Bool, true, false, List, [], ◌∷◌, ◌++◌, length, take, Option, Some, None, Result, Ok, Err, ◌⊎◌, inl, inr, refl, sym, ap, ◌∙◌, append-nil, arith}
 use Rattle.std.specs.Prelude.{IfSome, not, ◌&&◌, ◌||◌, ◌==◌, if◌then◌else◌}
 use Rattle.std.specs.List.{list_all}
-use Rattle.std.proofs.lemmas.Bool.{true≢false}
 use Rattle.std.proofs.lemmas.List.{take-append-le}
 use Rattle.std.specs.Io.KnownBytes.{IsAtEnd, Keeps, ReadConsumes, prepend_known}
 use Rattle.drat_text.specs.Bytes.{is_text_byte}
@@ -15,9 +14,7 @@ use Rattle.lrat_binary.specs.declared.ids.LratForm.TheVariants.{Text, Binary}
 -- ---- the form is told by what is seen
 
 or_false : (x y z : Bool) → (x || y) ≡ false → (x || (y && z)) ≡ false
-or_false true y z e = absurd (true≢false e)
-or_false false true z e = absurd (true≢false e)
-or_false false false z e = refl
+or_false x y z e = grind arith
 
 -- where no binary line begins with the first byte it is text
 text_first : (n : ℕ) (b : ℕ) (bs : List ℕ) → begins_as_binary (b ∷ bs) ≡ false → is_binary (take (suc n) (b ∷ bs)) ≡ false
@@ -32,11 +29,7 @@ first_alike seen rest (inr e) = ap (λ (l : List ℕ). take 4096 l) (sym (ap (λ
 
 told_so : (ids : Option Ids) (n : ℕ) (seen rest : List ℕ) → SeesFirst seen (Some rest) → (is : Bool) → begins_as_binary seen ≡ is → form_of ids n seen ≡ form_of ids n (seen ++ rest)
 told_so ids n seen rest s true is = ap (λ (first : List ℕ). form_by ids n first) (first_alike seen rest (s.more is))
-told_so ids n [] rest s false is = ap (λ (l : List ℕ). form_of ids n l) (sym (at_once s.one))
-  where
-    at_once : (1 ≤ 0) ⊎ (rest ≡ []) → rest ≡ []
-    at_once (inl le) = absurd (omega (arith, le))
-    at_once (inr e) = e
+told_so ids n [] rest s false is = let none : rest ≡ [] = grind (arith, s.one) in ap (λ (l : List ℕ). form_of ids n l) (sym none)
 told_so ids n (b ∷ bs) rest s false is = text_told ids n b bs is ∙ sym (text_told ids n b (bs ++ rest) is)
 
 form_told : (ids : Option Ids) (n : ℕ) (known left : Option (List ℕ)) (seen : List ℕ) → Keeps (prepend_known [] known) (prepend_known seen left) → SeesFirst seen left →
@@ -48,7 +41,7 @@ form_told ids n (Some bytes) (Some rest) seen k s = told_so ids n seen rest s (b
 -- so is the form in which a proof is read
 pub form_is : (ids : Option Ids) (n : ℕ) (known left : Option (List ℕ)) (seen start : List ℕ) (f g : LratForm) → f ≡ g → g ≡ form_of ids n seen → start ≡ [] →
     Keeps (prepend_known start known) (prepend_known seen left) → SeesFirst seen left → IfSome known (λ bytes. f ≡ form_of ids n bytes)
-form_is ids n known left seen start f g e is none k s = by known (form_told ids n known left seen (subst (λ (l : List ℕ). Keeps (prepend_known l known) (prepend_known seen left)) none k) s)
+form_is ids n known left seen start f g e is none k s = by known (form_told ids n known left seen (rw none at k) s)
   where
     by : (o : Option (List ℕ)) → IfSome o (λ bytes. form_of ids n seen ≡ form_of ids n bytes) → IfSome o (λ bytes. f ≡ form_of ids n bytes)
     by None h = tt

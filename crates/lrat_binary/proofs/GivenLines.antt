@@ -1,10 +1,10 @@
 -- The lines of a proof that a reader gave so far.
 --     HasGiven      these lines, and how the proof goes on
 --     Found      a proof of the reader's bytes that says this
-use Rattle.std.proofs.Common.{◌≡◌, ℕ, Bool, true, false, List, [], ◌∷◌, ◌++◌, Option, Some, None, Result, Ok, Err, refl, sym, ap, ◌∙◌, subst, append_assoc, append-nil}
+use Rattle.std.proofs.Common.{◌≡◌, ℕ, Bool, true, false, List, [], ◌∷◌, ◌++◌, Option, Some, None, Result, Ok, Err, refl, sym, ap, ◌∙◌, append_assoc, append-nil}
 use Rattle.std.specs.Prelude.{IfSome}
-use Rattle.std.specs.Io.KnownBytes.{Consumes, Keeps}
-use Rattle.std.proofs.KnownBytes.{Consumes-kept, Consumes-nil, Consumes-whole, Keeps-refl}
+use Rattle.std.specs.Io.KnownBytes.{Consumes}
+use Rattle.std.proofs.KnownBytes.{Consumes-kept, Consumes-nil, Consumes-whole}
 use Rattle.lrat_rules.specs.Lines.{Line}
 use Rattle.lrat_text.specs.NextLine.{view}
 use Rattle.lrat_text.specs.Texts.{Ended, Ending, Faulty, Outcome, with_line}
@@ -14,11 +14,11 @@ use Rattle.lrat_text.specs.declared.fault.LratTextFault.TheVariants as reads
 use Rattle.lrat_text.specs.declared.line.LratLine.{LratLine}
 use Rattle.lrat_text.proofs.LineLemmas.{ends_on, leads_on}
 use Rattle.lrat_binary.specs.Lines.{outcome_at}
-use Rattle.lrat_binary.specs.Proofs.{BeginsWith, Gives, IsCounted, IsFresh, SaysAll, bytes_left, form_now, has_ended, line_number, lines_after, outcome_in, with_lines}
+use Rattle.lrat_binary.specs.Proofs.{BeginsWith, Gives, IsFresh, SaysAll, bytes_left, form_now, has_ended, line_number, lines_after, outcome_in, with_lines}
 use Rattle.lrat_binary.specs.declared.ids.LratForm.{LratForm}
 use Rattle.lrat_binary.specs.declared.ids.LratForm.TheVariants as forms
 use Rattle.lrat_binary.specs.declared.proof.LratReader.{LratReader}
-use Rattle.lrat_binary.proofs.ReadLemmas.{Goes, Known, gave_end, gave_fault, gave_line, is_fault, is_line, open_still, same_form}
+use Rattle.lrat_binary.proofs.ReadLemmas.{Goes, Known, gave_end, gave_fault, gave_line, open_still, same_form}
 
 -- ---- the bytes of a proof
 
@@ -51,19 +51,16 @@ pub begins_so : (known : Known) (f : List ℕ → Outcome) (lines : List (ℕ ×
 begins_so known f lines g p = (g p.rest, said_by known f (with_lines lines (g p.rest)) p.text p.gives p.says)
 
 -- what is said in one way is said in another that says the same
-module _ (known : Known) (f g : List ℕ → Outcome) (same : IfSome known (λ bytes. g bytes ≡ f bytes)) (lines : List (ℕ × Line)) where
-  said_as : (o : Outcome) → IfSome known (λ bytes. f bytes ≡ o) → IfSome known (λ bytes. g bytes ≡ o)
-  said_as o p = go known same p
-    where
-      go : (k : Known) → IfSome k (λ bytes. g bytes ≡ f bytes) → IfSome k (λ bytes. f bytes ≡ o) → IfSome k (λ bytes. g bytes ≡ o)
-      go None a b = tt
-      go (Some bytes) a b = a ∙ b
+said_as : (known : Known) (f g : List ℕ → Outcome) (o : Outcome) → IfSome known (λ bytes. g bytes ≡ f bytes) → IfSome known (λ bytes. f bytes ≡ o) → IfSome known (λ bytes. g bytes ≡ o)
+said_as None f g o a b = tt
+said_as (Some bytes) f g o a b = a ∙ b
 
+module _ (known : Known) (f g : List ℕ → Outcome) (same : IfSome known (λ bytes. g bytes ≡ f bytes)) (lines : List (ℕ × Line)) where
   pub says_as : (ending : Ending) → SaysAll f known lines ending → SaysAll g known lines ending
-  says_as ending p = said_as (lines, ending) p
+  says_as ending p = said_as known f g (lines, ending) same p
 
   pub begins_as : BeginsWith f known lines → BeginsWith g known lines
-  begins_as p = (p.0, said_as (with_lines lines p.0) p.1)
+  begins_as p = (p.0, said_as known f g (with_lines lines p.0) same p.1)
 
 -- ---- lines
 
@@ -113,17 +110,6 @@ module _ (form : LratForm) (known left : Known) where
 
 -- ---- a reader
 
--- one that is new
-pub is_fresh : {R : Type 0} (remaining : R → Option (List ℕ)) (known : Known) (reader : LratReader R) →
-    bytes_left remaining reader ≡ known → line_number reader ≡ 0 → has_ended reader ≡ false → IsCounted reader → IsFresh remaining known (form_now reader) reader
-is_fresh remaining known reader bytes line ended counted = record {
-  bytes = subst (λ left. Keeps known left) (sym bytes) (Keeps-refl known);
-  form = refl;
-  line = line;
-  ended = ended;
-  counted = counted;
-}
-
 pub record HasGiven {R : Type 0} (remaining : R → Option (List ℕ)) (known : Known) (form : LratForm) (reader : LratReader R) (lines : List (ℕ × Line)) : Type 0 where
   pub same : form_now reader ≡ form
   pub text : Goes form known (bytes_left remaining reader) 0 (has_ended reader) (λ more. with_lines lines (lines_after form (line_number reader) more))
@@ -132,8 +118,7 @@ module _ {R : Type 0} (remaining : R → Option (List ℕ)) (known : Known) (for
   pub given_start : IsFresh remaining known form old → HasGiven remaining known form old []
   given_start fresh = record {
     same = fresh.form;
-    text = subst (λ (b : Bool). Goes form known (bytes_left remaining old) 0 b (λ more. with_lines [] (lines_after form (line_number old) more))) (sym fresh.ended)
-        (record { taken = []; consumed = Consumes-kept known known (bytes_left remaining old) [] (Consumes-nil known) fresh.bytes; same = λ more. ap (λ m. lines_after form m more) (sym fresh.line) });
+    text = rw (fresh.ended, fresh.line) (record { taken = []; consumed = Consumes-kept known known (bytes_left remaining old) [] (Consumes-nil known) fresh.bytes; same = λ more. refl });
   }
 
   module _ (lines : List (ℕ × Line)) (so : HasGiven remaining known form old lines) where
@@ -144,22 +129,19 @@ module _ {R : Type 0} (remaining : R → Option (List ℕ)) (known : Known) (for
     -- no line more was given yet
     pub given_open : (new : LratReader R) (r : Result (Option LratLine) LratTextFault) → (r ≡ Ok None → ⊥) → Gives remaining old new r →
         Goes form known (bytes_left remaining old) 0 false (λ more. with_lines lines (lines_after form (line_number old) more))
-    given_open new r some gives =
-        subst (λ (b : Bool). Goes form known (bytes_left remaining old) 0 b (λ more. with_lines lines (lines_after form (line_number old) more)))
-        (open_still remaining old new r some gives) so.text
+    given_open new r some gives = rw (open_still remaining old new r some gives) at so.text
 
     module _ (new : LratReader R) where
       -- one line more
       pub given_more : (line : LratLine) → Gives remaining old new (Ok (Some line)) → HasGiven remaining known form new (lines ++ (line_number new, view line) ∷ [])
       given_more line gives =
-          let on = open_still remaining old new (Ok (Some line)) (is_line remaining line) gives in
-          let goes = subst (λ (f : LratForm). Goes f (bytes_left remaining old) (bytes_left remaining new) (line_number old) (has_ended new) (λ more. with_line (line_number new) (view line) (lines_after f (line_number new) more)))
-          so.same (gave_line remaining old new line on gives) in
+          let on = open_still remaining old new (Ok (Some line)) (λ e. absurd cc) gives in
+          let goes = rw so.same at (gave_line remaining old new line on gives) in
           record {
             same = same_form remaining old new (Ok (Some line)) gives ∙ so.same;
             text = more_goes form known (bytes_left remaining old) lines (bytes_left remaining new) (has_ended new) (line_number new) (view line)
                 (goes_on form known (bytes_left remaining old) lines (line_number old) (bytes_left remaining new) (has_ended new) (λ more. with_line (line_number new) (view line) (lines_after form (line_number new) more))
-                (given_open new (Ok (Some line)) (is_line remaining line) gives) goes);
+                (given_open new (Ok (Some line)) (λ e. absurd cc) gives) goes);
           }
 
       ending_found : (over : Bool) (ending : Ending) → Goes form known (bytes_left remaining old) 0 false (λ more. with_lines lines (lines_after form (line_number old) more)) →
@@ -172,20 +154,15 @@ module _ {R : Type 0} (remaining : R → Option (List ℕ)) (known : Known) (for
       -- a fault of the next line
       pub given_fault : (n : ℕ) (kind : LineKind) → Gives remaining old new (Err (reads.Line n kind)) → Found known (outcome_in form) (λ more. (lines, Faulty n kind))
       given_fault n kind gives =
-          let on = open_still remaining old new (Err (reads.Line n kind)) (is_fault remaining (reads.Line n kind)) gives in
+          let on = open_still remaining old new (Err (reads.Line n kind)) (λ e. absurd cc) gives in
           let goes = gave_fault remaining old new n kind on gives in
-          ending_found goes.0 (Faulty n kind) (given_open new (Err (reads.Line n kind)) (is_fault remaining (reads.Line n kind)) gives)
-          (subst (λ (f : LratForm). Goes f (bytes_left remaining old) (bytes_left remaining new) (line_number old) goes.0 (λ more. ([], Faulty n kind))) so.same goes.1)
+          ending_found goes.0 (Faulty n kind) (given_open new (Err (reads.Line n kind)) (λ e. absurd cc) gives)
+          (rw so.same at goes.1)
 
       -- the end
       pub given_end : Gives remaining old new (Ok None) → Found known (outcome_in form) (λ more. (lines, Ended))
       given_end gives = go (has_ended old) refl
         where
-          at : (b : Bool) → has_ended old ≡ b → Goes form known (bytes_left remaining old) 0 b (λ more. with_lines lines (lines_after form (line_number old) more))
-          at b e = subst (λ (b : Bool). Goes form known (bytes_left remaining old) 0 b (λ more. with_lines lines (lines_after form (line_number old) more))) e so.text
-
           go : (b : Bool) → has_ended old ≡ b → Found known (outcome_in form) (λ more. (lines, Ended))
-          go false e =
-              ending_found true Ended (at false e)
-              (subst (λ (f : LratForm). Goes f (bytes_left remaining old) (bytes_left remaining new) (line_number old) true (λ more. ([], Ended))) so.same (gave_end remaining old new e gives))
-          go true e = ended_found form known (bytes_left remaining old) lines (line_number old) (at true e)
+          go false e = ending_found true Ended (rw e at so.text) (rw so.same at (gave_end remaining old new e gives))
+          go true e = ended_found form known (bytes_left remaining old) lines (line_number old) (rw e at so.text)

@@ -1,7 +1,8 @@
 -- What a reader of either form gave, said in one way.
 --     Goes      after so many lines the proof goes on so, or has ended so
 --     IsExact form n      the number of a line of text is exact
-use Rattle.std.proofs.Common.{◌≡◌, ℕ, ◌+◌, ◌-◌, ◌^◌, ◌<◌, Bool, true, false, List, [], Option, Some, None, Result, Ok, Err, refl, sym, ap, ◌∙◌, subst, arith}
+use Rattle.std.proofs.Common.{◌≡◌, ℕ, ◌-◌, ◌^◌, ◌<◌, Bool, true, false, List, [], Option, Some, None, Result, Ok, Err, refl, ap, arith}
+use Rattle.std.proofs.lemmas.Bool.{false_from_ne_true}
 use Rattle.lrat_text.specs.NextLine.{view}
 use Rattle.lrat_text.specs.NextLine as texts
 use Rattle.lrat_text.specs.Taking.{EndsAll, Follows, Leads}
@@ -32,13 +33,6 @@ abbrev pub IsExact : LratForm → ℕ → Type 0
 IsExact forms.Text n = n < 2 ^ 64 - 1
 IsExact (forms.Binary ids) n = Unit {0}
 
--- an answer, with a line or without one;  a fault
-abbrev answer : Option LratLine → Result (Option LratLine) LratTextFault
-answer o = Ok o
-
-abbrev failure : LratTextFault → Result (Option LratLine) LratTextFault
-failure fault = Err fault
-
 as_goes : (a b : Known) (before : ℕ) (over : Bool) (rest : List ℕ → Outcome) → Follows a b before over rest → Goes forms.Text a b before over rest
 as_goes a b before false rest p = p
 as_goes a b before true rest p = p
@@ -46,25 +40,15 @@ as_goes a b before true rest p = p
 module _ {R : Type 0} (remaining : R → Option (List ℕ)) where
   -- only a reader that has not ended gives something
   pub open_still : (old new : LratReader R) (r : Result (Option LratLine) LratTextFault) → (r ≡ Ok None → ⊥) → Gives remaining old new r → has_ended old ≡ false
-  open_still (Text old) (Text new) r some gives = go (texts.has_ended old) refl
-    where
-      go : (b : Bool) → texts.has_ended old ≡ b → b ≡ false
-      go true e = absurd (some (gives.stays e).0)
-      go false e = refl
-  open_still (Text old) (Binary new) r some gives = absurd gives
-  open_still (Binary old) (Text new) r some gives = absurd gives
-  open_still (Binary old) (Binary new) r some gives = go (binaries.has_ended old) refl
-    where
-      go : (b : Bool) → binaries.has_ended old ≡ b → b ≡ false
-      go true e = absurd (some (gives.stays e).0)
-      go false e = refl
+  open_still (Text old) (Text new) r some gives = false_from_ne_true (texts.has_ended old) (λ e. some (gives.stays e).0)
+  open_still (Binary old) (Binary new) r some gives = false_from_ne_true (binaries.has_ended old) (λ e. some (gives.stays e).0)
+  open_still old new r some gives = absurd gives
 
   -- the form stays
   pub same_form : (old new : LratReader R) (r : Result (Option LratLine) LratTextFault) → Gives remaining old new r → form_now new ≡ form_now old
   same_form (Text old) (Text new) r gives = refl
-  same_form (Text old) (Binary new) r gives = absurd gives
-  same_form (Binary old) (Text new) r gives = absurd gives
   same_form (Binary old) (Binary new) r gives = ap (λ (ids : Ids). forms.Binary ids) gives.ids
+  same_form old new r gives = absurd gives
 
   -- a line
   pub gave_line : (old new : LratReader R) (line : LratLine) → has_ended old ≡ false → Gives remaining old new (Ok (Some line)) →
@@ -72,22 +56,15 @@ module _ {R : Type 0} (remaining : R → Option (List ℕ)) where
       (λ more. with_line (line_number new) (view line) (lines_after (form_now old) (line_number new) more))
   gave_line (Text old) (Text new) line on gives =
       as_goes (texts.bytes_left remaining old) (texts.bytes_left remaining new) (texts.line_number old) (texts.has_ended new) _ (gives.reads on).0
-  gave_line (Text old) (Binary new) line on gives = absurd gives
-  gave_line (Binary old) (Text new) line on gives = absurd gives
-  gave_line (Binary old) (Binary new) line on gives =
-      let a = gives.reads on in
-      subst (λ (b : Bool). Goes (forms.Binary old.ids) (binaries.bytes_left remaining old) (binaries.bytes_left remaining new) old.number b
-      (λ more. with_line new.number (view line) (binary_after old.ids new.number more))) (sym a.1)
-      (subst (λ (ids : Ids). Leads (binaries.bytes_left remaining old) (binaries.bytes_left remaining new) (binary_after old.ids old.number)
-      (λ more. with_line new.number (view line) (binary_after ids new.number more))) gives.ids a.0)
+  gave_line (Binary old) (Binary new) line on gives = let a = gives.reads on in rw a.1 (rw gives.ids at a.0)
+  gave_line old new line on gives = absurd gives
 
   -- the end
   pub gave_end : (old new : LratReader R) → has_ended old ≡ false → Gives remaining old new (Ok None) →
       Goes (form_now old) (bytes_left remaining old) (bytes_left remaining new) (line_number old) true (λ more. ([], Ended))
   gave_end (Text old) (Text new) on gives = (gives.reads on).0
-  gave_end (Text old) (Binary new) on gives = absurd gives
-  gave_end (Binary old) (Text new) on gives = absurd gives
   gave_end (Binary old) (Binary new) on gives = (gives.reads on).0
+  gave_end old new on gives = absurd gives
 
   fails_so : (ids : Ids) (before : ℕ) (a b : Known) (n : ℕ) (kind : LineKind) → Fails a b (binary_after ids before) n kind →
       (over : Bool) × Goes (forms.Binary ids) a b before over (λ more. ([], Faulty n kind))
@@ -98,38 +75,28 @@ module _ {R : Type 0} (remaining : R → Option (List ℕ)) where
   pub gave_fault : (old new : LratReader R) (n : ℕ) (kind : LineKind) → has_ended old ≡ false → Gives remaining old new (Err (reads.Line n kind)) →
       (over : Bool) × Goes (form_now old) (bytes_left remaining old) (bytes_left remaining new) (line_number old) over (λ more. ([], Faulty n kind))
   gave_fault (Text old) (Text new) n kind on gives =
-      let a = gives.reads on in (
-        a.1.0,
-        as_goes (texts.bytes_left remaining old) (texts.bytes_left remaining new) (texts.line_number old) a.1.0 (λ more. ([], Faulty n kind))
-            (subst (λ (m : ℕ). Follows (texts.bytes_left remaining old) (texts.bytes_left remaining new) (texts.line_number old) a.1.0 (λ more. ([], Faulty m kind))) (sym a.0) a.1.1),
-      )
-  gave_fault (Text old) (Binary new) n kind on gives = absurd gives
-  gave_fault (Binary old) (Text new) n kind on gives = absurd gives
+      let a = gives.reads on in
+      rw a.0 (a.1.0, as_goes (texts.bytes_left remaining old) (texts.bytes_left remaining new) (texts.line_number old) a.1.0 _ a.1.1)
   gave_fault (Binary old) (Binary new) n kind on gives = fails_so old.ids old.number _ _ n kind (gives.reads on).0
-
-  pub is_line : (line : LratLine) → answer (Some line) ≡ answer None → ⊥
-  is_line line e = absurd (cc)
-
-  pub is_fault : (fault : LratTextFault) → failure fault ≡ answer None → ⊥
-  is_fault fault e = absurd (cc)
+  gave_fault old new n kind on gives = absurd gives
 
   -- the bytes that were taken bound the number of a line
   pub still_counted : (old new : LratReader R) (line : LratLine) → Gives remaining old new (Ok (Some line)) → IsCounted old → IsCounted new
   still_counted (Text old) (Text new) line gives few =
-      let more = gives.counts (open_still (Text old) (Text new) (Ok (Some line)) (is_line line) gives) in omega arith
+      let more = gives.counts (open_still (Text old) (Text new) (Ok (Some line)) (λ e. absurd cc) gives) in omega arith
   still_counted (Text old) (Binary new) line gives few = tt
   still_counted (Binary old) (Text new) line gives few = absurd gives
   still_counted (Binary old) (Binary new) line gives few = tt
 
   pub line_exact : (old new : LratReader R) (line : LratLine) → Gives remaining old new (Ok (Some line)) → IsCounted old → IsExact (form_now old) (line_number new)
   line_exact (Text old) (Text new) line gives few =
-      let more = gives.counts (open_still (Text old) (Text new) (Ok (Some line)) (is_line line) gives) in omega arith
+      let more = gives.counts (open_still (Text old) (Text new) (Ok (Some line)) (λ e. absurd cc) gives) in omega arith
   line_exact (Text old) (Binary new) line gives few = absurd gives
   line_exact (Binary old) new line gives few = tt
 
   pub fault_exact : (old new : LratReader R) (n : ℕ) (kind : LineKind) → Gives remaining old new (Err (reads.Line n kind)) → IsCounted old → IsExact (form_now old) n
   fault_exact (Text old) (Text new) n kind gives few =
-      let on = open_still (Text old) (Text new) (Err (reads.Line n kind)) (is_fault (reads.Line n kind)) gives in
+      let on = open_still (Text old) (Text new) (Err (reads.Line n kind)) (λ e. absurd cc) gives in
       let more = gives.counts on in
       let number = (gives.reads on).0 in
       omega arith

@@ -19,10 +19,8 @@ use Rattle.lrat_binary.specs.Taking.{Stopped, source_of}
 -- a read that failed has stopped the source
 pub stopped_source : {R : Type 0} (ids : Ids) (before : ℕ) (a b : Option (List ℕ)) (f : List ℕ → Outcome) (source : Source R) (stop : Stop) → Stopped ids before a b f source stop →
     stop ≡ stops.Read → IsStopped source
-stopped_source ids before a b f source stops.End s e = absurd cc
 stopped_source ids before a b f source stops.Read s e = s.1
-stopped_source ids before a b f source (stops.Wrong kind) s e = absurd cc
-stopped_source ids before a b f source stops.OutOfMemory s e = absurd cc
+stopped_source ids before a b f source stop s e = absurd cc
 
 -- a line was read
 pub line_answers : {R X : Type 0} (remaining : R → Option (List ℕ)) (seen : X → Line) (old new : BinaryReader R) (x : X) →
@@ -37,10 +35,8 @@ pub stop_answers : {R X : Type 0} (remaining : R → Option (List ℕ)) (seen : 
     Explains (source_of mid.bytes) (line_number old) stop r → new.bytes ≡ mid.bytes → line_number mid ≡ line_number old → Numbers mid new r → has_ended new ≡ true →
     Answers remaining seen old new r
 stop_answers remaining seen old mid new stops.End r s told same at numbers ended = rw (told, same) (s, ended)
-stop_answers remaining seen old mid new stops.Read (Ok x) s told same at numbers ended = absurd told
 stop_answers remaining seen old mid new stops.Read (Err (faults.Read e)) s told same at numbers ended = rw same (s.0, told, ended)
-stop_answers remaining seen old mid new stops.Read (Err (faults.Line number kind)) s told same at numbers ended = absurd told
-stop_answers remaining seen old mid new stops.Read (Err faults.OutOfMemory) s told same at numbers ended = absurd told
+stop_answers remaining seen old mid new stops.Read r s told same at numbers ended = absurd told
 stop_answers remaining seen old mid new (stops.Wrong kind) r s told same at numbers ended =
     let is : line_number new ≡ next_line (line_number old) = rw (← at) (rw told at numbers) in
     rw (told, same) (s, sym is, ended)

@@ -1,7 +1,5 @@
 -- Bytes, one after the other.
-use Rattle.std.proofs.Common.{◌≡◌, ℕ, List, [], ◌∷◌, Option, Result, Err, refl, sym, ap, ◌∙◌, subst, append-nil}
-use Rattle.std.specs.Prelude.{IsErrAnd}
-use Rattle.std.proofs.lemmas.Result.{err_from_is_err_and}
+use Rattle.std.proofs.Common.{◌≡◌, ℕ, List, [], ◌∷◌, Option, Err, refl, sym, ap, ◌∙◌, append-nil}
 use Rattle.std.specs.Io.KnownBytes.{Consumes, Keeps, IsAtEnd}
 use Rattle.std.proofs.KnownBytes.{Consumes-nil, Consumes-kept}
 use Rattle.sat_formula.specs.declared.source.NoByte.{NoByte}
@@ -50,13 +48,10 @@ stopped_on c ids before source stops.OutOfMemory p q = tt
 -- ---- a byte
 
 module _ (ids : Ids) (before : ℕ) where
-  one_byte : {b c : Known} (p : Place) (x : ℕ) (d : After) → after ids p x ≡ d → Consumes b c (x ∷ []) → Leads b c (outcome_at ids before p) (goes_on ids before d)
-  unfolding outcome_at
-  one_byte p x d e h = record { taken = x ∷ []; consumed = h; same = λ m. ap (λ (d : After). goes_on ids before d m) e }
-
   pub byte_on : {a b c : Known} {f : Tells} (p : Place) (x : ℕ) {d : After} → Leads a b f (outcome_at ids before p) → Consumes b c (x ∷ []) → after ids p x ≡ d →
       Leads a c f (goes_on ids before d)
-  byte_on p x {d} l h e = leads_on l (one_byte p x d e h)
+  unfolding outcome_at
+  byte_on p x l h e = leads_on l (record { taken = x ∷ []; consumed = h; same = λ m. ap (λ (d : After). goes_on ids before d m) e })
 
   pub byte_goes : {a b c : Known} {f : Tells} (p : Place) {q : Place} (x : ℕ) → Leads a b f (outcome_at ids before p) → Consumes b c (x ∷ []) → after ids p x ≡ Goes q →
       Leads a c f (outcome_at ids before q)
@@ -101,10 +96,7 @@ module _ (ids : Ids) (before : ℕ) (p : Place) where
       Leads a b f (outcome_at ids before p) → TakesWithin b c source (Err stop) → Stopped ids before a c f source stop
   cut_short c source stops.End e l t = absurd t
   cut_short c source stops.Read e l t = (record { place = p; leads = kept_on l t.0 }, t.1)
-  cut_short c source (stops.Wrong kind) e l t = by_end (end_at l (t.0, t.1) (e ∙ ap (λ (k : LineKind). faulty k) (sym t.2)))
-    where
-      faulty : LineKind → Outcome
-      faulty k = ([], Faulty (next_line before) k)
+  cut_short c source (stops.Wrong kind) e l t = by_end (end_at l (t.0, t.1) (rw t.2 e))
   cut_short c source stops.OutOfMemory e l t = tt
 
 -- the source gave no byte
@@ -112,8 +104,3 @@ pub source_none : {R : Type 0} (a b : Known) (source : Source R) (reason : NoByt
 source_none a b source reasons.End t stopped = (t.kept, t.at_end refl)
 source_none a b source reasons.Read t stopped = (t.kept, stopped refl)
 source_none a b source reasons.OutOfMemory t stopped = tt
-
--- ---- the exit of a `?`
-
-pub exits : {X : Type 0} (P : Result X Stop → Type 0) (r : Result X Stop) (e : Stop) → IsErrAnd r (λ d. d ≡ e) → P (Err e) → P r
-exits P r e h p = let q = err_from_is_err_and r h in subst P (sym (q.1 ∙ ap (λ (d : Stop). Err d) q.2)) p

@@ -1,11 +1,11 @@
 use Rattle.std.proofs.Common.{rules}
 use Rattle.lrat_text.proofs.LineLemmas.{leads_on}
-use Rattle.lrat_binary.specs.Drafts.{slot_of}
-use Rattle.lrat_binary.specs.Places.{said}
-use Rattle.lrat_binary.specs.Reading.{ReadsLine}
+use Rattle.lrat_binary.specs.Drafts.{line_of, slot_of}
+use Rattle.lrat_binary.specs.Places.{Gives, Goes, Within, said}
 use Rattle.lrat_binary.specs.Taking.{source_of}
-use Rattle.lrat_binary.proofs.DraftLemmas.{code_ended, code_faulty, code_going}
-use Rattle.lrat_binary.proofs.Takings.{exits, leads_nil, stopped_on}
+use Rattle.lrat_binary.proofs.DraftLemmas.{code_faulty}
+use Rattle.drat_text.proofs.Takings.{error_is}
+use Rattle.lrat_binary.proofs.Takings.{leads_nil, on_as, stopped_on}
 use Rattle.lrat_binary.proofs.binary.read_numbers.Goals as goal
 
 pub numbers-init : goal.numbers-init
@@ -13,13 +13,13 @@ numbers-init g c = record { room = search rules; read = λ before. leads_nil _ _
 
 pub returns-in_err-number-clause-read : goal.returns-in_err-number-clause-read
 returns-in_err-number-clause-read g c = λ before.
-    exits (ReadsLine c.args.ids before c.numbers.draft _ _ _ (source_of c.read_number.new.bytes)) _ _ c.from_residual.ensures.1
+    rw (error_is _ _ c.from_residual.ensures.1)
     (stopped_on _ c.args.ids before (source_of c.read_number.new.bytes) _ (c.numbers.invariant.read before)
     (c.in_err-number.ensures.read c.args.ids before (slot_of c.numbers.draft)))
 
 pub returns-in_err-head-clause-read : goal.returns-in_err-head-clause-read
 returns-in_err-head-clause-read g c = λ before.
-    exits (ReadsLine c.args.ids before c.take.new.self _ _ _ (source_of c.read_number.new.bytes)) _ _ c.from_residual-in_err-head.ensures.1
+    rw (error_is _ _ c.from_residual-in_err-head.ensures.1)
     (stopped_on _ c.args.ids before (source_of c.read_number.new.bytes) _ (c.numbers.invariant.read before)
     (code_faulty c.args.ids before c.take.new.self (said c.args.ids (slot_of c.numbers.draft) c.in_ok-number.number) (source_of c.read_number.new.bytes) _
     (c.in_ok-number.ensures.read c.args.ids before (slot_of c.numbers.draft)) c.in_err-head.ensures))
@@ -27,7 +27,7 @@ returns-in_err-head-clause-read g c = λ before.
 pub returns-in-Some-clause-read : goal.returns-in-Some-clause-read
 returns-in-Some-clause-read g c = λ before.
     leads_on (c.numbers.invariant.read before)
-    (code_ended c.args.ids before c.take.new.self (said c.args.ids (slot_of c.numbers.draft) c.in_ok-number.number) c.in-Some.head
+    (on_as c.args.ids before {d = said c.args.ids (slot_of c.numbers.draft) c.in_ok-number.number} {e = Gives (line_of c.take.new.self c.in-Some.head)}
     (c.in_ok-number.ensures.read c.args.ids before (slot_of c.numbers.draft)) (rw c.in-Some.is at c.in_ok-head.ensures))
 
 pub numbers-preserved : goal.numbers-preserved
@@ -35,6 +35,6 @@ numbers-preserved g c = record {
   room = search rules;
   read = λ before.
       leads_on (c.numbers.invariant.read before)
-      (code_going c.args.ids before c.take.new.self (said c.args.ids (slot_of c.numbers.draft) c.in_ok-number.number)
+      (on_as c.args.ids before {d = said c.args.ids (slot_of c.numbers.draft) c.in_ok-number.number} {e = Goes (Within (slot_of c.take.new.self))}
       (c.in_ok-number.ensures.read c.args.ids before (slot_of c.numbers.draft)) (rw c.in_default.is at c.in_ok-head.ensures));
 }
