@@ -39,9 +39,8 @@ module _ (start now : Option (List ℕ)) where
   begun_before steps [] p = subst (HasBegun start now) (sym (append-nil steps)) p
   begun_before steps (s ∷ more) p =
       let next = mark (written_after steps) ++ spells (writing (written_after steps)) s in
-      subst (HasBegun start now) (append_assoc steps (s ∷ []) more)
-      (begun_before (steps ++ s ∷ []) more
-      (subst (AppendsBeginning start now) (sym (text_grows.version_2 steps s)) (begun_front (text_2 steps) next p)))
+      rw (append_assoc steps (s ∷ []) more) at
+      (begun_before (steps ++ s ∷ []) more (rw (text_grows.version_2 steps s) (begun_front (text_2 steps) next p)))
 
   -- the end of the proof is to follow
   pub begun_to_end : (c : Converted) → HasBegun start now c.steps → HasBegun start now (whole c)
@@ -57,9 +56,7 @@ module _ (start now : Option (List ℕ)) where
 
   -- clauses are to go
   pub begun_in_all : (c : Converted) (ids : List ℕ) → HasBegun start now c.steps → HasBegun start now (delete_all c ids).steps
-  begun_in_all c ids p =
-      let m = steps_before c ids in
-      subst (HasBegun start now) (sym m.1) (begun_before c.steps m.0 p)
+  begun_in_all c ids p = let m = steps_before c ids in rw m.1 (begun_before c.steps m.0 p)
 
 module _ (start old new : Option (List ℕ)) (steps : List Step) where
   -- bytes, and a beginning of others

@@ -1,6 +1,5 @@
 -- What is held, a change more.
-use Rattle.std.proofs.Common.{◌≡◌, ◌==◌, if◌then◌else◌, ℕ, Bool, true, false, Option, Some, nat_eq, refl, ap, ◌∙◌, cond, arith}
-use Rattle.std.proofs.lemmas.Bool.Decides.{nat_tests}
+use Rattle.std.proofs.Common.{arith, ◌≡◌, ◌==◌, if◌then◌else◌, ℕ, Bool, Option, Some, nat_eq, ap, ◌∙◌}
 use mathlib.Core.Path.{fun_ext}
 use Rattle.std.specs.HashMap.{HashMap, Updates, get}
 use Rattle.std.specs.Option.{option_map}
@@ -17,20 +16,7 @@ pub holding_ext : (f g : ℕ → Option Entry) (u v : ℕ → Bool) (a b : Bool)
     ◌≡◌ {A = Holding} (record { entries = f; units = u; refuted = a }) (record { entries = g; units = v; refuted = b })
 holding_ext f g u v a b p q r = ap (λ h. holding h u a) (fun_ext p) ∙ ap (λ w. holding g w a) q ∙ ap (holding g v) r
 
-eqb-comm : (n m : ℕ) → nat_eq n m ≡ nat_eq m n
-eqb-comm n m = both (nat_eq n m) (nat_eq m n) refl refl
-  where
-    both : (b d : Bool) → nat_eq n m ≡ b → nat_eq m n ≡ d → b ≡ d
-    both true true p q = refl
-    both false false p q = refl
-    both true false p q = absurd (grind (arith, nat_tests, p, q))
-    both false true p q = absurd (grind (arith, nat_tests, p, q))
-
 -- a map with one clause more
 pub entries_put : {S : Type 0} (m n : HashMap ℕ HeldClause S) (i : ℕ) (x : HeldClause) → Updates nat_eq m n i (Some x) → (k : ℕ) →
     option_map entry_of (get nat_eq n k) ≡ (if k == i then Some (entry_of x) else option_map entry_of (get nat_eq m k))
-entries_put m n i x u k = ap (option_map entry_of) (u.0 k) ∙ go (nat_eq i k) ∙ ap (λ b. cond b (Some (entry_of x)) (option_map entry_of (get nat_eq m k))) (eqb-comm i k)
-  where
-    go : (b : Bool) → option_map entry_of (cond b (Some x) (get nat_eq m k)) ≡ cond b (Some (entry_of x)) (option_map entry_of (get nat_eq m k))
-    go true = refl
-    go false = refl
+entries_put m n i x u k = rw (u.0 k) (grind arith)

@@ -4,9 +4,7 @@
 --     begun_none, begun_end, given_up      a proof that was given up before its lines and behind them
 use Rattle.std.proofs.Common.{◌≡◌, ℕ, Bool, true, false, List, [], ◌∷◌, ◌++◌, ◌⊎◌, inl, inr, Option, Some, None, Result, Ok, Err, MatchBool, refl, sym, ap, ◌∙◌, append-nil, subst, cond}
 use Rattle.std.specs.Prelude.{IfSome}
-use Rattle.std.specs.Io.KnownBytes.{Appends}
 use Rattle.lrat_rules.specs.Lines.{Line}
-use Rattle.proof_bytes.specs.Version2.{text_2}
 use Rattle.lrat_text.specs.NextLine.{view}
 use Rattle.lrat_text.specs.Texts.{Ended, Ending, Faulty, Outcome}
 use Rattle.lrat_text.specs.declared.fault.LratTextFault.{LratTextFault}
@@ -83,6 +81,12 @@ begins remaining says known form same reader lines given =
     begins_as known (outcome_in form) says same lines
     (begins_so known (outcome_in form) lines (λ more. lines_after form (line_number reader) more) (given_begun remaining known form reader lines given))
 
+-- nothing more could be written
+pub given_up : (says : List ℕ → Outcome) (known : Known) (width : ℕ) (c : Converted) (start now : Option (List ℕ)) (why : GivenUp) →
+    IsBegun says known width c start now → IsStopped says known width c start now (giving_up why)
+given_up says known width c start now (reasons.Write cause) begun = begun
+given_up says known width c start now reasons.OutOfMemory begun = begun
+
 module _ {R : Type 0} (remaining : R → Option (List ℕ)) (known : Known) (form : LratForm) (old : LratReader R) (width : ℕ) (c : Converted) (start now : Option (List ℕ)) (x : Converter) where
   pub so_far_start : IsFresh remaining known form old → HasConverted width start now c x → SoFar remaining known form old width c start now x
   so_far_start fresh h = record { lines = []; after = c; given = given_start remaining known form old fresh; ran = refl; stands = h }
@@ -115,8 +119,7 @@ module _ {R : Type 0} (remaining : R → Option (List ℕ)) (known : Known) (for
         so.lines,
         so.after,
         record {
-          text = subst (λ (b : Bool). MatchBool b (BeginsWith says known so.lines) (SaysAll says known so.lines Ended))
-              (sym (done-is width start now so.after x true so.stands done)) (begins remaining says known form same old so.lines so.given);
+          text = rw (done-is width start now so.after x true so.stands done) (begins remaining says known form same old so.lines so.given);
           ran = so.ran;
         },
         so.stands,
@@ -131,7 +134,7 @@ module _ {R : Type 0} (remaining : R → Option (List ℕ)) (known : Known) (for
           after = so.after;
           text = begins remaining says known form same old so.lines so.given;
           ran = so.ran;
-          written = begun_to_end start later so.after (subst (λ (k : Converted). HasBegun start later k.steps) e begun);
+          written = begun_to_end start later so.after (rw e at begun);
         }
         so_far_begun line gives later d (inr e) begun = record {
           lines = so.lines ++ (line_number new, view line) ∷ [];
@@ -158,12 +161,10 @@ module _ {R : Type 0} (remaining : R → Option (List ℕ)) (known : Known) (for
           ran = so.ran;
           is_open = still_open wanted;
           refused = refused so.after so.stands;
-          written = subst (λ k. Appends start k (text_2 so.after.steps)) (sym (kept tt)) so.stands.written.bytes;
+          written = rw (kept tt) so.stands.written.bytes;
         }
-        so_far_refused line gives (stops.GivenUp (reasons.Write cause)) later kept refused stopped =
-            given_up_in line gives later (stopped so.after so.stands tt)
-        so_far_refused line gives (stops.GivenUp reasons.OutOfMemory) later kept refused stopped =
-            given_up_in line gives later (stopped so.after so.stands tt)
+        so_far_refused line gives (stops.GivenUp why) later kept refused stopped =
+            given_up says known width c start later why (given_up_in line gives later (stopped so.after so.stands tt))
 
         -- the end of the proof
         pub so_far_ended : Gives remaining old new (Ok None) → ConvertsLines says known width c start now x (Ok tt)
@@ -171,7 +172,7 @@ module _ {R : Type 0} (remaining : R → Option (List ℕ)) (known : Known) (for
           so.lines,
           so.after,
           record {
-            text = subst (λ (b : Bool). MatchBool b (BeginsWith says known so.lines) (SaysAll says known so.lines Ended)) (sym (still_open wanted))
+            text = rw (still_open wanted)
                 (says_as known (outcome_in form) says same so.lines Ended (all_said known (outcome_in form) so.lines Ended (given_end remaining known form old so.lines so.given new gives)));
             ran = so.ran;
           },
@@ -233,11 +234,6 @@ module _ (says : List ℕ → Outcome) (known : Known) (width : ℕ) (c : Conver
   pub begun_end : (lines : List (ℕ × Line)) (d : Converted) → Leads says known width c lines d → HasBegun start now (whole d) → IsBegun says known width c start now
   begun_end lines d leads begun = record { lines = lines; after = d; text = begins_led says known lines d.held.refuted leads.text; ran = leads.ran; written = begun }
 
-  -- nothing more could be written
-  pub given_up : (why : GivenUp) → IsBegun says known width c start now → IsStopped says known width c start now (giving_up why)
-  given_up (reasons.Write cause) begun = begun
-  given_up reasons.OutOfMemory begun = begun
-
 module _ (says : List ℕ → Outcome) (known : Known) (width : ℕ) (c : Converted) (start now : Option (List ℕ)) (x : Converter) (h : HasConverted width start now c x) where
   -- no line is wanted
   pub none_wanted : (holding_of x.held).refuted ≡ true → ConvertsLines says known width c start now x (Ok tt)
@@ -245,7 +241,7 @@ module _ (says : List ℕ → Outcome) (known : Known) (width : ℕ) (c : Conver
     [],
     c,
     record {
-      text = subst (λ (b : Bool). MatchBool b (BeginsWith says known []) (SaysAll says known [] Ended)) (sym (done-is width start now c x true h done)) (nothing_said says known);
+      text = rw (done-is width start now c x true h done) (nothing_said says known);
       ran = refl;
     },
     h,

@@ -2,7 +2,7 @@ use Rattle.std.proofs.Common.{ap, ◌∙◌, length, subst}
 use Rattle.std.proofs.lemmas.Result.{err_from_is_err_and}
 use Rattle.lrat_to_proof.specs.Converting.{begun}
 use Rattle.lrat_to_proof.specs.Holding.{Holding}
-use Rattle.lrat_to_proof.specs.Runs.{IsStopped, Leads, proof_says}
+use Rattle.lrat_to_proof.specs.Runs.{Leads, proof_says}
 use Rattle.lrat_to_proof.specs.Standing.{holding_of}
 use Rattle.lrat_to_proof.specs.Statuses.{conversion_of}
 use Rattle.lrat_to_proof.proofs.LineLemmas.{begun_end, begun_none, given_up}
@@ -37,13 +37,8 @@ pub returns-in_err-convert_lines : goal.returns-in_err-convert_lines
 returns-in_err-convert_lines g c =
     let width = bits_of c.args.width in
     let p = err_from_is_err_and c.from_residual-in_err-convert_lines.result c.from_residual-in_err-convert_lines.ensures.1 in
-    record {
-      run = rw (p.1, p.2)
-          (subst (λ n. IsStopped (proof_says c.args.ids n) (g.P.Read.remaining c.args.proof) width (begun width c.args.formula.now) (g.W.Write.contents c.args.out.now)
-          (g.W.Write.contents c.convert_lines.new.out) c.in_err-convert_lines.field-0.0)
-          c.len-clauses.ensures
-          (c.in_err-convert_lines.ensures width (g.W.Write.contents c.args.out.now) (begun width c.args.formula.now) c.in_ok-converter.ensures.ok));
-    }
+    let stopped = c.in_err-convert_lines.ensures width (g.W.Write.contents c.args.out.now) (begun width c.args.formula.now) c.in_ok-converter.ensures.ok in
+    record { run = rw (p.1, p.2) (rw c.len-clauses.ensures at stopped) }
 
 pub returns : goal.returns
 returns g c =

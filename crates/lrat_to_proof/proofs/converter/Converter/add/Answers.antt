@@ -1,9 +1,9 @@
-use Rattle.std.proofs.Common.{refl, ◌++◌, map, sym, ap, ◌∙◌, subst}
+use Rattle.std.proofs.Common.{refl, map, sym, ap, ◌∙◌}
 use Rattle.std.proofs.lemmas.Result.{err_from_is_err_and}
 use Rattle.lrat_text.specs.Grammar.{hint_of}
-use Rattle.lrat_to_proof.specs.Converting.{add_line, derivation}
+use Rattle.lrat_to_proof.specs.Converting.{add_line}
 use Rattle.lrat_to_proof.specs.Holding.{Entry, hold}
-use Rattle.lrat_to_proof.specs.Standing.{HasBegun, HasWritten, holding_of}
+use Rattle.lrat_to_proof.specs.Standing.{holding_of}
 use Rattle.lrat_to_proof.proofs.BegunLemmas.{begun_whole}
 use Rattle.lrat_to_proof.proofs.ConvertedLemmas.{cause_of_hints, converted_add, stopped_add, stopped_before}
 use Rattle.lrat_to_proof.proofs.converter.Converter.add.Goals as goal
@@ -27,20 +27,15 @@ returns-in_err-clause-clause-given_up g c = λ width start d h.
 pub returns-in_err-derive-clause-given_up : goal.returns-in_err-derive-clause-given_up
 returns-in_err-derive-clause-given_up g c = λ width start d h.
     let p = err_from_is_err_and c.from_residual-in_err-derive.result c.from_residual-in_err-derive.ensures.1 in
-    let new = g.W.Write.contents c.derive.new.out in
     rw p.1 (λ _. stopped_add width start (g.W.Write.contents c.args.out.now) d c.args.self.now h c.args.id c.args.clause.now (map hint_of c.args.hints.now)
-    (sym c.contains.ensures ∙ c.if-contains.false) new c.gather.new.hashes.items c.in_ok-gather.ensures.ok
-    (subst (λ (e : Entry). HasBegun start new (d.steps ++ derivation e.lits c.gather.new.hashes.items)) c.in_ok-clause.ensures
-    (subst (λ hashes. HasBegun start new (d.steps ++ derivation c.in_ok-clause.clause.lits.items hashes)) c.deref.ensures.value
-    (c.in_err-derive.ensures.err start d.steps h.written))))
+    (sym c.contains.ensures ∙ c.if-contains.false) (g.W.Write.contents c.derive.new.out) c.gather.new.hashes.items c.in_ok-gather.ensures.ok
+    (rw (c.deref.ensures.value, ap (λ (e : Entry). e.lits) c.in_ok-clause.ensures) at (c.in_err-derive.ensures.err start d.steps h.written)))
 
 pub returns-in_err-put-clause-given_up : goal.returns-in_err-put-clause-given_up
 returns-in_err-put-clause-given_up g c = λ width start d h.
     let p = err_from_is_err_and c.from_residual-in_err-put.result c.from_residual-in_err-put.ensures.1 in
     let new = g.W.Write.contents c.derive.new.out in
-    let wrote = subst (λ (e : Entry). HasWritten start new (d.steps ++ derivation e.lits c.gather.new.hashes.items) c.derive.new.self) c.in_ok-clause.ensures
-    (subst (λ hashes. HasWritten start new (d.steps ++ derivation c.in_ok-clause.clause.lits.items hashes) c.derive.new.self) c.deref.ensures.value
-    (c.in_ok-derive.ensures.ok start d.steps h.written)) in
+    let wrote = rw (c.deref.ensures.value, ap (λ (e : Entry). e.lits) c.in_ok-clause.ensures) at (c.in_ok-derive.ensures.ok start d.steps h.written) in
     rw p.1 (λ _. stopped_add width start (g.W.Write.contents c.args.out.now) d c.args.self.now h c.args.id c.args.clause.now (map hint_of c.args.hints.now)
     (sym c.contains.ensures ∙ c.if-contains.false) new c.gather.new.hashes.items c.in_ok-gather.ensures.ok
     (begun_whole start new _ wrote.bytes))
@@ -52,8 +47,6 @@ returns-clause-ok g c = λ width start d h.
     let made = c.in_ok-clause.ensures in
     converted_add width start (g.W.Write.contents c.args.out.now) d x h c.args.id c.args.clause.now (map hint_of c.args.hints.now) (sym c.contains.ensures ∙ c.if-contains.false)
     now _ c.gather.new.hashes.items c.in_ok-gather.ensures.ok
-    (subst (λ (e : Entry). HasWritten start now (d.steps ++ derivation e.lits c.gather.new.hashes.items) c.derive.new.self) made
-    (subst (λ hashes. HasWritten start now (d.steps ++ derivation c.in_ok-clause.clause.lits.items hashes) c.derive.new.self) c.deref.ensures.value
-    (c.in_ok-derive.ensures.ok start d.steps h.written)))
+    (rw (c.deref.ensures.value, ap (λ (e : Entry). e.lits) made) at (c.in_ok-derive.ensures.ok start d.steps h.written))
     (c.in_ok-put.ensures ∙ ap (λ e. hold c.args.id e (holding_of x.held)) made)
     refl
