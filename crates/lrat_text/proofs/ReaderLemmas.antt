@@ -105,5 +105,6 @@ text_ended remaining seen old now e p =
     (record { taken = q.taken; consumed = q.consumed; at_end = q.at_end; same = q.same }, e)
 
 -- only a reader that has not ended gives something
-pub open_still : {R : Type 0} (remaining : R → Option (List ℕ)) (old new : LineReader R) (r : Result (Option LratLine) LratTextFault) → (r ≡ Ok None → ⊥) → Gives remaining old new r → has_ended old ≡ false
+pub open_still : {R : Type 0} (remaining : R → Option (List ℕ)) (old new : LineReader R) (r : Result (Option LratLine) LratTextFault) →
+    (r ≡ Ok None → ⊥) → Gives remaining old new r → has_ended old ≡ false
 open_still remaining old new r some gives = false_from_ne_true (has_ended old) (λ e. some (gives.stays e).0)

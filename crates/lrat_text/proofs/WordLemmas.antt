@@ -68,7 +68,8 @@ pub words_in-first : (bytes : List ℕ) (n : ℕ) → 0 < n → n < length bytes
     → words_in bytes ≡ take n bytes ∷ words_in (drop n bytes)
 words_in-first (b ∷ bytes) (suc n) some lt h e =
     let rest = drop (suc n) bytes in
-    let seam : b ∷ bytes ≡ take (suc n) (b ∷ bytes) ++ get_or bytes n 0 ∷ rest = ap (λ l. b ∷ l) (sym (take-append-drop n bytes) ∙ ap (λ l. take n bytes ++ l) (drop-cons bytes n 0 (omega (arith, lt)))) in
+    let seam : b ∷ bytes ≡ take (suc n) (b ∷ bytes) ++ get_or bytes n 0 ∷ rest =
+    ap (λ l. b ∷ l) (sym (take-append-drop n bytes) ∙ ap (λ l. take n bytes ++ l) (drop-cons bytes n 0 (omega (arith, lt)))) in
     let word : All (λ x. ends_word x ≡ false) (take (suc n) (b ∷ bytes)) = λ k d below. grind (arith, h k, get_or-take, get_or_default, length-take, below) in
     ap words_in seam ∙ ap (filter has_bytes) (slice_split_at ends_word (take (suc n) (b ∷ bytes)) (get_or bytes n 0) rest word e)
     ∙ ap (λ ws. (b ∷ take n bytes) ∷ ws) (sym (words_in-end (get_or bytes n 0) rest e) ∙ ap words_in (sym (drop-cons bytes n 0 (omega (arith, lt)))))
