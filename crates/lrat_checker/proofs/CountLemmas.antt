@@ -17,7 +17,4 @@ count-parts near far l = refl
 
 -- nothing is counted at first
 pub count-none : (near : List ℕ) (far : Far) → near ≡ [] → far.entries ≡ [] → (l : ℕ) → count_by near far l ≡ 0
-count-none near far e f l = omega (arith, count-parts near far l, ap (λ xs. get_or xs l 0) e, none)
-  where
-    none : far_count far l ≡ 0
-    none = ap (λ es. unwrap_or (lookup (eqb l) es) 0) f
+count-none near far e f l = omega (arith, count-parts near far l, ap (λ xs. get_or xs l 0) e, ap (λ es. unwrap_or (lookup (eqb l) es) 0) f)

@@ -1,6 +1,5 @@
 -- What a reader of lines gave, for a checker that has accepted the lines before.
 use Rattle.std.proofs.Common.{◌≡◌, ℕ, Bool, true, false, ◌&&◌, List, [], ◌∷◌, ◌++◌, Option, Some, None, Result, Ok, Err}
-use Rattle.std.proofs.lemmas.Bool.{false_from_ne_true}
 use Rattle.lrat_rules.specs.Lines.{Line}
 use Rattle.lrat_text.specs.NextLine.{Gives, bytes_left, has_ended, line_number, view}
 use Rattle.lrat_text.specs.Taking.{Follows}
@@ -9,6 +8,7 @@ use Rattle.lrat_text.specs.declared.fault.LratTextFault.{LratTextFault}
 use Rattle.lrat_text.specs.declared.fault.LratTextFault.TheVariants as reads
 use Rattle.lrat_text.specs.declared.line.LratLine.{LratLine}
 use Rattle.lrat_text.specs.declared.reader.LineReader.{LineReader}
+use Rattle.lrat_text.proofs.ReaderLemmas.{open_still}
 use Rattle.lrat_checker.specs.Faults.{in_line, of_text}
 use Rattle.lrat_checker.specs.Standing.{HasAccepted, IsAnswer, IsReady, has_refuted}
 use Rattle.lrat_checker.specs.TextAnswers.{IfCut, IsCut, IsTextAnswer, said}
@@ -17,20 +17,16 @@ use Rattle.lrat_checker.specs.declared.fault.LineFault.{LineFault}
 use Rattle.lrat_checker.proofs.TextLemmas.{SoFar, so_far_broken, so_far_cut, so_far_ended, so_far_more, so_far_refused, so_far_unread}
 
 module _ {R : Type 0} (remaining : R → Option (List ℕ)) (old new : LineReader R) where
-  -- only a reader that has not ended gives something
-  open_still : (r : Result (Option LratLine) LratTextFault) → (r ≡ Ok None → ⊥) → Gives remaining old new r → has_ended old ≡ false
-  open_still r some gives = false_from_ne_true (has_ended old) (λ e. some (gives.stays e).0)
-
   module _ (known : Option (List ℕ)) (formula : List (List ℕ)) (before : List Line) (c : LratChecker)
       (so : SoFar known (bytes_left remaining old) (line_number old) (has_ended old) formula before c) where
     still : (r : Result (Option LratLine) LratTextFault) → (r ≡ Ok None → ⊥) → Gives remaining old new r → SoFar known (bytes_left remaining old) (line_number old) false formula before c
-    still r some gives = rw (open_still r some gives) at so
+    still r some gives = rw (open_still remaining old new r some gives) at so
 
     -- how the text goes on with a line
     goes : (line : LratLine) → Gives remaining old new (Ok (Some line)) →
         Follows (bytes_left remaining old) (bytes_left remaining new) (line_number old) (has_ended new)
         (λ more. with_line (line_number new) (view line) (outcome_after (line_number new) more))
-    goes line gives = (gives.reads (open_still (Ok (Some line)) (λ e. absurd cc) gives)).0
+    goes line gives = (gives.reads (open_still remaining old new (Ok (Some line)) (λ e. absurd cc) gives)).0
 
     pub next_more : (line : LratLine) → Gives remaining old new (Ok (Some line)) → (d : LratChecker) → ((ls : List Line) → IsReady formula ls c → IsReady formula (ls ++ view line ∷ []) d) →
         SoFar known (bytes_left remaining new) (line_number new) (has_ended new) formula before d
@@ -54,15 +50,13 @@ module _ {R : Type 0} (remaining : R → Option (List ℕ)) (old new : LineReade
 
     pub next_unread : (until : Bool) (fault : LratTextFault) → Gives remaining old new (Err fault) → IsTextAnswer until known formula before (record c { failed = true }) (Err (of_text fault))
     next_unread until (reads.Line n kind) gives =
-        let a = gives.reads (open_still (Err (reads.Line n kind)) (λ e. absurd cc) gives) in
+        let a = gives.reads (open_still remaining old new (Err (reads.Line n kind)) (λ e. absurd cc) gives) in
         rw a.0 (so_far_unread known (bytes_left remaining old) (line_number old) formula before c (still _ (λ e. absurd cc) gives)
         (bytes_left remaining new) a.1.0 (line_number new) kind a.1.1 until)
-    next_unread until (reads.Read cause) gives = so_far_broken known (bytes_left remaining old) (line_number old) formula before c (has_ended old) so
-    next_unread until reads.OutOfMemory gives = so_far_broken known (bytes_left remaining old) (line_number old) formula before c (has_ended old) so
+    next_unread until fault gives = so_far_broken known (bytes_left remaining old) (line_number old) formula before c (has_ended old) so
 
     pub next_cut : (fault : LratTextFault) → Gives remaining old new (Err fault) → IfCut (Err (of_text fault)) (IsCut remaining known formula before (record c { failed = true }))
-    next_cut (reads.Line n kind) gives = tt
     next_cut (reads.Read cause) gives =
-        let a = gives.reads (open_still (Err (reads.Read cause)) (λ e. absurd cc) gives) in
+        let a = gives.reads (open_still remaining old new (Err (reads.Read cause)) (λ e. absurd cc) gives) in
         so_far_cut known (bytes_left remaining old) (line_number old) formula before c remaining new cause (still _ (λ e. absurd cc) gives) a.0 a.1
-    next_cut reads.OutOfMemory gives = tt
+    next_cut fault gives = tt

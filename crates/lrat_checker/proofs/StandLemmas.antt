@@ -1,5 +1,5 @@
 -- One line more after those that a checker has accepted.
-use Rattle.std.proofs.Common.{arith, ◌≡◌, ℕ, Bool, true, false, cond, ◌||◌, List, [], ◌∷◌, ◌++◌, Some, None, refl, sym, ap, ◌∙◌, subst}
+use Rattle.std.proofs.Common.{arith, ◌≡◌, ℕ, Bool, false, cond, ◌||◌, List, [], ◌∷◌, ◌++◌, Some, None, sym, ap, ◌∙◌, subst}
 use Rattle.std.proofs.Math.Bool.{or-false}
 use Rattle.sat_rules.specs.Named.{Item}
 use Rattle.sat_rules.proofs.HintLineFacts.{some-same}
@@ -17,8 +17,7 @@ use Rattle.lrat_checker.specs.declared.fault.Stop.{Stop}
 use Rattle.lrat_checker.specs.declared.fault.Stop.TheVariants.{OutOfMemory, Refused}
 
 pub or_assoc : (a b c : Bool) → (a || (b || c)) ≡ ((a || b) || c)
-or_assoc true b c = refl
-or_assoc false b c = refl
+or_assoc a b c = grind arith
 
 module _ (formula : List (List ℕ)) (lines : List Line) (st : List Item) (t : Table) (l : Line) (ran : run (formula_store formula) lines ≡ Some st) (table : IsTableOf t st) where
   -- an accepted line

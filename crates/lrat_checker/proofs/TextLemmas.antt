@@ -10,7 +10,7 @@ use Rattle.lrat_text.specs.Taking.{Breaks, EndsAll, Follows, Leads}
 use Rattle.lrat_text.specs.Texts.{Ended, Ending, Faulty, Outcome, outcome_after, outcome_of, with_line}
 use Rattle.lrat_text.specs.declared.fault.LineKind.{LineKind}
 use Rattle.lrat_text.specs.declared.reader.LineReader.{LineReader}
-use Rattle.lrat_text.proofs.LineLemmas.{ends_on, leads_on}
+use Rattle.lrat_text.proofs.LineLemmas.{follows_as, follows_under}
 use Rattle.lrat_checker.specs.Faults.{in_line}
 use Rattle.lrat_checker.specs.Standing.{HasAccepted, IsAnswer, IsReady, has_refuted}
 use Rattle.lrat_checker.specs.TextAnswers.{BeginsWith, IfCut, IsBroken, IsCut, IsTextAnswer, SaysAll, StopsAfter, said, with_lines}
@@ -48,18 +48,11 @@ module _ (known left : Option (List ℕ)) (ls : List (ℕ × Line)) where
   pub text_ended : (n : ℕ) → Follows known left 0 true (λ more. with_lines ls (outcome_after n more)) → SaysAll known ls Ended
   text_ended n e = rw (append-nil ls) at (whole known left (λ more. with_lines ls (outcome_after n more)) e)
 
-  -- after the text so far it goes on
-  goes_on : (n : ℕ) (new : Option (List ℕ)) (over : Bool) (g : List ℕ → Outcome) →
-      Follows known left 0 false (λ more. with_lines ls (outcome_after n more)) → Follows left new n over g →
-      Follows known new 0 over (λ more. with_lines ls (g more))
-  goes_on n new false g e f = leads_on e (record { taken = f.taken; consumed = f.consumed; same = λ more. ap (with_lines ls) (f.same more) })
-  goes_on n new true g e f = ends_on e (record { taken = f.taken; consumed = f.consumed; at_end = f.at_end; same = ap (with_lines ls) f.same })
-
-  -- to an ending
+  -- after the text so far it goes on to an ending
   pub text_ends : (n : ℕ) (new : Option (List ℕ)) (over : Bool) (ending : Ending) →
       Follows known left 0 false (λ more. with_lines ls (outcome_after n more)) → Follows left new n over (λ more. ([], ending)) →
       SaysAll known ls ending
-  text_ends n new over ending e f = go over (goes_on n new over (λ more. ([], ending)) e f)
+  text_ends n new over ending e f = go over (follows_under new 0 n over (with_lines ls) (λ more. ([], ending)) e f)
     where
       go : (b : Bool) → Follows known new 0 b (λ more. with_lines ls ([], ending)) → SaysAll known ls ending
       go false h = rw (append-nil ls) at (with_rest known new (λ more. with_lines ls ([], ending)) h).1
@@ -70,11 +63,8 @@ module _ (known left : Option (List ℕ)) (ls : List (ℕ × Line)) where
       Follows known left 0 false (λ more. with_lines ls (outcome_after n more)) →
       Follows left new n over (λ more. with_line m l (outcome_after m more)) →
       Follows known new 0 over (λ more. with_lines (ls ++ (m, l) ∷ []) (outcome_after m more))
-  text_more n new over m l e f = go over (goes_on n new over (λ more. with_line m l (outcome_after m more)) e f)
-    where
-      go : (b : Bool) → Follows known new 0 b (λ more. with_lines ls (with_line m l (outcome_after m more))) → Follows known new 0 b (λ more. with_lines (ls ++ (m, l) ∷ []) (outcome_after m more))
-      go false h = record { taken = h.taken; consumed = h.consumed; same = λ more. h.same more ∙ with_lines-more ls m l (outcome_after m more) }
-      go true h = record { taken = h.taken; consumed = h.consumed; at_end = h.at_end; same = h.same ∙ with_lines-more ls m l (outcome_after m []) }
+  text_more n new over m l e f =
+      follows_as known new 0 over _ _ (λ more. with_lines-more ls m l (outcome_after m more)) (follows_under new 0 n over (with_lines ls) (λ more. with_line m l (outcome_after m more)) e f)
 
 -- to a read that failed
 stops_after : {R : Type 0} (remaining : R → Option (List ℕ)) (known left : Option (List ℕ)) (ls : List (ℕ × Line)) (n : ℕ)
@@ -93,8 +83,7 @@ stops_after remaining known left ls n reader cause e b error = record {
 -- the fault of a line is no failed read
 pub no_cut : (fault : LineFault) (n : ℕ) (p : Error → Type 0) → IfCut (Err (in_line fault n)) p
 no_cut (faults.Refused cause) n p = tt
-no_cut faults.OutOfMemory n p = tt
-no_cut faults.Failed n p = tt
+no_cut fault n p = tt
 
 -- ---- the loop over lines
 

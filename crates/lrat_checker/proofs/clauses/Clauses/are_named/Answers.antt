@@ -1,4 +1,3 @@
-use Rattle.std.proofs.Common.{◌↔◌, IsTrue, sym, subst}
 use Rattle.sat_rules.specs.Named.{NamedBy}
 use Rattle.lrat_checker.specs.Held.{table_of}
 use Rattle.lrat_checker.proofs.NameLemmas.{named_end}
@@ -7,5 +6,4 @@ use Rattle.lrat_checker.proofs.clauses.Clauses.are_named.Goals as goal
 pub returns : goal.returns
 returns c =
     let t = table_of c.args.self.now in
-    subst (λ b. IsTrue b ↔ NamedBy t.named c.args.ids.now c.args.wanted.now) (sym c.is_empty.ensures)
-    (named_end t.named (NamedBy t.named c.args.ids.now c.args.wanted.now) c.loop-clause.left.now c.loop-clause.clause-iterator c.loop-clause.invariant c.in-None.ensures.steps.0)
+    rw c.is_empty.ensures (named_end t.named (NamedBy t.named c.args.ids.now c.args.wanted.now) c.loop-clause.left.now c.loop-clause.clause-iterator c.loop-clause.invariant c.in-None.ensures.steps.0)

@@ -1,7 +1,7 @@
-use Rattle.std.proofs.Common.{sym, ap, ◌∙◌, subst}
+use Rattle.std.proofs.Common.{sym, ap, ◌∙◌}
 use Rattle.sat_rules.specs.Clauses.{has}
 use Rattle.clause_table.specs.Marks.{has_mark}
-use Rattle.lrat_checker.specs.Values.{IsMarked, true_by}
+use Rattle.lrat_checker.specs.Values.{true_by}
 use Rattle.lrat_checker.proofs.TrailLemmas.{cleared_of, earlier_in_trail, marked-none}
 use Rattle.lrat_checker.proofs.values.Values.clear.Goals as goal
 
@@ -15,5 +15,4 @@ loop-lit-preserved c = λ k t.
 
 pub invariant_of-self : goal.invariant_of-self
 invariant_of-self c =
-    let marks = true_by c.loop-lit.self-inside.1.0 in
-    subst (IsMarked marks) (sym c.clear-2.ensures.items) (marked-none marks c.loop-lit.rest.now c.in_default.ensures.cases c.loop-lit.invariant)
+    rw c.clear-2.ensures.items (marked-none (true_by c.loop-lit.self-inside.1.0) c.loop-lit.rest.now c.in_default.ensures.cases c.loop-lit.invariant)
