@@ -1,12 +1,12 @@
 -- Marks of literals, by places and by a set.
-use Rattle.std.proofs.Common.{◌≡◌, ℕ, ◌-◌, ◌<◌, ◌≤◌, Bool, true, false, cond, not, ◌&&◌, ◌||◌, eqb, List, [], ◌∷◌, ◌++◌, length, replicate, get_or, set, take, nat_eq, refl, ap, ◌∙◌, arith}
+use Rattle.std.proofs.Common.{◌≡◌, ℕ, ◌-◌, ◌<◌, ◌≤◌, Bool, true, false, cond, not, ◌&&◌, ◌||◌, eqb, List, [], ◌++◌, length, replicate, get_or, set, take, nat_eq, ap, ◌∙◌, arith}
 use Rattle.std.specs.List.{list_any}
 use Rattle.std.specs.HashSet.{HashSet, contains}
 use Rattle.std.specs.declared.hash.BuildHasherDefault.{BuildHasherDefault}
 use Rattle.std.specs.declared.hash.FoldHasher.{FoldHasher}
 use Rattle.std.proofs.lemmas.Bool.{cases_lt}
 use Rattle.std.proofs.lemmas.Grind.{common_steps, get_or-set_at}
-use Rattle.std.proofs.lemmas.List.{get_or-set_other, get_or_default, get_or_past, take_all}
+use Rattle.std.proofs.lemmas.List.{nil_from_length, get_or-set_other, get_or_default, get_or_past, take_all}
 use Rattle.clause_table.specs.Marks.{mark_of}
 
 abbrev Far : Type 0
@@ -56,11 +56,7 @@ mark-none near far e f l = ap (λ xs. get_or xs l (contains nat_eq far l)) e ∙
 
 -- an empty set marks nothing
 pub none-contains : (far : Far) → length far.keys ≡ 0 → (l : ℕ) → contains nat_eq far l ≡ false
-none-contains far e l = go far.keys e
-  where
-    go : (ks : List ℕ) → length ks ≡ 0 → list_any (nat_eq l) ks ≡ false
-    go [] e = refl
-    go (k ∷ ks) e = absurd (omega (arith, e))
+none-contains far e l = ap (list_any (nat_eq l)) (nil_from_length far.keys e)
 
 more_places : (near : List Bool) (n l : ℕ) → get_or (near ++ replicate n false) l false ≡ get_or near l false
 more_places near n l = grind (arith, common_steps, cases_lt l (length near), cases_lt (l - length near) n)
