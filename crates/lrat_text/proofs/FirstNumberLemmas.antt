@@ -6,7 +6,7 @@ use Rattle.std.proofs.lemmas.Grind.{pow_more}
 use Rattle.std.specs.Prelude.{◌==◌, slice_index}
 use Rattle.std.proofs.lemmas.Bool.Decides.{nat_tests}
 use Rattle.std.proofs.lemmas.List.{drop_more, take_all, take_more}
-use Rattle.sat_formula.specs.Bytes.{is_digit, is_lf}
+use Rattle.sat_formula.specs.Bytes.{is_digit}
 use Rattle.sat_formula.specs.Lines.{value_from}
 use Rattle.lrat_text.specs.Bytes.{IsLine, ends_word, words_in}
 use Rattle.lrat_text.specs.declared.number.Number.TheVariants.{Exact}
@@ -19,9 +19,6 @@ use Rattle.lrat_text.proofs.WordLemmas.{line_some, line_inside, line_rest, words
 
 no_end : (b : ℕ) → is_digit b ≡ true → ends_word b ≡ false
 no_end b e = grind (arith, nat_tests)
-
-no_lf : (b : ℕ) → is_digit b ≡ true → is_lf b ≡ false
-no_lf b e = grind (arith, nat_tests)
 
 digit_small : (b : ℕ) → is_digit b ≡ true → b - 48 ≤ 9
 digit_small b e = grind (arith, nat_tests, e)
@@ -47,7 +44,7 @@ digits_none bytes p = record { within = line_some bytes p; digits = λ k lt. abs
 pub digits_more : (bytes : List ℕ) (n v : ℕ) → IsLine bytes → HasDigits bytes n v → n < 18 → v < 10 ^ n → is_digit (slice_index bytes n) ≡ true →
     HasDigits bytes (n + 1) (v * 10 + (slice_index bytes n - 48))
 digits_more bytes n v p h few small e = record {
-  within = line_inside bytes n p h.within (no_lf (slice_index bytes n) e);
+  within = line_inside bytes n p h.within (grind (arith, nat_tests, e));
   digits = λ k below. grind (arith, h.digits k, e, below);
   value = rw (take_more bytes n 0 h.within) (value_from-more 0 v (slice_index bytes n) (take n bytes) h.value e);
   fits = digit_fits_after n v (slice_index bytes n) few small e;

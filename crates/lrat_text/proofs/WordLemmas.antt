@@ -44,9 +44,6 @@ pub words_in-drop : (bytes : List ℕ) → 0 < length bytes → is_blank (get_or
 words_in-drop [] some blank = absurd (omega arith)
 words_in-drop (b ∷ bytes) some blank = rw blank refl
 
-blank_no_lf : (b : ℕ) → is_blank b ≡ true → is_lf b ≡ false
-blank_no_lf b e = grind (arith, nat_tests)
-
 -- what follows a blank in front
 pub record IsPassed (bytes rest : List ℕ) : Type 0 where
   pub line : IsLine rest
@@ -58,7 +55,7 @@ blank_passed bytes p e =
     let some = line_some bytes p in
     let all = take_all (length bytes - 1) (drop 1 bytes) (omega (arith, length-drop 1 bytes)) in
     record {
-      line = line_rest bytes 1 (line_inside bytes 0 p some (blank_no_lf (get_or bytes 0 0) e)) p;
+      line = line_rest bytes 1 (line_inside bytes 0 p some (grind (arith, nat_tests, e))) p;
       words = ap words_in all ∙ words_in-drop bytes some e;
       shorter = omega (arith, ap (λ (bs : List ℕ). length bs) all, length-drop 1 bytes, some);
     }
