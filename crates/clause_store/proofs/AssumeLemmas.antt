@@ -1,10 +1,12 @@
 -- Taking the literals of a clause as false.
-use Rattle.std.proofs.Common.{◌≡◌, ℕ, zero, suc, ◌+◌, ◌<◌, ◌≤◌, Bool, true, false, not, ◌&&◌, ◌||◌, eqb, List, [], ◌∷◌, ◌++◌}
-use Rattle.std.proofs.Common.{length, take, set, get_or, Option, None, Some, ⊎_elim, refl, sym, ap, ◌∙◌, subst, arith, inl, inr}
+use Rattle.std.proofs.Common.{◌≡◌, ℕ, zero, suc, ◌+◌, ◌<◌, ◌≤◌, Bool, true, false, not, ◌&&◌, ◌||◌, eqb, List, [], ◌∷◌, ◌++◌, length, take, set, get_or, Option, None}
+use Rattle.std.proofs.Common.{Some, refl, sym, ap, ◌∙◌, subst, arith}
 use Rattle.std.specs.List.{list_any}
-use Rattle.std.proofs.lemmas.Bool.{both_ways, cases_eq, eq-eqb, eqb-true, false_from_ne_true, false≢true, ne_eqb, or_cases, or_from, or_left, or_right, true_from_ne_false}
+use Rattle.std.proofs.lemmas.Bool.{both_ways, eq-eqb, eqb-true, false_from_ne_true, false≢true, or_from, true_from_ne_false}
 use Rattle.std.proofs.lemmas.List.{take_all, take_more}
 use Rattle.std.proofs.lemmas.List.Folds.{list_any-append, list_any_at, list_any_more}
+use Rattle.std.proofs.lemmas.Bool.Decides.{nat_tests}
+use Rattle.std.proofs.Math.Path.{fun_ext}
 use Rattle.sat_rules.specs.Clauses.{has, is_negative, is_tautology, negate, var_of}
 use Rattle.sat_rules.specs.Named.{negated_set}
 use Rattle.sat_rules.proofs.Chains.{negate-negate}
@@ -36,10 +38,7 @@ none-at p c i m less is h = false_from_ne_true (p m) (λ e. both_ways _ h (list_
 has-take : (c : List ℕ) (i l : ℕ) → has l (take i c) ≡ true → has l c ≡ true
 has-take [] i l h = subst (λ xs. has l xs ≡ true) (take_all i [] (omega arith)) h
 has-take (m ∷ ms) zero l h = absurd (false≢true h)
-has-take (m ∷ ms) (suc i) l h = elim (or_cases (eqb l m) (has l (take i ms)) h) [
-  | inl here ↦ or_left _ (has l ms) here
-  | inr later ↦ or_right (eqb l m) (has l ms) (has-take ms i l later)
-]
+has-take (m ∷ ms) (suc i) l h = grind (arith, has-take ms i l)
 
 -- a literal that is to be taken as false is not true by the earlier ones
 pub start_set-free : (us : List (Option StoredUnit)) (c : List ℕ) (i m : ℕ) → i < length c → m ≡ get_or c i m → some_true_unit us c ≡ false → is_tautology c ≡ false → start_set us (take i c) m ≡ false
@@ -49,38 +48,22 @@ start_set-free us c i m less is free apart =
     let here : has m c ≡ true = list_any_at (eqb m) c i m less (cc (eq-eqb m m refl)) in
     both_ways (is_tautology c) apart (any_from (λ l. has (negate l) c) c k.0 (has-take c i k.0 k.1) (cc (eqb-true m (negate k.0) k.2)))))
 
+or_last : (x a b : Bool) → (x || (a || b)) ≡ (a || (b || (x || false)))
+or_last x a b = grind arith
+
 -- one literal more is taken as false
 pub assume-step : (us vs : List (Option UnitClause)) (ss : List (Option StoredUnit)) (c : List ℕ) (i m : ℕ) (u : UnitClause) →
     i < length c → m ≡ get_or c i m → var_of m < length us → u.value ≡ is_negative m
     → vs ≡ set us (var_of m) (Some u) → true_lits us m ≡ false →
     ((k : ℕ) → true_lits us k ≡ start_set ss (take i c) k) → (k : ℕ) → true_lits vs k ≡ start_set ss (take (i + 1) c) k
 assume-step us vs ss c i m u less is known v e off same k =
-    let p : ℕ → Bool = λ l. eqb k (negate l) in
-    let added = true_lits-set us _ u (rw var-negate known) (cc (negative_negate m, not_not (is_negative m)))
-    (cc (negate-negate m)) in
-    let cut : take (i + 1) c ≡ take i c ++ m ∷ [] = cc (take_more c i m less) in
-    ap (λ ws. true_lits ws k) e ∙ ap (λ v. true_lits (set us v (Some u)) k) (sym (var-negate m)) ∙ ap (λ s. s k) added
-    ∙ ap (λ b. p m || b) (same k) ∙ move (p m) (lit_by_unit ss k) (list_any p (take i c))
-    ∙ sym (cc (list_any-append p (take i c) (m ∷ [])))
-  where
-    not_not : (b : Bool) → not (not b) ≡ b
-    not_not true = refl
-    not_not false = refl
-
-    move : (x a b : Bool) → (x || (a || b)) ≡ (a || (b || (x || false)))
-    move true true b = refl
-    move true false true = refl
-    move true false false = refl
-    move false true b = refl
-    move false false true = refl
-    move false false false = refl
+    let added = true_lits-set us (negate m) u (rw var-negate known) (grind (arith, negative_negate m)) (cc (negate-negate m)) in
+    let p : ℕ → Bool = λ l. eqb k (negate l) in let cut : take (i + 1) c ≡ take i c ++ m ∷ [] = cc (take_more c i m less) in
+    cc (ap (λ s. s k) added, var-negate m, same k, or_last (p m) (lit_by_unit ss k) (list_any p (take i c)), list_any-append p (take i c) (m ∷ []))
 
 pub assume-all : (ss : List (Option StoredUnit)) (vs : List (Option UnitClause)) (c : List ℕ) (i : ℕ) → length c ≤ i →
     ((k : ℕ) → true_lits vs k ≡ start_set ss (take i c) k) → true_lits vs ≡ start_set ss c
-assume-all ss vs c i over h = λ j k. point k j
-  where
-    point : (k : ℕ) → true_lits vs k ≡ start_set ss c k
-    point k = cc (h k, take_all i c over)
+assume-all ss vs c i over h = fun_ext (λ k. cc (h k, take_all i c over))
 
 -- the stored units of variables that are not in the clause stay unlisted
 pub unlisted-step : (us vs ws : List (Option UnitClause)) (c : List ℕ) (i m : ℕ) (u : UnitClause) → i < length c → m ≡ get_or c i m →
@@ -93,42 +76,22 @@ unlisted-step us vs ws c i m u less is known new e same k =
     cc (unlisted_lits-set us (var_of m) k u known new, same k, eqb_comm (var_of k) (var_of m), move (unlisted_lits ws k) (list_any p (take i c)) (p m), list_any-append p (take i c) (m ∷ []))
   where
     eqb_comm : (a b : ℕ) → eqb a b ≡ eqb b a
-    eqb_comm a b = ⊎_elim (λ h. eq-eqb a b h ∙ sym (eq-eqb b a (sym h))) (λ h. ne_eqb a b h ∙ sym (ne_eqb b a (λ g. h (sym g)))) (cases_eq a b)
+    eqb_comm a b = grind (arith, nat_tests)
 
     move : (g a b : Bool) → ((g && not a) && not b) ≡ (g && not (a || (b || false)))
-    move true true b = refl
-    move true false true = refl
-    move true false false = refl
-    move false a b = refl
+    move g a b = grind arith
 
 pub unlisted-all : (us vs : List (Option UnitClause)) (c : List ℕ) (i : ℕ) → AreStored us → length c ≤ i →
     ((k : ℕ) → unlisted_lits vs k ≡ (unlisted_lits us k && not (holds_var (var_of k) (take i c)))) →
     unlisted_lits vs ≡ unlisted_at (stored_units us) c
-unlisted-all us vs c i stored over h = λ j k. point k j
-  where
-    point : (k : ℕ) → unlisted_lits vs k ≡ unlisted_at (stored_units us) c k
-    point k = cc (h k, take_all i c over, unlisted_lits-at_rest us k stored)
+unlisted-all us vs c i stored over h = fun_ext (λ k. cc (h k, take_all i c over, unlisted_lits-at_rest us k stored))
 
 -- a literal that is false already
 pub assume-skip : (vs : List (Option UnitClause)) (ss : List (Option StoredUnit)) (c : List ℕ) (i m : ℕ) → i < length c → m ≡ get_or c i m → lit_value vs m ≡ Some false
     → ((k : ℕ) → true_lits vs k ≡ start_set ss (take i c) k) → (k : ℕ) → true_lits vs k ≡ start_set ss (take (i + 1) c) k
 assume-skip vs ss c i m less is v same k =
-    let p : ℕ → Bool = λ l. eqb k (negate l) in
     let turned : true_lits vs (negate m) ≡ true = cc (true_lits-falsity vs m) in
-    let cut : take (i + 1) c ≡ take i c ++ m ∷ [] = cc (take_more c i m less) in
-    cc (absorb (p m) (true_lits vs k) (λ e. ap (true_lits vs) (eqb-true k (negate m) e) ∙ turned), same k, move (p m) (lit_by_unit ss k) (list_any p (take i c)), list_any-append p (take i c) (m ∷ []))
-  where
-    absorb : (x y : Bool) → (x ≡ true → y ≡ true) → y ≡ (x || y)
-    absorb true y h = h refl
-    absorb false y h = refl
-
-    move : (x a b : Bool) → (x || (a || b)) ≡ (a || (b || (x || false)))
-    move true true b = refl
-    move true false true = refl
-    move true false false = refl
-    move false true b = refl
-    move false false true = refl
-    move false false false = refl
+    grind (arith, nat_tests, turned, same k, take_more c i m less, list_any-append (λ l. eqb k (negate l)) (take i c) (m ∷ []))
 
 -- a literal that is true already is so by a stored unit
 pub assume-met : (vs : List (Option UnitClause)) (ss : List (Option StoredUnit)) (c : List ℕ) (i m : ℕ) → i < length c → m ≡ get_or c i m → lit_value vs m ≡ Some true
@@ -140,12 +103,4 @@ assume-met vs ss c i m less is v apart same =
 pub none_true-step : (vs : List (Option UnitClause)) (ss : List (Option StoredUnit)) (c : List ℕ) (i m : ℕ) → i < length c → m ≡ get_or c i m → true_lits vs m ≡ false
     → ((k : ℕ) → true_lits vs k ≡ start_set ss (take i c) k) → some_true_unit ss (take i c) ≡ false → some_true_unit ss (take (i + 1) c) ≡ false
 none_true-step vs ss c i m less is off same none =
-    cc (
-      list_any_more (lit_by_unit ss) c i m less,
-      or_from (some_true_unit ss (take i c)) (lit_by_unit ss (get_or c i m)) none
-          (ap (lit_by_unit ss) (sym is) ∙ left_of (lit_by_unit ss m) (negated_set (take i c) m) (sym (same m) ∙ off)),
-    )
-  where
-    left_of : (a b : Bool) → (a || b) ≡ false → a ≡ false
-    left_of true b e = e
-    left_of false b e = refl
+    grind (arith, list_any_more (lit_by_unit ss) c i m less, same m)

@@ -1,5 +1,5 @@
 -- A clause of a bucket as a stored one.
-use Rattle.std.proofs.Common.{◌≡◌, ℕ, suc, ◌-◌, ◌<◌, Bool, true, false, cond, List, ◌++◌, length, get_or, take, drop, set, map, Some, refl, sym, ◌∙◌, arith}
+use Rattle.std.proofs.Common.{◌≡◌, ℕ, suc, ◌-◌, ◌<◌, Bool, true, false, List, ◌++◌, length, get_or, take, drop, set, map, Some, arith}
 use Rattle.std.specs.List.{list_all}
 use Rattle.std.proofs.lemmas.List.{drop-map, map-append, map-set, take-map}
 use Rattle.std.proofs.Math.ListN.{get_or-map, length-map}
@@ -13,7 +13,7 @@ use Rattle.clause_store.specs.Found.{found_in}
 use Rattle.clause_store.specs.Lowered.{IsLeft, left_of, lowered}
 use Rattle.clause_store.specs.Store.{is_whole}
 use Rattle.clause_store.specs.View.{stored_of}
-use Rattle.clause_store.proofs.FoundLemmas.{before-at, is_stored-at, id_among-at, count_of-at, lower-at, raise-at, remaining-gone, remaining-set}
+use Rattle.clause_store.proofs.FoundLemmas.{before-at, count_of-at, id_among-at, is_stored-at, lower-at, raise-at, remaining-gone, remaining-set}
 
 pub count_limit-some : 0 < count_limit
 unfolding count_limit
@@ -43,8 +43,7 @@ module _ (buffer c : List ℕ) (cs : List Clause) where
         cc (is_stored-at c e same es i within stands, id_among-at c e same es i within stands before, count_of-at c e same false es i within stands before)
 
     raised_same : (r : Bool) → stored_of buffer (raised r d) ≡ raise r c (stored_of buffer d)
-    raised_same true = cc (same)
-    raised_same false = cc (same)
+    raised_same r = grind (arith, same)
 
     pub count_of-place : (r : Bool) → count_of r c (map (stored_of buffer) cs) ≡ copies_of r d
     count_of-place r = count_of-at c _ same r _ i within stands before
@@ -57,8 +56,7 @@ module _ (buffer c : List ℕ) (cs : List Clause) where
 
     -- one copy less, which may be the last
     lowered_same : (r : Bool) → stored_of buffer (lowered r d) ≡ lower r c (stored_of buffer d)
-    lowered_same true = cc (same)
-    lowered_same false = cc (same)
+    lowered_same r = grind (arith, same)
 
     lowered_at : (r : Bool) →
         remaining (map (lower r c) (map (stored_of buffer) cs)) ≡
@@ -84,22 +82,10 @@ module _ (buffer c : List ℕ) (cs : List Clause) where
     pub left-place : (r : Bool) → 0 < copies_of r d → IsLeft r c (map (stored_of buffer) cs) (left_of (lowered r d))
     left-place r had = record {
       copy = rw (count_of-place r) had;
-      id = id_is r ∙ sym id_among-place;
-      irredundant = cc (irredundant_is r, count_of-place false);
-      redundants = cc (redundant_is r, count_of-place true);
+      id = grind (arith, id_among-place);
+      irredundant = grind (arith, count_of-place false);
+      redundants = grind (arith, count_of-place true);
     }
-      where
-        id_is : (r : Bool) → (lowered r d).id ≡ d.id
-        id_is true = refl
-        id_is false = refl
-
-        irredundant_is : (r : Bool) → (lowered r d).irredundant ≡ d.irredundant - cond r 0 1
-        irredundant_is true = omega arith
-        irredundant_is false = refl
-
-        redundant_is : (r : Bool) → (lowered r d).redundant ≡ d.redundant - cond r 1 0
-        redundant_is true = refl
-        redundant_is false = omega arith
 
     pub raised-place : (r : Bool) → map (stored_of buffer) (set cs i (raised r d)) ≡ map (raise r c) (map (stored_of buffer) cs)
     raised-place r =

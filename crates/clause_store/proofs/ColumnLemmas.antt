@@ -1,5 +1,5 @@
 -- Three columns as one list.
-use Rattle.std.proofs.Common.{◌≡◌, ℕ, zero, suc, ◌<◌, List, [], ◌∷◌, ◌++◌, length, get_or, set, Bool, true, false, Option, None, Some, refl, sym, ap, subst, arith}
+use Rattle.std.proofs.Common.{◌≡◌, ℕ, zero, suc, ◌<◌, List, [], ◌∷◌, ◌++◌, length, get_or, set, Bool, Option, None, Some, refl, sym, ap, subst, arith}
 use Rattle.std.specs.Option.{option_map}
 use Rattle.clause_store.specs.declared.clauses.units.Source.{Source}
 use Rattle.clause_store.specs.declared.clauses.units.UnitClause.{UnitClause}
@@ -11,69 +11,50 @@ use Rattle.clause_store.specs.Units.{AreEven, id_by, known, unit_at, unit_by, un
 tails : (v : Value) (vs : List Value) (s : Source) (ss : List Source) (n : ℕ) (ns : List ℕ) → AreEven (v ∷ vs) (s ∷ ss) (n ∷ ns) → AreEven vs ss ns
 tails v vs s ss n ns h = record { sources = omega arith; numbers = omega arith }
 
-no_source : {X : Type 0} (v : Value) (vs : List Value) (ns : List ℕ) → AreEven (v ∷ vs) [] ns → X
-no_source v vs ns h = absurd (omega arith)
-
-no_number : {X : Type 0} (v : Value) (vs : List Value) (ss : List Source) → AreEven (v ∷ vs) ss [] → X
-no_number v vs ss h = absurd (omega arith)
-
 pub length-units_by : (vs : List Value) (ss : List Source) (ns : List ℕ) → AreEven vs ss ns → length (units_by vs ss ns) ≡ length vs
 length-units_by [] ss ns h = refl
-length-units_by (v ∷ vs) [] ns h = no_source v vs ns h
-length-units_by (v ∷ vs) (s ∷ ss) [] h = no_number v vs _ h
 length-units_by (v ∷ vs) (s ∷ ss) (n ∷ ns) h = ap suc (length-units_by vs ss ns (tails v vs s ss n ns h))
+length-units_by (v ∷ vs) ss ns h = absurd (omega arith)
 
 pub known-unit_by : (v : Value) (id : UnitId) → option_map (λ (u : UnitClause). u.value) (unit_by v id) ≡ known v
-known-unit_by values.Free id = refl
-known-unit_by values.False id = refl
-known-unit_by values.True id = refl
+known-unit_by v id = grind arith
 
 pub value-units_by : (vs : List Value) (ss : List Source) (ns : List ℕ) (i : ℕ) → AreEven vs ss ns → known (get_or vs i values.Free) ≡ option_map (λ u. u.value) (unit_at (units_by vs ss ns) i)
 value-units_by [] ss ns i h = refl
-value-units_by (v ∷ vs) [] ns i h = no_source v vs ns h
-value-units_by (v ∷ vs) (s ∷ ss) [] i h = no_number v vs _ h
 value-units_by (v ∷ vs) (s ∷ ss) (n ∷ ns) zero h = sym (known-unit_by v _)
 value-units_by (v ∷ vs) (s ∷ ss) (n ∷ ns) (suc i) h = value-units_by vs ss ns i (tails v vs s ss n ns h)
+value-units_by (v ∷ vs) ss ns i h = absurd (omega arith)
 
 pub unit_at-units_by : (vs : List Value) (ss : List Source) (ns : List ℕ) (i : ℕ) (s : Source) (n : ℕ) → AreEven vs ss ns → i < length vs →
     s ≡ get_or ss i s → n ≡ get_or ns i n → unit_at (units_by vs ss ns) i ≡ unit_by (get_or vs i values.Free) (id_by s n)
-unit_at-units_by [] ss ns i s n h less p q = absurd (omega arith)
-unit_at-units_by (v ∷ vs) [] ns i s n h less p q = no_source v vs ns h
-unit_at-units_by (v ∷ vs) (t ∷ ss) [] i s n h less p q = no_number v vs _ h
 unit_at-units_by (v ∷ vs) (t ∷ ss) (m ∷ ns) zero s n h less p q = cc
 unit_at-units_by (v ∷ vs) (t ∷ ss) (m ∷ ns) (suc i) s n h less p q = unit_at-units_by vs ss ns i s n (tails v vs t ss m ns h) (omega arith) p q
+unit_at-units_by vs ss ns i s n h less p q = absurd (omega arith)
 
 -- one place is written
 pub units_by-set : (vs : List Value) (ss : List Source) (ns : List ℕ) (i : ℕ) (v : Value) (s : Source) (n : ℕ) → AreEven vs ss ns →
     units_by (set vs i v) (set ss i s) (set ns i n) ≡ set (units_by vs ss ns) i (unit_by v (id_by s n))
 units_by-set [] ss ns i v s n h = refl
-units_by-set (w ∷ vs) [] ns i v s n h = no_source w vs ns h
-units_by-set (w ∷ vs) (t ∷ ss) [] i v s n h = no_number w vs _ h
 units_by-set (w ∷ vs) (t ∷ ss) (m ∷ ns) zero v s n h = refl
 units_by-set (w ∷ vs) (t ∷ ss) (m ∷ ns) (suc i) v s n h = cc (units_by-set vs ss ns i v s n (tails w vs t ss m ns h))
+units_by-set (w ∷ vs) ss ns i v s n h = absurd (omega arith)
 
 -- one value is dropped
 pub units_by-free : (vs : List Value) (ss : List Source) (ns : List ℕ) (i : ℕ) → AreEven vs ss ns → units_by (set vs i values.Free) ss ns ≡ set (units_by vs ss ns) i None
 units_by-free [] ss ns i h = refl
-units_by-free (w ∷ vs) [] ns i h = no_source w vs ns h
-units_by-free (w ∷ vs) (t ∷ ss) [] i h = no_number w vs _ h
 units_by-free (w ∷ vs) (t ∷ ss) (m ∷ ns) zero h = refl
 units_by-free (w ∷ vs) (t ∷ ss) (m ∷ ns) (suc i) h = cc (units_by-free vs ss ns i (tails w vs t ss m ns h))
+units_by-free (w ∷ vs) ss ns i h = absurd (omega arith)
 
 pub units_by-push : (vs : List Value) (ss : List Source) (ns : List ℕ) (v : Value) (s : Source) (n : ℕ) → AreEven vs ss ns →
     units_by (vs ++ v ∷ []) (ss ++ s ∷ []) (ns ++ n ∷ []) ≡ units_by vs ss ns ++ unit_by v (id_by s n) ∷ []
 units_by-push [] [] [] v s n h = refl
-units_by-push [] [] (m ∷ ns) v s n h = absurd (omega arith)
-units_by-push [] (t ∷ ss) ns v s n h = absurd (omega arith)
-units_by-push (w ∷ vs) [] ns v s n h = no_source w vs ns h
-units_by-push (w ∷ vs) (t ∷ ss) [] v s n h = no_number w vs _ h
 units_by-push (w ∷ vs) (t ∷ ss) (m ∷ ns) v s n h = cc (units_by-push vs ss ns v s n (tails w vs t ss m ns h))
+units_by-push vs ss ns v s n h = absurd (omega arith)
 
 -- a value of which only that is known which a bool says
 pub unit_by-known : (v : Value) (b : Bool) (id : UnitId) → known v ≡ Some b → unit_by v id ≡ Some (record { id = id; value = b })
-unit_by-known values.Free b id h = cc
-unit_by-known values.False b id h = let e : false ≡ b = cc in cc
-unit_by-known values.True b id h = let e : true ≡ b = cc in cc
+unit_by-known v b id h = grind arith
 
 -- where a value is found, its place is in the list
 pub in_range : (us : List (Option UnitClause)) (i : ℕ) (b : Bool) → option_map (λ (u : UnitClause). u.value) (unit_at us i) ≡ Some b → i < length us
@@ -108,19 +89,10 @@ pub unit-write : (vs : List Value) (ss : List Source) (ns : List ℕ) (us : List
 unit-write vs ss ns us i v s n u o h e k id is =
     cc (units_by-set vs ss ns i v s n h, unit_by-known v u.value u.id k)
 
--- a place that is there is read whatever else is given
-pub read_there : {A : Type 0} (xs : List A) (i : ℕ) (d e : A) → i < length xs → get_or xs i d ≡ get_or xs i e
-read_there [] i d e h = absurd (omega arith)
-read_there (x ∷ xs) zero d e h = refl
-read_there (x ∷ xs) (suc i) d e h = read_there xs i d e (omega arith)
-
 -- a value is written, and the id stays that stands there
 pub units_by-given : (vs : List Value) (ss : List Source) (ns : List ℕ) (i : ℕ) (v : Value) (b : Bool) → AreEven vs ss ns → i < length vs →
     known v ≡ Some b → (u : UnitClause) × (u.value ≡ b) × (units_by (set vs i v) ss ns ≡ set (units_by vs ss ns) i (Some u))
-units_by-given [] ss ns i v b h less k = absurd (omega arith)
-units_by-given (w ∷ vs) [] ns i v b h less k = no_source w vs ns h
-units_by-given (w ∷ vs) (t ∷ ss) [] i v b h less k = no_number w vs _ h
 units_by-given (w ∷ vs) (t ∷ ss) (m ∷ ns) zero v b h less k = (record { id = id_by t m; value = b }, refl, cc (unit_by-known v b (id_by t m) k))
 units_by-given (w ∷ vs) (t ∷ ss) (m ∷ ns) (suc i) v b h less k =
-    let g = units_by-given vs ss ns i v b (tails w vs t ss m ns h) (omega arith) k in
-    (g.0, g.1, cc)
+    let g = units_by-given vs ss ns i v b (tails w vs t ss m ns h) (omega arith) k in (g.0, g.1, cc)
+units_by-given vs ss ns i v b h less k = absurd (omega arith)

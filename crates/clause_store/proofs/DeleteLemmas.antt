@@ -1,105 +1,82 @@
--- The store after a copy of a clause was taken away.
-use Rattle.std.proofs.Common.{◌≡◌, ℕ, ◌+◌, ◌-◌, ◌<◌, Bool, true, false, cond, not, ◌&&◌, ◌||◌, eqb, List, [], ◌∷◌, length, get_or, map, refl, sym, ap, ◌∙◌, subst, arith, eq-eqb}
+-- The store after a copy of a clause was taken away, and what deleting answers.
+use Rattle.std.proofs.Common.{◌≡◌, ℕ, ◌+◌, ◌-◌, ◌<◌, Bool, true, false, cond, not, ◌&&◌, eqb, List, [], ◌∷◌, length, get_or, map, refl, ap, ◌∙◌, arith, ⊎_elim, ◌*◌}
+use Rattle.std.proofs.Common.{◌≤◌}
 use Rattle.std.specs.List.{filter, list_all}
-use Rattle.std.proofs.lemmas.Bool.{and_from, and_parts, not-true}
+use Rattle.std.proofs.lemmas.Bool.{and_parts, not-true, cases_Bool}
+use Rattle.std.proofs.lemmas.Bool.Decides.{nat_tests}
 use Rattle.sat_rules.specs.Clauses.{has}
 use Rattle.checker_rules.specs.Buckets.{of_hash, remaining}
 use Rattle.checker_rules.specs.Canonical.{same_list}
-use Rattle.checker_rules.specs.DeleteClause.{is_short}
+use Rattle.checker_rules.specs.DeleteClause.{is_short, delete_copy, delete_justified}
 use Rattle.checker_rules.specs.LiveLiterals.{live_literals, live_of}
-use Rattle.checker_rules.specs.State.{Stored}
+use Rattle.checker_rules.specs.State.{Stored, Known, State}
 use Rattle.checker_rules.specs.Store.{count_of, is_gone, is_stored, lower}
 use Rattle.checker_rules.specs.WellFormed.{are_apart}
 use Rattle.checker_rules.proofs.Buckets.{buckets_serve}
 use Rattle.checker_rules.proofs.Deletions.{lower-lits}
 use Rattle.checker_rules.proofs.Entries.{apart_filter, apart_map, lower_id, rise_filter, rise_map}
 use Rattle.checker_rules.proofs.Sets.{same_list-eq}
+use Rattle.checker_rules.specs.Outcome.{accept, delete_irredundant_is_redundant, delete_redundant_is_irredundant, delete_unknown, refuse}
 use Rattle.clause_store.specs.declared.clauses.Clauses.{Clauses}
 use Rattle.clause_store.specs.declared.clauses.lower.Left.{Left}
 use Rattle.clause_store.specs.declared.hash.ClauseHasher.{ClauseHasher}
-use Rattle.clause_store.specs.Buckets.{Buckets}
 use Rattle.clause_store.specs.declared.clauses.lower.Missing.{Missing}
 use Rattle.clause_store.specs.declared.clauses.lower.Missing.TheVariants.{Clause as NoClause, Copy as NoCopy}
+use Rattle.clause_store.specs.declared.state.CheckerState.{CheckerState}
+use Rattle.clause_store.specs.Buckets.{Buckets}
 use Rattle.clause_store.specs.Counts.{AreCounts, HoldOneMore, times_held}
 use Rattle.clause_store.specs.Lowered.{IsLeft, IsLowered, IsMissing, is_gone as is_none_left}
-use Rattle.clause_store.specs.StateOf.{hash_of}
-use Rattle.clause_store.specs.Store.{IsIndexed, is_whole}
-use Rattle.clause_store.specs.View.{stored_at}
-use Rattle.clause_store.proofs.EditLemmas.{here_or_there, not_equal, within_others}
+use Rattle.clause_store.specs.StateOf.{hash_of, state_of, stored_units}
+use Rattle.clause_store.specs.Store.{IsIndexed, is_whole, IsStore}
+use Rattle.clause_store.specs.View.{stored_at, stored_list}
+use Rattle.clause_store.specs.Delete.{Deletes, deleted_as}
+use Rattle.clause_store.specs.Edits.{KeepsRest}
+use Rattle.clause_store.proofs.EditLemmas.{is_store-by, stored_list-is, within_others}
 use Rattle.clause_store.proofs.FoundLemmas.{count_of-absent, lower-absent, lower-other, remaining-whole}
 use Rattle.clause_store.proofs.StoreLemmas.{count_of-bucket}
 
 -- those that are left are whole
 pub whole-filter : (p : Stored → Bool) (es : List Stored) → list_all is_whole es ≡ true → list_all is_whole (filter p es) ≡ true
 whole-filter p [] h = refl
-whole-filter p (e ∷ es) h =
-    let q = and_parts _ _ h in
-    elim (p e) as (λ b. list_all is_whole (cond b (e ∷ filter p es) (filter p es)) ≡ true) [ true ↦ and_from _ _ q.0 (whole-filter p es q.1) | false ↦ whole-filter p es q.1 ]
+whole-filter p (e ∷ es) h = grind (arith, whole-filter p es)
 
 whole-lower : (r : Bool) (c : List ℕ) (es : List Stored) → list_all is_whole es ≡ true → list_all is_whole (remaining (map (lower r c) es)) ≡ true
 whole-lower r c [] h = refl
-whole-lower r c (e ∷ es) h =
-    let p = and_parts _ _ h in let x = lower r c e in let rest = whole-lower r c es p.1 in
-    let long : not (is_short x.lits) ≡ true = cc (lower-lits r c e, (and_parts (not (is_short e.lits)) (not (is_gone e)) p.0).0) in
-    elim (is_gone x) as (λ b. is_gone x ≡ b → list_all is_whole (cond (not b) (x ∷ remaining (map (lower r c) es)) (remaining (map (lower r c) es))) ≡ true) [
-      | true ↦ λ q. rest
-      | false ↦ λ q. and_from _ _ (and_from _ _ long (cc)) rest
-    ] refl
+whole-lower r c (e ∷ es) h = grind (arith, lower-lits r c e, whole-lower r c es)
 
 -- how many copies are left
 abbrev pub is_last : Bool → ℕ → ℕ → Bool
 is_last r n m = eqb (n - cond r 0 1) 0 && eqb (m - cond r 1 0) 0
 
 gone_lowered : (r : Bool) (c : List ℕ) (e : Stored) → same_list e.lits c ≡ true → is_gone (lower r c e) ≡ is_last r e.irredundant e.redundant
-gone_lowered r c e same =
-    cc (elim r as (λ r. is_gone (cond r (record e { redundant = e.redundant - 1 }) (record e { irredundant = e.irredundant - 1 })) ≡ is_last r
-    e.irredundant e.redundant) [
-      | true ↦ ap (λ n. eqb n 0 && eqb (e.redundant - 1) 0) (nothing_less e.irredundant)
-      | false ↦ ap
-          (λ n. eqb (e.irredundant - 1) 0 && eqb n 0) (nothing_less e.redundant)
-    ])
-  where
-    nothing_less : (n : ℕ) → n ≡ n - 0
-    nothing_less n = omega arith
+gone_lowered r c e same = grind (arith, nat_tests)
 
 -- what the clauses weigh together
 abbrev weight_of : (List ℕ → ℕ) → List Stored → ℕ
 weight_of w [] = 0
 weight_of w (e ∷ es) = w e.lits + weight_of w es
 
+abbrev LosesWeight : (List ℕ → ℕ) → Bool → List ℕ → List Stored → Type 0
+LosesWeight w r c es = weight_of w es ≡ weight_of w (remaining (map (lower r c) es)) + cond (is_last r (count_of false c es) (count_of true c es)) (w c) 0
+
+module _ (w : List ℕ → ℕ) (r : Bool) (c : List ℕ) (e : Stored) (es : List Stored) (whole : is_whole e ≡ true) where
+  loses_weight-here : is_stored e.lits es ≡ false → list_all is_whole es ≡ true → same_list e.lits c ≡ true → LosesWeight w r c (e ∷ es)
+  loses_weight-here apart full same =
+      let lits = same_list-eq e.lits c same in
+      let rest : remaining (map (lower r c) es) ≡ es = cc (lower-absent c r es (rw (← lits) apart), remaining-whole es full) in
+      grind (arith, lits, rest, lower-lits r c e, gone_lowered r c e same)
+
+  loses_weight-later : LosesWeight w r c es → same_list e.lits c ≡ false → LosesWeight w r c (e ∷ es)
+  loses_weight-later rest other = grind (arith, lower-other r c e other)
+
 -- a clause that goes takes its weight away
-weight_of-lower : (w : List ℕ → ℕ) (r : Bool) (c : List ℕ) (es : List Stored) → are_apart es ≡ true → list_all is_whole es ≡ true → is_stored c es ≡ true
-    → weight_of w es ≡ weight_of w (remaining (map (lower r c) es)) + cond (is_last r (count_of false c es) (count_of true c es)) (w c) 0
+weight_of-lower : (w : List ℕ → ℕ) (r : Bool) (c : List ℕ) (es : List Stored) → are_apart es ≡ true → list_all is_whole es ≡ true → is_stored c es ≡ true →
+    LosesWeight w r c es
 weight_of-lower w r c [] a full h = cc
 weight_of-lower w r c (e ∷ es) a full h =
-    let p = and_parts (not (is_stored e.lits es)) (are_apart es) a in let q = and_parts (is_whole e) (list_all is_whole es) full in let x = lower r c e in
-    elim (same_list e.lits c) as (λ b. same_list e.lits c ≡ b →
-    w e.lits + weight_of w es ≡ weight_of w (cond (not (is_gone x)) (x ∷ remaining (map (lower r c) es))
-    (remaining (map (lower r c) es))) + cond
-    (is_last r (cond b e.irredundant (count_of false c es)) (cond b e.redundant (count_of true c es))) (w c) 0) [
-      | true ↦ λ same.
-          let lits = same_list-eq e.lits c same in
-          let none : is_stored c es ≡ false = subst (λ d. is_stored d es ≡ false) lits (not-true (is_stored e.lits es) p.0) in
-          let rest : remaining (map (lower r c) es) ≡ es = ap remaining (lower-absent c r es none) ∙ remaining-whole es q.1 in
-          subst (λ xs. w e.lits + weight_of w es ≡ weight_of w (cond (not (is_gone x)) (x ∷ xs) xs) + cond (is_last r e.irredundant e.redundant) (w c) 0) (sym rest)
-          (subst (λ b. w e.lits + weight_of w es ≡ weight_of w (cond (not b) (x ∷ es) es) + cond (is_last r e.irredundant e.redundant) (w c) 0) (sym (gone_lowered r c e same))
-          (either (is_last r e.irredundant e.redundant) x (lower-lits r c e ∙ lits) lits))
-      | false ↦ λ other.
-          let later : is_stored c es ≡ true = sym (ap (λ b. b || is_stored c es) other) ∙ h in
-          let stays : x ≡ e = lower-other r c e other in
-          subst (λ y. w e.lits + weight_of w es ≡ weight_of w
-          (cond (not (is_gone y)) (y ∷ remaining (map (lower r c) es)) (remaining (map (lower r c) es))) +
-          cond (is_last r (count_of false c es) (count_of true c es)) (w c) 0) (sym stays)
-          (subst (λ b. w e.lits + weight_of w es ≡
-          weight_of w (cond b (e ∷ remaining (map (lower r c) es)) (remaining (map (lower r c) es))) +
-          cond (is_last r (count_of false c es) (count_of true c es)) (w c) 0)
-          (sym (and_parts (not (is_short e.lits)) (not (is_gone e)) q.0).1)
-          (let k = weight_of-lower w r c es p.1 q.1 later in omega (arith, k)))
-    ] refl
-  where
-    either : (b : Bool) (x : Stored) → x.lits ≡ c → e.lits ≡ c → w e.lits + weight_of w es ≡ weight_of w (cond (not b) (x ∷ es) es) + cond b (w c) 0
-    either true x same here = let k = ap w here in omega (arith, k)
-    either false x same here = let k = ap w here in let l = ap w same in omega (arith, k, l)
+    let p = and_parts _ _ a in let q = and_parts (is_whole e) (list_all is_whole es) full in
+    ⊎_elim (loses_weight-here w r c e es q.0 (not-true _ p.0) q.1)
+    (λ n. loses_weight-later w r c e es q.0 (weight_of-lower w r c es p.1 q.1 (grind arith)) n) (cases_Bool (same_list e.lits c))
 
 live-weight : (es : List Stored) → live_literals es ≡ weight_of live_of es
 live-weight [] = refl
@@ -150,16 +127,7 @@ module _ (counts : List ℕ) (n : ℕ) (r : Bool) (c : List ℕ) (es : List Stor
 
 -- other counts of literals
 pub files-counts : (h : ClauseHasher) (cs : Clauses) (counts : List ℕ) (es : List Stored) → IsIndexed h cs es → IsIndexed h (record cs { lit_counts = counts }) es
-files-counts h cs counts es f = record {
-  some_bits = f.some_bits;
-  bits = f.bits;
-  within = f.within;
-  bucketed = f.bucketed;
-  rise = f.rise;
-  apart = f.apart;
-  whole = f.whole;
-  used = f.used;
-}
+files-counts h cs counts es f = assumption
 
 -- in one bucket
 pub files-lowered : (h : ClauseHasher) (cs : Clauses) (es : List Stored) (m : Buckets) (g : ℕ) (r : Bool) (c : List ℕ) (left : Left) →
@@ -170,10 +138,8 @@ files-lowered h cs es m g r c left f p stored grown = record {
   bits = f.bits;
   within = within_others cs.literal_buffer.items cs.buckets m (hash_of h c) f.within p.within p.others;
   bucketed = λ k.
-      let serve = (buckets_serve (hash_of h) es).deleted k r c in let at = of_hash (hash_of h) k es in
-      here_or_there k (hash_of h c) _ _
-      (λ e. cc (e, p.here, f.bucketed (hash_of h c), eq-eqb (hash_of h c) k (sym e), serve))
-      (λ ne. cc (p.others k ne, f.bucketed k, remaining-whole at (whole-filter (λ e. eqb (hash_of h e.lits) k) es f.whole), not_equal (hash_of h c) k ne, serve));
+      let whole = remaining-whole (of_hash (hash_of h) k es) (whole-filter (λ e. eqb (hash_of h e.lits) k) es f.whole) in
+      grind (arith, nat_tests, p.here, p.others k, f.bucketed k, whole, (buckets_serve (hash_of h) es).deleted k r c);
   rise = rise_filter (λ e. not (is_gone e)) 0 (map (lower r c) es) cs.next_clause_id (cc (rise_map (lower r c) (lower_id r c) 0 es cs.next_clause_id));
   apart = apart_filter (λ e. not (is_gone e)) (map (lower r c) es) (cc (apart_map (lower r c) (lower-lits r c) es));
   whole = whole-lower r c es f.whole;
@@ -203,10 +169,7 @@ module _ (h : ClauseHasher) (cs : Clauses) (es : List Stored) (f : IsIndexed h c
 
 -- a clause with a copy is stored
 pub stored_with-copy : (r : Bool) (c : List ℕ) (es : List Stored) → 0 < count_of r c es → is_stored c es ≡ true
-stored_with-copy r c es had = elim (is_stored c es) as (λ b. is_stored c es ≡ b → b ≡ true) [
-  | true ↦ λ e. refl
-  | false ↦ λ e. absurd (let none = count_of-absent c r es e in omega arith)
-] refl
+stored_with-copy r c es had = grind (arith, count_of-absent c r es)
 
 -- whether it was the last copy
 pub last_of : (r : Bool) (c : List ℕ) (es : List Stored) (left : Left) → IsLeft r c es left → is_last r (count_of false c es) (count_of true c es) ≡ is_none_left left
@@ -217,22 +180,59 @@ pub is_stored-lowered : (r : Bool) (c : List ℕ) (es : List Stored) → are_apa
     → is_stored c (remaining (map (lower r c) es)) ≡ not (is_last r (count_of false c es) (count_of true c es))
 is_stored-lowered r c [] a w h = cc
 is_stored-lowered r c (e ∷ es) a w h =
-    let p = and_parts _ _ a in let q = and_parts _ _ w in let x = lower r c e in
-    elim (same_list e.lits c) as (λ b. same_list e.lits c ≡ b →
-    is_stored c (cond (not (is_gone x)) (x ∷ remaining (map (lower r c) es)) (remaining (map (lower r c) es))) ≡
-    not (is_last r (cond b e.irredundant (count_of false c es)) (cond b e.redundant (count_of true c es)))) [
-      | true ↦ λ same.
-          let lits = same_list-eq _ c same in
-          let none : is_stored c es ≡ false = rw (← lits) (not-true (is_stored e.lits es) p.0) in
-          let rest : remaining (map (lower r c) es) ≡ es = cc (lower-absent c r es none, remaining-whole es q.1) in
-          let here : same_list x.lits c ≡ true = cc (lower-lits r c e) in
-          cc (gone_lowered r c e same, either (is_last r e.irredundant e.redundant) x here none)
-      | false ↦ λ other.
-          let later : is_stored c es ≡ true = cc in
-          let stays : x ≡ e = lower-other r c e other in
-          cc ((and_parts (not (is_short e.lits)) (not (is_gone e)) q.0).1, is_stored-lowered r c es p.1 q.1 later)
-    ] refl
-  where
-    either : (b : Bool) (x : Stored) → same_list x.lits c ≡ true → is_stored c es ≡ false → is_stored c (cond (not b) (x ∷ es) es) ≡ not b
-    either true x here none = none
-    either false x here none = cc
+    grind (arith, same_list-eq e.lits c, lower-absent c r es, remaining-whole es, lower-other r c e, lower-lits r c e, gone_lowered r c e, is_stored-lowered r c es)
+
+-- the causes in their order
+module _ (r : Bool) (c : List ℕ) (s : State) where
+  pub delete-unknown : is_short c ≡ false → is_stored c s.clauses ≡ false → delete_justified r c s ≡ refuse delete_unknown s
+  delete-unknown long new = cc
+
+  pub delete-no_copy : is_short c ≡ false → is_stored c s.clauses ≡ true → count_of r c s.clauses ≡ 0 →
+      delete_justified r c s ≡ refuse (cond r delete_redundant_is_irredundant delete_irredundant_is_redundant) s
+  delete-no_copy long old zero = cc
+
+  pub delete-copy : is_short c ≡ false → is_stored c s.clauses ≡ true → 0 < count_of r c s.clauses → delete_justified r c s ≡ accept (delete_copy r c s)
+  delete-copy long old some = grind (arith, nat_tests)
+
+-- the state after a change of the stored clauses alone
+pub state_of-rest : (st : CheckerState) (h : ClauseHasher) (cs cs' : Clauses) (known : List Known) (es : List Stored) → KeepsRest cs cs' →
+    stored_list cs' ≡ es → state_of st h cs' known ≡ record (state_of st h cs known) { clauses = es }
+state_of-rest st h cs cs' known es p same = λ i. record (state_of st h cs known) { clauses = same i; units = stored_units (p.units i); conflict = p.conflict i; next = p.next i }
+
+pub both_rest : (a b c : Clauses) → KeepsRest a b → KeepsRest b c → KeepsRest a c
+both_rest a b c p q = record { next = cc; units = cc; conflict = cc }
+
+-- other buckets alone
+pub rest_of-buckets : (cs cs' : Clauses) → cs' ≡ record cs { buckets = cs'.buckets } → KeepsRest cs cs'
+rest_of-buckets cs cs' e = grind arith
+
+-- in order after a change of the stored clauses alone
+pub store-rest : (h : ClauseHasher) (cs cs' : Clauses) (es : List Stored) → IsIndexed h cs' es →
+    2 * cs'.garbage_size ≤ length cs'.literal_buffer.items → KeepsRest cs cs' → AreCounts cs'.lit_counts (length cs'.unit_clauses) es →
+    IsStore h cs → IsStore h cs'
+store-rest h cs cs' es f garbage rest counts s = is_store-by h cs' es f garbage (rw rest.units s.units) counts
+
+module _ (h : ClauseHasher) (cs : Clauses) where
+  -- nothing goes
+  pub state-unchanged : (st : CheckerState) (known : List Known) (cs' : Clauses) → IsIndexed h cs' (stored_list cs) →
+      cs' ≡ record cs { buckets = cs'.buckets } → state_of st h cs' known ≡ state_of st h cs known
+  state-unchanged st known cs' f e = state_of-rest st h cs cs' _ _ (rest_of-buckets cs cs' e) (stored_list-is h cs' _ f)
+
+  pub store-unchanged : (cs' : Clauses) → IsIndexed h cs' (stored_list cs) → cs' ≡ record cs { buckets = cs'.buckets } → IsStore h cs → IsStore h cs'
+  store-unchanged cs' f e s =
+      store-rest h cs cs' _ f (rw e s.garbage) (rest_of-buckets cs cs' e)
+      (rw e s.counts) s
+
+  -- a copy goes, and then the garbage
+  pub deletes : (r : Bool) (c : List ℕ) → is_short c ≡ false →
+      (st : CheckerState) (known : List Known) (taken after : Clauses) (left : Left) → IsLeft r c (stored_list cs) left →
+      IsIndexed h taken (remaining (map (lower r c) (stored_list cs))) → KeepsRest cs taken → IsIndexed h after (stored_list taken) →
+      KeepsRest taken after
+      → Deletes c r (state_of st h cs known) (state_of st h after known) left.id (deleted_as r left.irredundant left.redundant)
+  deletes r c long st known taken after left p filed rest still rest' =
+      let s = state_of st h cs known in let es = stored_list cs in
+      let same : stored_list after ≡ remaining (map (lower r c) es) = stored_list-is h _ _ still ∙ stored_list-is h taken _ filed in record {
+        after = cc (delete-copy r c s long (stored_with-copy r c es p.copy) p.copy, state_of-rest st h cs after known (remaining (map (lower r c) es)) (both_rest cs taken after rest rest') same);
+        id_is = p.id;
+        result_is = cc;
+      }

@@ -1,7 +1,7 @@
 -- The store after an edit of one bucket.
-use Rattle.std.proofs.Common.{◌≡◌, ℕ, ◌+◌, ◌*◌, ◌≤◌, Bool, true, false, cond, not, ◌&&◌, eqb, List, [], ◌∷◌, ◌++◌, append-nil, length, map, All, refl, sym, ap, ◌∙◌, subst, arith, ⊎_elim, eq-eqb}
+use Rattle.std.proofs.Common.{◌≡◌, ℕ, ◌+◌, ◌*◌, ◌≤◌, Bool, true, false, cond, List, [], ◌∷◌, ◌++◌, append-nil, length, map, All, refl, sym, subst, arith, ⊎_elim}
 use Rattle.std.specs.List.{list_all}
-use Rattle.std.proofs.lemmas.Bool.{and_from, and_parts, cases_eq, not-true}
+use Rattle.std.proofs.lemmas.Bool.{cases_eq}
 use Rattle.std.proofs.lemmas.List.Folds.{list_all-append}
 use Rattle.std.proofs.lemmas.Bool.Decides.{nat_tests}
 use Rattle.checker_rules.specs.Buckets.{of_hash}
@@ -22,8 +22,8 @@ use Rattle.clause_store.specs.Edits.{IsPushed, IsRaised}
 use Rattle.clause_store.specs.Lits.{IsWithin}
 use Rattle.clause_store.specs.StateOf.{hash_of}
 use Rattle.clause_store.specs.Store.{IsIndexed, IsStore, is_stored_unit, is_whole}
-use Rattle.clause_store.specs.View.{stored_list}
-use Rattle.clause_store.proofs.HeldEdits.{counts-pushed}
+use Rattle.clause_store.specs.View.{stored_list, stored_in}
+use Rattle.clause_store.proofs.HeldLemmas.{counts-pushed}
 use Rattle.clause_store.proofs.ViewLemmas.{above_from, list_is}
 
 -- buckets that hold a list by rising ids
@@ -42,12 +42,6 @@ is_store-by h cs es f garbage units counts =
     }
 
 -- a change in one bucket
-pub here_or_there : (k n : ℕ) (xs ys : List Stored) → (k ≡ n → xs ≡ ys) → ((k ≡ n → ⊥) → xs ≡ ys) → xs ≡ ys
-here_or_there k n xs ys here there = ⊎_elim here there (cases_eq k n)
-
-pub not_equal : (a b : ℕ) → (b ≡ a → ⊥) → eqb a b ≡ false
-not_equal a b e = grind (arith, nat_tests)
-
 pub within_others : (buffer : List ℕ) (m n : Buckets) (hash : ℕ) → AreWithin buffer m →
     All (λ d. IsWithin d.lits buffer) (clauses_at n hash) → ((k : ℕ) → (k ≡ hash → ⊥) → clauses_at n k ≡ clauses_at m k) →
     AreWithin buffer n
@@ -57,23 +51,13 @@ within_others buffer m n hash all here others k =
     (λ ne. rw (others k ne) (all k)) (cases_eq k hash)
 
 -- a copy more is counted
-one_more : (n : ℕ) → eqb (n + 1) 0 ≡ false
-one_more n = grind (arith, nat_tests)
-
 gone_raised : (r b : Bool) (e : Stored) → is_gone e ≡ false → is_gone (cond b (cond r (record e { redundant = e.redundant + 1 }) (record e { irredundant = e.irredundant + 1 })) e) ≡ false
-gone_raised r false e h = h
-gone_raised true true e h = cc (one_more e.redundant, none (eqb e.irredundant 0))
-  where
-    none : (b : Bool) → (b && false) ≡ false
-    none true = refl
-    none false = refl
-gone_raised false true e h = cc (one_more e.irredundant)
+gone_raised r b e h = grind (arith, nat_tests)
 
 whole-raise : (r : Bool) (c : List ℕ) (es : List Stored) → list_all is_whole es ≡ true → list_all is_whole (map (raise r c) es) ≡ true
 whole-raise r c [] h = refl
 whole-raise r c (e ∷ es) h =
-    let p = and_parts (is_whole e) (list_all is_whole es) h in let q = and_parts (not (is_short e.lits)) (not (is_gone e)) p.0 in
-    and_from _ _ (and_from _ _ (ap (λ ls. not (is_short ls)) (raise-lits r c e) ∙ q.0) (ap not (gone_raised r (same_list e.lits c) e (not-true (is_gone e) q.1)))) (whole-raise r c es p.1)
+    grind (arith, raise-lits r c e, gone_raised r (same_list e.lits c) e, whole-raise r c es)
 
 pub files-raised : (h : ClauseHasher) (cs : Clauses) (es : List Stored) (m : Buckets) (r : Bool) (c : List ℕ) → IsIndexed h cs es →
     IsRaised cs.literal_buffer.items (hash_of h c) r c cs.buckets m → IsIndexed h (record cs { buckets = m }) (map (raise r c) es)
@@ -81,11 +65,7 @@ files-raised h cs es m r c f p = record {
   some_bits = f.some_bits;
   bits = f.bits;
   within = within_others cs.literal_buffer.items cs.buckets m (hash_of h c) f.within p.within p.others;
-  bucketed = λ k.
-      let serve = (buckets_serve (hash_of h) es).raised k r c in
-      here_or_there k (hash_of h c) _ _
-      (λ e. cc (e, p.here, f.bucketed (hash_of h c), eq-eqb (hash_of h c) k (sym e), serve))
-      (λ ne. cc (p.others k ne, f.bucketed k, not_equal (hash_of h c) k ne, serve));
+  bucketed = λ k. grind (arith, nat_tests, p.here, p.others k, f.bucketed k, (buckets_serve (hash_of h) es).raised k r c);
   rise = cc (rise_map (raise r c) (raise_id r c) 0 es cs.next_clause_id);
   apart = cc (apart_map (raise r c) (raise-lits r c) es);
   whole = whole-raise r c es f.whole;
@@ -95,12 +75,7 @@ files-raised h cs es m r c f p = record {
 -- a clause more is stored
 whole-push : (es : List Stored) (r : Bool) (c : List ℕ) (id : ℕ) → list_all is_whole es ≡ true → is_short c ≡ false → list_all is_whole (es ++ new_stored r c id ∷ []) ≡ true
 whole-push es r c id all long =
-    cc (
-      list_all-append is_whole es (new_stored r c id ∷ []),
-      elim r as (λ r.
-          ((not (is_short c) && not (eqb (cond r 0 1) 0 && eqb (cond r 1 0) 0)) && true) ≡ true)
-          [ true ↦ ap (λ b. (not b && true) && true) long | false ↦ ap (λ b. (not b && true) && true) long ],
-    )
+    grind (arith, list_all-append is_whole es (new_stored r c id ∷ []))
 
 pub files-pushed : (h : ClauseHasher) (cs cs' : Clauses) (es : List Stored) (r : Bool) (c : List ℕ) → IsIndexed h cs es →
     IsPushed (hash_of h c) (new_stored r c cs.next_clause_id) cs cs' → is_stored c es ≡ false → is_short c ≡ false →
@@ -110,10 +85,7 @@ files-pushed h cs cs' es r c f p new long = let e = new_stored r c cs.next_claus
   bits = f.bits;
   within = p.within;
   bucketed = λ k.
-      let serve = (buckets_serve (hash_of h) es).push k e in
-      here_or_there k (hash_of h c) _ _
-      (λ q. cc (q, p.here, f.bucketed (hash_of h c), eq-eqb (hash_of h c) k (sym q), serve))
-      (λ ne. cc (p.others k ne, f.bucketed k, append-nil (of_hash (hash_of h) k es), not_equal (hash_of h c) k ne, serve));
+      grind (arith, nat_tests, p.here, p.others k, f.bucketed k, append-nil, (buckets_serve (hash_of h) es).push k e);
   rise = subst (λ n. ids_rise 0 (es ++ e ∷ []) n ≡ true) (cc) (rise_push 0 es r c cs.next_clause_id f.rise);
   apart = apart_push es e f.apart new;
   whole = whole-push es r c cs.next_clause_id f.whole long;
@@ -131,13 +103,7 @@ is_store-pushed h cs cs' r c s p new long =
 -- nothing is changed
 pub files-same : (h : ClauseHasher) (cs : Clauses) (es : List Stored) (m : Buckets) → IsIndexed h cs es →
     ((k : ℕ) → clauses_at m k ≡ clauses_at cs.buckets k) → IsIndexed h (record cs { buckets = m }) es
-files-same h cs es m f same = record {
-  some_bits = f.some_bits;
-  bits = f.bits;
-  within = λ k. rw (same k) (f.within k);
-  bucketed = λ k. cc (same k, f.bucketed k);
-  rise = f.rise;
-  apart = f.apart;
-  whole = f.whole;
-  used = f.used;
-}
+files-same h cs es m f same =
+    let within : AreWithin cs.literal_buffer.items m = λ k. rw (same k) (f.within k) in
+    let bucketed : (k : ℕ) → stored_in cs.literal_buffer.items m k ≡ of_hash (hash_of h) k es = λ k. cc (same k, f.bucketed k) in
+    assumption

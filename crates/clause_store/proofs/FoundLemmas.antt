@@ -1,17 +1,23 @@
 -- A clause at its place in a list of stored ones.
-use Rattle.std.proofs.Common.{◌≡◌, ℕ, zero, suc, ◌<◌, Bool, true, false, cond, not, ◌||◌, List, [], ◌∷◌}
-use Rattle.std.proofs.Common.{◌++◌, length, get_or, take, drop, set, map, None, refl, subst, arith}
-use Rattle.std.proofs.lemmas.Bool.{and_parts, not-true, or_parts}
+use Rattle.std.proofs.Common.{◌≡◌, ℕ, List, [], ◌∷◌, refl, zero, suc, ◌<◌, Bool, true, false, cond, not, ◌++◌, length, get_or, take, drop, set, map, None, arith}
+use Rattle.std.specs.Str.{bytes_eq}
+use Rattle.std.proofs.lemmas.Bool.{and_parts, or_parts}
 use Rattle.std.specs.List.{list_all}
-use Rattle.checker_rules.specs.Buckets.{remaining}
 use Rattle.checker_rules.specs.Canonical.{same_list}
-use Rattle.checker_rules.specs.DeleteClause.{is_short}
+use Rattle.checker_rules.specs.Buckets.{remaining}
 use Rattle.checker_rules.specs.State.{Stored}
 use Rattle.checker_rules.specs.Store.{count_of, id_among, is_gone, is_stored, lower, raise}
 use Rattle.checker_rules.specs.WellFormed.{are_apart}
 use Rattle.checker_rules.proofs.Sets.{same_list-eq}
 use Rattle.clause_store.specs.Found.{found_in}
 use Rattle.clause_store.specs.Store.{is_whole}
+
+-- `==` on slices
+pub same_list-bytes_eq : (xs ys : List ℕ) → bytes_eq xs ys ≡ same_list xs ys
+same_list-bytes_eq [] [] = refl
+same_list-bytes_eq [] (y ∷ ys) = refl
+same_list-bytes_eq (x ∷ xs) [] = refl
+same_list-bytes_eq (x ∷ xs) (y ∷ ys) = cc (same_list-bytes_eq xs ys)
 
 raise-other : (r : Bool) (c : List ℕ) (e : Stored) → same_list e.lits c ≡ false → raise r c e ≡ e
 raise-other r c e n = cc
@@ -31,21 +37,13 @@ module _ (c : List ℕ) where
     pub is_stored-at : (es : List Stored) (i : ℕ) → i < length es → e ≡ get_or es i e → is_stored c es ≡ true
     is_stored-at [] i w h = absurd (omega arith)
     is_stored-at (x ∷ es) zero w h = cc
-    is_stored-at (x ∷ es) (suc i) w h = let k = is_stored-at es i (omega arith) h in
-        elim (same_list x.lits c) as (λ b. (b || is_stored c es) ≡ true) [ true ↦ refl | false ↦ k ]
+    is_stored-at (x ∷ es) (suc i) w h = grind (arith, is_stored-at es i (omega (arith, w)) h)
 
     -- of clauses that are apart none stands before it
     pub before-at : (es : List Stored) (i : ℕ) → i < length es → e ≡ get_or es i e → are_apart es ≡ true → (k : ℕ) → k < i → same_list (get_or es k e).lits c ≡ false
     before-at [] i w h a k l = absurd (omega arith)
     before-at (x ∷ es) zero w h a k l = absurd (omega arith)
-    before-at (x ∷ es) (suc i) w h a zero l = by (same_list x.lits c) refl
-      where
-        once : is_stored x.lits es ≡ false
-        once = not-true _ (and_parts (not (is_stored x.lits es)) (are_apart es) a).0
-
-        by : (b : Bool) → same_list x.lits c ≡ b → b ≡ false
-        by true q = let later = is_stored-at es i (omega (arith, w)) h in cc (same_list-eq x.lits c q, once, later)
-        by false q = refl
+    before-at (x ∷ es) (suc i) w h a zero l = grind (arith, is_stored-at es i (omega (arith, w)) h, same_list-eq x.lits c)
     before-at (x ∷ es) (suc i) w h a (suc k) l =
         before-at es i (omega (arith, w)) h (and_parts (not (is_stored x.lits es)) (are_apart es) a).1 k (omega (arith, l))
 
@@ -73,9 +71,7 @@ module _ (c : List ℕ) (f : Stored → Stored) (other : (e : Stored) → same_l
       ((k : ℕ) → k < i → same_list (get_or es k e).lits c ≡ false) → are_apart es ≡ true → map f es ≡ set es i (f e)
   change-at e same [] i w h before a = absurd (omega arith)
   change-at e same (x ∷ es) zero w h before a =
-      let once : is_stored x.lits es ≡ false = not-true _ (and_parts (not (is_stored x.lits es)) (are_apart es) a).0 in
-      let none : is_stored c es ≡ false = subst (λ d. is_stored d es ≡ false) (cc (same_list-eq e.lits c same)) once in
-      cc (change-absent es none)
+      grind (arith, same_list-eq e.lits c same, change-absent es)
   change-at e same (x ∷ es) (suc i) w h before a =
       cc (other x (before 0 (omega arith)), change-at e same es i (omega (arith, w)) h (λ k l. before (suc k) (omega (arith, l))) (and_parts (not (is_stored x.lits es)) (are_apart es) a).1)
 
@@ -101,20 +97,14 @@ lower-at c e same r = change-at c _ (lower-other r c) e same
 -- the entries that are left
 pub remaining-whole : (es : List Stored) → list_all is_whole es ≡ true → remaining es ≡ es
 remaining-whole [] h = refl
-remaining-whole (e ∷ es) h =
-    let p = and_parts _ _ h in
-    cc ((and_parts (not (is_short e.lits)) (not (is_gone e)) p.0).1, remaining-whole es p.1)
+remaining-whole (e ∷ es) h = grind (arith, remaining-whole es)
 
 pub remaining-set : (x : Stored) (es : List Stored) (i : ℕ) → is_gone x ≡ false → list_all is_whole es ≡ true → remaining (set es i x) ≡ set es i x
 remaining-set x [] i g h = refl
 remaining-set x (e ∷ es) zero g h = cc (remaining-whole es (and_parts (is_whole e) (list_all is_whole es) h).1)
-remaining-set x (e ∷ es) (suc i) g h =
-    let p = and_parts _ _ h in
-    cc ((and_parts (not (is_short e.lits)) (not (is_gone e)) p.0).1, remaining-set x es i g p.1)
+remaining-set x (e ∷ es) (suc i) g h = grind (arith, remaining-set x es i g)
 
 pub remaining-gone : (x : Stored) (es : List Stored) (i : ℕ) → i < length es → is_gone x ≡ true → list_all is_whole es ≡ true → remaining (set es i x) ≡ take i es ++ drop (suc i) es
 remaining-gone x [] i w g h = absurd (omega arith)
 remaining-gone x (e ∷ es) zero w g h = cc (remaining-whole es (and_parts (is_whole e) (list_all is_whole es) h).1)
-remaining-gone x (e ∷ es) (suc i) w g h =
-    let p = and_parts _ _ h in
-    cc ((and_parts (not (is_short e.lits)) (not (is_gone e)) p.0).1, remaining-gone x es i (omega (arith, w)) g p.1)
+remaining-gone x (e ∷ es) (suc i) w g h = grind (arith, remaining-gone x es i (omega (arith, w)) g)

@@ -1,9 +1,8 @@
 -- Variables made known.
-use Rattle.std.proofs.Common.{◌≤◌, ◌≡◌, ℕ, zero, suc, ◌+◌, ◌-◌, ◌*◌, true, List, [], ◌∷◌, ◌++◌, length, map, replicate, Option, None, refl, sym, ap, ◌∙◌, subst, arith, length-append}
+use Rattle.std.proofs.Common.{◌≤◌, ◌≡◌, ℕ, zero, suc, ◌+◌, ◌-◌, ◌*◌, true, List, [], ◌∷◌, ◌++◌, length, map, replicate, Option, None, refl, sym, subst, arith, length-append}
 use Rattle.std.specs.List.{list_all}
 use Rattle.std.specs.Option.{option_map}
 use Rattle.std.proofs.lemmas.Grind.{common_steps}
-use Rattle.std.proofs.lemmas.Bool.{and_from, and_parts}
 use Rattle.std.proofs.lemmas.List.{append-nil, length-map, length-replicate, map-append}
 use Rattle.checker_rules.specs.KnownVars.{new_known}
 use Rattle.checker_rules.specs.State.{Known}
@@ -12,10 +11,10 @@ use Rattle.clause_store.specs.declared.clauses.units.UnitClause.{UnitClause}
 use Rattle.clause_store.specs.declared.hash.ClauseHasher.{ClauseHasher}
 use Rattle.clause_store.specs.Counts.{AreCounts}
 use Rattle.clause_store.specs.Growth.{KnowsVars}
-use Rattle.clause_store.specs.Store.{IsIndexed, IsStore, is_stored_unit}
+use Rattle.clause_store.specs.Store.{IsStore, is_stored_unit}
 use Rattle.clause_store.specs.View.{stored_list}
 use Rattle.clause_store.specs.StateOf.{stored_unit, stored_units}
-use Rattle.clause_store.proofs.HeldEdits.{counts-known}
+use Rattle.clause_store.proofs.HeldLemmas.{counts-known}
 
 map-free : (n : ℕ) → map (option_map stored_unit) (replicate n None) ≡ replicate n None
 map-free zero = refl
@@ -57,30 +56,19 @@ all-free (suc n) = all-free n
 
 all-more : (us : List (Option UnitClause)) (n : ℕ) → list_all is_stored_unit us ≡ true → list_all is_stored_unit (us ++ replicate n None) ≡ true
 all-more [] n h = all-free n
-all-more (u ∷ us) n h = let p = and_parts (is_stored_unit u) (list_all is_stored_unit us) h in and_from _ (list_all is_stored_unit (us ++ replicate n None)) p.0 (all-more us n p.1)
+all-more (u ∷ us) n h = grind (arith, all-more us n)
 
 in_order : (h : ClauseHasher) (cs : Clauses) (us : List (Option UnitClause)) (counts : List ℕ) → IsStore h cs →
     list_all is_stored_unit us ≡ true → AreCounts counts (length us) (stored_list cs) →
     IsStore h (record cs { unit_clauses = us; lit_counts = counts })
 in_order h cs us counts k all counted =
-    let filed : IsIndexed h (record cs { unit_clauses = us; lit_counts = counts }) (stored_list cs) = record {
-      some_bits = k.filed.some_bits;
-      bits = k.filed.bits;
-      within = k.filed.within;
-      bucketed = k.filed.bucketed;
-      rise = k.filed.rise;
-      apart = k.filed.apart;
-      whole = k.filed.whole;
-      used = k.filed.used;
-    } in
-    record { filed = filed; garbage = k.garbage; units = all; counts = counted }
+    assumption
 
 -- variables made known leave the store in order
 pub is_store-known : (count : ℕ) (h : ClauseHasher) (cs cs' : Clauses) (known known' : List Known) → KnowsVars count cs known cs' known' → IsStore h cs → IsStore h cs'
 is_store-known count h cs cs' known known' grown k =
     let all = subst (λ (us : List (Option UnitClause)). list_all is_stored_unit us ≡ true) (sym grown.units) (all-more cs.unit_clauses (count - length cs.unit_clauses) k.units) in
-    let long = ap length grown.units ∙ length-append cs.unit_clauses (replicate (count - length cs.unit_clauses) None) ∙ ap
-    (λ n. length cs.unit_clauses + n) (length-replicate (count - length cs.unit_clauses) None) in
+    let long : length cs'.unit_clauses ≡ length cs.unit_clauses + (count - length cs.unit_clauses) = rw grown.units (simp (length-append, length-replicate)) in
     subst (IsStore h) (sym grown.others) (in_order h cs cs'.unit_clauses cs'.lit_counts k all
     (counts-known cs.lit_counts cs'.lit_counts (length cs.unit_clauses) (length cs'.unit_clauses) count
     (stored_list cs) k.counts grown.counts long))

@@ -1,33 +1,24 @@
 -- Buckets that are looked up, and walked as long as that changes something.
-use Rattle.std.proofs.Common.{◌≡◌, ℕ, ◌+◌, ◌<◌, nat_eq, Bool, true, false, cond, List, drop, get_or, length, map, Option}
-use Rattle.std.proofs.Common.{None, Some, Result, Ok, Err, OnOk, OnErr, refl, sym, ◌∙◌, subst, arith}
-use Rattle.std.specs.HashMap.{get}
-use Rattle.std.proofs.lemmas.Bool.{eqb-true}
+use Rattle.std.proofs.Common.{◌≡◌, ℕ, ◌+◌, ◌<◌, nat_eq, Bool, true, false, cond, List, drop, get_or, length, map, Option, None, Some, Result, Ok, Err, OnOk, OnErr, sym}
+use Rattle.std.proofs.Common.{◌∙◌, arith, ⊎_elim}
+use Rattle.std.proofs.lemmas.Bool.{cases_Bool, eqb-true}
 use Rattle.std.proofs.lemmas.List.{drop_more}
 use Rattle.checker_rules.specs.Passes.{CheckAnswer, walk_buckets}
 use Rattle.clause_store.specs.declared.clauses.Clause.{Clause}
-use Rattle.clause_store.specs.declared.clauses.buckets.Bucket.{Bucket}
 use Rattle.clause_store.specs.declared.clauses.units.UnitClause.{UnitClause}
 use Rattle.clause_store.specs.declared.rup.Answer.{Answer}
 use Rattle.clause_store.specs.declared.rup.propagation.Propagation.{Propagation}
-use Rattle.clause_store.specs.Buckets.{Buckets, clauses_at, clauses_of}
+use Rattle.clause_store.specs.Buckets.{Buckets, clauses_at}
 use Rattle.clause_store.specs.Idle.{AreIdle, IsIdleRun, IsIdleSince, Lengthens, LengthensRun, idle_at}
 use Rattle.clause_store.specs.Rup.{Walks, WalksFirst, answer_or, check_answer, lits_at, lits_in, named_buckets, true_lits}
 use Rattle.clause_store.specs.Trace.{Lists, ids_after, named_clauses}
 use Rattle.clause_store.specs.View.{stored_in, stored_of}
 
--- the clauses of the bucket that was found
-pub clauses_at-found : (m : Buckets) (h : ℕ) (b : Bucket) → Some b ≡ get nat_eq m h → clauses_at m h ≡ clauses_of b
-clauses_at-found m h b found = cc
-
 -- one walk after another
 pub lengthens_then : {A : Type 0} (x y z : A) (n m k : ℕ) → Lengthens x n y m → Lengthens y m z k → Lengthens x n z k
 lengthens_then x y z n m k h g = record {
   no_shorter = omega arith;
-  still = λ e.
-      let p : k ≡ m = omega arith in
-      let q : m ≡ n = omega arith in
-      g.still p ∙ h.still q;
+  still = λ e. g.still (omega arith) ∙ h.still (omega arith);
 }
 
 pub lengthens_then_longer : {A : Type 0} (x y z : A) (n m k : ℕ) → Lengthens x n y m → k ≡ m + 1 → Lengthens x n z k
@@ -45,11 +36,7 @@ are_idle-walked us vs run now buffer b g same_idle f h n e =
     let since = f h n (cc) in
     record {
       no_later = omega arith;
-      idle = λ at.
-          let still : length now.trail.items ≡ length run.trail.items = omega arith in
-          subst (λ ids. IsIdleRun ids vs (stored_in buffer b h)) (sym (g.ids.still still))
-          (subst (λ ws. IsIdleRun run.trace.items ws (stored_in buffer b h)) (sym (g.units.still still))
-          (since.idle (cc)));
+      idle = λ at. let still : length now.trail.items ≡ length run.trail.items = omega arith in rw (g.ids.still still, g.units.still still) (since.idle (cc));
     }
 
 -- a bucket is idle after its walk, or the trail grew
@@ -60,28 +47,16 @@ pub is_idle_since-walked : (us vs : List (Option UnitClause)) (run now : Propaga
 is_idle_since-walked us vs run now cs buffer b h falsified found g none w l = record {
   no_later = g.units.no_shorter;
   idle = λ e.
-      let u : us ≡ vs = sym (g.units.still (sym e)) in
-      let i : run.trace.items ≡ now.trace.items = sym (g.ids.still (sym e)) in
-      rw found (record {
-        walk = subst (λ (ws : List (Option UnitClause)). Walks ws (lits_in buffer cs) vs false) u
-            (subst (λ (f : Bool). Walks us (lits_in buffer cs) vs f) none w);
-        listed = subst
-            (λ (ws : List (Option UnitClause)). Lists now.trace.items ws (map (stored_of buffer) cs) now.trace.items vs false) u
-            (subst (λ (ids : List ℕ). Lists ids us (map (stored_of buffer) cs) now.trace.items vs false) i
-            (subst (λ (f : Bool). Lists run.trace.items us (map (stored_of buffer) cs) now.trace.items vs f) none l));
-      });
+      let u = g.units.still (sym e) in let i = g.ids.still (sym e) in
+      rw (found, u, i) (record { walk = rw (u, none) at w; listed = rw (u, i, none) at l });
 }
 
 are_idle-added : (found more : ℕ → Option ℕ) (n now h : ℕ) (Idle : ℕ → Type 0) → ((k : ℕ) → more k ≡ cond (nat_eq h k) (Some n) (found k)) →
     IsIdleSince n now (Idle h) → AreIdle found now Idle → AreIdle more now Idle
-are_idle-added found more n now h Idle added here f k m e = by (nat_eq h k) refl
-  where
-    by : (b : Bool) → nat_eq h k ≡ b → IsIdleSince m now (Idle k)
-    by true s =
-        let same : h ≡ k = eqb-true h k s in
-        let at : n ≡ m = cc (added k, e, s) in
-        subst (λ i. IsIdleSince m now (Idle i)) same (rw (← at) here)
-    by false s = f k m (cc (added k, e, s))
+are_idle-added found more n now h Idle added here f k m e =
+    ⊎_elim
+    (λ (s : nat_eq h k ≡ true). let at : n ≡ m = cc (added k, e, s) in rw (← eqb-true h k s, ← at) here)
+    (λ (s : nat_eq h k ≡ false). f k m (cc (added k, e, s))) (cases_Bool (nat_eq h k))
 
 -- a bucket is noted, unless memory is refused
 pub are_idle-noted : {T E : Type 0} (r : Result T E) (found more : ℕ → Option ℕ) (n now h : ℕ) (Idle : ℕ → Type 0) →

@@ -1,14 +1,17 @@
--- Clauses moved to another buffer.
-use Rattle.std.proofs.Common.{◌≡◌, ℕ, ◌+◌, Bool, true, false, cond, nat_eq, List, [], ◌∷◌, ◌++◌, append-nil, append_assoc, length, take, drop, map, Some, All, refl, suc, sym, ap, ◌∙◌, subst, arith}
+-- Clauses whose buffer grows, and clauses moved to another buffer.
+use Rattle.std.proofs.Common.{◌≡◌, ℕ, suc, ◌+◌, ◌-◌, ◌≤◌, List, [], ◌∷◌, ◌++◌, length, take, drop, map, All, refl, sym, ap, ◌∙◌, subst, arith, ⊎_elim, Bool, true}
+use Rattle.std.proofs.Common.{false, cond, nat_eq, append-nil, append_assoc}
+use Rattle.std.proofs.lemmas.Bool.{cases_eq, cases_Bool}
+use Rattle.std.proofs.lemmas.List.{drop-take, map-append, take-take, drop-drop, length-append, length-drop, length-take, take-append-le, take_all}
+use Rattle.std.proofs.lemmas.List.Elements.{All-push, All-cons, All-head, All-nil, All-tail}
 use Rattle.std.specs.List.{FoldsTo, flat_map, sum_by}
 use Rattle.std.specs.List.Sorted.{IsPermutation}
 use Rattle.std.specs.Map.{lookup, values_of}
 use Rattle.std.specs.Map.Calls.{RetainsPairs, SomeCallAtPair}
-use Rattle.std.proofs.lemmas.List.{drop-append-le, drop-drop, length-append, length-drop, length-take, map-append, take-append-le, take_all}
 use Rattle.std.proofs.lemmas.List.Concat.{flat_map-append}
-use Rattle.std.proofs.lemmas.List.Elements.{All-cons, All-head, All-nil, All-tail}
 use Rattle.std.proofs.lemmas.List.Sorted.{sum_by-IsPermutation}
 use Rattle.std.proofs.lemmas.List.Sums.{sum_by-cons}
+use Rattle.std.proofs.Math.Seq.{drop-append_seam}
 use Rattle.checker_rules.specs.Buckets.{of_hash}
 use Rattle.checker_rules.specs.LiveLiterals.{live_literals, live_of}
 use Rattle.checker_rules.specs.State.{Stored}
@@ -16,10 +19,43 @@ use Rattle.clause_store.specs.declared.clauses.Clause.{Clause}
 use Rattle.clause_store.specs.declared.clauses.lits.ClauseLits.{ClauseLits}
 use Rattle.clause_store.specs.declared.clauses.lits.ClauseLits.TheVariants.{Two, Three, Long}
 use Rattle.clause_store.specs.declared.clauses.buckets.Bucket.{Bucket}
-use Rattle.clause_store.specs.Buckets.{Buckets, bucket_items, clauses_of}
-use Rattle.clause_store.specs.Lits.{IsWithin, buffer_used, in_buffer, lits_of, moved_to}
-use Rattle.clause_store.specs.Moved.{all_in_buffer, all_moved_to, all_used}
+use Rattle.clause_store.specs.Buckets.{AreWithin, Buckets, clauses_at, bucket_items, clauses_of}
+use Rattle.clause_store.specs.Lits.{IsWithin, lits_of, buffer_used, in_buffer, moved_to}
 use Rattle.clause_store.specs.View.{stored_in, stored_of}
+use Rattle.clause_store.specs.Moved.{all_in_buffer, all_moved_to, all_used}
+
+module _ (old new : List ℕ) (kept : take (length old) new ≡ old) where
+  -- the literals stay
+  lits_of-kept : (c : ClauseLits) → IsWithin c old → lits_of c new ≡ lits_of c old
+  lits_of-kept (Two ls) w = refl
+  lits_of-kept (Three ls) w = refl
+  lits_of-kept (Long start after_four) w =
+      let len = after_four + 4 in
+      let n : length old ≡ start + (length old - start) = omega (arith, w) in
+      let cut = ap (drop start) (cc) ∙ drop-take start (length old - start) new in
+      sym (ap (take len) cut ∙ take-take len (length old - start) (drop start new) (omega (arith, w)))
+
+  pub stored_of-kept : (cs : List Clause) → All (λ c. IsWithin c.lits old) cs → map (stored_of new) cs ≡ map (stored_of old) cs
+  stored_of-kept [] w = refl
+  stored_of-kept (c ∷ cs) w =
+      cc (lits_of-kept c.lits (w 0 c (omega arith)), stored_of-kept cs (λ k d l. w (suc k) d (omega (arith, l))))
+
+  -- one clause more in a bucket
+  module _ (m m' : Buckets) (hash : ℕ) (d : Clause) (within : AreWithin old m) (longer : length old ≤ length new) (here : IsWithin d.lits new)
+      (pushed : clauses_at m' hash ≡ clauses_at m hash ++ d ∷ []) (others : (k : ℕ) → (k ≡ hash → ⊥) → clauses_at m' k ≡ clauses_at m k) where
+    pub stored_in-pushed : stored_in new m' hash ≡ stored_in old m hash ++ stored_of new d ∷ []
+    stored_in-pushed = cc (map-append (stored_of new) (clauses_at m hash) (d ∷ []), stored_of-kept (clauses_at m hash) (within hash))
+
+    pub stored_in-others : (k : ℕ) → (k ≡ hash → ⊥) → stored_in new m' k ≡ stored_in old m k
+    stored_in-others k ne = cc (others k ne, stored_of-kept (clauses_at m k) (within k))
+
+    still_within : (k : ℕ) → All (λ c. IsWithin c.lits new) (clauses_at m k)
+    still_within k i c l = let w = within k i c l in omega arith
+
+    pub within-pushed : AreWithin new m'
+    within-pushed k = ⊎_elim
+        (λ e. rw e (subst (All (λ c. IsWithin c.lits new)) (sym pushed) (All-push (λ c. IsWithin c.lits new) (clauses_at m hash) d (still_within hash) here)))
+        (λ ne. rw (others k ne) (still_within k)) (cases_eq k hash)
 
 -- the live literals of two lists, and of the same in another order
 pub live_literals-append : (es fs : List Stored) → live_literals (es ++ fs) ≡ live_literals es + live_literals fs
@@ -57,87 +93,57 @@ all_moved_to-length at (c ∷ cs) = ap suc (all_moved_to-length (at + buffer_use
 
 pub all_moved_to-append : (at : ℕ) (cs ds : List Clause) → all_moved_to at (cs ++ ds) ≡ all_moved_to at cs ++ all_moved_to (at + all_used cs) ds
 all_moved_to-append at [] ds = ap (λ n. all_moved_to n ds) (omega arith)
-all_moved_to-append at (c ∷ cs) ds =
-    let end : at + buffer_used c.lits + all_used cs ≡ at + all_used (c ∷ cs) = omega arith in
-    ap (λ es. record c { lits = moved_to at c.lits } ∷ es)
-    (all_moved_to-append (at + buffer_used c.lits) cs ds ∙ ap (λ n. all_moved_to (at + buffer_used c.lits) cs ++ all_moved_to n ds) end)
+all_moved_to-append at (c ∷ cs) ds = grind (arith, all_moved_to-append (at + buffer_used c.lits) cs ds)
 
 module _ (buffer : List ℕ) where
   -- this many literals are copied
   in_buffer-length : (c : ClauseLits) → IsWithin c buffer → length (in_buffer buffer c) ≡ buffer_used c
-  in_buffer-length (Two ls) w = refl
-  in_buffer-length (Three ls) w = refl
-  in_buffer-length (Long start after_four) w =
-      let t = length-take (after_four + 4) (drop start buffer) in let d = length-drop start buffer in omega arith
+  in_buffer-length c w = grind (arith, length-take {A = ℕ}, length-drop {A = ℕ})
 
   pub all_used-is : (cs : List Clause) → All (λ c. IsWithin c.lits buffer) cs → length (all_in_buffer buffer cs) ≡ all_used cs
   all_used-is [] w = refl
   all_used-is (c ∷ cs) w =
       let P : Clause → Type 0 = λ d. IsWithin d.lits buffer in
-      let here = in_buffer-length c.lits (All-head P c cs w) in let rest = all_used-is cs (All-tail P c cs w) in
-      let both = length-append (in_buffer buffer c.lits) (all_in_buffer buffer cs) in omega arith
+      simp length-append (omega (arith, in_buffer-length c.lits (All-head P c cs w), all_used-is cs (All-tail P c cs w)))
 
-  -- a clause has its literals where they were put
-  module _ (new rest : List ℕ) (at : ℕ) where
-    moved-lits : (c : ClauseLits) → IsWithin c buffer → drop at new ≡ in_buffer buffer c ++ rest → lits_of (moved_to at c) new ≡ lits_of c buffer
-    moved-lits (Two ls) w is = refl
-    moved-lits (Three ls) w is = refl
-    moved-lits (Long start after_four) w is =
-        let n = after_four + 4 in let xs = take n (drop start buffer) in
-        let all : length xs ≡ n = in_buffer-length (Long start after_four) w in
-        ap (take n) is ∙ take-append-le n xs rest (omega arith) ∙ take_all n xs (omega arith)
+-- a clause has its literals where they were put, and the rest follows
+record IsMoved (buffer new rest : List ℕ) (at : ℕ) (c : ClauseLits) : Type 0 where
+  lits : lits_of (moved_to at c) new ≡ lits_of c buffer
+  within : IsWithin (moved_to at c) new
+  next : drop (at + buffer_used c) new ≡ rest
 
-    moved-within : (c : ClauseLits) → IsWithin c buffer → drop at new ≡ in_buffer buffer c ++ rest → IsWithin (moved_to at c) new
-    moved-within (Two ls) w is = omega arith
-    moved-within (Three ls) w is = omega arith
-    moved-within (Long start after_four) w is =
-        let xs = take (after_four + 4) (drop start buffer) in
-        let all : length xs ≡ after_four + 4 = in_buffer-length (Long start after_four) w in
-        let d = length-drop at new in let e = ap length is in let both = length-append xs rest in
-        omega arith
+is_moved : (buffer new rest : List ℕ) (at : ℕ) (c : ClauseLits) → IsWithin c buffer → drop at new ≡ in_buffer buffer c ++ rest → IsMoved buffer new rest at c
+is_moved buffer new rest at (Two ls) w is = record { lits = refl; within = omega arith; next = grind arith }
+is_moved buffer new rest at (Three ls) w is = record { lits = refl; within = omega arith; next = grind arith }
+is_moved buffer new rest at (Long start after_four) w is =
+    let n = after_four + 4 in let xs = take n (drop start buffer) in
+    let all : length xs ≡ n = in_buffer-length buffer (Long start after_four) w in
+    record {
+      lits = ap (take n) is ∙ take-append-le n xs rest (omega arith) ∙ take_all n xs (omega arith);
+      within = let d = length-drop at new in let e = ap length is in let both = length-append xs rest in omega arith;
+      next = cc (drop-drop n at new, drop-append_seam xs rest);
+    }
 
-    moved-next : (c : ClauseLits) → IsWithin c buffer → drop at new ≡ in_buffer buffer c ++ rest → drop (at + buffer_used c) new ≡ rest
-    moved-next c w is =
-        let xs = in_buffer buffer c in let all = in_buffer-length c w in
-        sym (drop-drop (buffer_used c) at new) ∙ ap (drop (buffer_used c)) is ∙ ap (λ n. drop n (xs ++ rest)) (sym all) ∙ drop-append-le (length xs) xs rest (omega arith) ∙ ap (λ ys. ys ++ rest) (drop_length xs)
-      where
-        drop_length : (xs : List ℕ) → drop (length xs) xs ≡ []
-        drop_length [] = refl
-        drop_length (x ∷ xs) = drop_length xs
+-- and so have all
+record AreMoved (buffer new rest : List ℕ) (at : ℕ) (cs : List Clause) : Type 0 where
+  same : map (stored_of new) (all_moved_to at cs) ≡ map (stored_of buffer) cs
+  within : All (λ c. IsWithin c.lits new) (all_moved_to at cs)
+  next : drop (at + all_used cs) new ≡ rest
 
-  -- and so have all
-  module _ (new : List ℕ) where
-    pub all_moved-same : (at : ℕ) (cs : List Clause) (rest : List ℕ) → All (λ c. IsWithin c.lits buffer) cs → drop at new ≡ all_in_buffer buffer cs ++ rest →
-        map (stored_of new) (all_moved_to at cs) ≡ map (stored_of buffer) cs
-    all_moved-same at [] rest w is = refl
-    all_moved-same at (c ∷ cs) rest w is =
-        let P : Clause → Type 0 = λ d. IsWithin d.lits buffer in
-        let here = All-head P c cs w in
-        let split : drop at new ≡ in_buffer buffer c.lits ++ (all_in_buffer buffer cs ++ rest) = is ∙ append_assoc (in_buffer buffer c.lits) (all_in_buffer buffer cs) rest in
-        cc (
-          moved-lits new (all_in_buffer buffer cs ++ rest) at c.lits here split,
-          all_moved-same (at + buffer_used c.lits) cs rest (All-tail P c cs w) (moved-next new (all_in_buffer buffer cs ++ rest) at c.lits here split),
-        )
-
-    pub all_moved-within : (at : ℕ) (cs : List Clause) (rest : List ℕ) → All (λ c. IsWithin c.lits buffer) cs → drop at new ≡ all_in_buffer buffer cs ++ rest →
-        All (λ c. IsWithin c.lits new) (all_moved_to at cs)
-    all_moved-within at [] rest w is = All-nil (λ c. IsWithin c.lits new)
-    all_moved-within at (c ∷ cs) rest w is =
-        let P : Clause → Type 0 = λ d. IsWithin d.lits buffer in
-        let here = All-head P c cs w in
-        let split : drop at new ≡ in_buffer buffer c.lits ++ (all_in_buffer buffer cs ++ rest) = is ∙ append_assoc (in_buffer buffer c.lits) (all_in_buffer buffer cs) rest in
-        All-cons (λ d. IsWithin d.lits new) _ _ (moved-within new (all_in_buffer buffer cs ++ rest) at c.lits here split)
-        (all_moved-within (at + buffer_used c.lits) cs rest (All-tail P c cs w) (moved-next new (all_in_buffer buffer cs ++ rest) at c.lits here split))
-
-    pub all_moved-next : (at : ℕ) (cs : List Clause) (rest : List ℕ) → All (λ c. IsWithin c.lits buffer) cs → drop at new ≡ all_in_buffer buffer cs ++ rest →
-        drop (at + all_used cs) new ≡ rest
-    all_moved-next at [] rest w is = ap (λ n. drop n new) (omega arith) ∙ is
-    all_moved-next at (c ∷ cs) rest w is =
-        let P : Clause → Type 0 = λ d. IsWithin d.lits buffer in
-        let split : drop at new ≡ in_buffer buffer c.lits ++ (all_in_buffer buffer cs ++ rest) = is ∙ append_assoc (in_buffer buffer c.lits) (all_in_buffer buffer cs) rest in
-        let end : at + all_used (c ∷ cs) ≡ at + buffer_used c.lits + all_used cs = omega arith in
-        ap (λ n. drop n new) end
-        ∙ all_moved-next (at + buffer_used c.lits) cs rest (All-tail P c cs w) (moved-next new (all_in_buffer buffer cs ++ rest) at c.lits (All-head P c cs w) split)
+are_moved : (buffer new rest : List ℕ) (at : ℕ) (cs : List Clause) → All (λ c. IsWithin c.lits buffer) cs → drop at new ≡ all_in_buffer buffer cs ++ rest →
+    AreMoved buffer new rest at cs
+are_moved buffer new rest at [] w is = record { same = refl; within = All-nil (λ c. IsWithin c.lits new); next = grind arith }
+are_moved buffer new rest at (c ∷ cs) w is =
+    let P : Clause → Type 0 = λ d. IsWithin d.lits buffer in
+    let split : drop at new ≡ in_buffer buffer c.lits ++ (all_in_buffer buffer cs ++ rest) = is ∙ append_assoc (in_buffer buffer c.lits) (all_in_buffer buffer cs) rest in
+    let here = is_moved buffer new (all_in_buffer buffer cs ++ rest) at c.lits (All-head P c cs w) split in
+    let later = are_moved buffer new rest (at + buffer_used c.lits) cs (All-tail P c cs w) here.next in
+    let end : at + all_used (c ∷ cs) ≡ at + buffer_used c.lits + all_used cs = omega arith in
+    record {
+      same = cc (here.lits, later.same);
+      within = All-cons (λ d. IsWithin d.lits new) _ _ here.within later.within;
+      next = ap (λ n. drop n new) end ∙ later.next;
+    }
 
 -- the buckets in turn, where each call moves one
 module _ {F : Type 0} (T : F → ℕ → Bucket → Bool → Bucket → F → Type 0) (at : F → ℕ)
@@ -164,20 +170,13 @@ module _ {F : Type 0} (T : F → ℕ → Bucket → Bool → Bucket → F → Ty
         let s = step f e.0 e.1 b w f' t in let cs = clauses_of e.1 in
         let here = All-first P cs (clauses_in es) within in
         let split : drop (at f) new ≡ all_in_buffer buffer cs ++ all_in_buffer buffer (clauses_in es) = is ∙ flat_map-append (λ (c : Clause). in_buffer buffer c.lits) cs (clauses_in es) in
-        let next : drop (at f') new ≡ all_in_buffer buffer (clauses_in es) =
-        ap (λ n. drop n new) s.2 ∙ all_moved-next buffer new (at f) cs (all_in_buffer buffer (clauses_in es)) here split in
+        let moved = are_moved buffer new (all_in_buffer buffer (clauses_in es)) (at f) cs here split in
+        let next : drop (at f') new ≡ all_in_buffer buffer (clauses_in es) = ap (λ n. drop n new) s.2 ∙ moved.next in
         let later = retained es rest f' r (All-second P cs (clauses_in es) within) next k in
         let entries : kept ≡ (e.0, w) ∷ rest = is_kept ∙ ap (λ x. cond x ((e.0, w) ∷ rest) rest) s.0 in
-        subst (λ ks. Same ks (e ∷ es) k) (sym entries)
-        (elim (nat_eq k e.0) as (λ x.
-        (map (stored_of new) (bucket_items (cond x (Some w) (lookup (nat_eq k) rest))) ≡ map (stored_of buffer) (bucket_items (cond x (Some e.1) (lookup (nat_eq k) es))))
-        × All (λ c. IsWithin c.lits new) (bucket_items (cond x (Some w) (lookup (nat_eq k) rest)))) [
-          | true ↦ (
-            ap (map (stored_of new)) s.1 ∙ all_moved-same buffer new (at f) cs (all_in_buffer buffer (clauses_in es)) here split,
-            subst (All (λ c. IsWithin c.lits new)) (sym s.1) (all_moved-within buffer new (at f) cs (all_in_buffer buffer (clauses_in es)) here split),
-          )
-          | false ↦ later
-        ])
+        ⊎_elim
+        (λ (h : nat_eq k e.0 ≡ true). rw (entries, h, s.1) (moved.same, moved.within))
+        (λ (h : nat_eq k e.0 ≡ false). rw (entries, h) later) (cases_Bool (nat_eq k e.0))
 
 -- one clause more is copied
 module _ (buffer old : List ℕ) where
@@ -185,8 +184,7 @@ module _ (buffer old : List ℕ) where
       now ++ in_buffer buffer d.lits ≡ old ++ all_in_buffer buffer (cs ++ d ∷ [])
   copied-more now cs d is =
       let f : Clause → List ℕ = λ c. in_buffer buffer c.lits in
-      ap (λ xs. xs ++ f d) is ∙ append_assoc old (flat_map f cs) (f d)
-      ∙ ap (λ xs. old ++ xs) (ap (λ xs. flat_map f cs ++ xs) (sym (append-nil (f d))) ∙ sym (flat_map-append f cs (d ∷ [])))
+      cc (append_assoc old (flat_map f cs) (f d), append-nil (f d), flat_map-append f cs (d ∷ []))
 
 pub live-more : (buffer : List ℕ) (now base : ℕ) (cs : List Clause) (d : Clause) → now ≡ base + live_literals (map (stored_of buffer) cs) →
     now + live_of (lits_of d.lits buffer) ≡ base + live_literals (map (stored_of buffer) (cs ++ d ∷ []))

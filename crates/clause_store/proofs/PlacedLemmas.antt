@@ -1,10 +1,8 @@
 -- A clause that was found in its place: what one copy more or less makes of the stored clauses.
-use Rattle.std.proofs.Common.{◌≡◌, ℕ, suc, ◌+◌, ◌<◌, Bool, true, false, List, [], ◌∷◌, ◌++◌, length, get_or, take, drop, set, map, Option, Some, None, All, ap, ◌∙◌}
+use Rattle.std.proofs.Common.{◌≡◌, ℕ, suc, ◌+◌, ◌<◌, Bool, true, false, List, [], ◌∷◌, ◌++◌, length, get_or, take, drop, set, map, Option, Some, None, All, arith}
 use Rattle.std.specs.List.{list_all}
-use Rattle.std.proofs.lemmas.Bool.{or_parts}
 use Rattle.std.proofs.lemmas.List.{map-append}
 use Rattle.std.proofs.lemmas.List.Elements.{All-append, All-drop, All-set, All-take}
-use Rattle.checker_rules.specs.Canonical.{same_list}
 use Rattle.checker_rules.specs.State.{Stored}
 use Rattle.checker_rules.specs.Store.{count_of, is_gone, is_stored, raise}
 use Rattle.checker_rules.specs.WellFormed.{are_apart}
@@ -20,12 +18,10 @@ use Rattle.clause_store.proofs.BucketLemmas.{count_of-place, found_in-place, is_
 use Rattle.clause_store.proofs.CrowdLemmas.{rank, standing-left, standing-more, standing-set, stands-at, stands-within}
 
 pub raised-within : (b : List ℕ) (r : Bool) (d : Clause) → IsWithin d.lits b → IsWithin (raised r d).lits b
-raised-within b true d h = h
-raised-within b false d h = h
+raised-within b r d h = grind arith
 
 pub lowered-within : (b : List ℕ) (r : Bool) (d : Clause) → IsWithin d.lits b → IsWithin (lowered r d).lits b
-lowered-within b true d h = h
-lowered-within b false d h = h
+lowered-within b r d h = grind arith
 
 module _ (buffer ls : List ℕ) (ps : List (Option Clause)) (i : ℕ) (d : Clause) (p : IsPlaced buffer ls ps i d)
     (a : are_apart (map (stored_of buffer) (standing ps)) ≡ true) where
@@ -76,12 +72,12 @@ pub absent-more : (buffer ls : List ℕ) (ps : List (Option Clause)) (i : ℕ) (
     is_stored ls (map (stored_of buffer) (standing (p ∷ []))) ≡ false → is_stored ls (map (stored_of buffer) (standing (take i ps))) ≡ false →
     is_stored ls (map (stored_of buffer) (standing (take (i + 1) ps))) ≡ false
 absent-more buffer ls ps i p less here none before =
-    ap (λ cs. is_stored ls (map (stored_of buffer) cs)) (standing-more ps i p less here) ∙ ap (is_stored ls) (map-append (stored_of buffer) (standing (take i ps)) (standing (p ∷ [])))
-    ∙ both (map (stored_of buffer) (standing (take i ps))) (map (stored_of buffer) (standing (p ∷ []))) before none
+    rw (standing-more ps i p less here, map-append (stored_of buffer) (standing (take i ps)) (standing (p ∷ [])))
+    (both (map (stored_of buffer) (standing (take i ps))) _ before none)
   where
     both : (es fs : List Stored) → is_stored ls es ≡ false → is_stored ls fs ≡ false → is_stored ls (es ++ fs) ≡ false
     both [] fs h k = k
-    both (e ∷ es) fs h k = let q = or_parts (same_list e.lits ls) (is_stored ls es) h in cc (q.0, both es fs q.1 k)
+    both (e ∷ es) fs h k = grind (arith, both es fs)
 
 pub absent-one : (buffer ls : List ℕ) (d : Clause) → is_of buffer ls d ≡ false → is_stored ls (map (stored_of buffer) (standing (Some d ∷ []))) ≡ false
 absent-one buffer ls d none = cc (none)

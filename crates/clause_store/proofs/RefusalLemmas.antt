@@ -8,7 +8,7 @@ use Rattle.checker_rules.specs.Steps.{step}
 use Rattle.checker_rules.specs.WellFormed.{WellFormed}
 use Rattle.checker_parts.specs.Faults.{AnswersOutcome, UnlessStopped}
 use Rattle.checker_parts.specs.declared.error.StepFault.{StepFault}
-use Rattle.checker_parts.specs.declared.error.StepFault.TheVariants.{Refused, Processor, OutOfMemory}
+use Rattle.checker_parts.specs.declared.error.StepFault.TheVariants.{Refused, OutOfMemory}
 use Rattle.clause_store.specs.declared.clauses.Clauses.{Clauses}
 use Rattle.clause_store.specs.declared.hash.ClauseHasher.{ClauseHasher}
 use Rattle.clause_store.specs.declared.state.CheckerState.{CheckerState}
@@ -26,34 +26,26 @@ pub answers-unless-memory : (r : Result (Unit {0}) StepFault) (o : Outcome) (s :
     OnOk r ((o.refused ≡ None) × (s ≡ o.after)) → OnErr r (r ≡ Err OutOfMemory) → AnswersOutcome r o s
 answers-unless-memory (Ok done) o s h e = h
 answers-unless-memory (Err (Refused cause)) o s h e = absurd cc
-answers-unless-memory (Err Processor) o s h e = tt
-answers-unless-memory (Err OutOfMemory) o s h e = tt
-
-refused-again : (cause : Cause) (o p : Outcome) (s : State) → ((cause : Cause) → o.refused ≡ Some cause → p ≡ refuse cause o.after) →
-    (o.refused ≡ Some cause) × (s ≡ o.after) → (p.refused ≡ Some cause) × (s ≡ p.after)
-refused-again cause o p s f h = let e = f cause h.0 in (cc, cc)
+answers-unless-memory (Err other) o s h e = tt
 
 -- the refusal of a part is that of the whole
 pub answers-part : (e : StepFault) (o p : Outcome) (s : State) → ((cause : Cause) → o.refused ≡ Some cause → p ≡ refuse cause o.after) →
     AnswersOutcome {A = Unit {0}} (Err e) o s → AnswersOutcome {A = Unit {0}} (Err e) p s
-answers-part (Refused cause) o p s f h = refused-again _ o p s f h
-answers-part Processor o p s f h = tt
-answers-part OutOfMemory o p s f h = tt
+answers-part (Refused cause) o p s f h = let e = f _ h.0 in (cc (e), cc (e))
+answers-part other o p s f h = tt
 
 -- the form of the outcome, whatever the answer
 pub form-answer : {A : Type 0} (r : Result A StepFault) (o : Outcome) (s : State) → WellFormed o.after → AnswersOutcome r o s →
     UnlessStopped r (WellFormed s)
 form-answer (Ok done) o s k h = rw h.1 k
 form-answer (Err (Refused cause)) o s k h = rw h.1 k
-form-answer (Err Processor) o s k h = tt
-form-answer (Err OutOfMemory) o s k h = tt
+form-answer (Err other) o s k h = tt
 
 -- two facts at once
 pub unless-both : {A : Type 0} {P Q R : Type 0} (r : Result A StepFault) → (P → Q → R) → UnlessStopped r P → UnlessStopped r Q → UnlessStopped r R
 unless-both (Ok done) f p q = f p q
 unless-both (Err (Refused cause)) f p q = f p q
-unless-both (Err Processor) f p q = tt
-unless-both (Err OutOfMemory) f p q = tt
+unless-both (Err other) f p q = tt
 
 -- what the parts keep, from the answer of a step
 pub kept-answer : {A : Type 0} (r : Result A StepFault) (st st' : CheckerState) (h h' : ClauseHasher) (cs cs' : Clauses) (known known' : List Known) (t : Step) →

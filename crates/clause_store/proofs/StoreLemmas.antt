@@ -1,10 +1,8 @@
 -- The stored clauses through changes of their buckets.
-use Rattle.std.proofs.Common.{◌≡◌, ℕ, zero, suc, ◌<◌, ◌≤◌, Bool, true, false, eqb, leb, List, [], ◌∷◌, length, set, Option, Some, None, subst, arith}
+use Rattle.std.proofs.Common.{◌≡◌, ℕ, zero, suc, ◌<◌, ◌≤◌, Bool, true, false, eqb, List, [], ◌∷◌, length, set, Option, Some, subst, arith}
 use Rattle.std.specs.List.{list_all}
 use Rattle.std.specs.Option.{option_map}
 use Rattle.std.proofs.lemmas.List.{map-set}
-use Rattle.std.proofs.Math.ListN.{get_or-map}
-use Rattle.std.proofs.lemmas.Bool.{and_from, and_parts}
 use Rattle.checker_rules.specs.DeleteClause.{is_short}
 use Rattle.checker_rules.specs.State.{Stored, unit_of}
 use Rattle.checker_rules.specs.Store.{count_limit, count_of}
@@ -23,6 +21,7 @@ use Rattle.clause_store.specs.View.{stored_at, stored_list}
 use Rattle.clause_store.proofs.AnswerLemmas.{is_stored-short}
 use Rattle.clause_store.proofs.BucketLemmas.{count_limit-some}
 use Rattle.clause_store.proofs.FoundLemmas.{count_of-absent}
+use Rattle.clause_store.proofs.UnitsLemmas.{unit_of-stored_units}
 
 module _ (h : ClauseHasher) (cs : Clauses) (es : List Stored) (f : IsIndexed h cs es) where
   -- a bucket answers for all
@@ -43,23 +42,14 @@ module _ (h : ClauseHasher) (cs : Clauses) (es : List Stored) (f : IsIndexed h c
 
 ids_rise-more : (a n m : ℕ) (es : List Stored) → n ≤ m → ids_rise a es n ≡ true → ids_rise a es m ≡ true
 ids_rise-more a n m [] le h = grind (arith, le, h)
-ids_rise-more a n m (e ∷ es) le h = let k = and_parts (leb a e.id) (ids_rise (suc e.id) es n) h in and_from _ _ k.0 (ids_rise-more (suc e.id) n m es le k.1)
+ids_rise-more a n m (e ∷ es) le h = grind (arith, ids_rise-more (suc e.id) n m es le)
 
 -- other units and a later id
 pub is_store-units : (h : ClauseHasher) (cs : Clauses) (us : List (Option UnitClause)) (conflict : Option (ℕ × ℕ)) (n : ℕ) →
     cs.next_clause_id ≤ n → list_all is_stored_unit us ≡ true → length us ≡ length cs.unit_clauses → IsStore h cs →
     IsStore h (record cs { unit_clauses = us; unit_conflict = conflict; next_clause_id = n })
 is_store-units h cs us conflict n le units long s = record {
-  filed = let f = s.filed in record {
-    some_bits = f.some_bits;
-    bits = f.bits;
-    within = f.within;
-    bucketed = f.bucketed;
-    rise = ids_rise-more 0 _ n (stored_list cs) le f.rise;
-    apart = f.apart;
-    whole = f.whole;
-    used = f.used;
-  };
+  filed = let rise = ids_rise-more 0 cs.next_clause_id n (stored_list cs) le s.filed.rise in assumption;
   garbage = s.garbage;
   units = units;
   counts = subst (λ k. AreCounts cs.lit_counts k (stored_list cs)) (cc) s.counts;
@@ -68,20 +58,12 @@ is_store-units h cs us conflict n le units long s = record {
 -- one more value is a stored unit's
 pub list_all-set : {X : Type 0} (p : X → Bool) (xs : List X) (i : ℕ) (y : X) → p y ≡ true → list_all p xs ≡ true → list_all p (set xs i y) ≡ true
 list_all-set p [] i y h k = k
-list_all-set p (x ∷ xs) zero y h k = and_from _ _ h (and_parts (p x) (list_all p xs) k).1
-list_all-set p (x ∷ xs) (suc i) y h k = let q = and_parts (p x) _ k in and_from _ _ q.0 (list_all-set p xs i y h q.1)
+list_all-set p (x ∷ xs) zero y h k = grind arith
+list_all-set p (x ∷ xs) (suc i) y h k = grind (arith, list_all-set p xs i y h)
 
--- the unit of a variable
-pub unit_of-stored_units : (us : List (Option UnitClause)) (v : ℕ) → unit_of (stored_units us) v ≡ option_map stored_unit (unit_at us v)
-unit_of-stored_units us v = get_or-map _ us v None
-
--- read at an index
+-- the unit of a variable, read at an index
 pub unit_is : (us : List (Option UnitClause)) (o : Option UnitClause) (i v : ℕ) → o ≡ unit_at us i → i ≡ v → unit_of (stored_units us) v ≡ option_map stored_unit o
 unit_is us o i v h e = cc (unit_of-stored_units us v)
 
 pub stored_units-set : (us : List (Option UnitClause)) (v : ℕ) (u : UnitClause) → stored_units (set us v (Some u)) ≡ set (stored_units us) v (Some (stored_unit u))
 stored_units-set us v u = map-set _ us v _
-
--- what is true of the buffer that was read and of the hash that was computed is true of the store's
-pub read : (P : List ℕ → ℕ → Type 0) (b buffer : List ℕ) (k hash : ℕ) → b ≡ buffer → k ≡ hash → P b k → P buffer hash
-read P b buffer k hash e f p = rw (← f) (subst (λ x. P x k) e p)

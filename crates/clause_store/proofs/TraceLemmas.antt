@@ -1,24 +1,82 @@
--- Stored units that are listed and overwritten.
-use Rattle.std.proofs.Common.{◌≡◌, ℕ, zero, suc, ◌<◌, Bool, true, false, not, ◌&&◌, eqb, List, [], ◌∷◌, ◌++◌, length, set, Option, None, Some, is_some, ⊎_elim, refl, sym, ap, ◌∙◌}
-use Rattle.std.specs.Option.{option_map}
-use Rattle.std.proofs.lemmas.Bool.{and_parts, and_right, cases_eq, eq-eqb, false≢true, ne_eqb, true≢false}
+-- What a traced check lists: the look at a clause, and stored units that are listed and overwritten.
+use Rattle.std.proofs.Common.{◌≡◌, ℕ, Bool, true, false, not, eqb, List, [], ◌∷◌, ◌++◌, Option, Some, refl, arith, zero, suc, ◌<◌, ◌&&◌, length, set, None, ap, ◌∙◌}
+use Rattle.std.specs.List.{list_any}
+use Rattle.std.proofs.lemmas.Bool.{and_parts}
 use Rattle.std.proofs.lemmas.Grind.{get_or-set_at}
 use Rattle.std.proofs.lemmas.List.{append_assoc, get_or-set_other}
 use Rattle.std.proofs.lemmas.List.Elements.{All-head, All-tail}
-use Rattle.sat_rules.specs.Clauses.{is_negative, negate, var_of}
-use Rattle.checker_rules.specs.Hints.{visit, without_lit}
-use Rattle.checker_rules.specs.State.{makes_true, same_bool, unit_of}
+use Rattle.std.proofs.lemmas.Bool.Decides.{nat_tests}
+use Rattle.std.proofs.Math.Path.{fun_ext}
+use Rattle.sat_rules.specs.Clauses.{add_lit, negate, unfalsified, is_negative, var_of}
+use Rattle.sat_rules.specs.Named.{Item}
+use Rattle.checker_rules.specs.Hints.{Visit, freeing, listing, on_visit, prepend, stored_item, trace, unit_item, visit, without_lit}
+use Rattle.checker_rules.specs.State.{Stored, StoredUnit, unit_of}
 use Rattle.checker_rules.specs.Store.{unit_id}
 use Rattle.checker_rules.proofs.Traces.{var-negate}
+use Rattle.clause_store.specs.declared.rup.status.ClauseStatus.{ClauseStatus}
+use Rattle.clause_store.specs.declared.rup.status.ClauseStatus.TheVariants as statuses
 use Rattle.clause_store.specs.declared.clauses.units.UnitClause.{UnitClause}
-use Rattle.clause_store.specs.declared.clauses.units.UnitId.{UnitId}
-use Rattle.clause_store.specs.declared.clauses.units.UnitId.TheVariants.{Global, TracePos, InClause}
-use Rattle.clause_store.specs.Rup.{true_lits}
-use Rattle.clause_store.specs.StateOf.{id_of_unit, stored_unit, stored_units}
-use Rattle.clause_store.specs.Trace.{AreStored, IsAtRest, KeepsStored, item_ids, look, looked, unlisted_lits}
-use Rattle.clause_store.specs.Units.{lit_value, number_of, stored_id, unit_at, value_by}
+use Rattle.clause_store.specs.Rup.{status_of, true_lits}
+use Rattle.clause_store.specs.StateOf.{stored_units}
+use Rattle.clause_store.specs.Trace.{AreStored, IsAtRest, KeepsStored, item_ids, look, looked, unlisted_lits, true_unit_id}
+use Rattle.clause_store.specs.Units.{lit_value, number_of, stored_id, unit_at}
 use Rattle.clause_store.proofs.UnitsLemmas.{falsity, negation_is, true_lits-by, true_lits-falsity, true_lits-truth, truth, unit_of-stored_units}
-use Rattle.clause_store.proofs.VisitLemmas.{AgreeOn, visit-agree, visit-free, visit-listed}
+
+-- the look at a clause, literal by literal
+pub visit-listed : (us : List (Option StoredUnit)) (s g : ℕ → Bool) (m : ℕ) (c : List ℕ) → s m ≡ false → s (negate m) ≡ true →
+    g (negate m) ≡ true → visit us s g (m ∷ c) ≡ listing (unit_item us (negate m)) (visit us s (without_lit (negate m) g) c)
+visit-listed us s g m c h n k = rw (h, n, k) refl
+
+pub visit-free : (us : List (Option StoredUnit)) (s g : ℕ → Bool) (m : ℕ) (c : List ℕ) → s m ≡ false → s (negate m) ≡ false → visit us s g (m ∷ c) ≡ freeing m (visit us s g c)
+visit-free us s g m c h n = rw (h, n) refl
+
+-- a true literal is met where there is one
+pub visit-satisfied : (us : List (Option StoredUnit)) (s g : ℕ → Bool) (c : List ℕ) → (visit us s g c).satisfied ≡ list_any s c
+visit-satisfied us s g [] = refl
+visit-satisfied us s g (m ∷ c) = grind (arith, visit-satisfied us s g c, visit-satisfied us s (without_lit (negate m) g) c)
+
+-- and else the free ones are found
+pub visit-unfalsified : (us : List (Option StoredUnit)) (s g : ℕ → Bool) (c : List ℕ) → list_any s c ≡ false → (visit us s g c).free ≡ unfalsified s c
+visit-unfalsified us s g [] none = refl
+visit-unfalsified us s g (m ∷ c) none = grind (arith, visit-unfalsified us s g c, visit-unfalsified us s (without_lit (negate m) g) c)
+
+-- what is left unlisted was so before
+pub visit-unlisted : (us : List (Option StoredUnit)) (s g : ℕ → Bool) (c : List ℕ) (k : ℕ) → (visit us s g c).unlisted k ≡ true → g k ≡ true
+visit-unlisted us s g [] k e = e
+visit-unlisted us s g (m ∷ c) k e = grind (arith, visit-unlisted us s g c k, visit-unlisted us s (without_lit (negate m) g) c k)
+
+-- the units that are to be listed are the same
+abbrev pub AgreeOn : (ℕ → Bool) → List (Option StoredUnit) → List (Option StoredUnit) → Type 0
+AgreeOn g us vs = (k : ℕ) → g k ≡ true → unit_item us k ≡ unit_item vs k
+
+pub visit-agree : (vs us : List (Option StoredUnit)) (s g : ℕ → Bool) (c : List ℕ) → AgreeOn g us vs → visit us s g c ≡ visit vs s g c
+visit-agree vs us s g [] e = refl
+visit-agree vs us s g (m ∷ c) e =
+    let less : AgreeOn (without_lit (negate m) g) us vs = λ k y. e k (and_parts (g k) (not (eqb k (negate m))) y).0 in
+    grind (arith, visit-agree vs us s g c e, visit-agree vs us s (without_lit (negate m) g) c less, e (negate m))
+
+on_visit-agree : (v : Visit) (x : Item) (s : ℕ → Bool) (go to : (ℕ → Bool) → (ℕ → Bool) → Option (List Item)) →
+    ((r : ℕ → Bool) → go r v.unlisted ≡ to r v.unlisted) → on_visit v x s go ≡ on_visit v x s to
+on_visit-agree v x s go to h = grind (arith, h)
+
+pub trace-agree : (us vs : List (Option StoredUnit)) (s g : ℕ → Bool) (es : List Stored) → AgreeOn g us vs → trace us s g es ≡ trace vs s g es
+trace-agree us vs s g [] h = refl
+trace-agree us vs s g (e ∷ es) h =
+    cc (
+      visit-agree vs us s g e.lits h,
+      on_visit-agree (visit vs s g e.lits) (stored_item e) s (λ r k. trace us r k es) (λ r k. trace vs r k es)
+          (λ r. trace-agree us vs r (visit vs s g e.lits).unlisted es (λ k y. h k (visit-unlisted vs s g e.lits k y))),
+    )
+
+-- how the trace goes on after a clause, by what follows from it
+abbrev pub on_status : ClauseStatus → Visit → Item → (ℕ → Bool) → ((ℕ → Bool) → (ℕ → Bool) → Option (List Item)) → Option (List Item)
+on_status statuses.Falsified v x s go = Some (v.items ++ x ∷ [])
+on_status (statuses.Unit l) v x s go = prepend (v.items ++ x ∷ []) (go (add_lit l s) v.unlisted)
+on_status statuses.Idle v x s go = prepend v.items (go s v.unlisted)
+
+pub on_visit-status : (us : List (Option StoredUnit)) (s g : ℕ → Bool) (c : List ℕ) (x : Item) (go : (ℕ → Bool) → (ℕ → Bool) →
+    Option (List Item)) → on_visit (visit us s g c) x s go ≡ on_status (status_of s c) (visit us s g c) x s go
+on_visit-status us s g c x go = grind (arith, visit-satisfied us s g c, visit-unfalsified us s g c)
 
 -- at rest every value is a stored unit's
 pub at_rest : (us : List (Option UnitClause)) (v : ℕ) → AreStored us → IsAtRest (unit_at us v)
@@ -27,108 +85,40 @@ at_rest (u ∷ us) zero h = All-head IsAtRest u us h
 at_rest (u ∷ us) (suc v) h = at_rest us v (All-tail IsAtRest u us h)
 
 pub unlisted_lits-at_rest : (us : List (Option UnitClause)) (m : ℕ) → AreStored us → unlisted_lits us m ≡ true_lits us m
-unlisted_lits-at_rest us m h = cc (true_lits-by us m, same (unit_at us (var_of m)) (at_rest us (var_of m) h))
-  where
-    same : (o : Option UnitClause) → IsAtRest o → (is_some (stored_id o) && makes_true (option_map stored_unit o) m) ≡ makes_true (option_map stored_unit o) m
-    same None k = refl
-    same (Some u) k = rw k refl
+unlisted_lits-at_rest us m h = grind (arith, true_lits-by us m, at_rest us (var_of m) h)
 
 -- a value that is no stored unit's overwrites one
 pub unlisted_lits-set : (us : List (Option UnitClause)) (v m : ℕ) (u : UnitClause) → v < length us → number_of u.id ≡ None →
     unlisted_lits (set us v (Some u)) m ≡ (unlisted_lits us m && not (eqb (var_of m) v))
-unlisted_lits-set us v m u known new = ⊎_elim here apart (cases_eq _ v)
-  where
-    and_false : (a : Bool) → (a && false) ≡ false
-    and_false true = refl
-    and_false false = refl
-
-    and_true : (a : Bool) → a ≡ (a && true)
-    and_true true = refl
-    and_true false = refl
-
-    here : var_of m ≡ v → unlisted_lits (set us v (Some u)) m ≡ (unlisted_lits us m && not (eqb (var_of m) v))
-    here e = cc (get_or-set_at us v (var_of m) (Some u) None e known, eq-eqb (var_of m) v e, and_false (unlisted_lits us m))
-
-    apart : (var_of m ≡ v → ⊥) → unlisted_lits (set us v (Some u)) m ≡ (unlisted_lits us m && not (eqb (var_of m) v))
-    apart ne =
-        let same : unit_at (set us v (Some u)) (var_of m) ≡ unit_at us (var_of m) = get_or-set_other us v _ _ None ne in
-        cc (true_lits-by (set us v (Some u)) m, true_lits-by us m, and_true (unlisted_lits us m), ne_eqb (var_of m) v ne)
+unlisted_lits-set us v m u known new = grind (arith, nat_tests, true_lits-by, get_or-set_at, get_or-set_other)
 
 pub keeps-set : (us : List (Option UnitClause)) (v : ℕ) (u : UnitClause) → v < length us → number_of u.id ≡ None → KeepsStored us (set us v (Some u))
-keeps-set us v u known new k h = ⊎_elim
-    (λ e. absurd (false≢true (cc (get_or-set_at us v k (Some u) None e known))))
-    (λ ne. sym (get_or-set_other us v k _ None ne))
-    (cases_eq k v)
+keeps-set us v u known new k h = grind (arith, get_or-set_at, get_or-set_other)
 
 pub keeps-then : (us vs ws : List (Option UnitClause)) → KeepsStored us vs → KeepsStored vs ws → KeepsStored us ws
 keeps-then us vs ws h k v e = h v (cc (k v e)) ∙ k v e
 
 -- the units that are to be listed are those of before
 pub keeps-agree : (us vs : List (Option UnitClause)) → KeepsStored us vs → AgreeOn (unlisted_lits vs) (stored_units us) (stored_units vs)
-keeps-agree us vs h k e =
-    let same = h (var_of k) (and_parts _ _ e).0 in
-    let units : unit_of (stored_units us) (var_of k) ≡ unit_of (stored_units vs) (var_of k) =
-    cc (unit_of-stored_units us (var_of k), unit_of-stored_units vs (var_of k)) in
-    cc
+keeps-agree us vs h k e = grind (arith, h (var_of k), unit_of-stored_units us (var_of k), unit_of-stored_units vs (var_of k))
 
--- the value of the variable of a false literal
-value-false : (o : Option UnitClause) (m k : ℕ) → value_by o m ≡ Some false → same_bool (is_negative m) (not (is_negative k)) ≡ makes_true (option_map stored_unit o) k
-value-false None m k h = absurd (cc)
-value-false (Some u) m k h = let e : same_bool u.value (not (is_negative m)) ≡ false = cc in cc (value (is_negative m) u.value e)
-  where
-    value : (n v : Bool) → same_bool v (not n) ≡ false → v ≡ n
-    value true true e = refl
-    value true false e = absurd (true≢false e)
-    value false true e = absurd (true≢false e)
-    value false false e = refl
-
--- it is overwritten by the same with another id
+-- the value of the variable of a false literal is overwritten by the same with another id
 pub true_lits-renamed : (us : List (Option UnitClause)) (m : ℕ) (w : UnitClause) → var_of m < length us → lit_value us m ≡ Some false →
     w.value ≡ is_negative m → true_lits (set us (var_of m) (Some w)) ≡ true_lits us
-true_lits-renamed us m w known found same = λ i k. point k i
-  where
-    point : (k : ℕ) → true_lits (set us (var_of m) (Some w)) k ≡ true_lits us k
-    point k = ⊎_elim
-        (λ e. cc (true_lits-by (set us (var_of m) (Some w)) k, get_or-set_at us (var_of m) (var_of k) (Some w) None e known, value-false (unit_at us (var_of m)) m k found, true_lits-by us k))
-        (λ ne. cc (true_lits-by (set us (var_of m) (Some w)) k, get_or-set_other us (var_of m) (var_of k) (Some w) None ne, true_lits-by us k))
-        (cases_eq _ _)
+true_lits-renamed us m w known found same =
+    fun_ext (λ k. grind (arith, true_lits-by, get_or-set_at, get_or-set_other))
 
 pub looked-free : (ids : List ℕ) (us : List (Option UnitClause)) (m : ℕ) (c : List ℕ) → lit_value us m ≡ None → looked ids us (m ∷ c) ≡ looked ids us c
 looked-free ids us m c h = simp (visit-free (stored_units us) (true_lits us) (unlisted_lits us) m c (true_lits-truth us m ∙ ap truth h) (true_lits-falsity us m ∙ ap falsity h))
 
 without-is : (us : List (Option UnitClause)) (m : ℕ) (w : UnitClause) → var_of m < length us → number_of w.id ≡ None →
     true_lits us m ≡ false → without_lit (negate m) (unlisted_lits us) ≡ unlisted_lits (set us (var_of m) (Some w))
-without-is us m w known new free = λ i k. point k i
-  where
-    here : (k : ℕ) → var_of k ≡ var_of m → without_lit (negate m) (unlisted_lits us) k ≡ (unlisted_lits us k && not (eqb (var_of k) (var_of m)))
-    here k e = ⊎_elim
-        (λ same. let none : unlisted_lits us k ≡ false = and_right (is_some (stored_id (unit_at us (var_of k)))) (true_lits us k) (cc) in
-        cc)
-        (λ ne. cc (eq-eqb k (negate m) (negation_is m k e ne), eq-eqb (var_of k) (var_of m) e))
-        (cases_eq k m)
-
-    apart : (k : ℕ) → (var_of k ≡ var_of m → ⊥) → without_lit (negate m) (unlisted_lits us) k ≡ (unlisted_lits us k && not (eqb (var_of k) (var_of m)))
-    apart k ne = cc (ne_eqb k (negate m) (λ e. ne (ap var_of e ∙ var-negate m)), ne_eqb (var_of k) (var_of m) ne)
-
-    point : (k : ℕ) → without_lit (negate m) (unlisted_lits us) k ≡ unlisted_lits (set us (var_of m) (Some w)) k
-    point k = cc (
-      ⊎_elim {C = without_lit (negate m) (unlisted_lits us) k ≡ (unlisted_lits us k && not (eqb (var_of k) (var_of m)))} (here k) (apart k)
-          (cases_eq (var_of k) (var_of m)),
-      unlisted_lits-set us (var_of m) k w known new,
-    )
+without-is us m w known new free =
+    fun_ext (λ k. grind (arith, nat_tests, var-negate, negation_is m k, unlisted_lits-set us (var_of m) k w known new))
 
 -- the id of a stored unit
-number-is : (o : Option UnitClause) (n : ℕ) → stored_id o ≡ Some n → unit_id (option_map stored_unit o) ≡ n
-number-is None n h = absurd (cc)
-number-is (Some u) n h = by_id u.id h
-  where
-    by_id : (i : UnitId) → number_of i ≡ Some n → id_of_unit i ≡ n
-    by_id (Global k) e = cc
-    by_id (TracePos k) e = absurd (cc)
-    by_id InClause e = absurd (cc)
-
 pub unit_id-stored : (us : List (Option UnitClause)) (v n : ℕ) → stored_id (unit_at us v) ≡ Some n → unit_id (unit_of (stored_units us) v) ≡ n
-unit_id-stored us v n h = cc (unit_of-stored_units us v, number-is (unit_at us v) n h)
+unit_id-stored us v n h = grind (arith, unit_of-stored_units us v)
 
 -- a stored unit that makes a literal false is listed, and its value gets another id
 pub looked-listed : (ids : List ℕ) (us vs : List (Option UnitClause)) (m n : ℕ) (w : UnitClause) (c : List ℕ) → var_of m < length us →
@@ -146,3 +136,11 @@ looked-listed ids us vs m n w c known value found same new e =
     let rest : visit ss s (without_lit (negate m) (unlisted_lits us)) c ≡ look vs c =
     cc (visit-agree (stored_units vs) ss (true_lits vs) (unlisted_lits vs) c (keeps-agree us vs kept)) in
     rw (visit-listed ss s (unlisted_lits us) m c not_true is_true unlisted, rest, unit_id-stored us (var_of (negate m)) n at, ← append_assoc ids (n ∷ []) (item_ids (look vs c).items)) refl
+
+-- the unit of a true literal is a stored one
+pub true_unit_id-true : (us : List (Option UnitClause)) (m : ℕ) (c : List ℕ) → AreStored us → true_lits us m ≡ true → true_unit_id (stored_units us) (m ∷ c) ≡ stored_id (unit_at us (var_of m))
+true_unit_id-true us m c stored h =
+    grind (arith, at_rest us (var_of m) stored, true_lits-by us m, unit_of-stored_units us (var_of m))
+
+pub true_unit_id-false : (us : List (Option UnitClause)) (m : ℕ) (c : List ℕ) → true_lits us m ≡ false → true_unit_id (stored_units us) (m ∷ c) ≡ true_unit_id (stored_units us) c
+true_unit_id-false us m c h = rw h refl

@@ -1,8 +1,9 @@
 -- How the trace goes on after a clause.
-use Rattle.std.proofs.Common.{◌≡◌, ℕ, ◌<◌, Bool, true, false, not, ◌&&◌, eqb, List, [], ◌∷◌, ◌++◌, length, set, Option, None, Some, is_some, ⊎_elim, refl, sym, ap, ◌∙◌, subst}
+use Rattle.std.proofs.Common.{◌≡◌, ℕ, ◌<◌, Bool, false, List, [], ◌∷◌, ◌++◌, length, set, Option, None, Some, refl, sym, ap, ◌∙◌, subst, arith}
 use Rattle.std.specs.Option.{option_map}
-use Rattle.std.proofs.lemmas.Bool.{and_right, cases_eq, ne_eqb}
 use Rattle.std.proofs.lemmas.List.{append_assoc, map-append}
+use Rattle.std.proofs.lemmas.Bool.Decides.{nat_tests}
+use Rattle.std.proofs.Math.Path.{fun_ext}
 use Rattle.sat_rules.specs.Clauses.{add_lit, negate, var_of}
 use Rattle.sat_rules.specs.Named.{Item}
 use Rattle.checker_rules.specs.Hints.{prepend, stored_item, trace, unlisted_at}
@@ -14,11 +15,10 @@ use Rattle.clause_store.specs.declared.rup.status.ClauseStatus.TheVariants as st
 use Rattle.clause_store.specs.Rup.{status_of, true_lits}
 use Rattle.clause_store.specs.StateOf.{stored_units}
 use Rattle.clause_store.specs.Trace.{KeepsStored, ids_after, item_ids, look, looked, open_trace, unlisted_lits}
-use Rattle.clause_store.specs.Units.{AreKnown, number_of, stored_id, unit_at}
-use Rattle.clause_store.proofs.TraceLemmas.{keeps-agree, keeps-set, keeps-then, unlisted_lits-set}
+use Rattle.clause_store.specs.Units.{AreKnown, number_of}
+use Rattle.clause_store.proofs.TraceLemmas.{keeps-agree, keeps-set, keeps-then, on_status, on_visit-status, trace-agree, unlisted_lits-set}
 use Rattle.clause_store.proofs.UnitsLemmas.{negation_is}
-use Rattle.clause_store.proofs.VisitLemmas.{on_status, on_visit-status, trace-agree}
-use Rattle.clause_store.proofs.WalkLemmas.{is_free, is_unit, known-has}
+use Rattle.clause_store.proofs.StatusLemmas.{is_free, is_unit, known-has}
 
 -- ids that are listed before those of a trace
 with_ids : List ℕ → Option (List Item) → Option (List ℕ)
@@ -27,8 +27,7 @@ with_ids ids o = option_map (λ items. ids ++ item_ids items) o
 -- what stands before a trace is listed first
 with_ids-prepend : (ids : List ℕ) (xs : List Item) (o : Option (List Item)) → with_ids ids (prepend xs o) ≡ with_ids (ids ++ item_ids xs) o
 unfolding with_ids
-with_ids-prepend ids xs None = refl
-with_ids-prepend ids xs (Some ys) = cc (map-append (λ (x : Item). x.id) xs ys, append_assoc ids (item_ids xs) (item_ids ys))
+with_ids-prepend ids xs o = grind (arith, map-append, append_assoc)
 
 -- the clause is listed after the units that it met
 named-last : (ids ids_now : List ℕ) (xs : List Item) (x : Item) → ids ++ item_ids xs ≡ ids_now → ids ++ item_ids (xs ++ x ∷ []) ≡ ids_now ++ x.id ∷ []
@@ -70,34 +69,14 @@ pub lists-idle : (ids ids_now : List ℕ) (us vs : List (Option UnitClause)) (e 
     (rest : List Stored) → ids_after ids us (e ∷ rest) ≡ ids_after ids_now vs rest
 unfolding with_ids
 lists-idle ids ids_now us vs e h rest =
-    let v = look us e.lits in
-    by_status ids us e _ _ h.status ∙ with_ids-prepend ids _ _
-    ∙ ap (λ xs. with_ids xs (trace (stored_units us) (true_lits us) v.unlisted rest)) (ap (λ p. p.0) h.listed)
-    ∙ ap (with_ids ids_now) (goes_on us vs _ _ _ h.kept h.same (sym (ap (λ p. p.1) h.listed)))
+    let v = look us e.lits in let goes = goes_on us vs (true_lits us) v.unlisted rest h.kept h.same (sym (ap (λ p. p.1) h.listed)) in
+    let first = with_ids-prepend ids v.items (trace (stored_units us) (true_lits us) v.unlisted rest) in
+    rw (by_status ids us e rest statuses.Idle h.status, first, ap (λ p. p.0) h.listed, goes) refl
 
 -- a free literal that is made true is no stored unit's
 unlisted_lits-free : (us : List (Option UnitClause)) (m : ℕ) (w : UnitClause) → var_of m < length us → number_of w.id ≡ None →
     true_lits us m ≡ false → true_lits us (negate m) ≡ false → unlisted_lits (set us (var_of m) (Some w)) ≡ unlisted_lits us
-unlisted_lits-free us m w known new free n = λ i k. point k i
-  where
-    none : (k : ℕ) → var_of k ≡ var_of m → unlisted_lits us k ≡ false
-    none k e = ⊎_elim
-        (λ same. and_right (is_some (stored_id (unit_at us (var_of k)))) (true_lits us k) (cc))
-        (λ ne. and_right (is_some (stored_id (unit_at us (var_of k)))) (true_lits us k) (cc (negation_is m k e ne)))
-        (cases_eq k m)
-
-    and_true : (a : Bool) → (a && true) ≡ a
-    and_true true = refl
-    and_true false = refl
-
-    point : (k : ℕ) → unlisted_lits (set us (var_of m) (Some w)) k ≡ unlisted_lits us k
-    point k = cc (
-      unlisted_lits-set us (var_of m) k w known new,
-      ⊎_elim {C = (unlisted_lits us k && not (eqb (var_of k) (var_of m))) ≡ unlisted_lits us k}
-          (λ (e : var_of k ≡ var_of m). ap (λ b. b && not (eqb (var_of k) (var_of m))) (none k e) ∙ sym (none k e))
-          (λ (ne : var_of k ≡ var_of m → ⊥). ap (λ b. unlisted_lits us k && not b) (ne_eqb (var_of k) (var_of m) ne) ∙ and_true (unlisted_lits us k))
-          (cases_eq (var_of k) (var_of m)),
-    )
+unlisted_lits-free us m w known new free n = fun_ext (λ k. grind (arith, nat_tests, negation_is m k, unlisted_lits-set us (var_of m) k w known new))
 
 pub lists-unit : (ids ids_now ids_last : List ℕ) (us vs ws : List (Option UnitClause)) (e : Stored) (m : ℕ) (w : UnitClause) →
     AreKnown vs e.lits → IsLooked ids ids_now us vs e (statuses.Unit m) → ids_last ≡ ids_now ++ e.id ∷ []
@@ -125,12 +104,4 @@ pub open_trace-is : (ids t : List ℕ) (us vs : List (Option UnitClause)) (c : L
     true_lits vs ≡ start_set (stored_units us) c → unlisted_lits vs ≡ unlisted_at (stored_units us) c → ids_after ids vs es ≡ Some t →
     t ≡ ids_of (open_trace (stored_units us) c es)
 open_trace-is ids t us vs c es none kept start unlisted h =
-    cc (
-      found (trace (stored_units vs) (true_lits vs) (unlisted_lits vs) es) (ap (λ xs. ids_after xs vs es) (sym none) ∙ h),
-      goes_on us vs
-          (start_set (stored_units us) c) (unlisted_at (stored_units us) c) es kept start unlisted,
-    )
-  where
-    found : (o : Option (List Item)) → option_map (λ items. [] ++ item_ids items) o ≡ Some t → t ≡ ids_of o
-    found None e = absurd (cc)
-    found (Some items) e = let same : item_ids items ≡ t = cc in cc
+    grind (arith, goes_on us vs (start_set (stored_units us) c) (unlisted_at (stored_units us) c) es kept start unlisted, ap (λ xs. ids_after xs vs es) none)

@@ -1,7 +1,6 @@
 -- Putting values back.
-use Rattle.std.proofs.Common.{◌≡◌, ℕ, zero, suc, ◌<◌, List, [], ◌∷◌, ◌++◌, Option, None, length, get_or, set, set-set, length-set, ⊎_elim, refl, arith}
+use Rattle.std.proofs.Common.{◌≡◌, ℕ, zero, suc, ◌<◌, List, [], ◌∷◌, ◌++◌, Option, None, length, get_or, set, set-set, length-set, refl, arith}
 use Rattle.std.proofs.lemmas.Grind.{common_steps}
-use Rattle.std.proofs.lemmas.Bool.{cases_eq}
 use Rattle.std.proofs.lemmas.List.{set-get_or, set_comm}
 use Rattle.std.proofs.lemmas.List.Elements.{All-push}
 use Rattle.sat_rules.specs.Clauses.{var_of}
@@ -51,7 +50,4 @@ freed-known us (k ∷ ks) (suc i) m known less is = freed-known us ks i m (λ j 
 -- a variable is freed before the others as well as after them
 pub freed-first : (us : List (Option UnitClause)) (m : ℕ) (ms : List ℕ) → undone (set us (var_of m) None) (freed ms) ≡ undone us (freed (m ∷ ms))
 freed-first us m [] = refl
-freed-first us m (k ∷ ks) = cc (freed-first us m ks, swap (undone us (freed ks)) (var_of m) (var_of k))
-  where
-    swap : (vs : List (Option UnitClause)) (i j : ℕ) → set (set vs i None) j None ≡ set (set vs j None) i None
-    swap vs i j = ⊎_elim (λ e. rw e refl) (λ ne. set_comm vs i j None None ne) (cases_eq i j)
+freed-first us m (k ∷ ks) = grind (arith, freed-first us m ks, set_comm (undone us (freed ks)) (var_of m) (var_of k) None None)

@@ -1,17 +1,18 @@
 -- The list by rising ids is the one list that the buckets hold.
-use Rattle.std.proofs.Common.{◌≡◌, ℕ, zero, suc, ◌<◌, ◌≤◌, ◌⊎◌, Bool, true, false, cond, eqb, ltb, leb, List, [], ◌∷◌, ◌++◌}
-use Rattle.std.proofs.Common.{length, map, Some, None, nat_eq, slice_index_or, refl, sym, ap, ◌∙◌, subst, arith, inl, inr, ⊎_elim}
+use Rattle.std.proofs.Common.{◌≡◌, ℕ, zero, suc, ◌<◌, ◌≤◌, ◌⊎◌, Bool, true, eqb, leb, List, [], ◌∷◌, ◌++◌, length, nat_eq, slice_index_or, refl, sym, subst, arith, inl}
+use Rattle.std.proofs.Common.{inr, ⊎_elim}
 use Rattle.std.specs.List.{filter, flat_map}
 use Rattle.std.specs.Option.{IsSome}
 use Rattle.std.specs.HashMap.{get, keys}
 use Rattle.std.proofs.lemmas.Bool.{and_parts}
 use Rattle.std.proofs.lemmas.Cmp.{nat_eq_equiv}
 use Rattle.std.proofs.lemmas.Map.Views.{hash_map_contains_key_iff, exact_unsigned_eq}
+use Rattle.std.proofs.lemmas.Bool.Decides.{nat_tests}
 use Rattle.checker_rules.specs.State.{Stored}
 use Rattle.checker_rules.specs.Buckets.{of_hash}
 use Rattle.checker_rules.specs.WellFormed.{ids_rise}
-use Rattle.clause_store.specs.Buckets.{Buckets, bucket_items}
-use Rattle.clause_store.specs.View.{stored_of, stored_in, put_by_id, by_id, list_of}
+use Rattle.clause_store.specs.Buckets.{Buckets}
+use Rattle.clause_store.specs.View.{stored_in, put_by_id, by_id, list_of}
 
 abbrev pub In : Stored → List Stored → Type 0
 In x [] = ⊥
@@ -29,18 +30,11 @@ above_from low next (e ∷ es) h =
 
 in_above : (low : ℕ) (x : Stored) (es : List Stored) → Above low es → In x es → low ≤ x.id
 in_above low x [] h i = absurd i
-in_above low x (e ∷ es) h (inl same) = rw same h.0
-in_above low x (e ∷ es) h (inr i) = let k = in_above _ x es h.1 i in omega arith
+in_above low x (e ∷ es) h i = grind (arith, in_above (suc e.id) x es h.1)
 
 in_put : (x y : Stored) (ys : List Stored) → In x (put_by_id y ys) → (x ≡ y) ⊎ In x ys
 in_put x y [] i = i
-in_put x y (z ∷ zs) i = cases (in_put x y zs) (ltb y.id z.id) (eqb y.id z.id) i
-  where
-    cases : (In x (put_by_id y zs) → (x ≡ y) ⊎ In x zs) → (b d : Bool) → In x (cond b (y ∷ z ∷ zs) (cond d (z ∷ zs) (z ∷ put_by_id y zs))) → (x ≡ y) ⊎ In x (z ∷ zs)
-    cases f true d i = i
-    cases f false true i = inr i
-    cases f false false (inl e) = inr (inl e)
-    cases f false false (inr i) = ⊎_elim (λ e. inl e) (λ j. inr (inr j)) (f i)
+in_put x y (z ∷ zs) i = grind (arith, in_put x y zs)
 
 in_by_id : (x : Stored) (xs : List Stored) → In x (by_id xs) → In x xs
 in_by_id x [] i = i
@@ -48,12 +42,7 @@ in_by_id x (y ∷ ys) i = ⊎_elim (λ e. inl e) (λ j. inr (in_by_id x ys j)) (
 
 above_put : (low : ℕ) (y : Stored) (ys : List Stored) → Above low ys → low ≤ y.id → Above low (put_by_id y ys)
 above_put low y [] h le = (le, tt)
-above_put low y (z ∷ zs) h le = cases (λ k. above_put _ y zs h.1 k) (ltb y.id z.id) (eqb y.id z.id) refl refl
-  where
-    cases : (suc z.id ≤ y.id → Above (suc z.id) (put_by_id y zs)) → (b d : Bool) → ltb y.id z.id ≡ b → eqb y.id z.id ≡ d → Above low (cond b (y ∷ z ∷ zs) (cond d (z ∷ zs) (z ∷ put_by_id y zs)))
-    cases f true d less same = (le, (grind (arith, less), h.1))
-    cases f false true less same = h
-    cases f false false less same = (h.0, f (grind (arith, less, same)))
+above_put low y (z ∷ zs) h le = grind (arith, nat_tests, above_put (suc z.id) y zs h.1)
 
 above_by_id : (xs : List Stored) → Above 0 (by_id xs)
 above_by_id [] = tt
@@ -61,22 +50,11 @@ above_by_id (y ∷ ys) = above_put 0 y _ (above_by_id ys) (omega arith)
 
 put_keeps : (x y : Stored) (ys : List Stored) → In x ys → In x (put_by_id y ys)
 put_keeps x y [] i = absurd i
-put_keeps x y (z ∷ zs) i = cases (put_keeps x y zs) (ltb y.id z.id) (eqb y.id z.id) i
-  where
-    cases : (In x zs → In x (put_by_id y zs)) → (b d : Bool) → In x (z ∷ zs) → In x (cond b (y ∷ z ∷ zs) (cond d (z ∷ zs) (z ∷ put_by_id y zs)))
-    cases f true d i = inr i
-    cases f false true i = i
-    cases f false false (inl e) = inl e
-    cases f false false (inr j) = inr (f j)
+put_keeps x y (z ∷ zs) i = grind (arith, put_keeps x y zs)
 
 put_has : (y : Stored) (ys : List Stored) → ((z : Stored) → In z ys → y.id ≡ z.id → y ≡ z) → In y (put_by_id y ys)
 put_has y [] f = inl refl
-put_has y (z ∷ zs) f = cases (put_has y zs (λ w i. f w (inr i))) (ltb y.id z.id) (eqb y.id z.id) refl
-  where
-    cases : In y (put_by_id y zs) → (b d : Bool) → eqb y.id z.id ≡ d → In y (cond b (y ∷ z ∷ zs) (cond d (z ∷ zs) (z ∷ put_by_id y zs)))
-    cases more true d same = inl refl
-    cases more false true same = inl (f z (inl refl) (exact_unsigned_eq y.id z.id same))
-    cases more false false same = inr more
+put_has y (z ∷ zs) f = grind (arith, nat_tests, put_has y zs (λ w i. f w (inr i)), f z (inl refl))
 
 by_id_has : (x : Stored) (xs : List Stored) → ((y z : Stored) → In y xs → In z xs → y.id ≡ z.id → y ≡ z) → In x xs → In x (by_id xs)
 by_id_has x [] f i = absurd i
@@ -85,13 +63,10 @@ by_id_has x (y ∷ ys) f (inr i) = put_keeps x y _ (by_id_has x ys (λ v w j k. 
 
 -- of two lists with rising ids and the same members
 same_head : (x y : Stored) (xs ys : List Stored) → Above (suc x.id) xs → Above (suc y.id) ys → In x (y ∷ ys) → In y (x ∷ xs) → x ≡ y
-same_head x y xs ys a b (inl e) j = e
-same_head x y xs ys a b (inr i) (inl e) = sym e
-same_head x y xs ys a b (inr i) (inr j) = let p = in_above _ x ys b i in let q = in_above _ y xs a j in absurd (omega arith)
+same_head x y xs ys a b i j = grind (arith, in_above (suc y.id) x ys b, in_above (suc x.id) y xs a)
 
 later : (x y z : Stored) (xs ys : List Stored) → x ≡ y → Above (suc x.id) xs → In z xs → In z (y ∷ ys) → In z ys
-later x y z xs ys e a i (inr j) = j
-later x y z xs ys e a i (inl same) = let p = in_above _ z xs a i in let q : z.id ≡ x.id = cc in absurd (omega arith)
+later x y z xs ys e a i j = grind (arith, in_above (suc x.id) z xs a i)
 
 pub same_members : (low k : ℕ) (xs ys : List Stored) → Above low xs → Above k ys → ((x : Stored) → In x xs → In x ys) → ((x : Stored) → In x ys → In x xs) → xs ≡ ys
 same_members low k [] [] a b f g = refl
@@ -104,8 +79,7 @@ same_members low k (x ∷ xs) (y ∷ ys) a b f g =
 
 in_left : (x : Stored) (xs ys : List Stored) → In x xs → In x (xs ++ ys)
 in_left x [] ys i = absurd i
-in_left x (z ∷ xs) ys (inl e) = inl e
-in_left x (z ∷ xs) ys (inr i) = inr (in_left x xs ys i)
+in_left x (z ∷ xs) ys i = grind (arith, in_left x xs ys)
 
 in_right : (x : Stored) (xs ys : List Stored) → In x ys → In x (xs ++ ys)
 in_right x [] ys i = i
@@ -113,8 +87,7 @@ in_right x (z ∷ xs) ys i = inr (in_right x xs ys i)
 
 in_either : (x : Stored) (xs ys : List Stored) → In x (xs ++ ys) → In x xs ⊎ In x ys
 in_either x [] ys i = inr i
-in_either x (z ∷ xs) ys (inl e) = inl (inl e)
-in_either x (z ∷ xs) ys (inr i) = ⊎_elim (λ j. inl (inr j)) (λ j. inr j) (in_either x xs ys i)
+in_either x (z ∷ xs) ys i = grind (arith, in_either x xs ys)
 
 in_some : (f : ℕ → List Stored) (x : Stored) (ks : List ℕ) → In x (flat_map f ks) → (k : ℕ) × In x (f k)
 in_some f x [] i = absurd i
@@ -127,31 +100,18 @@ in_all f x k (l ∷ ks) (suc i) less at h = in_right x (f l) (flat_map f ks) (in
 
 pub in_filter : (p : Stored → Bool) (x : Stored) (es : List Stored) → p x ≡ true → In x es → In x (filter p es)
 in_filter p x [] h i = absurd i
-in_filter p x (e ∷ es) h (inl same) = subst (λ b. In x (cond b (e ∷ filter p es) (filter p es))) (sym (ap p (cc) ∙ h)) (inl same)
-in_filter p x (e ∷ es) h (inr i) = elim (p e) as (λ b. In x (cond b (e ∷ filter p es) (filter p es))) [ true ↦ inr (in_filter p x es h i) | false ↦ in_filter p x es h i ]
+in_filter p x (e ∷ es) h i = grind (arith, in_filter p x es h)
 
 filter_in : (p : Stored → Bool) (x : Stored) (es : List Stored) → In x (filter p es) → In x es
 filter_in p x [] i = i
-filter_in p x (e ∷ es) i = cases (filter_in p x es) (p e) i
-  where
-    cases : (In x (filter p es) → In x es) → (b : Bool) → In x (cond b (e ∷ filter p es) (filter p es)) → In x (e ∷ es)
-    cases f true (inl same) = inl same
-    cases f true (inr j) = inr (f j)
-    cases f false j = inr (f j)
+filter_in p x (e ∷ es) i = grind (arith, filter_in p x es)
 
 same_id : (low : ℕ) (es : List Stored) (y z : Stored) → Above low es → In y es → In z es → y.id ≡ z.id → y ≡ z
 same_id low [] y z a i j same = absurd i
-same_id low (e ∷ es) y z a (inl p) (inl q) same = cc
-same_id low (e ∷ es) y z a (inl p) (inr j) same = let k = in_above _ z es a.1 j in let l : y.id ≡ e.id = cc in absurd (omega arith)
-same_id low (e ∷ es) y z a (inr i) (inl q) same = let k = in_above _ y es a.1 i in let l : z.id ≡ e.id = cc in absurd (omega arith)
-same_id low (e ∷ es) y z a (inr i) (inr j) same = same_id _ es y z a.1 i j same
+same_id low (e ∷ es) y z a i j same = grind (arith, in_above (suc e.id) z es a.1, in_above (suc e.id) y es a.1, same_id (suc e.id) es y z a.1)
 
 pub some_here : (buffer : List ℕ) (m : Buckets) (k : ℕ) (x : Stored) → In x (stored_in buffer m k) → IsSome (get nat_eq m k)
-some_here buffer m k x i = cases (get nat_eq m k) i
-  where
-    cases : (o : _) → In x (map (stored_of buffer) (bucket_items o)) → IsSome o
-    cases None i = absurd i
-    cases (Some b) i = refl
+some_here buffer m k x i = grind arith
 
 -- a list with rising ids whose clauses the buckets hold by their hashes is the list of the map
 pub list_is : (buffer : List ℕ) (m : Buckets) (h : List ℕ → ℕ) (es : List Stored) → Above 0 es → ((k : ℕ) → stored_in buffer m k ≡ of_hash h k es) → list_of buffer m ≡ es

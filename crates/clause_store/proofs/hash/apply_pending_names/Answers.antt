@@ -1,18 +1,13 @@
-use Rattle.std.proofs.Common.{◌≡◌, List, [], ◌∷◌, Option, Some, None, is_some, map, refl}
+use Rattle.std.proofs.Common.{◌≡◌, List, [], ◌∷◌, Option, is_some, map, refl, arith}
 use Rattle.std.specs.List.{list_any}
 use Rattle.std.proofs.lemmas.Result.{on_ok_weaker}
 use Rattle.sat_formula.specs.declared.lit.Var.{Var}
-use Rattle.sat_formula.specs.Vars.{indexes_of}
 use Rattle.clause_store.specs.Names.{indexes}
 use Rattle.clause_store.proofs.hash.apply_pending_names.Goals as goal
 
-is_some-indexes_of : (o : Option Var) → is_some (indexes_of o) ≡ is_some o
-is_some-indexes_of None = refl
-is_some-indexes_of (Some v) = refl
-
 list_any-indexes : (ps : List (Var × Option Var)) → list_any (λ p. is_some p.1) (map indexes ps) ≡ list_any (λ p. is_some p.1) ps
 list_any-indexes [] = refl
-list_any-indexes (p ∷ ps) = cc (is_some-indexes_of p.1, list_any-indexes ps)
+list_any-indexes (p ∷ ps) = grind (arith, list_any-indexes ps)
 
 pub returns-then-some_name-clause-state : goal.returns-then-some_name-clause-state
 returns-then-some_name-clause-state c =

@@ -1,5 +1,5 @@
 use Rattle.std.proofs.Common.{refl}
-use Rattle.clause_store.proofs.RenameLemmas.{is_store-renamed}
+use Rattle.clause_store.proofs.HashLemmas.{is_store-renamed}
 use Rattle.clause_store.proofs.hash.rehash.Goals as goal
 
 pub returns-then-hasher-bits-clause-store : goal.returns-then-hasher-bits-clause-store

@@ -1,6 +1,6 @@
 use Rattle.std.proofs.Common.{sym, ◌∙◌, refl, subst}
 use Rattle.clause_store.specs.Names.{AgreeOnHeld, names_of}
-use Rattle.clause_store.proofs.RenameLemmas.{agree_on_held-apart, agree_on_held-same, none-held}
+use Rattle.clause_store.proofs.HashLemmas.{agree_on_held-apart, agree_on_held-same, none-held}
 use Rattle.clause_store.proofs.hash.rename.Goals as goal
 
 -- the name changed, of a variable that no clause holds

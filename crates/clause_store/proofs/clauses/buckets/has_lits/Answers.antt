@@ -1,4 +1,4 @@
-use Rattle.clause_store.proofs.SameListLemmas.{same_list-bytes_eq}
+use Rattle.clause_store.proofs.FoundLemmas.{same_list-bytes_eq}
 use Rattle.clause_store.proofs.clauses.buckets.has_lits.Goals as goal
 
 pub returns : goal.returns

@@ -1,4 +1,4 @@
-use Rattle.std.proofs.Common.{◌≡◌, ◌∷◌, ◌+◌, ◌++◌, [], ℕ, List, length, map, All, append-nil, append_assoc, rules, sym, ap, ◌∙◌, subst, arith}
+use Rattle.std.proofs.Common.{◌≡◌, ◌∷◌, ◌+◌, ◌++◌, [], ℕ, List, length, map, All, append-nil, append_assoc, rules, sym, ap, ◌∙◌, subst, arith, refl}
 use Rattle.std.specs.HashMap.{values}
 use Rattle.std.specs.List.{flat_map}
 use Rattle.std.proofs.lemmas.List.{map-append}
@@ -16,7 +16,7 @@ use Rattle.clause_store.proofs.clauses.collect.copy_lits.Goals as goal
 
 -- where nothing is left, all was copied
 copied_all : (b xs all : List ℕ) (left : List Bucket) → left ≡ [] → xs ++ all_in_buffer b (flat_map clauses_of left) ≡ all → xs ≡ all
-copied_all b xs all left none so = sym (append-nil xs) ∙ ap (λ bs. xs ++ all_in_buffer b (flat_map clauses_of bs)) (sym none) ∙ so
+copied_all b xs all left none so = cc (append-nil xs)
 
 pub loop-bucket-init : goal.loop-bucket-init
 loop-bucket-init c =
@@ -24,13 +24,9 @@ loop-bucket-init c =
     let it : left ≡ values cs.buckets = search rules in
     let none = c.in_ok-new.ensures.items in
     record {
-      copied = ap (λ xs. xs ++ all_in_buffer b (flat_map clauses_of left)) none ∙ ap (λ bs. all_in_buffer b (flat_map clauses_of bs)) it;
-      used =
-          let empty = ap length none in
-          let all = ap (λ bs. live_literals (map (stored_of b) (flat_map clauses_of bs))) it in
-          omega (arith, empty, all);
-      within = subst (λ bs. All (λ (d : Clause). IsWithin d.lits b) (flat_map clauses_of bs)) (sym it)
-          (all_within b cs.buckets c.values-bucket-items.ensures.unique c.requires.1.within);
+      copied = rw (none, it) refl;
+      used = grind arith;
+      within = rw it (all_within b cs.buckets c.values-bucket-items.ensures.unique c.requires.1.within);
     }
 
 pub copy_bucket-requires : goal.copy_bucket-requires
@@ -48,16 +44,11 @@ loop-bucket-preserved c =
     let cs = clauses_of x in let ds = flat_map clauses_of rest in
     let f : Clause → List ℕ = λ (d : Clause). in_buffer b d.lits in
     let old = l.new.items in
-    let parts : all_in_buffer b (flat_map clauses_of l.bucket-iterator) ≡ all_in_buffer b cs ++ all_in_buffer b ds =
-    ap (λ bs. all_in_buffer b (flat_map clauses_of bs)) step ∙ flat_map-append f cs ds in
-    let lives : live_literals (map (stored_of b) (flat_map clauses_of l.bucket-iterator)) ≡ live_literals (map (stored_of b) cs) + live_literals (map (stored_of b) ds) =
-    ap (λ bs. live_literals (map (stored_of b) (flat_map clauses_of bs))) step ∙ ap live_literals (map-append (stored_of b) cs ds) ∙ live_literals-append (map (stored_of b) cs) (map (stored_of b) ds) in
     let read = c.as_slice-buffer.ensures.value in
-    let now = e.copied ∙ ap (λ u. old ++ all_in_buffer u cs) read in
-    let grown = e.used ∙ ap (λ u. length old + live_literals (map (stored_of u) cs)) read in
+    let parts : all_in_buffer b (flat_map clauses_of l.bucket-iterator) ≡ all_in_buffer b cs ++ all_in_buffer b ds = rw step (flat_map-append f cs ds) in
     record {
-      copied = ap (λ xs. xs ++ all_in_buffer b ds) now ∙ append_assoc old (all_in_buffer b cs) (all_in_buffer b ds) ∙ ap (λ xs. old ++ xs) (sym parts) ∙ v.copied;
-      used = omega (arith, grown, lives, v.used);
+      copied = cc (parts, rw read at e.copied, append_assoc old (all_in_buffer b cs) (all_in_buffer b ds), v.copied);
+      used = grind (arith, step, read, e.used, map-append (stored_of b) cs ds, live_literals-append (map (stored_of b) cs) (map (stored_of b) ds), v.used);
       within = All-second (λ (d : Clause). IsWithin d.lits b) cs ds
           (subst (λ bs. All (λ (d : Clause). IsWithin d.lits b) (flat_map clauses_of bs)) step v.within);
     }

@@ -3,7 +3,7 @@ use Rattle.std.proofs.lemmas.List.{drop-set-lt, drop_more, length-set, take-appe
 use Rattle.clause_store.specs.declared.clauses.Clause.{Clause}
 use Rattle.clause_store.specs.Crowds.{standing}
 use Rattle.clause_store.specs.Lits.{buffer_used, moved_to}
-use Rattle.clause_store.specs.Moved.{all_moved_to, all_used}
+use Rattle.clause_store.specs.Moved.{all_used}
 use Rattle.clause_store.proofs.CrowdLemmas.{place-here, standing-append, standing-drop, standing-more}
 use Rattle.clause_store.proofs.MoveLemmas.{all_moved_to-append, all_used-append}
 use Rattle.clause_store.proofs.clauses.collect.move_places.Goals as goal
@@ -11,10 +11,7 @@ use Rattle.clause_store.proofs.clauses.collect.move_places.Goals as goal
 -- the same place in the same list, read from its rest
 same-place : (ps qs : List (Option Clause)) (i : ℕ) (p : Option Clause) → drop i ps ≡ drop i qs → length ps ≡ length qs → i < length ps →
     p ≡ get_or ps i p → (p ≡ get_or qs i p) × (drop (i + 1) ps ≡ drop (i + 1) qs)
-same-place ps qs i p rest many less is =
-    let both : get_or ps i p ∷ drop (i + 1) ps ≡ get_or qs i p ∷ drop (i + 1) qs =
-    sym (drop_more ps i p less) ∙ rest ∙ drop_more qs i p (omega arith) in
-    (is ∙ cc, cc)
+same-place ps qs i p rest many less is = grind (arith, drop_more ps i p less, drop_more qs i p)
 
 -- the literals of the clause that is read still have room
 room : (ps : List (Option Clause)) (i : ℕ) (d : Clause) → i < length ps → Some d ≡ get_or ps i (Some d) →
@@ -42,10 +39,9 @@ loop-i-preserved c =
     ap (λ ls. record d { lits = ls }) (c.move_to-at.ensures.moved ∙ ap (λ n. moved_to n d.lits) v.end) in
     let more : standing (take (i + 1) ps) ≡ standing (take i ps) ++ d ∷ [] = standing-more ps i (Some d) c.loop-i-test.true here.0 in
     record {
-      moved = ap standing (take_more_set l.places i (Some e) less) ∙ standing-append (take i l.places) (Some e ∷ [])
-          ∙ ap (λ cs. cs ++ e ∷ []) v.moved ∙ ap (λ x. all_moved_to c.args.first (standing (take i ps)) ++ x ∷ []) is
-          ∙ sym (all_moved_to-append c.args.first (standing (take i ps)) (d ∷ []))
-          ∙ ap (all_moved_to c.args.first) (sym more);
+      moved =
+          let last = all_moved_to-append c.args.first (standing (take i ps)) (d ∷ []) in
+          cc (take_more_set l.places i (Some e) less, standing-append (take i l.places) (Some e ∷ []), v.moved, is, last, more);
       rest = drop-set-lt (i + 1) l.places i (Some e) (omega arith) ∙ here.1;
       many = length-set l.places i (Some e) ∙ v.many;
       end = let used = ap all_used more ∙ all_used-append (standing (take i ps)) (d ∷ []) in omega (arith, used, v.end, c.move_to-at.ensures.end);
@@ -60,18 +56,16 @@ loop-i-preserved-in_default c =
     let old : standing (take (i + 1) l.places) ≡ standing (take i l.places) = standing-more l.places i None less read ∙ append-nil _ in
     let new : standing (take (i + 1) ps) ≡ standing (take i ps) = standing-more ps i None c.loop-i-test.true here.0 ∙ append-nil _ in
     record {
-      moved = old ∙ v.moved ∙ ap (all_moved_to c.args.first) (sym new);
+      moved = cc (old, new, v.moved);
       rest = here.1;
       many = v.many;
-      end = v.end ∙ ap (λ cs. c.args.first + all_used cs) (sym new);
+      end = cc (new, v.end);
     }
 
 pub returns-clause-moved : goal.returns-clause-moved
 returns-clause-moved c =
-    let ps = c.args.places.now in let l = c.loop-i in let v = l.invariant in
-    ap standing (sym (take_all l.i l.places (omega (arith, v.many)))) ∙ v.moved ∙ ap (λ qs. all_moved_to c.args.first (standing qs)) (take_all l.i ps (omega arith))
+    cc (take_all c.loop-i.i c.loop-i.places (omega (arith, c.loop-i.invariant.many)), take_all c.loop-i.i c.args.places.now (omega arith))
 
 pub returns-clause-end : goal.returns-clause-end
 returns-clause-end c =
-    let ps = c.args.places.now in let l = c.loop-i in
-    l.invariant.end ∙ ap (λ qs. c.args.first + all_used (standing qs)) (take_all l.i ps (omega arith))
+    cc (c.loop-i.invariant.end, take_all c.loop-i.i c.args.places.now (omega arith))

@@ -6,9 +6,9 @@ use Rattle.clause_store.specs.declared.clauses.Clauses.{Clauses}
 use Rattle.clause_store.specs.Counts.{AreCounts}
 use Rattle.clause_store.specs.Lowered.{IsMissing}
 use Rattle.clause_store.specs.View.{stored_list}
-use Rattle.clause_store.proofs.DeletedLemmas.{both_rest, delete-no_copy, delete-unknown, deletes, state-unchanged, store-rest, store-unchanged}
+use Rattle.clause_store.proofs.DeleteLemmas.{both_rest, delete-no_copy, delete-unknown, deletes, state-unchanged, store-rest, store-unchanged}
 use Rattle.clause_store.proofs.EditLemmas.{stored_list-is}
-use Rattle.clause_store.proofs.LongLemmas.{long_is}
+use Rattle.clause_store.proofs.AnswerLemmas.{long_is}
 use Rattle.clause_store.proofs.clauses.delete.delete_clause.Goals as goal
 
 -- the counts are those of what is left

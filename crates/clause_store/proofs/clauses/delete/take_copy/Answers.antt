@@ -1,19 +1,17 @@
 use Rattle.std.proofs.Common.{◌≡◌, ◌+◌, ℕ, Bool, true, false, cond, List, sym, ap, ◌∙◌, arith}
-use Rattle.std.specs.List.{list_all}
 use Rattle.std.proofs.lemmas.Result.{err_from_is_err_and}
 use Rattle.checker_rules.specs.LiveLiterals.{live_of}
 use Rattle.checker_rules.specs.Store.{count_of, is_stored}
-use Rattle.checker_rules.specs.WellFormed.{are_apart}
 use Rattle.clause_store.specs.declared.clauses.Clauses.{Clauses}
 use Rattle.clause_store.specs.declared.clauses.lower.Left.{Left}
 use Rattle.clause_store.specs.declared.hash.ClauseHasher.{ClauseHasher}
 use Rattle.clause_store.specs.Buckets.{Buckets}
-use Rattle.clause_store.specs.Lowered.{IsLeft, IsLowered, IsMissing, is_gone}
+use Rattle.clause_store.specs.Lowered.{IsLeft, IsLowered, is_gone}
 use Rattle.clause_store.specs.StateOf.{hash_of}
-use Rattle.clause_store.specs.Store.{IsIndexed, is_whole}
-use Rattle.clause_store.specs.View.{stored_in, stored_list}
+use Rattle.clause_store.specs.Store.{IsIndexed}
+use Rattle.clause_store.specs.View.{stored_list}
 use Rattle.clause_store.proofs.DeleteLemmas.{counts-kept, counts-lowered, files-counts, files-lowered, held-stored, is_last, last_of, left-bucket, missing-bucket, stored_with-copy, whole-bucket}
-use Rattle.clause_store.proofs.StoreLemmas.{are_apart-bucket, read}
+use Rattle.clause_store.proofs.StoreLemmas.{are_apart-bucket}
 use Rattle.clause_store.proofs.clauses.delete.take_copy.Goals as goal
 
 -- what is known once a copy is taken from the bucket of the clause
@@ -26,28 +24,25 @@ record IsTaken (h : ClauseHasher) (cs : Clauses) (r : Bool) (ls : List ℕ) (m :
 taken : (h : ClauseHasher) (cs : Clauses) (r : Bool) (ls : List ℕ) (m : Buckets) (left : Left) (b : List ℕ) (k : ℕ) → IsIndexed h cs (stored_list cs) →
     b ≡ cs.literal_buffer.items → k ≡ hash_of h ls → IsLowered b k r ls cs.buckets m left → IsTaken h cs r ls m left
 taken h cs r ls m left b k f e q p =
-    let lowered = read (λ b k. IsLowered b k r ls cs.buckets m left) _ _ _ _ e q p in let rest = left-bucket h cs (stored_list cs) f r ls left lowered.is_left in
+    let lowered = rw (e, q) at p in let rest = left-bucket h cs (stored_list cs) f r ls left lowered.is_left in
     record { lowered = lowered; is_left = rest; stored = stored_with-copy r ls (stored_list cs) rest.copy; last = last_of r ls (stored_list cs) left rest }
 
 pub lower_clause-requires-clause-apart : goal.lower_clause-requires-clause-apart
 lower_clause-requires-clause-apart c =
     let h = c.args.hasher.now in let cs = c.args.clauses.now in
-    read (λ b k. are_apart (stored_in b cs.buckets k) ≡ true) _ _ _ _ (sym c.as_slice-buffer.ensures.value) (sym c.clause_hash-hash.ensures)
-    (are_apart-bucket h cs (stored_list cs) c.requires.filed (hash_of h c.args.lits.now))
+    rw (c.as_slice-buffer.ensures.value, c.clause_hash-hash.ensures) (are_apart-bucket h cs (stored_list cs) c.requires.filed (hash_of h c.args.lits.now))
 
 pub lower_clause-requires-clause-whole : goal.lower_clause-requires-clause-whole
 lower_clause-requires-clause-whole c =
     let h = c.args.hasher.now in let cs = c.args.clauses.now in
-    read (λ b k. list_all is_whole (stored_in b cs.buckets k) ≡ true) _ _ _ _ (sym c.as_slice-buffer.ensures.value)
-    (sym c.clause_hash-hash.ensures) (whole-bucket h cs (stored_list cs) c.requires.filed (hash_of h c.args.lits.now))
+    rw (c.as_slice-buffer.ensures.value, c.clause_hash-hash.ensures) (whole-bucket h cs (stored_list cs) c.requires.filed (hash_of h c.args.lits.now))
 
 pub returns-in_err-left-clause-missing : goal.returns-in_err-left-clause-missing
 returns-in_err-left-clause-missing c =
     let cs = c.args.clauses.now in let ls = c.args.lits.now in let r = c.args.redundant in
     let q = err_from_is_err_and c.from_residual.result c.from_residual.ensures.1 in
     rw (q.1, q.2) (missing-bucket c.args.hasher.now cs (stored_list cs) c.requires.filed r ls c.in_err-left.field-0.0
-    (read (λ b k. IsMissing r ls (stored_in b cs.buckets k) c.in_err-left.field-0.0) _ _ _ _ c.as_slice-buffer.ensures.value
-    c.clause_hash-hash.ensures c.in_err-left.ensures.missing))
+    (rw (c.as_slice-buffer.ensures.value, c.clause_hash-hash.ensures) at c.in_err-left.ensures.missing))
 
 pub returns-then-is_gone-clause-left : goal.returns-then-is_gone-clause-left
 returns-then-is_gone-clause-left c =

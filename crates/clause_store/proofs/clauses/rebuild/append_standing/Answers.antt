@@ -1,4 +1,4 @@
-use Rattle.std.proofs.Common.{◌++◌, ◌∷◌, [], None, Some, append-nil, append_assoc, sym, ap, ◌∙◌, arith}
+use Rattle.std.proofs.Common.{◌++◌, ◌∷◌, [], None, Some, append-nil, append_assoc, sym, ◌∙◌, arith, take, ap}
 use Rattle.std.proofs.lemmas.List.{take_all}
 use Rattle.clause_store.specs.Crowds.{standing}
 use Rattle.clause_store.proofs.CrowdLemmas.{place-here, standing-more}
@@ -12,9 +12,9 @@ loop-place-preserved c =
 
 pub loop-place-preserved-in_default : goal.loop-place-preserved-in_default
 loop-place-preserved-in_default c =
-    let ps = c.args.places.now in let i = c.loop-place.place-index in let old = c.args.all.now.items in
-    c.loop-place.invariant ∙ ap (λ xs. old ++ xs)
-    (sym (standing-more ps i None c.loop-place-test.true (place-here ps i _ None c.loop-place-test.true (sym c.place-item.is ∙ c.in_default.is)) ∙ append-nil _))
+    let ps = c.args.places.now in let i = c.loop-place.place-index in
+    let more = standing-more ps i None c.loop-place-test.true (place-here ps i _ None c.loop-place-test.true (sym c.place-item.is ∙ c.in_default.is)) in
+    cc (more, append-nil (standing (take i ps)))
 
 pub returns : goal.returns
-returns c = c.loop-place.invariant ∙ ap (λ ps. c.args.all.now.items ++ standing ps) (take_all c.loop-place.place-index c.args.places.now (omega arith))
+returns c = cc (take_all c.loop-place.place-index c.args.places.now (omega arith))

@@ -1,8 +1,8 @@
-use Rattle.std.proofs.Common.{◌≡◌, ℕ, ◌+◌, ◌<◌, Bool, true, false, cond, eqb, List, [], ◌∷◌, ◌++◌, append-nil, length, take, get_or, map, All, ⊎_elim, refl, sym, ap, ◌∙◌, subst, arith}
-use Rattle.std.proofs.lemmas.Bool.{cases_eq, eq-eqb, ne_eqb}
+use Rattle.std.proofs.Common.{◌≡◌, ℕ, ◌+◌, ◌<◌, Bool, true, eqb, List, [], ◌∷◌, ◌++◌, append-nil, length, take, get_or, map, All, refl, ap, ◌∙◌, subst, arith}
 use Rattle.std.specs.List.{filter}
 use Rattle.std.proofs.lemmas.List.{take_all, take_more}
 use Rattle.std.proofs.lemmas.List.Elements.{All-filter, filter-append}
+use Rattle.std.proofs.lemmas.Bool.Decides.{nat_tests}
 use Rattle.checker_rules.specs.State.{Stored}
 use Rattle.clause_store.specs.declared.clauses.Clause.{Clause}
 use Rattle.clause_store.specs.Buckets.{has_hash}
@@ -13,10 +13,7 @@ use Rattle.clause_store.proofs.clauses.rebuild.rebuild.Goals as goal
 
 map-filter : (f : Clause → Stored) (p : Stored → Bool) (xs : List Clause) → map f (filter (λ x. p (f x)) xs) ≡ filter p (map f xs)
 map-filter f p [] = refl
-map-filter f p (x ∷ xs) = elim (p (f x)) as (λ b. map f (cond b (x ∷ filter (λ x. p (f x)) xs) (filter (λ x. p (f x)) xs)) ≡ cond b (f x ∷ filter p (map f xs)) (filter p (map f xs))) [
-  | true ↦ cc (map-filter f p xs)
-  | false ↦ map-filter f p xs
-]
+map-filter f p (x ∷ xs) = grind (arith, map-filter f p xs)
 
 pub returns-clause-buckets : goal.returns-clause-buckets
 returns-clause-buckets c k =
@@ -35,15 +32,7 @@ bucket-step : (f : Clause → ℕ) (all : List Clause) (i : ℕ) (x : Clause) (o
     → new hash ≡ old hash ++ x ∷ [] → ((k : ℕ) → (k ≡ hash → ⊥) → new k ≡ old k) → (k : ℕ) → new k ≡ filter (λ c. eqb (f c) k) (take (i + 1) all)
 bucket-step f all i x old new hash less is at same pushed others k =
     let p : Clause → Bool = λ c. eqb (f c) k in
-    let cut : take (i + 1) all ≡ take i all ++ x ∷ [] = cc (take_more all i x less) in
-    cc (
-      ⊎_elim {C = new k ≡ filter p (take i all) ++ filter p (x ∷ [])} (λ (e : k ≡ hash). ap new e ∙ pushed ∙ ap (λ j. old j ++ x ∷ []) (sym e) ∙ ap
-          (λ ys. ys ++ x ∷ []) (same k) ∙ sym (ap (λ b. filter p (take i all) ++ cond b (x ∷ []) []) (eq-eqb (f x) k (sym at ∙ sym e))))
-          (λ (ne : k ≡ hash → ⊥). others k ne ∙ same k ∙ sym (append-nil (filter p (take i all))) ∙ sym
-          (ap (λ b. filter p (take i all) ++ cond b (x ∷ []) []) (ne_eqb (f x) k (λ g. ne (sym g ∙ sym at))))) (cases_eq k hash),
-      filter-append p (take i all)
-          (x ∷ []),
-    )
+    grind (arith, nat_tests, take_more all i x less, same k, others k, append-nil, filter-append p (take i all) (x ∷ []))
 
 pub loop-clause-preserved : goal.loop-clause-preserved
 loop-clause-preserved c =

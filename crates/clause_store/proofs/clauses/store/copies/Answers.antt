@@ -1,15 +1,12 @@
-use Rattle.std.proofs.Common.{◌≡◌, true}
-use Rattle.checker_rules.specs.WellFormed.{are_apart}
 use Rattle.clause_store.specs.StateOf.{hash_of}
-use Rattle.clause_store.specs.View.{stored_in, stored_list}
-use Rattle.clause_store.proofs.StoreLemmas.{are_apart-bucket, count_of-bucket, read}
+use Rattle.clause_store.specs.View.{stored_list}
+use Rattle.clause_store.proofs.StoreLemmas.{are_apart-bucket, count_of-bucket}
 use Rattle.clause_store.proofs.clauses.store.copies.Goals as goal
 
 pub copies_in-requires-clause-apart : goal.copies_in-requires-clause-apart
 copies_in-requires-clause-apart c =
     let h = c.args.hasher.now in let cs = c.args.clauses.now in
-    read (λ b k. are_apart (stored_in b cs.buckets k) ≡ true) _ _ _ _ (cc) (cc)
-    (are_apart-bucket h cs (stored_list cs) c.requires.filed (hash_of h c.args.lits.now))
+    rw (c.deref.ensures.value, c.clause_hash-hash.ensures) (are_apart-bucket h cs (stored_list cs) c.requires.filed (hash_of h c.args.lits.now))
 
 pub returns : goal.returns
 returns c =

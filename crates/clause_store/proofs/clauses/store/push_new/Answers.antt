@@ -4,7 +4,7 @@ use Rattle.checker_rules.specs.Store.{new_stored}
 use Rattle.clause_store.specs.Buckets.{clauses_at, first_copy_of}
 use Rattle.clause_store.specs.Lits.{IsWithin}
 use Rattle.clause_store.specs.View.{stored_of}
-use Rattle.clause_store.proofs.BufferLemmas.{stored_in-others, stored_in-pushed, within-pushed}
+use Rattle.clause_store.proofs.MoveLemmas.{stored_in-others, stored_in-pushed, within-pushed}
 use Rattle.clause_store.proofs.clauses.store.push_new.Goals as goal
 
 pub raise-requires-clause-known : goal.raise-requires-clause-known
@@ -24,8 +24,7 @@ returns c =
     let longer : length old ≤ length new = let q = ap length same_buffer in omega arith in
     let d = first_copy_of r c.in-Some.id c.in_ok-kept.kept in
     let here : IsWithin d.lits new = e.within in
-    let pushed : clauses_at n hash ≡ clauses_at m hash ++ d ∷ [] =
-    cc in
+    let pushed : clauses_at n hash ≡ clauses_at m hash ++ d ∷ [] = cc in
     let others : (k : ℕ) → (k ≡ hash → ⊥) → clauses_at n k ≡ clauses_at m k = λ k ne. cc (p.others k ne) in
     let stored : stored_of new d ≡ new_stored r c.args.lits.now cs.next_clause_id = cc (e.ok, c.in-Some.ensures.id.1) in (
       c.in-Some.ensures.id.0,

@@ -1,7 +1,5 @@
-use Rattle.std.proofs.Common.{◌+◌, [], true, refl, sym, subst, arith}
-use Rattle.clause_store.specs.declared.clauses.StoreClauseResult.TheVariants.{New}
+use Rattle.std.proofs.Common.{◌+◌, [], refl, arith}
 use Rattle.clause_store.specs.StateOf.{state_of}
-use Rattle.clause_store.specs.Store.{Stores}
 use Rattle.clause_store.proofs.AnswerLemmas.{empty-stored}
 use Rattle.clause_store.proofs.StoreLemmas.{few-short, is_store-units}
 use Rattle.clause_store.proofs.clauses.store.store_empty.Goals as goal
@@ -10,9 +8,7 @@ pub returns-clause-answer : goal.returns-clause-answer
 returns-clause-answer c h known redundant kept =
     let st = c.args.state.now in let cs = c.args.clauses.now in let s = state_of st h cs known in
     let e = c.in-Some.ensures in
-    subst (λ x. Stores [] redundant s (state_of (record st { unsat = true }) h x known) c.in-Some.id New) (sym e.taken)
-    (subst (λ n. Stores [] redundant s (record s { unsat = true; next = s.next + 1 }) n New) (cc)
-    (empty-stored _ s e.id.0 (few-short h cs _ kept.filed _ [] refl)))
+    rw (e.taken, e.id.1) (empty-stored _ s e.id.0 (few-short h cs _ kept.filed _ [] refl))
 
 pub returns-clause-store : goal.returns-clause-store
 returns-clause-store c h kept =

@@ -14,10 +14,7 @@ use Rattle.clause_store.proofs.clauses.store.store_unit_clause.Goals as goal
 
 -- equality of truth values
 same_is : (a b d e : Bool) → beq a b ≡ d → b ≡ e → same_bool a e ≡ d
-same_is true true d e h q = cc
-same_is true false d e h q = cc
-same_is false true d e h q = cc
-same_is false false d e h q = cc
+same_is a b d e h q = grind arith
 
 both_ok : {A E P Q R : Type 0} (res : Result A E) → (P → Q → R) → OnOk res P → OnOk res Q → OnOk res R
 both_ok (Ok x) f p q = f p q

@@ -1,8 +1,6 @@
-use Rattle.std.proofs.Common.{sym, ap, ◌∙◌, subst}
-use Rattle.checker_rules.specs.Check.{ready}
-use Rattle.clause_store.specs.CheckLaw.{AnswersCheck}
+use Rattle.std.proofs.Common.{sym, ap}
 use Rattle.clause_store.specs.StateOf.{state_of}
-use Rattle.clause_store.proofs.ReadyLemmas.{check-failed, check-no_clause, check-passed, ready-answers, ready-form, ready-known, ready-trace, same-units}
+use Rattle.clause_store.proofs.CheckLemmas.{ready-form, ready-known, ready-outcome, ready-trace}
 use Rattle.clause_store.proofs.rup.check.check_clause_with_hashes.Goals as goal
 
 pub check_clause-requires-clause-all_known : goal.check_clause-requires-clause-all_known
@@ -14,15 +12,11 @@ check_clause-requires-clause-all_known c =
 
 pub returns-in-Passed-clause-answer : goal.returns-in-Passed-clause-answer
 returns-in-Passed-clause-answer c =
-    let st = c.args.state.now in let h = c.make_ready.new.hasher in let cs = c.make_ready.new.clauses in let vs = c.make_ready.new.variables in
-    let s = state_of st c.args.hasher.now c.args.clauses.now c.args.variables.now in
-    let passes = subst (λ a. AnswersCheck (ready s c.args.lits.now) c.args.lits.now c.args.hashes.now a) c.in-Passed.is
-    (ready-answers st h cs vs _ _ _ _ s c.in_ok-make_ready.ensures.store c.requires.kept.form c.in_ok-make_ready.ensures.state
-    c.requires.no_tautology c.as_slice.ensures.value c.in_ok-answer.ensures.answer) in
-    let o = check-passed s _ _ passes in (
-      ap (λ x. x.refused) o,
-      same-units st h cs vs c.check_clause.new.units (ready s c.args.lits.now) c.in_ok-answer.ensures.units c.in_ok-make_ready.ensures.state ∙ sym (ap (λ x. x.after) o),
-    )
+    let s = state_of c.args.state.now c.args.hasher.now c.args.clauses.now c.args.variables.now in
+    let o = rw c.in-Passed.is at (ready-outcome c.args.state.now c.make_ready.new.hasher c.make_ready.new.clauses c.make_ready.new.variables _ _ _ _ _ s
+    c.in_ok-make_ready.ensures.store c.requires.kept.form c.in_ok-make_ready.ensures.state c.requires.no_tautology c.as_slice.ensures.value
+    c.in_ok-answer.ensures.answer c.in_ok-answer.ensures.units) in
+    (ap (λ x. x.refused) o, sym (ap (λ x. x.after) o))
 
 pub returns-in-Passed-clause-trace : goal.returns-in-Passed-clause-trace
 returns-in-Passed-clause-trace c = λ traced.
@@ -34,24 +28,16 @@ returns-in-Passed-clause-trace c = λ traced.
 
 pub returns-in-NoClauseForHash-clause-answer : goal.returns-in-NoClauseForHash-clause-answer
 returns-in-NoClauseForHash-clause-answer c =
-    let st = c.args.state.now in let h = c.make_ready.new.hasher in let cs = c.make_ready.new.clauses in let vs = c.make_ready.new.variables in
-    let s = state_of st c.args.hasher.now c.args.clauses.now c.args.variables.now in
-    let misses = subst (λ a. AnswersCheck (ready s c.args.lits.now) c.args.lits.now c.args.hashes.now a) c.in-NoClauseForHash.is
-    (ready-answers st h cs vs _ _ _ _ s c.in_ok-make_ready.ensures.store c.requires.kept.form c.in_ok-make_ready.ensures.state
-    c.requires.no_tautology c.as_slice.ensures.value c.in_ok-answer.ensures.answer) in
-    let o = check-no_clause s _ _ misses.0 misses.1 in (
-      ap (λ x. x.refused) o,
-      same-units st h cs vs c.check_clause.new.units (ready s c.args.lits.now) c.in_ok-answer.ensures.units c.in_ok-make_ready.ensures.state ∙ sym (ap (λ x. x.after) o),
-    )
+    let s = state_of c.args.state.now c.args.hasher.now c.args.clauses.now c.args.variables.now in
+    let o = rw c.in-NoClauseForHash.is at (ready-outcome c.args.state.now c.make_ready.new.hasher c.make_ready.new.clauses c.make_ready.new.variables _ _ _ _ _ s
+    c.in_ok-make_ready.ensures.store c.requires.kept.form c.in_ok-make_ready.ensures.state c.requires.no_tautology c.as_slice.ensures.value
+    c.in_ok-answer.ensures.answer c.in_ok-answer.ensures.units) in
+    (ap (λ x. x.refused) o, sym (ap (λ x. x.after) o))
 
 pub returns-in-Failed-clause-answer : goal.returns-in-Failed-clause-answer
 returns-in-Failed-clause-answer c =
-    let st = c.args.state.now in let h = c.make_ready.new.hasher in let cs = c.make_ready.new.clauses in let vs = c.make_ready.new.variables in
-    let s = state_of st c.args.hasher.now c.args.clauses.now c.args.variables.now in
-    let fails = subst (λ a. AnswersCheck (ready s c.args.lits.now) c.args.lits.now c.args.hashes.now a) c.in-Failed.is
-    (ready-answers st h cs vs _ _ _ _ s c.in_ok-make_ready.ensures.store c.requires.kept.form c.in_ok-make_ready.ensures.state
-    c.requires.no_tautology c.as_slice.ensures.value c.in_ok-answer.ensures.answer) in
-    let o = check-failed s _ _ fails.0 fails.1 in (
-      ap (λ x. x.refused) o,
-      same-units st h cs vs c.check_clause.new.units (ready s c.args.lits.now) c.in_ok-answer.ensures.units c.in_ok-make_ready.ensures.state ∙ sym (ap (λ x. x.after) o),
-    )
+    let s = state_of c.args.state.now c.args.hasher.now c.args.clauses.now c.args.variables.now in
+    let o = rw c.in-Failed.is at (ready-outcome c.args.state.now c.make_ready.new.hasher c.make_ready.new.clauses c.make_ready.new.variables _ _ _ _ _ s
+    c.in_ok-make_ready.ensures.store c.requires.kept.form c.in_ok-make_ready.ensures.state c.requires.no_tautology c.as_slice.ensures.value
+    c.in_ok-answer.ensures.answer c.in_ok-answer.ensures.units) in
+    (ap (λ x. x.refused) o, sym (ap (λ x. x.after) o))

@@ -1,6 +1,6 @@
 use Rattle.std.proofs.lemmas.Result.{on_ok_weaker}
 use Rattle.clause_store.proofs.GrowthLemmas.{is_store-known}
-use Rattle.clause_store.proofs.ReadyLemmas.{pending-length}
+use Rattle.clause_store.proofs.CheckLemmas.{pending-length}
 use Rattle.clause_store.proofs.rup.check.make_ready.Goals as goal
 
 pub ensure_lits-requires-clause-same : goal.ensure_lits-requires-clause-same

@@ -3,7 +3,7 @@ use Rattle.std.specs.Option.{is_some}
 use Rattle.clause_store.specs.Units.{lit_value}
 use Rattle.clause_store.proofs.StatusLemmas.{status_of-satisfied, status_of-two, status_of-unit}
 use Rattle.clause_store.proofs.rup.status.status_with.Goals as goal
-use Rattle.clause_store.proofs.rup.status.status_with.Goals.{then-is_some-via-then-is_some, then-is_some-via-else-is_some+then-not-are_false}
+use Rattle.clause_store.proofs.rup.status.status_with.Goals.{then-is_some-via-else-is_some+then-not-are_false, then-is_some-via-then-is_some}
 
 pub returns-then-is_some : goal.returns-then-is_some
 returns-then-is_some c =

@@ -5,7 +5,7 @@ use Rattle.clause_store.proofs.StatusLemmas.{drop-at}
 use Rattle.clause_store.proofs.TraceLemmas.{keeps-then, looked-free}
 use Rattle.clause_store.proofs.TrailLemmas.{is_undoable_then}
 use Rattle.clause_store.proofs.rup.trace.list_units.Goals as goal
-use Rattle.clause_store.proofs.rup.trace.list_units.Goals.{in-Some-false+in_ok-list_unit-in-Some-false, in-None}
+use Rattle.clause_store.proofs.rup.trace.list_units.Goals.{in-None, in-Some-false+in_ok-list_unit-in-Some-false}
 
 pub loop-lit-preserved : goal.loop-lit-preserved
 loop-lit-preserved c =

@@ -1,6 +1,6 @@
 use Rattle.std.proofs.Common.{ap, refl, ◌∙◌}
 use Rattle.clause_store.specs.Rup.{status_of, true_lits}
-use Rattle.clause_store.proofs.WalkLemmas.{unit-added, unit-known, unit-none, unit-step}
+use Rattle.clause_store.proofs.StatusLemmas.{unit-added, unit-known, unit-none, unit-step}
 use Rattle.clause_store.proofs.rup.untraced.propagate_clause.Goals as goal
 
 pub clause_status-requires : goal.clause_status-requires

@@ -1,19 +1,15 @@
-use Rattle.std.proofs.Common.{sym, ap, ◌∙◌}
+use Rattle.std.proofs.Common.{sym, ◌∙◌}
 use Rattle.std.proofs.Math.ListN.{drop_of_length-le}
-use Rattle.checker_rules.specs.Passes.{walk}
-use Rattle.clause_store.specs.Crowds.{standing}
 use Rattle.clause_store.specs.Lits.{IsWithin, lits_of}
-use Rattle.clause_store.specs.Rup.{lits_in, true_lits}
 use Rattle.clause_store.specs.Units.{AreKnown}
 use Rattle.clause_store.proofs.IdleLemmas.{lengthens_then}
-use Rattle.clause_store.proofs.PlaceWalks.{place-all, place-falsified, place-free, place-walked}
+use Rattle.clause_store.proofs.CrowdLemmas.{place-all, place-falsified, place-free, place-walked}
 use Rattle.clause_store.proofs.TrailLemmas.{is_undoable_then}
 use Rattle.clause_store.proofs.rup.untraced.propagate_places.Goals as goal
 
 pub propagate_clause-requires-clause-within : goal.propagate_clause-requires-clause-within
 propagate_clause-requires-clause-within c =
-    place-all c.args.buffer.now c.args.places.now c.loop-place.place-index _ c.loop-place-test.true c.in-Some.clause (sym c.place-item.is ∙ c.in-Some.is)
-    (λ e. IsWithin e.lits c.args.buffer.now) c.requires.within
+    place-all c.args.buffer.now _ _ _ c.loop-place-test.true _ (sym c.place-item.is ∙ c.in-Some.is) (λ e. IsWithin e.lits c.args.buffer.now) c.requires.within
 
 pub propagate_clause-requires-clause-known : goal.propagate_clause-requires-clause-known
 propagate_clause-requires-clause-known c =
@@ -34,8 +30,7 @@ pub loop-place-preserved-in_default : goal.loop-place-preserved-in_default
 loop-place-preserved-in_default c =
     let v = c.loop-place.invariant in
     record {
-      same = ap (λ cs. walk (true_lits c.loop-place.units) (lits_in c.args.buffer.now cs))
-          (sym (place-free c.args.buffer.now c.args.places.now c.loop-place.place-index _ c.loop-place-test.true (sym c.place-item.is ∙ c.in_default.is))) ∙ v.same;
+      same = cc (place-free c.args.buffer.now _ _ _ c.loop-place-test.true (sym c.place-item.is ∙ c.in_default.is));
       lengthens = v.lengthens;
       undoable = v.undoable;
     }
@@ -46,6 +41,4 @@ returns-then-branch-clause-ok c =
     c.loop-place.units c.propagate_clause.new.units _ (rw c.if-branch.true at c.in_ok-propagate_clause.ensures.ok) c.loop-place.invariant.same
 
 pub returns-clause-ok : goal.returns-clause-ok
-returns-clause-ok c =
-    sym c.loop-place.invariant.same
-    ∙ ap (λ ps. walk (true_lits c.loop-place.units) (lits_in c.args.buffer.now (standing ps))) (drop_of_length-le c.args.places.now c.loop-place-test.false)
+returns-clause-ok c = sym (rw (drop_of_length-le c.args.places.now c.loop-place-test.false) at c.loop-place.invariant.same)

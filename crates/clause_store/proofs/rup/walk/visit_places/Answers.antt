@@ -1,25 +1,23 @@
 use Rattle.std.proofs.Common.{◌≡◌, true, false, get_or, ◌++◌, Some, map, sym, ap, ◌∙◌}
 use Rattle.std.proofs.Math.ListN.{drop_of_length-le}
 use Rattle.checker_rules.specs.Passes.{walk}
-use Rattle.clause_store.specs.Crowds.{standing}
 use Rattle.clause_store.specs.Lits.{IsWithin, lits_of}
 use Rattle.clause_store.specs.Rup.{lits_in, true_lits}
 use Rattle.clause_store.specs.Trace.{ids_after}
 use Rattle.clause_store.specs.Units.{AreKnown}
 use Rattle.clause_store.specs.View.{stored_of}
 use Rattle.clause_store.proofs.IdleLemmas.{lengthens_then}
-use Rattle.clause_store.proofs.PlaceWalks.{place-all, place-falsified, place-free, place-listed, place-walked}
+use Rattle.clause_store.proofs.CrowdLemmas.{place-all, place-falsified, place-free, place-listed, place-walked}
 use Rattle.clause_store.proofs.TrailLemmas.{is_undoable_then}
 use Rattle.clause_store.proofs.rup.walk.visit_places.Goals as goal
 
 pub visit_clause-requires-clause-within : goal.visit_clause-requires-clause-within
 visit_clause-requires-clause-within c =
-    place-all c.args.buffer.now c.args.places.now c.loop-place.place-index _ c.loop-place-test.true c.in-Some.clause (sym c.place-item.is ∙ c.in-Some.is)
-    (λ e. IsWithin e.lits c.args.buffer.now) c.requires.within
+    place-all c.args.buffer.now _ _ _ c.loop-place-test.true _ (sym c.place-item.is ∙ c.in-Some.is) (λ e. IsWithin e.lits c.args.buffer.now) c.requires.within
 
 pub visit_clause-requires-clause-known : goal.visit_clause-requires-clause-known
 visit_clause-requires-clause-known c =
-    rw c.loop-place.invariant.undoable.known (place-all c.args.buffer.now c.args.places.now c.loop-place.place-index _ c.loop-place-test.true c.in-Some.clause (sym c.place-item.is ∙ c.in-Some.is)
+    rw c.loop-place.invariant.undoable.known (place-all c.args.buffer.now _ _ _ c.loop-place-test.true _ (sym c.place-item.is ∙ c.in-Some.is)
     (λ e. AreKnown c.args.units.now (lits_of e.lits c.args.buffer.now)) c.requires.known)
 
 pub loop-place-preserved : goal.loop-place-preserved
@@ -60,11 +58,7 @@ returns-then-branch-clause-listed c rest =
     c.loop-place.run.trace.items c.visit_clause.new.run.trace.items c.loop-place.units c.visit_clause.new.units rest true (rw c.if-branch.true at c.in_ok-visit_clause.ensures.listed)
 
 pub returns-clause-ok : goal.returns-clause-ok
-returns-clause-ok c =
-    sym c.loop-place.invariant.same
-    ∙ ap (λ ps. walk (true_lits c.loop-place.units) (lits_in c.args.buffer.now (standing ps))) (drop_of_length-le c.args.places.now c.loop-place-test.false)
+returns-clause-ok c = sym (rw (drop_of_length-le c.args.places.now c.loop-place-test.false) at c.loop-place.invariant.same)
 
 pub returns-clause-listed : goal.returns-clause-listed
-returns-clause-listed c rest =
-    sym (c.loop-place.invariant.listed rest)
-    ∙ ap (λ ps. ids_after c.loop-place.run.trace.items c.loop-place.units (map (stored_of c.args.buffer.now) (standing ps) ++ rest)) (drop_of_length-le c.args.places.now c.loop-place-test.false)
+returns-clause-listed c rest = sym (rw (drop_of_length-le c.args.places.now c.loop-place-test.false) at (c.loop-place.invariant.listed rest))

@@ -1,29 +1,23 @@
-use Rattle.std.proofs.Common.{◌≡◌, ◌∙◌, Some, length, set, subst, sym, true, false, arith}
+use Rattle.std.proofs.Common.{◌≡◌, ◌∙◌, Some, subst, sym, true, false, arith}
 use Rattle.std.proofs.lemmas.List.{length-set}
 use Rattle.clause_store.specs.Buckets.{copies_of}
-use Rattle.clause_store.specs.Crowds.{IsPlaced, standing}
+use Rattle.clause_store.specs.Crowds.{IsPlaced}
 use Rattle.clause_store.specs.Lits.{IsWithin}
 use Rattle.clause_store.specs.Lowered.{is_gone, left_of}
 use Rattle.clause_store.proofs.CrowdLemmas.{All-stands, set-counts}
 use Rattle.clause_store.proofs.PlacedLemmas.{lowered-goes, lowered-stays, lowered-within, placed-count, placed-stored}
 use Rattle.clause_store.proofs.clauses.crowd.Crowd.lower.Goals as goal
 
-pub returns-in_default-clause-missing : goal.returns-in_default-clause-missing
-returns-in_default-clause-missing c = c.in_default.ensures.missing
-
 pub returns-in_default-lower-clause-missing : goal.returns-in_default-lower-clause-missing
 returns-in_default-lower-clause-missing c =
-    let b = c.args.buffer.now in let ls = c.args.lits.now in let ps = c.args.self.now.places.items in let i = c.in-Some.at in let d = c.in-Some.clause in let p = c.in-Some.ensures.placed in
-    let none : copies_of c.args.redundant d ≡ 0 = omega (arith, c.in_default-lower.ensures) in
-    (placed-stored b ls ps i d p c.requires.apart, placed-count b ls ps i d p c.requires.apart c.args.redundant ∙ none)
+    let p = c.in-Some.ensures.placed in let none : copies_of c.args.redundant c.in-Some.clause ≡ 0 = omega (arith, c.in_default-lower.ensures) in
+    (placed-stored _ _ _ _ _ p c.requires.apart, placed-count _ _ _ _ _ p c.requires.apart c.args.redundant ∙ none)
 
 pub returns-then-is_gone-clause-lowered : goal.returns-then-is_gone-clause-lowered
 returns-then-is_gone-clause-lowered c =
-    let b = c.args.buffer.now in let ls = c.args.lits.now in let ps = c.args.self.now.places.items in let i = c.in-Some.at in let d = c.in-Some.clause in let p = c.in-Some.ensures.placed in
-    let less = c.in-Some-lower.less in
-    let gone : is_gone (left_of less) ≡ true = cc (c.left_of-left.ensures, c.is_gone.ensures, c.if-is_gone.true) in
+    let gone : is_gone (left_of c.in-Some-lower.less) ≡ true = cc (c.left_of-left.ensures, c.is_gone.ensures, c.if-is_gone.true) in
     rw (c.leave.ensures, c.find.ensures.same, c.left_of-left.ensures)
-    (lowered-goes b ls ps i d p c.requires.apart c.args.redundant less c.in-Some-lower.ensures.1 c.in-Some-lower.ensures.0 c.requires.within c.requires.whole gone)
+    (lowered-goes _ _ _ _ _ c.in-Some.ensures.placed c.requires.apart _ _ c.in-Some-lower.ensures.1 c.in-Some-lower.ensures.0 c.requires.within c.requires.whole gone)
 
 pub returns-else-is_gone-clause-lowered : goal.returns-else-is_gone-clause-lowered
 returns-else-is_gone-clause-lowered c =
@@ -39,6 +33,5 @@ invariant_of-self c =
     let x = c.find.new.self in let ps = x.places.items in let i = c.in-Some.at in
     let p = subst (λ v. IsPlaced c.args.buffer.now c.args.lits.now v.items i c.in-Some.clause) (sym c.find.ensures.same) c.in-Some.ensures.placed in
     let e = c.in-Some-lower.less in
-    let same : length (set ps i (Some e)) ≡ length ps = length-set ps i (Some e) in
-    let clauses : length (standing (set ps i (Some e))) ≡ length (standing ps) = set-counts c.in-Some.clause e ps i p.within p.here in
+    let same = length-set ps i (Some e) in let clauses = set-counts c.in-Some.clause e ps i p.within p.here in
     record { counted = omega (arith, same, clauses, x.counted); half = omega (arith, same, x.half); few_notes = omega (arith, same, x.few_notes) }

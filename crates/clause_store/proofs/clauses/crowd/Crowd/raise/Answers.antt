@@ -1,9 +1,7 @@
-use Rattle.std.proofs.Common.{◌≡◌, ◌<◌, ◌≤◌, Some, length, set, map, sym, ap, ◌∙◌, subst, arith}
+use Rattle.std.proofs.Common.{Some, sym, subst, arith}
 use Rattle.std.proofs.lemmas.List.{length-set}
-use Rattle.checker_rules.specs.Store.{count_limit}
-use Rattle.clause_store.specs.Crowds.{IsPlaced, standing}
+use Rattle.clause_store.specs.Crowds.{IsPlaced}
 use Rattle.clause_store.specs.Lits.{IsWithin}
-use Rattle.clause_store.specs.View.{stored_of}
 use Rattle.clause_store.proofs.BucketLemmas.{count_limit-some}
 use Rattle.clause_store.proofs.CrowdLemmas.{All-stands, set-counts}
 use Rattle.clause_store.proofs.FoundLemmas.{count_of-absent, found_in-absent, raise-absent}
@@ -14,26 +12,17 @@ pub returns-in_default-clause-found : goal.returns-in_default-clause-found
 returns-in_default-clause-found c = sym (found_in-absent c.args.lits.now _ c.in_default.ensures.missing)
 
 pub returns-in_default-clause-raised : goal.returns-in_default-clause-raised
-returns-in_default-clause-raised c =
-    ap (λ v. map (stored_of c.args.buffer.now) (standing v.items)) c.find.ensures.same
-    ∙ sym (raise-absent c.args.lits.now c.args.redundant _ c.in_default.ensures.missing)
+returns-in_default-clause-raised c = cc (c.find.ensures.same, raise-absent c.args.lits.now c.args.redundant _ c.in_default.ensures.missing)
 
 pub returns-in_default-clause-room : goal.returns-in_default-clause-room
-returns-in_default-clause-room c =
-    subst (λ n. n < count_limit) (sym (count_of-absent c.args.lits.now c.args.redundant _ c.in_default.ensures.missing)) count_limit-some
+returns-in_default-clause-room c = rw (count_of-absent c.args.lits.now c.args.redundant _ c.in_default.ensures.missing) count_limit-some
 
 pub returns-in-Some-raise-clause-found : goal.returns-in-Some-raise-clause-found
-returns-in-Some-raise-clause-found c =
-    sym (placed-found c.args.buffer.now c.args.lits.now c.args.self.now.places.items c.in-Some.at c.in-Some.clause c.in-Some.ensures.placed c.requires.apart)
+returns-in-Some-raise-clause-found c = sym (placed-found _ _ _ _ _ c.in-Some.ensures.placed c.requires.apart)
 
 pub returns-in-Some-raise-clause-raised : goal.returns-in-Some-raise-clause-raised
 returns-in-Some-raise-clause-raised c =
-    let b = c.args.buffer.now in let r = c.args.redundant in
-    cc (
-      c.find.ensures.same,
-      c.in-Some-raise.ensures.1,
-      placed-raised b c.args.lits.now c.args.self.now.places.items c.in-Some.at c.in-Some.clause c.in-Some.ensures.placed c.requires.apart r,
-    )
+    cc (c.find.ensures.same, c.in-Some-raise.ensures.1, placed-raised _ _ _ _ _ c.in-Some.ensures.placed c.requires.apart c.args.redundant)
 
 pub returns-in-Some-raise-clause-within : goal.returns-in-Some-raise-clause-within
 returns-in-Some-raise-clause-within c =
@@ -42,18 +31,16 @@ returns-in-Some-raise-clause-within c =
     rw c.find.ensures.same (placed-within b c.args.lits.now ps i d p c.requires.apart c.in-Some-raise.more c.requires.within inside)
 
 pub returns-in-Some-raise-clause-room : goal.returns-in-Some-raise-clause-room
-returns-in-Some-raise-clause-room c =
-    subst (λ n. n < count_limit) (sym (placed-count c.args.buffer.now c.args.lits.now c.args.self.now.places.items c.in-Some.at c.in-Some.clause c.in-Some.ensures.placed c.requires.apart c.args.redundant)) c.in-Some-raise.ensures.0
+returns-in-Some-raise-clause-room c = rw (placed-count _ _ _ _ _ c.in-Some.ensures.placed c.requires.apart c.args.redundant) c.in-Some-raise.ensures.0
 
 pub returns-in-None-clause-exhausted : goal.returns-in-None-clause-exhausted
 returns-in-None-clause-exhausted c =
-    subst (λ n. count_limit ≤ n) (sym (placed-count c.args.buffer.now c.args.lits.now c.args.self.now.places.items c.in-Some.at c.in-Some.clause c.in-Some.ensures.placed c.requires.apart c.args.redundant)) (omega (arith, c.in-None.ensures))
+    rw (placed-count _ _ _ _ _ c.in-Some.ensures.placed c.requires.apart c.args.redundant) (omega (arith, c.in-None.ensures))
 
 pub invariant_of-self : goal.invariant_of-self
 invariant_of-self c =
     let x = c.find.new.self in let ps = x.places.items in let i = c.in-Some.at in
     let p = subst (λ v. IsPlaced c.args.buffer.now c.args.lits.now v.items i c.in-Some.clause) (sym c.find.ensures.same) c.in-Some.ensures.placed in
     let e = c.in-Some-raise.more in
-    let same : length (set ps i (Some e)) ≡ length ps = length-set ps i (Some e) in
-    let clauses : length (standing (set ps i (Some e))) ≡ length (standing ps) = set-counts c.in-Some.clause e ps i p.within p.here in
+    let same = length-set ps i (Some e) in let clauses = set-counts c.in-Some.clause e ps i p.within p.here in
     record { counted = omega (arith, same, clauses, x.counted); half = omega (arith, same, x.half); few_notes = omega (arith, same, x.few_notes) }

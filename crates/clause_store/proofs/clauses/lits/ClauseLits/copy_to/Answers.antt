@@ -1,15 +1,11 @@
-use Rattle.std.proofs.Common.{◌≡◌, ◌+◌, ◌≤◌, ℕ, Bool, true, false, cond, ltb, List, length, refl, rules, arith}
+use Rattle.std.proofs.Common.{◌≡◌, ◌+◌, ◌≤◌, ℕ, List, length, rules, arith}
 use Rattle.std.proofs.lemmas.Bool.Decides.{nat_tests}
 use Rattle.checker_rules.specs.LiveLiterals.{live_of}
 use Rattle.clause_store.proofs.clauses.lits.ClauseLits.copy_to.Goals as goal
 
 -- three literals or fewer do not stand in the buffer
 short : (n : ℕ) (ls : List ℕ) → length ls ≤ 3 → n ≡ n + live_of ls
-short n ls few = either (ltb 3 (length ls)) refl
-  where
-    either : (b : Bool) → ltb 3 (length ls) ≡ b → n ≡ n + cond b (length ls) 0
-    either true q = absurd (grind (arith, nat_tests, q, few))
-    either false q = omega arith
+short n ls few = grind (arith, nat_tests)
 
 pub returns-in-Two-clause-used : goal.returns-in-Two-clause-used
 returns-in-Two-clause-used c =

@@ -1,4 +1,3 @@
-use Rattle.std.proofs.Common.{None, set, ap, ◌∙◌}
 use Rattle.clause_store.proofs.ColumnLemmas.{is_place, units_by-free}
 use Rattle.clause_store.proofs.clauses.units.Units.free.Goals as goal
 
@@ -6,6 +5,4 @@ pub index_mut-requires : goal.index_mut-requires
 index_mut-requires c = rw c.self.inside.values.ok.0 (is_place _ _ _ _ _ c.self.invariant c.self.view_is c.requires).in_values
 
 pub returns : goal.returns
-returns c =
-    units_by-free c.self.inside.values.items c.self.inside.sources.items c.self.inside.numbers.items c.args.index c.self.invariant
-    ∙ ap (λ us. set us c.args.index None) c.self.view_is
+returns c = cc (units_by-free c.self.inside.values.items c.self.inside.sources.items c.self.inside.numbers.items c.args.index c.self.invariant)

@@ -1,9 +1,8 @@
-use Rattle.std.proofs.Common.{◌<◌, Bool, length, Option, ap, ◌∙◌}
-use Rattle.std.specs.Option.{option_map}
-use Rattle.clause_store.specs.declared.clauses.units.UnitClause.{UnitClause}
+use Rattle.std.proofs.Common.{◌<◌, length}
 use Rattle.clause_store.specs.declared.clauses.units.Value.TheVariants as values
-use Rattle.clause_store.specs.Units.{known, signed, unit_at, value_by}
-use Rattle.clause_store.proofs.ColumnLemmas.{is_place, read_there, value-units_by}
+use Rattle.clause_store.specs.Units.{unit_at}
+use Rattle.std.proofs.lemmas.List.{get_or_default}
+use Rattle.clause_store.proofs.ColumnLemmas.{is_place, value-units_by}
 use Rattle.clause_store.proofs.UnitsLemmas.{signed-value}
 use Rattle.clause_store.proofs.clauses.units.Units.known_lit_value.Goals as goal
 
@@ -17,7 +16,9 @@ returns c =
     let us = c.args.self.now in let m = c.args.lit in let i = c.index.result in
     let less : i < length us = rw c.index.ensures.value c.requires in
     let place = is_place _ _ _ _ _ c.self.invariant c.self.view_is less in
-    let value =
-    ap known (c.index-2.ensures ∙ read_there c.self.inside.values.items i _ values.Free place.in_values)
-    ∙ value-units_by _ _ _ i c.self.invariant ∙ ap (λ vs. option_map (λ (u : UnitClause). u.value) (unit_at vs i)) c.self.view_is in
-    c.of_lit.ensures ∙ ap (λ (b : Option Bool). signed b m) value ∙ signed-value (unit_at us i) m ∙ ap (λ k. value_by (unit_at us k) m) c.index.ensures.value
+    let columns = c.self.inside in
+    cc (
+      get_or_default columns.values.items i c.index-2.result.now values.Free place.in_values,
+      value-units_by columns.values.items columns.sources.items columns.numbers.items i c.self.invariant,
+      signed-value (unit_at us i) m,
+    )

@@ -1,4 +1,3 @@
-use Rattle.std.proofs.Common.{set, None, sym, ap, ◌∙◌}
 use Rattle.clause_store.proofs.ColumnLemmas.{is_place, unit-write, units_by-free}
 use Rattle.clause_store.proofs.clauses.units.Units.set.Goals as goal
 
@@ -20,6 +19,4 @@ returns-in-Some c = unit-write _ _ _ _ c.args.index c.of.result c.with_number-so
 
 pub returns-in-None : goal.returns-in-None
 returns-in-None c =
-    let i = c.args.index in
-    units_by-free c.self.inside.values.items c.self.inside.sources.items c.self.inside.numbers.items i c.self.invariant
-    ∙ ap (λ us. set us i None) c.self.view_is ∙ ap (set c.args.self.now i) (sym c.in-None.is)
+    cc (units_by-free c.self.inside.values.items c.self.inside.sources.items c.self.inside.numbers.items c.args.index c.self.invariant)

@@ -3,7 +3,7 @@ use Rattle.clause_store.specs.StateOf.{stored_units}
 use Rattle.clause_store.specs.Trace.{true_unit_id}
 use Rattle.clause_store.specs.Units.{stored_id, unit_at}
 use Rattle.clause_store.proofs.StatusLemmas.{drop-at}
-use Rattle.clause_store.proofs.TrueUnitLemmas.{true_unit_id-false, true_unit_id-true}
+use Rattle.clause_store.proofs.TraceLemmas.{true_unit_id-false, true_unit_id-true}
 use Rattle.clause_store.proofs.clauses.units.Units.true_unit_id.Goals as goal
 
 pub returns-then-is_true : goal.returns-then-is_true
