@@ -1,5 +1,5 @@
 -- The store after a copy of a clause was taken away, and what deleting answers.
-use Rattle.std.proofs.Common.{◌≡◌, ℕ, ◌+◌, ◌-◌, ◌<◌, Bool, true, false, cond, not, ◌&&◌, eqb, List, [], ◌∷◌, length, get_or, map, refl, ap, ◌∙◌, arith, ⊎_elim, ◌*◌}
+use Rattle.std.proofs.Common.{◌≡◌, ℕ, ◌+◌, ◌-◌, ◌<◌, Bool, true, false, cond, not, ◌&&◌, eqb, List, [], ◌∷◌, length, get_or, map, refl, ◌∙◌, arith, ⊎_elim, ◌*◌}
 use Rattle.std.proofs.Common.{◌≤◌}
 use Rattle.std.specs.List.{filter, list_all}
 use Rattle.std.proofs.lemmas.Bool.{and_parts, not-true, cases_Bool}
@@ -88,10 +88,6 @@ pub live_literals-lower : (r : Bool) (c : List ℕ) (es : List Stored) → are_a
 live_literals-lower r c es a full h =
     cc (live-weight es, weight_of-lower live_of r c es a full h, live-weight (remaining (map (lower r c) es)))
 
--- once where it is so
-abbrev one_if : Bool → ℕ
-one_if b = cond b 1 0
-
 held-weight : (l : ℕ) (es : List Stored) → times_held l es ≡ weight_of (λ ls. cond (has l ls) 1 0) es
 held-weight l [] = refl
 held-weight l (e ∷ es) = cc (held-weight l es)
@@ -107,22 +103,21 @@ module _ (counts : List ℕ) (n : ℕ) (r : Bool) (c : List ℕ) (es : List Stor
   -- each literal of a stored clause is held
   pub held-stored : is_last r (count_of false c es) (count_of true c es) ≡ true → (l : ℕ) → has l c ≡ true → 0 < get_or counts l 0
   held-stored last l here =
-      let lower = times_held-lower l r c es apart full stored in let all = ap (λ b. cond b (one_if (has l c)) 0) last in let one : one_if (has l c) ≡ 1 = cc in
-      omega (arith, a.held l)
+      grind (arith, times_held-lower l r c es apart full stored, a.held l)
 
   -- the last copy goes
   pub counts-lowered : (counts' : List ℕ) → is_last r (count_of false c es) (count_of true c es) ≡ true → HoldOneMore c counts' counts →
       length counts' ≡ length counts → AreCounts counts' n (remaining (map (lower r c) es))
   counts-lowered counts' last less same = record {
     known = cc;
-    held = λ l. let lower = times_held-lower l r c es apart full stored in let all = ap (λ b. cond b (one_if (has l c)) 0) last in omega (arith, less l, a.held l);
+    held = λ l. grind (arith, times_held-lower l r c es apart full stored, less l, a.held l);
   }
 
   -- another one remains
   pub counts-kept : is_last r (count_of false c es) (count_of true c es) ≡ false → AreCounts counts n (remaining (map (lower r c) es))
   counts-kept more = record {
     known = a.known;
-    held = λ l. let lower = times_held-lower l r c es apart full stored in let all = ap (λ b. cond b (one_if (has l c)) 0) more in omega (arith, a.held l);
+    held = λ l. grind (arith, times_held-lower l r c es apart full stored, a.held l);
   }
 
 -- other counts of literals

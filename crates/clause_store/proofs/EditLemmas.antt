@@ -1,5 +1,5 @@
 -- The store after an edit of one bucket.
-use Rattle.std.proofs.Common.{◌≡◌, ℕ, ◌+◌, ◌*◌, ◌≤◌, Bool, true, false, cond, List, [], ◌∷◌, ◌++◌, append-nil, length, map, All, refl, sym, subst, arith, ⊎_elim}
+use Rattle.std.proofs.Common.{◌≡◌, ℕ, ◌+◌, ◌*◌, ◌≤◌, Bool, true, false, cond, List, [], ◌∷◌, ◌++◌, append-nil, length, map, All, refl, subst, arith, ⊎_elim}
 use Rattle.std.specs.List.{list_all}
 use Rattle.std.proofs.lemmas.Bool.{cases_eq}
 use Rattle.std.proofs.lemmas.List.Folds.{list_all-append}
@@ -33,13 +33,9 @@ stored_list-is h cs es f = list_is _ _ _ es (above_from 0 _ es f.rise) f.buckete
 pub is_store-by : (h : ClauseHasher) (cs : Clauses) (es : List Stored) → IsIndexed h cs es → 2 * cs.garbage_size ≤ length cs.literal_buffer.items → list_all is_stored_unit cs.unit_clauses ≡ true
     → AreCounts cs.lit_counts (length cs.unit_clauses) es → IsStore h cs
 is_store-by h cs es f garbage units counts =
-    let same = sym (stored_list-is h cs es f) in
-    record {
-      filed = rw (← same) f;
-      garbage = garbage;
-      units = units;
-      counts = rw (← same) counts;
-    }
+    let same = stored_list-is h cs es f in let filed : IsIndexed h cs (stored_list cs) = rw same f in
+    let counted : AreCounts cs.lit_counts (length cs.unit_clauses) (stored_list cs) = rw same counts in
+    assumption
 
 -- a change in one bucket
 pub within_others : (buffer : List ℕ) (m n : Buckets) (hash : ℕ) → AreWithin buffer m →

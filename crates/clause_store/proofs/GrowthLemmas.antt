@@ -1,9 +1,10 @@
 -- Variables made known.
-use Rattle.std.proofs.Common.{◌≤◌, ◌≡◌, ℕ, zero, suc, ◌+◌, ◌-◌, ◌*◌, true, List, [], ◌∷◌, ◌++◌, length, map, replicate, Option, None, refl, sym, subst, arith, length-append}
+use Rattle.std.proofs.Common.{◌≤◌, ◌≡◌, ℕ, zero, suc, ◌+◌, ◌-◌, ◌*◌, true, List, ◌++◌, length, map, replicate, Option, None, refl, sym, subst, arith, length-append}
 use Rattle.std.specs.List.{list_all}
 use Rattle.std.specs.Option.{option_map}
 use Rattle.std.proofs.lemmas.Grind.{common_steps}
 use Rattle.std.proofs.lemmas.List.{append-nil, length-map, length-replicate, map-append}
+use Rattle.std.proofs.lemmas.List.Folds.{list_all-append}
 use Rattle.checker_rules.specs.KnownVars.{new_known}
 use Rattle.checker_rules.specs.State.{Known}
 use Rattle.clause_store.specs.declared.clauses.Clauses.{Clauses}
@@ -20,11 +21,9 @@ map-free : (n : ℕ) → map (option_map stored_unit) (replicate n None) ≡ rep
 map-free zero = refl
 map-free (suc n) = cc (map-free n)
 
-free-units : (us : List (Option UnitClause)) (n : ℕ) → stored_units (us ++ replicate n None) ≡ stored_units us ++ replicate n None
-free-units us n = cc (map-append (option_map stored_unit) us (replicate n None), map-free n)
-
 grown-units : (us : List (Option UnitClause)) (count : ℕ) → stored_units (us ++ replicate (count - length us) None) ≡ stored_units us ++ replicate (count - length (stored_units us)) None
-grown-units us count = cc (free-units us (count - length us), length-map us (option_map stored_unit))
+grown-units us count =
+    let n = count - length us in cc (map-append (option_map stored_unit) us (replicate n None), map-free n, length-map us (option_map stored_unit))
 
 pub knows_vars : (count : ℕ) (cs : Clauses) (known : List Known) (us : List (Option UnitClause)) (counts : List ℕ) (known' : List Known) → length cs.unit_clauses ≡ length known
     → us ≡ cs.unit_clauses ++ replicate (count - length cs.unit_clauses) None →
@@ -55,8 +54,7 @@ all-free zero = refl
 all-free (suc n) = all-free n
 
 all-more : (us : List (Option UnitClause)) (n : ℕ) → list_all is_stored_unit us ≡ true → list_all is_stored_unit (us ++ replicate n None) ≡ true
-all-more [] n h = all-free n
-all-more (u ∷ us) n h = grind (arith, all-more us n)
+all-more us n h = grind (arith, list_all-append is_stored_unit us (replicate n None), all-free n)
 
 in_order : (h : ClauseHasher) (cs : Clauses) (us : List (Option UnitClause)) (counts : List ℕ) → IsStore h cs →
     list_all is_stored_unit us ≡ true → AreCounts counts (length us) (stored_list cs) →

@@ -1,8 +1,8 @@
 -- The counts of the clauses that hold each literal.
-use Rattle.std.proofs.Common.{◌≡◌, ◌≢◌, ℕ, zero, suc, ◌+◌, ◌-◌, ◌*◌, ◌<◌, ◌||◌, Bool, true, false, cond, eqb, ltb, List, [], ◌∷◌, length, get_or, set, take, refl, ap}
+use Rattle.std.proofs.Common.{◌≡◌, ℕ, zero, suc, ◌+◌, ◌-◌, ◌*◌, ◌<◌, ◌||◌, Bool, true, false, cond, eqb, ltb, List, [], ◌∷◌, length, get_or, set, take, refl, ap}
 use Rattle.std.proofs.Common.{◌∙◌, arith, eq-eqb, ⊎_elim, get_or-set_other, ◌++◌, length-append, map, replicate}
 use Rattle.std.proofs.Math.ListN.{get_or-eq_default}
-use Rattle.std.proofs.lemmas.Bool.{cases_lt, ne_eqb}
+use Rattle.std.proofs.lemmas.Bool.{cases_lt}
 use Rattle.std.proofs.lemmas.List.{get_or_default, length-replicate}
 use Rattle.std.proofs.lemmas.List.Folds.{list_any_more, list_all_at}
 use Rattle.std.proofs.lemmas.Bool.Decides.{nat_tests}
@@ -44,33 +44,20 @@ has-at (x ∷ xs) (suc i) less = grind (arith, has-at xs i (omega (arith, less))
 has-more : (c : List ℕ) (i m : ℕ) → i < length c → has m (take (i + 1) c) ≡ (has m (take i c) || eqb m (get_or c i 0))
 has-more c i m less = list_any_more _ c i 0 less
 
--- once where it is so
-abbrev once : Bool → ℕ
-once b = cond b 1 0
-
 module _ (c : List ℕ) (i : ℕ) (less : i < length c) (canonical : is_canonical c ≡ true) where
   abbrev l : ℕ
   l = get_or c i 0
 
-  held-here : once (has l (take (i + 1) c)) ≡ 1
-  held-here = ap once (has-more c i l less) ∙ (λ j. once (has-before c i less canonical j || eq-eqb l l refl j))
-
-  held-before : once (has l (take i c)) ≡ 0
-  held-before = cc (has-before c i less canonical)
-
-  held-other : (m : ℕ) → m ≢ l → once (has m (take (i + 1) c)) ≡ once (has m (take i c))
-  held-other m ne = grind (arith, has-more c i m less, ne_eqb m l ne)
-
   pub raised-more : (old now : List ℕ) → l < length now → HoldOneMore (take i c) old now → HoldOneMore (take (i + 1) c) old (set now l (get_or now l 0 + 1))
-  raised-more old now known held m = grind (arith, get_or-set_at, get_or-set_other, held m, held-here, held-before, held-other m)
+  raised-more old now known held m = grind (arith, nat_tests, get_or-set_at, get_or-set_other, held m, has-more c i m less, has-before c i less canonical)
 
   pub lowered-more : (old now : List ℕ) → 0 < get_or now l 0 → HoldOneMore (take i c) now old → HoldOneMore (take (i + 1) c) (set now l (get_or now l 0 - 1)) old
   lowered-more old now some held m =
-      grind (arith, get_or-set_at, get_or-set_other, known_from-count now l some, held m, held-here, held-before, held-other m)
+      grind (arith, nat_tests, get_or-set_at, get_or-set_other, known_from-count now l some, held m, has-more c i m less, has-before c i less canonical)
 
   -- the count of the next literal is as it was
   pub raised-next : (old now : List ℕ) → HoldOneMore (take i c) old now → get_or now l 0 ≡ get_or old l 0
-  raised-next old now held = let before = held l in omega (arith, before, held-before)
+  raised-next old now held = grind (arith, held l, has-before c i less canonical)
 
 -- a clause with other counts of copies holds the same literals
 pub times_held-map : (f : Stored → Stored) → ((e : Stored) → (f e).lits ≡ e.lits) → (l : ℕ) (es : List Stored) → times_held l (map f es) ≡ times_held l es

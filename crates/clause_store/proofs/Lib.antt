@@ -13,12 +13,10 @@ pub mod HashLemmas
 pub mod HeldLemmas
 pub mod IdleLemmas
 pub mod MoveLemmas
-pub mod PlacedLemmas
 pub mod RefusalLemmas
 pub mod StatusLemmas
 pub mod StoreLemmas
 pub mod TraceLemmas
 pub mod TraceStepLemmas
-pub mod TrailLemmas
 pub mod UnitsLemmas
 pub mod ViewLemmas

@@ -61,32 +61,27 @@ known-has (l ∷ ls) m n h k = grind (arith, nat_tests, known-has ls m n)
 pub record IsUnit (s : ℕ → Bool) (c : List ℕ) (m : ℕ) : Type 0 where
   pub none_true : list_any s c ≡ false
   pub one_free : unfalsified s c ≡ m ∷ []
-
-pub is_unit : (s : ℕ → Bool) (c : List ℕ) (m : ℕ) → status_of s c ≡ statuses.Unit m → IsUnit s c m
-is_unit s c m h = grind arith
-
-pub walk-unit : (s : ℕ → Bool) (c : List ℕ) (m : ℕ) → IsUnit s c m → walk s (c ∷ []) ≡ Some (add_lit m s)
-walk-unit s c m h = rw (h.none_true, h.one_free) refl
-
--- the literal that alone is free
-pub record IsFree (s : ℕ → Bool) (c : List ℕ) (m : ℕ) : Type 0 where
   pub member : has m c ≡ true
   pub not_true : s m ≡ false
   pub not_false : s (negate m) ≡ false
 
-pub is_free : (s : ℕ → Bool) (c : List ℕ) (m : ℕ) → IsUnit s c m → IsFree s c m
-is_free s c m h =
-    grind (arith, unit_here s c m h.none_true h.one_free)
+pub is_unit : (s : ℕ → Bool) (c : List ℕ) (m : ℕ) → status_of s c ≡ statuses.Unit m → IsUnit s c m
+is_unit s c m h =
+    let none : list_any s c ≡ false = grind arith in let one : unfalsified s c ≡ m ∷ [] = grind arith in
+    grind (arith, unit_here s c m none one)
+
+pub walk-unit : (s : ℕ → Bool) (c : List ℕ) (m : ℕ) → IsUnit s c m → walk s (c ∷ []) ≡ Some (add_lit m s)
+walk-unit s c m h = rw (h.none_true, h.one_free) refl
 
 pub unit-known : (us : List (Option UnitClause)) (c : List ℕ) (m n : ℕ) → var_bound c ≤ n → statuses.Unit m ≡ status_of (true_lits us) c → var_of m < n
-unit-known us c m n known status = known-has c m n known (is_free (true_lits us) c m (is_unit (true_lits us) c m (cc))).member
+unit-known us c m n known status = known-has c m n known (is_unit (true_lits us) c m (sym status)).member
 
 -- the literal that alone is free is made true
 pub unit-added : (us vs ws : List (Option UnitClause)) (c : List ℕ) (m : ℕ) (u : UnitClause) → var_bound c ≤ length vs →
     statuses.Unit m ≡ status_of (true_lits us) c → true_lits vs ≡ true_lits us → u.value ≡ not (is_negative m) →
     ws ≡ set vs (var_of m) (Some u) → true_lits ws ≡ add_lit m (true_lits us)
 unit-added us vs ws c m u known status same v e =
-    let free = is_free (true_lits us) c m (is_unit (true_lits us) c m (cc)) in
+    let free = is_unit (true_lits us) c m (sym status) in
     cc (true_lits-set vs m u (unit-known us c m (length vs) known status) v (ap (λ s. s (negate m)) same ∙ free.not_false))
 
 pub unit-step : (us ws : List (Option UnitClause)) (c : List ℕ) (m : ℕ) → statuses.Unit m ≡ status_of (true_lits us) c →
@@ -96,4 +91,4 @@ unit-step us ws c m status e = cc (walk-unit (true_lits us) c m (is_unit (true_l
 -- its variable has no value
 pub unit-none : (us : List (Option UnitClause)) (c : List ℕ) (m : ℕ) → statuses.Unit m ≡ status_of (true_lits us) c → unit_at us (var_of m) ≡ None
 unit-none us c m status =
-    grind (arith, is_free (true_lits us) c m (is_unit (true_lits us) c m (cc)), true_lits-truth us m, true_lits-falsity us m)
+    grind (arith, is_unit (true_lits us) c m (sym status), true_lits-truth us m, true_lits-falsity us m)

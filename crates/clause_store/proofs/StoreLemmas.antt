@@ -1,5 +1,5 @@
 -- The stored clauses through changes of their buckets.
-use Rattle.std.proofs.Common.{◌≡◌, ℕ, zero, suc, ◌<◌, ◌≤◌, Bool, true, false, eqb, List, [], ◌∷◌, length, set, Option, Some, subst, arith}
+use Rattle.std.proofs.Common.{◌≡◌, ℕ, zero, suc, ◌<◌, ◌≤◌, Bool, true, false, eqb, List, [], ◌∷◌, length, set, Option, Some, arith}
 use Rattle.std.specs.List.{list_all}
 use Rattle.std.specs.Option.{option_map}
 use Rattle.std.proofs.lemmas.List.{map-set}
@@ -48,12 +48,10 @@ ids_rise-more a n m (e ∷ es) le h = grind (arith, ids_rise-more (suc e.id) n m
 pub is_store-units : (h : ClauseHasher) (cs : Clauses) (us : List (Option UnitClause)) (conflict : Option (ℕ × ℕ)) (n : ℕ) →
     cs.next_clause_id ≤ n → list_all is_stored_unit us ≡ true → length us ≡ length cs.unit_clauses → IsStore h cs →
     IsStore h (record cs { unit_clauses = us; unit_conflict = conflict; next_clause_id = n })
-is_store-units h cs us conflict n le units long s = record {
-  filed = let rise = ids_rise-more 0 cs.next_clause_id n (stored_list cs) le s.filed.rise in assumption;
-  garbage = s.garbage;
-  units = units;
-  counts = subst (λ k. AreCounts cs.lit_counts k (stored_list cs)) (cc) s.counts;
-}
+is_store-units h cs us conflict n le units long s =
+    let rise = ids_rise-more 0 cs.next_clause_id n (stored_list cs) le s.filed.rise in
+    let counts : AreCounts cs.lit_counts (length us) (stored_list cs) = rw long s.counts in
+    assumption
 
 -- one more value is a stored unit's
 pub list_all-set : {X : Type 0} (p : X → Bool) (xs : List X) (i : ℕ) (y : X) → p y ≡ true → list_all p xs ≡ true → list_all p (set xs i y) ≡ true

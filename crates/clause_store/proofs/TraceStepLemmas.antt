@@ -18,7 +18,7 @@ use Rattle.clause_store.specs.Trace.{KeepsStored, ids_after, item_ids, look, loo
 use Rattle.clause_store.specs.Units.{AreKnown, number_of}
 use Rattle.clause_store.proofs.TraceLemmas.{keeps-agree, keeps-set, keeps-then, on_status, on_visit-status, trace-agree, unlisted_lits-set}
 use Rattle.clause_store.proofs.UnitsLemmas.{negation_is}
-use Rattle.clause_store.proofs.StatusLemmas.{is_free, is_unit, known-has}
+use Rattle.clause_store.proofs.StatusLemmas.{is_unit, known-has}
 
 -- ids that are listed before those of a trace
 with_ids : List ℕ → Option (List Item) → Option (List ℕ)
@@ -84,7 +84,7 @@ pub lists-unit : (ids ids_now ids_last : List ℕ) (us vs ws : List (Option Unit
 unfolding with_ids
 lists-unit ids ids_now ids_last us vs ws e m w known h last new added written rest =
     let v = look us e.lits in
-    let free = is_free (true_lits us) e.lits m (is_unit (true_lits us) e.lits m (cc)) in
+    let free = is_unit (true_lits us) e.lits m (sym h.status) in
     let less = known-has e.lits m (length vs) known free.member in
     let unlisted : unlisted_lits ws ≡ v.unlisted =
     ap unlisted_lits written ∙ unlisted_lits-free vs m w less new (ap (λ s. s m) h.same ∙ free.not_true)

@@ -1,9 +1,8 @@
 use Rattle.std.proofs.Common.{◌<◌, ◌∷◌, [], sym, subst, ◌∙◌}
 use Rattle.checker_rules.specs.Store.{count_limit}
 use Rattle.clause_store.specs.View.{stored_of}
-use Rattle.clause_store.proofs.BucketLemmas.{count_limit-some}
+use Rattle.clause_store.proofs.BucketLemmas.{absent-one, count_limit-some}
 use Rattle.clause_store.proofs.FoundLemmas.{count_of-absent}
-use Rattle.clause_store.proofs.PlacedLemmas.{absent-one}
 use Rattle.clause_store.proofs.clauses.buckets.raise_one.Goals as goal
 
 pub returns-then-not-has_lits-clause-room : goal.returns-then-not-has_lits-clause-room

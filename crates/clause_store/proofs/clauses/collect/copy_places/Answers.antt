@@ -16,7 +16,7 @@ loop-place-preserved-in_default c =
     let b = c.args.buffer.now in let ps = c.args.places.now in let i = c.loop-place.place-index in let less = c.loop-place-test.true in let v = c.loop-place.invariant in
     let free : standing (take i ps) ≡ standing (take (i + 1) ps) =
     sym (standing-more ps i None less (place-here ps i _ None less (sym c.place-item.is ∙ c.in_default.is)) ∙ append-nil _) in
-    record { copied = cc (free, v.copied); used = cc (free, v.used) }
+    rw (← free) v
 
 pub loop-place-preserved : goal.loop-place-preserved
 loop-place-preserved c =
@@ -30,7 +30,7 @@ loop-place-preserved c =
     }
 
 pub returns-clause-copied : goal.returns-clause-copied
-returns-clause-copied c = cc (take_all c.loop-place.place-index c.args.places.now (omega arith))
+returns-clause-copied c = rw (take_all c.loop-place.place-index c.args.places.now (omega arith)) at c.loop-place.invariant.copied
 
 pub returns-clause-used : goal.returns-clause-used
-returns-clause-used c = cc (take_all c.loop-place.place-index c.args.places.now (omega arith))
+returns-clause-used c = rw (take_all c.loop-place.place-index c.args.places.now (omega arith)) at c.loop-place.invariant.used

@@ -64,8 +64,8 @@ loop-i-preserved-in_default c =
 
 pub returns-clause-moved : goal.returns-clause-moved
 returns-clause-moved c =
-    cc (take_all c.loop-i.i c.loop-i.places (omega (arith, c.loop-i.invariant.many)), take_all c.loop-i.i c.args.places.now (omega arith))
+    rw (take_all c.loop-i.i c.loop-i.places (omega (arith, c.loop-i.invariant.many)), take_all c.loop-i.i c.args.places.now (omega arith)) at c.loop-i.invariant.moved
 
 pub returns-clause-end : goal.returns-clause-end
 returns-clause-end c =
-    cc (c.loop-i.invariant.end, take_all c.loop-i.i c.args.places.now (omega arith))
+    rw (take_all c.loop-i.i c.args.places.now (omega arith)) at c.loop-i.invariant.end

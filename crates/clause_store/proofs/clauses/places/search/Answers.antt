@@ -1,7 +1,7 @@
 use Rattle.std.proofs.Common.{◌∙◌, None, Some, sym, refl}
 use Rattle.clause_store.specs.Lits.{IsWithin}
 use Rattle.clause_store.proofs.CrowdLemmas.{All-stands, place-here, place-is}
-use Rattle.clause_store.proofs.PlacedLemmas.{absent-more, absent-one}
+use Rattle.clause_store.proofs.BucketLemmas.{absent-more, absent-one}
 use Rattle.clause_store.proofs.clauses.places.search.Goals as goal
 
 pub has_lits-requires : goal.has_lits-requires

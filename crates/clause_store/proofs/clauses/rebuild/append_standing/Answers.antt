@@ -17,4 +17,4 @@ loop-place-preserved-in_default c =
     cc (more, append-nil (standing (take i ps)))
 
 pub returns : goal.returns
-returns c = cc (take_all c.loop-place.place-index c.args.places.now (omega arith))
+returns c = rw (take_all c.loop-place.place-index c.args.places.now (omega arith)) at c.loop-place.invariant

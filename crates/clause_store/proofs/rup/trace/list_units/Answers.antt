@@ -1,9 +1,9 @@
-use Rattle.std.proofs.Common.{◌≡◌, None, sym, ◌∙◌}
+use Rattle.std.proofs.Common.{◌≡◌, ◌+◌, None, sym, ◌∙◌}
 use Rattle.clause_store.specs.Units.{lit_value}
 use Rattle.clause_store.proofs.IdleLemmas.{lengthens_then}
 use Rattle.clause_store.proofs.StatusLemmas.{drop-at}
 use Rattle.clause_store.proofs.TraceLemmas.{keeps-then, looked-free}
-use Rattle.clause_store.proofs.TrailLemmas.{is_undoable_then}
+use Rattle.clause_store.proofs.AssumeLemmas.{is_undoable_then}
 use Rattle.clause_store.proofs.rup.trace.list_units.Goals as goal
 use Rattle.clause_store.proofs.rup.trace.list_units.Goals.{in-None, in-Some-false+in_ok-list_unit-in-Some-false}
 

@@ -1,8 +1,7 @@
 use Rattle.std.proofs.Common.{◌∙◌, length, refl, sym, subst}
 use Rattle.clause_store.specs.Trace.{KeepsStored}
-use Rattle.clause_store.proofs.AssumeLemmas.{assume-all, assume-step, known-at, start_set-free, unlisted-all, unlisted-step}
+use Rattle.clause_store.proofs.AssumeLemmas.{assume-all, assume-step, is_undoable_then, known-at, start_set-free, unlisted-all, unlisted-step}
 use Rattle.clause_store.proofs.TraceLemmas.{keeps-set, keeps-then}
-use Rattle.clause_store.proofs.TrailLemmas.{is_undoable_then}
 use Rattle.clause_store.proofs.rup.trail.assume_false.Goals as goal
 
 pub overwrite-requires-clause-known : goal.overwrite-requires-clause-known

@@ -1,7 +1,7 @@
 use Rattle.std.proofs.Common.{◌++◌, ◌∷◌, [], ℕ, Option, sym, ap, ◌∙◌}
 use Rattle.clause_store.specs.declared.clauses.units.UnitClause.{UnitClause}
 use Rattle.clause_store.specs.Units.{unit_at}
-use Rattle.clause_store.proofs.TrailLemmas.{is_undoable-overwritten}
+use Rattle.clause_store.proofs.AssumeLemmas.{is_undoable-overwritten}
 use Rattle.clause_store.proofs.rup.trail.overwrite.Goals as goal
 
 pub returns-clause-undoable : goal.returns-clause-undoable

@@ -1,5 +1,5 @@
 use Rattle.std.proofs.Common.{refl}
-use Rattle.clause_store.proofs.TrailLemmas.{trail-rest, undone-step}
+use Rattle.clause_store.proofs.AssumeLemmas.{trail-rest, undone-step}
 use Rattle.clause_store.proofs.rup.trail.undo.Goals as goal
 
 pub loop-old-preserved : goal.loop-old-preserved

@@ -3,11 +3,10 @@ use Rattle.std.proofs.lemmas.List.{take_all}
 use Rattle.checker_rules.specs.State.{some_true_unit}
 use Rattle.clause_store.specs.StateOf.{stored_units}
 use Rattle.clause_store.specs.Units.{lit_value}
-use Rattle.clause_store.proofs.AssumeLemmas.{assume-all, assume-met, assume-skip, assume-step, known-at, none_true-step}
-use Rattle.clause_store.proofs.TrailLemmas.{is_undoable_then}
+use Rattle.clause_store.proofs.AssumeLemmas.{assume-all, assume-met, assume-skip, assume-step, is_undoable_then, known-at, none_true-step}
 use Rattle.clause_store.proofs.UnitsLemmas.{true_lits-truth, truth}
 use Rattle.clause_store.proofs.rup.untraced.assume_free.Goals as goal
-use Rattle.clause_store.proofs.rup.untraced.assume_free.Goals.{in-Some-false, in-None+in_ok-give-in-None}
+use Rattle.clause_store.proofs.rup.untraced.assume_free.Goals.{in-None+in_ok-give-in-None, in-Some-false}
 
 pub known_lit_value-requires : goal.known_lit_value-requires
 known_lit_value-requires c = known-at c.args.lits.now c.loop-lit.lit-index c.lit-item.result (length c.loop-lit.units)

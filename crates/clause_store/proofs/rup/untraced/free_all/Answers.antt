@@ -3,7 +3,7 @@ use Rattle.std.proofs.Math.ListN.{drop_of_length-le}
 use Rattle.sat_rules.specs.Clauses.{var_of}
 use Rattle.clause_store.specs.Trail.{freed, undone}
 use Rattle.clause_store.proofs.StatusLemmas.{drop-at}
-use Rattle.clause_store.proofs.TrailLemmas.{freed-first, freed-known}
+use Rattle.clause_store.proofs.AssumeLemmas.{freed-first, freed-known}
 use Rattle.clause_store.proofs.rup.untraced.free_all.Goals as goal
 
 pub free-requires : goal.free-requires

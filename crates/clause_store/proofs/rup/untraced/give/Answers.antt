@@ -1,7 +1,7 @@
 use Rattle.std.proofs.Common.{ℕ, None, sym, ap, ◌∙◌, subst}
 use Rattle.clause_store.specs.Trail.{freed}
 use Rattle.clause_store.specs.Units.{IsGiven, unit_at}
-use Rattle.clause_store.proofs.TrailLemmas.{freed-push, is_undoable-overwritten}
+use Rattle.clause_store.proofs.AssumeLemmas.{freed-push, is_undoable-overwritten}
 use Rattle.clause_store.proofs.rup.untraced.give.Goals as goal
 
 pub returns-clause-ok : goal.returns-clause-ok

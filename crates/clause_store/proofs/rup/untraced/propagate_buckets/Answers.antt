@@ -1,5 +1,5 @@
 use Rattle.clause_store.proofs.IdleLemmas.{first-ended, first-walked}
-use Rattle.clause_store.proofs.TrailLemmas.{is_undoable_then}
+use Rattle.clause_store.proofs.AssumeLemmas.{is_undoable_then}
 use Rattle.clause_store.proofs.rup.untraced.propagate_buckets.Goals as goal
 
 pub returns-in-Some-clause-ok : goal.returns-in-Some-clause-ok

@@ -4,7 +4,7 @@ use Rattle.clause_store.specs.Lits.{IsWithin, lits_of}
 use Rattle.clause_store.specs.Units.{AreKnown}
 use Rattle.clause_store.proofs.IdleLemmas.{lengthens_then}
 use Rattle.clause_store.proofs.CrowdLemmas.{place-all, place-falsified, place-free, place-walked}
-use Rattle.clause_store.proofs.TrailLemmas.{is_undoable_then}
+use Rattle.clause_store.proofs.AssumeLemmas.{is_undoable_then}
 use Rattle.clause_store.proofs.rup.untraced.propagate_places.Goals as goal
 
 pub propagate_clause-requires-clause-within : goal.propagate_clause-requires-clause-within
@@ -28,12 +28,7 @@ loop-place-preserved c =
 
 pub loop-place-preserved-in_default : goal.loop-place-preserved-in_default
 loop-place-preserved-in_default c =
-    let v = c.loop-place.invariant in
-    record {
-      same = cc (place-free c.args.buffer.now _ _ _ c.loop-place-test.true (sym c.place-item.is ∙ c.in_default.is));
-      lengthens = v.lengthens;
-      undoable = v.undoable;
-    }
+    rw (← place-free c.args.buffer.now c.args.places.now c.loop-place.place-index _ c.loop-place-test.true (sym c.place-item.is ∙ c.in_default.is)) c.loop-place.invariant
 
 pub returns-then-branch-clause-ok : goal.returns-then-branch-clause-ok
 returns-then-branch-clause-ok c =

@@ -1,14 +1,10 @@
-use Rattle.std.proofs.Common.{◌≡◌, true, false, get_or, ◌++◌, Some, map, sym, ap, ◌∙◌}
+use Rattle.std.proofs.Common.{◌≡◌, true, false, get_or, Some, sym, ◌∙◌}
 use Rattle.std.proofs.Math.ListN.{drop_of_length-le}
-use Rattle.checker_rules.specs.Passes.{walk}
 use Rattle.clause_store.specs.Lits.{IsWithin, lits_of}
-use Rattle.clause_store.specs.Rup.{lits_in, true_lits}
-use Rattle.clause_store.specs.Trace.{ids_after}
 use Rattle.clause_store.specs.Units.{AreKnown}
-use Rattle.clause_store.specs.View.{stored_of}
 use Rattle.clause_store.proofs.IdleLemmas.{lengthens_then}
 use Rattle.clause_store.proofs.CrowdLemmas.{place-all, place-falsified, place-free, place-listed, place-walked}
-use Rattle.clause_store.proofs.TrailLemmas.{is_undoable_then}
+use Rattle.clause_store.proofs.AssumeLemmas.{is_undoable_then}
 use Rattle.clause_store.proofs.rup.walk.visit_places.Goals as goal
 
 pub visit_clause-requires-clause-within : goal.visit_clause-requires-clause-within
@@ -36,15 +32,7 @@ loop-place-preserved c =
 
 pub loop-place-preserved-in_default : goal.loop-place-preserved-in_default
 loop-place-preserved-in_default c =
-    let v = c.loop-place.invariant in
-    let free = sym (place-free c.args.buffer.now c.args.places.now c.loop-place.place-index _ c.loop-place-test.true (sym c.place-item.is ∙ c.in_default.is)) in
-    record {
-      same = ap (λ cs. walk (true_lits c.loop-place.units) (lits_in c.args.buffer.now cs)) free ∙ v.same;
-      listed = λ rest. ap (λ cs. ids_after c.loop-place.run.trace.items c.loop-place.units (map (stored_of c.args.buffer.now) cs ++ rest)) free ∙ v.listed rest;
-      lengthens = v.lengthens;
-      undoable = v.undoable;
-      idle = v.idle;
-    }
+    rw (← place-free c.args.buffer.now c.args.places.now c.loop-place.place-index _ c.loop-place-test.true (sym c.place-item.is ∙ c.in_default.is)) c.loop-place.invariant
 
 pub returns-then-branch-clause-ok : goal.returns-then-branch-clause-ok
 returns-then-branch-clause-ok c =

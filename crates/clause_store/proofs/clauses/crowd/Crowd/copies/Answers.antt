@@ -1,7 +1,7 @@
 use Rattle.std.proofs.Common.{sym, subst, ◌∙◌}
 use Rattle.clause_store.specs.Crowds.{IsPlaced}
 use Rattle.clause_store.proofs.FoundLemmas.{count_of-absent}
-use Rattle.clause_store.proofs.PlacedLemmas.{placed-count}
+use Rattle.clause_store.proofs.BucketLemmas.{placed-count}
 use Rattle.clause_store.proofs.clauses.crowd.Crowd.copies.Goals as goal
 
 pub returns-in-Some : goal.returns-in-Some

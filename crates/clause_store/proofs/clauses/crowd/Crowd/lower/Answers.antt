@@ -5,7 +5,7 @@ use Rattle.clause_store.specs.Crowds.{IsPlaced}
 use Rattle.clause_store.specs.Lits.{IsWithin}
 use Rattle.clause_store.specs.Lowered.{is_gone, left_of}
 use Rattle.clause_store.proofs.CrowdLemmas.{All-stands, set-counts}
-use Rattle.clause_store.proofs.PlacedLemmas.{lowered-goes, lowered-stays, lowered-within, placed-count, placed-stored}
+use Rattle.clause_store.proofs.BucketLemmas.{lowered-goes, lowered-stays, lowered-within, placed-count, placed-stored}
 use Rattle.clause_store.proofs.clauses.crowd.Crowd.lower.Goals as goal
 
 pub returns-in_default-lower-clause-missing : goal.returns-in_default-lower-clause-missing

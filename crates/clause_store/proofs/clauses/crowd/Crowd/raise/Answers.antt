@@ -2,10 +2,9 @@ use Rattle.std.proofs.Common.{Some, sym, subst, arith}
 use Rattle.std.proofs.lemmas.List.{length-set}
 use Rattle.clause_store.specs.Crowds.{IsPlaced}
 use Rattle.clause_store.specs.Lits.{IsWithin}
-use Rattle.clause_store.proofs.BucketLemmas.{count_limit-some}
+use Rattle.clause_store.proofs.BucketLemmas.{count_limit-some, placed-count, placed-found, placed-raised, placed-within, raised-within}
 use Rattle.clause_store.proofs.CrowdLemmas.{All-stands, set-counts}
 use Rattle.clause_store.proofs.FoundLemmas.{count_of-absent, found_in-absent, raise-absent}
-use Rattle.clause_store.proofs.PlacedLemmas.{placed-count, placed-found, placed-raised, placed-within, raised-within}
 use Rattle.clause_store.proofs.clauses.crowd.Crowd.raise.Goals as goal
 
 pub returns-in_default-clause-found : goal.returns-in_default-clause-found
