@@ -1,6 +1,6 @@
 -- The counts of the clauses that hold each literal.
-use Rattle.std.proofs.Common.{◌≡◌, ℕ, zero, suc, ◌+◌, ◌-◌, ◌*◌, ◌<◌, ◌||◌, Bool, true, false, cond, eqb, ltb, List, [], ◌∷◌, length, get_or, set, take, refl, ap}
-use Rattle.std.proofs.Common.{◌∙◌, arith, eq-eqb, ⊎_elim, get_or-set_other, ◌++◌, length-append, map, replicate}
+use Rattle.std.proofs.Common.{◌≡◌, ℕ, zero, suc, ◌+◌, ◌-◌, ◌*◌, ◌<◌, ◌||◌, Bool, true, false, cond, eqb, ltb, List, [], ◌∷◌, length, get_or, set, take, refl, ap, ◌∙◌}
+use Rattle.std.proofs.Common.{arith, eq-eqb, ⊎_elim, get_or-set_other, ◌++◌, length-append, map, replicate}
 use Rattle.std.proofs.Math.ListN.{get_or-eq_default}
 use Rattle.std.proofs.lemmas.Bool.{cases_lt}
 use Rattle.std.proofs.lemmas.List.{get_or_default, length-replicate}

@@ -17,6 +17,5 @@ pub mod RefusalLemmas
 pub mod StatusLemmas
 pub mod StoreLemmas
 pub mod TraceLemmas
-pub mod TraceStepLemmas
 pub mod UnitsLemmas
 pub mod ViewLemmas

@@ -70,9 +70,6 @@ is_unit s c m h =
     let none : list_any s c ≡ false = grind arith in let one : unfalsified s c ≡ m ∷ [] = grind arith in
     grind (arith, unit_here s c m none one)
 
-pub walk-unit : (s : ℕ → Bool) (c : List ℕ) (m : ℕ) → IsUnit s c m → walk s (c ∷ []) ≡ Some (add_lit m s)
-walk-unit s c m h = rw (h.none_true, h.one_free) refl
-
 pub unit-known : (us : List (Option UnitClause)) (c : List ℕ) (m n : ℕ) → var_bound c ≤ n → statuses.Unit m ≡ status_of (true_lits us) c → var_of m < n
 unit-known us c m n known status = known-has c m n known (is_unit (true_lits us) c m (sym status)).member
 
@@ -86,7 +83,7 @@ unit-added us vs ws c m u known status same v e =
 
 pub unit-step : (us ws : List (Option UnitClause)) (c : List ℕ) (m : ℕ) → statuses.Unit m ≡ status_of (true_lits us) c →
     true_lits ws ≡ add_lit m (true_lits us) → walk (true_lits us) (c ∷ []) ≡ Some (true_lits ws)
-unit-step us ws c m status e = cc (walk-unit (true_lits us) c m (is_unit (true_lits us) c m (sym status)))
+unit-step us ws c m status e = let unit = is_unit (true_lits us) c m (sym status) in rw (unit.none_true, unit.one_free) (cc)
 
 -- its variable has no value
 pub unit-none : (us : List (Option UnitClause)) (c : List ℕ) (m : ℕ) → statuses.Unit m ≡ status_of (true_lits us) c → unit_at us (var_of m) ≡ None

@@ -4,7 +4,7 @@ use Rattle.clause_store.specs.Units.{AreKnown}
 use Rattle.clause_store.specs.View.{stored_of}
 use Rattle.clause_store.specs.Lits.{lits_of}
 use Rattle.clause_store.proofs.IdleLemmas.{lengthens_then_longer}
-use Rattle.clause_store.proofs.TraceStepLemmas.{is_looked, lists-falsified, lists-idle, lists-unit}
+use Rattle.clause_store.proofs.TraceLemmas.{is_looked, lists-falsified, lists-idle, lists-unit}
 use Rattle.clause_store.proofs.StatusLemmas.{unit-added, unit-known, unit-step}
 use Rattle.clause_store.proofs.rup.walk.visit_clause.Goals as goal
 
