@@ -1,4 +1,4 @@
-use Rattle.std.proofs.Common.{◌≡◌, ◌+◌, None, sym, ◌∙◌}
+use Rattle.std.proofs.Common.{◌≡◌, None, sym, ◌∙◌}
 use Rattle.clause_store.specs.Units.{lit_value}
 use Rattle.clause_store.proofs.IdleLemmas.{lengthens_then}
 use Rattle.clause_store.proofs.StatusLemmas.{drop-at}
