@@ -1,6 +1,5 @@
 -- A clause of a bucket as a stored one, and one that was found in its place.
-use Rattle.std.proofs.Common.{◌≡◌, ℕ, suc, ◌<◌, Bool, true, false, List, ◌++◌, length, get_or, take, drop, set, map, Some, arith, ◌+◌, [], ◌∷◌, Option, None, All}
-use Rattle.std.proofs.Common.{◌∙◌}
+use Rattle.std.proofs.Common.{◌≡◌, ℕ, suc, ◌<◌, Bool, true, false, List, ◌++◌, length, get_or, take, drop, set, map, Some, arith, ◌+◌, [], ◌∷◌, Option, None, All, ◌∙◌}
 use Rattle.std.specs.List.{list_all}
 use Rattle.std.proofs.lemmas.List.{drop-map, map-append, map-set, take-map}
 use Rattle.std.proofs.Math.ListN.{get_or-map, length-map}

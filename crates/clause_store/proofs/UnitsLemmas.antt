@@ -1,5 +1,5 @@
 -- The literals that the values make true.
-use Rattle.std.proofs.Common.{◌≡◌, ℕ, zero, suc, ◌<◌, Bool, true, false, not, List, [], ◌∷◌, length, set, Option, None, Some, refl, arith}
+use Rattle.std.proofs.Common.{◌≡◌, ℕ, zero, suc, ◌<◌, Bool, false, not, List, [], ◌∷◌, length, set, Option, None, Some, refl, arith}
 use Rattle.std.proofs.Math.Bool.{beq}
 use Rattle.std.specs.Option.{option_eq, option_map}
 use Rattle.std.proofs.lemmas.Bool.Decides.{nat_tests}
@@ -35,9 +35,6 @@ falsity (Some b) = not b
 
 pub eq-falsity : (o : Option Bool) → option_eq beq o (Some false) ≡ falsity o
 eq-falsity o = grind arith
-
-pub falsity-is : (o : Option Bool) → falsity o ≡ true → o ≡ Some false
-falsity-is o h = grind arith
 
 -- by the value of the literal's variable
 pub true_lits-by : (us : List (Option UnitClause)) (m : ℕ) → true_lits us m ≡ makes_true (option_map stored_unit (unit_at us (var_of m))) m
