@@ -2,9 +2,10 @@
 --     groups left n, number_bytes n, numbers_bytes ns      a number in at most this many bytes and one more, a number below 2^64, numbers
 --     lit_number l, hint_number h      the number of a literal, by its code, and that of a hint
 --     line_bytes x, lines_bytes xs      a line, and lines
+--     HasLargeHint x      the number of a hint is none of 64 bits
 --     HasBinaryNumbers x      what the numbers of a line can say, in nine bytes each
 --     BytesAreRead      the bytes of such lines are read as those lines
-use Rattle.std.specs.Prelude.{◌≡◌, ℕ, suc, zero, ◌+◌, ◌*◌, ◌/◌, ◌%◌, ◌^◌, ◌<◌, nat_lt, if◌then◌else◌, List, [], ◌∷◌, ◌++◌, map, All}
+use Rattle.std.specs.Prelude.{◌≡◌, ℕ, suc, zero, ◌+◌, ◌*◌, ◌/◌, ◌%◌, ◌^◌, ◌<◌, nat_lt, if◌then◌else◌, ◌≤◌, List, [], ◌∷◌, ◌++◌, map, All, Any}
 use Rattle.lrat_rules.specs.Lines.{Hint, Line, along, against, adds, deletes}
 use Rattle.lrat_text.specs.Texts.{Ended}
 use Rattle.lrat_binary.specs.Lines.{binary_of}
@@ -35,6 +36,16 @@ lit_number l = l + 2
 abbrev pub hint_number : Hint → ℕ
 hint_number (along id) = id * 2
 hint_number (against id) = id * 2 + 1
+
+-- the id that a hint names
+abbrev pub hint_id : Hint → ℕ
+hint_id (along id) = id
+hint_id (against id) = id
+
+-- a hint has an id of 2^63 or more: its number is none of 64 bits
+abbrev pub HasLargeHint : Line → Type 0
+HasLargeHint (adds id c hints) = Any (λ h. 2 ^ 63 ≤ hint_id h) hints
+HasLargeHint (deletes ids) = ⊥
 
 -- `a` id literals 0 hints 0, and `d` ids 0
 abbrev pub line_bytes : Line → List ℕ

@@ -1,9 +1,9 @@
 //! Lines of LRAT proofs in the binary form, with ids as they are.
-ghost use Rattle.std.specs.Prelude.{◌≡◌, ◌++◌, map, IfOk, OnOk};
+ghost use Rattle.std.specs.Prelude.{◌≡◌, ◌++◌, ◌^◌, ◌<◌, map, All, IfOk, IsErr, OnOk};
 ghost use Rattle.lrat_rules.specs.Lines.{adds, deletes};
 ghost use Rattle.lrat_text.specs.Grammar.{hint_of};
 ghost use Rattle.lrat_text.specs.NextLine.{view};
-ghost use Rattle.sat_output.specs.LratBytes.{hint_number, line_bytes, lit_number, number_bytes, numbers_bytes};
+ghost use Rattle.sat_output.specs.LratBytes.{HasLargeHint, hint_id, hint_number, line_bytes, lit_number, number_bytes, numbers_bytes};
 
 use lrat_text::{Hint, LratLine};
 use sat_formula::Lit;
@@ -13,7 +13,8 @@ use std::io::ErrorKind;
 
 /// The bytes of a line. Of a hint with an id of 2^63 or more there are none: `InvalidData`.
 pub(crate) fn bytes_of(alloc: Global, line: LratLine<'_>) -> io::Result<Vec<u8>>
-    ensures { IfOk result (λ bytes. bytes.items ≡ line_bytes (view line.entry)) }
+    ensures whole { IfOk result (λ bytes. bytes.items ≡ line_bytes (view line.entry)) }
+    ensures large { HasLargeHint (view line.entry) → IsErr result }
 {
     match line {
         LratLine::Add { id, clause, hints } => addition(alloc, id, clause, hints),
@@ -23,8 +24,9 @@ pub(crate) fn bytes_of(alloc: Global, line: LratLine<'_>) -> io::Result<Vec<u8>>
 
 /// The bytes of a line that adds a clause.
 fn addition(alloc: Global, id: u64, clause: &[Lit], hints: &[Hint]) -> io::Result<Vec<u8>>
-    ensures { IfOk result (λ bytes. bytes.items
+    ensures whole { IfOk result (λ bytes. bytes.items
         ≡ line_bytes (adds id clause.now (map hint_of hints.now))) }
+    ensures large { HasLargeHint (adds id clause.now (map hint_of hints.now)) → IsErr result }
 {
     let mut bytes = Vec::new(alloc);
     bytes.push(b'a')?;
@@ -87,8 +89,9 @@ fn push_numbers(bytes: &mut Vec<u8>, numbers: &[u64]) -> Result<(), AllocError>
 
 /// Appends the number of a hint.
 fn push_hint(bytes: &mut Vec<u8>, hint: Hint) -> io::Result<()>
-    ensures { OnOk result (bytes.new.items
+    ensures pushed { OnOk result (bytes.new.items
         ≡ bytes.old.items ++ number_bytes (hint_number (hint_of hint))) }
+    ensures small { OnOk result (hint_id (hint_of hint) < 2 ^ 63) }
 {
     let (id, sign) = match hint {
         Hint::Along(id) => (id, 0),
@@ -103,8 +106,9 @@ fn push_hint(bytes: &mut Vec<u8>, hint: Hint) -> io::Result<()>
 
 /// Appends the number of each hint.
 fn push_hints(bytes: &mut Vec<u8>, hints: &[Hint]) -> io::Result<()>
-    ensures { OnOk result (bytes.new.items
+    ensures pushed { OnOk result (bytes.new.items
         ≡ bytes.old.items ++ numbers_bytes (map hint_number (map hint_of hints.now))) }
+    ensures small { OnOk result (All (λ hint. hint_id (hint_of hint) < 2 ^ 63) hints.now) }
 {
     for hint in hints {
         push_hint(bytes, *hint)?;

@@ -1,9 +1,10 @@
 //! Lines of LRAT proofs.
-ghost use Rattle.std.specs.Prelude.{◌≡◌, ◌++◌, ◌∷◌, [], map, IfOk, OnErr, OnOk};
+ghost use Rattle.std.specs.Prelude.{◌≡◌, ◌++◌, ◌∷◌, [], map, IfOk, IsErr, OnErr, OnOk};
 ghost use Rattle.std.specs.Io.KnownBytes.{Appends};
 ghost use Rattle.lrat_text.specs.Grammar.{hint_of};
 ghost use Rattle.lrat_text.specs.NextLine.{view};
 ghost use Rattle.sat_output.specs.LineForms.{lines_in};
+ghost use Rattle.sat_output.specs.LratBytes.{HasLargeHint};
 ghost use Rattle.sat_output.specs.LratTexts.{addition_words, deletion_words, last_after, line_text, lines_text};
 ghost use Rattle.sat_output.specs.Words.{spaced};
 ghost use Rattle.whole_writes.specs.Beginnings.{AppendsBeginning};
@@ -35,6 +36,8 @@ pub fn write_lrat_line<W: Write>(
         (lines_in form last (view line.entry ∷ []))) }
     ensures beginning { OnErr result (AppendsBeginning (W.contents out.old) (W.contents out.new)
         (lines_in form last (view line.entry ∷ []))) }
+    ensures large { form ≡ LineForm.Binary → HasLargeHint (view line.entry)
+        → IsErr result × (out.new ≡ out.old) }
 {
     let line = line_in(alloc, form, last, line)?;
     append_whole(out, &line)
@@ -42,7 +45,9 @@ pub fn write_lrat_line<W: Write>(
 
 /// A line in its form.
 fn line_in(alloc: Global, form: LineForm, last: u64, line: LratLine<'_>) -> io::Result<Vec<u8>>
-    ensures { IfOk result (λ bytes. bytes.items ≡ lines_in form last (view line.entry ∷ [])) }
+    ensures whole { IfOk result (λ bytes. bytes.items
+        ≡ lines_in form last (view line.entry ∷ [])) }
+    ensures large { form ≡ LineForm.Binary → HasLargeHint (view line.entry) → IsErr result }
 {
     match form {
         LineForm::Text => Ok(text_of(alloc, last, line)?),
