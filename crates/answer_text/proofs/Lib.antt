@@ -1,3 +1,2 @@
-pub mod AnswerRowsFacts
 pub mod ConsistencyLemmas
 pub mod ReadingLemmas

@@ -1,5 +1,7 @@
-use Rattle.answer_text.proofs.AnswerRowsFacts.{answer_rows}
+use Rattle.answer_text.specs.Answers.{outcome_at}
+use Rattle.answer_text.specs.Places.{after}
 use Rattle.answer_text.proofs.laws.answer_rows.Goals as goal
 
 pub returns : goal.returns
-returns c = answer_rows
+unfolding outcome_at after
+returns c = assumption

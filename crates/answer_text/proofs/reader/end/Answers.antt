@@ -1,16 +1,12 @@
-use Rattle.std.proofs.Common.{ap, ◌∙◌}
-use Rattle.answer_text.specs.Answers.{at_end}
 use Rattle.answer_text.specs.Reading.{Ends}
-use Rattle.answer_text.proofs.ReadingLemmas.{exits, ends_off, unlisted, untold}
+use Rattle.answer_text.proofs.ReadingLemmas.{exits, ends_off}
 use Rattle.answer_text.proofs.reader.end.Goals as goal
 
 pub returns-in_err-last : goal.returns-in_err-last
 returns-in_err-last c = λ lits h. exits (Ends _) _ _ c.from_residual.ensures.1 (ends_off c.args.spot.line _ c.take.new.literals _ (c.in_err-last.ensures lits h))
 
 pub returns-then-not-last : goal.returns-then-not-last
-returns-then-not-last c = λ lits h. let w = c.in_ok-last.ensures lits h in rw c.wrong.ensures (ap (at_end c.args.spot.line) w.1 ∙ unlisted _ w.0 c.in_ok-last.last c.if-not-last.true)
+returns-then-not-last c = λ lits h. let w = c.in_ok-last.ensures lits h in rw (c.wrong.ensures, w.1, c.if-not-last.true)
 
 pub returns-then-not-last-2 : goal.returns-then-not-last-2
-returns-then-not-last-2 c = λ lits h. let w = c.in_ok-last.ensures lits h in
-    rw c.wrong-then-not-last-2.ensures
-    (ap (at_end c.args.spot.line) w.1 ∙ untold _ w.0 c.in_ok-last.last c.if-not-last.false c.if-last.true c.if-not-last-2.true)
+returns-then-not-last-2 c = λ lits h. let w = c.in_ok-last.ensures lits h in rw (c.wrong-then-not-last-2.ensures, w.1, c.if-not-last.false, c.if-last.true, c.if-not-last-2.true)
