@@ -1,8 +1,8 @@
 -- What the checker's answer says of a whole proof.
-use Rattle.std.proofs.Common.{◌≡◌, ℕ, Bool, true, false, List, [], ◌∷◌, ◌++◌, Option, Some, None, Result, Ok, Err, refl, sym, ap, ◌∙◌, append_assoc}
+use Rattle.std.proofs.Common.{◌≡◌, ℕ, Bool, true, false, List, [], ◌∷◌, ◌++◌, Option, Some, None, Result, Ok, Err, arith, refl, sym, ap, ◌∙◌, append_assoc}
 use Rattle.std.specs.Prelude.{◌||◌, IfSome}
 use Rattle.sat_rules.specs.Named.{Item}
-use Rattle.lrat_rules.specs.Lines.{Line, accepts, has_empty, is_refuted, refutes}
+use Rattle.lrat_rules.specs.Lines.{Line, has_empty, is_refuted, refutes}
 use Rattle.lrat_rules.specs.Causes.{Cause}
 use Rattle.lrat_rules.specs.Refusals.{cause_of_line}
 use Rattle.lrat_rules.specs.Stores.{formula_store}
@@ -26,11 +26,7 @@ said-append (l ∷ ls) ms = ap (λ (k : List Line). l.1 ∷ k) (said-append ls m
 
 -- a line that has a cause ends the lines
 refused_ends : (st : List Item) (l : Line) (ls : List Line) (k : Cause) → cause_of_line st l ≡ Some k → refutes st (l ∷ ls) ≡ false
-refused_ends st l ls k e = go (accepts st l) refl
-  where
-    go : (b : Bool) → accepts st l ≡ b → refutes st (l ∷ ls) ≡ false
-    go false is = rw is refl
-    go true is = let none = (causes_exact st l).1 is in absurd cc
+refused_ends st l ls k e = grind (arith, (causes_exact st l).1)
 
 module _ (ids : Option Ids) (formula : List (List ℕ)) where
   -- lines that were accepted, and those after them
@@ -45,36 +41,24 @@ module _ (ids : Option Ids) (formula : List (List ℕ)) where
   shows-of : (text : List ℕ) (o : Outcome) → proof_says ids formula text ≡ o → shows ids formula text ≡ is_refuted formula (said o.0)
   shows-of text o e = ap (λ (p : Outcome). is_refuted formula (said p.0)) e
 
-  -- the formula has the empty clause, or one of the lines that were accepted adds it
-  shows-refuted : (lines later : List (ℕ × Line)) (c : LratChecker) → HasAccepted formula (said lines) c → has_refuted c ≡ true → is_refuted formula (said (lines ++ later)) ≡ true
-  shows-refuted lines later c p e = found lines later c p ∙ ap (λ b. b || refutes p.store (said later)) e
-
-  -- none does, and the next line is refused
-  shows-refused : (lines : List (ℕ × Line)) (number : ℕ) (line : Line) (later : List (ℕ × Line)) (c : LratChecker) (k : Cause) (p : HasAccepted formula (said lines) c) → has_refuted c ≡ false
-      → cause_of_line p.store line ≡ Some k → is_refuted formula (said ((lines ++ (number, line) ∷ []) ++ later)) ≡ false
-  shows-refused lines number line later c k p e refused =
-      ap (λ (ls : List (ℕ × Line)). is_refuted formula (said ls)) (append_assoc lines ((number, line) ∷ []) later)
-      ∙ found lines ((number, line) ∷ later) c p
-      ∙ ap (λ b. b || refutes p.store (line ∷ said later)) e
-      ∙ refused_ends p.store line (said later) k refused
-
   decides : (text : List ℕ) (r : Result Bool LratFault) → Refutes ids formula (Some text) r → Decides ids formula text r
   decides text (Ok true) p =
       let a = p.answer in
-      shows-of text _ a.text.1 ∙ shows-refuted a.lines a.text.0.0 p.checker a.ready.accepted (sym a.answer)
+      shows-of text _ a.text.1 ∙ found a.lines a.text.0.0 p.checker a.ready.accepted ∙ ap (λ b. b || refutes a.ready.accepted.store (said a.text.0.0)) (sym a.answer)
   decides text (Ok false) p =
       let a = p.answer in
       shows-of text _ a.text ∙ sym a.ready.accepted.refuted ∙ sym a.answer
-  decides text (Err (lrat.Read cause)) p = tt
   decides text (Err (lrat.Unread line kind)) p =
       let a = p.answer in
       shows-of text _ a.text ∙ sym a.accepted.refuted ∙ p.stops
   decides text (Err (lrat.Refused line cause)) p =
       let a = p.answer in
       shows-of text _ a.text.1
-      ∙ shows-refused a.lines line a.line a.text.0.0 p.checker (cause_of cause) a.accepted p.stops (a.refused a.accepted.store a.accepted.ran)
-  decides text (Err lrat.OutOfMemory) p = tt
-  decides text (Err lrat.Failed) p = tt
+      ∙ ap (λ (ls : List (ℕ × Line)). is_refuted formula (said ls)) (append_assoc a.lines ((line, a.line) ∷ []) a.text.0.0)
+      ∙ found a.lines ((line, a.line) ∷ a.text.0.0) p.checker a.accepted
+      ∙ ap (λ b. b || refutes a.accepted.store (a.line ∷ said a.text.0.0)) p.stops
+      ∙ refused_ends a.accepted.store a.line (said a.text.0.0) (cause_of cause) (a.refused a.accepted.store a.accepted.ran)
+  decides text r p = tt
 
   pub decided : (known : Option (List ℕ)) (r : Result Bool LratFault) → Refutes ids formula known r → IfSome known (λ text. Decides ids formula text r)
   decided None r p = tt

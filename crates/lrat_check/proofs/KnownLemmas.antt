@@ -6,10 +6,9 @@ use Rattle.std.proofs.Common.{◌≡◌, ◌≢◌, ◌⊎◌, inl, inr, ℕ, ze
 use Rattle.std.specs.Prelude.{◌^◌, min, Contains, MatchOption}
 use Rattle.std.proofs.lemmas.Bool.{eqb-true}
 use Rattle.std.proofs.lemmas.List.Elements.{Contains-append_left, Contains-append_right}
-use Rattle.sat_rules.specs.Clauses.{has}
 use Rattle.sat_rules.specs.Named.{Item, NamedBy}
 use Rattle.sat_rules.proofs.HintLineFacts.{some-same}
-use Rattle.lrat_rules.specs.Lines.{Line, accepts, adds, after, deletes, run, then_run}
+use Rattle.lrat_rules.specs.Lines.{Line, adds, after, deletes, run}
 use Rattle.lrat_rules.specs.Stores.{find, formula_store, numbered}
 use Rattle.lrat_rules.proofs.Mapping.{found_left}
 use Rattle.lrat_rules.proofs.Running.{runs_join}
@@ -24,12 +23,7 @@ use Rattle.lrat_check.specs.declared.stored.KnownIds.{KnownIds}
 -- a clause of the formula
 in_formula : (cs : List (List ℕ)) (n i : ℕ) (c : List ℕ) → find (numbered n cs) i ≡ Some c → (n ≤ i) × (i < n + length cs)
 in_formula [] n i c e = absurd cc
-in_formula (d ∷ cs) n i c e = go (in_formula cs (suc n) i c) (eqb i n) refl e
-  where
-    go : (find (numbered (suc n) cs) i ≡ Some c → (suc n ≤ i) × (i < suc n + length cs)) → (b : Bool) → eqb i n ≡ b →
-        cond b (Some d) (find (numbered (suc n) cs) i) ≡ Some c → (n ≤ i) × (i < n + length (d ∷ cs))
-    go later true is f = let same = eqb-true i n is in (omega arith, omega arith)
-    go later false is f = let h = later f in (omega arith, omega arith)
+in_formula (d ∷ cs) n i c e = grind (arith, eqb-true, in_formula cs (suc n) i c)
 
 -- after a line it was there before, or the line added it
 found_after : (st : List Item) (l : Line) (i : ℕ) (c : List ℕ) → find (after st l) i ≡ Some c → (find st i ≡ Some c) ⊎ Contains (added_by l) i
@@ -38,19 +32,11 @@ found_after st (adds j d hs) i c e = go (eqb i j) refl e
     go : (b : Bool) → eqb i j ≡ b → cond b (Some d) (find st i) ≡ Some c → (find st i ≡ Some c) ⊎ Contains (j ∷ []) i
     go true is f = inr (0, omega arith, sym (eqb-true i j is))
     go false is f = inl f
-found_after st (deletes is) i c e = inl (go (has i is) (sym (found_left st is i) ∙ e))
-  where
-    go : (b : Bool) → cond b None (find st i) ≡ Some c → find st i ≡ Some c
-    go true f = absurd cc
-    go false f = f
+found_after st (deletes is) i c e = inl (grind (arith, found_left st is i))
 
 -- the store after a line that was accepted
 after-is : (st su : List Item) (l : Line) → run st (l ∷ []) ≡ Some su → after st l ≡ su
-after-is st su l e = go (accepts st l) e
-  where
-    go : (b : Bool) → then_run (cond b (Some (after st l)) None) (λ s. Some s) ≡ Some su → after st l ≡ su
-    go true f = some-same (after st l) su f
-    go false f = absurd cc
+after-is st su l e = grind arith
 
 -- ---- what is known
 
@@ -122,9 +108,8 @@ pub record NamedSoFar (store : List Item) (number : ℕ) (left wanted : List (Li
 
 named_last : (f : ℕ → Option (List ℕ)) (ids : List ℕ) (cs : List (List ℕ)) (i : ℕ) (c : List ℕ) → NamedBy f ids cs → f i ≡ Some c → NamedBy f (ids ++ i ∷ []) (cs ++ c ∷ [])
 named_last f [] [] i c p e = (e, tt)
-named_last f [] (d ∷ cs) i c p e = absurd p
-named_last f (j ∷ ids) [] i c p e = absurd p
 named_last f (j ∷ ids) (d ∷ cs) i c p e = (p.0, named_last f ids cs i c p.1 e)
+named_last f ids cs i c p e = absurd p
 
 module _ (store : List Item) (number : ℕ) (left wanted : List (List ℕ)) (so : NamedSoFar store number left wanted) where
   one_more : (n : ℕ) → n ≡ min (number + 1) (2 ^ 64 - 1) → n ≡ min (length so.done + 1) (2 ^ 64 - 1)
@@ -143,14 +128,9 @@ module _ (store : List Item) (number : ℕ) (left wanted : List (List ℕ)) (so 
 
   pub first_missing : (m : MissingClause) → m.number ≡ min (number + 1) (2 ^ 64 - 1) → (c : List ℕ) (rest : List (List ℕ)) → left ≡ c ∷ rest → m.lits.items ≡ c →
       IsNowhere store c → IsFirstMissing wanted store m
-  first_missing m counted c rest is same nowhere = record {
-    before = so.done;
-    rest = rest;
-    split = ap (λ d. so.done ++ d ∷ rest) same ∙ ap (λ ds. so.done ++ ds) (sym is) ∙ so.all;
-    number = one_more m.number counted;
-    held = so.held;
-    nowhere = subst (IsNowhere store) (sym same) nowhere;
-  }
+  first_missing m counted c rest is same nowhere =
+      let split : so.done ++ m.lits.items ∷ rest ≡ wanted = ap (λ d. so.done ++ d ∷ rest) same ∙ ap (λ ds. so.done ++ ds) (sym is) ∙ so.all in
+      search (split, one_more m.number counted, so.held, subst (IsNowhere store) (sym same) nowhere)
 
 pub named_none : (store : List Item) (left wanted : List (List ℕ)) → left ≡ wanted → NamedSoFar store 0 left wanted
 named_none store left wanted is = record { done = []; all = is; counted = refl; held = ([], tt) }

@@ -1,6 +1,6 @@
 -- The lines of a proof in turn.
 --     SoFar      the lines that were read so far, all of them accepted
-use Rattle.std.proofs.Common.{◌≡◌, ℕ, true, false, List, [], ◌∷◌, ◌++◌, Option, Some, None, Ok, Err, refl, sym, ap, subst}
+use Rattle.std.proofs.Common.{◌≡◌, ℕ, true, false, List, [], ◌∷◌, ◌++◌, Option, Some, None, Ok, Err, refl, sym, ap}
 use Rattle.lrat_rules.specs.Lines.{Line}
 use Rattle.lrat_text.specs.NextLine.{view}
 use Rattle.lrat_text.specs.Texts.{Ended, Faulty}
@@ -38,7 +38,7 @@ begins : {R : Type 0} (remaining : R → Option (List ℕ)) (known : Known) (for
 begins remaining known form reader lines given =
     begins_so known (outcome_in form) lines (λ more. lines_after form (line_number reader) more) (given_begun remaining known form reader lines given)
 
-module _ {R : Type 0} (remaining : R → Option (List ℕ)) (known : Known) (form : LratForm) (old : LratReader R) (formula : List (List ℕ)) (c : LratChecker) where
+module _ {R : Type 0} {remaining : R → Option (List ℕ)} {known : Known} {form : LratForm} {old : LratReader R} {formula : List (List ℕ)} {c : LratChecker} where
   pub so_far_start : IsFresh remaining known form old → IsReady formula [] c → SoFar remaining known form old formula c
   so_far_start fresh ready = record { lines = []; given = given_start remaining known form old fresh; ready = ready }
 
@@ -57,45 +57,29 @@ module _ {R : Type 0} (remaining : R → Option (List ℕ)) (known : Known) (for
 
       pub so_far_more : (line : LratLine) → Gives remaining old new (Ok (Some line)) → (d : LratChecker) → (IsReady formula (said so.lines) c → IsReady formula (said so.lines ++ view line ∷ []) d) →
           SoFar remaining known form new formula d
-      so_far_more line gives d more = record {
-        lines = so.lines ++ (line_number new, view line) ∷ [];
-        given = more_given line gives;
-        ready = subst (λ ls. IsReady formula ls d) (sym (said-more so.lines (line_number new) (view line))) (more so.ready);
-      }
+      so_far_more line gives d more =
+          let ready : IsReady formula (said (so.lines ++ (line_number new, view line) ∷ [])) d = rw (said-more so.lines (line_number new) (view line)) (more so.ready) in
+          search (more_given line gives, ready)
 
       pub so_far_refused : (line : LratLine) → Gives remaining old new (Ok (Some line)) → (d : LratChecker) (fault : LineFault) →
           (HasAccepted formula (said so.lines) c → HasAccepted formula (said so.lines) d) →
           (IsReady formula (said so.lines) c → IsAnswer formula (said so.lines) (view line) fault) →
           IsLratAnswer (outcome_in form) known formula d (Err (in_line fault (line_number new)))
-      so_far_refused line gives d (faults.Refused cause) kept told = record {
-        lines = so.lines;
-        line = view line;
-        text = begins remaining known form new (so.lines ++ (line_number new, view line) ∷ []) (more_given line gives);
-        accepted = kept so.ready.accepted;
-        refused = told so.ready;
-      }
-      so_far_refused line gives d faults.OutOfMemory kept told = record {
-        lines = so.lines;
-        text = begins remaining known form old so.lines so.given;
-        accepted = kept so.ready.accepted;
-      }
+      so_far_refused line gives d (faults.Refused cause) kept told = search (
+        begins remaining known form new (so.lines ++ (line_number new, view line) ∷ []) (more_given line gives),
+        kept so.ready.accepted,
+        told so.ready,
+      )
+      so_far_refused line gives d faults.OutOfMemory kept told = search (begins remaining known form old so.lines so.given, kept so.ready.accepted)
       so_far_refused line gives d faults.Failed kept told = absurd (told so.ready)
 
       -- the fault of a line
       pub so_far_fault : (fault : LratTextFault) → Gives remaining old new (Err fault) → IsLratAnswer (outcome_in form) known formula c (Err (of_text fault))
-      so_far_fault (reads.Line n kind) gives = record {
-        lines = so.lines;
-        text = all_said known (outcome_in form) so.lines (Faulty n kind) (given_fault remaining known form old so.lines so.given new n kind gives);
-        accepted = so.ready.accepted;
-      }
-      so_far_fault (reads.Read cause) gives = record { lines = so.lines; text = begins remaining known form old so.lines so.given; accepted = so.ready.accepted }
-      so_far_fault reads.OutOfMemory gives = record { lines = so.lines; text = begins remaining known form old so.lines so.given; accepted = so.ready.accepted }
+      so_far_fault (reads.Line n kind) gives =
+          search (all_said known (outcome_in form) so.lines (Faulty n kind) (given_fault remaining known form old so.lines so.given new n kind gives), so.ready)
+      so_far_fault fault gives = so_far_stopped
 
       -- the end of the proof
       pub so_far_ended : Gives remaining old new (Ok None) → has_refuted c ≡ false → IsLratAnswer (outcome_in form) known formula c (Ok false)
-      so_far_ended gives is = record {
-        lines = so.lines;
-        text = all_said known (outcome_in form) so.lines Ended (given_end remaining known form old so.lines so.given new gives);
-        ready = so.ready;
-        answer = sym is;
-      }
+      so_far_ended gives is =
+          search (all_said known (outcome_in form) so.lines Ended (given_end remaining known form old so.lines so.given new gives), so.ready, sym is)

@@ -22,9 +22,9 @@ use Rattle.piece_runs.specs.Texts.{CarriesText, IsPieceShown, OfFormulas}
 use Rattle.piece_runs.proofs.Reading.{carries_text, of_formulas}
 use Rattle.lrat_check.specs.Answers.{IsLratAnswer, proof_says}
 use Rattle.lrat_check.specs.Known.{IsFirstMissing, IsHeld, KnowsAll, Lacks}
-use Rattle.lrat_check.specs.Pieces.{BeginsPiece, BeginsShown, IsPieceRun, IsReadPieceRun, Leaves, PieceShows, ShowsMissing, TellsMissing, TellsPieceLies, verdict_by}
+use Rattle.lrat_check.specs.Pieces.{IsPieceRun, IsReadPieceRun, Leaves, PieceShows, ShowsMissing, TellsPieceLies, verdict_by}
 use Rattle.lrat_check.specs.declared.stored.KnownIds.{KnownIds}
-use Rattle.lrat_check.specs.declared.fault.RunFault.TheVariants.{Formula, Proof, Write}
+use Rattle.lrat_check.specs.declared.fault.RunFault.TheVariants.{Formula}
 use Rattle.lrat_check.specs.declared.piece_fault.PieceFault.{PieceFault}
 use Rattle.lrat_check.specs.declared.piece_fault.PieceFault.TheVariants.{Run, Wanted}
 use Rattle.lrat_check.proofs.KnownLemmas.{lacks_one}
@@ -37,14 +37,7 @@ module _ (ids : Option Ids) (formula wanted : List (List ℕ)) (known : Known) w
   -- a checker has accepted all lines, and none of them adds the empty clause
   pub left_behind : (c : LratChecker) (P : List Item → Type 0) (p : IsLratAnswer (proof_says ids formula) known formula c (Ok false)) →
       P p.ready.accepted.store → Leaves ids formula known P
-  left_behind c P p left = record {
-    lines = p.lines;
-    text = p.text;
-    store = p.ready.accepted.store;
-    ran = p.ready.accepted.ran;
-    unrefuted = sym p.ready.accepted.refuted ∙ sym p.answer;
-    left = left;
-  }
+  left_behind c P p left = search (p.ready.accepted, sym p.ready.accepted.refuted ∙ sym p.answer)
 
   -- what is found of the wanted clauses in a store: ids name all, or one is the first that none names, and it is told
   abbrev pub Found : LratChecker → KnownIds → Option MissingClause → List Item → Bool → Type 0
@@ -73,17 +66,9 @@ module _ (ids : Option Ids) (cnf holds known : Known) (formula wanted : List (Li
   both = of_formulas cnf holds formula wanted whole wanted_whole
 
   pub read_run : (r : Result PieceVerdict PieceFault) → IsReadPieceRun ids formula wanted known r → IsPieceRun ids cnf holds known r
-  read_run (Ok verdict) p = both (λ formula wanted. IsReadPieceRun ids formula wanted known (Ok verdict)) p
-  read_run (Err (Run (Write cause))) p = both (λ formula wanted. IsReadPieceRun ids formula wanted known (Err (Run (Write cause)))) p
-  read_run (Err (Run (Proof fault))) p = both (λ formula wanted. IsReadPieceRun ids formula wanted known (Err (Run (Proof fault)))) p
   read_run (Err (Run (Formula fault))) p = absurd p
   read_run (Err (Wanted fault)) p = absurd p
-
-  pub read_begins : (old new : Known) → BeginsShown ids formula wanted known old new → BeginsPiece ids cnf holds known old new
-  read_begins old new p = both (λ formula wanted. BeginsShown ids formula wanted known old new) p
-
-  pub read_missing : (told : Option MissingClause) → ShowsMissing ids formula wanted known told → TellsMissing ids cnf holds known told
-  read_missing told p = both (λ formula wanted. ShowsMissing ids formula wanted known told) p
+  read_run r p = both (λ formula wanted. IsReadPieceRun ids formula wanted known r) p
 
   pub read_carries : (text other : List ℕ) → cnf ≡ Some text → holds ≡ Some other → PieceShows ids formula wanted known (Ok Carried) → CarriesText text other
   read_carries text other is is' p = carries_text cnf holds formula wanted whole wanted_whole text other is is' (piece_shown ids formula wanted known Carried p)
@@ -98,8 +83,6 @@ module _ (ids : Option Ids) (cnf holds known : Known) (formula wanted : List (Li
   -- what is told of both headers
   pub read_lies : (lie other : Option LyingHeader) (r : Result PieceVerdict PieceFault) → IsLie cnf lie → IsLie holds other →
       IsReadPieceRun ids formula wanted known r → TellsPieceLies cnf holds r lie other
-  read_lies lie other (Ok verdict) p q read = (p, q)
-  read_lies lie other (Err (Run (Write cause))) p q read = (p, q)
-  read_lies lie other (Err (Run (Proof fault))) p q read = (p, q)
   read_lies lie other (Err (Run (Formula fault))) p q read = absurd read
   read_lies lie other (Err (Wanted fault)) p q read = absurd read
+  read_lies lie other r p q read = (p, q)

@@ -1,6 +1,6 @@
 //! Runs over one piece of a proof: its lines carry a formula to the clauses that are wanted behind
 //! them.
-ghost use Rattle.std.specs.Prelude.{◌≡◌, ℕ, List, Some, Ok, IfOk};
+ghost use Rattle.std.specs.Prelude.{◌≡◌, ◌≢◌, ℕ, List, Some, Ok, IfOk};
 ghost use Rattle.std.specs.Io.KnownBytes.{Appends};
 ghost use Rattle.sat_formula.specs.Refuted.{IsRefuted};
 ghost use Rattle.piece_runs.specs.Texts.{CarriesText};
@@ -26,7 +26,7 @@ use whole_formulas::read_formula;
 /// What a run over a piece tells beside its verdict.
 #[derive(Drop)]
 pub struct PieceTold {
-    /// The first wanted clause that is not there, where the verdict is that.
+    /// The first wanted clause that is not there, where the verdict is that. Else it stays.
     pub missing: Option<MissingClause>,
     /// What the formula's header lies about.
     pub lie: Option<LyingHeader>,
@@ -60,6 +60,9 @@ pub fn run_piece<F: Read + Drop, G: Read + Drop, P: Read + Drop, W: Write>(
         (G.remaining holds) (P.remaining piece) (W.contents out.old) (W.contents out.new) }
     ensures missing { result ≡ Ok NotCarried → TellsMissing ids (F.remaining cnf)
         (G.remaining holds) (P.remaining piece) told.new.missing }
+    ensures kept { IfOk result (λ verdict. verdict ≢ NotCarried
+        → told.new.missing ≡ told.old.missing) }
+    ensures untold { IsSilentPiece result → told.new.missing ≡ told.old.missing }
     ensures carries { (text other : List ℕ) → F.remaining cnf ≡ Some text
         → G.remaining holds ≡ Some other → result ≡ Ok Carried → CarriesText text other }
     ensures refutes { (text : List ℕ) → F.remaining cnf ≡ Some text
@@ -100,6 +103,8 @@ fn run_read_piece<P: Read + Drop, W: Write>(
     ensures missing { (formula : List (List ℕ)) → HoldsCounted formula held
         → IfOk result (λ verdict. verdict ≡ NotCarried
         → ShowsMissing ids formula wanted.now (P.remaining piece) missing.new) }
+    ensures kept { IfOk result (λ verdict. verdict ≢ NotCarried → missing.new ≡ missing.old) }
+    ensures untold { IsSilentPiece result → missing.new ≡ missing.old }
 {
     let verdict = match judge_piece(alloc, held, wanted, piece, ids, missing) {
         Ok(verdict) => verdict,
@@ -125,6 +130,7 @@ fn judge_piece<P: Read + Drop>(
     ensures missing { (formula : List (List ℕ)) → HoldsCounted formula held
         → IfOk result (λ verdict. verdict ≡ NotCarried
         → ShowsMissing ids formula wanted.now (P.remaining piece) missing.new) }
+    ensures kept { result ≢ Ok NotCarried → missing.new ≡ missing.old }
 {
     let Held { clauses, count } = held;
     let mut checker = clauses.checker();

@@ -1,5 +1,5 @@
 //! Whether the clauses are stored that are wanted behind a piece of a proof.
-ghost use Rattle.std.specs.Prelude.{◌≡◌, ◌≢◌, ◌↔◌, ◌<◌, ◌≤◌, ◌++◌, ℕ, List, Contains, IfOk, IsTrue, MatchBool, MatchOption, OnOk, Some, true};
+ghost use Rattle.std.specs.Prelude.{◌≡◌, ◌≢◌, ◌↔◌, ◌<◌, ◌≤◌, ◌++◌, ℕ, List, Contains, IfOk, IsTrue, MatchBool, MatchOption, Ok, OnOk, Some, false, true};
 ghost use Rattle.lrat_rules.specs.Lines.{Line};
 ghost use Rattle.lrat_rules.specs.Stores.{find};
 ghost use Rattle.lrat_text.specs.NextLine.{view};
@@ -177,11 +177,12 @@ pub(crate) fn holds_all(
     wanted: &CnfFormula,
     missing: &mut Option<MissingClause>,
 ) -> Result<bool, AllocError>
-    ensures { (formula : List (List ℕ)) (lines : List Line)
+    ensures held { (formula : List (List ℕ)) (lines : List Line)
         → (ready : IsReady formula lines checker.now) → IfOk result (λ held. MatchBool held
         (IsHeld wanted.now ready.accepted.store)
         (KnowsAll formula checker.now known.now → (m : MissingClause)
         × (missing.new ≡ Some m) × IsFirstMissing wanted.now ready.accepted.store m)) }
+    ensures kept { result ≢ Ok false → missing.new ≡ missing.old }
 {
     let by_clause = known.by_clause(alloc, checker)?;
     let mut number: u64 = 0;

@@ -1,8 +1,7 @@
-use Rattle.std.proofs.Common.{[], ◌∷◌, ◌++◌, ap, sym, ◌∙◌, subst}
+use Rattle.std.proofs.Common.{[], ◌∷◌, ◌++◌, ap, sym, ◌∙◌}
 use Rattle.sat_formula.specs.declared.counts.Counts.{Counts}
 use Rattle.std.proofs.lemmas.Result.{err_from_is_err_and}
 use Rattle.sat_formula.proofs.Whole.{BeginsWith-given, IsOutcome-ended, FailsAfter-given, outcome_left-new}
-use Rattle.lrat_checker.specs.Standing.{HoldsFormula}
 use Rattle.lrat_checker.proofs.FormulaLemmas.{begins_anyhow, ok_part}
 use Rattle.whole_formulas.proofs.Telling.{HasTold-more, HasTold-nil, IsLie-ended}
 use Rattle.lrat_check.proofs.formula.read_held.Goals as goal
@@ -18,8 +17,7 @@ clauses-preserved g c =
     let inv = c.clauses.invariant in (
       inv.0 ++ c.next_clause.new.into.items ∷ [],
       HasTold-more g.F.Read.remaining _ c.clauses.reader c.next_clause.new.self _ _ inv.1 more.after_end more.next more.clauses more.vars,
-      subst (λ clause. HoldsFormula (inv.0 ++ clause ∷ []) c.add_clause.new.self) c.deref.ensures.value
-          (ok_part c.add_clause.result (sym c.is_err.ensures.value ∙ c.if-is_err.false) (c.add_clause.ensures.given inv.0 inv.2)),
+      rw c.deref.ensures.value at (ok_part c.add_clause.result (sym c.is_err.ensures.value ∙ c.if-is_err.false) (c.add_clause.ensures.given inv.0 inv.2)),
     )
 
 pub returns-in-Err-clause-fault : goal.returns-in-Err-clause-fault

@@ -1,5 +1,7 @@
 use Rattle.std.proofs.Common.{refl}
-use Rattle.lrat_check.proofs.PieceLemmas.{read_begins, read_carries, read_lies, read_missing, read_refutes, read_run}
+use Rattle.piece_runs.proofs.Reading.{of_formulas}
+use Rattle.lrat_check.specs.Pieces.{BeginsShown, ShowsMissing}
+use Rattle.lrat_check.proofs.PieceLemmas.{read_carries, read_lies, read_refutes, read_run}
 use Rattle.lrat_check.proofs.piece.run_piece.Goals as goal
 
 pub returns-in-Err-read_formula-clause-run : goal.returns-in-Err-read_formula-clause-run
@@ -16,15 +18,15 @@ returns-clause-run g c =
 pub returns-clause-unwritten : goal.returns-clause-unwritten
 returns-clause-unwritten g c = λ is.
     let read = c.in-Ok.ensures.whole in
-    read_begins c.args.ids (g.F.Read.remaining c.args.cnf) (g.G.Read.remaining c.args.holds) (g.P.Read.remaining c.args.piece) read.0 c.in-Ok-read_formula.wanted
-    read.1 c.in-Ok-read_formula.ensures.whole _ _ (c.run_read_piece.ensures.unwritten read.0 read.2 is)
+    of_formulas (g.F.Read.remaining c.args.cnf) (g.G.Read.remaining c.args.holds) read.0 c.in-Ok-read_formula.wanted read.1 c.in-Ok-read_formula.ensures.whole
+    (λ formula wanted. BeginsShown c.args.ids formula wanted (g.P.Read.remaining c.args.piece) _ _) (c.run_read_piece.ensures.unwritten read.0 read.2 is)
 
 pub returns-clause-missing : goal.returns-clause-missing
 returns-clause-missing g c = λ e.
     let read = c.in-Ok.ensures.whole in
     let missing = rw e at c.run_read_piece.ensures.missing read.0 read.2 in
-    read_missing c.args.ids (g.F.Read.remaining c.args.cnf) (g.G.Read.remaining c.args.holds) (g.P.Read.remaining c.args.piece) read.0 c.in-Ok-read_formula.wanted
-    read.1 c.in-Ok-read_formula.ensures.whole c.run_read_piece.new.missing (missing refl)
+    of_formulas (g.F.Read.remaining c.args.cnf) (g.G.Read.remaining c.args.holds) read.0 c.in-Ok-read_formula.wanted read.1 c.in-Ok-read_formula.ensures.whole
+    (λ formula wanted. ShowsMissing c.args.ids formula wanted (g.P.Read.remaining c.args.piece) c.run_read_piece.new.missing) (missing refl)
 
 pub returns-clause-carries : goal.returns-clause-carries
 returns-clause-carries g c = λ text other is is' e.

@@ -1,6 +1,5 @@
-use Rattle.std.proofs.Common.{Err, sym, ◌∙◌, subst}
+use Rattle.std.proofs.Common.{sym, ◌∙◌}
 use Rattle.lrat_binary.specs.Proofs.{form_now}
-use Rattle.lrat_check.specs.Answers.{IsLratAnswer, proof_says}
 use Rattle.lrat_check.proofs.RunLemmas.{answered_in, not_opened, refuted_at_once}
 use Rattle.lrat_check.proofs.refuting.refute_after.Goals as goal
 
@@ -15,5 +14,4 @@ returns-in-Ok-clause-answer g c = λ formula ready counted.
 
 pub returns-in-Err-clause-answer : goal.returns-in-Err-clause-answer
 returns-in-Err-clause-answer g c = λ formula ready counted.
-    subst (λ e. IsLratAnswer (proof_says c.args.ids formula) (g.P.Read.remaining c.args.proof) formula c.args.checker.now (Err e)) (sym c.from.ensures)
-    (not_opened c.args.ids formula (g.P.Read.remaining c.args.proof) c.args.checker.now c.in-Err.fault c.in-Err.ensures.no_line ready)
+    rw c.from.ensures (not_opened c.args.ids formula (g.P.Read.remaining c.args.proof) c.args.checker.now c.in-Err.fault c.in-Err.ensures.no_line ready)

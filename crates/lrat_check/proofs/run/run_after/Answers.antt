@@ -1,13 +1,12 @@
-use Rattle.std.proofs.Common.{◌≡◌, Ok, subst}
-use Rattle.whole_writes.specs.Beginnings.{AppendsBeginning}
-use Rattle.verdicts.specs.Verdicts.{shown_line, verdict_of}
+use Rattle.std.proofs.Common.{◌≡◌, Ok, Err}
+use Rattle.verdicts.specs.Verdicts.{verdict_of}
 use Rattle.verdicts.specs.declared.verdict.Verdict.TheVariants.{Verified}
 use Rattle.lrat_check.proofs.DecideLemmas.{decided}
-use Rattle.lrat_check.proofs.RunLemmas.{fault_decided, formula_refuted, verdict_decided}
+use Rattle.lrat_check.proofs.RunLemmas.{formula_refuted, verdict_decided}
 use Rattle.lrat_check.proofs.run.run_after.Goals as goal
 
 pub returns-in-Err-clause-decided : goal.returns-in-Err-clause-decided
-returns-in-Err-clause-decided g c = λ formula held. fault_decided c.args.ids formula (g.P.Read.remaining c.args.proof) c.in-Err.fault (c.in-Err.ensures formula held)
+returns-in-Err-clause-decided g c = λ formula held. decided c.args.ids formula (g.P.Read.remaining c.args.proof) (Err c.in-Err.fault) (c.in-Err.ensures formula held)
 
 pub returns-in-Ok-write_line-clause-decided : goal.returns-in-Ok-write_line-clause-decided
 returns-in-Ok-write_line-clause-decided g c = λ formula held.
@@ -20,14 +19,12 @@ returns-in-Ok-write_line-clause-refutes g c = λ formula held e a.
 
 pub returns-in-Err-write_line-clause-unwritten : goal.returns-in-Err-write_line-clause-unwritten
 returns-in-Err-write_line-clause-unwritten g c = λ formula held _.
-    let old = g.W.Write.contents c.args.out.now in
-    let new = g.W.Write.contents c.write_line.new.out in
     let refutes = c.in-Ok.ensures formula held in
     record {
       refuted = c.in-Ok.refuted;
       checked = refutes;
       decided = decided c.args.ids formula (g.P.Read.remaining c.args.proof) (Ok c.in-Ok.refuted) refutes;
-      begins = subst (λ v. AppendsBeginning old new (shown_line v)) c.of-verdict.ensures c.in-Err-write_line.ensures.beginning;
+      begins = rw c.of-verdict.ensures at c.in-Err-write_line.ensures.beginning;
     }
 
 pub returns-in-Err-write_line-clause-run : goal.returns-in-Err-write_line-clause-run
