@@ -1,38 +1,17 @@
 -- Literals that satisfy a formula.
-use Rattle.std.proofs.Common.{◌≡◌, ℕ, ◌+◌, ◌-◌, ◌*◌, ◌%◌, Bool, true, false, cond, not, ◌||◌, ◌&&◌, List, [], ◌∷◌, refl, sym, ap, ◌∙◌, arith, inl, inr}
-use Rattle.std.proofs.lemmas.Bool.{or_cases, eqb-true, eqb-false, false≢true}
+use Rattle.std.proofs.Common.{◌≡◌, ℕ, ◌+◌, ◌-◌, ◌*◌, ◌%◌, Bool, true, false, cond, not, List, [], ◌∷◌, refl, sym, ap, ◌∙◌, arith}
+use Rattle.std.proofs.lemmas.Bool.{eqb-true, eqb-false, false_from_ne_true}
 use Rattle.sat_rules.specs.Clauses.{Agrees, all_true, clause_true, has, is_negative, lit_true, negate, var_of}
 use Rattle.answer_text.specs.Literals.{IsConsistent, all_met, is_met, listed}
 use Rattle.model_check.specs.Models.{IsModel}
 
-or_left : (x y : Bool) → x ≡ true → (x || y) ≡ true
-or_left true y h = refl
-or_left false y h = absurd (false≢true h)
-
-or_right : (x y : Bool) → y ≡ true → (x || y) ≡ true
-or_right true y h = refl
-or_right false y h = h
-
-and_both : (x y : Bool) → x ≡ true → y ≡ true → (x && y) ≡ true
-and_both true y h k = k
-and_both false y h k = h
-
-and_parts : (x y : Bool) → (x && y) ≡ true → (x ≡ true) × (y ≡ true)
-and_parts true y h = (refl, h)
-and_parts false y h = absurd (false≢true h)
-
 met_is_true : (a s : ℕ → Bool) (c : List ℕ) → Agrees a s → is_met s c ≡ true → clause_true a c ≡ true
 met_is_true a s [] agrees h = h
-met_is_true a s (l ∷ c) agrees h = elim (or_cases (s l) (is_met s c) h) [
-  | inl here ↦ or_left (lit_true a l) (clause_true a c) (agrees l here)
-  | inr later ↦ or_right (lit_true a l) (clause_true a c) (met_is_true a s c agrees later)
-]
+met_is_true a s (l ∷ c) agrees h = grind (arith, agrees l, met_is_true a s c agrees)
 
 all_true_of_met : (a s : ℕ → Bool) (cs : List (List ℕ)) → Agrees a s → all_met s cs ≡ true → all_true a cs ≡ true
 all_true_of_met a s [] agrees h = refl
-all_true_of_met a s (c ∷ cs) agrees h =
-    let parts = and_parts (is_met s c) (all_met s cs) h in
-    and_both (clause_true a c) (all_true a cs) (met_is_true a s c agrees parts.0) (all_true_of_met a s cs agrees parts.1)
+all_true_of_met a s (c ∷ cs) agrees h = grind (arith, met_is_true a s c agrees, all_true_of_met a s cs agrees)
 
 -- the positive literals of the list are true, and no others
 assignment : List ℕ → ℕ → Bool
@@ -49,11 +28,7 @@ agrees_at lits c m true e h =
     let before : 2 * var_of m ≡ m - 1 = omega arith in
     let is : negate m ≡ m - 1 = ap (λ (b : Bool). cond b (m - 1) (m + 1)) e in
     ap (λ (b : Bool). cond b (not (has (2 * var_of m) lits)) (has (2 * var_of m) lits)) e
-    ∙ ap (λ (k : ℕ). not (has k lits)) (before ∙ sym is) ∙ absent (has (negate m) lits) (c m h)
-  where
-    absent : (b : Bool) → (b ≡ true → ⊥) → not b ≡ true
-    absent true never = absurd (never refl)
-    absent false never = refl
+    ∙ ap (λ (k : ℕ). not (has k lits)) (before ∙ sym is) ∙ ap not (false_from_ne_true (has (negate m) lits) (c m h))
 
 pub met_clauses_are_satisfied : (lits : List ℕ) (clauses : List (List ℕ)) → IsConsistent (listed lits) → all_met (listed lits) clauses ≡ true → IsModel lits clauses
 met_clauses_are_satisfied lits clauses apart met = record {

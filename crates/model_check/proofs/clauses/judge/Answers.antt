@@ -6,7 +6,7 @@ use Rattle.sat_formula.specs.DimacsReader.{line_given, standing}
 use Rattle.sat_formula.specs.Text.{past_of}
 use Rattle.sat_formula.proofs.Notes.{HasNoted-more, HasNoted-nil, IsNotes-ended, notes_left-new}
 use Rattle.whole_formulas.proofs.Telling.{HasTold-more, HasTold-nil, IsLie-ended}
-use Rattle.model_check.proofs.VerdictLemmas.{length_more, lines_more}
+use Rattle.model_check.proofs.VerdictLemmas.{length_more}
 use Rattle.model_check.proofs.clauses.judge.Goals as goal
 
 pub clauses-init : goal.clauses-init
@@ -31,7 +31,7 @@ clauses-preserved g c =
         HasNoted-more g.F.Read.remaining _ c.clauses.reader c.next_clause.new.self _ _ so_far.3 more.after_end more.next,
         rw (c.deref.ensures.value, c.clause_line.ensures) at (c.after_clause-verdict.ensures so_far.0 so_far.1 so_far.4 (ap (λ (k : ℕ). k + 1) so_far.5) (ap (λ (k : ℕ). k + 1) so_far.6)),
         length_more so_far.0 c.next_clause.new.into.items c.clauses.count so_far.5,
-        lines_more so_far.1 (line_given c.next_clause.new.self) c.clauses.count so_far.6,
+        length_more so_far.1 (line_given c.next_clause.new.self) c.clauses.count so_far.6,
       );
       told = (
         told.0 ++ c.next_clause.new.into.items ∷ [],
