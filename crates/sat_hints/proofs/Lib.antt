@@ -1,5 +1,3 @@
-pub mod AppendedWords
-pub mod Decimals
 pub mod WrittenLines
 pub mod WrittenRuns
 pub mod WrittenSteps

@@ -1,8 +1,8 @@
 -- What is written of lines is read again, and the text of a run is accepted.
-use Rattle.std.proofs.Common.{◌≡◌, ℕ, suc, ◌+◌, ◌^◌, ◌<◌, Bool, true, false, cond, List, [], ◌∷◌, ◌++◌, length, map, Option, Some, None, refl, sym, ap, ◌∙◌, arith}
-use Rattle.std.specs.Prelude.{All, is_some, not, take}
-use Rattle.std.specs.List.{list_all, list_any}
-use Rattle.std.proofs.lemmas.Bool.{and_parts, leb-false, not-true, or_parts}
+use Rattle.std.proofs.Common.{◌≡◌, ℕ, suc, ◌+◌, ◌^◌, ◌<◌, Bool, true, false, cond, List, [], ◌∷◌, ◌++◌, length, map, Option, Some, None, refl, sym, arith}
+use Rattle.std.specs.Prelude.{All, is_some, take}
+use Rattle.std.specs.List.{list_any}
+use Rattle.std.proofs.lemmas.Bool.{leb-false, or_parts}
 use Rattle.std.proofs.lemmas.List.Elements.{All-append, All-cons, All-head, All-nil, All-tail}
 use Rattle.std.proofs.lemmas.Option.{none-some}
 use Rattle.sat_rules.specs.HintLines.{HintLine, adds_clause, deletes_clauses}
@@ -11,31 +11,21 @@ use Rattle.checker_rules.specs.HintRun.{HintStep, fails_core, lowers, puts_deriv
 use Rattle.checker_rules.specs.WrittenLines as rules
 use Rattle.checker_rules.specs.WrittenLines.{Writer, WriterFault, after_written, fault_if, is_large, line_of, new_writer, number_of, writer_fault}
 use Rattle.checker_rules.proofs.WrittenLineFacts.{lines_follow}
-use Rattle.sat_formula.specs.Bytes.{is_lf}
 use Rattle.sat_formula.specs.Lines.{lines_of}
-use Rattle.hint_rules.specs.Accepted.{joined, said_all}
-use Rattle.hint_rules.specs.Text.{in_front}
+use Rattle.hint_rules.specs.Accepted.{said_all}
 use Rattle.sat_hints.specs.Writing.{first_fault}
 use Rattle.sat_hints.specs.WrittenText.{HasFittingNumbers, IsId, lines_text, text_of}
 use Rattle.sat_hints.specs.WrittenTexts.{HasFittingCodes, TextIsAccepted, TextIsRead}
+use Rattle.sat_formula.proofs.WrittenWords.{lines_of-line}
 use Rattle.sat_hints.proofs.WrittenLines.{text_in_line, written_is_read}
 
 -- ---- reading
-
-lines_of-line : (line text : List ℕ) → list_all (λ b. not (is_lf b)) line ≡ true → lines_of (line ++ 10 ∷ text) ≡ line ∷ lines_of text
-lines_of-line [] text in_line = refl
-lines_of-line (b ∷ line) text in_line =
-    let parts = and_parts _ _ in_line in
-    let other : is_lf b ≡ false = not-true _ parts.0 in
-    rw (other, lines_of-line line text parts.1) refl
 
 pub text_is_read : TextIsRead
 text_is_read [] fit = refl
 text_is_read (x ∷ xs) fit =
     let this = All-head HasFittingNumbers x xs fit in
-    ap said_all (lines_of-line (text_of x) (lines_text xs) (text_in_line x this))
-    ∙ ap (λ s. joined s (said_all (lines_of (lines_text xs)))) (written_is_read x this)
-    ∙ ap (in_front x) (text_is_read xs (All-tail HasFittingNumbers x xs fit))
+    rw (lines_of-line (text_of x) (lines_text xs) (text_in_line x this), written_is_read x this, text_is_read xs (All-tail HasFittingNumbers x xs fit)) refl
 
 -- ---- a writer without a fault
 
@@ -47,12 +37,12 @@ pub no_first : (o p : Option WriterFault) → cond (is_some o) o p ≡ None → 
 no_first None p e = (refl, e)
 no_first (Some f) p e = absurd (none-some f (sym e))
 
+positive : (b : Bool) (m i : ℕ) → 0 < cond b (suc i) (m + suc i)
+positive true m i = omega arith
+positive false m i = omega arith
+
 number_fits : (w : Writer) (i : ℕ) → is_large (number_of w i) ≡ false → IsId (number_of w i)
-number_fits w i e = (positive (w.inputs i), leb-false (2 ^ 64) (number_of w i) e)
-  where
-    positive : (b : Bool) → 0 < cond b (suc i) (w.announced + suc i)
-    positive true = omega arith
-    positive false = omega arith
+number_fits w i e = (positive (w.inputs i) w.announced i, leb-false (2 ^ 64) (number_of w i) e)
 
 numbers_fit : (w : Writer) (ids : List ℕ) → list_any (λ j. is_large (number_of w j)) ids ≡ false → All IsId (map (number_of w) ids)
 numbers_fit w [] e = All-nil IsId
@@ -73,28 +63,23 @@ deletion_fits w i last e = (last, All-cons IsId (number_of w i) [] (number_fits 
 one_fits : (x : HintLine) → HasFittingNumbers x → All HasFittingNumbers (x ∷ [])
 one_fits x fit = All-cons HasFittingNumbers x [] fit (All-nil HasFittingNumbers)
 
-line_fits : (w : Writer) (e : HintStep) → w.last < 2 ^ 64 → writer_fault w e ≡ None → HasFittingCodes e → All HasFittingNumbers (line_of w e)
-line_fits w (puts_input i c) last f codes = All-nil HasFittingNumbers
-line_fits w (puts_derived i c ids) last f codes = one_fits _ (addition_fits w i c ids f codes)
-line_fits w (removes i) last f codes = one_fits _ (deletion_fits w i last f)
-line_fits w (lowers i true c ids) last f codes = All-nil HasFittingNumbers
-line_fits w (lowers i false c ids) last f codes = one_fits _ (deletion_fits w i last f)
-line_fits w (fails_core c ids) last f codes = All-nil HasFittingNumbers
-
-last_fits : (w : Writer) (e : HintStep) → w.last < 2 ^ 64 → writer_fault w e ≡ None → (after_written w e).last < 2 ^ 64
-last_fits w (puts_input i c) last f = last
-last_fits w (puts_derived i c ids) last f = let parts = or_parts _ _ (no_fault_if _ _ f) in leb-false (2 ^ 64) (w.announced + suc i) parts.0
-last_fits w (removes i) last f = last
-last_fits w (lowers i keep c ids) last f = last
-last_fits w (fails_core c ids) last f = last
+-- a step without a fault has a line that fits, and leaves a number in front that fits
+step_fits : (w : Writer) (e : HintStep) → w.last < 2 ^ 64 → writer_fault w e ≡ None → HasFittingCodes e →
+    All HasFittingNumbers (line_of w e) × ((after_written w e).last < 2 ^ 64)
+step_fits w (puts_input i c) last f codes = (All-nil HasFittingNumbers, last)
+step_fits w (puts_derived i c ids) last f codes = let fits = addition_fits w i c ids f codes in (one_fits _ fits, fits.0.1)
+step_fits w (removes i) last f codes = (one_fits _ (deletion_fits w i last f), last)
+step_fits w (lowers i true c ids) last f codes = (All-nil HasFittingNumbers, last)
+step_fits w (lowers i false c ids) last f codes = (one_fits _ (deletion_fits w i last f), last)
+step_fits w (fails_core c ids) last f codes = (All-nil HasFittingNumbers, last)
 
 lines_fit : (w : Writer) (es : List HintStep) → w.last < 2 ^ 64 → first_fault w es ≡ None → All HasFittingCodes es → All HasFittingNumbers (rules.lines_of w es)
 lines_fit w [] last f codes = All-nil HasFittingNumbers
 lines_fit w (e ∷ es) last f codes =
     let none = no_first (writer_fault w e) (first_fault (after_written w e) es) f in
-    All-append HasFittingNumbers (line_of w e) (rules.lines_of (after_written w e) es)
-    (line_fits w e last none.0 (All-head HasFittingCodes e es codes))
-    (lines_fit (after_written w e) es (last_fits w e last none.0) none.1 (All-tail HasFittingCodes e es codes))
+    let this = step_fits w e last none.0 (All-head HasFittingCodes e es codes) in
+    let rest = lines_fit (after_written w e) es this.1 none.1 (All-tail HasFittingCodes e es codes) in
+    All-append HasFittingNumbers (line_of w e) (rules.lines_of (after_written w e) es) this.0 rest
 
 -- ---- accepting
 

@@ -1,61 +1,38 @@
 -- What is written of binary LRAT lines is read again.
-use Rattle.std.proofs.Common.{◌≡◌, ℕ, zero, suc, ◌+◌, ◌-◌, ◌*◌, ◌/◌, ◌%◌, ◌^◌, ◌<◌, ◌≤◌, Bool, true, false, List, [], ◌∷◌, ◌++◌, Some, None, Ok, refl, sym, ap, ◌∙◌, append_assoc, append-nil, inl, inr, arith}
+use Rattle.std.proofs.Common.{◌≡◌, ℕ, zero, suc, ◌+◌, ◌-◌, ◌*◌, ◌/◌, ◌%◌, ◌^◌, ◌<◌, ◌≤◌, List, [], ◌∷◌, ◌++◌, Some, Ok, refl, sym, ap, append_assoc, append-nil, inl, inr, arith}
 use Rattle.std.specs.Prelude.{All, map, nat_lt}
-use Rattle.std.proofs.lemmas.Bool.{cases_Bool, le-ltb, lt-ltb, ltb-true, ltb-false, ne_eqb, eq-eqb}
+use Rattle.std.proofs.lemmas.Bool.{cases_Bool, lt-ltb, ltb-true, ltb-false, ne_eqb}
 use Rattle.std.proofs.lemmas.List.Elements.{All-head, All-tail}
 use Rattle.sat_formula.specs.Outcome.{next_line}
 use Rattle.lrat_rules.specs.Lines as rules
 use Rattle.lrat_rules.specs.Lines.{Line, along, against, adds, deletes}
 use Rattle.lrat_text.specs.Grammar.{hint_of}
-use Rattle.lrat_text.specs.Texts.{Ended, Outcome, with_line}
+use Rattle.lrat_text.specs.Texts.{Ended}
 use Rattle.lrat_text.specs.declared.line.Hint.{Hint}
 use Rattle.lrat_binary.specs.declared.ids.Ids.TheVariants.{Plain}
-use Rattle.lrat_binary.specs.Lines.{binary_after, outcome_at}
+use Rattle.lrat_binary.specs.Lines.{outcome_at}
 use Rattle.lrat_binary.specs.Numbers.{hint_said, id_said, lit_said}
-use Rattle.lrat_binary.specs.Places.{DeletedDue, HintDue, IdDue, InNumber, LitDue, Outside, Place, Slot, Within, after, clause_id, deleted_in, hint_in, lit_in, said}
+use Rattle.lrat_binary.specs.Places.{DeletedDue, HintDue, IdDue, InNumber, LitDue, Outside, Place, Slot, Within, after, said}
 use Rattle.lrat_binary.specs.Reading.{goes_on, line_then}
-use Rattle.lrat_binary.proofs.GroupLemmas.{IsWeight, first, second, third, fourth, fifth, sixth, seventh, eighth, ninth, group_ends, group_more, groups_begin, next_weight}
+use Rattle.lrat_binary.proofs.GroupLemmas.{IsWeight, first, group_ends, group_more, groups_begin, next_weight}
 use Rattle.sat_output.specs.LratBytes.{BytesAreRead, HasBinaryNumbers, IsBinaryHint, IsBinaryId, groups, hint_number, line_bytes, lines_bytes, lit_number, number_bytes, numbers_bytes}
 use Rattle.sat_output.specs.LratTexts.{numbered}
 use Rattle.sat_output.specs.Words.{IsCode}
-use Rattle.sat_output.proofs.Groups.{group_large, group_small, next_small}
+use Rattle.sat_formula.proofs.GroupedBytes.{group_large, group_small, next_small}
+use Rattle.sat_output.proofs.Groups.{are_groups}
 use Rattle.sat_output.proofs.LratLines.{hint_back, hints_back}
 
 -- ---- numbers
 
 -- the groups after the first one
-rest_value : (v n w : ℕ) → IsWeight w → (v + (n % 128) * w) + (n / 128) * (w * 128) ≡ v + n * w
-rest_value v n _ first = omega arith
-rest_value v n _ second = omega arith
-rest_value v n _ third = omega arith
-rest_value v n _ fourth = omega arith
-rest_value v n _ fifth = omega arith
-rest_value v n _ sixth = omega arith
-rest_value v n _ seventh = omega arith
-rest_value v n _ eighth = omega arith
-rest_value v n _ ninth = omega arith
+rest_value : (v n w : ℕ) → (v + (n % 128) * w) + (n / 128) * (w * 128) ≡ v + n * w
+rest_value v n w = let whole : n ≡ n / 128 * 128 + n % 128 = omega arith in omega (arith, ap (λ (m : ℕ). m * w) whole)
 
-rest_small : (n w : ℕ) → IsWeight w → n * w < 2 ^ 63 → (n / 128) * (w * 128) < 2 ^ 63
-rest_small n _ first lt = omega arith
-rest_small n _ second lt = omega arith
-rest_small n _ third lt = omega arith
-rest_small n _ fourth lt = omega arith
-rest_small n _ fifth lt = omega arith
-rest_small n _ sixth lt = omega arith
-rest_small n _ seventh lt = omega arith
-rest_small n _ eighth lt = omega arith
-rest_small n _ ninth lt = omega arith
+rest_small : (n w : ℕ) → n * w < 2 ^ 63 → (n / 128) * (w * 128) < 2 ^ 63
+rest_small n w lt = let part = rest_value 0 n w in omega arith
 
-not_ninth : (n w : ℕ) → IsWeight w → 128 ≤ n → n * w < 2 ^ 63 → w ≡ 72057594037927936 → ⊥
-not_ninth n _ first le lt e = omega arith
-not_ninth n _ second le lt e = omega arith
-not_ninth n _ third le lt e = omega arith
-not_ninth n _ fourth le lt e = omega arith
-not_ninth n _ fifth le lt e = omega arith
-not_ninth n _ sixth le lt e = omega arith
-not_ninth n _ seventh le lt e = omega arith
-not_ninth n _ eighth le lt e = omega arith
-not_ninth n _ ninth le lt e = omega arith
+not_ninth : (n w : ℕ) → 128 ≤ n → n * w < 2 ^ 63 → w ≡ 72057594037927936 → ⊥
+not_ninth n w le lt e = let small = rw e at lt in omega arith
 
 module _ (before : ℕ) where
   byte_read : (p : Place) (b : ℕ) (more : List ℕ) → outcome_at Plain before p (b ∷ more) ≡ goes_on Plain before (after Plain p b) more
@@ -66,9 +43,7 @@ module _ (before : ℕ) where
       outcome_at Plain before (InNumber slot v w) (groups left n ++ more) ≡ goes_on Plain before (said Plain slot (v + n * w)) more
   last_group slot left n v w more lt =
       let same : n % 128 ≡ n = omega arith in
-      ap (λ g. outcome_at Plain before (InNumber slot v w) (g ++ more)) (group_small left n lt)
-      ∙ byte_read (InNumber slot v w) n more
-      ∙ ap (λ d. goes_on Plain before d more) (group_ends Plain slot v w n lt ∙ ap (λ (m : ℕ). said Plain slot (v + m * w)) same)
+      rw (group_small groups are_groups left n lt, byte_read (InNumber slot v w) n more, group_ends Plain slot v w n lt, same) refl
 
   groups_read : (slot : Slot) (i left n v w : ℕ) (more : List ℕ) → left + i ≡ 9 → n < 2 ^ (64 - 7 * i) → IsWeight w → n * w < 2 ^ 63 →
       outcome_at Plain before (InNumber slot v w) (groups left n ++ more) ≡ goes_on Plain before (said Plain slot (v + n * w)) more
@@ -81,15 +56,18 @@ module _ (before : ℕ) where
     | inr large ↦
         let le = ltb-false n 128 large in
         let x = 128 + n % 128 in
-        let other = not_ninth n w is le lt in
+        let other = not_ninth n w le lt in
         let same : x % 128 ≡ n % 128 = omega arith in
-        ap (λ g. outcome_at Plain before (InNumber slot v w) (g ++ more)) (group_large (suc left) left n refl le)
-        ∙ byte_read (InNumber slot v w) x (groups left (n / 128) ++ more)
-        ∙ ap (λ d. goes_on Plain before d (groups left (n / 128) ++ more)) (group_more Plain slot v w x (λ l. omega (arith, l)) other)
-        ∙ groups_read slot (i + 1) left (n / 128) (v + (x % 128) * w) (w * 128) more (omega arith) (next_small i n (omega arith) few)
-        (next_weight w is other) (rest_small n w is lt)
-        ∙ ap (λ (m : ℕ). goes_on Plain before (said Plain slot ((v + m * w) + (n / 128) * (w * 128))) more) same
-        ∙ ap (λ (m : ℕ). goes_on Plain before (said Plain slot m) more) (rest_value v n w is)
+        let rest = groups_read slot (i + 1) left (n / 128) (v + (x % 128) * w) (w * 128) more (omega arith)
+        (next_small i n (omega arith) few) (next_weight w is other) (rest_small n w lt) in
+        rw (
+          group_large groups are_groups (suc left) left n refl le,
+          byte_read (InNumber slot v w) x (groups left (n / 128) ++ more),
+          group_more Plain slot v w x (λ l. omega (arith, l)) other,
+          rest,
+          same,
+          rest_value v n w,
+        ) refl
   ]
 
   number_read : (slot : Slot) (n : ℕ) (more : List ℕ) → n < 2 ^ 63 →
@@ -97,9 +75,7 @@ module _ (before : ℕ) where
   unfolding number_bytes
   number_read slot n more lt =
       let value : 0 + n * 1 ≡ n = omega arith in
-      groups_begin Plain before slot (number_bytes n ++ more)
-      ∙ groups_read slot 0 9 n 0 1 more refl (omega arith) first (omega arith)
-      ∙ ap (λ (m : ℕ). goes_on Plain before (said Plain slot m) more) value
+      rw (groups_begin Plain before slot (number_bytes n ++ more), groups_read slot 0 9 n 0 1 more refl (omega arith) first (omega arith), value) refl
 
 -- ---- literals, hints and ids
 
@@ -110,25 +86,23 @@ lit_read l fits =
 
 hint_read : (h : rules.Hint) → IsBinaryHint h → hint_said (hint_number h) ≡ Ok (Some (hint_back h))
 hint_read (along id) fits =
-    let some = fits.0 in
     let even : id * 2 % 2 ≡ 0 = omega arith in
     let half : id * 2 / 2 ≡ id = omega arith in
     rw (ne_eqb (id * 2) 0 (λ q. omega arith), ne_eqb (id * 2) 1 (λ q. omega arith), even, half) refl
 hint_read (against id) fits =
-    let some = fits.0 in
     let odd : (id * 2 + 1) % 2 ≡ 1 = omega arith in
     let half : (id * 2 + 1) / 2 ≡ id = omega arith in
     rw (ne_eqb (id * 2 + 1) 0 (λ q. omega arith), ne_eqb (id * 2 + 1) 1 (λ q. omega arith), odd, half) refl
 
 hint_low : (h : rules.Hint) → IsBinaryHint h → hint_number h < 2 ^ 63
-hint_low (along id) fits = let low = fits.1 in omega arith
-hint_low (against id) fits = let low = fits.1 in omega arith
+hint_low (along id) fits = omega arith
+hint_low (against id) fits = omega arith
 
 id_read : (id : ℕ) → IsBinaryId id → id_said Plain id ≡ Ok (Some id)
-id_read id fits = let some = fits.0 in rw (ne_eqb id 0 (λ q. omega arith)) refl
+id_read id fits = rw (ne_eqb id 0 (λ q. omega arith)) refl
 
 id_low : (id : ℕ) → IsBinaryId id → id < 2 ^ 63
-id_low id fits = let low = fits.1 in omega arith
+id_low id fits = omega arith
 
 -- ---- lists
 
@@ -140,11 +114,13 @@ module _ (before : ℕ) where
   literals_read id begun (l ∷ c) more all =
       let fits = All-head IsCode l c all in
       let rest = numbers_bytes (map lit_number c) in
-      ap (outcome_at Plain before (Within (LitDue id begun))) (append_assoc (number_bytes (lit_number l)) rest (0 ∷ more))
-      ∙ number_read before (LitDue id begun) (lit_number l) (rest ++ 0 ∷ more) (omega arith)
-      ∙ ap (λ r. goes_on Plain before (lit_in id begun r) (rest ++ 0 ∷ more)) (lit_read l fits)
-      ∙ literals_read id (begun ++ l ∷ []) c more (All-tail IsCode l c all)
-      ∙ ap (λ (ls : List ℕ). outcome_at Plain before (Within (HintDue id ls [])) more) (append_assoc begun (l ∷ []) c)
+      rw (
+        append_assoc (number_bytes (lit_number l)) rest (0 ∷ more),
+        number_read before (LitDue id begun) (lit_number l) (rest ++ 0 ∷ more) (omega arith),
+        lit_read l fits,
+        literals_read id (begun ++ l ∷ []) c more (All-tail IsCode l c all),
+        append_assoc begun (l ∷ []) c,
+      ) refl
 
   hints_read : (id : ℕ) (c : List ℕ) (begun : List Hint) (hints : List rules.Hint) (more : List ℕ) → All IsBinaryHint hints →
       outcome_at Plain before (Within (HintDue id c begun)) (numbers_bytes (map hint_number hints) ++ 0 ∷ more)
@@ -154,11 +130,13 @@ module _ (before : ℕ) where
   hints_read id c begun (h ∷ hints) more all =
       let fits = All-head IsBinaryHint h hints all in
       let rest = numbers_bytes (map hint_number hints) in
-      ap (outcome_at Plain before (Within (HintDue id c begun))) (append_assoc (number_bytes (hint_number h)) rest (0 ∷ more))
-      ∙ number_read before (HintDue id c begun) (hint_number h) (rest ++ 0 ∷ more) (hint_low h fits)
-      ∙ ap (λ r. goes_on Plain before (hint_in id c begun r) (rest ++ 0 ∷ more)) (hint_read h fits)
-      ∙ hints_read id c (begun ++ hint_back h ∷ []) hints more (All-tail IsBinaryHint h hints all)
-      ∙ ap (λ (hs : List Hint). line_then Plain before (adds id c (map hint_of hs)) more) (append_assoc begun (hint_back h ∷ []) (map hint_back hints))
+      rw (
+        append_assoc (number_bytes (hint_number h)) rest (0 ∷ more),
+        number_read before (HintDue id c begun) (hint_number h) (rest ++ 0 ∷ more) (hint_low h fits),
+        hint_read h fits,
+        hints_read id c (begun ++ hint_back h ∷ []) hints more (All-tail IsBinaryHint h hints all),
+        append_assoc begun (hint_back h ∷ []) (map hint_back hints),
+      ) refl
 
   ids_read : (begun ids more : List ℕ) → All IsBinaryId ids →
       outcome_at Plain before (Within (DeletedDue begun)) (numbers_bytes ids ++ 0 ∷ more) ≡ line_then Plain before (deletes (begun ++ ids)) more
@@ -167,44 +145,36 @@ module _ (before : ℕ) where
   ids_read begun (id ∷ ids) more all =
       let fits = All-head IsBinaryId id ids all in
       let rest = numbers_bytes ids in
-      ap (outcome_at Plain before (Within (DeletedDue begun))) (append_assoc (number_bytes id) rest (0 ∷ more))
-      ∙ number_read before (DeletedDue begun) id (rest ++ 0 ∷ more) (id_low id fits)
-      ∙ ap (λ r. goes_on Plain before (deleted_in begun r) (rest ++ 0 ∷ more)) (id_read id fits)
-      ∙ ids_read (begun ++ id ∷ []) ids more (All-tail IsBinaryId id ids all)
-      ∙ ap (λ (is : List ℕ). line_then Plain before (deletes is) more) (append_assoc begun (id ∷ []) ids)
+      rw (
+        append_assoc (number_bytes id) rest (0 ∷ more),
+        number_read before (DeletedDue begun) id (rest ++ 0 ∷ more) (id_low id fits),
+        id_read id fits,
+        ids_read (begun ++ id ∷ []) ids more (All-tail IsBinaryId id ids all),
+        append_assoc begun (id ∷ []) ids,
+      ) refl
 
 -- ---- lines
-
--- the numbers of an addition after its letter, and what comes after it
-addition_rest : (id : ℕ) (c : List ℕ) (hints : List rules.Hint) (more : List ℕ) →
-    (number_bytes id ++ (numbers_bytes (map lit_number c) ++ 0 ∷ (numbers_bytes (map hint_number hints) ++ 0 ∷ []))) ++ more
-    ≡ number_bytes id ++ (numbers_bytes (map lit_number c) ++ 0 ∷ (numbers_bytes (map hint_number hints) ++ 0 ∷ more))
-addition_rest id c hints more =
-    let ls = numbers_bytes (map lit_number c) in
-    let hs = numbers_bytes (map hint_number hints) in
-    append_assoc (number_bytes id) (ls ++ 0 ∷ (hs ++ 0 ∷ [])) more
-    ∙ ap (λ t. number_bytes id ++ t) (append_assoc ls (0 ∷ (hs ++ 0 ∷ [])) more ∙ ap (λ t. ls ++ 0 ∷ t) (append_assoc hs (0 ∷ []) more))
 
 line_read : (before : ℕ) (x : Line) (more : List ℕ) → HasBinaryNumbers x → outcome_at Plain before Outside (line_bytes x ++ more) ≡ line_then Plain before x more
 unfolding outcome_at
 line_read before (adds id c hints) more fit =
     let ls = numbers_bytes (map lit_number c) in
     let hs = numbers_bytes (map hint_number hints) in
-    ap (outcome_at Plain before (Within IdDue)) (addition_rest id c hints more)
-    ∙ number_read before IdDue id (ls ++ 0 ∷ (hs ++ 0 ∷ more)) (id_low id fit.0)
-    ∙ ap (λ r. goes_on Plain before (clause_id r) (ls ++ 0 ∷ (hs ++ 0 ∷ more))) (id_read id fit.0)
-    ∙ literals_read before id [] c (hs ++ 0 ∷ more) fit.1
-    ∙ hints_read before id c [] hints more fit.2
-    ∙ ap (λ hs. line_then Plain before (adds id c hs) more) (hints_back hints)
+    simp append_assoc (rw (
+      number_read before IdDue id (ls ++ 0 ∷ (hs ++ 0 ∷ more)) (id_low id fit.0),
+      id_read id fit.0,
+      literals_read before id [] c (hs ++ 0 ∷ more) fit.1,
+      hints_read before id c [] hints more fit.2,
+      hints_back,
+    ) refl)
 line_read before (deletes ids) more fit =
-    ap (outcome_at Plain before (Within (DeletedDue []))) (append_assoc (numbers_bytes ids) (0 ∷ []) more) ∙ ids_read before [] ids more fit
+    rw (append_assoc (numbers_bytes ids) (0 ∷ []) more) (ids_read before [] ids more fit)
 
 lines_read : (before : ℕ) (xs : List Line) → All HasBinaryNumbers xs → outcome_at Plain before Outside (lines_bytes xs) ≡ (numbered before xs, Ended)
 unfolding outcome_at
 lines_read before [] fit = refl
 lines_read before (x ∷ xs) fit =
-    line_read before x (lines_bytes xs) (All-head HasBinaryNumbers x xs fit)
-    ∙ ap (with_line (next_line before) x) (lines_read (next_line before) xs (All-tail HasBinaryNumbers x xs fit))
+    rw (line_read before x (lines_bytes xs) (All-head HasBinaryNumbers x xs fit), lines_read (next_line before) xs (All-tail HasBinaryNumbers x xs fit)) refl
 
 pub bytes_are_read : BytesAreRead
 bytes_are_read xs fit = lines_read 0 xs fit

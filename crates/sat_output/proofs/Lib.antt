@@ -1,7 +1,5 @@
-pub mod AppendedWords
 pub mod Beginnings
 pub mod BinaryLines
-pub mod Decimals
 pub mod FormulaLines
 pub mod Groups
 pub mod LratLines

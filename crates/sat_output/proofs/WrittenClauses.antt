@@ -1,5 +1,5 @@
 -- The lines of clauses, written one after the other.
-use Rattle.std.proofs.Common.{◌≡◌, ℕ, List, [], ◌∷◌, ◌++◌, Option, sym, ap, ◌∙◌, append_assoc, subst}
+use Rattle.std.proofs.Common.{◌≡◌, ℕ, List, [], ◌∷◌, ◌++◌, Option, append_assoc, subst}
 use Rattle.std.specs.Io.KnownBytes.{Appends}
 use Rattle.std.proofs.KnownBytes.{Appends-trans}
 use Rattle.whole_writes.specs.Beginnings.{AppendsBeginning}
@@ -12,11 +12,7 @@ Written old now left all = (done : List ℕ) × Appends old now done × (done ++
 
 clause_first : (done clause : List ℕ) (rest left all : List (List ℕ)) → left ≡ clause ∷ rest → done ++ clauses_text left ≡ clauses_text all →
     (done ++ (clause_text clause ++ 10 ∷ [])) ++ clauses_text rest ≡ clauses_text all
-clause_first done clause rest left all steps so_far =
-    append_assoc done (clause_text clause ++ 10 ∷ []) (clauses_text rest)
-    ∙ ap (λ t. done ++ t) (append_assoc (clause_text clause) (10 ∷ []) (clauses_text rest))
-    ∙ ap (λ cs. done ++ clauses_text cs) (sym steps)
-    ∙ so_far
+clause_first done clause rest left all steps so_far = simp append_assoc (simp append_assoc at (rw steps at so_far))
 
 pub one_written : (old now new : Option (List ℕ)) (clause : List ℕ) (rest left all : List (List ℕ)) → Written old now left all → left ≡ clause ∷ rest →
     Appends now new (clause_text clause ++ 10 ∷ []) → Written old new rest all

@@ -2,12 +2,7 @@ use Rattle.std.proofs.Common.{arith, map, ◌^◌, ◌<◌}
 use Rattle.std.proofs.lemmas.List.Elements.{All-contains, All-map}
 use Rattle.lrat_text.specs.Grammar.{hint_of}
 use Rattle.sat_output.specs.LratBytes.{hint_id}
-use Rattle.sat_output.proofs.AppendedWords.{addition_bytes}
 use Rattle.sat_output.proofs.binary.addition.Goals as goal
-
-pub returns-clause-whole : goal.returns-clause-whole
-returns-clause-whole c = addition_bytes _ c.args.clause.now (map hint_of c.args.hints.now) _ _ _ _ _ _ c.new-bytes.ensures.items c.in_ok-push.ensures.items c.in_ok-push_number.ensures
-    c.in_ok-push_literals.ensures c.in_ok-push-2.ensures.items c.in_ok-push_hints.ensures.pushed c.in_ok-push-3.ensures.items
 
 pub returns-clause-large : goal.returns-clause-large
 returns-clause-large c = λ large.

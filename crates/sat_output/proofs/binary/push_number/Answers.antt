@@ -1,7 +1,8 @@
-use Rattle.std.proofs.Common.{arith, refl, ◌-◌, ◌+◌, ◌*◌, ◌^◌, ◌≤◌}
+use Rattle.std.proofs.Common.{append_assoc, arith, refl, ◌-◌, ◌+◌, ◌*◌, ◌^◌, ◌≤◌}
 use Rattle.std.proofs.Math.Pow.{pow_mono}
-use Rattle.sat_output.specs.LratBytes.{number_bytes}
-use Rattle.sat_output.proofs.Groups.{group_pushed, last_pushed, next_small}
+use Rattle.sat_output.specs.LratBytes.{groups, number_bytes}
+use Rattle.sat_formula.proofs.GroupedBytes.{group_large, group_small, next_small}
+use Rattle.sat_output.proofs.Groups.{are_groups}
 use Rattle.sat_output.proofs.binary.push_number.Goals as goal
 
 pub groups-init : goal.groups-init
@@ -9,11 +10,13 @@ unfolding number_bytes
 groups-init c = record { spelled = refl; small = omega arith }
 
 pub returns-then-rest-lt128 : goal.returns-then-rest-lt128
-returns-then-rest-lt128 c = last_pushed _ _ _ (9 - c.groups.counter) c.groups.rest c.if-rest-lt128.true c.in_ok-push.ensures.items c.groups.invariant.spelled
+returns-then-rest-lt128 c =
+    rw c.in_ok-push.ensures.items (rw (group_small groups are_groups (9 - c.groups.counter) c.groups.rest c.if-rest-lt128.true) at c.groups.invariant.spelled)
 
 pub groups-preserved : goal.groups-preserved
 groups-preserved c = record {
-  spelled = group_pushed _ _ _ (9 - c.groups.counter) (9 - (c.groups.counter + 1)) c.groups.rest (omega arith) c.if-rest-lt128.false c.in_ok-push-2.ensures.items c.groups.invariant.spelled;
+  spelled = rw (c.in_ok-push-2.ensures.items, append_assoc)
+      (rw (group_large groups are_groups (9 - c.groups.counter) (9 - (c.groups.counter + 1)) c.groups.rest (omega arith) c.if-rest-lt128.false) at c.groups.invariant.spelled);
   small = next_small c.groups.counter c.groups.rest c.groups-test.true c.groups.invariant.small;
 }
 
@@ -21,4 +24,4 @@ pub returns : goal.returns
 returns c =
     let few : 64 - 7 * c.groups.counter ≤ 7 = omega arith in
     let low : 2 ^ (64 - 7 * c.groups.counter) ≤ 2 ^ 7 = pow_mono few in
-    last_pushed _ _ _ (9 - c.groups.counter) c.groups.rest (omega arith) c.in_ok-push-3.ensures.items c.groups.invariant.spelled
+    rw c.in_ok-push-3.ensures.items (rw (group_small groups are_groups (9 - c.groups.counter) c.groups.rest (omega arith)) at c.groups.invariant.spelled)

@@ -1,6 +1,7 @@
-use Rattle.sat_hints.proofs.AppendedWords.{addition_text}
+use Rattle.std.proofs.Common.{arith}
+use Rattle.std.proofs.lemmas.Grind.{common_steps}
+use Rattle.sat_hints.proofs.WrittenWords.{after_space-append}
 use Rattle.sat_hints.proofs.writer.LratWriter.addition.Goals as goal
 
 pub returns-clause-line : goal.returns-clause-line
-returns-clause-line c = addition_text _ _ _ _ _ _ _ _ c.new-line.ensures.items c.in_ok-push_number.ensures c.in_ok-push_literals.ensures
-    c.in_ok-extend_from_slice.ensures.items c.in_ok-push_hints.ensures.line c.in_ok-extend_from_slice-2.ensures.items
+returns-clause-line c = grind (arith, common_steps, after_space-append)
