@@ -35,8 +35,7 @@ satisfies_part : (formula used : List (List ℕ)) → IsPartOf used formula → 
 satisfies_part formula used part a t = subst (λ (cs : List (List ℕ)). all_true a cs ≡ true) (sym part.1) (part_true a part.0 formula t)
 
 shown_whole : (formula used wanted : List (List ℕ)) → IsPartOf used formula → (verdict : PieceVerdict) → IsPieceShown used wanted verdict → IsPieceShown formula wanted verdict
-shown_whole formula used wanted part Refuted p = λ a.
-    false_from_ne_true (all_true a formula) (λ t. true≢false (sym (satisfies_part formula used part a t) ∙ p a))
+shown_whole formula used wanted part Refuted p = λ a. false_from_ne_true (all_true a formula) (λ t. true≢false (sym (satisfies_part formula used part a t) ∙ p a))
 shown_whole formula used wanted part Carried p = λ a t. p a (satisfies_part formula used part a t)
 shown_whole formula used wanted part NotCarried p = tt
 
@@ -53,16 +52,14 @@ every_clause (c ∷ cs) = ap (λ (ds : List (List ℕ)). c ∷ ds) (every_clause
 
 module _ (formula wanted : List (List ℕ)) (core core' : Known) where
   pub core_shows : (old new : Known) (r : Result PieceVerdict PieceFault) → WritesCore formula wanted core core' old new r → IfOk r (IsPieceShown formula wanted)
-  core_shows old new (Ok Refuted) p = shown_whole formula p.used wanted p.is_part Refuted p.shown
-  core_shows old new (Ok Carried) p = shown_whole formula p.used wanted p.is_part Carried p.shown
-  core_shows old new (Ok NotCarried) p = tt
   core_shows old new (Err fault) p = tt
+  core_shows old new (Ok NotCarried) p = tt
+  core_shows old new (Ok verdict) p = shown_whole formula p.used wanted p.is_part verdict p.shown
 
   pub core_written : (used : List (List ℕ)) → IsPartOf used formula → Appends core core' (formula_text used) → (verdict : PieceVerdict) → verdict ≢ NotCarried →
       IsPieceShown used wanted verdict → CoreShown formula wanted core core' verdict
-  core_written used part text Refuted decided p = record { used = used; is_part = part; shown = p; text = text }
-  core_written used part text Carried decided p = record { used = used; is_part = part; shown = p; text = text }
   core_written used part text NotCarried decided p = absurd (decided refl)
+  core_written used part text verdict decided p = record { used = used; is_part = part; shown = p; text = text }
 
   pub core_began : (used : List (List ℕ)) → IsPartOf used formula → AppendsBeginning core core' (formula_text used) → BeganCore formula core core'
   core_began used part text = record { used = used; is_part = part; text = text }
@@ -70,21 +67,12 @@ module _ (formula wanted : List (List ℕ)) (core core' : Known) where
 module _ (formula wanted : List (List ℕ)) where
   -- nothing was written before this fault
   pub core_unwritten : (core old new : Known) (fault : PieceFault) → IsEarlyPiece {A = PieceVerdict} (Err fault) → WritesCore formula wanted core core old new (Err fault)
-  core_unwritten core old new (Run (Formula fault)) early = refl
-  core_unwritten core old new (Run (Proof fault)) early = refl
-  core_unwritten core old new (Run (Lrat cause)) early = refl
-  core_unwritten core old new (Run (Trim cause)) early = refl
   core_unwritten core old new (Run (Core cause)) early = core_none formula core
   core_unwritten core old new (Run (Write cause)) early = absurd early
-  core_unwritten core old new (Wanted fault) early = refl
-  core_unwritten core old new Lost early = refl
-
-  every_clause_shows : (verdict : PieceVerdict) → IsPieceShown formula wanted verdict → WroteShown formula wanted None None verdict
-  every_clause_shows verdict p = record { used = formula; is_part = (every_flag formula, every_clause formula); shown = p; text = tt }
+  core_unwritten core old new fault early = refl
 
   -- without a writer the formula serves
   pub no_core : (old new : Known) (r : Result PieceVerdict PieceFault) → IsEarlyPiece r → IfOk r (IsPieceShown formula wanted) → WritesCore formula wanted None None old new r
-  no_core old new (Ok Refuted) early p = every_clause_shows Refuted p
-  no_core old new (Ok Carried) early p = every_clause_shows Carried p
-  no_core old new (Ok NotCarried) early p = refl
   no_core old new (Err fault) early p = core_unwritten None old new fault early
+  no_core old new (Ok NotCarried) early p = refl
+  no_core old new (Ok verdict) early p = record { used = formula; is_part = (every_flag formula, every_clause formula); shown = p; text = tt }

@@ -2,7 +2,7 @@
 use Rattle.std.proofs.Common.{◌≡◌, ℕ, Bool, true, false, ◌||◌, if◌then◌else◌, List, [], ◌∷◌, ◌++◌, length, Option, Some, None, arith, Result, Ok, Err, refl, sym, ap, ◌∙◌, subst, append_assoc, append-nil}
 use Rattle.std.proofs.lemmas.Option.{cond_some, none-some}
 use Rattle.std.specs.Io.KnownBytes.{Appends, Keeps}
-use Rattle.std.proofs.KnownBytes.{Appends-kept, Appends-nil, Appends-trans}
+use Rattle.std.proofs.KnownBytes.{Appends-kept, Appends-nil, Appends-trans, Keeps-refl}
 use Rattle.std.specs.Prelude.{OnErr, OnOk}
 use Rattle.whole_writes.specs.Beginnings.{AppendsBeginning}
 use Rattle.sat_rules.specs.Named.{Item}
@@ -112,14 +112,9 @@ pub record SoFar (form : LineForm) (formula : List (List ℕ)) (lrat lrat' trim 
 pub none_yet : (form : LineForm) (formula : List (List ℕ)) (lrat trim : Known) (checker : LratChecker) (last : ℕ) (begun : Bool) → IsReady formula [] checker →
     last ≡ length formula → begun ≡ false → SoFar form formula lrat lrat trim trim checker last begun
 unfolding begun_of
-none_yet form formula lrat trim checker last begun ready number has_begun = record {
-  lines = [];
-  ready = ready;
-  text = subst (Appends lrat lrat) (sym (lines_in-none form (length formula))) (Appends-nil lrat);
-  trimmed = Appends-nil trim;
-  number = number;
-  has_begun = has_begun;
-}
+none_yet form formula lrat trim checker last begun ready number has_begun =
+    let no_text : Appends lrat lrat (lines_in form (length formula) []) = rw (lines_in-none form (length formula)) (Appends-nil lrat) in
+    search (no_text, Appends-nil trim)
 
 module _ (form : LineForm) (formula : List (List ℕ)) (lrat lrat' lrat'' trim trim' trim'' : Known) (checker next : LratChecker) (last : ℕ) (begun : Bool) (x : Line)
     (p : SoFar form formula lrat lrat' trim trim' checker last begun) where
@@ -157,28 +152,23 @@ module _ (form : LineForm) (formula : List (List ℕ)) (lrat lrat' lrat'' trim t
 
   -- a beginning of the line is written, and none of its steps
   pub began_line : IsReady formula (p.lines ++ x ∷ []) next → AppendsBeginning lrat' lrat'' (lines_in form last (x ∷ [])) → BeganLines form formula lrat lrat'' trim trim'
-  began_line ready line = record {
-    lines = p.lines ++ x ∷ [];
-    store = ready.accepted.store;
-    accepted = ready.accepted.ran;
-    text = subst (AppendsBeginning lrat lrat'') with_line (begins_past lrat lrat' lrat'' (lines_in form (length formula) p.lines) (lines_in form last (x ∷ [])) p.text line);
-    trimmed = subst (AppendsBeginning trim trim') with_steps (begins_front trim trim' (steps_text false store p.lines) steps
-        (begins_whole trim trim' (steps_text false store p.lines) p.trimmed));
-  }
+  began_line ready line = search (
+    ready.accepted,
+    subst (AppendsBeginning lrat lrat'') with_line (begins_past lrat lrat' lrat'' (lines_in form (length formula) p.lines) (lines_in form last (x ∷ [])) p.text line),
+    subst (AppendsBeginning trim trim') with_steps (begins_front trim trim' (steps_text false store p.lines) steps
+        (begins_whole trim trim' (steps_text false store p.lines) p.trimmed)),
+  )
 
   -- the line is written, and a beginning of its steps
   pub began_steps : IsReady formula (p.lines ++ x ∷ []) next → Appends lrat' lrat'' (lines_in form last (x ∷ [])) → AppendsBeginning trim' trim'' steps →
       BeganLines form formula lrat lrat'' trim trim''
-  began_steps ready line written = record {
-    lines = p.lines ++ x ∷ [];
-    store = ready.accepted.store;
-    accepted = ready.accepted.ran;
-    text = begins_whole lrat lrat'' (lines_in form (length formula) (p.lines ++ x ∷ [])) (line_written line);
-    trimmed = subst (AppendsBeginning trim trim'') with_steps (begins_past trim trim' trim'' (steps_text false store p.lines) steps p.trimmed written);
-  }
+  began_steps ready line written = search (
+    ready.accepted,
+    begins_whole lrat lrat'' (lines_in form (length formula) (p.lines ++ x ∷ [])) (line_written line),
+    subst (AppendsBeginning trim trim'') with_steps (begins_past trim trim' trim'' (steps_text false store p.lines) steps p.trimmed written),
+  )
 
-module _ (form : LineForm) (formula : List (List ℕ)) (lrat lrat' lrat'' trim trim' trim'' : Known) (checker : LratChecker)
-    (p : HasWritten form formula lrat lrat' trim trim' checker) where
+module _ {form : LineForm} {formula : List (List ℕ)} {lrat lrat' trim trim' : Known} {checker : LratChecker} (p : HasWritten form formula lrat lrat' trim trim' checker) where
   abbrev text : List ℕ
   text = lines_in form (length formula) p.lines
 
@@ -186,34 +176,30 @@ module _ (form : LineForm) (formula : List (List ℕ)) (lrat lrat' lrat'' trim t
   steps_before = steps_text false (formula_store formula) p.lines
 
   -- no more is written
-  pub began_after : Keeps lrat' lrat'' → Keeps trim' trim'' → BeganLines form formula lrat lrat'' trim trim''
-  began_after kept kept' = record {
-    lines = p.lines;
-    store = p.ready.accepted.store;
-    accepted = p.ready.accepted.ran;
-    text = begins_whole lrat lrat'' text (Appends-kept lrat lrat' lrat'' text p.text kept);
-    trimmed = begins_whole trim trim'' steps_before (Appends-kept trim trim' trim'' steps_before p.trimmed kept');
-  }
+  pub began_after : {lrat'' trim'' : Known} → Keeps lrat' lrat'' → Keeps trim' trim'' → BeganLines form formula lrat lrat'' trim trim''
+  began_after {lrat''} {trim''} kept kept' = search (
+    begins_whole lrat lrat'' text (Appends-kept lrat lrat' lrat'' text p.text kept),
+    begins_whole trim trim'' steps_before (Appends-kept trim trim' trim'' steps_before p.trimmed kept'),
+  )
 
-  pub wrote : has_refuted checker ≡ true → Keeps lrat' lrat'' → Keeps trim' trim'' → WroteProof form formula lrat lrat'' trim trim''
-  wrote refuted kept kept' = record {
-    lines = p.lines;
-    refuted = sym p.ready.accepted.refuted ∙ refuted;
-    text = Appends-kept lrat lrat' lrat'' text p.text kept;
-    trimmed = Appends-kept trim trim' trim'' steps_before p.trimmed kept';
-  }
+  pub wrote : {lrat'' trim'' : Known} → has_refuted checker ≡ true → Keeps lrat' lrat'' → Keeps trim' trim'' → WroteProof form formula lrat lrat'' trim trim''
+  wrote {lrat''} {trim''} refuted kept kept' = search (
+    sym p.ready.accepted.refuted ∙ refuted,
+    Appends-kept lrat lrat' lrat'' text p.text kept,
+    Appends-kept trim trim' trim'' steps_before p.trimmed kept',
+  )
 
-module _ (form : LineForm) (formula : List (List ℕ)) (lrat lrat' trim trim' : Known) (checker : LratChecker) (last : ℕ) (begun : Bool)
+module _ {form : LineForm} {formula : List (List ℕ)} {lrat lrat' trim trim' : Known} {checker : LratChecker} {last : ℕ} {begun : Bool}
     (p : SoFar form formula lrat lrat' trim trim' checker last begun) where
   pub written : HasWritten form formula lrat lrat' trim trim' checker
-  written = record { lines = p.lines; ready = p.ready; text = p.text; trimmed = p.trimmed }
+  written = search
 
-  pub began : (lrat'' trim'' : Known) → Keeps lrat' lrat'' → Keeps trim' trim'' → BeganLines form formula lrat lrat'' trim trim''
-  began lrat'' trim'' = began_after form formula lrat lrat' lrat'' trim trim' trim'' checker written
+  pub began : BeganLines form formula lrat lrat' trim trim'
+  began = began_after written (Keeps-refl lrat') (Keeps-refl trim')
 
 -- no line was made
-pub began_none : (form : LineForm) (formula : List (List ℕ)) (lrat trim : Known) → BeganLines form formula lrat lrat trim trim
-began_none form formula lrat trim = record {
+pub began_none : {form : LineForm} {formula : List (List ℕ)} {lrat trim : Known} → BeganLines form formula lrat lrat trim trim
+began_none {form} {formula} {lrat} {trim} = record {
   lines = [];
   store = formula_store formula;
   accepted = refl;
@@ -233,4 +219,4 @@ on_err P (Err e) p = p
 -- a refusal before a line was made
 pub refused : {L C : Type 0} (formula : List (List ℕ)) (lrat : L → Known) (core : C → Known) (s : Outputs L C) (fault : ProofFault) →
     WritesBefore formula lrat core s s (Err (Proof fault))
-refused formula lrat core s fault = (began_none s.form formula (bytes_in lrat s.lrat) (bytes_in lrat s.trim), refl)
+refused formula lrat core s fault = (began_none, refl)

@@ -37,21 +37,15 @@ Known = Option (List ℕ)
 -- ---- lines without steps
 
 -- what stands of the writer of steps says nothing where there was none
-pub without_steps : (form : LineForm) (formula : List (List ℕ)) (lrat lrat' trim' : Known) (checker : LratChecker) →
+pub without_steps : {form : LineForm} {formula : List (List ℕ)} {lrat lrat' trim' : Known} {checker : LratChecker} →
     HasWritten form formula lrat lrat' None trim' checker → HasWritten form formula lrat lrat' None None checker
-without_steps form formula lrat lrat' trim' checker p = record { lines = p.lines; ready = p.ready; text = p.text; trimmed = tt }
+without_steps p = search
 
-pub began_without_steps : (form : LineForm) (formula : List (List ℕ)) (lrat lrat' trim' : Known) →
+pub began_without_steps : {form : LineForm} {formula : List (List ℕ)} {lrat lrat' trim' : Known} →
     BeganLines form formula lrat lrat' None trim' → BeganLines form formula lrat lrat' None None
-began_without_steps form formula lrat lrat' trim' p = record {
-  lines = p.lines;
-  store = p.store;
-  accepted = p.accepted;
-  text = p.text;
-  trimmed = begins_nothing None (steps_text false (formula_store formula) p.lines);
-}
+began_without_steps {form} {formula} p = search (begins_nothing None (steps_text false (formula_store formula) p.lines))
 
-module _ (form : LineForm) (formula : List (List ℕ)) (lrat lrat' lrat'' : Known) (checker next : LratChecker) (id last : ℕ) (c : List ℕ) (hints : List Hint)
+module _ {form : LineForm} {formula : List (List ℕ)} {lrat lrat' : Known} {checker : LratChecker} (id last : ℕ) (c : List ℕ) (hints : List Hint)
     (p : HasWritten form formula lrat lrat' None None checker) where
   abbrev added : Line
   added = adds id c hints
@@ -64,40 +58,32 @@ module _ (form : LineForm) (formula : List (List ℕ)) (lrat lrat' lrat'' : Know
       alike Text = refl
       alike Binary = refl
 
-  pub one_added : IsReady formula (p.lines ++ added ∷ []) next → Appends lrat' lrat'' (lines_in form last (added ∷ [])) → HasWritten form formula lrat lrat'' None None next
-  one_added ready line = record {
-    lines = p.lines ++ added ∷ [];
-    ready = ready;
-    text = subst (Appends lrat lrat'') with_addition
-        (Appends-trans lrat lrat' lrat'' (lines_in form (length formula) p.lines) (lines_in form last (added ∷ [])) p.text line);
-    trimmed = tt;
-  }
+  pub one_added : {lrat'' : Known} {next : LratChecker} → IsReady formula (p.lines ++ added ∷ []) next → Appends lrat' lrat'' (lines_in form last (added ∷ [])) → HasWritten form formula lrat lrat'' None None next
+  one_added {lrat''} ready line = search (subst (Appends lrat lrat'') with_addition
+      (Appends-trans lrat lrat' lrat'' (lines_in form (length formula) p.lines) (lines_in form last (added ∷ [])) p.text line))
 
-  pub began_addition : IsReady formula (p.lines ++ added ∷ []) next → AppendsBeginning lrat' lrat'' (lines_in form last (added ∷ [])) →
+  pub began_addition : {lrat'' : Known} {next : LratChecker} → IsReady formula (p.lines ++ added ∷ []) next → AppendsBeginning lrat' lrat'' (lines_in form last (added ∷ [])) →
       BeganLines form formula lrat lrat'' None None
-  began_addition ready line = record {
-    lines = p.lines ++ added ∷ [];
-    store = ready.accepted.store;
-    accepted = ready.accepted.ran;
-    text = subst (AppendsBeginning lrat lrat'') with_addition
-        (begins_past lrat lrat' lrat'' (lines_in form (length formula) p.lines) (lines_in form last (added ∷ [])) p.text line);
-    trimmed = begins_nothing None (steps_text false (formula_store formula) (p.lines ++ added ∷ []));
-  }
+  began_addition {lrat''} ready line = search (
+    ready.accepted,
+    subst (AppendsBeginning lrat lrat'') with_addition
+        (begins_past lrat lrat' lrat'' (lines_in form (length formula) p.lines) (lines_in form last (added ∷ [])) p.text line),
+    begins_nothing None (steps_text false (formula_store formula) (p.lines ++ added ∷ [])),
+  )
 
 -- ---- verdicts
 
-module _ (form : LineForm) (formula wanted : List (List ℕ)) (lrat lrat' lrat'' : Known) (checker : LratChecker)
-    (p : HasWritten form formula lrat lrat' None None checker) where
-  -- the ids name the wanted clauses in what the checker holds
-  pub wrote_piece : (ids : List ℕ) → NamedBy (find p.ready.accepted.store) ids wanted → Keeps lrat' lrat'' → WrotePiece form formula wanted lrat lrat''
-  wrote_piece ids named kept = record {
-    lines = p.lines;
-    store = p.ready.accepted.store;
-    ids = ids;
-    accepted = p.ready.accepted.ran;
-    named = named;
-    text = Appends-kept lrat lrat' lrat'' (lines_in form (length formula) p.lines) p.text kept;
-  }
+-- the ids name the wanted clauses in what the checker holds
+pub wrote_piece : {form : LineForm} {formula wanted : List (List ℕ)} {lrat lrat' lrat'' : Known} {checker : LratChecker} (p : HasWritten form formula lrat lrat' None None checker)
+    (ids : List ℕ) → NamedBy (find p.ready.accepted.store) ids wanted → Keeps lrat' lrat'' → WrotePiece form formula wanted lrat lrat''
+wrote_piece {form} {formula} {lrat = lrat} {lrat'} {lrat''} p ids named kept = record {
+  lines = p.lines;
+  store = p.ready.accepted.store;
+  ids = ids;
+  accepted = p.ready.accepted.ran;
+  named = named;
+  text = Appends-kept lrat lrat' lrat'' (lines_in form (length formula) p.lines) p.text kept;
+}
 
 -- a run that ends with this verdict or a fault
 pub shown_by : (P : PieceVerdict → Type 0) (r : Result PieceVerdict PieceFault) (verdict : PieceVerdict) → IfOk r (λ x. x ≡ verdict) → P verdict → IfOk r P
@@ -114,25 +100,17 @@ ended form formula wanted lrat lrat' (Err fault) verdict same p began = began
 -- a fault that came before the verdict's line
 pub early_run : (formula wanted : List (List ℕ)) (fault : PieceFault) → IsEarlyPiece {A = PieceVerdict} (Err fault) → IsReadPieceRun formula wanted (Err fault)
 early_run formula wanted (Run (Formula fault)) early = absurd early
-early_run formula wanted (Run (Proof fault)) early = tt
-early_run formula wanted (Run (Lrat cause)) early = tt
-early_run formula wanted (Run (Trim cause)) early = tt
-early_run formula wanted (Run (Core cause)) early = tt
 early_run formula wanted (Run (Write cause)) early = absurd early
 early_run formula wanted (Wanted fault) early = absurd early
-early_run formula wanted Lost early = tt
+early_run formula wanted fault early = tt
 
 module _ (form : LineForm) (formula wanted : List (List ℕ)) (lrat lrat' old new : Known) where
   pub early_lines : (fault : PieceFault) → IsEarlyPiece {A = PieceVerdict} (Err fault) → BeganLines form formula lrat lrat' None None →
       WritesRead form formula wanted lrat lrat' old new (Err fault)
   early_lines (Run (Formula fault)) early began = absurd early
-  early_lines (Run (Proof fault)) early began = began
-  early_lines (Run (Lrat cause)) early began = began
-  early_lines (Run (Trim cause)) early began = began
-  early_lines (Run (Core cause)) early began = began
   early_lines (Run (Write cause)) early began = absurd early
   early_lines (Wanted fault) early began = absurd early
-  early_lines Lost early began = began
+  early_lines fault early began = began
 
 -- ---- runs after the texts of two formulas
 
@@ -147,38 +125,19 @@ module _ (cnf holds : Known) (formula wanted : List (List ℕ)) (whole : IsOutco
   pub read_run : (r : Result PieceVerdict PieceFault) → IsReadPieceRun formula wanted r → IsPieceRun cnf holds r
   read_run (Ok verdict) p = both (λ formula wanted. IsPieceShown formula wanted verdict) p
   read_run (Err (Run (Formula fault))) p = absurd p
-  read_run (Err (Run (Proof fault))) p = first
-  read_run (Err (Run (Lrat cause))) p = first
-  read_run (Err (Run (Trim cause))) p = first
-  read_run (Err (Run (Core cause))) p = first
-  read_run (Err (Run (Write cause))) p = first
+  read_run (Err (Run fault)) p = first
   read_run (Err (Wanted fault)) p = absurd p
   read_run (Err Lost) p = both (λ formula wanted. Unit {0}) tt
 
   pub read_lines : (form : LineForm) (lrat lrat' old new : Known) (r : Result PieceVerdict PieceFault) → WritesRead form formula wanted lrat lrat' old new r →
       WritesPiece form cnf holds lrat lrat' old new r
-  read_lines form lrat lrat' old new (Ok verdict) p = both (λ formula wanted. WritesShown form formula wanted lrat lrat' verdict) p
   read_lines form lrat lrat' old new (Err (Run (Formula fault))) p = absurd p
-  read_lines form lrat lrat' old new (Err (Run (Proof fault))) p = both (λ formula wanted. BeganLines form formula lrat lrat' None None) p
-  read_lines form lrat lrat' old new (Err (Run (Lrat cause))) p = both (λ formula wanted. BeganLines form formula lrat lrat' None None) p
-  read_lines form lrat lrat' old new (Err (Run (Trim cause))) p = both (λ formula wanted. BeganLines form formula lrat lrat' None None) p
-  read_lines form lrat lrat' old new (Err (Run (Core cause))) p = both (λ formula wanted. BeganLines form formula lrat lrat' None None) p
-  read_lines form lrat lrat' old new (Err (Run (Write cause))) p = both (λ formula wanted. LeftPiece form formula wanted lrat lrat' old new) p
   read_lines form lrat lrat' old new (Err (Wanted fault)) p = absurd p
-  read_lines form lrat lrat' old new (Err Lost) p = both (λ formula wanted. BeganLines form formula lrat lrat' None None) p
-
-  pub read_carries : (text other : List ℕ) → cnf ≡ Some text → holds ≡ Some other → IsReadPieceRun formula wanted (Ok Carried) → CarriesText text other
-  read_carries text other is is' p = carries_text cnf holds formula wanted whole wanted_whole text other is is' p
+  read_lines form lrat lrat' old new r p = both (λ formula wanted. WritesRead form formula wanted lrat lrat' old new r) p
 
 -- what is told of both headers, once both formulas were read
 pub read_lies : (cnf holds : Known) (formula wanted : List (List ℕ)) (before lie other : Option LyingHeader) (r : Result PieceVerdict PieceFault) →
     IsLie cnf lie → IsLie holds other → IsReadPieceRun formula wanted r → TellsPieceLies cnf holds before r lie other
-read_lies cnf holds formula wanted before lie other (Ok verdict) p q read = (p, q)
 read_lies cnf holds formula wanted before lie other (Err (Run (Formula fault))) p q read = absurd read
-read_lies cnf holds formula wanted before lie other (Err (Run (Proof fault))) p q read = (p, q)
-read_lies cnf holds formula wanted before lie other (Err (Run (Lrat cause))) p q read = (p, q)
-read_lies cnf holds formula wanted before lie other (Err (Run (Trim cause))) p q read = (p, q)
-read_lies cnf holds formula wanted before lie other (Err (Run (Core cause))) p q read = (p, q)
-read_lies cnf holds formula wanted before lie other (Err (Run (Write cause))) p q read = (p, q)
 read_lies cnf holds formula wanted before lie other (Err (Wanted fault)) p q read = absurd read
-read_lies cnf holds formula wanted before lie other (Err Lost) p q read = (p, q)
+read_lies cnf holds formula wanted before lie other r p q read = (p, q)

@@ -1,13 +1,9 @@
-use Rattle.std.proofs.Common.{sym, subst}
-use Rattle.drat_check.proofs.UsedClauses.{IsPartSoFar, all_seen, none_taken, one_left, one_taken}
+use Rattle.drat_check.proofs.UsedClauses.{all_seen, none_taken, one_left, one_taken}
 use Rattle.drat_check.proofs.outputs.used_clauses.Goals as goal
 use Rattle.drat_check.proofs.outputs.used_clauses.Goals.{then-is_used+in_ok-add_clause, else-is_used}
 
 pub loop-clause-init : goal.loop-clause-init
-loop-clause-init c =
-    let left = c.into_iter-clause-iterator.result in
-    let formula = c.args.formula.now in
-    subst (λ used. IsPartSoFar used left formula) (sym c.new-used.ensures) (none_taken formula left c.into_iter-clause-iterator.ensures.into_iter_gives)
+loop-clause-init c = rw c.new-used.ensures (none_taken c.args.formula.now c.into_iter-clause-iterator.result c.into_iter-clause-iterator.ensures.into_iter_gives)
 
 pub loop-clause-preserved : goal.loop-clause-preserved
 loop-clause-preserved c =

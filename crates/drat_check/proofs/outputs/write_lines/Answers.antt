@@ -1,19 +1,14 @@
-use Rattle.std.proofs.Common.{false, refl, subst}
-use Rattle.std.specs.Io.KnownBytes.{Appends}
-use Rattle.std.proofs.KnownBytes.{Keeps-refl}
+use Rattle.std.proofs.Common.{false, refl}
 use Rattle.lrat_text.specs.NextLine.{view}
-use Rattle.whole_writes.specs.Beginnings.{AppendsBeginning}
 use Rattle.drat_check.specs.Outputs.{bytes_in}
 use Rattle.drat_check.proofs.WrittenLines.{appends_wanted, began, began_line, began_none, began_steps, begins_wanted, none_yet, one_more, written}
 use Rattle.drat_check.proofs.outputs.write_lines.Goals as goal
 
 pub returns-in-Err-clause-beginning : goal.returns-in-Err-clause-beginning
-returns-in-Err-clause-beginning g c =
-    began_none c.args.form c.args.formula.now (bytes_in g.L.Write.contents c.args.lrat.now) (bytes_in g.L.Write.contents c.args.trim.now)
+returns-in-Err-clause-beginning g c = began_none
 
 pub returns-then-refuted-clause-whole : goal.returns-then-refuted-clause-whole
-returns-then-refuted-clause-whole g c =
-    written c.args.form c.args.formula.now _ _ _ _ c.lines.checker c.lines.last c.lines.has_begun c.lines.invariant
+returns-then-refuted-clause-whole g c = written c.lines.invariant
 
 pub lines-init : goal.lines-init
 lines-init g c =
@@ -21,14 +16,10 @@ lines-init g c =
     c.in-Ok.checker c.len-last.result false c.in-Ok.ensures.ready c.len-last.ensures refl
 
 pub returns-in-Err-steps_of-clause-beginning : goal.returns-in-Err-steps_of-clause-beginning
-returns-in-Err-steps_of-clause-beginning g c =
-    began c.args.form c.args.formula.now _ _ _ _ c.lines.checker c.lines.last c.lines.has_begun c.lines.invariant _ _
-    (Keeps-refl (bytes_in g.L.Write.contents c.lines.lrat)) (Keeps-refl (bytes_in g.L.Write.contents c.lines.trim))
+returns-in-Err-steps_of-clause-beginning g c = began c.lines.invariant
 
 pub returns-in-Err-check_line-clause-beginning : goal.returns-in-Err-check_line-clause-beginning
-returns-in-Err-check_line-clause-beginning g c =
-    began c.args.form c.args.formula.now _ _ _ _ c.lines.checker c.lines.last c.lines.has_begun c.lines.invariant _ _
-    (Keeps-refl (bytes_in g.L.Write.contents c.lines.lrat)) (Keeps-refl (bytes_in g.L.Write.contents c.lines.trim))
+returns-in-Err-check_line-clause-beginning g c = began c.lines.invariant
 
 pub returns-in-Err-write_accepted-clause-beginning : goal.returns-in-Err-write_accepted-clause-beginning
 returns-in-Err-write_accepted-clause-beginning g c =
@@ -43,17 +34,13 @@ returns-in-Err-write_steps-clause-beginning g c =
     (c.in_default.ensures.accepted c.args.formula.now so_far.lines so_far.ready) c.in_default-write_accepted.ensures.whole
     (begins_wanted g.L.Write.contents c.lines.trim c.write_steps.new.trim c.in-Ok-steps_of.steps.items _
     (c.in-Ok-steps_of.ensures c.args.formula.now so_far.lines so_far.ready)
-    (subst (AppendsBeginning (bytes_in g.L.Write.contents c.lines.trim) (bytes_in g.L.Write.contents c.write_steps.new.trim))
-    c.deref.ensures.value c.in-Err-write_steps.ensures.beginning))
+    (rw c.deref.ensures.value at c.in-Err-write_steps.ensures.beginning))
 
 pub returns-in-Ok-None-clause-whole : goal.returns-in-Ok-None-clause-whole
-returns-in-Ok-None-clause-whole g c =
-    written c.args.form c.args.formula.now _ _ _ _ c.lines.checker c.lines.last c.lines.has_begun c.lines.invariant
+returns-in-Ok-None-clause-whole g c = written c.lines.invariant
 
 pub returns-in-Err-next_line-clause-beginning : goal.returns-in-Err-next_line-clause-beginning
-returns-in-Err-next_line-clause-beginning g c =
-    began c.args.form c.args.formula.now _ _ _ _ c.lines.checker c.lines.last c.lines.has_begun c.lines.invariant _ _
-    (Keeps-refl (bytes_in g.L.Write.contents c.lines.lrat)) (Keeps-refl (bytes_in g.L.Write.contents c.lines.trim))
+returns-in-Err-next_line-clause-beginning g c = began c.lines.invariant
 
 pub lines-preserved : goal.lines-preserved
 lines-preserved g c =
@@ -63,11 +50,8 @@ lines-preserved g c =
     (c.in_default.ensures.accepted c.args.formula.now so_far.lines so_far.ready) c.in_default-write_accepted.ensures.whole
     (appends_wanted g.L.Write.contents c.lines.trim c.write_steps.new.trim c.in-Ok-steps_of.steps.items _
     (c.in-Ok-steps_of.ensures c.args.formula.now so_far.lines so_far.ready)
-    (subst (Appends (bytes_in g.L.Write.contents c.lines.trim) (bytes_in g.L.Write.contents c.write_steps.new.trim))
-    c.deref.ensures.value c.in_default-write_steps.ensures.whole))
+    (rw c.deref.ensures.value at c.in_default-write_steps.ensures.whole))
     c.number_after-last.ensures c.begun_by-has_begun.ensures
 
 pub returns-clause-beginning : goal.returns-clause-beginning
-returns-clause-beginning g c =
-    began c.args.form c.args.formula.now _ _ _ _ c.lines.checker c.lines.last c.lines.has_begun c.lines.invariant _ _
-    (Keeps-refl (bytes_in g.L.Write.contents c.lines.lrat)) (Keeps-refl (bytes_in g.L.Write.contents c.lines.trim))
+returns-clause-beginning g c = began c.lines.invariant

@@ -9,8 +9,7 @@ use Rattle.drat_check.proofs.outputs.write_proof.Goals as goal
 
 pub returns-then-not-refuted-clause-beginning : goal.returns-then-not-refuted-clause-beginning
 returns-then-not-refuted-clause-beginning g c =
-    began_after c.args.form c.args.formula.now _ _ _ _ _ _ c.in-Ok.checker c.in-Ok.ensures.whole
-    (Keeps-refl (bytes_in g.L.Write.contents c.write_lines.new.lrat)) (Keeps-refl (bytes_in g.L.Write.contents c.write_lines.new.trim))
+    began_after c.in-Ok.ensures.whole (Keeps-refl (bytes_in g.L.Write.contents c.write_lines.new.lrat)) (Keeps-refl (bytes_in g.L.Write.contents c.write_lines.new.trim))
 
 pub returns-clause-shown : goal.returns-clause-shown
 returns-clause-shown g c =
@@ -21,10 +20,7 @@ returns-clause-shown g c =
 
 pub returns-clause-whole : goal.returns-clause-whole
 returns-clause-whole g c =
-    on_ok _ c.end_lines.result (wrote c.args.form c.args.formula.now _ _ _ _ _ _ c.in-Ok.checker c.in-Ok.ensures.whole
-    (sym c.refuted.ensures.value ∙ c.if-not-refuted.false) c.end_lines.ensures.lrat c.end_lines.ensures.trim)
+    on_ok _ c.end_lines.result (wrote c.in-Ok.ensures.whole (sym c.refuted.ensures.value ∙ c.if-not-refuted.false) c.end_lines.ensures.lrat c.end_lines.ensures.trim)
 
 pub returns-clause-beginning : goal.returns-clause-beginning
-returns-clause-beginning g c =
-    on_err _ c.end_lines.result (began_after c.args.form c.args.formula.now _ _ _ _ _ _ c.in-Ok.checker c.in-Ok.ensures.whole
-    c.end_lines.ensures.lrat c.end_lines.ensures.trim)
+returns-clause-beginning g c = on_err _ c.end_lines.result (began_after c.in-Ok.ensures.whole c.end_lines.ensures.lrat c.end_lines.ensures.trim)

@@ -1,5 +1,5 @@
-use Rattle.std.proofs.lemmas.Result.{err_from_is_err_and}
-use Rattle.drat_check.proofs.WrittenCores.{core_none, part_began, part_written}
+use Rattle.std.proofs.lemmas.Result.{err_from_is_err_and, on_err_weaker, on_ok_weaker}
+use Rattle.drat_check.proofs.WrittenCores.{core_none}
 use Rattle.drat_check.proofs.outputs.write_used.Goals as goal
 
 pub returns-in_err-used-clause-beginning : goal.returns-in_err-used-clause-beginning
@@ -9,8 +9,8 @@ returns-in_err-used-clause-beginning g c =
 
 pub returns-clause-whole : goal.returns-clause-whole
 returns-clause-whole g c =
-    part_written c.args.formula.now c.in_ok-used.used _ _ c.in_ok-used.ensures c.write_clauses.result c.write_clauses.ensures.whole
+    on_ok_weaker c.write_clauses.result (λ text. record { used = c.in_ok-used.used; is_part = c.in_ok-used.ensures; text = text }) c.write_clauses.ensures.whole
 
 pub returns-clause-beginning : goal.returns-clause-beginning
 returns-clause-beginning g c =
-    part_began c.args.formula.now c.in_ok-used.used _ _ c.in_ok-used.ensures c.write_clauses.result c.write_clauses.ensures.beginning
+    on_err_weaker c.write_clauses.result (λ text. record { used = c.in_ok-used.used; is_part = c.in_ok-used.ensures; text = text }) c.write_clauses.ensures.beginning
