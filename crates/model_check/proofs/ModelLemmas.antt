@@ -1,5 +1,5 @@
 -- Literals that satisfy a formula.
-use Rattle.std.proofs.Common.{◌≡◌, ℕ, ◌+◌, ◌-◌, ◌*◌, ◌%◌, Bool, true, false, cond, not, List, [], ◌∷◌, refl, sym, ap, ◌∙◌, arith}
+use Rattle.std.proofs.Common.{◌≡◌, ℕ, ◌+◌, ◌-◌, ◌*◌, ◌%◌, Bool, true, false, cond, List, [], ◌∷◌, refl, sym, ap, ◌∙◌, arith}
 use Rattle.std.proofs.lemmas.Bool.{eqb-true, eqb-false, false_from_ne_true}
 use Rattle.sat_rules.specs.Clauses.{Agrees, all_true, clause_true, has, is_negative, lit_true, negate, var_of}
 use Rattle.answer_text.specs.Literals.{IsConsistent, all_met, is_met, listed}
@@ -22,13 +22,12 @@ unfolding assignment
 agrees_at lits c m false e h =
     let even = eqb-false (m % 2) 1 e in
     let is : 2 * var_of m ≡ m = omega arith in
-    ap (λ (b : Bool). cond b (not (has (2 * var_of m) lits)) (has (2 * var_of m) lits)) e ∙ ap (λ (k : ℕ). has k lits) is ∙ h
+    rw (e, is) h
 agrees_at lits c m true e h =
     let odd = eqb-true (m % 2) 1 e in
     let before : 2 * var_of m ≡ m - 1 = omega arith in
     let is : negate m ≡ m - 1 = ap (λ (b : Bool). cond b (m - 1) (m + 1)) e in
-    ap (λ (b : Bool). cond b (not (has (2 * var_of m) lits)) (has (2 * var_of m) lits)) e
-    ∙ ap (λ (k : ℕ). not (has k lits)) (before ∙ sym is) ∙ ap not (false_from_ne_true (has (negate m) lits) (c m h))
+    rw (e, before ∙ sym is, false_from_ne_true (has (negate m) lits) (c m h))
 
 pub met_clauses_are_satisfied : (lits : List ℕ) (clauses : List (List ℕ)) → IsConsistent (listed lits) → all_met (listed lits) clauses ≡ true → IsModel lits clauses
 met_clauses_are_satisfied lits clauses apart met = record {

@@ -1,4 +1,4 @@
-use Rattle.std.proofs.Common.{◌≡◌, subst, None}
+use Rattle.std.proofs.Common.{◌≡◌, None}
 use Rattle.model_check.specs.declared.verdict.Verdict.TheVariants.{Verified}
 use Rattle.model_check.specs.Runs.{IsShown}
 use Rattle.model_check.proofs.VerdictLemmas.{satisfied, shown}
@@ -13,9 +13,9 @@ returns-in-Ok-write_line-clause-run g c = shown _ _ c.in-Ok.literals c.in-Ok-jud
 pub returns-in-Ok-write_line-clause-satisfies : goal.returns-in-Ok-write_line-clause-satisfies
 returns-in-Ok-write_line-clause-satisfies g c = λ text said of_cnf of_answer verified.
     let is : c.in-Ok-judge.judged.verdict ≡ Verified = cc in
-    satisfied _ _ text said of_cnf of_answer
-    (subst (λ v. IsShown (g.F.Read.remaining c.args.cnf) (g.P.Read.remaining c.args.answer) v None) is
-    (shown _ _ c.in-Ok.literals c.in-Ok-judge.judged.verdict _ _ c.in-None.is c.in-Ok.ensures.lists c.in-Ok-judge.ensures.whole))
+    let on_both : IsShown (g.F.Read.remaining c.args.cnf) (g.P.Read.remaining c.args.answer) c.in-Ok-judge.judged.verdict None =
+    shown _ _ c.in-Ok.literals _ _ _ c.in-None.is c.in-Ok.ensures.lists c.in-Ok-judge.ensures.whole in
+    satisfied _ _ text said of_cnf of_answer (rw is at on_both)
 
 pub returns-clause-run : goal.returns-clause-run
 returns-clause-run g c = (c.in-Ok-judge.judged.verdict, shown _ _ c.in-Ok.literals c.in-Ok-judge.judged.verdict _ _ c.in-None.is c.in-Ok.ensures.lists c.in-Ok-judge.ensures.whole)
