@@ -9,11 +9,11 @@ use Rattle.whole_writes.specs.Beginnings.{AppendsBeginning}
 use Rattle.verdicts.specs.declared.piece.PieceVerdict.{PieceVerdict}
 use Rattle.verdicts.specs.declared.piece.PieceVerdict.TheVariants.{Refuted, Carried, NotCarried}
 use Rattle.piece_runs.specs.Texts.{IsPieceShown}
-use Rattle.drat_check.specs.declared.fault.RunFault.TheVariants.{Formula, Proof, Lrat, Trim, Core, Write}
+use Rattle.drat_check.specs.declared.fault.RunFault.TheVariants.{Core, Write}
 use Rattle.drat_check.specs.declared.piece_fault.PieceFault.{PieceFault}
-use Rattle.drat_check.specs.declared.piece_fault.PieceFault.TheVariants.{Run, Wanted, Lost}
+use Rattle.drat_check.specs.declared.piece_fault.PieceFault.TheVariants.{Run}
 use Rattle.drat_check.specs.Outputs.{BeganCore, IsPartOf, flagged}
-use Rattle.drat_check.specs.PieceCores.{CoreShown, WritesCore, WroteShown}
+use Rattle.drat_check.specs.PieceCores.{CoreShown, WritesCore}
 use Rattle.drat_check.specs.Pieces.{IsEarlyPiece}
 use Rattle.drat_check.proofs.WrittenCores.{core_none}
 

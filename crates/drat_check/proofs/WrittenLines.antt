@@ -36,23 +36,13 @@ last_of-more : (last : ℕ) (xs : List Line) (x : Line) → last_of last (xs ++ 
 last_of-more last [] x = refl
 last_of-more last (y ∷ xs) x = last_of-more (last_after last y) xs x
 
-lines_text-more : (last : ℕ) (xs : List Line) (x : Line) → lines_text last (xs ++ x ∷ []) ≡ lines_text last xs ++ lines_text (last_of last xs) (x ∷ [])
-lines_text-more last [] x = refl
-lines_text-more last (y ∷ xs) x =
-    let line = line_text (words_before_end last y) in
-    let next = last_after last y in
-    ap (λ t. line ++ 10 ∷ t) (lines_text-more next xs x)
-    ∙ sym (append_assoc line (10 ∷ lines_text next xs) (lines_text (last_of next xs) (x ∷ [])))
-
-lines_bytes-more : (xs : List Line) (x : Line) → lines_bytes (xs ++ x ∷ []) ≡ lines_bytes xs ++ lines_bytes (x ∷ [])
-lines_bytes-more [] x = refl
-lines_bytes-more (y ∷ xs) x =
-    ap (λ t. line_bytes y ++ t) (lines_bytes-more xs x)
-    ∙ sym (append_assoc (line_bytes y) (lines_bytes xs) (lines_bytes (x ∷ [])))
-
 pub lines_in-more : (form : LineForm) (last : ℕ) (xs : List Line) (x : Line) → lines_in form last (xs ++ x ∷ []) ≡ lines_in form last xs ++ lines_in form (last_of last xs) (x ∷ [])
-lines_in-more Text last xs x = lines_text-more last xs x
-lines_in-more Binary last xs x = lines_bytes-more xs x
+lines_in-more Text last [] x = refl
+lines_in-more Text last (y ∷ xs) x =
+    let next = last_after last y in
+    rw (lines_in-more Text next xs x, append_assoc (line_text (words_before_end last y)) (10 ∷ lines_text next xs) (lines_text (last_of next xs) (x ∷ [])))
+lines_in-more Binary last [] x = refl
+lines_in-more Binary last (y ∷ xs) x = rw (lines_in-more Binary last xs x, append_assoc (line_bytes y) (lines_bytes xs) (lines_bytes (x ∷ [])))
 
 -- no line has no bytes
 lines_in-none : (form : LineForm) (last : ℕ) → lines_in form last [] ≡ []

@@ -1,5 +1,5 @@
 -- Lines of a piece of a proof that are accepted and written, without their steps, and what a verdict on the piece stands on.
-use Rattle.std.proofs.Common.{◌≡◌, ℕ, List, [], ◌∷◌, ◌++◌, length, Option, Some, None, Result, Ok, Err, false, refl, sym, ap, ◌∙◌, subst}
+use Rattle.std.proofs.Common.{◌≡◌, ℕ, List, [], ◌∷◌, ◌++◌, length, Option, None, Result, Ok, Err, false, refl, sym, ap, ◌∙◌, subst}
 use Rattle.std.specs.Prelude.{IfOk}
 use Rattle.std.specs.Option.{option_map}
 use Rattle.std.specs.Io.KnownBytes.{Appends, Keeps}
@@ -21,14 +21,13 @@ use Rattle.sat_output.specs.declared.form.LineForm.{LineForm}
 use Rattle.sat_output.specs.declared.form.LineForm.TheVariants.{Text, Binary}
 use Rattle.sat_output.proofs.Beginnings.{begins_nothing, begins_past}
 use Rattle.verdicts.specs.declared.piece.PieceVerdict.{PieceVerdict}
-use Rattle.verdicts.specs.declared.piece.PieceVerdict.TheVariants.{Carried}
-use Rattle.piece_runs.specs.Texts.{CarriesText, IsPieceShown, OfFormula, OfFormulas}
-use Rattle.piece_runs.proofs.Reading.{carries_text, of_formulas}
-use Rattle.drat_check.specs.declared.fault.RunFault.TheVariants.{Formula, Proof, Lrat, Trim, Core, Write}
+use Rattle.piece_runs.specs.Texts.{IsPieceShown, OfFormula, OfFormulas}
+use Rattle.piece_runs.proofs.Reading.{of_formulas}
+use Rattle.drat_check.specs.declared.fault.RunFault.TheVariants.{Formula, Write}
 use Rattle.drat_check.specs.declared.piece_fault.PieceFault.{PieceFault}
 use Rattle.drat_check.specs.declared.piece_fault.PieceFault.TheVariants.{Run, Wanted, Lost}
 use Rattle.drat_check.specs.Outputs.{BeganLines, HasWritten}
-use Rattle.drat_check.specs.Pieces.{IsEarlyPiece, IsPieceRun, IsReadPieceRun, TellsPieceLies, WritesEarly, WritesPiece, WritesRead, WritesShown, WrotePiece, LeftPiece}
+use Rattle.drat_check.specs.Pieces.{IsEarlyPiece, IsPieceRun, IsReadPieceRun, TellsPieceLies, WritesEarly, WritesPiece, WritesRead, WritesShown, WrotePiece}
 use Rattle.drat_check.proofs.WrittenLines.{last_of, lines_in-more}
 
 abbrev Known : Type 0

@@ -1,7 +1,6 @@
 use Rattle.std.proofs.Common.{sym, ◌∙◌}
 use Rattle.std.proofs.KnownBytes.{Keeps-refl}
 use Rattle.std.proofs.lemmas.Bool.{false_from_ne_true}
-use Rattle.sat_rules.specs.Clauses.{all_true}
 use Rattle.drat_check.specs.Outputs.{bytes_in}
 use Rattle.piece_runs.specs.Texts.{IsUnsatisfiable}
 use Rattle.drat_check.proofs.WrittenLines.{began_after, on_err, on_ok, wrote}
@@ -14,9 +13,8 @@ returns-then-not-refuted-clause-beginning g c =
 pub returns-clause-shown : goal.returns-clause-shown
 returns-clause-shown g c =
     let written = c.in-Ok.ensures.whole in
-    on_ok (IsUnsatisfiable c.args.formula.now) c.end_lines.result (λ a.
-    false_from_ne_true (all_true a c.args.formula.now)
-    (c.refuted.ensures.refutes c.args.formula.now written.lines written.ready.accepted c.if-not-refuted.false a))
+    on_ok (IsUnsatisfiable c.args.formula.now) c.end_lines.result
+    (λ a. false_from_ne_true _ (c.refuted.ensures.refutes c.args.formula.now written.lines written.ready.accepted c.if-not-refuted.false a))
 
 pub returns-clause-whole : goal.returns-clause-whole
 returns-clause-whole g c =

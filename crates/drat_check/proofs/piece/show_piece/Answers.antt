@@ -1,7 +1,6 @@
-use Rattle.std.proofs.Common.{None, sym, ◌∙◌}
+use Rattle.std.proofs.Common.{sym, ◌∙◌}
 use Rattle.std.proofs.KnownBytes.{Keeps-refl}
 use Rattle.std.proofs.lemmas.Bool.{false_from_ne_true}
-use Rattle.sat_rules.specs.Clauses.{all_true}
 use Rattle.verdicts.specs.declared.piece.PieceVerdict.TheVariants.{Refuted, Carried}
 use Rattle.drat_check.specs.Outputs.{bytes_in}
 use Rattle.piece_runs.specs.Texts.{IsPieceShown}
@@ -15,9 +14,8 @@ returns-in-Err-clause-lines g c = began_without_steps c.in-Err.ensures.beginning
 pub returns-then-refuted-clause-shown : goal.returns-then-refuted-clause-shown
 returns-then-refuted-clause-shown g c =
     let written = c.in-Ok.ensures.whole in
-    shown_by (IsPieceShown c.args.formula.now c.args.wanted.now) c.end_lines.result Refuted c.end_lines.ensures.verdict (λ a.
-    false_from_ne_true (all_true a c.args.formula.now)
-    (c.refuted.ensures.refutes c.args.formula.now written.lines written.ready.accepted c.if-refuted.true a))
+    shown_by (IsPieceShown c.args.formula.now c.args.wanted.now) c.end_lines.result Refuted c.end_lines.ensures.verdict
+    (λ a. false_from_ne_true _ (c.refuted.ensures.refutes c.args.formula.now written.lines written.ready.accepted c.if-refuted.true a))
 
 pub returns-then-refuted-clause-lines : goal.returns-then-refuted-clause-lines
 returns-then-refuted-clause-lines g c =
