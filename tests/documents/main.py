@@ -13,7 +13,8 @@ What a document can say of files, and how it is written:
     ```rust path                        a quotation: these words are there one after the other
 
 Of each crate of `crates.txt` something is said, except of programs and of tests. The README has each program as it says that it is
-called. There is one version. Words over which readers of technical English stumble are not used.
+called. There is one version. Words over which readers of technical English stumble are not used, nor in comments of sources,
+definitions and proofs.
 """
 
 import os
@@ -43,6 +44,7 @@ PLAIN = {
     "gives way": "fails",
     "comes of it": "follows",
 }
+PLAIN_COMMENTS = {**PLAIN, "so many": "this many, how many"}
 
 
 def anchors(path):
@@ -108,10 +110,19 @@ def bad_tables(text):
             yield f"a row of another length than its table: {line[:60]}"
 
 
-def bad_words(text):
-    for words, plain in PLAIN.items():
+def bad_words(text, plain_words=PLAIN):
+    for words, plain in plain_words.items():
         if re.search(r"\b%s\b" % words, text, re.IGNORECASE):
             yield f'"{words}": say "{plain}"'
+
+
+def bad_comments():
+    """What the comments of sources, definitions and proofs say, by the same words."""
+    for path in listed("crates/*.rt") + listed("crates/*.antt"):
+        for line, text in enumerate(text_of(path).splitlines(), 1):
+            if text.lstrip().startswith(("//", "--")):
+                for fault in bad_words(text, PLAIN_COMMENTS):
+                    yield f"{path}:{line}: {fault}"
 
 
 def columns(text, head):
@@ -195,7 +206,7 @@ def main():
         for document in documents
         for fault in faults(document, known_laws, known_contracts)
     ]
-    found += [*bad_crates(), *bad_calls(), *bad_versions()]
+    found += [*bad_crates(), *bad_calls(), *bad_versions(), *bad_comments()]
     print(*found, sep="\n", end="\n" if found else "")
     return 1 if found else 0
 

@@ -77,7 +77,7 @@ module _ {P T : Type 0} (listens : Listens P) (listens_image : ListensImage T) w
       DeliveredAll r es listens listens_image old new → (o.refused ≡ None) × (s ≡ o.after) → AnswersOutcome r o s
   answers-all es old new r o s a h = grind (arith, a, h)
 
-  -- the same with its one step
+  -- the answer of a step that is accepted, if its one step is delivered on
   pub answers-delivers : {A : Type 0} (e : NamedStep) (old new : Listeners P T) (r : Result A StepFault) (o : Outcome) (s : State) →
       DeliveredStep r e listens listens_image old new → (o.refused ≡ None) × (s ≡ o.after) → AnswersOutcome r o s
   answers-delivers e old new r o s a h = answers-all (e ∷ []) old new r o s (all-one e old new r a) h

@@ -121,7 +121,7 @@ placed-below ps i u = grind (arith, get_or_past ps i 0)
 pub more_nones-in_use : (lits ps : List ℕ) (n : ℕ) → in_use lits (ps ++ replicate n 0) ≡ in_use lits ps
 more_nones-in_use lits ps n = rw (sum_by-append (size_at lits) ps (replicate n 0), sum_by-replicate (size_at lits) n 0) (omega arith)
 
--- a list of places that is filled up, or that stays for want of memory
+-- a list of places that is filled up, or that stays since memory ran out
 pub filled : (ps qs rs : List ℕ) (b : Bool) (n m : ℕ) → qs ≡ ps → rs ≡ cond b (take n qs ++ replicate m 0) qs → length ps ≤ n → (rs ≡ ps ++ replicate m 0) ⊎ (rs ≡ ps)
 filled ps qs rs b n m e f w = grind (arith, take_all n ps w)
 

@@ -33,7 +33,7 @@ line_stays held k (text.Line x) rest xs fault e f r =
     none-some fault (ap (option_map cause_of) (sym follow.0) ∙ r)
 line_stays held k text.Malformed rest xs fault e f r = none-some xs e
 
--- the same after lines that are accepted
+-- a line that is refused after lines that are accepted
 lines_stay : (before after : List (List ℕ)) (line : List ℕ) (h held k : Listed) (lines xs : List HintLine) (fault : LineFault) →
     said_all before ≡ Some lines → Follows h lines held → said_all (before ++ line ∷ after) ≡ Some xs → Follows h xs k → refusal held (said_by line) ≡ Some fault → ⊥
 lines_stay [] after line h held k lines xs fault e f d g r =

@@ -86,7 +86,7 @@ all_accepted n (l ∷ raw) h k e run = go (all_accepted (next_line n) raw) (says
 
 -- ---- the line at which a text stops
 
--- the number of the line that is so many after this one
+-- the number of the line that is this many after this one
 abbrev numbered : ℕ → ℕ → ℕ
 numbered n zero = n
 numbered n (suc j) = numbered (next_line n) j

@@ -14,7 +14,7 @@ bytes_front (suc n) [] p i = p i
 bytes_front (suc n) (x ∷ xs) p zero = p 0
 bytes_front (suc n) (x ∷ xs) p (suc i) = bytes_front n xs (λ j. p (suc j)) i
 
--- the first so many of the bytes ahead are taken, and f reads them
+-- the first this many of the bytes ahead are taken, and f reads them
 pub leads_ahead : {A : Type 0} {a b : Known} (f g : List ℕ → A) (ahead front : List ℕ) (n : ℕ) → ahead ≡ front → IsBytes ahead →
     Consumes a b (take n front) → ((more : List ℕ) → f (take n ahead ++ more) ≡ g more) → Leads a b f g
 leads_ahead f g ahead front n e p c s = record { taken = take n ahead; bytes = bytes_front n ahead p; consumed = rw e c; same = s }

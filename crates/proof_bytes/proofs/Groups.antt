@@ -73,13 +73,13 @@ top_step a b m n lt e h =
     let below = and_le_l b 128 in
     record { high = omega (arith, s, le, below, h); others = omega (arith, s, le, h) }
 
--- so many top bits
+-- this many top bits
 abbrev tops : ℕ → ℕ
 tops zero = 0
 tops (suc k) = 128 + 256 * tops k
 
 module _ (xs : List ℕ) (bytes : (i : ℕ) → get_or xs i 0 < 256) where
-  -- so many bytes from a place on, the low one first
+  -- this many bytes from a place on, the low one first
   abbrev word : ℕ → ℕ → ℕ
   word i zero = 0
   word i (suc k) = get_or xs i 0 + 256 * word (i + 1) k

@@ -23,7 +23,7 @@ two_more (x ∷ y ∷ xs) (suc i) n lt le =
     rw (e, f) (ap (λ (l : List ℕ). x ∷ l) (two_more (y ∷ xs) i n (omega arith) le))
 two_more _ i n lt le = absurd (omega arith)
 
--- after so many of the bytes that are left
+-- after this many of the bytes that are left
 module _ (xs : List ℕ) (i n : ℕ) where
   pub rest_more : take (i + n) xs ≡ take i xs ++ take n (take (length xs - i) (drop i xs))
   rest_more = take-add i n xs ∙ ap (λ (l : List ℕ). take i xs ++ take n l) (sym (take_rest xs i))
@@ -81,7 +81,7 @@ module _ {A : Type 0} (item : List ℕ → Found A) where
         ∙ then_read (length (items ++ x ∷ [])) 1 (length-append items (x ∷ [])) (next ++ more)
         ∙ ap (λ r. with_front items r) (one_item x (next ++ more) more (h more))
 
-  -- bytes ahead that are read as items are taken, and so many items of the list are left
+  -- bytes ahead that are read as items are taken, and this many items of the list are left
   pub front_taken : {a b c : Known} {f : List ℕ → Found (List A)} (items : List A) (k m : ℕ) → k ≡ length items + m →
       Leads a b f (λ more. with_front [] (many_at item k more)) → (ahead front : List ℕ) (n : ℕ) → ReadAs item (take n ahead) items →
       ahead ≡ front → IsBytes ahead → Consumes b c (take n front) → Leads a c f (λ more. with_front items (many_at item m more))

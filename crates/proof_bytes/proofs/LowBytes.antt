@@ -10,7 +10,7 @@ use Rattle.proof_bytes.proofs.FieldLemmas.{in_range}
 use Rattle.proof_bytes.proofs.Fronts.{one_more}
 use Rattle.proof_bytes.proofs.Wide.{next_256}
 
--- the number that so many bytes spell
+-- the number that this many bytes spell
 abbrev low : List ℕ → ℕ → ℕ
 low xs zero = 0
 low xs (suc i) = low xs i + 2 ^ (8 * i) * get_or xs i 0
@@ -19,7 +19,7 @@ weight_on : (i : ℕ) → 2 ^ (8 * i) * 256 ≡ 2 ^ (8 * suc i)
 weight_on i = let e : i + 1 ≡ suc i = omega arith in next_256 i (2 ^ (8 * i)) refl ∙ ap (λ k. 2 ^ (8 * k)) e
 
 module _ (xs : List ℕ) where
-  -- so many bytes are read, and others are left
+  -- this many bytes are read, and others are left
   low_read : (i left n : ℕ) → n ≡ i + left → i ≤ length xs → (more : List ℕ) → bytes_at n 0 1 (take i xs ++ more) ≡ bytes_at left (low xs i) (2 ^ (8 * i)) more
   unfolding bytes_at
   low_read zero left n e le more = ap (λ k. bytes_at k 0 1 more) (e ∙ zero-add left)

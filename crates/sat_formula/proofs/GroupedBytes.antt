@@ -5,7 +5,7 @@ use Rattle.std.specs.Prelude.{nat_lt}
 use Rattle.std.proofs.Math.Nat.{div-lt_iff_lt-mul}
 use Rattle.std.proofs.lemmas.Bool.{lt-ltb, le-ltb}
 
--- at most so many bytes, and one
+-- at most this many bytes, and one
 pub record AreGroups (groups : ℕ → ℕ → List ℕ) : Type 0 where
   pub one : (n : ℕ) → groups zero n ≡ n ∷ []
   pub more : (left n : ℕ) → groups (suc left) n ≡ cond (nat_lt n 128) (n ∷ []) ((128 + n % 128) ∷ groups left (n / 128))

@@ -24,14 +24,14 @@ pub byte_taken : (old known : Known) (xs : List ℕ) (start end b : ℕ) → sta
     → Consumes old (prepend_known (slice_range xs (start + 1) end) known) (b ∷ [])
 byte_taken old known xs start end b lt le e h = consumes_front old known (slice_range xs start end) (slice_range xs (start + 1) end) b (first_of_range xs start end b lt le e) h
 
--- the first so many of those read ahead, and the others
+-- the first this many of those read ahead, and the others
 range_split : (xs : List ℕ) (start end n : ℕ) → n ≤ end - start → slice_range xs start end ≡ take n (slice_range xs start end) ++ slice_range xs (start + n) end
 range_split xs start end n le =
     let e : end - start ≡ n + (end - (start + n)) = omega arith in
     let d : drop n (take (n + (end - (start + n))) (drop start xs)) ≡ slice_range xs (start + n) end = rw (drop-take, drop-drop) refl in
     sym (take-append-drop n (slice_range xs start end)) ∙ ap (λ (l : List ℕ). take n (slice_range xs start end) ++ l) (ap (λ k. drop n (take k (drop start xs))) e ∙ d)
 
--- so many bytes of those read ahead
+-- this many bytes of those read ahead
 pub bytes_taken : (known : Known) (xs : List ℕ) (start end n : ℕ) → n ≤ end - start
     → Consumes (prepend_known (slice_range xs start end) known) (prepend_known (slice_range xs (start + n) end) known) (take n (slice_range xs start end))
 bytes_taken None xs start end n le = tt

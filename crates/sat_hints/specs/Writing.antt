@@ -3,7 +3,7 @@
 --     step_fault w e, after_step w e, step_lines w e      the fault of a step, the writer after it, its lines
 --     hints_fault w ids      the fault of hints
 --     Wrote old e new, WroteLine old e new      a step was written, and what a step asks
---     IsFault f o      a fault of the code is that of the rules, or want of memory
+--     IsFault f o      a fault of the code is that of the rules, or out of memory
 use Rattle.std.specs.Prelude.{◌≡◌, ℕ, nat_eq, if◌then◌else◌, List, [], ◌∷◌, ◌++◌, Option, Some, None, is_some}
 use Rattle.std.specs.HashSet.{contains}
 use Rattle.std.specs.List.{list_any}
@@ -81,7 +81,7 @@ pub record WroteNothing (old : LratWriter) (new : LratWriter) : Type 0 where
   pub same : writer_of new ≡ writer_of old
   pub text : written new ≡ written old
 
--- a fault of the code is that of the rules, or want of memory
+-- a fault of the code is that of the rules, or out of memory
 abbrev pub IsFault : WriterFault → Option rules.WriterFault → Type 0
 IsFault faults.InputAfterDerived o = o ≡ Some rules.input_after_derived
 IsFault faults.TooManyInputs o = o ≡ Some rules.too_many_inputs

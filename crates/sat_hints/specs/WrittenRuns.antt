@@ -59,7 +59,7 @@ pub record AcceptsRun (cs : List (List ℕ)) (es : List NamedStep) (bytes : List
   pub accepts : Accepts (listing cs) bytes held
   pub empty : held.added_empty ≡ list_any derives_empty (hint_steps es)
 
--- what a new writer, told so many clauses as the formula has, wrote of such a run
+-- what a new writer, told this many clauses as the formula has, wrote of such a run
 abbrev pub WriterIsAccepted : Type 0
 WriterIsAccepted = (old new : LratWriter) (cs : List (List ℕ)) (es : List NamedStep) →
     writer_of old ≡ new_writer (length cs) → written old ≡ [] → Ran takes old es new →

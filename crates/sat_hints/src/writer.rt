@@ -24,11 +24,11 @@ use std::collections::HashSet;
 #[derive(Drop)]
 pub struct LratWriter {
     alloc: Global,
-    /// So many clauses the formula has.
+    /// This many clauses the formula has.
     announced: u64,
     /// The ids of the input clauses that were told.
     inputs: HashSet<u64>,
-    /// So many input clauses were told.
+    /// This many input clauses were told.
     told: u64,
     /// Whether a derived clause was told.
     derived: bool,
@@ -38,7 +38,7 @@ pub struct LratWriter {
 }
 
 impl LratWriter {
-    /// A writer for a formula of so many clauses.
+    /// A writer for a formula of this many clauses.
     pub fn new(alloc: Global, clauses: u64) -> LratWriter
         ensures writer { writer_of result ≡ new_writer clauses }
         ensures text { written result ≡ [] }
