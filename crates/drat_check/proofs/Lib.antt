@@ -1,4 +1,3 @@
-pub mod DeletedClauses
 pub mod PieceCores
 pub mod UsedClauses
 pub mod WrittenCores

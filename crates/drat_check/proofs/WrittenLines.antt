@@ -1,6 +1,6 @@
 -- Lines that are accepted and written in turn, and their steps.
 use Rattle.std.proofs.Common.{◌≡◌, ℕ, Bool, true, false, ◌||◌, if◌then◌else◌, List, [], ◌∷◌, ◌++◌, length, Option, Some, None, arith, Result, Ok, Err, refl, sym, ap, ◌∙◌, subst, append_assoc, append-nil}
-use Rattle.std.proofs.lemmas.Option.{cond_some, none-some}
+use Rattle.std.proofs.lemmas.Option.{cond_some}
 use Rattle.std.specs.Io.KnownBytes.{Appends, Keeps}
 use Rattle.std.proofs.KnownBytes.{Appends-kept, Appends-nil, Appends-trans, Keeps-refl}
 use Rattle.std.specs.Prelude.{OnErr, OnOk}
@@ -54,8 +54,7 @@ lines_in-none Binary last = refl
 -- a run goes on after its first line, which is accepted
 run-rest : (b : Bool) (st su : List Item) (y : Line) (xs : List Line) → then_run (if b then Some (after st y) else None) (λ s. run s xs) ≡ Some su →
     run (after st y) xs ≡ Some su
-run-rest true st su y xs e = e
-run-rest false st su y xs e = absurd (none-some su e)
+run-rest b st su y xs e = grind arith
 
 -- whether a line added a clause, or one before had
 pub begun_of : Bool → List Line → Bool
@@ -74,8 +73,10 @@ steps_text-more begun st su [] x ran =
     append-nil (step_text begun st x) ∙ ap (λ s. step_text begun s x) (cond_some true st su ran).1
 steps_text-more begun st su (y ∷ xs) x ran =
     let next = begun || adds_clause y in
-    ap (λ t. step_text begun st y ++ t) (steps_text-more next (after st y) su xs x (run-rest (accepts st y) st su y xs ran))
-    ∙ sym (append_assoc (step_text begun st y) (steps_text next (after st y) xs) (step_text (begun_of next xs) su x))
+    rw (
+      steps_text-more next (after st y) su xs x (run-rest (accepts st y) st su y xs ran),
+      append_assoc (step_text begun st y) (steps_text next (after st y) xs) (step_text (begun_of next xs) su x),
+    )
 
 -- steps that are made where they are wanted are appended
 pub appends_wanted : {L : Type 0} (contents : L → Known) (trim trim' : Option L) (text steps : List ℕ) → IfWanted trim (text ≡ steps) →

@@ -1,25 +1,19 @@
-use Rattle.std.proofs.Common.{refl, sym, ap, ◌∙◌, ◌++◌, append-nil, option_copied}
-use Rattle.sat_output.specs.DratTexts.{deletion_of}
-use Rattle.drat_check.proofs.DeletedClauses.{deletion_pushed, deletions_pushed}
+use Rattle.std.proofs.Common.{append_assoc, append-nil}
+use Rattle.std.proofs.lemmas.List.{at_drop_all, at_drop_more}
+use Rattle.sat_output.specs.DratTexts.{deletions_text}
 use Rattle.drat_check.proofs.trimmed.push_deletions.Goals as goal
 use Rattle.drat_check.proofs.trimmed.push_deletions.Goals.{in-Some+in_ok-push_deletion, in_default}
 
 pub loop-id-preserved : goal.loop-id-preserved
 loop-id-preserved c = λ formula lines ready.
-    let store = ready.accepted.store in
-    let out = c.loop-id.text.items in
-    let is_held = c.clause.ensures formula lines ready in
+    let next = at_drop_more (deletions_text ready.accepted.store) c.args.ids.now c.loop-id.id-index 0 c.loop-id-test.true in
+    let so_far = rw (next, ← c.clause.ensures formula lines ready) at (c.loop-id.invariant formula lines ready) in
     elim c.match-clause.branch [
-      | in-Some+in_ok-push_deletion w ↦
-          deletion_pushed store out _ _ c.args.ids.now c.loop-id.id-index _ _ c.loop-id-test.true refl
-          (ap (λ t. t.items) w.text-is ∙ w.in_ok-push_deletion.ensures ∙ ap (λ o. out ++ deletion_of o) (sym (ap option_copied w.in-Some.is) ∙ is_held))
-          (c.loop-id.invariant formula lines ready)
-      | in_default w ↦
-          deletion_pushed store out _ _ c.args.ids.now c.loop-id.id-index _ _ c.loop-id-test.true refl
-          (ap (λ t. t.items) w.text-is ∙ sym (append-nil out) ∙ ap (λ o. out ++ deletion_of o) (sym (ap option_copied w.in_default.is) ∙ is_held))
-          (c.loop-id.invariant formula lines ready)
+      | in-Some+in_ok-push_deletion w ↦ rw (w.text-is, w.in_ok-push_deletion.ensures, append_assoc) (rw w.in-Some.is at so_far)
+      | in_default w ↦ rw w.text-is (rw w.in_default.is at so_far)
     ]
 
 pub returns : goal.returns
 returns c = λ formula lines ready.
-    deletions_pushed ready.accepted.store _ _ c.args.ids.now c.loop-id.id-index c.loop-id-test.false (c.loop-id.invariant formula lines ready)
+    let none = at_drop_all (deletions_text ready.accepted.store) c.args.ids.now c.loop-id.id-index c.loop-id-test.false in
+    rw (none, append-nil) at (c.loop-id.invariant formula lines ready)
