@@ -1,5 +1,6 @@
-use Rattle.std.proofs.Common.{append_assoc, arith, refl, ◌-◌, ◌+◌, ◌*◌, ◌^◌, ◌≤◌}
+use Rattle.std.proofs.Common.{arith, refl, ◌-◌, ◌+◌, ◌*◌, ◌^◌, ◌≤◌}
 use Rattle.std.proofs.Math.Pow.{pow_mono}
+use Rattle.std.proofs.lemmas.Grind.{common_steps}
 use Rattle.sat_output.specs.LratBytes.{groups, number_bytes}
 use Rattle.sat_formula.proofs.GroupedBytes.{group_large, group_small, next_small}
 use Rattle.sat_output.proofs.Groups.{are_groups}
@@ -10,13 +11,11 @@ unfolding number_bytes
 groups-init c = record { spelled = refl; small = omega arith }
 
 pub returns-then-rest-lt128 : goal.returns-then-rest-lt128
-returns-then-rest-lt128 c =
-    rw c.in_ok-push.ensures.items (rw (group_small groups are_groups (9 - c.groups.counter) c.groups.rest c.if-rest-lt128.true) at c.groups.invariant.spelled)
+returns-then-rest-lt128 c = grind (arith, common_steps, group_small groups are_groups)
 
 pub groups-preserved : goal.groups-preserved
 groups-preserved c = record {
-  spelled = rw (c.in_ok-push-2.ensures.items, append_assoc)
-      (rw (group_large groups are_groups (9 - c.groups.counter) (9 - (c.groups.counter + 1)) c.groups.rest (omega arith) c.if-rest-lt128.false) at c.groups.invariant.spelled);
+  spelled = grind (arith, common_steps, group_large groups are_groups (9 - c.groups.counter) (9 - (c.groups.counter + 1)));
   small = next_small c.groups.counter c.groups.rest c.groups-test.true c.groups.invariant.small;
 }
 
@@ -24,4 +23,4 @@ pub returns : goal.returns
 returns c =
     let few : 64 - 7 * c.groups.counter ≤ 7 = omega arith in
     let low : 2 ^ (64 - 7 * c.groups.counter) ≤ 2 ^ 7 = pow_mono few in
-    rw c.in_ok-push-3.ensures.items (rw (group_small groups are_groups (9 - c.groups.counter) c.groups.rest (omega arith)) at c.groups.invariant.spelled)
+    grind (arith, common_steps, group_small groups are_groups)
