@@ -70,17 +70,21 @@ def check_copies(crate, names, room):
 
 
 def stamp_libraries(top):
-    """Gives libraries that the gate has left the stamp that `rt lib` would have given them, since each was built over the others."""
+    """Gives libraries that the gate has left the stamp that `rt lib` would have given them. Where there are some of an earlier run
+    too, none gets it: a library of the gate fits only those over which it was built."""
+    crates = {it.folder: it for it in rtlib.crates_below(top)}
+    if any(os.path.exists(f"{it}/out/rlib/stamp") for it in crates):
+        return
+
     @functools.cache
     def stamp(folder):
         return of_one(crates[folder])
 
     of_one = rtlib.Crate.stamp
     rtlib.Crate.stamp = lambda crate: stamp(crate.folder)
-    crates = {it.folder: it for it in rtlib.crates_below(top)}
     for folder in crates:
         place = f"{folder}/out/rlib"
-        if os.path.isdir(place) and not os.path.exists(f"{place}/stamp"):
+        if os.path.isdir(place):
             with open(f"{place}/stamp", "w", encoding="utf-8") as to:
                 to.write(stamp(folder))
 
