@@ -47,11 +47,7 @@ impl<R: Read, H: Eprint + Clock> Read for ToldBytes<'_, R, H> {
 
     ghost remaining = { unread_of R.remaining };
 
-    fn read(&mut self, buf: &mut [u8]) -> io::Result<usize>
-        ensures bound { ReadsAtMost result buf.new }
-        ensures bytes { ReadConsumes (unread_of R.remaining self.old)
-            (unread_of R.remaining self.new) result buf.new }
-    {
+    fn read(&mut self, buf: &mut [u8]) -> io::Result<usize> {
         if !self.is_heard {
             return self.inner.read(buf);
         }

@@ -1,6 +1,4 @@
 //! How a run tells how far it has come.
-ghost use Rattle.std.specs.Prelude.{◌≡◌};
-ghost use Rattle.progress.specs.Manners.{manner_by};
 
 /// How a run tells how far it has come.
 #[derive(Clone, Copy, Debug, PartialEq, Eq)]
@@ -14,6 +12,9 @@ pub enum Manner {
 }
 
 impl Manner {
+    ghost use Rattle.std.specs.Prelude.{◌≡◌};
+    ghost use Rattle.progress.specs.Manners.{manner_by};
+
     /// As the options of a call ask, `--quiet` and `--verbose`; where neither does, in one line if
     /// standard error is a terminal.
     pub fn asked(is_quiet: bool, is_verbose: bool, is_terminal: bool) -> Manner
