@@ -47,18 +47,13 @@ IsCheckRun cnf answer (Err (Write cause)) = (verdict : Verdict) × IsShown cnf a
 -- the answer or the formula was refused
 abbrev pub IsRefusedRun : Result Verdict RunFault → Type 0
 IsRefusedRun (Ok verdict) = ⊥
-IsRefusedRun (Err (Answer fault)) = Unit {0}
-IsRefusedRun (Err (Formula fault)) = Unit {0}
-IsRefusedRun (Err (Cut cut)) = Unit {0}
 IsRefusedRun (Err (Write cause)) = ⊥
+IsRefusedRun r = Unit {0}
 
 -- the verdict stands, and its line was not written whole
 abbrev pub IsUnwritten : Result Verdict RunFault → Type 0
-IsUnwritten (Ok verdict) = ⊥
-IsUnwritten (Err (Answer fault)) = ⊥
-IsUnwritten (Err (Formula fault)) = ⊥
-IsUnwritten (Err (Cut cut)) = ⊥
 IsUnwritten (Err (Write cause)) = Unit {0}
+IsUnwritten r = ⊥
 
 -- an output grew by a beginning of the line of the verdict on the two texts
 pub record BeginsLine (cnf answer old new : Option (List ℕ)) : Type 0 where
@@ -68,8 +63,6 @@ pub record BeginsLine (cnf answer old new : Option (List ℕ)) : Type 0 where
 
 -- what the header lies about, where the formula was read whole; else nothing
 abbrev pub RunTellsLie : Option (List ℕ) → Result Verdict RunFault → Option LyingHeader → Type 0
-RunTellsLie cnf (Ok verdict) told = IsLie cnf told
 RunTellsLie cnf (Err (Answer fault)) told = told ≡ None
 RunTellsLie cnf (Err (Formula fault)) told = told ≡ None
-RunTellsLie cnf (Err (Cut cut)) told = IsLie cnf told
-RunTellsLie cnf (Err (Write cause)) told = IsLie cnf told
+RunTellsLie cnf r told = IsLie cnf told

@@ -1,8 +1,10 @@
 -- Verdicts on a set of literals and a formula, their lines and their exit statuses.
 --     IsVerdict listed formula lines v      this is so of the set and the formula, whose clauses end on these lines
 --     IsJudged text listed v cut      the text is a formula, this is so of it, and this is missing of it
+--     FailsText text fault      the text is none
 use Rattle.std.specs.Prelude.{◌≡◌, ℕ, ◌+◌, Bool, true, false, List, ◌∷◌, ◌++◌, length, Option, Result, Ok, Err, codes}
 use Rattle.std.specs.Option.{option_map}
+use Rattle.sat_formula.specs.declared.fault.DimacsFault.{DimacsFault}
 use Rattle.sat_formula.specs.Outcome as dimacs
 use Rattle.sat_formula.specs.Lines as dimacs_lines
 use Rattle.sat_formula.specs.Notes.{Notes, notes_of}
@@ -58,3 +60,8 @@ pub record IsJudged (text : Option (List ℕ)) (listed : ℕ → Bool) (verdict 
   pub noted : IsNotes (option_map notes_of text) notes
   pub shown : IsVerdict listed formula notes.0 verdict
   pub lacks : cut_of notes.1.header (length formula) ≡ cut
+
+-- the text has this fault after some clauses
+abbrev pub FailsText : Option (List ℕ) → DimacsFault → Type 0
+FailsText text fault = (clauses : List (List ℕ))
+    × dimacs_text.FailsAfter (option_map dimacs_lines.outcome_of text) clauses fault

@@ -1,10 +1,7 @@
 //! The clauses of a formula, one after the other.
 ghost use Rattle.std.specs.Prelude.{◌≡◌, ◌+◌, ℕ, List, IfErr, IfOk, [], ◌∷◌, ◌++◌, length};
-ghost use Rattle.std.specs.Option.{option_map};
-ghost use Rattle.sat_formula.specs.Lines.{outcome_of};
-ghost use Rattle.sat_formula.specs.Whole.{FailsAfter};
 ghost use Rattle.answer_text.specs.Literals.{has_lit};
-ghost use Rattle.model_check.specs.Verdicts.{IsJudged, IsVerdict};
+ghost use Rattle.model_check.specs.Verdicts.{FailsText, IsJudged, IsVerdict};
 ghost use Rattle.whole_formulas.specs.Lies.{IsLie};
 
 use crate::verdict::Verdict;
@@ -33,8 +30,7 @@ pub(crate) fn judge<F: Read + Drop>(
     ensures whole { IfOk result (λ judged.
         IsJudged (F.remaining cnf) (has_lit literals.now) judged.verdict judged.cut) }
     ensures lie { IfOk result (λ judged. IsLie (F.remaining cnf) judged.lie) }
-    ensures fault { IfErr result (λ fault. (clauses : List (List ℕ))
-        × FailsAfter (option_map outcome_of (F.remaining cnf)) clauses fault) }
+    ensures fault { IfErr result (λ fault. FailsText (F.remaining cnf) fault) }
 {
     let mut reader = DimacsReader::new(alloc, cnf);
     let mut clause = Vec::new(alloc);

@@ -5,13 +5,11 @@ mod clauses;
 mod fault;
 mod laws;
 mod run;
-mod status;
 mod verdict;
 mod whole;
 
 pub use fault::RunFault;
 pub use laws::met_clauses_are_satisfied;
 pub use run::run_check;
-pub use status::exit_status;
-pub use verdict::{Verdict, write_line};
+pub use verdict::{Verdict, exit_status};
 pub use whole::CutFormula;

@@ -4,15 +4,15 @@ ghost use Rattle.std.specs.Io.KnownBytes.{Appends};
 ghost use Rattle.model_check.specs.Models.{IsSatisfiedBy};
 ghost use Rattle.model_check.specs.Runs.{BeginsLine, IsCheckRun, IsRefusedRun, IsUnwritten, RunTellsLie};
 ghost use Rattle.model_check.specs.Verdicts.{shown_line};
-ghost use Rattle.model_check.specs.declared.verdict.Verdict.TheVariants.{Verified};
 
 use crate::clauses::judge;
 use crate::fault::RunFault;
-use crate::verdict::{Verdict, write_line};
+use crate::verdict::Verdict;
 use answer_text::read_answer;
 use sat_formula::LyingHeader;
 use std::alloc::Global;
 use std::io::{Read, Write};
+use whole_writes::write_whole;
 
 /// Reads an answer, and then a formula in DIMACS CNF a clause at a time, and writes the verdict's
 /// line.
@@ -37,7 +37,7 @@ pub fn run_check<F: Read + Drop, P: Read + Drop, W: Write>(
     ensures unwritten { IsUnwritten result → BeginsLine (F.remaining cnf) (P.remaining answer)
         (W.contents out.old) (W.contents out.new) }
     ensures satisfies { (text said : List ℕ) → F.remaining cnf ≡ Some text
-        → P.remaining answer ≡ Some said → result ≡ Ok Verified → IsSatisfiedBy text said }
+        → P.remaining answer ≡ Some said → result ≡ Ok Verdict.Verified → IsSatisfiedBy text said }
     ensures lie { RunTellsLie (F.remaining cnf) result lie.new }
 {
     *lie = None;
@@ -54,7 +54,7 @@ pub fn run_check<F: Read + Drop, P: Read + Drop, W: Write>(
         Some(cut) => return Err(RunFault::Cut(cut)),
         None => judged.verdict,
     };
-    match write_line(out, verdict) {
+    match write_whole(out, verdict.line()) {
         Ok(()) => Ok(verdict),
         Err(fault) => Err(RunFault::Write(fault)),
     }

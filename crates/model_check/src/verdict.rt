@@ -1,12 +1,8 @@
 //! Verdicts and their lines.
-ghost use Rattle.std.specs.Prelude.{OnErr, OnOk};
-ghost use Rattle.std.specs.Io.KnownBytes.{Appends};
-ghost use Rattle.whole_writes.specs.Beginnings.{AppendsBeginning};
-ghost use Rattle.model_check.specs.Verdicts.{shown_line};
+ghost use Rattle.std.specs.Prelude.{◌≡◌};
+ghost use Rattle.model_check.specs.Verdicts.{shown_line, status_of};
 
-use std::io;
-use std::io::Write;
-use whole_writes::write_whole;
+use crate::fault::RunFault;
 
 /// What the literals of an answer are to a formula.
 #[derive(Clone, Copy, Debug, PartialEq, Eq)]
@@ -19,8 +15,6 @@ pub enum Verdict {
 }
 
 impl Verdict {
-    ghost use Rattle.std.specs.Prelude.{◌≡◌};
-
     /// The bytes of its line, with the line feed.
     pub fn line(self) -> &'static [u8]
         ensures { result.now ≡ shown_line self }
@@ -32,14 +26,14 @@ impl Verdict {
     }
 }
 
-/// Writes a verdict's line, also out of a writer's buffer.
-///
-/// After an error a beginning of the line is written: all of it, where only the flush failed.
-pub fn write_line<W: Write>(out: &mut W, verdict: Verdict) -> io::Result<()>
-    ensures whole { OnOk result
-        (Appends (W.contents out.old) (W.contents out.new) (shown_line verdict)) }
-    ensures beginning { OnErr result
-        (AppendsBeginning (W.contents out.old) (W.contents out.new) (shown_line verdict)) }
+/// The exit status of a program that made this run: 0 says that the literals of the answer satisfy
+/// the formula.
+pub fn exit_status(outcome: &Result<Verdict, RunFault>) -> u8
+    ensures { result ≡ status_of outcome.now }
 {
-    write_whole(out, verdict.line())
+    match outcome {
+        Ok(Verdict::Verified) => 0,
+        Ok(Verdict::NotVerified { .. }) => 3,
+        Err(_) => 1,
+    }
 }
