@@ -1,7 +1,7 @@
 -- The lines of a proof in turn.
 --     run-more      one line more at the end
 --     SoFar      the lines that were read so far, all of them converted
---     begun_none, begun_end, given_up      a proof that was given up before its lines and behind them
+--     given_up_first, begun_end, given_up      a proof that was given up before its lines and behind them
 use Rattle.std.proofs.Common.{◌≡◌, ℕ, Bool, true, false, List, [], ◌∷◌, ◌++◌, ◌⊎◌, inl, inr, Option, Some, None, Result, Ok, Err, MatchBool, refl, sym, ap, ◌∙◌, append-nil, subst, cond}
 use Rattle.std.specs.Prelude.{IfSome}
 use Rattle.lrat_rules.specs.Lines.{Line}
@@ -192,7 +192,7 @@ module _ {R : Type 0} (remaining : R → Option (List ℕ)) (known : Known) (for
         }
         so_far_unread (reads.Read cause) gives = record {
           lines = so.lines;
-          before = so.after;
+          after = so.after;
           text = begins remaining says known form same old so.lines so.given;
           ran = so.ran;
           written = so.stands.written.bytes;
@@ -227,8 +227,11 @@ begins_led says known lines false p = begins_all says known lines Ended p
 
 module _ (says : List ℕ → Outcome) (known : Known) (width : ℕ) (c : Converted) (start now : Option (List ℕ)) where
   -- no line was taken
-  pub begun_none : HasBegun start now c.steps → IsBegun says known width c start now
+  begun_none : HasBegun start now c.steps → IsBegun says known width c start now
   begun_none begun = record { lines = []; after = c; text = nothing_said says known; ran = refl; written = begun_to_end start now c begun }
+
+  pub given_up_first : (why : GivenUp) → HasBegun start now c.steps → IsStopped says known width c start now (giving_up why)
+  given_up_first why begun = given_up says known width c start now why (begun_none begun)
 
   -- all lines were
   pub begun_end : (lines : List (ℕ × Line)) (d : Converted) → Leads says known width c lines d → HasBegun start now (whole d) → IsBegun says known width c start now
@@ -249,5 +252,5 @@ module _ (says : List ℕ → Outcome) (known : Known) (width : ℕ) (c : Conver
 
   pub not_opened : (fault : LratTextFault) → IsNoLine fault → IsStopped says known width c start now (of_text fault)
   not_opened (reads.Line n kind) none = absurd none
-  not_opened (reads.Read cause) none = record { lines = []; before = c; text = nothing_said says known; ran = refl; written = h.written.bytes }
+  not_opened (reads.Read cause) none = record { lines = []; after = c; text = nothing_said says known; ran = refl; written = h.written.bytes }
   not_opened reads.OutOfMemory none = begun_none says known width c start now (begun_whole start now c.steps h.written.bytes)

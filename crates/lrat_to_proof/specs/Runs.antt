@@ -63,23 +63,25 @@ pub record IsUnread (says : List ℕ → Outcome) (known : Option (List ℕ)) (w
   pub is_open : before.held.refuted ≡ false
   pub written : Appends start now (text_2 before.steps)
 
--- lines were converted, and no more of the proof came; the output holds their steps
-pub record IsCut (says : List ℕ → Outcome) (known : Option (List ℕ)) (width : ℕ) (c : Converted)
-    (start now : Option (List ℕ)) : Type 0 where
-  pub lines : List (ℕ × Line)
-  pub before : Converted
-  pub text : BeginsWith says known lines
-  pub ran : run width c (said lines) ≡ Ok before
-  pub written : Appends start now (text_2 before.steps)
-
--- lines can be converted, and the output holds a beginning of the bytes of their steps and of the end
-pub record IsBegun (says : List ℕ → Outcome) (known : Option (List ℕ)) (width : ℕ) (c : Converted)
-    (start now : Option (List ℕ)) : Type 0 where
+-- lines were converted, with which the proof begins, and this is so of what they lead to
+pub record IsUpTo (says : List ℕ → Outcome) (known : Option (List ℕ)) (width : ℕ) (c : Converted)
+    (P : Converted → Type 0) : Type 0 where
   pub lines : List (ℕ × Line)
   pub after : Converted
   pub text : BeginsWith says known lines
   pub ran : run width c (said lines) ≡ Ok after
-  pub written : HasBegun start now (whole after)
+  pub written : P after
+
+-- lines were converted, and no more of the proof came; the output holds their steps
+abbrev pub IsCut : (List ℕ → Outcome) → Option (List ℕ) → ℕ → Converted → Option (List ℕ) →
+    Option (List ℕ) → Type 0
+IsCut says known width c start now =
+    IsUpTo says known width c (λ d. Appends start now (text_2 d.steps))
+
+-- lines can be converted, and the output holds a beginning of the bytes of their steps and of the end
+abbrev pub IsBegun : (List ℕ → Outcome) → Option (List ℕ) → ℕ → Converted → Option (List ℕ) →
+    Option (List ℕ) → Type 0
+IsBegun says known width c start now = IsUpTo says known width c (λ d. HasBegun start now (whole d))
 
 -- a fault of the lines after c; a read or a write that fails and running out of memory can come anywhere
 abbrev pub IsStopped : (List ℕ → Outcome) → Option (List ℕ) → ℕ → Converted → Option (List ℕ) →
@@ -137,10 +139,5 @@ IsRun ids cnf known width old new r = IsAfterFormula ids cnf known width old new
 -- what the header lies about, where the formula was read whole; else nothing
 abbrev pub RunTellsLie : Option (List ℕ) → Result Conversion ConvertFault → Option LyingHeader →
     Type 0
-RunTellsLie cnf (Ok conversion) told = IsLie cnf told
 RunTellsLie cnf (Err (Formula fault)) told = told ≡ None
-RunTellsLie cnf (Err (Read cause)) told = IsLie cnf told
-RunTellsLie cnf (Err (Unread number kind)) told = IsLie cnf told
-RunTellsLie cnf (Err (Refused number cause)) told = IsLie cnf told
-RunTellsLie cnf (Err (Write cause)) told = IsLie cnf told
-RunTellsLie cnf (Err OutOfMemory) told = IsLie cnf told
+RunTellsLie cnf r told = IsLie cnf told

@@ -1,5 +1,6 @@
 //! Why a proof could not be converted.
 ghost use Rattle.std.specs.Prelude.{◌≡◌};
+ghost use Rattle.lrat_to_proof.specs.Faults.{giving_up, in_line, of_text};
 ghost use Rattle.lrat_to_proof.specs.declared.fault.GivenUp.TheVariants as reasons;
 ghost use Rattle.lrat_to_proof.specs.declared.fault.Stop.TheVariants as stops;
 
@@ -62,8 +63,6 @@ pub(crate) enum Stop {
 }
 
 impl Stop {
-    ghost use Rattle.lrat_to_proof.specs.Faults.{in_line};
-
     /// The fault of the line of that number.
     pub(crate) fn in_line(self, line: u64) -> ConvertFault
         ensures { result ≡ in_line self line }
@@ -76,8 +75,6 @@ impl Stop {
 }
 
 impl From<GivenUp> for ConvertFault {
-    ghost use Rattle.lrat_to_proof.specs.Faults.{giving_up};
-
     ghost from_gives = { λ why fault. fault ≡ giving_up why };
 
     fn from(why: GivenUp) -> ConvertFault {
@@ -88,12 +85,11 @@ impl From<GivenUp> for ConvertFault {
     }
 }
 
-impl From<LratTextFault> for ConvertFault {
-    ghost use Rattle.lrat_to_proof.specs.Faults.{of_text};
-
-    ghost from_gives = { λ fault result. result ≡ of_text fault };
-
-    fn from(fault: LratTextFault) -> ConvertFault {
+impl ConvertFault {
+    /// Why a proof gives no line.
+    pub(crate) fn unread(fault: LratTextFault) -> ConvertFault
+        ensures { result ≡ of_text fault }
+    {
         match fault {
             LratTextFault::Read(cause) => ConvertFault::Read(cause),
             LratTextFault::Line { line, kind } => ConvertFault::Unread { line, kind },

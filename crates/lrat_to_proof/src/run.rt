@@ -88,7 +88,7 @@ fn convert_lines<P: Read + Drop, W: Write>(
     }
     match open_proof(alloc, proof, ids, clauses) {
         Ok(mut reader) => take_lines(converter, &mut reader, out),
-        Err(fault) => Err(ConvertFault::from(fault)),
+        Err(fault) => Err(ConvertFault::unread(fault)),
     }
 }
 
@@ -113,7 +113,7 @@ fn take_lines<R: Read, W: Write>(
                 }
             }
             Ok(None) => return Ok(()),
-            Err(fault) => return Err(ConvertFault::from(fault)),
+            Err(fault) => return Err(ConvertFault::unread(fault)),
         }
     }
     Ok(())

@@ -1,6 +1,6 @@
 //! How conversions end, and exit statuses.
 ghost use Rattle.std.specs.Prelude.{◌≡◌};
-ghost use Rattle.lrat_to_proof.specs.Statuses.{status_of};
+ghost use Rattle.lrat_to_proof.specs.Statuses.{conversion_of, status_of};
 
 use crate::fault::ConvertFault;
 
@@ -15,9 +15,6 @@ pub enum Conversion {
 }
 
 impl Conversion {
-    ghost use Rattle.std.specs.Prelude.{◌≡◌};
-    ghost use Rattle.lrat_to_proof.specs.Statuses.{conversion_of};
-
     /// By whether the empty clause or two opposite units came.
     pub(crate) fn of(refuted: bool) -> Conversion
         ensures { result ≡ conversion_of refuted }

@@ -19,5 +19,5 @@ pub returns-in-Err : goal.returns-in-Err
 returns-in-Err g c = λ width start d h.
     let known = g.P.Read.remaining c.args.proof in
     let now = g.W.Write.contents c.args.out.now in
-    subst (IsStopped (proof_says c.args.ids c.args.clauses) known width d start now) (sym c.from.ensures)
+    subst (IsStopped (proof_says c.args.ids c.args.clauses) known width d start now) (sym c.unread.ensures)
     (not_opened (proof_says c.args.ids c.args.clauses) known width d start now c.args.converter.now h c.in-Err.fault c.in-Err.ensures.no_line)

@@ -5,20 +5,20 @@ use Rattle.lrat_to_proof.specs.Holding.{Holding}
 use Rattle.lrat_to_proof.specs.Runs.{Leads, proof_says}
 use Rattle.lrat_to_proof.specs.Standing.{holding_of}
 use Rattle.lrat_to_proof.specs.Statuses.{conversion_of}
-use Rattle.lrat_to_proof.proofs.LineLemmas.{begun_end, begun_none, given_up}
+use Rattle.lrat_to_proof.proofs.LineLemmas.{begun_end, given_up, given_up_first}
 use Rattle.lrat_to_proof.specs.Widths.{bits_of}
 use Rattle.lrat_to_proof.proofs.run.convert_proof.Goals as goal
 
 pub returns-in_err-converter : goal.returns-in_err-converter
 returns-in_err-converter g c =
     let width = bits_of c.args.width in
-    let start = g.W.Write.contents c.args.out.now in
-    let says = proof_says c.args.ids (length c.args.formula.now) in
-    let known = g.P.Read.remaining c.args.proof in
     let from = begun width c.args.formula.now in
-    let new = g.W.Write.contents c.new.new.out in
     let p = err_from_is_err_and c.from_residual.result c.from_residual.ensures.1 in
-    record { run = rw (p.1, p.2) (given_up says known width from start new c.in_err-converter.field-0.0 (begun_none says known width from start new c.in_err-converter.ensures.err)) }
+    record {
+      run = rw (p.1, p.2)
+          (given_up_first (proof_says c.args.ids (length c.args.formula.now)) (g.P.Read.remaining c.args.proof) width from (g.W.Write.contents c.args.out.now) (g.W.Write.contents c.new.new.out)
+          c.in_err-converter.field-0.0 c.in_err-converter.ensures.err);
+    }
 
 pub returns-in_err-end : goal.returns-in_err-end
 returns-in_err-end g c =

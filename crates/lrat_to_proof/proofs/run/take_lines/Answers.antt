@@ -36,7 +36,7 @@ returns-in-Ok-None g c = λ says known width start d fresh same h.
 pub returns-in-Err : goal.returns-in-Err
 returns-in-Err g c = λ says known width start d fresh same h.
     let gave = rw c.in-Err.is at c.next_line.follows.holds-at-none in
-    subst (IsStopped says known width d start (g.W.Write.contents c.lines.out)) (sym c.from.ensures)
+    subst (IsStopped says known width d start (g.W.Write.contents c.lines.out)) (sym c.unread.ensures)
     (so_far_unread g.R.Read.remaining known (form_now c.args.reader.now) c.lines.reader width d start
     (g.W.Write.contents c.lines.out) c.lines.converter (c.lines.invariant known width start d fresh h) says same (sym c.is_done.ensures ∙ c.lines-test.true)
     c.next_line.follows.lender-at-none c.in-Err.fault gave)
