@@ -73,46 +73,10 @@ pub(crate) const VERSION: Entry<'static> = Entry {
     text: "says of which version it is",
 };
 
-/// Of a program that tells how far a run has come: it does not.
-pub const QUIET: Entry<'static> = Entry {
-    name: "--quiet",
-    text: "says nothing of how far a long run has come, on a terminal neither",
-};
-
-/// Of such a program: it does so in lines, wherever standard error goes.
-pub const VERBOSE: Entry<'static> = Entry {
-    name: "--verbose",
-    text: "says twice a second on standard error how far a run has come, as it does on a terminal",
-};
-
-/// Of a program that counts: it says what.
-pub const STATS: Entry<'static> = Entry {
-    name: "--stats",
-    text: "says at the end on standard error what was counted, in lines c NAME NUMBER",
-};
-
-/// Of a program that can be tried without a file: it is.
-pub const EXAMPLE: Entry<'static> = Entry {
-    name: "--example",
-    text: "checks a small fixed example, in place of files",
-};
-
-/// Of a program that reads lines of LRAT: how the ids of binary ones are written.
-pub const IDS: Entry<'static> = Entry {
-    name: "--ids WAY",
-    text: "how ids stand in a binary proof: plain or doubled; else its first bytes tell it",
-};
-
 /// The operand of a program that reads a formula.
 pub const CNF: Entry<'static> = Entry {
     name: "CNF",
     text: "the formula, DIMACS text; - stands for standard input",
-};
-
-/// The variable of a program that logs.
-pub const RUST_LOG: Entry<'static> = Entry {
-    name: "RUST_LOG",
-    text: "what is logged to standard error, as info; without it nothing is",
 };
 
 /// The options of all programs.

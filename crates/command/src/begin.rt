@@ -1,12 +1,12 @@
 //! How a program begins: with the words of its call.
-ghost use Rattle.std.specs.Prelude.{◌≡◌, ◌⊎◌, ◌∷◌, ℕ, Result, [], IfErr, IfOk, IsOk, length};
+ghost use Rattle.std.specs.Prelude.{◌≡◌, ◌⊎◌, ◌∷◌, ℕ, Result, Some, [], IfErr, IfOk, IsOk, codes, length};
 ghost use Rattle.std.specs.Fn.{FnOnceReturnsAt};
 ghost use Rattle.std.specs.Process.{exit_status};
-ghost use Rattle.command.specs.Calls.{IsExampleAlone, operands_of};
+ghost use Rattle.command.specs.Calls.{IsExampleAlone, choices_of, meant, operands_of, value_given};
 ghost use Rattle.command.specs.Statuses.{IsEnd, either};
 ghost use Rattle.command.specs.declared.call.Call.{Call};
 
-use crate::about::About;
+use crate::about::{About, Entry};
 use crate::call::{Call, read_words};
 use crate::places::InputNames;
 use crate::status::{NOT_RUN, help, version};
@@ -124,6 +124,34 @@ pub fn input_names<'c>(
             other: other.as_str(),
         }),
         operands => Err(unnamed(rt, about, operands.len())),
+    }
+}
+
+/// Of a program that reads lines of LRAT: how the ids of binary ones are written.
+pub const IDS: Entry<'static> = Entry {
+    name: "--ids WAY",
+    text: "how ids stand in a binary proof: plain or doubled; else its first bytes tell it",
+};
+
+/// How ids stand in binary lines, as `--ids` says it, where it does: one of two ways. An Err is the
+/// exit status where it says another word; standard error says which ones there are.
+pub fn ids_of<T: Copy>(
+    rt: &HostRuntime,
+    about: &About<'_>,
+    call: &Call<'_>,
+    plain: T,
+    doubled: T,
+) -> Result<Option<T>, u8>
+    ensures err { IfErr result (λ status. status ≡ NOT_RUN) }
+    ensures ok { IfOk result (λ ids. Some ids ≡ meant (λ word. word)
+        ((codes "plain", plain) ∷ (codes "doubled", doubled) ∷ [])
+        (value_given (choices_of call.now) (codes "--ids"))) }
+{
+    match call.value("--ids") {
+        None => Ok(None),
+        Some("plain") => Ok(Some(plain)),
+        Some("doubled") => Ok(Some(doubled)),
+        Some(_) => Err(misused(rt, about, "--ids takes plain or doubled")),
     }
 }
 

@@ -6,8 +6,7 @@ ghost use Rattle.command.specs.Calls.{IsOrNoMemory, IsSaid, after, at_end, choic
 use crate::about::{Entry, HELP, VERSION, cut_at};
 use std::alloc::Global;
 use std::env::Args;
-use std::fmt;
-use std::fmt::{Display, Formatter};
+use thiserror::Error;
 
 /// What the words of a call say, in their order.
 #[derive(Drop)]
@@ -24,27 +23,20 @@ pub struct Setting<'a> {
 }
 
 /// Why the words of a call can't be read, and which one it is.
-#[derive(Drop)]
+#[derive(Debug, Drop, Error)]
 pub enum Misuse<'a> {
+    #[error("there is no option {0}")]
     UnknownOption(String),
+    #[error("{0} stands twice")]
     GivenTwice(&'a str),
+    #[error("{0} has no value")]
     NoValue(&'a str),
+    #[error("{0} takes no value")]
     NeedlessValue(&'a str),
+    #[error("a file too many: {0}")]
     NeedlessOperand(String),
+    #[error("out of memory")]
     OutOfMemory,
-}
-
-impl Display for Misuse<'_> {
-    fn fmt<F: fmt::Write>(&self, f: &mut Formatter<F>) -> fmt::Result {
-        match self {
-            Misuse::UnknownOption(word) => write!(f, "there is no option {word}"),
-            Misuse::GivenTwice(flag) => write!(f, "{flag} stands twice"),
-            Misuse::NoValue(flag) => write!(f, "{flag} has no value"),
-            Misuse::NeedlessValue(flag) => write!(f, "{flag} takes no value"),
-            Misuse::NeedlessOperand(word) => write!(f, "a file too many: {word}"),
-            Misuse::OutOfMemory => write!(f, "out of memory"),
-        }
-    }
 }
 
 impl<'a> Call<'a> {

@@ -1,6 +1,13 @@
 //! What a run cost.
+use crate::about::Entry;
 use std::fs;
 use std::time::Instant;
+
+/// Of a program that counts: it says what.
+pub const STATS: Entry<'static> = Entry {
+    name: "--stats",
+    text: "says at the end on standard error what was counted, in lines c NAME NUMBER",
+};
 
 /// When a run began, if the clock tells that.
 #[derive(Clone, Copy)]

@@ -5,6 +5,7 @@ mod about;
 mod begin;
 mod call;
 mod cost;
+mod example;
 mod files;
 mod held;
 mod kind;
@@ -13,14 +14,17 @@ mod status;
 mod told;
 mod written;
 
-pub use about::{About, CNF, EXAMPLE, Entry, IDS, QUIET, RUST_LOG, STATS, VERBOSE};
-pub use begin::{input_names, misused, run_program, unnamed};
+pub use about::{About, CNF, Entry};
+pub use begin::{IDS, ids_of, input_names, misused, run_program, unnamed};
 pub use call::{Call, Misuse, Setting, read_words};
-pub use cost::{Cost, say_figure};
+pub use cost::{Cost, STATS, say_figure};
+pub use example::{EXAMPLE, EXAMPLE_FORMULA, EXAMPLE_LRAT};
 pub use files::{Input, Source, open_again, open_file, open_inputs, warn_of_header};
 pub use held::HeldBytes;
 pub use kind::{Kind, kind_of};
-pub use places::{FaultPlace, InputNames, hold_file, say_cause, say_fault, say_missing};
+pub use places::{
+    FaultPlace, InputNames, hold_file, open_and_hold, say_cause, say_end, say_fault, say_missing,
+};
 pub use status::{FAILED, NOT_RUN};
-pub use told::progress_of;
+pub use told::{QUIET, RUST_LOG, VERBOSE, progress_of};
 pub use written::{OutputAfterFiles, WrittenFiles};

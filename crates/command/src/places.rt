@@ -1,10 +1,11 @@
 //! What is said of a file that could not be read as what it should be.
-ghost use Rattle.std.specs.Prelude.{◌≡◌, IfErr};
+ghost use Rattle.std.specs.Prelude.{◌≡◌, ◌⊎◌, IfErr, IfOk};
+ghost use Rattle.command.specs.Inputs.{IsOpenedBy};
 
-use crate::files::{Input, open_again};
+use crate::files::{Input, open_again, open_inputs, warn_of_header};
 use crate::held::{HeldBytes, hold_input};
 use crate::kind::{Kind, kind_of};
-use crate::status::FAILED;
+use crate::status::{FAILED, NOT_RUN};
 use std::fmt::Display;
 use std::io;
 use std::io::Read;
@@ -63,6 +64,23 @@ pub fn say_fault<D: Display>(
     }
 }
 
+/// Says on standard error how a run ended: why it has no verdict, where it has none, and in which
+/// file that is; and what the formula's header lies about.
+pub fn say_end<'a, T, E: Display, L: Display, F: FnOnce(&E) -> FaultPlace<'a>>(
+    rt: &HostRuntime,
+    names: InputNames<'_>,
+    outcome: &Result<T, E>,
+    place_of: F,
+    lie: &Option<L>,
+)
+    requires { F.IsAlwaysCallable place_of }
+{
+    if let Err(fault) = outcome {
+        say_fault(rt, names, fault, place_of(fault));
+    }
+    warn_of_header(rt, names.cnf, lie);
+}
+
 /// Says on standard error which clause is missing of those that are wanted behind a piece.
 pub fn say_missing<M: Display>(rt: &HostRuntime, holds: &str, missing: &Option<M>) {
     if let Some(missing) = missing {
@@ -90,6 +108,22 @@ pub fn hold_file<D: Display + Drop, F: FnOnce(io::Error) -> D>(
             Err(FAILED)
         }
     }
+}
+
+/// Opens the two files of a run, and then reads the formula whole. An Err is the exit status where
+/// that fails; standard error says why.
+pub fn open_and_hold<'a, D: Display + Drop, F: FnOnce(io::Error) -> D>(
+    rt: &HostRuntime,
+    names: InputNames<'a>,
+    fault_of: F,
+) -> Result<(HeldBytes, Input<'a>), u8>
+    requires { F.IsAlwaysCallable fault_of }
+    ensures err { IfErr result (λ status. (status ≡ NOT_RUN) ⊎ (status ≡ FAILED)) }
+    ensures other { IfOk result (λ opened. IsOpenedBy names.entry.other.now opened.1) }
+{
+    let (cnf, other) = open_inputs(rt, names.cnf, names.other).ok_or(NOT_RUN)?;
+    let cnf = hold_file(rt, names, cnf, FaultPlace::Formula, fault_of)?;
+    Ok((cnf, other))
 }
 
 /// Says on standard error, after a fault of a formula, which file it is, and asks whether the
