@@ -63,6 +63,12 @@ IsUnread cause (Read error) = (error_kind cause ≢ OutOfMemory) × (error ≡ c
 IsUnread cause (Formula fault) = ⊥
 IsUnread cause (Write error) = ⊥
 
+-- the formula or the hints were not accepted
+abbrev pub IsRefusedRun : Result Verdict RunFault → Type 0
+IsRefusedRun (Ok verdict) = ⊥
+IsRefusedRun (Err (Write cause)) = ⊥
+IsRefusedRun r = Unit {0}
+
 -- the formula's text was read whole, and the proof was checked over its clauses with this answer
 pub record ReadAndChecked (ids : Option Ids) (cnf lrat : Option (List ℕ))
     (r : Result Verdict RunFault) : Type 0 where
@@ -73,29 +79,16 @@ pub record ReadAndChecked (ids : Option Ids) (cnf lrat : Option (List ℕ))
 -- a formula that was not read whole is answered, and else the check
 abbrev pub CheckRun : Option Ids → Option (List ℕ) → Option (List ℕ) → Result Verdict RunFault →
     Type 0
-CheckRun ids cnf lrat (Ok verdict) = ReadAndChecked ids cnf lrat (Ok verdict)
-CheckRun ids cnf lrat (Err (Hints fault)) = ReadAndChecked ids cnf lrat (Err (Hints fault))
-CheckRun ids cnf lrat (Err (Read cause)) = ReadAndChecked ids cnf lrat (Err (Read cause))
 CheckRun ids cnf lrat (Err (Formula fault)) = (clauses : List (List ℕ))
     × FailsAfter (option_map outcome_of cnf) clauses fault
 CheckRun ids cnf lrat (Err (Write cause)) =
     (verdict : Verdict) × ReadAndChecked ids cnf lrat (Ok verdict)
-
--- the formula or the hints were not accepted
-abbrev pub IsRefusedRun : Result Verdict RunFault → Type 0
-IsRefusedRun (Ok verdict) = ⊥
-IsRefusedRun (Err (Write cause)) = ⊥
-IsRefusedRun (Err (Formula fault)) = Unit {0}
-IsRefusedRun (Err (Hints fault)) = Unit {0}
-IsRefusedRun (Err (Read cause)) = Unit {0}
+CheckRun ids cnf lrat r = ReadAndChecked ids cnf lrat r
 
 -- the verdict stands, and its line was not written whole
 abbrev pub IsUnwritten : Result Verdict RunFault → Type 0
-IsUnwritten (Ok verdict) = ⊥
 IsUnwritten (Err (Write cause)) = Unit {0}
-IsUnwritten (Err (Formula fault)) = ⊥
-IsUnwritten (Err (Hints fault)) = ⊥
-IsUnwritten (Err (Read cause)) = ⊥
+IsUnwritten r = ⊥
 
 -- both texts were read and checked with this verdict, and an output grew by a beginning of its line
 pub record BeginsLine (ids : Option Ids) (cnf lrat old new : Option (List ℕ)) : Type 0 where
@@ -105,8 +98,5 @@ pub record BeginsLine (ids : Option Ids) (cnf lrat old new : Option (List ℕ)) 
 
 -- what the header lies about, where the formula was read whole; else nothing
 abbrev pub RunTellsLie : Option (List ℕ) → Result Verdict RunFault → Option LyingHeader → Type 0
-RunTellsLie cnf (Ok verdict) told = IsLie cnf told
-RunTellsLie cnf (Err (Write cause)) told = IsLie cnf told
-RunTellsLie cnf (Err (Hints fault)) told = IsLie cnf told
-RunTellsLie cnf (Err (Read cause)) told = IsLie cnf told
 RunTellsLie cnf (Err (Formula fault)) told = told ≡ None
+RunTellsLie cnf r told = IsLie cnf told

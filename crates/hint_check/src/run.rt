@@ -1,12 +1,10 @@
 //! Runs: a proof is checked by its hints over a formula, and the verdict is written.
-ghost use Rattle.std.specs.Prelude.{◌≡◌, ◌↔◌, List, ℕ, Some, Ok, IfOk, OnErr, OnOk, IsTrue};
+ghost use Rattle.std.specs.Prelude.{◌≡◌, ◌↔◌, List, ℕ, Some, Ok, IfOk, IsTrue};
 ghost use Rattle.std.specs.IoError.{error_kind};
 ghost use Rattle.std.specs.Io.KnownBytes.{Appends};
 ghost use Rattle.sat_formula.specs.Refuted.{IsRefuted};
-ghost use Rattle.whole_writes.specs.Beginnings.{AppendsBeginning};
 ghost use Rattle.hint_check.specs.Runs.{BeginsLine, ChecksHints, CheckRun, IsRefusedRun, IsUnread, IsUnwritten, RunTellsLie};
 ghost use Rattle.verdicts.specs.Verdicts.{shown_line};
-ghost use Rattle.verdicts.specs.declared.verdict.Verdict.TheVariants.{Verified};
 
 use crate::checking::check_proof;
 use crate::fault::RunFault;
@@ -44,7 +42,7 @@ pub fn run_check<F: Read + Drop, H: Read + Drop, W: Write>(
     ensures unwritten { IsUnwritten result → BeginsLine ids (F.remaining cnf)
         (H.remaining hints) (W.contents out.old) (W.contents out.new) }
     ensures refutes { (text : List ℕ) → F.remaining cnf ≡ Some text
-        → result ≡ Ok Verified → IsRefuted text }
+        → result ≡ Ok Verdict.Verified → IsRefuted text }
     ensures lie { RunTellsLie (F.remaining cnf) result lie.new }
 {
     let formula = match read_formula(alloc, cnf, lie) {
