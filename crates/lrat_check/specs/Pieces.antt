@@ -7,7 +7,6 @@
 --     BeginsShown, BeginsPiece      what was written then, after two formulas, and after their texts
 --     TellsPieceLies      what is told of both headers
 use Rattle.std.specs.Prelude.{◌≡◌, ℕ, Bool, true, false, List, Option, Some, None, Result, Ok, Err}
-use Rattle.std.specs.Option.{option_map}
 use Rattle.sat_rules.specs.Named.{Item}
 use Rattle.lrat_rules.specs.Lines.{Line, is_refuted, run}
 use Rattle.lrat_rules.specs.Stores.{formula_store}
@@ -17,8 +16,6 @@ use Rattle.lrat_binary.specs.declared.ids.Ids.{Ids}
 use Rattle.lrat_checker.specs.TextAnswers.{said}
 use Rattle.lrat_checker.specs.declared.fault.LratFault.{LratFault}
 use Rattle.sat_formula.specs.declared.counts.LyingHeader.{LyingHeader}
-use Rattle.sat_formula.specs.Lines as dimacs
-use Rattle.sat_formula.specs.Whole.{FailsAfter}
 use Rattle.whole_formulas.specs.Lies.{IsLie}
 use Rattle.whole_writes.specs.Beginnings.{AppendsBeginning}
 use Rattle.verdicts.specs.Pieces.{piece_line}
@@ -27,6 +24,7 @@ use Rattle.verdicts.specs.declared.piece.PieceVerdict.TheVariants.{Refuted, Carr
 use Rattle.piece_runs.specs.Texts.{OfFormula, OfFormulas}
 use Rattle.piece_runs.specs.declared.missing.MissingClause.{MissingClause}
 use Rattle.lrat_check.specs.Answers.{proof_says}
+use Rattle.lrat_check.specs.Held.{FailsText}
 use Rattle.lrat_check.specs.Known.{IsFirstMissing, IsHeld, Lacks}
 use Rattle.lrat_check.specs.Runs.{Refutes}
 use Rattle.lrat_check.specs.declared.fault.RunFault.TheVariants.{Formula, Proof, Write}
@@ -83,32 +81,22 @@ IsReadPieceRun ids formula wanted known (Err (Wanted fault)) = ⊥
 -- the run over all texts: a formula that was not read whole is answered, the first one first
 abbrev pub IsPieceRun : Option Ids → Option (List ℕ) → Option (List ℕ) → Option (List ℕ) →
     Result PieceVerdict PieceFault → Type 0
-IsPieceRun ids cnf holds known (Ok verdict) = OfFormulas cnf holds
-    (λ formula wanted. IsReadPieceRun ids formula wanted known (Ok verdict))
-IsPieceRun ids cnf holds known (Err (Run (Write cause))) = OfFormulas cnf holds
-    (λ formula wanted. IsReadPieceRun ids formula wanted known (Err (Run (Write cause))))
-IsPieceRun ids cnf holds known (Err (Run (Proof fault))) = OfFormulas cnf holds
-    (λ formula wanted. IsReadPieceRun ids formula wanted known (Err (Run (Proof fault))))
-IsPieceRun ids cnf holds known (Err (Run (Formula fault))) = (clauses : List (List ℕ))
-    × FailsAfter (option_map dimacs.outcome_of cnf) clauses fault
-IsPieceRun ids cnf holds known (Err (Wanted fault)) = OfFormula cnf (λ formula.
-    (clauses : List (List ℕ)) × FailsAfter (option_map dimacs.outcome_of holds) clauses fault)
+IsPieceRun ids cnf holds known (Err (Run (Formula fault))) = FailsText cnf fault
+IsPieceRun ids cnf holds known (Err (Wanted fault)) =
+    OfFormula cnf (λ formula. FailsText holds fault)
+IsPieceRun ids cnf holds known r = OfFormulas cnf holds
+    (λ formula wanted. IsReadPieceRun ids formula wanted known r)
 
 -- no line of a verdict was begun
 abbrev pub IsSilentPiece : Result PieceVerdict PieceFault → Type 0
 IsSilentPiece (Ok verdict) = ⊥
 IsSilentPiece (Err (Run (Write cause))) = ⊥
-IsSilentPiece (Err (Run (Proof fault))) = Unit {0}
-IsSilentPiece (Err (Run (Formula fault))) = Unit {0}
-IsSilentPiece (Err (Wanted fault)) = Unit {0}
+IsSilentPiece r = Unit {0}
 
 -- the verdict stands, and its line was not written whole
 abbrev pub IsUnwrittenPiece : Result PieceVerdict PieceFault → Type 0
-IsUnwrittenPiece (Ok verdict) = ⊥
 IsUnwrittenPiece (Err (Run (Write cause))) = Unit {0}
-IsUnwrittenPiece (Err (Run (Proof fault))) = ⊥
-IsUnwrittenPiece (Err (Run (Formula fault))) = ⊥
-IsUnwrittenPiece (Err (Wanted fault)) = ⊥
+IsUnwrittenPiece r = ⊥
 
 -- the piece was checked, and an output grew by a beginning of the line of its verdict
 pub record BeginsShown (ids : Option Ids) (formula wanted : List (List ℕ))
@@ -126,8 +114,6 @@ BeginsPiece ids cnf holds known old new = OfFormulas cnf holds
 -- what both headers lie about, of each where the formula was read whole; else nothing
 abbrev pub TellsPieceLies : Option (List ℕ) → Option (List ℕ) → Result PieceVerdict PieceFault →
     Option LyingHeader → Option LyingHeader → Type 0
-TellsPieceLies cnf holds (Ok verdict) lie other = IsLie cnf lie × IsLie holds other
-TellsPieceLies cnf holds (Err (Run (Write cause))) lie other = IsLie cnf lie × IsLie holds other
-TellsPieceLies cnf holds (Err (Run (Proof fault))) lie other = IsLie cnf lie × IsLie holds other
 TellsPieceLies cnf holds (Err (Run (Formula fault))) lie other = (lie ≡ None) × (other ≡ None)
 TellsPieceLies cnf holds (Err (Wanted fault)) lie other = IsLie cnf lie × (other ≡ None)
+TellsPieceLies cnf holds r lie other = IsLie cnf lie × IsLie holds other

@@ -13,7 +13,7 @@ use Rattle.sat_rules.specs.Clauses.{all_true}
 use Rattle.sat_formula.specs.declared.counts.LyingHeader.{LyingHeader}
 use Rattle.sat_formula.specs.Lines as dimacs
 use Rattle.sat_formula.specs.Outcome.{Ended}
-use Rattle.sat_formula.specs.Whole.{FailsAfter, IsOutcome}
+use Rattle.sat_formula.specs.Whole.{IsOutcome}
 use Rattle.lrat_rules.specs.Lines.{is_refuted}
 use Rattle.lrat_binary.specs.declared.ids.Ids.{Ids}
 use Rattle.lrat_checker.specs.Standing.{has_refuted}
@@ -25,6 +25,7 @@ use Rattle.lrat_checker.specs.declared.fault.LratFault.{LratFault}
 use Rattle.lrat_checker.specs.declared.fault.LratFault.TheVariants as lrat
 use Rattle.verdicts.specs.Verdicts.{shown_line, verdict_of}
 use Rattle.lrat_check.specs.Answers.{IsLratAnswer, proof_says}
+use Rattle.lrat_check.specs.Held.{FailsText}
 use Rattle.lrat_check.specs.declared.fault.RunFault.{RunFault}
 use Rattle.lrat_check.specs.declared.fault.RunFault.TheVariants.{Formula, Proof, Write}
 use Rattle.verdicts.specs.declared.verdict.Verdict.{Verdict}
@@ -80,8 +81,7 @@ IsDecided ids formula text (Err (Formula fault)) = Unit {0}
 abbrev pub IsRefusedRun : Result Verdict RunFault → Type 0
 IsRefusedRun (Ok verdict) = ⊥
 IsRefusedRun (Err (Write cause)) = ⊥
-IsRefusedRun (Err (Proof fault)) = Unit {0}
-IsRefusedRun (Err (Formula fault)) = Unit {0}
+IsRefusedRun r = Unit {0}
 
 -- the whole text is this formula, after which the proof was run; where that is verified no assignment satisfies it
 pub record IsAfterFormula (ids : Option Ids) (cnf known : Option (List ℕ)) (r : Result Verdict RunFault) : Type 0 where
@@ -93,18 +93,13 @@ pub record IsAfterFormula (ids : Option Ids) (cnf known : Option (List ℕ)) (r 
 
 -- the run over both texts: a formula that was not read whole is answered, and else the proof's run
 abbrev pub IsCheckRun : Option Ids → Option (List ℕ) → Option (List ℕ) → Result Verdict RunFault → Type 0
-IsCheckRun ids cnf known (Ok verdict) = IsAfterFormula ids cnf known (Ok verdict)
-IsCheckRun ids cnf known (Err (Write cause)) = IsAfterFormula ids cnf known (Err (Write cause))
-IsCheckRun ids cnf known (Err (Proof fault)) = IsAfterFormula ids cnf known (Err (Proof fault))
-IsCheckRun ids cnf known (Err (Formula fault)) = (clauses : List (List ℕ))
-    × FailsAfter (option_map dimacs.outcome_of cnf) clauses fault
+IsCheckRun ids cnf known (Err (Formula fault)) = FailsText cnf fault
+IsCheckRun ids cnf known r = IsAfterFormula ids cnf known r
 
 -- the verdict stands, and its line was not written whole
 abbrev pub IsUnwritten : Result Verdict RunFault → Type 0
-IsUnwritten (Ok verdict) = ⊥
 IsUnwritten (Err (Write cause)) = Unit {0}
-IsUnwritten (Err (Proof fault)) = ⊥
-IsUnwritten (Err (Formula fault)) = ⊥
+IsUnwritten r = ⊥
 
 -- the proof was checked, and an output grew by a beginning of the line of its verdict
 pub record BeginsLine (ids : Option Ids) (formula : List (List ℕ))
@@ -122,7 +117,5 @@ pub record BeginsLineAfter (ids : Option Ids) (cnf known old new : Option (List 
 
 -- what the header lies about, where the formula was read whole; else nothing
 abbrev pub RunTellsLie : Option (List ℕ) → Result Verdict RunFault → Option LyingHeader → Type 0
-RunTellsLie cnf (Ok verdict) told = IsLie cnf told
-RunTellsLie cnf (Err (Write cause)) told = IsLie cnf told
-RunTellsLie cnf (Err (Proof fault)) told = IsLie cnf told
 RunTellsLie cnf (Err (Formula fault)) told = told ≡ None
+RunTellsLie cnf r told = IsLie cnf told

@@ -1,10 +1,6 @@
 //! The clauses of a formula, given to the checker, and how many there are.
-ghost use Rattle.std.specs.Prelude.{ℕ, List, IfErr, IfOk};
-ghost use Rattle.std.specs.Option.{option_map};
-ghost use Rattle.sat_formula.specs.Lines.{outcome_of};
-ghost use Rattle.sat_formula.specs.Outcome.{Ended};
-ghost use Rattle.sat_formula.specs.Whole.{FailsAfter, IsOutcome};
-ghost use Rattle.lrat_check.specs.Held.{HoldsCounted};
+ghost use Rattle.std.specs.Prelude.{IfErr, IfOk};
+ghost use Rattle.lrat_check.specs.Held.{FailsText, HoldsCounted, HoldsText};
 ghost use Rattle.whole_formulas.specs.Lies.{TellsLie};
 
 use lrat_checker::LratFormula;
@@ -39,11 +35,8 @@ pub(crate) fn read_held<F: Read + Drop>(
     cnf: F,
     lie: &mut Option<LyingHeader>,
 ) -> Result<Held, DimacsFault>
-    ensures whole { IfOk result (λ held. (formula : List (List ℕ))
-        × IsOutcome (option_map outcome_of (F.remaining cnf)) (formula, Ended)
-        × HoldsCounted formula held) }
-    ensures fault { IfErr result (λ fault. (clauses : List (List ℕ))
-        × FailsAfter (option_map outcome_of (F.remaining cnf)) clauses fault) }
+    ensures whole { IfOk result (λ held. HoldsText (F.remaining cnf) held) }
+    ensures fault { IfErr result (λ fault. FailsText (F.remaining cnf) fault) }
     ensures lie { TellsLie (F.remaining cnf) result lie.new }
 {
     *lie = None;

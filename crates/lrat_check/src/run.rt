@@ -1,13 +1,11 @@
 //! Runs: a proof is checked, and its verdict is written.
-ghost use Rattle.std.specs.Prelude.{◌≡◌, ℕ, Bool, false, List, IfOk, IfSome, Ok, OnErr, OnOk, Some};
+ghost use Rattle.std.specs.Prelude.{◌≡◌, ℕ, Bool, false, List, IfOk, IfSome, Ok, Some};
 ghost use Rattle.std.specs.Io.KnownBytes.{Appends};
 ghost use Rattle.sat_rules.specs.Clauses.{all_true};
 ghost use Rattle.sat_formula.specs.Refuted.{IsRefuted};
-ghost use Rattle.whole_writes.specs.Beginnings.{AppendsBeginning};
 ghost use Rattle.lrat_check.specs.Held.{HoldsCounted};
 ghost use Rattle.lrat_check.specs.Runs.{BeginsLine, BeginsLineAfter, IsCheckRun, IsDecided, IsProofRun, IsRefusedRun, IsUnwritten, RunTellsLie};
 ghost use Rattle.verdicts.specs.Verdicts.{shown_line};
-ghost use Rattle.verdicts.specs.declared.verdict.Verdict.TheVariants.{Verified};
 
 use crate::fault::RunFault;
 use crate::formula::{Held, read_held};
@@ -43,7 +41,7 @@ pub fn run_proof<P: Read + Drop, W: Write>(
     ensures silent { IsRefusedRun result → out.new ≡ out.old }
     ensures unwritten { IsUnwritten result → BeginsLine ids formula.now (P.remaining proof)
         (W.contents out.old) (W.contents out.new) }
-    ensures refutes { result ≡ Ok Verified → (a : ℕ → Bool) → all_true a formula.now ≡ false }
+    ensures refutes { result ≡ Ok Verdict.Verified → (a : ℕ → Bool) → all_true a formula.now ≡ false }
 {
     match Held::of(alloc, formula) {
         Ok(held) => run_after(alloc, held, proof, ids, out),
@@ -71,7 +69,7 @@ pub fn run_check<F: Read + Drop, P: Read + Drop, W: Write>(
     ensures unwritten { IsUnwritten result → BeginsLineAfter ids (F.remaining cnf)
         (P.remaining proof) (W.contents out.old) (W.contents out.new) }
     ensures refutes { (text : List ℕ) → F.remaining cnf ≡ Some text
-        → result ≡ Ok Verified → IsRefuted text }
+        → result ≡ Ok Verdict.Verified → IsRefuted text }
     ensures lie { RunTellsLie (F.remaining cnf) result lie.new }
 {
     match read_held(alloc, cnf, lie) {
@@ -99,7 +97,7 @@ fn run_after<P: Read + Drop, W: Write>(
         → IsUnwritten result → BeginsLine ids formula (P.remaining proof)
         (W.contents out.old) (W.contents out.new) }
     ensures refutes { (formula : List (List ℕ)) → HoldsCounted formula held
-        → result ≡ Ok Verified → (a : ℕ → Bool) → all_true a formula ≡ false }
+        → result ≡ Ok Verdict.Verified → (a : ℕ → Bool) → all_true a formula ≡ false }
 {
     let verdict = match refute(alloc, held, proof, ids) {
         Ok(refuted) => Verdict::of(refuted),

@@ -25,14 +25,13 @@ returns-in-Err-clause-fault g c = ([], begins_anyhow _)
 
 pub returns-clause-whole : goal.returns-clause-whole
 returns-clause-whole g c =
+    let end = rw c.if-branch.false at c.in_ok-next_clause.ensures in
     let r = c.new-reader in
-    let inv = c.clauses.invariant in
-    let end = rw c.if-branch.false at c.in_ok-next_clause.ensures.next in
-    let counted = rw c.if-branch.false at c.in_ok-next_clause.ensures.clauses in
+    let given = c.clauses.invariant in
     rw (← outcome_left-new g.F.Read.remaining r.result _ r.ensures.unread r.ensures.standing r.ensures.ended) (
-      inv.0,
-      IsOutcome-ended g.F.Read.remaining _ c.clauses.reader c.next_clause.new.self _ _ inv.1.given end,
-      record { held = inv.2; count = c.clause_count.ensures ∙ counted ∙ ap (λ (k : Counts). k.clauses) inv.1.counts },
+      given.0,
+      IsOutcome-ended g.F.Read.remaining _ c.clauses.reader c.next_clause.new.self _ _ given.1.given end.next,
+      record { held = given.2; count = c.clause_count.ensures ∙ end.clauses ∙ ap (λ (k : Counts). k.clauses) given.1.counts },
     )
 
 pub returns-clause-lie : goal.returns-clause-lie
@@ -45,12 +44,11 @@ returns-clause-lie g c =
 
 pub returns-in_err-next_clause-clause-fault : goal.returns-in_err-next_clause-clause-fault
 returns-in_err-next_clause-clause-fault g c =
-    let r = c.new-reader in
-    let inv = c.clauses.invariant in
     let p = err_from_is_err_and c.from_residual.result c.from_residual.ensures.1 in
     let told = c.in_err-next_clause.ensures in
+    let r = c.new-reader in
     rw (p.1, p.2, ← outcome_left-new g.F.Read.remaining r.result _ r.ensures.unread r.ensures.standing r.ensures.ended)
-    (inv.0, FailsAfter-given g.F.Read.remaining _ c.clauses.reader c.next_clause.new.self _ _ inv.1.given _ told.after_end told.next)
+    (c.clauses.invariant.0, FailsAfter-given g.F.Read.remaining _ c.clauses.reader c.next_clause.new.self _ _ c.clauses.invariant.1.given _ told.after_end told.next)
 
 pub returns-then-is_err-clause-fault : goal.returns-then-is_err-clause-fault
 returns-then-is_err-clause-fault g c =
