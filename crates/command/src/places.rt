@@ -66,17 +66,15 @@ pub fn say_fault<D: Display>(
 
 /// Says on standard error how a run ended: why it has no verdict, where it has none, and in which
 /// file that is; and what the formula's header lies about.
-pub fn say_end<'a, T, E: Display, L: Display, F: FnOnce(&E) -> FaultPlace<'a>>(
+pub fn say_end<T, E: Display, L: Display>(
     rt: &HostRuntime,
     names: InputNames<'_>,
     outcome: &Result<T, E>,
-    place_of: F,
+    place: FaultPlace<'_>,
     lie: &Option<L>,
-)
-    requires { F.IsAlwaysCallable place_of }
-{
+) {
     if let Err(fault) = outcome {
-        say_fault(rt, names, fault, place_of(fault));
+        say_fault(rt, names, fault, place);
     }
     warn_of_header(rt, names.cnf, lie);
 }
