@@ -1,6 +1,11 @@
 //! What the program says of itself.
 use command::{About, CNF, EXAMPLE, Entry, IDS, QUIET, RUST_LOG, STATS, VERBOSE};
 
+const HOLDS: Entry<'static> = Entry {
+    name: "--holds FILE",
+    text: "the proof is a piece of one, which need not come to the empty clause: the clauses of this formula have to be stored behind it, and the line is then s VERIFIED PIECE",
+};
+
 /// What `--help` says.
 pub const ABOUT: About<'static> = About {
     call: "lrat_check CNF LRAT [--ids WAY] [--holds FILE] [--stats] [--quiet] [--verbose]",
@@ -12,17 +17,7 @@ pub const ABOUT: About<'static> = About {
             text: "the proof, LRAT, text or binary; - stands for standard input",
         },
     ],
-    options: &[
-        IDS,
-        Entry {
-            name: "--holds FILE",
-            text: "the proof is a piece of one, which need not come to the empty clause: the clauses of this formula have to be stored behind it, and the line is then s VERIFIED PIECE",
-        },
-        STATS,
-        QUIET,
-        VERBOSE,
-        EXAMPLE,
-    ],
+    options: &[IDS, HOLDS, STATS, QUIET, VERBOSE, EXAMPLE],
     verified: "s VERIFIED UNSAT: no assignment satisfies the formula",
     open: "s NOT VERIFIED: the proof ends before it shows that",
     environment: &[RUST_LOG],

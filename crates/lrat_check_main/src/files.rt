@@ -1,8 +1,7 @@
 //! A whole proof, in a file.
 use crate::about::ABOUT;
 use command::{
-    Call, Cost, FaultPlace, InputNames, NOT_RUN, hold_file, open_inputs, progress_of, say_fault,
-    warn_of_header,
+    Call, Cost, FaultPlace, InputNames, open_and_hold, progress_of, say_fault, warn_of_header,
 };
 use lrat_check::{Ids, RunFault, exit_status, run_check};
 use sat_formula::DimacsFault;
@@ -17,8 +16,7 @@ pub(crate) fn check_files(
     call: &Call<'_>,
 ) -> Result<u8, u8> {
     let cost = Cost::from_now(rt);
-    let (cnf, proof) = open_inputs(rt, names.cnf, names.other).ok_or(NOT_RUN)?;
-    let cnf = hold_file(rt, names, cnf, FaultPlace::Formula, unread_formula)?;
+    let (cnf, proof) = open_and_hold(rt, names, unread_formula)?;
     let progress = progress_of(rt, &ABOUT, call);
     let proof = proof.told(rt, &progress);
     let mut lie = None;

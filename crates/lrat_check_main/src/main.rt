@@ -14,29 +14,20 @@ mod piece;
 use crate::about::ABOUT;
 use crate::files::check_files;
 use crate::piece::check_piece;
-use command::{Call, input_names, misused, run_program, say_cause};
+use command::{Call, EXAMPLE_FORMULA, EXAMPLE_LRAT, ids_of, input_names, run_program, say_cause};
 use lrat_check::{Ids, exit_status, run_check};
 use std::io;
 use std::process::ExitCode;
-
-/// Four clauses, one against each pair of values of two variables.
-const EXAMPLE_FORMULA: &[u8] = b"p cnf 2 4\n1 2 0\n1 -2 0\n-1 2 0\n-1 -2 0\n";
-
-/// 1 follows from the first two clauses, and with it the others are against each other.
-const EXAMPLE_PROOF: &[u8] = b"5 1 0 1 2 0\n5 d 1 2 0\n6 0 5 3 4 0\n";
 
 fn main(rt: HostRuntime) -> ExitCode {
     run_program(&rt, &ABOUT, |call| run(&rt, call))
 }
 
 fn run(rt: &HostRuntime, call: &Call<'_>) -> Result<u8, u8> {
+    let ids = ids_of(rt, &ABOUT, call, Ids::Plain, Ids::Doubled)?;
     if call.has("--example") {
         return Ok(check_example(rt));
     }
-    let words = [("plain", Ids::Plain), ("doubled", Ids::Doubled)];
-    let Some(ids) = call.choice("--ids", &words) else {
-        return Err(misused(rt, &ABOUT, "--ids takes plain or doubled"));
-    };
     let names = input_names(rt, &ABOUT, call)?;
     match call.value("--holds") {
         Some(holds) => check_piece(rt, names, holds, ids, call),
@@ -45,7 +36,7 @@ fn run(rt: &HostRuntime, call: &Call<'_>) -> Result<u8, u8> {
 }
 
 fn check_example(rt: &HostRuntime) -> u8 {
-    let (cnf, proof) = (EXAMPLE_FORMULA, EXAMPLE_PROOF);
+    let (cnf, proof) = (EXAMPLE_FORMULA, EXAMPLE_LRAT);
     let outcome = run_check(rt.alloc(), cnf, proof, None, &mut io::writer(rt), &mut None);
     say_cause(rt, &outcome);
     exit_status(&outcome)

@@ -10,7 +10,7 @@ mod files;
 
 use crate::about::ABOUT;
 use crate::files::{Form, convert_files};
-use command::{Call, InputNames, misused, run_program, unnamed};
+use command::{Call, InputNames, ids_of, misused, run_program, unnamed};
 use lrat_to_proof::{HashWidth, Ids};
 use std::process::ExitCode;
 
@@ -22,10 +22,7 @@ fn run(rt: &HostRuntime, call: &Call<'_>) -> Result<u8, u8> {
     let Some(width) = width_of(call) else {
         return Err(misused(rt, &ABOUT, "--width takes a number from 1 to 64"));
     };
-    let words = [("plain", Ids::Plain), ("doubled", Ids::Doubled)];
-    let Some(ids) = call.choice("--ids", &words) else {
-        return Err(misused(rt, &ABOUT, "--ids takes plain or doubled"));
-    };
+    let ids = ids_of(rt, &ABOUT, call, Ids::Plain, Ids::Doubled)?;
     match call.operands.as_slice() {
         [cnf, lrat, proof] => {
             let (cnf, other) = (cnf.as_str(), lrat.as_str());
