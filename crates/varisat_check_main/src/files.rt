@@ -1,9 +1,6 @@
 //! A proof, in a file.
 use crate::about::ABOUT;
-use command::{
-    Call, FaultPlace, InputNames, NOT_RUN, hold_file, open_inputs, progress_of, say_fault,
-    warn_of_header,
-};
+use command::{Call, FaultPlace, InputNames, open_and_hold, progress_of, say_end};
 use sat_formula::{DimacsFault, LyingHeader};
 use std::io;
 use varisat_check::{RunFault, Verdict, exit_status, run_check};
@@ -15,8 +12,7 @@ pub(crate) fn check_files(
     names: InputNames<'_>,
     call: &Call<'_>,
 ) -> Result<u8, u8> {
-    let (cnf, proof) = open_inputs(rt, names.cnf, names.other).ok_or(NOT_RUN)?;
-    let cnf = hold_file(rt, names, cnf, FaultPlace::Formula, unread_formula)?;
+    let (cnf, proof) = open_and_hold(rt, names, unread_formula)?;
     let progress = progress_of(rt, &ABOUT, call);
     let proof = proof.told(rt, &progress);
     let (log, out) = (progress.asked_log(), &mut io::writer(rt));
@@ -37,17 +33,14 @@ pub(crate) fn report(
     outcome: &Result<Verdict, RunFault>,
     lie: &Option<LyingHeader>,
 ) -> u8 {
-    if let Err(fault) = outcome {
-        say_fault(rt, names, fault, place_of(fault));
-    }
-    warn_of_header(rt, names.cnf, lie);
+    say_end(rt, names, outcome, place_of(outcome), lie);
     exit_status(outcome)
 }
 
-fn place_of(fault: &RunFault) -> FaultPlace<'static> {
-    match fault {
-        RunFault::Formula(_) => FaultPlace::Formula,
-        RunFault::Proof(_) => FaultPlace::Proof,
-        RunFault::Write(_) => FaultPlace::Elsewhere,
+fn place_of(outcome: &Result<Verdict, RunFault>) -> FaultPlace<'static> {
+    match outcome {
+        Err(RunFault::Formula(_)) => FaultPlace::Formula,
+        Err(RunFault::Proof(_)) => FaultPlace::Proof,
+        Ok(_) | Err(RunFault::Write(_)) => FaultPlace::Elsewhere,
     }
 }
