@@ -2,10 +2,12 @@
 //! verdict, its line, its exit status.
 #![tactic(auto)]
 
+mod line;
 mod piece;
 mod status;
 mod verdict;
 
-pub use piece::{PieceVerdict, piece_status, write_piece_line};
+pub use line::{write_line, write_piece_line};
+pub use piece::{PieceVerdict, piece_status};
 pub use status::exit_status;
-pub use verdict::{Verdict, write_line};
+pub use verdict::Verdict;

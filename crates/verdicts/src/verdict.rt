@@ -1,12 +1,8 @@
 //! Verdicts and their lines.
-ghost use Rattle.std.specs.Prelude.{Some, OnErr, OnOk};
-ghost use Rattle.std.specs.Io.KnownBytes.{Appends};
-ghost use Rattle.whole_writes.specs.Beginnings.{AppendsBeginning};
-ghost use Rattle.verdicts.specs.Verdicts.{line_of, shown_line};
+ghost use Rattle.std.specs.Prelude.{◌≡◌, Some};
+ghost use Rattle.verdicts.specs.Verdicts.{line_of, shown_line, verdict_of};
 
-use std::io::Write;
-use std::{fmt, io};
-use whole_writes::write_whole;
+use std::fmt;
 
 /// What a proof whose lines were all accepted has shown of its formula.
 #[derive(Clone, Copy, Debug, PartialEq, Eq)]
@@ -18,9 +14,6 @@ pub enum Verdict {
 }
 
 impl Verdict {
-    ghost use Rattle.std.specs.Prelude.{◌≡◌};
-    ghost use Rattle.verdicts.specs.Verdicts.{verdict_of};
-
     /// The verdict by whether the formula was refuted.
     pub fn of(refuted: bool) -> Verdict
         ensures { result ≡ verdict_of refuted }
@@ -53,16 +46,4 @@ impl fmt::Display for Verdict {
             Verdict::NotVerified => write!(f, "s NOT VERIFIED"),
         }
     }
-}
-
-/// Writes a verdict's line, also out of a writer's buffer.
-///
-/// After an error a beginning of the line is written: all of it, where only the flush failed.
-pub fn write_line<W: Write>(out: &mut W, verdict: Verdict) -> io::Result<()>
-    ensures whole { OnOk result
-        (Appends (W.contents out.old) (W.contents out.new) (shown_line verdict)) }
-    ensures beginning { OnErr result
-        (AppendsBeginning (W.contents out.old) (W.contents out.new) (shown_line verdict)) }
-{
-    write_whole(out, verdict.line())
 }
