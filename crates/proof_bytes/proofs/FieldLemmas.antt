@@ -1,15 +1,15 @@
 -- Fields, one after the other.
 use Rattle.std.proofs.Common.{◌≡◌, ℕ, zero, suc, ◌+◌, ◌-◌, ◌^◌, ◌<◌, ◌≤◌, List, [], ◌∷◌, ◌++◌, Ok, Err, cond, refl, sym, ap, ◌∙◌, arith, append_assoc, append-nil}
 use Rattle.std.proofs.lemmas.Bool.{lt-ltb, le-ltb}
-use Rattle.std.specs.Prelude.{SomeIff, Option, Some, None, if◌then◌else◌, nat_lt}
+use Rattle.std.specs.Prelude.{SomeIff, Option, Some, None, ok_or, if◌then◌else◌, nat_lt}
 use Rattle.proof_bytes.specs.declared.fault.MalformedStep.TheVariants.{OutOfRange}
 use Rattle.proof_bytes.specs.declared.fault.Stop.{Stop}
 use Rattle.proof_bytes.specs.declared.fault.Stop.TheVariants as faults
 use Rattle.proof_bytes.specs.Reading.{Wrong, Found, ◌>>=◌, number_at}
 use Rattle.proof_bytes.specs.Fields.{below_at, named, justified, made_at, pair_at, many_at, list_at}
 use Rattle.checker_rules.specs.Step.{by_simplified}
-use Rattle.proof_bytes.specs.Taking.{Leads, Faults}
-use Rattle.proof_bytes.proofs.Leading.{Known, leads_bind, leads_same, then_leads, faults_bind, then_faults, wrong}
+use Rattle.proof_bytes.specs.Taking.{Leads, Faults, ReadsOr}
+use Rattle.proof_bytes.proofs.Leading.{Known, leads_bind, leads_same, then_leads, faults_bind, then_faults, wrong, malformed}
 
 -- ---- a number below a limit
 
@@ -34,6 +34,12 @@ module _ {a b : Known} (limit n : ℕ) (read : Leads a b number_at (λ more. Ok 
 
   pub below_wrong : limit ≤ n → Faults a b (faults.Malformed OutOfRange) (below_at limit)
   below_wrong le = wrong OutOfRange (leads_same _ below (λ more. ap (λ c. cond c (Ok (n, more)) (Err (Wrong OutOfRange))) (le-ltb n limit le)))
+
+  -- what is made of such numbers alone
+  pub below_or : {X : Type 0} (P : Type 0) (seen : X → ℕ) (shown : Option X → Option ℕ) → shown None ≡ None → ((x : X) → shown (Some x) ≡ Some (seen x)) →
+      (made : Option X) → SomeIff (shown made) (n < limit) n → ReadsOr P seen a b (ok_or made (faults.Malformed OutOfRange)) (below_at limit)
+  below_or P seen shown none some None h = malformed (below_wrong (omega (arith, rw none at h)))
+  below_or P seen shown none some (Some x) h = let p = rw (some x) at h in rw p.1 (below_ok p.0)
 
 -- ---- a field seen otherwise, and a pair
 

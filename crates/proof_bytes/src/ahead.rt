@@ -132,7 +132,7 @@ pub(crate) fn hashes_ahead(
 /// The hash that the bytes begin with, and how many bytes spell it. None where fewer bytes are
 /// there than the longest has, where it is a short number, and where they begin with none.
 #[inline(always)]
-fn hash_ahead(bytes: &[u8], format: Format) -> Option<(ClauseHash, usize)>
+pub(crate) fn hash_ahead(bytes: &[u8], format: Format) -> Option<(ClauseHash, usize)>
     requires { IsFormat format }
     ensures bytes { IsBytes bytes.now }
     ensures within { IfSome result (λ r. r.1 ≤ length bytes.now) }
@@ -151,7 +151,7 @@ const TOPS: u64 = 0x8080_8080_8080_8080;
 /// The number that the bytes begin with, and how many bytes spell it, where that is nine or ten.
 /// None elsewhere.
 #[inline(always)]
-pub(crate) fn long_number_ahead(bytes: &[u8]) -> Option<(u64, usize)>
+fn long_number_ahead(bytes: &[u8]) -> Option<(u64, usize)>
     ensures bytes { IsBytes bytes.now }
     ensures within { IfSome result (λ r. r.1 ≤ length bytes.now) }
     ensures read { IfSome result (λ r.
@@ -201,7 +201,7 @@ fn joined_groups(groups: u64) -> u64
 /// A number of this many bits, in whole bytes with the low one first, and how many bytes spell it.
 /// None where fewer than eight bytes are there, and where the number has more bits.
 #[inline(always)]
-pub(crate) fn wide_ahead(bytes: &[u8], width: u32) -> Option<(u64, usize)>
+fn wide_ahead(bytes: &[u8], width: u32) -> Option<(u64, usize)>
     requires { (0 < width) × (width ≤ 64) }
     ensures bytes { IsBytes bytes.now }
     ensures within { IfSome result (λ r. r.1 ≤ length bytes.now) }

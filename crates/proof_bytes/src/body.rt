@@ -1,5 +1,5 @@
 //! A step, read into lists.
-ghost use Rattle.std.specs.Prelude.{◌≡◌, ◌^◌, IfOk};
+ghost use Rattle.std.specs.Prelude.{◌≡◌, ◌^◌, ℕ, Option, IfOk};
 
 use crate::fault::{MalformedStep, ProofFault, Stop};
 use crate::fields::Fields;
@@ -39,8 +39,9 @@ pub(crate) struct BodyReader<R> {
 }
 
 impl<R: Read> BodyReader<R> {
-    ghost use Rattle.checker_rules.specs.Step.{solver_var_name, user_var_name, delete_var, change_sampling_mode, add_clause, at_clause, delete_clause, unit_clauses, change_hash_bits, model, assumptions, failed_assumptions};
-    ghost use Rattle.proof_bytes.specs.Bodies.{unread_body, step_of, Fills};
+    ghost use Rattle.sat_formula.specs.Vars.{index_of, indexes_of};
+    ghost use Rattle.checker_rules.specs.Step.{Step, solver_var_name, user_var_name, delete_var, change_sampling_mode, at_clause, delete_clause, unit_clauses, change_hash_bits, failed_assumptions};
+    ghost use Rattle.proof_bytes.specs.Bodies.{unread_body, step_of, step_with, Fills};
     ghost use Rattle.proof_bytes.specs.NextStep.{view};
     ghost use Rattle.proof_bytes.specs.Steps.{tag_at, next_at, fields_at, one_field, two_fields, three_fields};
     ghost use Rattle.proof_bytes.specs.Fields.{var_at, name_at, flag_at, justification_at, lits_at, hashes_at, unit_at, list_at, below_at};
@@ -164,13 +165,13 @@ impl<R: Read> BodyReader<R> {
             tag::USER_VAR_NAME => self.user_var_name(),
             tag::DELETE_VAR => self.delete_var(),
             tag::CHANGE_SAMPLING_MODE => self.change_sampling_mode(),
-            tag::ADD_CLAUSE => self.add_clause(),
+            tag::ADD_CLAUSE => self.with_lits(Head::AddClause),
             tag::AT_CLAUSE => self.at_clause(format),
             tag::DELETE_CLAUSE => self.delete_clause(),
             tag::UNIT_CLAUSES => self.unit_clauses(format),
             tag::CHANGE_HASH_BITS => self.change_hash_bits(),
-            tag::MODEL => self.model(),
-            tag::ASSUMPTIONS => self.assumptions(),
+            tag::MODEL => self.with_lits(Head::Model),
+            tag::ASSUMPTIONS => self.with_lits(Head::Assumptions),
             tag::FAILED_ASSUMPTIONS => self.failed_assumptions(format),
             tag::END => Ok(Head::End),
             _ => Err(Stop::Malformed(MalformedStep::UnknownTag)),
@@ -181,8 +182,7 @@ impl<R: Read> BodyReader<R> {
         ensures { Fills R.remaining (λ h. step_of h self.new) self.old self.new result
             (two_fields var_at name_at solver_var_name) }
     {
-        let global = self.fields.var()?;
-        let solver = self.fields.name()?;
+        let (global, solver) = self.naming()?;
         Ok(Head::SolverVarName { global, solver })
     }
 
@@ -190,9 +190,19 @@ impl<R: Read> BodyReader<R> {
         ensures { Fills R.remaining (λ h. step_of h self.new) self.old self.new result
             (two_fields var_at name_at user_var_name) }
     {
-        let global = self.fields.var()?;
-        let user = self.fields.name()?;
+        let (global, user) = self.naming()?;
         Ok(Head::UserVarName { global, user })
+    }
+
+    /// A variable and its name, whichever step they make.
+    fn naming(&mut self) -> Result<(Var, Option<Var>), Stop>
+        ensures { (make : ℕ → Option ℕ → Step) → Fills R.remaining
+            (λ names. make (index_of names.0) (indexes_of names.1)) self.old self.new result
+            (two_fields var_at name_at make) }
+    {
+        let global = self.fields.var()?;
+        let name = self.fields.name()?;
+        Ok((global, name))
     }
 
     fn delete_var(&mut self) -> Result<Head, Stop>
@@ -212,14 +222,6 @@ impl<R: Read> BodyReader<R> {
         Ok(Head::ChangeSamplingMode { var, sample })
     }
 
-    fn add_clause(&mut self) -> Result<Head, Stop>
-        ensures { Fills R.remaining (λ h. step_of h self.new) self.old self.new result
-            (one_field lits_at add_clause) }
-    {
-        self.fields.lits(&mut self.lits)?;
-        Ok(Head::AddClause)
-    }
-
     #[inline(always)]
     fn at_clause(&mut self, format: Format) -> Result<Head, Stop>
         requires { IsFormat format }
@@ -228,8 +230,7 @@ impl<R: Read> BodyReader<R> {
     {
         let redundant = self.fields.flag()?;
         self.fields.lits(&mut self.lits)?;
-        self.fields.hashes(&mut self.hashes, format)?;
-        Ok(Head::AtClause { redundant })
+        self.with_hashes(Head::AtClause { redundant }, format)
     }
 
     #[inline(always)]
@@ -238,8 +239,7 @@ impl<R: Read> BodyReader<R> {
             (two_fields justification_at lits_at delete_clause) }
     {
         let proof = self.fields.justification()?;
-        self.fields.lits(&mut self.lits)?;
-        Ok(Head::DeleteClause { proof })
+        self.with_lits(Head::DeleteClause { proof })
     }
 
     fn unit_clauses(&mut self, format: Format) -> Result<Head, Stop>
@@ -259,29 +259,34 @@ impl<R: Read> BodyReader<R> {
         Ok(Head::ChangeHashBits { bits: bits as u32 })
     }
 
-    fn model(&mut self) -> Result<Head, Stop>
-        ensures { Fills R.remaining (λ h. step_of h self.new) self.old self.new result
-            (one_field lits_at model) }
-    {
-        self.fields.lits(&mut self.lits)?;
-        Ok(Head::Model)
-    }
-
-    fn assumptions(&mut self) -> Result<Head, Stop>
-        ensures { Fills R.remaining (λ h. step_of h self.new) self.old self.new result
-            (one_field lits_at assumptions) }
-    {
-        self.fields.lits(&mut self.lits)?;
-        Ok(Head::Assumptions)
-    }
-
     fn failed_assumptions(&mut self, format: Format) -> Result<Head, Stop>
         requires { IsFormat format }
         ensures { Fills R.remaining (λ h. step_of h self.new) self.old self.new result
             (two_fields lits_at (hashes_at format) failed_assumptions) }
     {
         self.fields.lits(&mut self.lits)?;
+        self.with_hashes(Head::FailedAssumptions, format)
+    }
+
+    /// Reads the literals that end the step of this head.
+    #[inline(always)]
+    fn with_lits(&mut self, head: Head) -> Result<Head, Stop>
+        ensures { Fills R.remaining (λ h. step_of h self.new) self.old self.new result (one_field
+            lits_at (λ lits. step_with head lits self.old.hashes.items self.old.units.items)) }
+    {
+        self.fields.lits(&mut self.lits)?;
+        Ok(head)
+    }
+
+    /// Reads the hashes that end the step of this head.
+    #[inline(always)]
+    fn with_hashes(&mut self, head: Head, format: Format) -> Result<Head, Stop>
+        requires { IsFormat format }
+        ensures { Fills R.remaining (λ h. step_of h self.new) self.old self.new result (one_field
+            (hashes_at format)
+            (λ hashes. step_with head self.old.lits.items hashes self.old.units.items)) }
+    {
         self.fields.hashes(&mut self.hashes, format)?;
-        Ok(Head::FailedAssumptions)
+        Ok(head)
     }
 }

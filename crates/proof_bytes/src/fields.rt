@@ -1,7 +1,7 @@
 //! The fields of steps, read one after the other.
 ghost use Rattle.std.specs.Prelude.{◌≡◌, ◌<◌, ◌≤◌, ◌^◌, IfOk};
 
-use crate::ahead::{hashes_ahead, lits_ahead, long_number_ahead, number_ahead, wide_ahead};
+use crate::ahead::{hash_ahead, hashes_ahead, lits_ahead, number_ahead};
 use crate::fault::{MalformedStep, ProofFault, Stop};
 use crate::format::{Format, fits_width};
 use crate::hash::ClauseHash;
@@ -66,20 +66,6 @@ impl<R: Read> Fields<R> {
         }
     }
 
-    /// Reads a number of which nine or ten bytes are likely.
-    #[inline(always)]
-    fn long_number(&mut self) -> Result<u64, Stop>
-        ensures { Reads R.remaining (λ n. n) self.old self.new result number_at }
-    {
-        match long_number_ahead(self.source.ahead()) {
-            Some((value, len)) => {
-                self.source.take_ahead(len);
-                Ok(value)
-            }
-            None => self.number_by_bytes(),
-        }
-    }
-
     /// Reads a number, a byte at a time.
     #[inline(never)]
     fn number_by_bytes(&mut self) -> Result<u64, Stop>
@@ -127,20 +113,14 @@ impl<R: Read> Fields<R> {
         ensures { Reads R.remaining (λ l. l) self.old self.new result lit_at }
     {
         let code = self.number()?;
-        match Lit::from_code(code as usize) {
-            Some(lit) => Ok(lit),
-            None => Err(Stop::Malformed(MalformedStep::OutOfRange)),
-        }
+        Lit::from_code(code as usize).ok_or(Stop::Malformed(MalformedStep::OutOfRange))
     }
 
     pub(crate) fn var(&mut self) -> Result<Var, Stop>
         ensures { Reads R.remaining index_of self.old self.new result var_at }
     {
         let index = self.number()?;
-        match Var::from_index(index as usize) {
-            Some(var) => Ok(var),
-            None => Err(Stop::Malformed(MalformedStep::OutOfRange)),
-        }
+        Var::from_index(index as usize).ok_or(Stop::Malformed(MalformedStep::OutOfRange))
     }
 
     pub(crate) fn name(&mut self) -> Result<Option<Var>, Stop>
@@ -168,20 +148,6 @@ impl<R: Read> Fields<R> {
             0 => Ok(DeleteClauseProof::Redundant),
             1 => Ok(DeleteClauseProof::Satisfied),
             _ => Ok(DeleteClauseProof::Simplified),
-        }
-    }
-
-    #[inline(always)]
-    fn wide(&mut self, width: u32) -> Result<ClauseHash, Stop>
-        requires { (0 < width) × (width ≤ 64) }
-        ensures { Reads R.remaining (λ n. n) self.old self.new result (wide_at width) }
-    {
-        match wide_ahead(self.source.ahead(), width) {
-            Some((value, len)) => {
-                self.source.take_ahead(len);
-                Ok(value)
-            }
-            None => self.wide_by_bytes(width),
         }
     }
 
@@ -213,9 +179,22 @@ impl<R: Read> Fields<R> {
         requires { IsFormat format }
         ensures { Reads R.remaining (λ n. n) self.old self.new result (hash_at format) }
     {
+        match hash_ahead(self.source.ahead(), format) {
+            Some((hash, len)) => {
+                self.source.take_ahead(len);
+                Ok(hash)
+            }
+            None => self.hash_by_bytes(format),
+        }
+    }
+
+    fn hash_by_bytes(&mut self, format: Format) -> Result<ClauseHash, Stop>
+        requires { IsFormat format }
+        ensures { Reads R.remaining (λ n. n) self.old self.new result (hash_at format) }
+    {
         match format {
-            Format::Bytes { width } => self.wide(width),
-            _ => self.long_number(),
+            Format::Bytes { width } => self.wide_by_bytes(width),
+            _ => self.number_by_bytes(),
         }
     }
 

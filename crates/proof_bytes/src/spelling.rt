@@ -58,14 +58,23 @@ fn push_fields(out: &mut Vec<u8>, format: Format, step: &ProofStep) -> Result<()
         ProofStep::SolverVarName { global, solver } => push_naming(out, global, solver),
         ProofStep::UserVarName { global, user } => push_naming(out, global, user),
         ProofStep::DeleteVar { var } => push_var(out, var),
-        ProofStep::ChangeSamplingMode { var, sample } => push_mode(out, var, sample),
+        ProofStep::ChangeSamplingMode { var, sample } => {
+            push_var(out, var)?;
+            push_flag(out, sample)
+        }
         ProofStep::AddClause { clause } => push_lits(out, clause),
         ProofStep::AtClause {
             redundant,
             clause,
             propagation_hashes,
-        } => push_at_clause(out, format, redundant, clause, propagation_hashes),
-        ProofStep::DeleteClause { clause, proof } => push_deletion(out, clause, proof),
+        } => {
+            push_flag(out, redundant)?;
+            push_check(out, format, clause, propagation_hashes)
+        }
+        ProofStep::DeleteClause { clause, proof } => {
+            push_justification(out, proof)?;
+            push_lits(out, clause)
+        }
         ProofStep::UnitClauses { units } => push_units(out, format, units),
         ProofStep::ChangeHashBits { bits } => push_number(out, bits as u64),
         ProofStep::Model { assignment } => push_lits(out, assignment),
@@ -88,35 +97,6 @@ fn push_naming(out: &mut Vec<u8>, global: Var, named: Option<Var>) -> Result<(),
     push_name(out, named)
 }
 
-fn push_mode(out: &mut Vec<u8>, var: Var, sample: bool) -> Result<(), AllocError>
-    ensures ok { OnOk result (out.new.items
-        ≡ out.old.items ++ (number (index_of var) ++ number (flag sample))) }
-    ensures fits { index_of var < 2 ^ 28 }
-    ensures grows { Grows out.old.items out.new.items }
-{
-    push_var(out, var)?;
-    push_flag(out, sample)
-}
-
-fn push_at_clause(
-    out: &mut Vec<u8>,
-    format: Format,
-    redundant: bool,
-    clause: &[Lit],
-    hashes: &[ClauseHash],
-) -> Result<(), AllocError>
-    requires in_force { IsFormat format }
-    requires narrow { all_fit format hashes.now ≡ true }
-    ensures ok { OnOk result (out.new.items
-        ≡ out.old.items ++ (number (flag redundant) ++
-        (numbers clause.now ++ listed (hash format) hashes.now))) }
-    ensures fits { OnOk result (AreLits clause.now × AreHashes format hashes.now) }
-    ensures grows { Grows out.old.items out.new.items }
-{
-    push_flag(out, redundant)?;
-    push_check(out, format, clause, hashes)
-}
-
 fn push_check(
     out: &mut Vec<u8>,
     format: Format,
@@ -132,20 +112,6 @@ fn push_check(
 {
     push_lits(out, lits)?;
     push_hashes(out, format, hashes)
-}
-
-fn push_deletion(
-    out: &mut Vec<u8>,
-    clause: &[Lit],
-    proof: DeleteClauseProof,
-) -> Result<(), AllocError>
-    ensures ok { OnOk result (out.new.items
-        ≡ out.old.items ++ (number (justification (why proof)) ++ numbers clause.now)) }
-    ensures fits { OnOk result (AreLits clause.now) }
-    ensures grows { Grows out.old.items out.new.items }
-{
-    push_justification(out, proof)?;
-    push_lits(out, clause)
 }
 
 fn push_flag(out: &mut Vec<u8>, b: bool) -> Result<(), AllocError>

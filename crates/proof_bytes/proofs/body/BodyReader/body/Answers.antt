@@ -22,7 +22,7 @@ returns-in-4 g c = rw c.in-4.is c.change_sampling_mode.ensures
 
 pub returns-in-5 : goal.returns-in-5
 unfolding fields_at
-returns-in-5 g c = rw c.in-5.is c.add_clause.ensures
+returns-in-5 g c = rw c.in-5.is c.with_lits.ensures
 
 pub returns-in-6 : goal.returns-in-6
 unfolding fields_at
@@ -42,11 +42,11 @@ returns-in-9 g c = rw c.in-9.is c.change_hash_bits.ensures
 
 pub returns-in-10 : goal.returns-in-10
 unfolding fields_at
-returns-in-10 g c = rw c.in-10.is c.model.ensures
+returns-in-10 g c = rw c.in-10.is c.with_lits-in-10.ensures
 
 pub returns-in-11 : goal.returns-in-11
 unfolding fields_at
-returns-in-11 g c = rw c.in-11.is c.assumptions.ensures
+returns-in-11 g c = rw c.in-11.is c.with_lits-in-11.ensures
 
 pub returns-in-12 : goal.returns-in-12
 unfolding fields_at

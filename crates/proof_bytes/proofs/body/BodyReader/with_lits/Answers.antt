@@ -1,6 +1,6 @@
 use Rattle.proof_bytes.proofs.Leading.{exits_by, leads_nil}
 use Rattle.proof_bytes.proofs.StepFields.{only_fails, only_read}
-use Rattle.proof_bytes.proofs.body.BodyReader.add_clause.Goals as goal
+use Rattle.proof_bytes.proofs.body.BodyReader.with_lits.Goals as goal
 
 pub returns-in_err-lits : goal.returns-in_err-lits
 returns-in_err-lits g c = exits_by _ _ c.from_residual.ensures.1 (only_fails _ (leads_nil _ _)) c.in_err-lits.ensures
