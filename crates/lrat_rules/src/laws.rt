@@ -1,12 +1,7 @@
 //! Laws over the definitions alone. Each function does nothing: its clause is the law.
-ghost use Rattle.lrat_rules.specs.Counts.{CountsCover};
-ghost use Rattle.lrat_rules.specs.FurtherLratRows.{FurtherLratRows};
-ghost use Rattle.lrat_rules.specs.Laws.{LinesKeepModels, RatResolves, RunsJoin, RunsKeepModels, RupRunsFollow};
-ghost use Rattle.lrat_rules.specs.Lines.{RunsRefute};
-ghost use Rattle.lrat_rules.specs.LratRows.{LratRows};
-ghost use Rattle.lrat_rules.specs.Maps.{AdmittedIsRup, MapDecides, MetByMap};
-ghost use Rattle.lrat_rules.specs.Refusals.{CausesAreExact};
-ghost use Rattle.lrat_rules.specs.Tables.{TablesDecide};
+ghost use Rattle.lrat_rules.specs.{Laws.LinesKeepModels, Laws.RatResolves, Laws.RunsJoin, Laws.RunsKeepModels, Laws.RupRunsFollow, Lines.RunsRefute, Refusals.CausesAreExact};
+ghost use Rattle.lrat_rules.specs.{Counts.CountsCover, Maps.AdmittedIsRup, Maps.MapDecides, Maps.MetByMap, Tables.TablesDecide};
+ghost use Rattle.lrat_rules.specs.{FurtherLratRows.FurtherLratRows, LratRows.LratRows};
 
 /// A clause added by propagation is true under every model, and an accepted line keeps
 /// satisfiability.
