@@ -58,6 +58,17 @@ impl Write for Page {
 /// What a run writes, the text of its fault, and its exit status.
 pub type Outcome<'a> = (&'a str, &'a str, u8);
 
+/// The outcome of a run that tells this: a line with a verdict, or the text of a fault.
+pub fn outcome_of(told: &str) -> Outcome<'_> {
+    if told.starts_with("s NOT ") {
+        (told, "", 3)
+    } else if told.starts_with("s ") {
+        (told, "", 0)
+    } else {
+        ("", told, 1)
+    }
+}
+
 /// How a run ended.
 #[derive(Drop)]
 pub struct Ended {

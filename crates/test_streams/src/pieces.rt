@@ -3,7 +3,7 @@ use std::io;
 use std::io::{ErrorKind, Read};
 
 /// Gives this many bytes a read, and may fail one of its reads.
-#[derive(Clone, Copy)]
+#[derive(Clone, Copy, Debug)]
 pub struct Pieces<'a> {
     rest: &'a [u8],
     size: usize,
@@ -35,12 +35,14 @@ impl Pieces<'_> {
 
     /// One byte a read, and after the last one a read that fails so.
     pub fn broken(bytes: &[u8], kind: ErrorKind) -> Pieces<'_> {
-        Pieces {
-            rest: bytes,
-            size: 1,
-            failing: bytes.len().saturating_add(1),
-            kind,
-        }
+        Pieces::broken_at(bytes, bytes.len().saturating_add(1), kind)
+    }
+
+    /// One byte a read, and the read of this number, counted from 1, fails so.
+    pub fn broken_at(bytes: &[u8], failing: usize, kind: ErrorKind) -> Pieces<'_> {
+        let mut pieces = Pieces::failing_at(bytes, 1, failing);
+        pieces.kind = kind;
+        pieces
     }
 }
 
