@@ -10,7 +10,7 @@ fn show(shown: &mut Shown, alloc: Global, reader: &mut DimacsReader<Pieces<'_>>,
     let mut lits: Vec<Lit> = Vec::new(alloc);
     for _ in 0..calls {
         match reader.next_clause(&mut lits) {
-            Ok(true) => show_clause(shown, &lits),
+            Ok(true) => shown.clause(&lits),
             Ok(false) => {
                 shown.words("end");
                 break;
@@ -22,15 +22,6 @@ fn show(shown: &mut Shown, alloc: Global, reader: &mut DimacsReader<Pieces<'_>>,
             }
         }
     }
-}
-
-fn show_clause(shown: &mut Shown, lits: &[Lit]) {
-    shown.words("[");
-    for lit in lits {
-        shown.signed("", lit.to_dimacs());
-        shown.words(" ");
-    }
-    shown.words("]");
 }
 
 /// Texts with their answers, each beside the number of bytes with which it is known; one more than

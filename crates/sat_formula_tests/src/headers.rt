@@ -78,7 +78,6 @@ fn headers(rt: HostRuntime) {
 #[test]
 fn text_of_a_lying_header(rt: HostRuntime) {
     let lie = lying_header(&rt, rt.alloc(), b"p cnf 1 3\n1 2 0\n", 64).expect(&rt, "a lie");
-    let mut shown = Shown::new(rt.alloc());
-    shown.value(&lie);
+    let shown = Shown::of(rt.alloc(), &lie);
     assert_eq!(rt; shown.text(), "p cnf 1 3, but what was read is p cnf 2 1");
 }
