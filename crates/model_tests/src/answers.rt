@@ -94,16 +94,16 @@ const BROKEN: [BrokenRow; 3] = [
 ];
 
 /// What is shown of these bytes as they are read.
-fn is_shown(rt: &impl Abort, alloc: Global, bytes: &[u8], answer: Pieces<'_>, text: &str) {
+fn is_shown(rt: &impl Abort, alloc: Global, answer: Pieces<'_>, text: &str) {
     let mut shown = Shown::new(alloc);
     show(&mut shown, read_answer(alloc, answer));
-    assert_eq!(rt; shown.text(), text, "{bytes:?}");
+    assert_eq!(rt; shown.text(), text, "{answer:?}");
 }
 
 fn hold(rt: &impl Abort, alloc: Global, rows: &[Row]) {
     for (bytes, text) in rows {
         for size in [1, 2, 7, 4096] {
-            is_shown(rt, alloc, bytes, Pieces::of_size(bytes, size), text);
+            is_shown(rt, alloc, Pieces::of_size(bytes, size), text);
         }
     }
 }
@@ -115,7 +115,7 @@ fn answers(rt: HostRuntime) {
     hold(&rt, rt.alloc(), &FAULTS);
     for (bytes, failing, text) in &BROKEN {
         let answer = Pieces::failing_at(bytes, 6, *failing);
-        is_shown(&rt, rt.alloc(), bytes, answer, text);
+        is_shown(&rt, rt.alloc(), answer, text);
     }
 }
 
