@@ -12,8 +12,6 @@ const TEXTS: [(MalformedStep, &str); 3] = [
 
 pub fn have_texts(rt: &impl Abort, alloc: Global) {
     for (kind, text) in &TEXTS {
-        let mut shown = Shown::new(alloc);
-        shown.value(kind);
-        assert_eq!(rt; shown.text(), *text);
+        assert_eq!(rt; Shown::of(alloc, kind).text(), *text);
     }
 }

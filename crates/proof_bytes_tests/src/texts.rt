@@ -1,10 +1,11 @@
 //! Worked texts: their steps, and the fault after them.
-use crate::reading::{Cuts, Fault, gives};
-use crate::writing::{KINDS, WRITTEN};
+use crate::reading::{Fault, gives};
+use crate::writing::WRITTEN;
 use proof_bytes::MalformedStep;
 use std::alloc::{AllocError, Global};
 use std::io::ErrorKind;
 use std::process::Abort;
+use test_streams::Pieces;
 
 const END: Fault = Fault::End;
 
@@ -20,7 +21,7 @@ const OUT_OF_RANGE: Fault = Fault::Malformed(MalformedStep::OutOfRange);
 type Row = (&'static [u8], &'static [u8], u32, Fault);
 
 #[rattlefmt::skip]
-const TEXTS: [Row; 42] = [
+const TEXTS: [Row; 41] = [
     // version 1
     (b"", b"", 0, END),
     (b"\x0D", b"\x0D", 1, END),
@@ -51,7 +52,6 @@ const TEXTS: [Row; 42] = [
     (b"\x0C\x01\x00\x00", b"\x0C\x01\x00\x00", 1, END),
     (b"\x02\x00\x00", b"\x02\x00\x00", 1, END),
     (b"\x02\x00\x05", b"\x02\x00\x05", 1, END),
-    (&KINDS, &KINDS, 18, END),
     // version 2
     (b"\x00", b"", 0, END),
     (b"\x00\x01", b"", 0, UNKNOWN_TAG),
@@ -74,15 +74,15 @@ const TEXTS: [Row; 42] = [
 
 /// Whether a text gives these steps, then this fault, and then the end; with all bytes at once, and
 /// with one a read.
-fn is_read(
+pub fn is_read(
     alloc: Global,
     text: &[u8],
     steps: &[u8],
     count: u32,
     fault: Fault,
 ) -> Result<bool, AllocError> {
-    let whole = gives(alloc, Cuts::of_size(text, usize::MAX), steps, count, fault)?;
-    let bytewise = gives(alloc, Cuts::of_size(text, 1), steps, count, fault)?;
+    let whole = gives(alloc, Pieces::whole(text), steps, count, fault)?;
+    let bytewise = gives(alloc, Pieces::of_size(text, 1), steps, count, fault)?;
     Ok(whole && bytewise)
 }
 
@@ -130,7 +130,11 @@ pub fn are_cut(rt: &impl Abort, alloc: Global) -> Result<(), AllocError> {
         let steps = &TWO_CHECKS[..(*end).min(16)];
         let beginning = &TWO_CHECKS[..len];
         assert!(rt; is_read(alloc, beginning, steps, *count, END)?, "{len}");
-        let failing = Cuts::failing_after(&TWO_CHECKS, len);
+        let failing = Pieces::broken_at(
+            &TWO_CHECKS,
+            len.saturating_add(1),
+            ErrorKind::UnexpectedEof,
+        );
         assert!(rt; gives(alloc, failing, steps, *count, UNREAD)?, "{len}");
     }
     Ok(())

@@ -1,4 +1,6 @@
 //! Steps of each kind and numbers of each length, written and read.
+use crate::reading::Fault;
+use crate::texts;
 use proof_bytes::{
     ClauseHash, DeleteClauseProof, ProofStep, ProofWriter, StepReader, WriteFault, write_step,
 };
@@ -59,27 +61,26 @@ pub fn numbers(rt: &impl Abort, alloc: Global) -> Result<(), AllocError> {
     hold(rt, alloc, &NUMBERS)
 }
 
-/// A step of each kind and each form of its fields, a line each.
-#[rattlefmt::skip]
-pub const KINDS: [u8; 90] = [
-    0x01, 0x00, 0x80, 0x80, 0x80, 0x80, 0x01,
-    0x01, 0xFF, 0xFF, 0xFF, 0x7F, 0x00,
-    0x02, 0xFF, 0xFF, 0xFF, 0x7F, 0x01,
-    0x02, 0x00, 0x00,
-    0x03, 0xFF, 0xFF, 0xFF, 0x7F,
-    0x04, 0x00, 0x01,
-    0x04, 0x00, 0x00,
-    0x05, 0x03, 0xFF, 0xFF, 0xFF, 0xFF, 0x01, 0x00, 0x00,
-    0x06, 0x01, 0x01, 0x00, 0x02, 0xAC, 0x02, 0x00,
-    0x07, 0x00, 0x02, 0x00, 0x00,
-    0x07, 0x01, 0x01, 0x00,
-    0x07, 0x02, 0x00,
-    0x08, 0x02, 0x00, 0x80, 0x01, 0xFF, 0xFF, 0xFF, 0xFF, 0x01, 0x01,
-    0x09, 0xFF, 0xFF, 0xFF, 0xFF, 0x0F,
-    0x0A, 0x01, 0x00,
-    0x0B, 0x00,
-    0x0C, 0x01, 0x00, 0x01, 0x07,
-    0x0D,
+/// A step of each kind and each form of its fields.
+const KINDS: [&[u8]; 18] = [
+    b"\x01\x00\x80\x80\x80\x80\x01",
+    b"\x01\xFF\xFF\xFF\x7F\x00",
+    b"\x02\xFF\xFF\xFF\x7F\x01",
+    b"\x02\x00\x00",
+    b"\x03\xFF\xFF\xFF\x7F",
+    b"\x04\x00\x01",
+    b"\x04\x00\x00",
+    b"\x05\x03\xFF\xFF\xFF\xFF\x01\x00\x00",
+    b"\x06\x01\x01\x00\x02\xAC\x02\x00",
+    b"\x07\x00\x02\x00\x00",
+    b"\x07\x01\x01\x00",
+    b"\x07\x02\x00",
+    b"\x08\x02\x00\x80\x01\xFF\xFF\xFF\xFF\x01\x01",
+    b"\x09\xFF\xFF\xFF\xFF\x0F",
+    b"\x0A\x01\x00",
+    b"\x0B\x00",
+    b"\x0C\x01\x00\x01\x07",
+    b"\x0D",
 ];
 
 /// What steps are over: two variables, lists of literals, and a list of units.
@@ -93,34 +94,32 @@ struct Given<'a> {
     units: &'a [(Lit, ClauseHash)],
 }
 
+fn solver_name<'a>(global: Var, solver: Option<Var>) -> ProofStep<'a> {
+    ProofStep::SolverVarName { global, solver }
+}
+
+fn user_name<'a>(global: Var, user: Option<Var>) -> ProofStep<'a> {
+    ProofStep::UserVarName { global, user }
+}
+
+fn sampling<'a>(var: Var, sample: bool) -> ProofStep<'a> {
+    ProofStep::ChangeSamplingMode { var, sample }
+}
+
+fn deletion<'a>(clause: &'a [Lit], proof: DeleteClauseProof) -> ProofStep<'a> {
+    ProofStep::DeleteClause { clause, proof }
+}
+
 /// The step of these kinds at a place.
 fn kind_at<'a>(place: usize, given: Given<'a>) -> ProofStep<'a> {
     match place {
-        0 => ProofStep::SolverVarName {
-            global: given.first,
-            solver: Some(given.last),
-        },
-        1 => ProofStep::SolverVarName {
-            global: given.last,
-            solver: None,
-        },
-        2 => ProofStep::UserVarName {
-            global: given.last,
-            user: Some(given.first),
-        },
-        3 => ProofStep::UserVarName {
-            global: given.first,
-            user: None,
-        },
+        0 => solver_name(given.first, Some(given.last)),
+        1 => solver_name(given.last, None),
+        2 => user_name(given.last, Some(given.first)),
+        3 => user_name(given.first, None),
         4 => ProofStep::DeleteVar { var: given.last },
-        5 => ProofStep::ChangeSamplingMode {
-            var: given.first,
-            sample: true,
-        },
-        6 => ProofStep::ChangeSamplingMode {
-            var: given.first,
-            sample: false,
-        },
+        5 => sampling(given.first, true),
+        6 => sampling(given.first, false),
         7 => ProofStep::AddClause {
             clause: given.three,
         },
@@ -129,18 +128,9 @@ fn kind_at<'a>(place: usize, given: Given<'a>) -> ProofStep<'a> {
             clause: given.one,
             propagation_hashes: &[300, 0],
         },
-        9 => ProofStep::DeleteClause {
-            clause: given.two,
-            proof: DeleteClauseProof::Redundant,
-        },
-        10 => ProofStep::DeleteClause {
-            clause: given.one,
-            proof: DeleteClauseProof::Satisfied,
-        },
-        11 => ProofStep::DeleteClause {
-            clause: &[],
-            proof: DeleteClauseProof::Simplified,
-        },
+        9 => deletion(given.two, DeleteClauseProof::Redundant),
+        10 => deletion(given.one, DeleteClauseProof::Satisfied),
+        11 => deletion(&[], DeleteClauseProof::Simplified),
         12 => ProofStep::UnitClauses { units: given.units },
         13 => ProofStep::ChangeHashBits { bits: u32::MAX },
         14 => ProofStep::Model {
@@ -155,16 +145,23 @@ fn kind_at<'a>(place: usize, given: Given<'a>) -> ProofStep<'a> {
     }
 }
 
-/// Writes the step of each kind.
-fn write_kinds(out: &mut Vec<u8>, given: Given<'_>) -> Result<(), AllocError> {
-    for place in 0..18usize {
-        write_step(out, &kind_at(place, given))?;
+/// Appends the step of each kind, whose bytes are these.
+fn write_kinds(
+    rt: &impl Abort,
+    alloc: Global,
+    out: &mut Vec<u8>,
+    given: Given<'_>,
+) -> Result<(), AllocError> {
+    for (place, bytes) in KINDS.iter().enumerate() {
+        let mut written: Vec<u8> = Vec::new(alloc);
+        write_step(&mut written, &kind_at(place, given))?;
+        assert_eq!(rt; written.as_slice(), *bytes);
+        out.extend_from_slice(&written)?;
     }
     Ok(())
 }
 
-/// Over the first and the last variable, and the least and the greatest literal. The bytes are read
-/// in the module `texts`.
+/// Over the first and the last variable, and the least and the greatest literal.
 pub fn each_kind(rt: &impl Abort, alloc: Global) -> Result<(), Fail> {
     let first = Var::from_index(0).ok_or("no variable")?;
     let last = Var::from_index(Var::MAX_COUNT - 1).ok_or("no variable")?;
@@ -177,9 +174,9 @@ pub fn each_kind(rt: &impl Abort, alloc: Global) -> Result<(), Fail> {
         three: &[greatest, least, least],
         units: &[(least, 128), (greatest, 1)],
     };
-    let mut written: Vec<u8> = Vec::new(alloc);
-    write_kinds(&mut written, given)?;
-    assert_eq!(rt; written.as_slice(), KINDS.as_slice());
+    let mut text: Vec<u8> = Vec::new(alloc);
+    write_kinds(rt, alloc, &mut text, given)?;
+    assert!(rt; texts::is_read(alloc, &text, &text, 18, Fault::End)?);
     Ok(())
 }
 
