@@ -4,87 +4,79 @@ use hint_check::{Ids, exit_status, run_check};
 use std::alloc::Global;
 use std::io::ErrorKind;
 use std::process::Abort;
-use test_streams::{Ended, Outcome, Page, Pieces};
-
-/// Four clauses, one against each pair of values of two variables.
-const FOUR: &str = "1 2 0 1 -2 0 -1 2 0 -1 -2 0";
+use test_streams::{Ended, FOUR, NOT_VERIFIED, Page, Pieces, VERIFIED, outcome_of};
 
 const UNITS: &str = "1 0\n-1 0\n";
 
-const VERIFIED: &str = "s VERIFIED UNSAT\n";
+/// A formula, and hints with the line that is written of each, or the text of its fault.
+type Row = (&'static str, &'static [(&'static str, &'static str)]);
 
-const NOT_VERIFIED: &str = "s NOT VERIFIED\n";
-
-/// A formula and hints; what is written, the text of the fault, and the exit status.
-type Row = (&'static str, &'static str, &'static str, &'static str, u8);
-
-const RUNS: [Row; 9] = [
-    (FOUR, "9 1 0 1 2 0\n10 0 9 3 4 0\n", VERIFIED, "", 0),
-    (UNITS, "5 0 1 2 0\n", VERIFIED, "", 0),
-    (UNITS, "5 0 1 2 0\n5 d 1 0\n", VERIFIED, "", 0),
-    (UNITS, "5 1 0 1 0", NOT_VERIFIED, "", 3),
-    ("0", "", NOT_VERIFIED, "", 3),
+const RUNS: [Row; 4] = [
+    (FOUR, &[("9 1 0 1 2 0\n10 0 9 3 4 0\n", VERIFIED)]),
     (
         UNITS,
-        "5 0 1 0",
-        "",
-        "line 1: hints end without a conflict",
-        1,
+        &[
+            ("5 0 1 2 0\n", VERIFIED),
+            ("5 0 1 2 0\n5 d 1 0\n", VERIFIED),
+            ("5 1 0 1 0", NOT_VERIFIED),
+            ("5 0 1 0", "line 1: hints end without a conflict"),
+            (
+                "5 1 0 1 0\n5 d 5 0\n5 0 1 2 0\n",
+                "line 3: id is not greater than those before",
+            ),
+            ("x", "line 1: malformed line"),
+        ],
     ),
-    (
-        UNITS,
-        "5 1 0 1 0\n5 d 5 0\n5 0 1 2 0\n",
-        "",
-        "line 3: id is not greater than those before",
-        1,
-    ),
-    (UNITS, "x", "", "line 1: malformed line", 1),
-    ("1 2", "5 0 1 2 0", "", "line 1: unterminated clause", 1),
+    ("0", &[("", NOT_VERIFIED)]),
+    ("1 2", &[("5 0 1 2 0", "line 1: unterminated clause")]),
 ];
 
-/// What is run is named so. As much of the line is written as there is room for.
+/// As much of the line is written as there is room for.
 fn is_answered(
     rt: &impl Abort,
     alloc: Global,
-    name: &str,
-    (cnf, hints): (Pieces<'_>, Pieces<'_>),
-    ids: Option<Ids>,
+    (cnf, hints, ids): (Pieces<'_>, Pieces<'_>, Option<Ids>),
     room: usize,
-    outcome: Outcome<'_>,
+    told: &str,
 ) {
     let mut page = Page::of_room(alloc, room);
     let answer = run_check(alloc, cnf, hints, ids, &mut page, &mut None);
     let ended = Ended::of(alloc, page, &answer, exit_status(&answer));
-    assert_eq!(rt; ended.outcome(), outcome, "{name}");
+    assert_eq!(rt; ended.outcome(), outcome_of(told), "{hints:?}");
 }
 
-/// The rows are answered so, read at once and byte by byte.
-fn are_answered(rt: &impl Abort, alloc: Global, rows: &[Row]) {
-    for (cnf, hints, written, fault, status) in rows {
-        for size in [usize::MAX, 1] {
-            let cnf = Pieces::of_size(cnf.as_bytes(), size);
-            let texts = (cnf, Pieces::of_size(hints.as_bytes(), size));
-            let outcome = (*written, *fault, *status);
-            is_answered(rt, alloc, hints, texts, None, usize::MAX, outcome);
-        }
+/// The texts are answered so, read at once and byte by byte.
+fn is_read(
+    rt: &impl Abort,
+    alloc: Global,
+    (cnf, hints, ids): (&str, &[u8], Option<Ids>),
+    told: &str,
+) {
+    for size in [usize::MAX, 1] {
+        let texts = (
+            Pieces::of_size(cnf.as_bytes(), size),
+            Pieces::of_size(hints, size),
+            ids,
+        );
+        is_answered(rt, alloc, texts, usize::MAX, told);
+    }
+}
+
+fn are_read(rt: &impl Abort, alloc: Global, cnf: &str, texts: &[(&str, &str)]) {
+    for (hints, told) in texts {
+        is_read(rt, alloc, (cnf, hints.as_bytes(), None), told);
     }
 }
 
 #[test]
 fn runs(rt: HostRuntime) {
-    are_answered(&rt, rt.alloc(), &RUNS);
+    for (cnf, texts) in &RUNS {
+        are_read(&rt, rt.alloc(), cnf, texts);
+    }
 }
 
-/// Binary lines over the four clauses, and how ids stand in them where that is said; what is
-/// written, the text of the fault, and the exit status.
-type BinaryRow = (
-    &'static str,
-    &'static [u8],
-    Option<Ids>,
-    &'static str,
-    &'static str,
-    u8,
-);
+/// Binary lines over the four clauses, how ids stand in them where that is said, and what is told.
+type BinaryRow = (&'static [u8], Option<Ids>, &'static str);
 
 /// 1 by the first two clauses, and the empty clause by it and the others.
 const PLAIN: &[u8] = b"a\x05\x02\x00\x02\x04\x00a\x06\x00\x0A\x06\x08\x00";
@@ -92,136 +84,83 @@ const PLAIN: &[u8] = b"a\x05\x02\x00\x02\x04\x00a\x06\x00\x0A\x06\x08\x00";
 const DOUBLED: &[u8] = b"a\x0A\x02\x00\x02\x04\x00a\x0C\x00\x0A\x06\x08\x00";
 
 const BINARY: [BinaryRow; 13] = [
-    ("told plain", PLAIN, None, VERIFIED, "", 0),
-    ("plain", PLAIN, Some(Plain), VERIFIED, "", 0),
-    ("told doubled", DOUBLED, None, VERIFIED, "", 0),
-    ("doubled", DOUBLED, Some(Doubled), VERIFIED, "", 0),
+    (PLAIN, None, VERIFIED),
+    (PLAIN, Some(Plain), VERIFIED),
+    (DOUBLED, None, VERIFIED),
+    (DOUBLED, Some(Doubled), VERIFIED),
+    (PLAIN, Some(Doubled), "line 1: malformed line"),
     (
-        "plain read as doubled",
-        PLAIN,
-        Some(Doubled),
-        "",
-        "line 1: malformed line",
-        1,
-    ),
-    (
-        "doubled read as plain",
         DOUBLED,
         Some(Plain),
-        "",
         "line 2: no clause has the id of a hint",
-        1,
     ),
+    // a deletion
     (
-        "a deletion",
         b"a\x05\x02\x00\x02\x04\x00d\x01\x02\x00a\x06\x00\x0A\x06\x08\x00",
         None,
         VERIFIED,
-        "",
-        0,
     ),
+    // a clause that is gone
     (
-        "a clause that is gone",
         b"a\x05\x02\x00\x02\x04\x00d\x03\x00a\x06\x00\x0A\x06\x08\x00",
         None,
-        "",
         "line 3: no clause has the id of a hint",
-        1,
     ),
+    // one line
+    (b"a\x05\x02\x00\x02\x04\x00", None, NOT_VERIFIED),
+    // a hint against
+    (b"a\x05\x02\x00\x03\x00", None, "line 1: malformed line"),
+    // an id again
     (
-        "one line",
-        b"a\x05\x02\x00\x02\x04\x00",
-        None,
-        NOT_VERIFIED,
-        "",
-        3,
-    ),
-    (
-        "a hint against",
-        b"a\x05\x02\x00\x03\x00",
-        None,
-        "",
-        "line 1: malformed line",
-        1,
-    ),
-    (
-        "an id again",
         b"a\x04\x02\x00\x02\x04\x00",
         Some(Plain),
-        "",
         "line 1: id is not greater than those before",
-        1,
     ),
+    // a line that is cut
     (
-        "a line that is cut",
         b"a\x05\x02\x00\x02\x04\x00a\x06\x00\x0A",
         None,
-        "",
         "line 2: malformed line",
-        1,
     ),
-    (
-        "binary DRAT",
-        b"a\x02\x00a\x00",
-        None,
-        "",
-        "line 1: malformed line",
-        1,
-    ),
+    // binary DRAT
+    (b"a\x02\x00a\x00", None, "line 1: malformed line"),
 ];
 
 #[test]
 fn binary_lines(rt: HostRuntime) {
-    for (name, lines, ids, written, fault, status) in &BINARY {
-        for size in [usize::MAX, 1] {
-            let texts = (Pieces::whole(FOUR.as_bytes()), Pieces::of_size(lines, size));
-            let outcome = (*written, *fault, *status);
-            is_answered(&rt, rt.alloc(), name, texts, *ids, usize::MAX, outcome);
-        }
+    for (lines, ids, told) in &BINARY {
+        is_read(&rt, rt.alloc(), (FOUR, *lines, *ids), told);
     }
 }
 
 const HINTS: &[u8] = b"5 0 1 2 0\n";
 
-/// A reader without memory is no failed read.
 #[test]
-fn reads_and_writes_that_fail(rt: HostRuntime) {
-    let alloc = rt.alloc();
-    let units = Pieces::whole(UNITS.as_bytes());
-    let hints = Pieces::whole(HINTS);
+fn formulas_that_fail(rt: HostRuntime) {
     let broken = Pieces::broken(UNITS.as_bytes(), ErrorKind::ConnectionReset);
-    let outcome = ("", "error reading formula: broken", 1);
+    let texts = (broken, Pieces::whole(HINTS), None);
     is_answered(
         &rt,
-        alloc,
-        "formula",
-        (broken, hints),
-        None,
+        rt.alloc(),
+        texts,
         usize::MAX,
-        outcome,
+        "error reading formula: broken",
     );
-    let broken = Pieces::broken(HINTS, ErrorKind::ConnectionReset);
-    let outcome = ("", "error reading hints: broken", 1);
-    is_answered(
-        &rt,
-        alloc,
-        "hints",
-        (units, broken),
-        None,
-        usize::MAX,
-        outcome,
-    );
-    let broken = Pieces::broken(HINTS, ErrorKind::OutOfMemory);
-    let outcome = ("", "out of memory", 1);
-    is_answered(
-        &rt,
-        alloc,
-        "memory",
-        (units, broken),
-        None,
-        usize::MAX,
-        outcome,
-    );
-    let outcome = ("", "error writing: full", 1);
-    is_answered(&rt, alloc, "line", (units, hints), None, 0, outcome);
+}
+
+/// How a read of hints fails, and what is told: a reader without memory is no failed read.
+const BROKEN: [(ErrorKind, &str); 2] = [
+    (ErrorKind::ConnectionReset, "error reading hints: broken"),
+    (ErrorKind::OutOfMemory, "out of memory"),
+];
+
+#[test]
+fn hints_that_fail(rt: HostRuntime) {
+    let units = Pieces::whole(UNITS.as_bytes());
+    for (kind, told) in &BROKEN {
+        let texts = (units, Pieces::broken(HINTS, *kind), None);
+        is_answered(&rt, rt.alloc(), texts, usize::MAX, told);
+    }
+    let texts = (units, Pieces::whole(HINTS), None);
+    is_answered(&rt, rt.alloc(), texts, 0, "error writing: full");
 }

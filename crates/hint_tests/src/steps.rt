@@ -8,18 +8,19 @@ use sat_formula::Lit;
 #[derive(Clone, Copy)]
 pub enum Kind {
     Add,
-    Repeat { same_as_id: u64 },
+    /// Of the clause with this id.
+    Repeat(u64),
     Tautology,
-    Derive { propagations: &'static [u64] },
-    DeriveRedundant { propagations: &'static [u64] },
+    Derive(&'static [u64]),
+    DeriveRedundant(&'static [u64]),
     Delete,
-    DeleteImplied { propagations: &'static [u64] },
-    KeepImplied { propagations: &'static [u64] },
+    DeleteImplied(&'static [u64]),
+    KeepImplied(&'static [u64]),
     DeleteUnit,
     MakeIrredundant,
     Model,
     Assumptions,
-    FailedAssumptions { propagations: &'static [u64] },
+    FailedAssumptions(&'static [u64]),
     LoseName,
     GetName,
 }
@@ -27,39 +28,32 @@ pub enum Kind {
 /// The step of a clause. One on a single literal is on this one, or on its variable.
 pub fn step_of<'a>(kind: Kind, id: u64, clause: &'a [Lit], one: Lit) -> CheckedProofStep<'a> {
     let var = one.var();
+    let redundant = matches!(&kind, Kind::DeriveRedundant(_) | Kind::KeepImplied(_));
     match kind {
         Kind::Add => CheckedProofStep::AddClause { id, clause },
-        Kind::Repeat { same_as_id } => CheckedProofStep::DuplicatedClause {
+        Kind::Repeat(same_as_id) => CheckedProofStep::DuplicatedClause {
             id,
             same_as_id,
             clause,
         },
         Kind::Tautology => CheckedProofStep::TautologicalClause { id, clause },
-        Kind::Derive { propagations } => CheckedProofStep::AtClause {
-            id,
-            redundant: false,
-            clause,
-            propagations,
-        },
-        Kind::DeriveRedundant { propagations } => CheckedProofStep::AtClause {
-            id,
-            redundant: true,
-            clause,
-            propagations,
-        },
         Kind::Delete => CheckedProofStep::DeleteClause { id, clause },
-        Kind::DeleteImplied { propagations } => CheckedProofStep::DeleteAtClause {
-            id,
-            keep_as_redundant: false,
-            clause,
-            propagations,
-        },
-        Kind::KeepImplied { propagations } => CheckedProofStep::DeleteAtClause {
-            id,
-            keep_as_redundant: true,
-            clause,
-            propagations,
-        },
+        Kind::Derive(propagations) | Kind::DeriveRedundant(propagations) => {
+            CheckedProofStep::AtClause {
+                id,
+                redundant,
+                clause,
+                propagations,
+            }
+        }
+        Kind::DeleteImplied(propagations) | Kind::KeepImplied(propagations) => {
+            CheckedProofStep::DeleteAtClause {
+                id,
+                keep_as_redundant: redundant,
+                clause,
+                propagations,
+            }
+        }
         Kind::DeleteUnit => CheckedProofStep::DeleteRatClause {
             id,
             keep_as_redundant: false,
@@ -72,7 +66,7 @@ pub fn step_of<'a>(kind: Kind, id: u64, clause: &'a [Lit], one: Lit) -> CheckedP
         Kind::Assumptions => CheckedProofStep::Assumptions {
             assumptions: clause,
         },
-        Kind::FailedAssumptions { propagations } => CheckedProofStep::FailedAssumptions {
+        Kind::FailedAssumptions(propagations) => CheckedProofStep::FailedAssumptions {
             failed_core: clause,
             propagations,
         },

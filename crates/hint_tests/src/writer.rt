@@ -1,5 +1,10 @@
 //! The lines of worked steps, what is refused, and the texts of faults.
 use crate::steps::{Kind, step_of};
+use Kind::{
+    Add, Assumptions, Delete, DeleteImplied, DeleteUnit, Derive, DeriveRedundant,
+    FailedAssumptions, GetName, KeepImplied, LoseName, MakeIrredundant, Model, Repeat, Tautology,
+};
+use WriterFault::{InputAfterDerived, NumberOutOfRange, OutOfMemory, TooManyInputs};
 use checker_parts::processor::{CheckerData, ProofProcessor};
 use checker_parts::variables::Variables;
 use sat_formula::Lit;
@@ -15,215 +20,108 @@ type Row = (Kind, u64, &'static [i64], &'static str, &'static str);
 /// What is shown, how many input clauses are announced, and what is told then.
 type Script = (&'static str, u64, &'static [Row]);
 
-const REFUTATION: Script = (
-    "a refutation",
-    4,
-    &[
-        (Kind::Add, 0, &[1, 2], "", ""),
-        (Kind::Add, 1, &[1, -2], "", ""),
-        (Kind::Add, 2, &[-1, 2], "", ""),
-        (Kind::Add, 3, &[-1, -2], "", ""),
-        (
-            Kind::Derive {
-                propagations: &[0, 1],
-            },
-            4,
-            &[1],
-            "",
-            "9 1 0 1 2 0\n",
-        ),
-        (
-            Kind::Derive {
-                propagations: &[4, 2, 3],
-            },
-            5,
-            &[],
-            "",
-            "10 0 9 3 4 0\n",
-        ),
-    ],
-);
-
-const REPEATED: Script = (
-    "repeated clauses have numbers",
-    3,
-    &[
-        (Kind::Add, 0, &[1, 2], "", ""),
-        (Kind::Repeat { same_as_id: 0 }, 1, &[1, 2], "", ""),
-        (Kind::Add, 2, &[1], "", ""),
-        (
-            Kind::DeleteImplied { propagations: &[2] },
-            0,
-            &[1, 2],
-            "",
-            "3 d 1 0\n",
-        ),
-    ],
-);
-
-const TAUTOLOGIES: Script = (
-    "tautologies have numbers",
-    2,
-    &[
-        (Kind::Add, 0, &[1, 2], "", ""),
-        (Kind::Tautology, 1, &[2, -2], "", ""),
-        (
-            Kind::Derive {
-                propagations: &[1, 2],
-            },
-            2,
-            &[-1, 2],
-            "",
-            "5 -1 2 0 2 5 0\n",
-        ),
-    ],
-);
-
-const LATE_INPUT: Script = (
-    "input clauses come first",
-    2,
-    &[
-        (Kind::Add, 0, &[1], "", ""),
-        (
-            Kind::DeriveRedundant { propagations: &[0] },
-            1,
-            &[1, 2],
-            "",
-            "4 1 2 0 1 0\n",
-        ),
-        (
-            Kind::Add,
-            2,
-            &[3],
-            "input clause after a derived clause",
-            "",
-        ),
-    ],
-);
-
-const ONE_MORE_THAN_ANNOUNCED: Script = (
-    "no more input clauses than announced",
-    1,
-    &[
-        (Kind::Add, 0, &[1], "", ""),
-        (Kind::Add, 1, &[-1], "more input clauses than announced", ""),
-    ],
-);
-
-const DELETION: Script = (
-    "a deletion repeats the last number",
-    2,
-    &[
-        (Kind::Add, 0, &[1], "", ""),
-        (Kind::Add, 1, &[-1], "", ""),
-        (
-            Kind::Derive {
-                propagations: &[0, 1],
-            },
-            2,
-            &[],
-            "",
-            "5 0 1 2 0\n",
-        ),
-        (Kind::Delete, 0, &[1], "", "5 d 1 0\n"),
-    ],
-);
-
-const DELETION_OF_A_UNIT: Script = (
-    "a deletion of a unit repeats it too",
-    2,
-    &[
-        (Kind::Add, 0, &[1], "", ""),
-        (Kind::Add, 1, &[-1], "", ""),
-        (
-            Kind::Derive {
-                propagations: &[0, 1],
-            },
-            2,
-            &[],
-            "",
-            "5 0 1 2 0\n",
-        ),
-        (Kind::DeleteUnit, 0, &[1], "", "5 d 1 0\n"),
-    ],
-);
-
-const WITHOUT_A_LINE: Script = (
-    "steps without a line",
-    2,
-    &[
-        (Kind::Add, 0, &[1], "", ""),
-        (Kind::KeepImplied { propagations: &[1] }, 0, &[1], "", ""),
-        (Kind::MakeIrredundant, 0, &[1], "", ""),
-        (Kind::Model, 0, &[1], "", ""),
-        (Kind::Assumptions, 0, &[1], "", ""),
-        (
-            Kind::FailedAssumptions { propagations: &[0] },
-            0,
-            &[1],
-            "",
-            "",
-        ),
-        (Kind::LoseName, 0, &[1], "", ""),
-        (Kind::GetName, 0, &[1], "", ""),
-        (Kind::Add, 1, &[2], "", ""),
-    ],
-);
-
 const OUT_OF_RANGE: &str = "clause number out of range";
 
-/// Numbers stay below 2^64.
-const NO_NUMBER: Script = (
-    "no number is left",
-    u64::MAX,
-    &[
-        (Kind::Derive { propagations: &[] }, 0, &[], OUT_OF_RANGE, ""),
-        (Kind::Add, u64::MAX, &[], OUT_OF_RANGE, ""),
-    ],
-);
-
-const ONE_NUMBER: Script = (
-    "one number is left",
-    0,
-    &[
-        (
-            Kind::Derive { propagations: &[] },
-            u64::MAX - 1,
-            &[],
-            "",
-            "18446744073709551615 0 0\n",
-        ),
-        (
-            Kind::Derive { propagations: &[] },
-            u64::MAX,
-            &[],
-            OUT_OF_RANGE,
-            "",
-        ),
-        (
-            Kind::Derive {
-                propagations: &[1, u64::MAX],
-            },
-            0,
-            &[],
-            OUT_OF_RANGE,
-            "",
-        ),
-        (Kind::Delete, u64::MAX, &[], OUT_OF_RANGE, ""),
-    ],
-);
-
-const SCRIPTS: [Script; 10] = [
-    REFUTATION,
-    REPEATED,
-    TAUTOLOGIES,
-    LATE_INPUT,
-    ONE_MORE_THAN_ANNOUNCED,
-    DELETION,
-    DELETION_OF_A_UNIT,
-    WITHOUT_A_LINE,
-    NO_NUMBER,
-    ONE_NUMBER,
+const SCRIPTS: [Script; 9] = [
+    (
+        "a refutation",
+        4,
+        &[
+            (Add, 0, &[1, 2], "", ""),
+            (Add, 1, &[1, -2], "", ""),
+            (Add, 2, &[-1, 2], "", ""),
+            (Add, 3, &[-1, -2], "", ""),
+            (Derive(&[0, 1]), 4, &[1], "", "9 1 0 1 2 0\n"),
+            (Derive(&[4, 2, 3]), 5, &[], "", "10 0 9 3 4 0\n"),
+        ],
+    ),
+    (
+        "repeated clauses have numbers",
+        3,
+        &[
+            (Add, 0, &[1, 2], "", ""),
+            (Repeat(0), 1, &[1, 2], "", ""),
+            (Add, 2, &[1], "", ""),
+            (DeleteImplied(&[2]), 0, &[1, 2], "", "3 d 1 0\n"),
+        ],
+    ),
+    (
+        "tautologies have numbers",
+        2,
+        &[
+            (Add, 0, &[1, 2], "", ""),
+            (Tautology, 1, &[2, -2], "", ""),
+            (Derive(&[1, 2]), 2, &[-1, 2], "", "5 -1 2 0 2 5 0\n"),
+        ],
+    ),
+    (
+        "input clauses come first",
+        2,
+        &[
+            (Add, 0, &[1], "", ""),
+            (DeriveRedundant(&[0]), 1, &[1, 2], "", "4 1 2 0 1 0\n"),
+            (Add, 2, &[3], "input clause after a derived clause", ""),
+        ],
+    ),
+    (
+        "no more input clauses than announced",
+        1,
+        &[
+            (Add, 0, &[1], "", ""),
+            (Add, 1, &[-1], "more input clauses than announced", ""),
+        ],
+    ),
+    (
+        "a deletion repeats the last number, of a unit too",
+        2,
+        &[
+            (Add, 0, &[1], "", ""),
+            (Add, 1, &[-1], "", ""),
+            (Derive(&[0, 1]), 2, &[], "", "5 0 1 2 0\n"),
+            (Delete, 0, &[1], "", "5 d 1 0\n"),
+            (DeleteUnit, 0, &[1], "", "5 d 1 0\n"),
+        ],
+    ),
+    (
+        "steps without a line",
+        2,
+        &[
+            (Add, 0, &[1], "", ""),
+            (KeepImplied(&[1]), 0, &[1], "", ""),
+            (MakeIrredundant, 0, &[1], "", ""),
+            (Model, 0, &[1], "", ""),
+            (Assumptions, 0, &[1], "", ""),
+            (FailedAssumptions(&[0]), 0, &[1], "", ""),
+            (LoseName, 0, &[1], "", ""),
+            (GetName, 0, &[1], "", ""),
+            (Add, 1, &[2], "", ""),
+        ],
+    ),
+    // Numbers stay below 2^64.
+    (
+        "no number is left",
+        u64::MAX,
+        &[
+            (Derive(&[]), 0, &[], OUT_OF_RANGE, ""),
+            (Add, u64::MAX, &[], OUT_OF_RANGE, ""),
+        ],
+    ),
+    (
+        "one number is left",
+        0,
+        &[
+            (
+                Derive(&[]),
+                u64::MAX - 1,
+                &[],
+                "",
+                "18446744073709551615 0 0\n",
+            ),
+            (Derive(&[]), u64::MAX, &[], OUT_OF_RANGE, ""),
+            (Derive(&[1, u64::MAX]), 0, &[], OUT_OF_RANGE, ""),
+            (Delete, u64::MAX, &[], OUT_OF_RANGE, ""),
+        ],
+    ),
 ];
 
 /// The literals of these numbers.
@@ -256,38 +154,26 @@ fn plays(rt: &impl Abort, alloc: Global, (name, announced, rows): Script) {
     }
 }
 
-fn play_all(rt: &impl Abort, alloc: Global, scripts: &[Script]) {
-    for script in scripts {
-        plays(rt, alloc, *script);
+#[test]
+fn scripts(rt: HostRuntime) {
+    for script in &SCRIPTS {
+        plays(&rt, rt.alloc(), *script);
     }
 }
 
-#[test]
-fn scripts(rt: HostRuntime) {
-    play_all(&rt, rt.alloc(), &SCRIPTS);
-}
-
 const FAULTS: [(WriterFault, &str); 4] = [
-    (
-        WriterFault::InputAfterDerived,
-        "input clause after a derived clause",
-    ),
-    (
-        WriterFault::TooManyInputs,
-        "more input clauses than announced",
-    ),
-    (WriterFault::NumberOutOfRange, "clause number out of range"),
-    (WriterFault::OutOfMemory, "out of memory"),
+    (InputAfterDerived, "input clause after a derived clause"),
+    (TooManyInputs, "more input clauses than announced"),
+    (NumberOutOfRange, OUT_OF_RANGE),
+    (OutOfMemory, "out of memory"),
 ];
 
 #[test]
 fn texts_of_faults(rt: HostRuntime) {
     for (fault, text) in FAULTS {
-        let mut shown = Shown::new(rt.alloc());
-        shown.value(&fault);
-        let mut boxed = Shown::new(rt.alloc());
-        boxed.value(&anyhow::Error::from(fault));
-        assert_eq!(rt; (shown.text(), boxed.text()), (text, text));
+        assert_eq!(rt; Shown::of(rt.alloc(), &fault).text(), text);
+        let boxed = anyhow::Error::from(fault);
+        assert_eq!(rt; Shown::of(rt.alloc(), &boxed).text(), text);
     }
 }
 
@@ -295,15 +181,11 @@ fn texts_of_faults(rt: HostRuntime) {
 type BoxRow = (Kind, u64, &'static str);
 
 const IN_A_BOX: [BoxRow; 5] = [
-    (Kind::Add, 0, ""),
-    (Kind::Add, 1, "more input clauses than announced"),
-    (
-        Kind::Derive { propagations: &[0] },
-        u64::MAX,
-        "clause number out of range",
-    ),
-    (Kind::Derive { propagations: &[0] }, 1, ""),
-    (Kind::Add, 2, "input clause after a derived clause"),
+    (Add, 0, ""),
+    (Add, 1, "more input clauses than announced"),
+    (Derive(&[0]), u64::MAX, OUT_OF_RANGE),
+    (Derive(&[0]), 1, ""),
+    (Add, 2, "input clause after a derived clause"),
 ];
 
 fn plays_in_a_box(
