@@ -18,28 +18,40 @@ pub type Row = (&'static [u8], &'static str);
 /// A proof, and the number of the read that fails.
 pub type BrokenRow = (&'static [u8], usize, &'static str);
 
-/// What is shown of these bytes as they are read.
-fn is_shown(
-    rt: &impl Abort,
-    alloc: Global,
-    format: Format,
-    bytes: &[u8],
-    proof: Pieces<'_>,
-    expected: &str,
-) {
+fn show_drat(shown: &mut Shown, reader: &mut DratReader<Pieces<'_>>) {
+    for _ in 0..20u32 {
+        if !texts::show(shown, reader.next_step()) {
+            break;
+        }
+        shown.words("; ");
+    }
+}
+
+fn show_frat(shown: &mut Shown, reader: &mut FratReader<Pieces<'_>>) {
+    for _ in 0..20u32 {
+        if !frat_texts::show(shown, reader.next_step()) {
+            break;
+        }
+        shown.words("; ");
+    }
+}
+
+/// What is shown of a proof as it is read.
+fn is_shown(rt: &impl Abort, alloc: Global, format: Format, proof: Pieces<'_>, expected: &str) {
     let mut shown = Shown::new(alloc);
     match format {
-        Format::Drat => texts::show(&mut shown, &mut DratReader::new(alloc, proof)),
-        Format::Frat => frat_texts::show(&mut shown, &mut FratReader::new(alloc, proof)),
+        Format::Drat => show_drat(&mut shown, &mut DratReader::new(alloc, proof)),
+        Format::Frat => show_frat(&mut shown, &mut FratReader::new(alloc, proof)),
     }
-    assert_eq!(rt; shown.text(), expected, "{bytes:?}");
+    shown.words("end");
+    assert_eq!(rt; shown.text(), expected, "{proof:?}");
 }
 
 pub fn hold(rt: &impl Abort, alloc: Global, format: Format, rows: &[Row]) {
     for (bytes, expected) in rows {
         for size in [1, 2, 3, 100] {
             let proof = Pieces::of_size(bytes, size);
-            is_shown(rt, alloc, format, bytes, proof, expected);
+            is_shown(rt, alloc, format, proof, expected);
         }
     }
 }
@@ -48,6 +60,6 @@ pub fn hold(rt: &impl Abort, alloc: Global, format: Format, rows: &[Row]) {
 pub fn hold_broken(rt: &impl Abort, alloc: Global, format: Format, rows: &[BrokenRow]) {
     for (bytes, failing, expected) in rows {
         let proof = Pieces::failing_at(bytes, 1, *failing);
-        is_shown(rt, alloc, format, bytes, proof, expected);
+        is_shown(rt, alloc, format, proof, expected);
     }
 }

@@ -1,8 +1,9 @@
 //! What no clause says: rows of proofs over readers of any cut, reads that fail, and which proofs
 //! count as FRAT.
 use crate::cuts::{BrokenRow, Format, Row, hold, hold_broken};
+use drat_text::DratFault;
 use drat_text::bytes::Bytes;
-use frat_text::{FratAction, FratHint, FratReader, FratStep, Renaming, is_frat};
+use frat_text::{FratAction, FratHint, FratStep, Renaming, is_frat};
 use sat_formula::Lit;
 use std::alloc::Global;
 use std::process::Abort;
@@ -17,9 +18,7 @@ fn show_clause(shown: &mut Shown, action: FratAction, id: u64, lits: &[Lit]) {
     };
     shown.number(word, id);
     shown.words(":");
-    for lit in lits {
-        shown.signed(" ", lit.to_dimacs());
-    }
+    shown.lits(lits);
 }
 
 fn show_step(shown: &mut Shown, step: FratStep<'_>) {
@@ -42,19 +41,14 @@ fn show_step(shown: &mut Shown, step: FratStep<'_>) {
     }
 }
 
-/// Shows each step, and the end or the text of a fault.
-pub fn show(shown: &mut Shown, reader: &mut FratReader<Pieces<'_>>) {
-    for _ in 0..20u32 {
-        match reader.next_step() {
-            Ok(Some(step)) => show_step(shown, step),
-            Ok(None) => {
-                shown.words("end");
-                break;
-            }
-            Err(fault) => shown.value(&fault),
-        }
-        shown.words("; ");
+/// Shows a step, or the text of a fault. False: it is the end.
+pub fn show(shown: &mut Shown, answer: Result<Option<FratStep<'_>>, DratFault>) -> bool {
+    match answer {
+        Ok(Some(step)) => show_step(shown, step),
+        Ok(None) => return false,
+        Err(fault) => shown.value(&fault),
     }
+    true
 }
 
 const TEXT: [Row; 21] = [

@@ -6,172 +6,110 @@ use std::alloc::Global;
 use std::cell::Cell;
 use std::io::ErrorKind;
 use std::process::Abort;
-use test_streams::{Ended, Page, Pieces, Shown};
+use test_streams::{Ended, FOUR, NOT_VERIFIED, Page, Pieces, Shown, VERIFIED, outcome_of};
 
 const PIECE: &str = "s VERIFIED PIECE\n";
 
-const UNSAT: &str = "s VERIFIED UNSAT\n";
-
-const NOT_VERIFIED: &str = "s NOT VERIFIED\n";
-
 /// The first literal follows from two clauses, and with it the third one gives another.
-const THREE: &[u8] = b"1 2 0 1 -2 0 -1 3 0";
+const THREE: &str = "1 2 0 1 -2 0 -1 3 0";
 
-/// Four clauses, one against each pair of values of two variables.
-const FOUR: &[u8] = b"1 2 0 1 -2 0 -1 2 0 -1 -2 0";
-
-/// A formula, the wanted clauses and a piece; what is written, the text of the fault, the exit
-/// status, and what is said of the first missing clause.
-type Row = (
-    &'static [u8],
-    &'static [u8],
-    &'static [u8],
-    &'static str,
-    &'static str,
-    u8,
-    &'static str,
-);
+/// A formula, the wanted clauses and a piece, and what is told: the line that is written, or the
+/// text of the fault; where the piece is not verified, what is said of the first missing clause.
+type Row = (&'static str, &'static str, &'static str, &'static str);
 
 const RUNS: [Row; 25] = [
-    (THREE, THREE, b"", PIECE, "", 0, ""),
-    (THREE, b"", b"", PIECE, "", 0, ""),
-    (b"", b"", b"", PIECE, "", 0, ""),
-    (THREE, b"1 0 -1 3 0", b"1 0\nd 1 2 0\n", PIECE, "", 0, ""),
+    (THREE, THREE, "", PIECE),
+    (THREE, "", "", PIECE),
+    ("", "", "", PIECE),
+    (THREE, "1 0 -1 3 0", "1 0\nd 1 2 0\n", PIECE),
     (
         THREE,
-        b"1 0 1 2 0",
-        b"1 0\nd 1 2 0\n",
-        NOT_VERIFIED,
-        "",
-        3,
+        "1 0 1 2 0",
+        "1 0\nd 1 2 0\n",
         "clause 2 is not there behind the piece: 1 2 0",
     ),
     // literals in another order, one that comes twice, and a clause that does
-    (THREE, b"2 1 0 -2 1 0", b"", PIECE, "", 0, ""),
-    (THREE, b"2 1 2 0", b"", PIECE, "", 0, ""),
-    (THREE, b"1 2 0 2 1 0 1 2 0", b"", PIECE, "", 0, ""),
-    (b"1 -1 0 1 2 0", b"1 -1 0", b"", PIECE, "", 0, ""),
+    (THREE, "2 1 0 -2 1 0", "", PIECE),
+    (THREE, "2 1 2 0", "", PIECE),
+    (THREE, "1 2 0 2 1 0 1 2 0", "", PIECE),
+    ("1 -1 0 1 2 0", "1 -1 0", "", PIECE),
     // a literal that is turned round, one less, one more, and one that follows
     (
         THREE,
-        b"-1 -3 0",
-        b"1 0\n",
-        NOT_VERIFIED,
-        "",
-        3,
+        "-1 -3 0",
+        "1 0\n",
         "clause 1 is not there behind the piece: -1 -3 0",
     ),
     (
         THREE,
-        b"1 0",
-        b"",
-        NOT_VERIFIED,
+        "1 0",
         "",
-        3,
         "clause 1 is not there behind the piece: 1 0",
     ),
     (
         THREE,
-        b"1 2 3 0",
-        b"",
-        NOT_VERIFIED,
+        "1 2 3 0",
         "",
-        3,
         "clause 1 is not there behind the piece: 1 2 3 0",
     ),
     (
         THREE,
-        b"3 0",
-        b"1 0\n",
-        NOT_VERIFIED,
-        "",
-        3,
+        "3 0",
+        "1 0\n",
         "clause 1 is not there behind the piece: 3 0",
     ),
     (
         THREE,
-        b"0",
-        b"1 0\n",
-        NOT_VERIFIED,
-        "",
-        3,
+        "0",
+        "1 0\n",
         "clause 1 is not there behind the piece: 0",
     ),
     // a clause that is redundant by a variable of its own, and no consequence
-    (THREE, b"4 0 1 2 0", b"4 0\n", PIECE, "", 0, ""),
+    (THREE, "4 0 1 2 0", "4 0\n", PIECE),
     // one that is neither, once the clause stays that speaks against it: refused where it is wanted
-    (b"1 2 0 -1 -2 0", b"1 0", b"1 0\n", PIECE, "", 0, ""),
+    ("1 2 0 -1 -2 0", "1 0", "1 0\n", PIECE),
     (
-        b"1 2 0 -1 -2 0",
-        b"1 0 -1 -2 0",
-        b"1 0\n",
-        "",
+        "1 2 0 -1 -2 0",
+        "1 0 -1 -2 0",
+        "1 0\n",
         "proof: step 1: clause neither follows nor is redundant by its first literal",
-        1,
-        "",
     ),
-    (b"1 2 0 -1 -2 0", b"1 2 0", b"1 0\n", PIECE, "", 0, ""),
+    ("1 2 0 -1 -2 0", "1 2 0", "1 0\n", PIECE),
     // the reason of a literal stays
-    (THREE, b"1 0", b"1 0\nd 1 0\n", PIECE, "", 0, ""),
+    (THREE, "1 0", "1 0\nd 1 0\n", PIECE),
     // a conflict says more than what is wanted
-    (FOUR, b"5 0", b"1 0\n", UNSAT, "", 0, ""),
-    (b"1 0 -1 0", b"5 0", b"", UNSAT, "", 0, ""),
-    (b"0", b"0", b"", UNSAT, "", 0, ""),
+    (FOUR, "5 0", "1 0\n", VERIFIED),
+    ("1 0 -1 0", "5 0", "", VERIFIED),
+    ("0", "0", "", VERIFIED),
     // texts that can't be read
-    (
-        THREE,
-        b"1 x 0",
-        b"",
-        "",
-        "wanted clauses: line 1: bad number",
-        1,
-        "",
-    ),
-    (
-        b"1 x 0",
-        b"1 x 0",
-        b"1 x 0",
-        "",
-        "formula: line 1: bad number",
-        1,
-        "",
-    ),
-    (
-        THREE,
-        THREE,
-        b"1 x 0\n",
-        "",
-        "proof: step 1: malformed",
-        1,
-        "",
-    ),
+    (THREE, "1 x 0", "", "wanted clauses: line 1: bad number"),
+    ("1 x 0", "1 x 0", "1 x 0", "formula: line 1: bad number"),
+    (THREE, THREE, "1 x 0\n", "proof: step 1: malformed"),
 ];
 
-/// What is answered to a piece as it is read. As much of the line is written as there is room for.
-fn is_answered(rt: &impl Abort, alloc: Global, row: Row, piece: Pieces<'_>, room: usize) {
-    let (cnf, holds, _, written, fault, status, missing) = row;
+/// The end of a run over a piece as it is read, with as much room for its line.
+fn ran(
+    alloc: Global,
+    (cnf, wanted): (&str, &str),
+    piece: Pieces<'_>,
+    outputs: &mut PieceOutputs<Page, Page>,
+    room: usize,
+) -> Ended {
     let mut page = Page::of_room(alloc, room);
-    let mut outputs: PieceOutputs<Page, Page> = outputs_to(None, None);
     let answer = run_piece(
         &Discard,
         alloc,
-        Pieces::whole(cnf),
-        Pieces::whole(holds),
+        Pieces::whole(cnf.as_bytes()),
+        Pieces::whole(wanted.as_bytes()),
         piece,
         ProofFormat::Told,
-        &mut outputs,
+        outputs,
         &mut page,
     );
-    let ended = Ended::of(alloc, page, &answer, piece_status(&answer));
-    assert_eq!(rt; ended.outcome(), (written, fault, status), "{holds:?}");
-    let mut said = Shown::new(alloc);
-    if let Some(clause) = &outputs.missing {
-        said.value(clause);
-    }
-    assert_eq!(rt; said.text(), missing, "{holds:?}");
+    Ended::of(alloc, page, &answer, piece_status(&answer))
 }
 
-fn outputs_to<L, C>(lrat: Option<L>, core: Option<C>) -> PieceOutputs<L, C> {
+fn outputs_to(lrat: Option<Page>, core: Option<Page>) -> PieceOutputs<Page, Page> {
     PieceOutputs {
         lrat,
         form: LineForm::Text,
@@ -183,203 +121,189 @@ fn outputs_to<L, C>(lrat: Option<L>, core: Option<C>) -> PieceOutputs<L, C> {
     }
 }
 
-#[test]
-fn pieces(rt: HostRuntime) {
-    for row in &RUNS {
-        is_answered(&rt, rt.alloc(), *row, Pieces::whole(row.2), usize::MAX);
+/// What is told of a piece as it is read. As much of the line is written as there is room for.
+fn is_answered(
+    rt: &impl Abort,
+    alloc: Global,
+    texts: (&str, &str),
+    piece: Pieces<'_>,
+    room: usize,
+    told: &str,
+) {
+    let mut outputs = outputs_to(None, None);
+    let ended = ran(alloc, texts, piece, &mut outputs, room);
+    let mut said = Shown::new(alloc);
+    if let Some(clause) = &outputs.missing {
+        said.value(clause);
+    }
+    let (line, missing) = if told.starts_with("clause ") {
+        (NOT_VERIFIED, told)
+    } else {
+        (told, "")
+    };
+    assert_eq!(rt;
+        (ended.outcome(), said.text()),
+        (outcome_of(line), missing),
+        "{texts:?}"
+    );
+}
+
+fn are_answered(rt: &impl Abort, alloc: Global, rows: &[Row]) {
+    for (cnf, wanted, piece, told) in rows {
+        let piece = Pieces::whole(piece.as_bytes());
+        is_answered(rt, alloc, (*cnf, *wanted), piece, usize::MAX, told);
     }
 }
 
-/// A read after the piece fails, and nothing can be written.
-const BROKEN: Row = (
-    THREE,
-    THREE,
-    b"1 2 0\n1",
-    "",
-    "proof: error reading proof: broken",
-    1,
-    "",
-);
-
-const UNWRITTEN: Row = (THREE, THREE, b"", "", "error writing: full", 1, "");
-
 #[test]
-fn pieces_that_fail(rt: HostRuntime) {
-    let broken = Pieces::broken(BROKEN.2, ErrorKind::ConnectionReset);
-    is_answered(&rt, rt.alloc(), BROKEN, broken, usize::MAX);
-    is_answered(&rt, rt.alloc(), UNWRITTEN, Pieces::whole(b""), 0);
+fn pieces(rt: HostRuntime) {
+    are_answered(&rt, rt.alloc(), &RUNS);
 }
 
-/// The lines of a piece over one clause, which is wanted in another order of its literals.
+/// A read after the piece fails, and nothing can be written.
+#[test]
+fn pieces_that_fail(rt: HostRuntime) {
+    let texts = (THREE, THREE);
+    let broken = Pieces::broken(b"1 2 0\n1", ErrorKind::ConnectionReset);
+    let told = "proof: error reading proof: broken";
+    is_answered(&rt, rt.alloc(), texts, broken, usize::MAX, told);
+    is_answered(
+        &rt,
+        rt.alloc(),
+        texts,
+        Pieces::whole(b""),
+        0,
+        "error writing: full",
+    );
+}
+
+/// The lines of a piece over one clause, which is wanted in another order of its literals, in how
+/// much room, and what is told.
+const LINES: [(usize, &str, &str); 2] = [
+    (usize::MAX, "2 2 1 0 1 0\n", PIECE),
+    (4, "2 2 ", "error writing: full"),
+];
+
 #[test]
 fn lines_of_a_piece(rt: HostRuntime) {
-    let alloc = rt.alloc();
-    for (room, lines, written, fault, status) in [
-        (usize::MAX, "2 2 1 0 1 0\n", PIECE, "", 0),
-        (4, "2 2 ", "", "error writing: full", 1),
-    ] {
-        let mut page = Page::endless(alloc);
-        let mut outputs: PieceOutputs<Page, Page> = outputs_to(
-            Some(Page::of_room(alloc, room)),
-            None,
-        );
-        let answer = run_piece(
-            &Discard,
-            alloc,
-            Pieces::whole(b"1 2 0"),
-            Pieces::whole(b"2 1 0"),
-            Pieces::whole(b""),
-            ProofFormat::Told,
+    for (room, lines, told) in &LINES {
+        let mut outputs = outputs_to(Some(Page::of_room(rt.alloc(), *room)), None);
+        let piece = Pieces::whole(b"");
+        let ended = ran(
+            rt.alloc(),
+            ("1 2 0", "2 1 0"),
+            piece,
             &mut outputs,
-            &mut page,
+            usize::MAX,
         );
-        let ended = Ended::of(alloc, page, &answer, piece_status(&answer));
-        assert_eq!(rt; ended.outcome(), (written, fault, status));
+        assert_eq!(rt; ended.outcome(), outcome_of(told));
         assert_eq!(rt; bytes_of(&outputs.lrat), lines.as_bytes());
     }
 }
 
-/// A formula, the wanted clauses and a piece; the core that is written, in how much room; what is
-/// written of the verdict, and the text of the fault.
+/// A formula, the wanted clauses and a piece; the core that is written, and what is told.
 type CoreRow = (
-    &'static [u8],
-    &'static [u8],
-    &'static [u8],
     &'static str,
-    usize,
+    &'static str,
+    &'static str,
     &'static str,
     &'static str,
 );
 
-const CORES: [CoreRow; 13] = [
+const CORES: [CoreRow; 12] = [
     // what is wanted is a clause of the formula, none, or one that two others give
+    (THREE, "2 1 0", "", "p cnf 2 1\n1 2 0\n", PIECE),
+    (THREE, "", "1 0\n", "p cnf 0 0\n", PIECE),
     (
         THREE,
-        b"2 1 0",
-        b"",
-        "p cnf 2 1\n1 2 0\n",
-        usize::MAX,
-        PIECE,
-        "",
-    ),
-    (THREE, b"", b"1 0\n", "p cnf 0 0\n", usize::MAX, PIECE, ""),
-    (
-        THREE,
-        b"1 0",
-        b"1 0\nd 1 2 0\n",
+        "1 0",
+        "1 0\nd 1 2 0\n",
         "p cnf 2 2\n1 2 0\n1 -2 0\n",
-        usize::MAX,
         PIECE,
-        "",
     ),
     (
         THREE,
-        b"1 0 -1 3 0",
-        b"1 0\n",
+        "1 0 -1 3 0",
+        "1 0\n",
         "p cnf 3 3\n1 2 0\n1 -2 0\n-1 3 0\n",
-        usize::MAX,
         PIECE,
-        "",
     ),
     // a clause that stands twice is taken once, and one of the formula that comes late has the
     // first id
     (
-        b"5 6 0 1 2 0 1 2 0 1 -2 0",
-        b"1 0",
-        b"5 1 0\n1 0\n",
+        "5 6 0 1 2 0 1 2 0 1 -2 0",
+        "1 0",
+        "5 1 0\n1 0\n",
         "p cnf 2 2\n1 2 0\n1 -2 0\n",
-        usize::MAX,
         PIECE,
-        "",
     ),
     // a clause that its literal's negation stands in speaks against a redundant one only where it
     // is used
     (
-        b"-1 2 0 2 3 0 2 -3 0 4 5 0",
-        b"1 0 2 3 0",
-        b"1 0\n",
+        "-1 2 0 2 3 0 2 -3 0 4 5 0",
+        "1 0 2 3 0",
+        "1 0\n",
         "p cnf 3 1\n2 3 0\n",
-        usize::MAX,
         PIECE,
-        "",
     ),
     (
-        b"-1 2 0 2 3 0 2 -3 0 4 5 0",
-        b"1 0 -1 2 0",
-        b"1 0\n",
+        "-1 2 0 2 3 0 2 -3 0 4 5 0",
+        "1 0 -1 2 0",
+        "1 0\n",
         "p cnf 3 3\n-1 2 0\n2 3 0\n2 -3 0\n",
-        usize::MAX,
         PIECE,
-        "",
     ),
     // a conflict says more than what is wanted
     (
-        b"5 0 1 2 0 1 -2 0 -1 2 0 -1 -2 0",
-        b"5 0",
-        b"1 0\n",
+        "5 0 1 2 0 1 -2 0 -1 2 0 -1 -2 0",
+        "5 0",
+        "1 0\n",
         "p cnf 2 4\n1 2 0\n1 -2 0\n-1 2 0\n-1 -2 0\n",
-        usize::MAX,
-        UNSAT,
-        "",
+        VERIFIED,
     ),
     (
-        b"1 0 2 0 -1 0",
-        b"5 0",
-        b"",
+        "1 0 2 0 -1 0",
+        "5 0",
+        "",
         "p cnf 1 2\n1 0\n-1 0\n",
-        usize::MAX,
-        UNSAT,
-        "",
+        VERIFIED,
     ),
+    ("1 0 0 2 0", "0", "", "p cnf 0 1\n0\n", VERIFIED),
+    // nothing is written where a clause is missing or refused
+    (THREE, "3 0", "1 0\n", "", NOT_VERIFIED),
     (
-        b"1 0 0 2 0",
-        b"0",
-        b"",
-        "p cnf 0 1\n0\n",
-        usize::MAX,
-        UNSAT,
-        "",
-    ),
-    // nothing is written where a clause is missing or refused; a core that can't be written ends
-    // the run
-    (THREE, b"3 0", b"1 0\n", "", usize::MAX, NOT_VERIFIED, ""),
-    (
-        b"1 2 0 -1 -2 0",
-        b"1 0 -1 -2 0",
-        b"1 0\n",
-        "",
-        usize::MAX,
+        "1 2 0 -1 -2 0",
+        "1 0 -1 -2 0",
+        "1 0\n",
         "",
         "proof: step 1: clause neither follows nor is redundant by its first literal",
     ),
-    (THREE, b"1 2 0", b"", "p cnf", 5, "", "error writing: full"),
 ];
 
+/// As much of the core is written as there is room for.
+fn writes_core(
+    rt: &impl Abort,
+    alloc: Global,
+    (cnf, wanted, piece, core, told): CoreRow,
+    room: usize,
+) {
+    let lines = Page::endless(alloc);
+    let mut outputs = outputs_to(Some(lines), Some(Page::of_room(alloc, room)));
+    let piece = Pieces::whole(piece.as_bytes());
+    let ended = ran(alloc, (cnf, wanted), piece, &mut outputs, usize::MAX);
+    assert_eq!(rt; ended.outcome(), outcome_of(told), "{wanted}");
+    assert_eq!(rt; bytes_of(&outputs.core), core.as_bytes(), "{wanted}");
+    assert_eq!(rt; bytes_of(&outputs.lrat), b"".as_slice());
+}
+
+/// A core that can't be written ends the run.
 #[test]
 fn cores_of_pieces(rt: HostRuntime) {
-    let alloc = rt.alloc();
-    for (cnf, holds, piece, core, room, written, fault) in CORES {
-        let mut page = Page::endless(alloc);
-        let mut outputs: PieceOutputs<Page, Page> = outputs_to(
-            Some(Page::endless(alloc)),
-            Some(Page::of_room(alloc, room)),
-        );
-        let answer = run_piece(
-            &Discard,
-            alloc,
-            Pieces::whole(cnf),
-            Pieces::whole(holds),
-            Pieces::whole(piece),
-            ProofFormat::Told,
-            &mut outputs,
-            &mut page,
-        );
-        let ended = Ended::of(alloc, page, &answer, piece_status(&answer));
-        let (said, cause, _) = ended.outcome();
-        assert_eq!(rt; (said, cause), (written, fault), "{holds:?}");
-        assert_eq!(rt; bytes_of(&outputs.core), core.as_bytes(), "{holds:?}");
-        assert_eq!(rt; bytes_of(&outputs.lrat), b"".as_slice());
+    for row in CORES {
+        writes_core(&rt, rt.alloc(), row, usize::MAX);
     }
+    let unwritten = (THREE, "1 2 0", "", "p cnf", "error writing: full");
+    writes_core(&rt, rt.alloc(), unwritten, 5);
 }
 
 fn bytes_of(page: &Option<Page>) -> &[u8] {

@@ -1,33 +1,24 @@
 //! The steps of DRAT proofs.
 use crate::cuts::{BrokenRow, Format, Row, hold, hold_broken};
-use drat_text::{DratReader, DratStep};
+use drat_text::{DratFault, DratStep};
 use sat_formula::Lit;
-use test_streams::{Pieces, Shown};
+use test_streams::Shown;
 
-/// Shows each step, as `add` or `delete` with its literals, and the end or the text of a fault.
-pub fn show(shown: &mut Shown, reader: &mut DratReader<Pieces<'_>>) {
-    for _ in 0..20u32 {
-        match reader.next_step() {
-            Ok(Some(DratStep::Add(lits))) => show_step(shown, "add", lits),
-            Ok(Some(DratStep::Delete(lits))) => show_step(shown, "delete", lits),
-            Ok(None) => {
-                shown.words("end");
-                break;
-            }
-            Err(fault) => {
-                shown.value(&fault);
-                shown.words("; ");
-            }
-        }
+/// Shows a step, as `add` or `delete` with its literals, or the text of a fault. False: it is the
+/// end.
+pub fn show(shown: &mut Shown, answer: Result<Option<DratStep<'_>>, DratFault>) -> bool {
+    match answer {
+        Ok(Some(DratStep::Add(lits))) => show_step(shown, "add", lits),
+        Ok(Some(DratStep::Delete(lits))) => show_step(shown, "delete", lits),
+        Ok(None) => return false,
+        Err(fault) => shown.value(&fault),
     }
+    true
 }
 
 fn show_step(shown: &mut Shown, kind: &str, lits: &[Lit]) {
     shown.words(kind);
-    for lit in lits {
-        shown.signed(" ", lit.to_dimacs());
-    }
-    shown.words("; ");
+    shown.lits(lits);
 }
 
 const TEXT: [Row; 14] = [
