@@ -7,7 +7,7 @@ import subprocess
 
 USES = re.compile(r"^use Rattle\.(\w+)\.specs\.(\w+)", re.MULTILINE)
 FUNCTION = re.compile(r"^\s*(?:pub(?:\([a-z]+\))? )?(?:extern \"C\" )?fn (\w+)")
-CLAUSE = re.compile(r"^\s*ensures\*? (\w+) \{")
+CLAUSE = re.compile(r"^\s*ensures\*? (\w+) \{", re.MULTILINE)
 RELATION = re.compile(r"^\s*ghost (\w+) =")
 CALL = re.compile(r'^    call: "(.*)",$', re.MULTILINE)
 LAW = re.compile(r"^pub fn (\w+)", re.MULTILINE)
@@ -39,10 +39,11 @@ def cited(path, seen):
 
 
 def laws():
-    """The laws of all crates: the functions of `laws.rt`, and those elsewhere that take and answer nothing."""
+    """The laws of all crates: the functions of `laws.rt` with their named clauses, and the functions elsewhere that take
+    and answer nothing."""
     for path in listed("crates/*/src/*.rt"):
-        form = LAW if path.endswith("/laws.rt") else BARE_LAW
-        yield from form.findall(text_of(path))
+        for form in (LAW, CLAUSE) if path.endswith("/laws.rt") else (BARE_LAW,):
+            yield from form.findall(text_of(path))
 
 
 def contracts():
