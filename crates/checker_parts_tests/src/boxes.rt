@@ -1,5 +1,5 @@
 //! Boxes of both kinds, through their impls.
-use anyhow::bail;
+use anyhow::{Error, bail};
 use checker_parts::processor::{CheckerData, ProofProcessor, ProofTranscriptProcessor};
 use checker_parts::step::{CheckedProofStep, ProofTranscriptStep, ResolutionPropagations};
 use checker_parts::variables::Variables;
@@ -19,6 +19,17 @@ const ONE_STEP: Counts = Counts {
     left: 1,
 };
 
+impl Counts {
+    fn take(&mut self) -> Result<(), Error> {
+        if self.left == 0 {
+            bail!("the planned fault");
+        }
+        self.left -= 1;
+        self.count[0] = self.count[0].wrapping_add(1);
+        Ok(())
+    }
+}
+
 impl ProofProcessor for Counts {
     ghost use Rattle.std.specs.Prelude.{⊤};
 
@@ -28,17 +39,8 @@ impl ProofProcessor for Counts {
 
     ghost shown = { λ c. c.count };
 
-    fn process_step(
-        &mut self,
-        _step: &CheckedProofStep,
-        _names: CheckerData,
-    ) -> Result<(), anyhow::Error> {
-        if self.left == 0 {
-            bail!("the planned fault");
-        }
-        self.left -= 1;
-        self.count[0] = self.count[0].wrapping_add(1);
-        Ok(())
+    fn process_step(&mut self, _step: &CheckedProofStep, _names: CheckerData) -> Result<(), Error> {
+        self.take()
     }
 
     fn output(&self) -> &[u8] {
@@ -55,13 +57,8 @@ impl ProofTranscriptProcessor for Counts {
 
     ghost shown = { λ c. c.count };
 
-    fn process_step(&mut self, _step: &ProofTranscriptStep) -> Result<(), anyhow::Error> {
-        if self.left == 0 {
-            bail!("the planned fault");
-        }
-        self.left -= 1;
-        self.count[0] = self.count[0].wrapping_add(1);
-        Ok(())
+    fn process_step(&mut self, _step: &ProofTranscriptStep) -> Result<(), Error> {
+        self.take()
     }
 
     fn output(&self) -> &[u8] {

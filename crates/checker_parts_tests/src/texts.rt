@@ -1,5 +1,6 @@
 //! Texts of causes and errors.
 use anyhow::anyhow;
+use checker_parts::error::CheckCause::*;
 use checker_parts::error::{CheckCause, CheckerError, DimacsError};
 use proof_bytes::MalformedStep;
 use sat_formula::DimacsKind;
@@ -12,83 +13,56 @@ use test_streams::Shown;
 
 /// Causes with their texts.
 const CAUSES: [(CheckCause, &str); 29] = [
+    (NotSampling, "variable is not a sampling variable"),
+    (Tautology, "clause is a tautology"),
+    (NoClauseForHash, "no clause found for hash"),
+    (AtCheckFailed, "AT check failed"),
+    (DeleteUnitOrEmpty, "delete of unit or empty clause"),
+    (DeleteUnknown, "delete of unknown clause"),
     (
-        CheckCause::NotSampling,
-        "variable is not a sampling variable",
-    ),
-    (CheckCause::Tautology, "clause is a tautology"),
-    (CheckCause::NoClauseForHash, "no clause found for hash"),
-    (CheckCause::AtCheckFailed, "AT check failed"),
-    (
-        CheckCause::DeleteUnitOrEmpty,
-        "delete of unit or empty clause",
-    ),
-    (CheckCause::DeleteUnknown, "delete of unknown clause"),
-    (
-        CheckCause::DeleteRedundantIsIrredundant,
+        DeleteRedundantIsIrredundant,
         "delete of redundant clause which is irredundant",
     ),
     (
-        CheckCause::DeleteIrredundantIsRedundant,
+        DeleteIrredundantIsRedundant,
         "delete of irredundant clause which is redundant",
     ),
-    (CheckCause::NotSatisfied, "deleted clause is not satisfied"),
+    (NotSatisfied, "deleted clause is not satisfied"),
     (
-        CheckCause::NotSubsumed,
+        NotSubsumed,
         "deleted clause is not subsumed by previous clause",
     ),
     (
-        CheckCause::DeletedVarNamed,
+        DeletedVarNamed,
         "deleted variable corresponds to a user variable",
     ),
+    (DeletedVarHasClauses, "deleted variable still has clauses"),
+    (SampleHidden, "cannot sample hidden variable"),
     (
-        CheckCause::DeletedVarHasClauses,
-        "deleted variable still has clauses",
-    ),
-    (CheckCause::SampleHidden, "cannot sample hidden variable"),
-    (
-        CheckCause::UserNameTaken,
+        UserNameTaken,
         "user name out of range or used for two different variables",
     ),
     (
-        CheckCause::StillHidden,
+        StillHidden,
         "user name added to variable which is still hidden",
     ),
+    (NameInUse, "change of user name for in use variable"),
+    (NoNameToRemove, "no user name to remove"),
     (
-        CheckCause::NameInUse,
-        "change of user name for in use variable",
-    ),
-    (CheckCause::NoNameToRemove, "no user name to remove"),
-    (
-        CheckCause::ModelAgainstUnit,
+        ModelAgainstUnit,
         "model assignment conflicts with unit clause",
     ),
-    (
-        CheckCause::ModelAgainstItself,
-        "model contains conflicting assignment",
-    ),
-    (
-        CheckCause::ModelMissesAssumption,
-        "model does not contain assumption",
-    ),
-    (
-        CheckCause::ModelMissesClause,
-        "model does not satisfy clause",
-    ),
-    (
-        CheckCause::NotAssumed,
-        "failed core contains non-assumed variables",
-    ),
-    (CheckCause::UnknownVar, "unknown variable"),
-    (CheckCause::HashBits, "hash width out of range"),
-    (
-        CheckCause::CoreVarHidden,
-        "failed core contains hidden variable",
-    ),
-    (CheckCause::ModelAfterUnsat, "model after unsatisfiability"),
-    (CheckCause::IdsExhausted, "no clause id left"),
-    (CheckCause::CountExhausted, "clause count exhausted"),
-    (CheckCause::StepsExhausted, "no step number left"),
+    (ModelAgainstItself, "model contains conflicting assignment"),
+    (ModelMissesAssumption, "model does not contain assumption"),
+    (ModelMissesClause, "model does not satisfy clause"),
+    (NotAssumed, "failed core contains non-assumed variables"),
+    (UnknownVar, "unknown variable"),
+    (HashBits, "hash width out of range"),
+    (CoreVarHidden, "failed core contains hidden variable"),
+    (ModelAfterUnsat, "model after unsatisfiability"),
+    (IdsExhausted, "no clause id left"),
+    (CountExhausted, "clause count exhausted"),
+    (StepsExhausted, "no step number left"),
 ];
 
 /// How the text of a refused step begins.
@@ -146,16 +120,13 @@ fn error_at(place: usize) -> CheckerError {
     }
 }
 
-/// Kinds of malformed texts, with the texts of such errors on line 4.
+/// Kinds of malformed texts, with the texts of such errors behind the number of the line.
 const KINDS: [(DimacsKind, &str); 5] = [
-    (DimacsKind::BadNumber, "line 4: bad number"),
-    (DimacsKind::VarTooLarge, "line 4: variable too large"),
-    (DimacsKind::BadHeader, "line 4: bad header"),
-    (DimacsKind::LateHeader, "line 4: late header"),
-    (
-        DimacsKind::UnterminatedClause,
-        "line 4: unterminated clause",
-    ),
+    (DimacsKind::BadNumber, "bad number"),
+    (DimacsKind::VarTooLarge, "variable too large"),
+    (DimacsKind::BadHeader, "bad header"),
+    (DimacsKind::LateHeader, "late header"),
+    (DimacsKind::UnterminatedClause, "unterminated clause"),
 ];
 
 pub fn errors(rt: &impl Abort, alloc: Global) {
@@ -168,7 +139,7 @@ pub fn errors(rt: &impl Abort, alloc: Global) {
             line: 4,
             kind: *kind,
         };
-        says(rt, alloc, &malformed, "", text);
+        says(rt, alloc, &malformed, "line 4: ", text);
     }
     let unread = DimacsError::Read(io::Error::from(ErrorKind::UnexpectedEof));
     let text = "error reading formula: unexpected end of file";
