@@ -98,26 +98,31 @@ pub fn make(
 {
     let clause = lits(alloc, numbers)?;
     let hashes = hashes(alloc, names)?;
-    see(alloc, ctx, call, &clause, &hashes)
+    let over = Over {
+        clause: &clause,
+        propagation_hashes: &hashes,
+    };
+    see(alloc, ctx, call, &over)
 }
 
-fn see(
-    alloc: Global,
-    ctx: &mut Context,
-    call: &Call,
-    clause: &[Lit],
-    hashes: &[ClauseHash],
-) -> Result<Seen, Fail>
+/// What a call is over.
+#[derive(Clone, Copy)]
+struct Over<'a> {
+    clause: &'a [Lit],
+    propagation_hashes: &'a [ClauseHash],
+}
+
+fn see(alloc: Global, ctx: &mut Context, call: &Call, over: &Over<'_>) -> Result<Seen, Fail>
     requires { ContextInvariant ctx.old }
     ensures { OnOk result (ContextInvariant ctx.new) }
 {
     match call {
         Call::Look(what) => Ok(recorded(ctx, what)),
         Call::Copies(redundant) => {
-            let count = copies(&ctx.clause_hasher, &ctx.clauses, clause, *redundant);
+            let count = copies(&ctx.clause_hasher, &ctx.clauses, over.clause, *redundant);
             Ok(Seen::Number(count as u64))
         }
-        Call::Hash => Ok(Seen::Number(ctx.clause_hasher.clause_hash(clause))),
+        Call::Hash => Ok(Seen::Number(ctx.clause_hasher.clause_hash(over.clause))),
         Call::Bucket(hash, ids) => {
             let found = ids_in(alloc, ctx, *hash)?;
             Ok(Seen::Is(found.as_slice() == *ids))
@@ -126,21 +131,15 @@ fn see(
             with_empty_previous(alloc, ctx);
             Ok(Seen::Done)
         }
-        _ => see_answer(alloc, ctx, call, clause, hashes),
+        _ => see_answer(alloc, ctx, call, over),
     }
 }
 
-fn see_answer(
-    alloc: Global,
-    ctx: &mut Context,
-    call: &Call,
-    clause: &[Lit],
-    hashes: &[ClauseHash],
-) -> Result<Seen, Fail>
+fn see_answer(alloc: Global, ctx: &mut Context, call: &Call, over: &Over<'_>) -> Result<Seen, Fail>
     requires { ContextInvariant ctx.old }
     ensures { OnOk result (ContextInvariant ctx.new) }
 {
-    match answer(alloc, ctx, call, clause, hashes) {
+    match answer(alloc, ctx, call, over) {
         Ok(()) => Ok(Seen::Done),
         Err(
             CheckerError::CheckFailed {
@@ -158,19 +157,18 @@ fn answer(
     alloc: Global,
     ctx: &mut Context,
     call: &Call,
-    clause: &[Lit],
-    hashes: &[ClauseHash],
+    over: &Over<'_>,
 ) -> Result<(), CheckerError>
     requires { ContextInvariant ctx.old }
     ensures { UnlessFailed result (ContextInvariant ctx.new) }
 {
     match call {
-        Call::Add => add_clause(alloc, ctx, clause),
-        Call::Attempt(kind) => match step_of(kind, clause, hashes) {
+        Call::Add => add_clause(alloc, ctx, over.clause),
+        Call::Attempt(kind) => match step_of(kind, over) {
             Some(step) => attempt_step(alloc, ctx, &step),
             None => Err(CheckerError::Failed),
         },
-        Call::Check(kind) => match step_of(kind, clause, hashes) {
+        Call::Check(kind) => match step_of(kind, over) {
             Some(step) => check_step(alloc, ctx, &step),
             None => Err(CheckerError::Failed),
         },
@@ -184,11 +182,11 @@ fn answer(
 }
 
 /// None: there is no such variable.
-fn step_of<'a>(
-    kind: &Kind,
-    clause: &'a [Lit],
-    propagation_hashes: &'a [ClauseHash],
-) -> Option<ProofStep<'a>> {
+fn step_of<'a>(kind: &Kind, over: &Over<'a>) -> Option<ProofStep<'a>> {
+    let Over {
+        clause,
+        propagation_hashes,
+    } = *over;
     Some(match kind {
         Kind::Add => ProofStep::AddClause { clause },
         Kind::Derive => ProofStep::AtClause {
