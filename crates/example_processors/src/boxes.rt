@@ -4,7 +4,7 @@ ghost use Rattle.std.specs.String.{string_bytes};
 ghost use Rattle.example_processors.specs.Texts.{Appends};
 
 use crate::lines::{name_line, step_line, transcript_line};
-use anyhow::bail;
+use anyhow::{Error, bail};
 use checker_parts::processor::{CheckerData, ProofProcessor, ProofTranscriptProcessor};
 use checker_parts::step::{CheckedProofStep, ProofTranscriptStep};
 use std::alloc::Global;
@@ -26,7 +26,7 @@ impl Tally {
     }
 
     /// Makes one stroke more.
-    fn stroke(&mut self) -> Result<(), anyhow::Error>
+    fn stroke(&mut self) -> Result<(), Error>
         ensures made { OnOk result (self.new.strokes.items ≡ self.old.strokes.items ++ codes "|") }
         ensures kept { OnErr result (self.new.strokes.items ≡ self.old.strokes.items) }
     {
@@ -42,11 +42,7 @@ impl ProofProcessor for Tally {
 
     ghost shown = { λ it. it.strokes.items };
 
-    fn process_step(
-        &mut self,
-        _step: &CheckedProofStep,
-        _names: CheckerData,
-    ) -> Result<(), anyhow::Error> {
+    fn process_step(&mut self, _step: &CheckedProofStep, _names: CheckerData) -> Result<(), Error> {
         self.stroke()
     }
 
@@ -62,7 +58,7 @@ impl ProofTranscriptProcessor for Tally {
 
     ghost shown = { λ it. it.strokes.items };
 
-    fn process_step(&mut self, _step: &ProofTranscriptStep) -> Result<(), anyhow::Error> {
+    fn process_step(&mut self, _step: &ProofTranscriptStep) -> Result<(), Error> {
         self.stroke()
     }
 
@@ -85,7 +81,7 @@ impl Faulty {
     }
 
     /// Takes one step more, or answers the fault.
-    fn take(&mut self) -> Result<(), anyhow::Error>
+    fn take(&mut self) -> Result<(), Error>
         ensures took { OnOk result (self.old.left ≡ self.new.left + 1) }
         ensures faulted { OnErr result ((self.old.left ≡ 0) × (self.new ≡ self.old)) }
     {
@@ -104,11 +100,7 @@ impl ProofProcessor for Faulty {
 
     ghost shown = { λ it. [] };
 
-    fn process_step(
-        &mut self,
-        _step: &CheckedProofStep,
-        _names: CheckerData,
-    ) -> Result<(), anyhow::Error> {
+    fn process_step(&mut self, _step: &CheckedProofStep, _names: CheckerData) -> Result<(), Error> {
         self.take()
     }
 
@@ -124,7 +116,7 @@ impl ProofTranscriptProcessor for Faulty {
 
     ghost shown = { λ it. [] };
 
-    fn process_step(&mut self, _step: &ProofTranscriptStep) -> Result<(), anyhow::Error> {
+    fn process_step(&mut self, _step: &ProofTranscriptStep) -> Result<(), Error> {
         self.take()
     }
 
@@ -133,19 +125,30 @@ impl ProofTranscriptProcessor for Faulty {
     }
 }
 
-/// Lists the steps as text, a line each.
+/// Lists steps as text, a line each.
 #[derive(Drop)]
 pub struct StepList {
     alloc: Global,
     text: String,
+    names_alone: bool,
 }
 
 impl StepList {
-    /// No lines.
+    /// No lines. Each step gets one.
     pub fn new(alloc: Global) -> StepList {
         StepList {
             alloc,
             text: String::new(alloc),
+            names_alone: false,
+        }
+    }
+
+    /// No lines. A processor gets one for each variable that gets or loses a name or is deleted,
+    /// with the user variable that is shown with the step.
+    pub fn of_names(alloc: Global) -> StepList {
+        StepList {
+            names_alone: true,
+            ..StepList::new(alloc)
         }
     }
 }
@@ -157,12 +160,30 @@ impl ProofProcessor for StepList {
 
     ghost shown = { λ it. string_bytes it.text };
 
-    fn process_step(
-        &mut self,
-        step: &CheckedProofStep,
-        _names: CheckerData,
-    ) -> Result<(), anyhow::Error> {
-        let line = step_line(self.alloc, step)?;
+    fn process_step(&mut self, step: &CheckedProofStep, names: CheckerData) -> Result<(), Error> {
+        let line = if self.names_alone {
+            name_line(self.alloc, step, names)?
+        } else {
+            step_line(self.alloc, step)?
+        };
+        self.text.push_str(&line)?;
+        Ok(())
+    }
+
+    fn output(&self) -> &[u8] {
+        self.text.as_bytes()
+    }
+}
+
+impl ProofTranscriptProcessor for StepList {
+    ghost took = { λ old e new. Appends (string_bytes old.text) (string_bytes new.text) };
+
+    ghost faulted = { λ old e new. string_bytes new.text ≡ string_bytes old.text };
+
+    ghost shown = { λ it. string_bytes it.text };
+
+    fn process_step(&mut self, step: &ProofTranscriptStep) -> Result<(), Error> {
+        let line = transcript_line(self.alloc, step)?;
         self.text.push_str(&line)?;
         Ok(())
     }
@@ -196,7 +217,7 @@ impl ProofTranscriptProcessor for TranscriptList {
 
     ghost shown = { λ it. string_bytes it.text };
 
-    fn process_step(&mut self, step: &ProofTranscriptStep) -> Result<(), anyhow::Error> {
+    fn process_step(&mut self, step: &ProofTranscriptStep) -> Result<(), Error> {
         let line = transcript_line(self.alloc, step)?;
         self.text.push_str(&line)?;
         Ok(())
@@ -232,11 +253,7 @@ impl ProofProcessor for NameList {
 
     ghost shown = { λ it. string_bytes it.text };
 
-    fn process_step(
-        &mut self,
-        step: &CheckedProofStep,
-        names: CheckerData,
-    ) -> Result<(), anyhow::Error> {
+    fn process_step(&mut self, step: &CheckedProofStep, names: CheckerData) -> Result<(), Error> {
         let line = name_line(self.alloc, step, names)?;
         self.text.push_str(&line)?;
         Ok(())

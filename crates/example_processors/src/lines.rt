@@ -2,20 +2,18 @@
 //! in round brackets.
 use checker_parts::processor::CheckerData;
 use checker_parts::step::{
-    CheckedProofStep, CheckedSamplingMode, CheckedUserVar, ProofTranscriptStep,
+    CheckedProofStep as Step, CheckedSamplingMode, CheckedUserVar, ProofTranscriptStep,
 };
 use sat_formula::{Lit, Var};
 use std::alloc::{AllocError, Global};
 use std::fmt;
 
 /// The line of a step.
-pub(crate) fn step_line(alloc: Global, step: &CheckedProofStep) -> Result<String, AllocError> {
+pub(crate) fn step_line(alloc: Global, step: &Step) -> Result<String, AllocError> {
     match step {
-        CheckedProofStep::UserVar { var, user_var } => user_var_line(alloc, *var, user_var),
-        CheckedProofStep::AddClause { id, clause } => {
-            format!(in alloc; "AddClause {id} {}\n", Lits(clause))
-        }
-        CheckedProofStep::DuplicatedClause {
+        Step::UserVar { var, user_var } => user_var_line(alloc, *var, user_var),
+        Step::AddClause { id, clause } => clause_line(alloc, "AddClause", *id, clause),
+        Step::DuplicatedClause {
             id,
             same_as_id,
             clause,
@@ -23,70 +21,73 @@ pub(crate) fn step_line(alloc: Global, step: &CheckedProofStep) -> Result<String
             "DuplicatedClause {id} same {same_as_id} {}\n",
             Lits(clause)
         ),
-        CheckedProofStep::TautologicalClause { id, clause } => {
-            format!(in alloc; "TautologicalClause {id} {}\n", Lits(clause))
+        Step::TautologicalClause { id, clause } => {
+            clause_line(alloc, "TautologicalClause", *id, clause)
         }
-        CheckedProofStep::AtClause {
+        Step::AtClause {
             id,
             redundant,
             clause,
             propagations,
         } => {
             let kind = if *redundant { "red" } else { "irr" };
-            format!(in alloc;
-                "AtClause {id} {kind} {} {}\n",
-                Lits(clause),
-                Ids(propagations)
-            )
+            let clause = Propagated(clause, propagations);
+            format!(in alloc; "AtClause {id} {kind} {clause}\n")
         }
-        CheckedProofStep::DeleteClause { id, clause } => {
-            format!(in alloc; "DeleteClause {id} {}\n", Lits(clause))
-        }
-        CheckedProofStep::DeleteAtClause {
+        Step::DeleteClause { id, clause } => clause_line(alloc, "DeleteClause", *id, clause),
+        Step::DeleteAtClause {
             id,
             keep_as_redundant,
             clause,
             propagations,
-        } => {
-            let kept = if *keep_as_redundant { "keep" } else { "gone" };
-            format!(in alloc;
-                "DeleteAtClause {id} {kept} {} {}\n",
-                Lits(clause),
-                Ids(propagations)
-            )
-        }
-        CheckedProofStep::DeleteRatClause {
+        } => format!(in alloc;
+            "DeleteAtClause {id} {} {}\n",
+            kept(*keep_as_redundant),
+            Propagated(clause, propagations)
+        ),
+        Step::DeleteRatClause {
             id,
             keep_as_redundant,
             clause,
             pivot,
             ..
-        } => {
-            let kept = if *keep_as_redundant { "keep" } else { "gone" };
-            let pivot = pivot.to_dimacs();
-            format!(in alloc;
-                "DeleteRatClause {id} {kept} {} pivot {pivot}\n",
-                Lits(clause)
-            )
-        }
-        CheckedProofStep::MakeIrredundant { id, clause } => {
-            format!(in alloc; "MakeIrredundant {id} {}\n", Lits(clause))
-        }
-        CheckedProofStep::Model { assignment } => {
-            format!(in alloc; "Model {}\n", Lits(assignment))
-        }
-        CheckedProofStep::Assumptions { assumptions } => {
-            format!(in alloc; "Assumptions {}\n", Lits(assumptions))
-        }
-        CheckedProofStep::FailedAssumptions {
+        } => format!(in alloc;
+            "DeleteRatClause {id} {} {} pivot {}\n",
+            kept(*keep_as_redundant),
+            Lits(clause),
+            pivot.to_dimacs()
+        ),
+        Step::MakeIrredundant { id, clause } => clause_line(alloc, "MakeIrredundant", *id, clause),
+        Step::Model { assignment } => lits_line(alloc, "Model", assignment),
+        Step::Assumptions { assumptions } => lits_line(alloc, "Assumptions", assumptions),
+        Step::FailedAssumptions {
             failed_core,
             propagations,
         } => format!(in alloc;
-            "FailedAssumptions {} {}\n",
-            Lits(failed_core),
-            Ids(propagations)
+            "FailedAssumptions {}\n",
+            Propagated(failed_core, propagations)
         ),
     }
+}
+
+/// The line of a step on a clause.
+fn clause_line(alloc: Global, name: &str, id: u64, clause: &[Lit]) -> Result<String, AllocError> {
+    format!(in alloc; "{name} {id} {}\n", Lits(clause))
+}
+
+/// The line of a step on literals.
+fn lits_line(alloc: Global, name: &str, lits: &[Lit]) -> Result<String, AllocError> {
+    format!(in alloc; "{name} {}\n", Lits(lits))
+}
+
+/// The line of a step on a variable.
+fn var_line(alloc: Global, name: &str, var: Var) -> Result<String, AllocError> {
+    format!(in alloc; "{name} {}\n", var.to_dimacs())
+}
+
+/// What becomes of a clause that is deleted.
+fn kept(keep_as_redundant: bool) -> &'static str {
+    if keep_as_redundant { "keep" } else { "gone" }
 }
 
 /// The line of a name that is given, kept in another mode, or removed.
@@ -116,28 +117,18 @@ pub(crate) fn transcript_line(
     step: &ProofTranscriptStep,
 ) -> Result<String, AllocError> {
     match step {
-        ProofTranscriptStep::WitnessVar { var } => {
-            format!(in alloc; "WitnessVar {}\n", var.to_dimacs())
-        }
-        ProofTranscriptStep::SampleVar { var } => {
-            format!(in alloc; "SampleVar {}\n", var.to_dimacs())
-        }
-        ProofTranscriptStep::HideVar { var } => format!(in alloc; "HideVar {}\n", var.to_dimacs()),
+        ProofTranscriptStep::WitnessVar { var } => var_line(alloc, "WitnessVar", *var),
+        ProofTranscriptStep::SampleVar { var } => var_line(alloc, "SampleVar", *var),
+        ProofTranscriptStep::HideVar { var } => var_line(alloc, "HideVar", *var),
         ProofTranscriptStep::ObserveInternalVar { var } => {
-            format!(in alloc; "ObserveInternalVar {}\n", var.to_dimacs())
+            var_line(alloc, "ObserveInternalVar", *var)
         }
-        ProofTranscriptStep::AddClause { clause } => {
-            format!(in alloc; "AddClause {}\n", Lits(clause))
-        }
+        ProofTranscriptStep::AddClause { clause } => lits_line(alloc, "AddClause", clause),
         ProofTranscriptStep::Unsat => format!(in alloc; "Unsat\n"),
-        ProofTranscriptStep::Model { assignment } => {
-            format!(in alloc; "Model {}\n", Lits(assignment))
-        }
-        ProofTranscriptStep::Assume { assumptions } => {
-            format!(in alloc; "Assume {}\n", Lits(assumptions))
-        }
+        ProofTranscriptStep::Model { assignment } => lits_line(alloc, "Model", assignment),
+        ProofTranscriptStep::Assume { assumptions } => lits_line(alloc, "Assume", assumptions),
         ProofTranscriptStep::FailedAssumptions { failed_core } => {
-            format!(in alloc; "FailedAssumptions {}\n", Lits(failed_core))
+            lits_line(alloc, "FailedAssumptions", failed_core)
         }
     }
 }
@@ -145,12 +136,12 @@ pub(crate) fn transcript_line(
 /// The line of a step on one variable, and none of another step.
 pub(crate) fn name_line(
     alloc: Global,
-    step: &CheckedProofStep,
+    step: &Step,
     names: CheckerData,
 ) -> Result<String, AllocError> {
     let var = match step {
-        CheckedProofStep::UserVar { var, .. } => *var,
-        CheckedProofStep::DeleteRatClause { pivot, .. } => pivot.var(),
+        Step::UserVar { var, .. } => *var,
+        Step::DeleteRatClause { pivot, .. } => pivot.var(),
         _ => return Ok(String::new(alloc)),
     };
     let number = var.to_dimacs();
@@ -177,14 +168,14 @@ impl fmt::Display for Lits<'_> {
     }
 }
 
-/// The ids of propagations.
+/// Literals, and the ids of propagations.
 #[derive(Drop)]
-struct Ids<'a>(&'a [u64]);
+struct Propagated<'a>(&'a [Lit], &'a [u64]);
 
-impl fmt::Display for Ids<'_> {
+impl fmt::Display for Propagated<'_> {
     fn fmt<W: fmt::Write>(&self, f: &mut fmt::Formatter<W>) -> fmt::Result {
-        write!(f, "(")?;
-        for (place, id) in self.0.iter().enumerate() {
+        write!(f, "{} (", Lits(self.0))?;
+        for (place, id) in self.1.iter().enumerate() {
             if place > 0 {
                 write!(f, " ")?;
             }
