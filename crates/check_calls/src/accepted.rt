@@ -5,12 +5,14 @@ use std::alloc::Global;
 use std::test::Fail;
 use varisat_checker::Checker;
 
-/// Adds an input clause, which is accepted.
-pub fn given(alloc: Global, checker: &mut Checker, numbers: &str) -> Result<(), Fail> {
-    match checker.add_clause(&lits(alloc, numbers)?) {
-        Ok(()) => Ok(()),
-        Err(_) => Err("a clause is refused".into()),
+/// Adds input clauses, which bars divide. Each is accepted.
+pub fn given(alloc: Global, checker: &mut Checker, clauses: &str) -> Result<(), Fail> {
+    for clause in clauses.split('|') {
+        if checker.add_clause(&lits(alloc, clause)?).is_err() {
+            return Err("a clause is refused".into());
+        }
     }
+    Ok(())
 }
 
 /// Registers a processor, which is not refused.

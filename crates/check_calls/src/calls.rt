@@ -1,4 +1,4 @@
-//! Calls of a checker as lines of text.
+//! Calls of a checker as lines of text, with the answer behind ` > ` where it isn't `Ok`.
 //!
 //! Literals and variables are DIMACS numbers. A hash is a hexadecimal number, or a capital letter
 //! of [`hash`]'s table.
@@ -170,6 +170,23 @@ fn fail_core(alloc: Global, checker: &mut Checker, rest: &str) -> Result<String,
         propagation_hashes: &propagation_hashes,
     };
     check(alloc, checker, step)
+}
+
+/// The call of a line, without the answer that stands behind it.
+pub fn call_of(line: &str) -> &str {
+    match line.split_once(" > ") {
+        Some((call, _)) => call,
+        None => line,
+    }
+}
+
+/// Writes the line of a call and its answer.
+pub fn write_line(out: &mut String, call: &str, answer: &str) -> Result<(), Fail> {
+    match answer {
+        "Ok" => writeln!(out, "{call}")?,
+        _ => writeln!(out, "{call} > {answer}")?,
+    }
+    Ok(())
 }
 
 /// The first word, and what follows it.

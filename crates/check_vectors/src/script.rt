@@ -1,21 +1,23 @@
-//! Scripts: calls, and below each call what is seen of it.
+//! Scripts: calls with their answers, and below each call the steps that it tells.
 //!
 //! A line is
 //!
 //! - `new`: what follows is called of a new checker with boxes;
 //! - `bare`: what follows is called of a new checker without any;
+//! - `here`, `again`: what follows `again` is called of a new checker that took the calls up to
+//!   `here`;
 //! - a call, as in [`check_calls::calls`];
 //! - `formula CLAUSES`: adds a formula, each of whose clauses ends with a bar; where it is
 //!   accepted, the answer is how many clauses and variables it has;
-//! - `given LITS`: an input clause that is accepted, of which nothing more is said;
-//! - `> + STEP`, `> ~ STEP`: processors, or transcripts, are told this step by the call above;
-//! - `> ANSWER`: what the call above answers where it isn't `Ok`;
+//! - `given CLAUSES`: input clauses, which bars divide. They are accepted, and nothing more is said
+//!   of them;
+//! - `+ STEP`, `~ STEP`: processors, or transcripts, are told this step by the call above;
 //! - `# WORDS`: why the script goes on so.
 use check_calls::accepted::{given, register, register_transcript};
 use check_calls::answers::answer;
-use check_calls::calls::{first_word, lits, make};
+use check_calls::calls::{call_of, first_word, lits, make, write_line};
 use checker_parts::processor::{ProofProcessor, ProofTranscriptProcessor};
-use example_processors::boxes::{Faulty, StepList, Tally, TranscriptList};
+use example_processors::boxes::{Faulty, StepList, Tally};
 use sat_formula::CnfFormula;
 use std::alloc::Global;
 use std::process::Abort;
@@ -36,26 +38,41 @@ pub fn agrees(rt: &impl Abort, alloc: Global, script: &str) -> Result<(), Fail> 
 fn played(alloc: Global, script: &str, size: usize) -> Result<String, Fail> {
     let mut seen = String::new(alloc);
     let mut calls = String::new(alloc);
+    let mut calls_here = String::new(alloc);
     let mut before = Seen::nothing(alloc);
     for line in script.lines() {
-        if line.starts_with('>') {
+        if line.starts_with('+') || line.starts_with('~') {
             continue;
         }
-        writeln!(seen, "{line}")?;
-        if line == "new" || line == "bare" {
-            calls.clear();
-            before = Seen::nothing(alloc);
+        if is_no_call(line) {
+            writeln!(seen, "{line}")?;
         }
-        if !line.starts_with('#') && !line.is_empty() {
-            writeln!(calls, "{line}")?;
-            let after = Seen::of(alloc, &calls, size)?;
-            if first_word(line).0 != "given" {
-                after.write_since(&before, &mut seen)?;
+        match line {
+            "here" => calls_here = calls.clone()?,
+            "again" => {
+                calls = calls_here.clone()?;
+                before = Seen::of(alloc, &calls, size)?;
             }
+            "new" | "bare" => {
+                calls.clear();
+                before = Seen::nothing(alloc);
+            }
+            _ => {}
+        }
+        if !is_no_call(line) {
+            let call = call_of(line);
+            writeln!(calls, "{call}")?;
+            let after = Seen::of(alloc, &calls, size)?;
+            after.write_since(call, &before, &mut seen)?;
             before = after;
         }
     }
     Ok(seen)
+}
+
+/// Whether nothing is called by this line.
+fn is_no_call(line: &str) -> bool {
+    line.is_empty() || line.starts_with('#') || line == "here" || line == "again"
 }
 
 /// What is seen of a list of calls.
@@ -91,12 +108,12 @@ impl Seen {
         })
     }
 
-    /// Writes what is seen of the last call, by what was seen before it.
-    fn write_since(&self, before: &Seen, out: &mut String) -> Result<(), Fail> {
-        write_added(out, '+', &before.steps, &self.steps)?;
-        write_added(out, '~', &before.transcript, &self.transcript)?;
-        if self.answer.as_str() != "Ok" {
-            writeln!(out, "> {}", self.answer)?;
+    /// Writes the last call and what is seen of it, by what was seen before it.
+    fn write_since(&self, call: &str, before: &Seen, out: &mut String) -> Result<(), Fail> {
+        write_line(out, call, &self.answer)?;
+        if first_word(call).0 != "given" {
+            write_added(out, '+', &before.steps, &self.steps)?;
+            write_added(out, '~', &before.transcript, &self.transcript)?;
         }
         Ok(())
     }
@@ -121,7 +138,7 @@ fn register_boxes(alloc: Global, checker: &mut Checker) -> Result<(), Fail> {
     register(checker, Box::new(alloc, StepList::new(alloc))?)?;
     register(checker, Box::new(alloc, Faulty::after(u64::MAX))?)?;
     register(checker, Box::new(alloc, Tally::new(alloc))?)?;
-    register_transcript(checker, Box::new(alloc, TranscriptList::new(alloc))?)?;
+    register_transcript(checker, Box::new(alloc, StepList::new(alloc))?)?;
     register_transcript(checker, Box::new(alloc, Tally::new(alloc))?)
 }
 
@@ -150,7 +167,7 @@ fn write_added(out: &mut String, mark: char, before: &str, after: &str) -> Resul
         .strip_prefix(before)
         .ok_or("a list is no longer what it was")?;
     for line in added.lines() {
-        writeln!(out, "> {mark} {line}")?;
+        writeln!(out, "{mark} {line}")?;
     }
     Ok(())
 }
@@ -179,9 +196,9 @@ fn answer_to(
             Ok("Ok".to_string(alloc)?)
         }
         ("bare", _) => Ok("Ok".to_string(alloc)?),
-        ("given", numbers) => {
-            given(alloc, checker, numbers)?;
-            Ok(String::new(alloc))
+        ("given", clauses) => {
+            given(alloc, checker, clauses)?;
+            Ok("Ok".to_string(alloc)?)
         }
         ("formula", clauses) => {
             let formula = formula(alloc, clauses)?;
