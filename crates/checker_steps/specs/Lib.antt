@@ -1,4 +1,5 @@
 pub mod Added
+pub mod Common
 pub mod Context
 pub mod DeletedVar
 pub mod DeletionSteps

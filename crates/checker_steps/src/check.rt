@@ -2,17 +2,16 @@
 ghost use Rattle.std.specs.Prelude.{◌≡◌, ◌≢◌, ◌≤◌, Err, Ok, true, false};
 ghost use Rattle.checker_rules.specs.CallEmissions.{EmitsCall};
 ghost use Rattle.checker_rules.specs.Calls.{attempt, checks, closes, closing_conflict, step_limit};
-ghost use Rattle.checker_rules.specs.Emits.{Emits};
 ghost use Rattle.checker_rules.specs.Step as steps;
 ghost use Rattle.checker_rules.specs.Steps as rules;
 ghost use Rattle.checker_parts.specs.Answers.{AnswersParts, UnlessFailed};
-ghost use Rattle.checker_parts.specs.Faults.{AnswersOutcome, IsErrorOf, UnlessStopped, has_stopped};
+ghost use Rattle.checker_parts.specs.Faults.{IsErrorOf, has_stopped};
 ghost use Rattle.checker_parts.specs.Memory.{NeedsNoMemory};
 ghost use Rattle.checker_parts.specs.declared.error.StepFault.TheVariants.{OutOfMemory, Refused};
 ghost use Rattle.proof_bytes.specs.NextStep.{view};
-ghost use Rattle.checker_steps.specs.Context.{ContextInvariant, context_state, listeners_in};
 ghost use Rattle.checker_steps.specs.Failing.{has_failed};
-ghost use Rattle.checker_steps.specs.Delivered.{Delivered, DeliveredList, listeners_of};
+ghost use Rattle.checker_steps.specs.Delivered.{Delivered};
+ghost use Rattle.checker_steps.specs.Common.{AnswersOutcome, ContextInvariant, DeliveredList, Emits, UnlessStopped, context_state, listeners_in, listeners_of};
 ghost use Rattle.checker_steps.specs.Idle.{wants_no_memory};
 
 use crate::context::ContextOf;

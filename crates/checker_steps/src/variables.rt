@@ -1,21 +1,13 @@
 //! The known variables: making them known to every part, and their user names.
 ghost use Rattle.std.specs.Prelude.{◌≡◌, length, suc, Err, None, Some, OnErr, OnOk};
-ghost use Rattle.checker_rules.specs.Emits.{Emits};
 ghost use Rattle.checker_rules.specs.KnownVars.{is_sample, some_not_sampling};
 ghost use Rattle.checker_rules.specs.Step as rules;
-ghost use Rattle.checker_rules.specs.Steps.{step};
-ghost use Rattle.checker_parts.specs.Faults.{AnswersOutcome, UnlessStopped};
 ghost use Rattle.checker_parts.specs.CheckedSteps.{samples};
 ghost use Rattle.checker_parts.specs.Variables.{mode_of};
 ghost use Rattle.checker_parts.specs.declared.error.StepFault.TheVariants.{OutOfMemory};
 ghost use Rattle.sat_formula.specs.Vars.{index_of};
-ghost use Rattle.clause_store.specs.StateOf.{state_of};
-ghost use Rattle.clause_store.specs.declared.clauses.Clauses.{Clauses};
-ghost use Rattle.clause_store.specs.declared.hash.ClauseHasher.{ClauseHasher};
-ghost use Rattle.clause_store.specs.declared.state.CheckerState.{CheckerState};
 ghost use Rattle.clause_store.specs.Growth.{KnowsVars};
-ghost use Rattle.clause_store.specs.Store.{IsStore};
-ghost use Rattle.checker_steps.specs.Delivered.{DeliveredList, listeners_of};
+ghost use Rattle.checker_steps.specs.Common.{AnswersOutcome, CheckerState, ClauseHasher, Clauses, DeliveredList, Emits, IsStore, UnlessStopped, listeners_of, state_of, step};
 ghost use Rattle.checker_steps.specs.Naming.{IsNamingCause, sampling_var};
 
 use crate::emit::emit_user_var;

@@ -1,10 +1,6 @@
 //! The width of hashes.
-ghost use Rattle.checker_rules.specs.Emits.{Emits};
 ghost use Rattle.checker_rules.specs.Step as rules;
-ghost use Rattle.checker_rules.specs.Steps.{step};
-ghost use Rattle.checker_parts.specs.Faults.{AnswersOutcome, UnlessStopped};
-ghost use Rattle.checker_steps.specs.Context.{ContextInvariant, context_state, listeners_in};
-ghost use Rattle.checker_steps.specs.Delivered.{DeliveredList};
+ghost use Rattle.checker_steps.specs.Common.{AnswersOutcome, ContextInvariant, DeliveredList, Emits, UnlessStopped, context_state, listeners_in, step};
 
 use crate::context::ContextOf;
 use checker_parts::error::{CheckCause, StepFault};

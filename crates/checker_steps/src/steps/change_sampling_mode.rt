@@ -1,14 +1,10 @@
 //! Whether models tell a variable's value as a sample or as a witness.
 ghost use Rattle.std.specs.Prelude.{◌≡◌, ◌<◌, if◌then◌else◌, length};
-ghost use Rattle.checker_rules.specs.Emits.{Emits};
 ghost use Rattle.checker_rules.specs.State.{sample as sampled, witness};
 ghost use Rattle.checker_rules.specs.Step as rules;
-ghost use Rattle.checker_rules.specs.Steps.{step};
-ghost use Rattle.checker_parts.specs.Faults.{AnswersOutcome, UnlessStopped};
 ghost use Rattle.checker_parts.specs.Variables.{mode_of};
 ghost use Rattle.sat_formula.specs.Vars.{index_of};
-ghost use Rattle.checker_steps.specs.Context.{ContextInvariant, context_state, listeners_in};
-ghost use Rattle.checker_steps.specs.Delivered.{DeliveredList};
+ghost use Rattle.checker_steps.specs.Common.{AnswersOutcome, ContextInvariant, DeliveredList, Emits, UnlessStopped, context_state, listeners_in, step};
 ghost use Rattle.checker_steps.specs.Naming.{AnswersMode};
 
 use crate::context::ContextOf;

@@ -2,22 +2,14 @@
 ghost use Rattle.std.specs.Prelude.{◌≡◌, ◌<◌, ℕ, List, None, IsOk, length};
 ghost use Rattle.std.specs.List.{list_any};
 ghost use Rattle.checker_rules.specs.DeleteVar.{forget_var, free_var, holds_var};
-ghost use Rattle.checker_rules.specs.Emits.{Emits};
 ghost use Rattle.checker_rules.specs.State.{Known, Stored, unit_of};
 ghost use Rattle.checker_rules.specs.Step as rules;
-ghost use Rattle.checker_rules.specs.Steps.{step};
 ghost use Rattle.checker_rules.specs.Transcript.{known_at};
 ghost use Rattle.sat_formula.specs.Vars.{index_of};
-ghost use Rattle.checker_parts.specs.Faults.{AnswersOutcome, UnlessStopped};
 ghost use Rattle.clause_store.specs.Counts.{AreCounts};
-ghost use Rattle.clause_store.specs.StateOf.{state_of, stored_units};
-ghost use Rattle.clause_store.specs.Store.{IsStore};
-ghost use Rattle.clause_store.specs.declared.clauses.Clauses.{Clauses};
-ghost use Rattle.clause_store.specs.declared.hash.ClauseHasher.{ClauseHasher};
-ghost use Rattle.clause_store.specs.declared.state.CheckerState.{CheckerState};
-ghost use Rattle.checker_steps.specs.Context.{ContextInvariant, context_state, listeners_in};
+ghost use Rattle.clause_store.specs.StateOf.{stored_units};
 ghost use Rattle.checker_steps.specs.DeletedVar.{close_on, conflict_on, emits_close, emits_dropped};
-ghost use Rattle.checker_steps.specs.Delivered.{DeliveredList, listeners_of};
+ghost use Rattle.checker_steps.specs.Common.{AnswersOutcome, CheckerState, ClauseHasher, Clauses, ContextInvariant, DeliveredList, Emits, IsStore, UnlessStopped, context_state, listeners_in, listeners_of, state_of, step};
 
 use crate::context::ContextOf;
 use crate::emit::{emit_at_clause, emit_delete_rat_clause};

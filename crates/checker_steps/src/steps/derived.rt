@@ -3,12 +3,9 @@ ghost use Rattle.std.specs.Prelude.{◌≡◌, ℕ, List, IfOk, false, true};
 ghost use Rattle.sat_rules.specs.Clauses.{is_canonical, is_tautology};
 ghost use Rattle.checker_rules.specs.Check.{ready};
 ghost use Rattle.checker_rules.specs.Store.{id_of};
-ghost use Rattle.checker_parts.specs.Faults.{AnswersOutcome, UnlessStopped};
 ghost use Rattle.clause_store.specs.Refusal.{store_fault};
-ghost use Rattle.clause_store.specs.Store.{IsStore};
-ghost use Rattle.checker_steps.specs.Context.{ContextInvariant, context_state, listeners_in};
 ghost use Rattle.checker_steps.specs.Derived.{IsTraceFor, derived, derived_steps, stored_steps};
-ghost use Rattle.checker_steps.specs.Delivered.{DeliveredAll, DeliveredList, listeners_of};
+ghost use Rattle.checker_steps.specs.Common.{AnswersOutcome, ContextInvariant, DeliveredAll, DeliveredList, IsStore, UnlessStopped, context_state, listeners_in, listeners_of};
 
 use crate::context::ContextOf;
 use crate::emit::{emit_at_clause, emit_make_irredundant};

@@ -3,19 +3,11 @@ ghost use Rattle.std.specs.Prelude.{◌≡◌, IfOk, IsTrue, false, is_none, map
 ghost use Rattle.std.specs.List.{list_any};
 ghost use Rattle.sat_rules.specs.Clauses.{is_canonical, is_tautology, negate, var_of};
 ghost use Rattle.checker_rules.specs.Check.{check};
-ghost use Rattle.checker_rules.specs.Emits.{Emits};
 ghost use Rattle.checker_rules.specs.Outcome.{accept};
 ghost use Rattle.checker_rules.specs.Step as rules;
-ghost use Rattle.checker_rules.specs.Steps.{step};
 ghost use Rattle.checker_rules.specs.Transcript.{user_of};
-ghost use Rattle.checker_parts.specs.Faults.{AnswersOutcome, UnlessStopped};
-ghost use Rattle.clause_store.specs.StateOf.{state_of};
-ghost use Rattle.clause_store.specs.Store.{IsStore};
-ghost use Rattle.clause_store.specs.declared.clauses.Clauses.{Clauses};
-ghost use Rattle.clause_store.specs.declared.hash.ClauseHasher.{ClauseHasher};
-ghost use Rattle.checker_steps.specs.Context.{ContextInvariant, context_state, listeners_in};
 ghost use Rattle.checker_steps.specs.FailedCore.{core_cause, core_clause, core_steps};
-ghost use Rattle.checker_steps.specs.Delivered.{DeliveredList};
+ghost use Rattle.checker_steps.specs.Common.{AnswersOutcome, ClauseHasher, Clauses, ContextInvariant, DeliveredList, Emits, IsStore, UnlessStopped, context_state, listeners_in, state_of, step};
 ghost use Rattle.checker_steps.specs.ModelCause.{IsJudged};
 
 use crate::context::ContextOf;

@@ -2,21 +2,14 @@
 ghost use Rattle.std.specs.Prelude.{◌≡◌, ℕ, ◌&&◌, All, OnErr, OnOk, [], eqb, false, not};
 ghost use Rattle.std.specs.List.{list_all, list_any};
 ghost use Rattle.sat_rules.specs.Clauses.{add_lit, has};
-ghost use Rattle.checker_rules.specs.Emits.{Emits};
 ghost use Rattle.checker_rules.specs.Model.{model_cause};
 ghost use Rattle.checker_rules.specs.Step as rules;
-ghost use Rattle.checker_rules.specs.Steps.{step};
-ghost use Rattle.checker_parts.specs.Faults.{AnswersOutcome, UnlessStopped};
 ghost use Rattle.clause_store.specs.Buckets.{clauses_of};
 ghost use Rattle.clause_store.specs.Crowds.{standing};
 ghost use Rattle.clause_store.specs.Lits.{IsWithin};
-ghost use Rattle.clause_store.specs.StateOf.{state_of};
 ghost use Rattle.clause_store.specs.Store.{IsIndexed};
 ghost use Rattle.clause_store.specs.View.{stored_list, stored_of};
-ghost use Rattle.clause_store.specs.declared.hash.ClauseHasher.{ClauseHasher};
-ghost use Rattle.clause_store.specs.declared.state.CheckerState.{CheckerState};
-ghost use Rattle.checker_steps.specs.Context.{ContextInvariant, context_state, listeners_in};
-ghost use Rattle.checker_steps.specs.Delivered.{DeliveredList};
+ghost use Rattle.checker_steps.specs.Common.{AnswersOutcome, CheckerState, ClauseHasher, ContextInvariant, DeliveredList, Emits, UnlessStopped, context_state, listeners_in, state_of, step};
 ghost use Rattle.checker_steps.specs.Marks.{HasPlaces, MarksOnly, is_marked};
 ghost use Rattle.checker_steps.specs.ModelCause.{IsJudged, has_marked, list_cause, lit_cause};
 

@@ -1,11 +1,7 @@
 //! The solver's names of variables.
-ghost use Rattle.checker_rules.specs.Emits.{Emits};
 ghost use Rattle.checker_rules.specs.Step as rules;
-ghost use Rattle.checker_rules.specs.Steps.{step};
-ghost use Rattle.checker_parts.specs.Faults.{AnswersOutcome, UnlessStopped};
 ghost use Rattle.sat_formula.specs.Vars.{index_of, indexes_of};
-ghost use Rattle.checker_steps.specs.Context.{ContextInvariant, context_state, listeners_in};
-ghost use Rattle.checker_steps.specs.Delivered.{DeliveredList};
+ghost use Rattle.checker_steps.specs.Common.{AnswersOutcome, ContextInvariant, DeliveredList, Emits, UnlessStopped, context_state, listeners_in, step};
 
 use crate::context::ContextOf;
 use checker_parts::error::StepFault;
