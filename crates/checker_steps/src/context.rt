@@ -2,13 +2,15 @@
 use crate::marks::Marks;
 use crate::processing::ProcessingOf;
 use checker_parts::processor::{ProofProcessor, ProofTranscriptProcessor};
+use checker_parts::sorted_lits::copy_canonical;
 use checker_parts::variables::Variables;
 use clause_store::clauses::Clauses;
 use clause_store::hash::ClauseHasher;
 use clause_store::rup::RupCheck;
 use clause_store::state::CheckerState;
 use sat_formula::Lit;
-use std::alloc::Global;
+use std::alloc::{AllocError, Global};
+use std::mem::replace;
 
 /// Lists that are kept from one step to the next for their memory.
 #[derive(Drop)]
@@ -17,6 +19,31 @@ pub struct TmpData {
     pub tmp: Vec<Lit>,
     /// The literals of the model of the present step.
     pub marks: Marks,
+}
+
+impl TmpData {
+    ghost use Rattle.std.specs.Prelude.{◌≡◌, IfOk, IfSome, is_none};
+    ghost use Rattle.sat_rules.specs.Clauses.{is_tautology};
+    ghost use Rattle.checker_rules.specs.Canonical.{canonical};
+
+    /// The canonical list of a clause, in the memory that is kept, until it is put back. None of a
+    /// clause with opposite literals.
+    #[inline(never)]
+    pub(crate) fn take_canonical(
+        &mut self,
+        alloc: Global,
+        lits: &[Lit],
+    ) -> Result<Option<Vec<Lit>>, AllocError>
+        ensures list { IfOk result (λ list. IfSome list (λ clause. clause.items
+            ≡ canonical lits.now)) }
+        ensures tautology { IfOk result (λ list. is_none list
+            ≡ is_tautology (canonical lits.now)) }
+    {
+        if copy_canonical(&mut self.tmp, lits)? {
+            return Ok(None);
+        }
+        Ok(Some(replace(&mut self.tmp, Vec::new(alloc))))
+    }
 }
 
 /// The parts of a checker.

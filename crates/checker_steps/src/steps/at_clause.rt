@@ -3,28 +3,20 @@ ghost use Rattle.std.specs.Prelude.{◌≡◌, ℕ, List, Err, OnErr, OnOk, fals
 ghost use Rattle.sat_rules.specs.Clauses.{is_canonical, is_tautology};
 ghost use Rattle.checker_rules.specs.AtClause.{set_previous as rules_previous};
 ghost use Rattle.checker_rules.specs.Canonical.{canonical};
-ghost use Rattle.checker_rules.specs.Emits.{Emits};
 ghost use Rattle.checker_rules.specs.State.{Known};
 ghost use Rattle.checker_rules.specs.Step as rules;
-ghost use Rattle.checker_rules.specs.Steps.{step};
-ghost use Rattle.checker_parts.specs.Faults.{AnswersOutcome, UnlessStopped};
-ghost use Rattle.clause_store.specs.StateOf.{state_of};
-ghost use Rattle.clause_store.specs.declared.clauses.Clauses.{Clauses};
-ghost use Rattle.clause_store.specs.declared.hash.ClauseHasher.{ClauseHasher};
-ghost use Rattle.checker_steps.specs.Context.{ContextInvariant, context_state, listeners_in};
-ghost use Rattle.checker_steps.specs.Delivered.{DeliveredList};
+ghost use Rattle.checker_steps.specs.Common.{AnswersOutcome, ClauseHasher, Clauses, ContextInvariant, DeliveredList, Emits, UnlessStopped, context_state, listeners_in, state_of, step};
 ghost use Rattle.checker_parts.specs.declared.error.StepFault.TheVariants.{OutOfMemory};
 
 use crate::context::ContextOf;
 use crate::steps::derived::derive;
 use checker_parts::error::{CheckCause, StepFault};
 use checker_parts::processor::{ProofProcessor, ProofTranscriptProcessor};
-use checker_parts::sorted_lits::{copy_canonical, has_rising_vars};
+use checker_parts::sorted_lits::has_rising_vars;
 use clause_store::state::CheckerState;
 use proof_bytes::ClauseHash;
 use sat_formula::Lit;
 use std::alloc::Global;
-use std::mem::replace;
 
 /// Checks a derived clause and stores it in its kind. An irredundant one becomes the previous
 /// clause.
@@ -47,40 +39,17 @@ pub fn at_clause<P: ProofProcessor, T: ProofTranscriptProcessor>(
 {
     // Most clauses are in order, and then none is copied.
     if has_rising_vars(lits) {
-        at_canonical(alloc, ctx, redundant, lits, hashes)
-    } else {
-        at_unordered(alloc, ctx, redundant, lits, hashes)
+        return at_canonical(alloc, ctx, redundant, lits, hashes);
     }
-}
-
-/// Checks and adds any clause, by its canonical list.
-#[inline(never)]
-fn at_unordered<P: ProofProcessor, T: ProofTranscriptProcessor>(
-    alloc: Global,
-    ctx: &mut ContextOf<P, T>,
-    redundant: bool,
-    lits: &[Lit],
-    hashes: &[ClauseHash],
-) -> Result<(), StepFault>
-    requires { ContextInvariant ctx.old }
-    ensures step { AnswersOutcome result
-        (step (context_state ctx.old) (rules.at_clause redundant lits.now hashes.now))
-        (context_state ctx.new) }
-    ensures kept { UnlessStopped result (ContextInvariant ctx.new) }
-    ensures delivered { DeliveredList result
-        (Emits (context_state ctx.old) (rules.at_clause redundant lits.now hashes.now))
-        P.ProofProcessor T.ProofTranscriptProcessor (listeners_in ctx.old) (listeners_in ctx.new) }
-{
-    let Ok(tautology) = copy_canonical(&mut ctx.tmp_data.tmp, lits) else {
-        return Err(StepFault::OutOfMemory);
-    };
-    if tautology {
-        return Err(StepFault::Refused(CheckCause::Tautology));
+    match ctx.tmp_data.take_canonical(alloc, lits) {
+        Ok(Some(clause)) => {
+            let taken = at_canonical(alloc, ctx, redundant, &clause, hashes);
+            ctx.tmp_data.tmp = clause;
+            taken
+        }
+        Ok(None) => Err(StepFault::Refused(CheckCause::Tautology)),
+        Err(_) => Err(StepFault::OutOfMemory),
     }
-    let clause = replace(&mut ctx.tmp_data.tmp, Vec::new(alloc));
-    let taken = at_canonical(alloc, ctx, redundant, &clause, hashes);
-    ctx.tmp_data.tmp = clause;
-    taken
 }
 
 /// Checks and adds a clause that has its canonical list, without opposite literals. It stands for

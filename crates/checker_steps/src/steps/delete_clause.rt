@@ -2,21 +2,15 @@
 ghost use Rattle.std.specs.Prelude.{◌≡◌, IsTrue, ℕ, List, if◌then◌else◌, false, true};
 ghost use Rattle.sat_rules.specs.Clauses.{is_canonical, is_tautology};
 ghost use Rattle.checker_rules.specs.Canonical.{canonical};
-ghost use Rattle.checker_rules.specs.Emits.{Emits};
 ghost use Rattle.checker_rules.specs.State.{Known};
 ghost use Rattle.checker_rules.specs.Step as rules;
-ghost use Rattle.checker_rules.specs.Steps.{step};
 ghost use Rattle.checker_rules.specs.WellFormed.{is_previous_canonical};
-ghost use Rattle.checker_parts.specs.Faults.{AnswersOutcome, UnlessStopped};
 ghost use Rattle.checker_parts.specs.declared.error.CheckCause.TheVariants.{DeleteIrredundantIsRedundant, DeleteRedundantIsIrredundant};
 ghost use Rattle.proof_bytes.specs.NextStep.{why};
 ghost use Rattle.clause_store.specs.Refusal.{delete_fault};
-ghost use Rattle.clause_store.specs.StateOf.{state_of};
 ghost use Rattle.clause_store.specs.Trace.{AreStored};
-ghost use Rattle.clause_store.specs.declared.hash.ClauseHasher.{ClauseHasher};
-ghost use Rattle.checker_steps.specs.Context.{ContextInvariant, context_state, listeners_in};
 ghost use Rattle.checker_steps.specs.DeletionSteps.{deletion_steps};
-ghost use Rattle.checker_steps.specs.Delivered.{DeliveredAll, DeliveredList, listeners_of};
+ghost use Rattle.checker_steps.specs.Common.{AnswersOutcome, ClauseHasher, ContextInvariant, DeliveredAll, DeliveredList, Emits, UnlessStopped, context_state, listeners_in, listeners_of, state_of, step};
 ghost use Rattle.checker_steps.specs.Justified.{AnswersJustified, previous_of, subsuming_id};
 
 use crate::context::ContextOf;
@@ -24,7 +18,7 @@ use crate::emit::{emit_delete_at_clause, emit_delete_clause};
 use crate::processing::ProcessingOf;
 use checker_parts::error::{CheckCause, StepFault};
 use checker_parts::processor::{ProofProcessor, ProofTranscriptProcessor};
-use checker_parts::sorted_lits::{copy_canonical, has_rising_vars, is_subset};
+use checker_parts::sorted_lits::{has_rising_vars, is_subset};
 use checker_parts::variables::Variables;
 use clause_store::clauses::delete::{self, DeleteFault};
 use clause_store::clauses::{Clauses, DeleteClauseResult};
@@ -32,7 +26,6 @@ use clause_store::state::CheckerState;
 use proof_bytes::DeleteClauseProof;
 use sat_formula::Lit;
 use std::alloc::Global;
-use std::mem::replace;
 
 /// Deletes one copy of a clause. A justification that passes makes the previous clause forgotten,
 /// also where the step is then refused.
@@ -54,39 +47,17 @@ pub fn delete_clause<P: ProofProcessor, T: ProofTranscriptProcessor>(
 {
     // Most clauses are in order, and then none is copied.
     if has_rising_vars(lits) {
-        delete_canonical(alloc, ctx, proof, lits)
-    } else {
-        delete_unordered(alloc, ctx, proof, lits)
+        return delete_canonical(alloc, ctx, proof, lits);
     }
-}
-
-/// Deletes a copy of any clause, by its canonical list.
-#[inline(never)]
-fn delete_unordered<P: ProofProcessor, T: ProofTranscriptProcessor>(
-    alloc: Global,
-    ctx: &mut ContextOf<P, T>,
-    proof: DeleteClauseProof,
-    lits: &[Lit],
-) -> Result<(), StepFault>
-    requires { ContextInvariant ctx.old }
-    ensures step { AnswersOutcome result
-        (step (context_state ctx.old) (rules.delete_clause (why proof) lits.now))
-        (context_state ctx.new) }
-    ensures kept { UnlessStopped result (ContextInvariant ctx.new) }
-    ensures delivered { DeliveredList result
-        (Emits (context_state ctx.old) (rules.delete_clause (why proof) lits.now))
-        P.ProofProcessor T.ProofTranscriptProcessor (listeners_in ctx.old) (listeners_in ctx.new) }
-{
-    let Ok(tautology) = copy_canonical(&mut ctx.tmp_data.tmp, lits) else {
-        return Err(StepFault::OutOfMemory);
-    };
-    if tautology {
-        return Err(StepFault::Refused(CheckCause::Tautology));
+    match ctx.tmp_data.take_canonical(alloc, lits) {
+        Ok(Some(clause)) => {
+            let deleted = delete_canonical(alloc, ctx, proof, &clause);
+            ctx.tmp_data.tmp = clause;
+            deleted
+        }
+        Ok(None) => Err(StepFault::Refused(CheckCause::Tautology)),
+        Err(_) => Err(StepFault::OutOfMemory),
     }
-    let clause = replace(&mut ctx.tmp_data.tmp, Vec::new(alloc));
-    let deleted = delete_canonical(alloc, ctx, proof, &clause);
-    ctx.tmp_data.tmp = clause;
-    deleted
 }
 
 /// Deletes a copy of a clause that has its canonical list, without opposite literals. It stands for
