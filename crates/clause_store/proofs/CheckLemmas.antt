@@ -1,5 +1,5 @@
 -- The answer of the check is that of the rules, and the state in which a clause is checked.
-use Rattle.std.proofs.Common.{◌≡◌, ℕ, ◌≤◌, Bool, true, false, cond, List, [], ◌∷◌, length, map, filter, Option, All, refl, sym, ◌∙◌, arith}
+use Rattle.std.proofs.Common.{◌≡◌, ℕ, ◌≤◌, Bool, true, false, cond, List, [], ◌∷◌, length, map, filter, Option, All, refl, sym, ap, ◌∙◌, arith}
 use Rattle.std.specs.List.{list_all}
 use Rattle.std.specs.Option.{option_map}
 use Rattle.std.proofs.lemmas.Bool.{and_parts}
@@ -132,6 +132,15 @@ pub ready-outcome : (st : CheckerState) (h : ClauseHasher) (cs : Clauses) (known
 ready-outcome st h cs known buffer c hs a us s store form here apart whole e same =
     let answers = check_is_by_rules.answers st h cs known c hs a store.filed.bucketed (ready-form s (state_of st h cs known) c form here) apart (rw whole at e) in
     rw (same, here) (check-is s c hs a (rw here at answers))
+
+-- so the answer is that of the rules
+pub ready-answers : (st : CheckerState) (h : ClauseHasher) (cs : Clauses) (known : List Known) (buffer c hs : List ℕ) (a b : Answer)
+    (us : List (Option UnitClause)) (s : State) → IsStore h cs → WellFormed s → state_of st h cs known ≡ ready s c → is_tautology c ≡ false
+    → buffer ≡ cs.literal_buffer.items → check_answer a ≡ clause_answer (stored_units cs.unit_clauses) c (named_buckets buffer cs.buckets hs)
+    → us ≡ cs.unit_clauses → a ≡ b → let o = outcome_of b (state_of st h (record cs { unit_clauses = us }) known) in
+    ((check s c hs accept).refused ≡ o.refused) × (o.after ≡ (check s c hs accept).after)
+ready-answers st h cs known buffer c hs a b us s store form here apart whole e same is =
+    let o = rw is at (ready-outcome st h cs known buffer c hs a us s store form here apart whole e same) in (ap (λ x. x.refused) o, sym (ap (λ x. x.after) o))
 
 -- the ids that a traced check leaves where it passes
 pub ready-trace : (st : CheckerState) (h : ClauseHasher) (cs : Clauses) (known : List Known) (buffer c hs before now : List ℕ) (a : Answer)

@@ -1,6 +1,6 @@
-use Rattle.std.proofs.Common.{sym, ap}
+use Rattle.clause_store.specs.declared.rup.Answer.TheVariants.{Passed, NoClauseForHash, Failed}
 use Rattle.clause_store.specs.StateOf.{state_of}
-use Rattle.clause_store.proofs.CheckLemmas.{ready-form, ready-known, ready-outcome, ready-trace}
+use Rattle.clause_store.proofs.CheckLemmas.{ready-answers, ready-form, ready-known, ready-trace}
 use Rattle.clause_store.proofs.rup.check.check_clause_with_hashes.Goals as goal
 
 pub check_clause-requires-clause-all_known : goal.check_clause-requires-clause-all_known
@@ -12,11 +12,8 @@ check_clause-requires-clause-all_known c =
 
 pub returns-in-Passed-clause-answer : goal.returns-in-Passed-clause-answer
 returns-in-Passed-clause-answer c =
-    let s = state_of c.args.state.now c.args.hasher.now c.args.clauses.now c.args.variables.now in
-    let o = rw c.in-Passed.is at (ready-outcome c.args.state.now c.make_ready.new.hasher c.make_ready.new.clauses c.make_ready.new.variables _ _ _ _ _ s
-    c.in_ok-make_ready.ensures.store c.requires.kept.form c.in_ok-make_ready.ensures.state c.requires.no_tautology c.as_slice.ensures.value
-    c.in_ok-answer.ensures.answer c.in_ok-answer.ensures.units) in
-    (ap (λ x. x.refused) o, sym (ap (λ x. x.after) o))
+    ready-answers c.args.state.now c.make_ready.new.hasher c.make_ready.new.clauses c.make_ready.new.variables _ _ _ _ Passed _ (state_of c.args.state.now c.args.hasher.now c.args.clauses.now c.args.variables.now)
+    c.in_ok-make_ready.ensures.store c.requires.kept.form c.in_ok-make_ready.ensures.state c.requires.no_tautology c.as_slice.ensures.value c.in_ok-answer.ensures.answer c.in_ok-answer.ensures.units c.in-Passed.is
 
 pub returns-in-Passed-clause-trace : goal.returns-in-Passed-clause-trace
 returns-in-Passed-clause-trace c = λ traced.
@@ -28,16 +25,10 @@ returns-in-Passed-clause-trace c = λ traced.
 
 pub returns-in-NoClauseForHash-clause-answer : goal.returns-in-NoClauseForHash-clause-answer
 returns-in-NoClauseForHash-clause-answer c =
-    let s = state_of c.args.state.now c.args.hasher.now c.args.clauses.now c.args.variables.now in
-    let o = rw c.in-NoClauseForHash.is at (ready-outcome c.args.state.now c.make_ready.new.hasher c.make_ready.new.clauses c.make_ready.new.variables _ _ _ _ _ s
-    c.in_ok-make_ready.ensures.store c.requires.kept.form c.in_ok-make_ready.ensures.state c.requires.no_tautology c.as_slice.ensures.value
-    c.in_ok-answer.ensures.answer c.in_ok-answer.ensures.units) in
-    (ap (λ x. x.refused) o, sym (ap (λ x. x.after) o))
+    ready-answers c.args.state.now c.make_ready.new.hasher c.make_ready.new.clauses c.make_ready.new.variables _ _ _ _ NoClauseForHash _ (state_of c.args.state.now c.args.hasher.now c.args.clauses.now c.args.variables.now)
+    c.in_ok-make_ready.ensures.store c.requires.kept.form c.in_ok-make_ready.ensures.state c.requires.no_tautology c.as_slice.ensures.value c.in_ok-answer.ensures.answer c.in_ok-answer.ensures.units c.in-NoClauseForHash.is
 
 pub returns-in-Failed-clause-answer : goal.returns-in-Failed-clause-answer
 returns-in-Failed-clause-answer c =
-    let s = state_of c.args.state.now c.args.hasher.now c.args.clauses.now c.args.variables.now in
-    let o = rw c.in-Failed.is at (ready-outcome c.args.state.now c.make_ready.new.hasher c.make_ready.new.clauses c.make_ready.new.variables _ _ _ _ _ s
-    c.in_ok-make_ready.ensures.store c.requires.kept.form c.in_ok-make_ready.ensures.state c.requires.no_tautology c.as_slice.ensures.value
-    c.in_ok-answer.ensures.answer c.in_ok-answer.ensures.units) in
-    (ap (λ x. x.refused) o, sym (ap (λ x. x.after) o))
+    ready-answers c.args.state.now c.make_ready.new.hasher c.make_ready.new.clauses c.make_ready.new.variables _ _ _ _ Failed _ (state_of c.args.state.now c.args.hasher.now c.args.clauses.now c.args.variables.now)
+    c.in_ok-make_ready.ensures.store c.requires.kept.form c.in_ok-make_ready.ensures.state c.requires.no_tautology c.as_slice.ensures.value c.in_ok-answer.ensures.answer c.in_ok-answer.ensures.units c.in-Failed.is
