@@ -8,7 +8,7 @@ use Rattle.checker_rules.specs.Passes.{walk}
 use Rattle.checker_rules.specs.State.{Stored}
 use Rattle.clause_store.specs.declared.clauses.Clause.{Clause}
 use Rattle.clause_store.specs.declared.clauses.units.UnitClause.{UnitClause}
-use Rattle.clause_store.specs.Crowds.{standing}
+use Rattle.clause_store.specs.Crowds.{IsPlaced, standing}
 use Rattle.clause_store.specs.Rup.{Walks, lits_in, true_lits}
 use Rattle.clause_store.specs.Trace.{Lists, ids_after}
 use Rattle.clause_store.specs.View.{stored_of}
@@ -70,6 +70,11 @@ module _ (d : Clause) where
   left-counts [] i w h = absurd (omega arith)
   left-counts (p ∷ ps) zero w h = grind arith
   left-counts (p ∷ ps) (suc i) w h = grind (arith, left-counts ps i (omega (arith, w)) h)
+
+-- places stay as many, and clauses too, with another clause in place of the one that stands there
+pub placed-counts : (buffer lits : List ℕ) (ps qs : List (Option Clause)) (i : ℕ) (d e : Clause) → IsPlaced buffer lits ps i d → qs ≡ ps →
+    (length (set qs i (Some e)) ≡ length qs) × (length (standing (set qs i (Some e))) ≡ length (standing qs))
+placed-counts buffer lits ps qs i d e p same = rw same (length-set ps i (Some e), set-counts d e ps i p.within p.here)
 
 -- a place that is not free has a clause
 pub taken : (p : Option Clause) → is_some p ≡ true → (d : Clause) × (p ≡ Some d)

@@ -32,8 +32,7 @@ loop-place-preserved-in_default c =
 
 pub returns-then-branch-clause-ok : goal.returns-then-branch-clause-ok
 returns-then-branch-clause-ok c =
-    place-falsified c.args.buffer.now c.args.places.now c.loop-place.place-index _ c.loop-place-test.true c.in-Some.clause (sym c.place-item.is ∙ c.in-Some.is)
-    c.loop-place.units c.propagate_clause.new.units _ (rw c.if-branch.true at c.in_ok-propagate_clause.ensures.ok) c.loop-place.invariant.same
+    place-falsified _ _ _ _ c.loop-place-test.true _ (sym c.place-item.is ∙ c.in-Some.is) _ c.propagate_clause.new.units _ (rw c.if-branch.true at c.in_ok-propagate_clause.ensures.ok) c.loop-place.invariant.same
 
 pub returns-clause-ok : goal.returns-clause-ok
 returns-clause-ok c = sym (rw (drop_of_length-le c.args.places.now c.loop-place-test.false) at c.loop-place.invariant.same)

@@ -36,8 +36,7 @@ loop-place-preserved-in_default c =
 
 pub returns-then-branch-clause-ok : goal.returns-then-branch-clause-ok
 returns-then-branch-clause-ok c =
-    place-falsified c.args.buffer.now c.args.places.now c.loop-place.place-index _ c.loop-place-test.true c.in-Some.clause (sym c.place-item.is ∙ c.in-Some.is)
-    c.loop-place.units c.visit_clause.new.units _ (rw c.if-branch.true at c.in_ok-visit_clause.ensures.ok) c.loop-place.invariant.same
+    place-falsified _ _ _ _ c.loop-place-test.true _ (sym c.place-item.is ∙ c.in-Some.is) _ c.visit_clause.new.units _ (rw c.if-branch.true at c.in_ok-visit_clause.ensures.ok) c.loop-place.invariant.same
 
 pub returns-then-branch-clause-listed : goal.returns-then-branch-clause-listed
 returns-then-branch-clause-listed c rest =

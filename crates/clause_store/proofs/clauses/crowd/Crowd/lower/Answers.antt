@@ -1,10 +1,8 @@
-use Rattle.std.proofs.Common.{◌≡◌, ◌∙◌, Some, subst, sym, true, false, arith}
-use Rattle.std.proofs.lemmas.List.{length-set}
+use Rattle.std.proofs.Common.{◌≡◌, ◌∙◌, ap, true, false, arith}
 use Rattle.clause_store.specs.Buckets.{copies_of}
-use Rattle.clause_store.specs.Crowds.{IsPlaced}
 use Rattle.clause_store.specs.Lits.{IsWithin}
 use Rattle.clause_store.specs.Lowered.{is_gone, left_of}
-use Rattle.clause_store.proofs.CrowdLemmas.{All-stands, set-counts}
+use Rattle.clause_store.proofs.CrowdLemmas.{All-stands, placed-counts}
 use Rattle.clause_store.proofs.BucketLemmas.{lowered-goes, lowered-stays, lowered-within, placed-count, placed-stored}
 use Rattle.clause_store.proofs.clauses.crowd.Crowd.lower.Goals as goal
 
@@ -30,8 +28,5 @@ returns-else-is_gone-clause-lowered c =
 
 pub invariant_of-self : goal.invariant_of-self
 invariant_of-self c =
-    let x = c.find.new.self in let ps = x.places.items in let i = c.in-Some.at in
-    let p = subst (λ v. IsPlaced c.args.buffer.now c.args.lits.now v.items i c.in-Some.clause) (sym c.find.ensures.same) c.in-Some.ensures.placed in
-    let e = c.in-Some-lower.less in
-    let same = length-set ps i (Some e) in let clauses = set-counts c.in-Some.clause e ps i p.within p.here in
-    record { counted = omega (arith, same, clauses, x.counted); half = omega (arith, same, x.half); few_notes = omega (arith, same, x.few_notes) }
+    let x = c.find.new.self in let p = placed-counts _ _ _ x.places.items _ _ c.in-Some-lower.less c.in-Some.ensures.placed (ap (λ v. v.items) c.find.ensures.same) in
+    record { counted = omega (arith, p.0, p.1, x.counted); half = omega (arith, p.0, x.half); few_notes = omega (arith, p.0, x.few_notes) }

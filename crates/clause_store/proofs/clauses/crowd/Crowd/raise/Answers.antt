@@ -1,9 +1,7 @@
-use Rattle.std.proofs.Common.{Some, sym, subst, arith}
-use Rattle.std.proofs.lemmas.List.{length-set}
-use Rattle.clause_store.specs.Crowds.{IsPlaced}
+use Rattle.std.proofs.Common.{ap, sym, arith}
 use Rattle.clause_store.specs.Lits.{IsWithin}
 use Rattle.clause_store.proofs.BucketLemmas.{count_limit-some, placed-count, placed-found, placed-raised, placed-within, raised-within}
-use Rattle.clause_store.proofs.CrowdLemmas.{All-stands, set-counts}
+use Rattle.clause_store.proofs.CrowdLemmas.{All-stands, placed-counts}
 use Rattle.clause_store.proofs.FoundLemmas.{count_of-absent, found_in-absent, raise-absent}
 use Rattle.clause_store.proofs.clauses.crowd.Crowd.raise.Goals as goal
 
@@ -38,8 +36,5 @@ returns-in-None-clause-exhausted c =
 
 pub invariant_of-self : goal.invariant_of-self
 invariant_of-self c =
-    let x = c.find.new.self in let ps = x.places.items in let i = c.in-Some.at in
-    let p = subst (λ v. IsPlaced c.args.buffer.now c.args.lits.now v.items i c.in-Some.clause) (sym c.find.ensures.same) c.in-Some.ensures.placed in
-    let e = c.in-Some-raise.more in
-    let same = length-set ps i (Some e) in let clauses = set-counts c.in-Some.clause e ps i p.within p.here in
-    record { counted = omega (arith, same, clauses, x.counted); half = omega (arith, same, x.half); few_notes = omega (arith, same, x.few_notes) }
+    let x = c.find.new.self in let p = placed-counts _ _ _ x.places.items _ _ c.in-Some-raise.more c.in-Some.ensures.placed (ap (λ v. v.items) c.find.ensures.same) in
+    record { counted = omega (arith, p.0, p.1, x.counted); half = omega (arith, p.0, x.half); few_notes = omega (arith, p.0, x.few_notes) }
