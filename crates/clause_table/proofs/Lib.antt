@@ -1,3 +1,5 @@
 pub mod MarkLemmas
 pub mod PlaceLemmas
 pub mod PackLemmas
+pub mod TrailLemmas
+pub mod SearchLemmas

@@ -1,25 +1,18 @@
 -- A clause before its groups, and groups in turn.
-use Rattle.std.proofs.Common.{◌≡◌, ℕ, ◌+◌, Bool, true, false, eqb, List, [], ◌∷◌, Option, Some, is_some, ◌∙◌}
-use mathlib.Core.Path.{fun_ext}
-use Rattle.std.proofs.Math.Bool.{or-false}
+use Rattle.std.proofs.Common.{◌≡◌, ℕ, ◌+◌, Bool, true, false, eqb, List, [], ◌∷◌, Option, Some, is_some}
 use Rattle.sat_rules.specs.Named.{negated_set}
 use Rattle.lrat_rules.specs.Counts.{count_of}
-use Rattle.lrat_rules.specs.Groups.{Group, add_negated, rest_met, without}
+use Rattle.lrat_rules.specs.Groups.{Group, rest_met, without}
 use Rattle.lrat_rules.specs.Lines.{Hint, adds, groups, leading}
 use Rattle.lrat_rules.specs.Propagation.{Ending, propagate}
 use Rattle.lrat_rules.specs.Refusals.{cause_at}
 use Rattle.lrat_rules.specs.Tables.{Table, add_id, cause_by_table, groups_cause_by, met_by_groups}
-use Rattle.lrat_checker.specs.Values.{among}
-
--- the negations of a clause alone
-pub negated_alone : (c : List ℕ) → add_negated c (among []) ≡ negated_set c
-negated_alone c = fun_ext (λ m. or-false (negated_set c m))
 
 -- a clause whose id is not taken, by how propagation from its negations ends
-pub judged : (t : Table) (i : ℕ) (c : List ℕ) (hs : List Hint) (s : ℕ → Bool) (e : Ending) → is_some (t.named i) ≡ false → s ≡ add_negated c (among []) → e ≡ propagate t.named s (leading hs) →
+pub judged : (t : Table) (i : ℕ) (c : List ℕ) (hs : List Hint) (s : ℕ → Bool) (e : Ending) → is_some (t.named i) ≡ false → s ≡ negated_set c → e ≡ propagate t.named s (leading hs) →
     cause_by_table t (adds i c hs) ≡ cause_at e (λ r. groups_cause_by t r c (groups hs))
 judged t i c hs s e free start end =
-    rw (free, ← (start ∙ negated_alone c), end)
+    rw (free, ← start, end)
 
 -- a group that is met counts
 pub group_met : (f : ℕ → Option (List ℕ)) (s : ℕ → Bool) (n : ℕ) (seen : ℕ → Bool) (met : ℕ) (g : Group) (gs : List Group) (d : List ℕ) →

@@ -1,6 +1,4 @@
 pub mod CountLemmas
-pub mod TrailLemmas
-pub mod SearchLemmas
 pub mod TableLemmas
 pub mod JudgeLemmas
 pub mod StandLemmas

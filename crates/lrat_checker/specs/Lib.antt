@@ -1,7 +1,5 @@
 pub mod FarCounts
 pub mod Counts
-pub mod Values
-pub mod Far
 pub mod Causes
 pub mod Faults
 pub mod Propagating

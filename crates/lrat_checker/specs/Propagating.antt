@@ -1,16 +1,12 @@
 -- How propagation ends, as the rules know it.
 --     ending_of e s      the ending, with the literals that are true
 --     go_on o s rest      an ending, or what comes after
---     on_left l none one      by the literals that are not false
 use Rattle.std.specs.Prelude.{ℕ, Bool, Option, Some, None}
-use Rattle.lrat_rules.specs.Causes.{not_unit}
 use Rattle.lrat_rules.specs.Propagation as rules
 use Rattle.lrat_rules.specs.Propagation.{conflict, open_at, stuck}
 use Rattle.lrat_checker.specs.Causes.{cause_of}
 use Rattle.lrat_checker.specs.declared.propagation.Ending.{Ending}
 use Rattle.lrat_checker.specs.declared.propagation.Ending.TheVariants.{Conflict, Open, Stuck}
-use Rattle.lrat_checker.specs.declared.values.Left.{Left}
-use Rattle.lrat_checker.specs.declared.values.Left.TheVariants.{More, Nothing, One}
 
 -- the ending, with the literals that are true
 abbrev pub ending_of : Ending → (ℕ → Bool) → rules.Ending
@@ -22,9 +18,3 @@ ending_of (Stuck cause) s = stuck (cause_of cause)
 abbrev pub go_on : Option Ending → (ℕ → Bool) → ((ℕ → Bool) → rules.Ending) → rules.Ending
 go_on None s rest = rest s
 go_on (Some e) s rest = ending_of e s
-
--- by the literals that are not false
-abbrev pub on_left : Left → rules.Ending → (ℕ → rules.Ending) → rules.Ending
-on_left Nothing none one = none
-on_left (One l) none one = one l
-on_left More none one = stuck not_unit

@@ -14,7 +14,7 @@ use Rattle.lrat_rules.specs.Stores.{formula_store}
 use Rattle.lrat_rules.specs.Tables.{IsTableOf, formula_table}
 use Rattle.lrat_checker.specs.Causes.{cause_of}
 use Rattle.lrat_checker.specs.Held.{table_of}
-use Rattle.clause_table.specs.Near.{IsTight}
+use Rattle.clause_table.specs.Named.{TakesLittle}
 use Rattle.lrat_checker.specs.declared.checker.LratChecker.{LratChecker}
 use Rattle.lrat_checker.specs.declared.formula.LratFormula.{LratFormula}
 use Rattle.lrat_checker.specs.declared.fault.LineFault.{LineFault}
@@ -25,7 +25,7 @@ pub record HoldsFormula (formula : List (List ℕ)) (f : LratFormula) : Type 0 w
   pub table : table_of f.clauses ≡ formula_table formula
   pub count : f.given ≡ length formula
   pub empty : f.has_empty ≡ has_empty formula
-  pub tight : IsTight f.clauses.near
+  pub tight : TakesLittle f.clauses.named
   pub going : f.failed ≡ false
 
 -- a clause was not taken, so that no line may be accepted
@@ -61,6 +61,6 @@ IsAnswer formula lines line (Refused cause) = (store : List Item) →
 IsAnswer formula lines line OutOfMemory = Unit {0}
 IsAnswer formula lines line Failed = ⊥
 
--- the buffer of literals has at most a third more than the clauses take, each its literals and its length, or at most one more for each place of an id
+-- the clauses take little room that no clause uses
 abbrev pub HoldsLittle : LratChecker → Type 0
-HoldsLittle c = IsTight c.clauses.near
+HoldsLittle c = TakesLittle c.clauses.named

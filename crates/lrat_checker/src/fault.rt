@@ -1,9 +1,10 @@
 //! Why lines are refused.
 ghost use Rattle.std.specs.Prelude.{◌≡◌};
+ghost use Rattle.lrat_checker.specs.Faults.{fault_of, in_line, of_text};
 ghost use Rattle.lrat_checker.specs.declared.fault.Stop.TheVariants as stops;
 
 use lrat_text::{LineKind, LratTextFault};
-use std::alloc::{AllocError, AllocFailed};
+use std::alloc::AllocError;
 use std::io;
 use thiserror::Error;
 
@@ -71,14 +72,6 @@ pub(crate) enum Stop {
     OutOfMemory,
 }
 
-impl From<LratCause> for Stop {
-    ghost from_gives = { λ cause stop. stop ≡ stops.Refused cause };
-
-    fn from(cause: LratCause) -> Stop {
-        Stop::Refused(cause)
-    }
-}
-
 impl From<AllocError> for Stop {
     ghost from_gives = { λ _ stop. stop ≡ stops.OutOfMemory };
 
@@ -87,17 +80,7 @@ impl From<AllocError> for Stop {
     }
 }
 
-impl<T: Drop> From<AllocFailed<T>> for Stop {
-    ghost from_gives = { λ _ stop. stop ≡ stops.OutOfMemory };
-
-    fn from(_e: AllocFailed<T>) -> Stop {
-        Stop::OutOfMemory
-    }
-}
-
 impl Stop {
-    ghost use Rattle.lrat_checker.specs.Faults.{fault_of};
-
     /// The fault of a line that is checked.
     pub(crate) fn fault(self) -> LineFault
         ensures { result ≡ fault_of self }
@@ -110,8 +93,6 @@ impl Stop {
 }
 
 impl LineFault {
-    ghost use Rattle.lrat_checker.specs.Faults.{in_line};
-
     /// The fault of the line of that number in a text.
     pub(crate) fn in_line(self, line: u64) -> LratFault
         ensures { result ≡ in_line self line }
@@ -125,8 +106,6 @@ impl LineFault {
 }
 
 impl From<LratTextFault> for LratFault {
-    ghost use Rattle.lrat_checker.specs.Faults.{of_text};
-
     ghost from_gives = { λ fault result. result ≡ of_text fault };
 
     fn from(fault: LratTextFault) -> LratFault {

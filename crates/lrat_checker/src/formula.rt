@@ -1,11 +1,10 @@
 //! The clauses of a formula, given one after the other.
-ghost use Rattle.std.specs.Prelude.{◌≡◌, ◌<◌, ◌++◌, ◌∷◌, [], ℕ, Bool, true, false, List, None, IfErr, IfOk, OnErr, OnOk};
+ghost use Rattle.std.specs.Prelude.{◌≡◌, ◌++◌, ◌∷◌, [], ℕ, true, false, List, IfErr, IfOk, OnErr, OnOk};
 ghost use Rattle.std.specs.Option.{option_map};
 ghost use Rattle.std.specs.Result.{is_err};
 ghost use Rattle.sat_formula.specs.Lines.{outcome_of};
 ghost use Rattle.sat_formula.specs.Outcome.{Ended};
 ghost use Rattle.sat_formula.specs.Whole.{FailsAfter, IsOutcome};
-ghost use Rattle.lrat_checker.specs.Held.{table_of};
 
 use crate::checker::LratChecker;
 use crate::clauses::Clauses;
@@ -25,7 +24,6 @@ pub struct LratFormula {
     given: u64,
     has_empty: bool,
     failed: bool,
-    ghost free: { failed ≡ false → (id : ℕ) → given < id → (table_of clauses).named id ≡ None },
 }
 
 impl LratFormula {

@@ -38,8 +38,7 @@ pub(crate) fn judge(
     }
     let lits = clauses.lits_stored().saturating_add(clause.len() as u64);
     work.values.allow(lits);
-    work.values.clear();
-    work.values.negate(clause, None)?;
+    work.values.negate_alone(clause)?;
     match propagate(clauses, &mut work.values, hints)? {
         Ending::Conflict => Ok(()),
         Ending::Stuck(cause) => Err(Stop::Refused(cause)),

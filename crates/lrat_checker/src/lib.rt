@@ -12,7 +12,6 @@ mod judging;
 mod met;
 mod propagation;
 mod redundancy;
-mod values;
 mod work;
 
 pub use checker::LratChecker;

@@ -5,12 +5,12 @@ ghost use Rattle.lrat_rules.specs.Propagation as rules;
 ghost use Rattle.lrat_rules.specs.Propagation.{on_named, propagate};
 ghost use Rattle.lrat_checker.specs.Held.{table_of};
 ghost use Rattle.lrat_checker.specs.Propagating.{ending_of, go_on};
-ghost use Rattle.lrat_checker.specs.Values.{IsGrown, among};
+ghost use Rattle.clause_table.specs.Values.{IsGrown, among};
 ghost use Rattle.lrat_text.specs.Grammar.{hint_of};
 
 use crate::clauses::Clauses;
 use crate::fault::LratCause;
-use crate::values::{Left, Values};
+use clause_table::{Left, Values};
 use lrat_text::Hint;
 use std::alloc::AllocError;
 

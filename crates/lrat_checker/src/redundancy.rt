@@ -8,15 +8,15 @@ ghost use Rattle.lrat_rules.specs.Tables.{groups_cause_by, met_by_groups, missin
 ghost use Rattle.lrat_checker.specs.Causes.{IsCause, IsFailedGroup, cause_of};
 ghost use Rattle.lrat_checker.specs.Grouping.{group_of};
 ghost use Rattle.lrat_checker.specs.Held.{seen_by, table_of};
-ghost use Rattle.lrat_checker.specs.Values.{among};
+ghost use Rattle.clause_table.specs.Values.{among};
 ghost use Rattle.lrat_text.specs.Grammar.{hint_of};
 
 use crate::clauses::Clauses;
 use crate::fault::{LratCause, Stop};
 use crate::groups::{Group, Groups};
 use crate::propagation::{Ending, propagate};
-use crate::values::Values;
 use crate::work::Work;
+use clause_table::Values;
 use lrat_text::Hint;
 use sat_formula::Lit;
 use std::alloc::AllocError;

@@ -1,6 +1,6 @@
 //! What the check of a line works with.
 use crate::met::MetIds;
-use crate::values::Values;
+use clause_table::Values;
 use std::alloc::Global;
 
 /// The literals that are true, and the ids whose groups were met.

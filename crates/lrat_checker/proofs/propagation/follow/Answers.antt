@@ -1,8 +1,8 @@
 use Rattle.std.proofs.Common.{sym, ap, ◌∙◌}
 use Rattle.sat_rules.specs.Clauses.{add_lit}
 use Rattle.lrat_rules.specs.Propagation.{conflict, on_named}
-use Rattle.lrat_checker.specs.Values.{among}
-use Rattle.lrat_checker.proofs.TrailLemmas.{among-with_lit}
+use Rattle.clause_table.specs.Values.{among}
+use Rattle.clause_table.proofs.TrailLemmas.{among-with_lit}
 use Rattle.lrat_checker.proofs.propagation.follow.Goals as goal
 
 pub returns-in_ok-set-in-One-clause-ending : goal.returns-in_ok-set-in-One-clause-ending

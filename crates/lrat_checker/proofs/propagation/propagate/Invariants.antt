@@ -2,7 +2,7 @@ use Rattle.std.proofs.Common.{◌≡◌, drop, map}
 use Rattle.lrat_rules.specs.Lines.{leading}
 use Rattle.lrat_rules.specs.Propagation.{propagate}
 use Rattle.lrat_checker.specs.Held.{table_of}
-use Rattle.lrat_checker.specs.Values.{IsGrown, among}
+use Rattle.clause_table.specs.Values.{IsGrown, among}
 use Rattle.lrat_text.specs.Grammar.{hint_of}
 use Rattle.lrat_checker.proofs.propagation.propagate.Given as goal
 

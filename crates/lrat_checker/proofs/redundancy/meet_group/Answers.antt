@@ -3,7 +3,7 @@ use Rattle.std.proofs.lemmas.Bool.{ne_eqb}
 use Rattle.lrat_rules.specs.Tables.{add_id, met_by_groups}
 use Rattle.lrat_checker.specs.Grouping.{group_of}
 use Rattle.lrat_checker.specs.Held.{seen_by, table_of}
-use Rattle.lrat_checker.specs.Values.{among}
+use Rattle.clause_table.specs.Values.{among}
 use Rattle.lrat_checker.proofs.JudgeLemmas.{group_met}
 use Rattle.lrat_checker.proofs.redundancy.meet_group.Goals as goal
 

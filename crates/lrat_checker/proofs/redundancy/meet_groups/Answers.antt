@@ -1,7 +1,7 @@
 use Rattle.std.proofs.Common.{ap, ◌∙◌, rules}
 use Rattle.lrat_rules.specs.Tables.{met_by_groups, no_id}
 use Rattle.lrat_checker.specs.Held.{table_of}
-use Rattle.lrat_checker.specs.Values.{among}
+use Rattle.clause_table.specs.Values.{among}
 use Rattle.lrat_checker.proofs.redundancy.meet_groups.Goals as goal
 
 pub loop-group-init : goal.loop-group-init

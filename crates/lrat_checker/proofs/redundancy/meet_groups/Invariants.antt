@@ -2,7 +2,7 @@ use Rattle.std.proofs.Common.{◌≡◌, map}
 use Rattle.lrat_rules.specs.Lines.{groups}
 use Rattle.lrat_rules.specs.Tables.{met_by_groups, no_id}
 use Rattle.lrat_checker.specs.Held.{seen_by, table_of}
-use Rattle.lrat_checker.specs.Values.{among}
+use Rattle.clause_table.specs.Values.{among}
 use Rattle.lrat_text.specs.Grammar.{hint_of}
 use Rattle.lrat_checker.proofs.redundancy.meet_groups.Given as goal
 

@@ -3,9 +3,9 @@ use Rattle.std.specs.List.{list_all}
 use Rattle.sat_rules.specs.Clauses.{unfalsified}
 use Rattle.lrat_rules.specs.Causes.{not_unit}
 use Rattle.lrat_rules.specs.Propagation.{by_left, stuck}
-use Rattle.lrat_checker.specs.Values.{among}
-use Rattle.lrat_checker.proofs.SearchLemmas.{all_false, left_of}
-use Rattle.lrat_checker.proofs.values.Values.left.Goals as goal
+use Rattle.clause_table.specs.Values.{among}
+use Rattle.clause_table.proofs.SearchLemmas.{all_false, left_of}
+use Rattle.clause_table.proofs.values.Values.left.Goals as goal
 
 -- others are left
 pub returns-then-not-are_false : goal.returns-then-not-are_false

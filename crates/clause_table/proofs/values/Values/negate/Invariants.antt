@@ -1,7 +1,7 @@
 use Rattle.std.proofs.Common.{◌≡◌, ℕ, drop}
 use Rattle.lrat_rules.specs.Groups.{add_negated}
-use Rattle.lrat_checker.specs.Values.{IsGrown, among, lits_besides}
-use Rattle.lrat_checker.proofs.values.Values.negate.Given as goal
+use Rattle.clause_table.specs.Values.{IsGrown, among, lits_besides}
+use Rattle.clause_table.proofs.values.Values.negate.Given as goal
 
 -- with the negations still to come, all are true
 abbrev pub invariant-loop-lit : goal.invariant-loop-lit

@@ -2,12 +2,13 @@
 ghost use Rattle.std.specs.Prelude.{◌≡◌, ◌<◌, ◌-◌, ◌∷◌, ◌++◌, [], ℕ, if◌then◌else◌, length, nat_eq, take, MatchOption, OnOk, Some};
 ghost use Rattle.std.specs.List.{list_all, list_any};
 ghost use Rattle.sat_rules.specs.Clauses.{has, is_falsified, unfalsified};
+ghost use Rattle.sat_rules.specs.Named.{negated_set};
 ghost use Rattle.lrat_rules.specs.Causes.{not_unit};
 ghost use Rattle.lrat_rules.specs.Groups.{add_negated};
 ghost use Rattle.lrat_rules.specs.Propagation.{Ending, by_left, stuck};
-ghost use Rattle.lrat_checker.specs.Values.{IsGrown, among, lits_besides, with_lit};
+ghost use Rattle.clause_table.specs.Values.{IsGrown, among, lits_besides, with_lit};
 
-use clause_table::Marks;
+use crate::marks::Marks;
 use sat_formula::Lit;
 use std::alloc::{AllocError, Global};
 use std::marker::Model;
@@ -15,7 +16,7 @@ use std::marker::Model;
 /// The literals that are true while a line is checked, in the order in which they became so. A
 /// literal and its negation can both be.
 #[derive(Drop)]
-pub(crate) struct Values {
+pub struct Values {
     /// Of the negations of these literals: a walk over a clause looks for those.
     marks: Marks,
     trail: Vec<Lit>,
@@ -23,7 +24,7 @@ pub(crate) struct Values {
 
 impl Model for Values {
     ghost use Rattle.std.specs.Prelude.{ℕ, List};
-    ghost use Rattle.lrat_checker.specs.Values.{IsMarked, true_by};
+    ghost use Rattle.clause_table.specs.Values.{IsMarked, true_by};
 
     ghost Value = { List ℕ };
 
@@ -34,18 +35,20 @@ impl Model for Values {
 
 /// The literals of a clause that are not false.
 #[derive(Clone, Copy)]
-pub(crate) enum Left {
+pub enum Left {
+    /// None.
     Nothing,
     /// One, perhaps repeated.
     One(Lit),
+    /// Two, or more.
     More,
 }
 
 impl Values {
-    ghost use Rattle.lrat_checker.specs.Propagating.{on_left};
+    ghost use Rattle.clause_table.specs.Lefts.{on_left};
 
     /// No literal is true.
-    pub(crate) fn new(alloc: Global) -> Values
+    pub fn new(alloc: Global) -> Values
         ensures { result ≡ [] }
     {
         Values {
@@ -55,20 +58,22 @@ impl Values {
     }
 
     /// How many literals are true.
-    pub(crate) fn len(&self) -> usize
+    pub fn len(&self) -> usize
         ensures { result ≡ length self.now }
     {
         self.trail.len()
     }
 
     /// There may be places for the literals of this many that are stored.
-    pub(crate) fn allow(&mut self, stored: u64)
+    pub fn allow(&mut self, stored: u64)
         ensures { self.new ≡ self.old }
     {
         self.marks.allow(stored);
     }
 
-    fn is_true(&self, lit: Lit) -> bool
+    /// Whether a literal is true.
+    #[inline(always)]
+    pub fn is_true(&self, lit: Lit) -> bool
         ensures { result ≡ has lit self.now }
     {
         self.marks.has(!lit)
@@ -76,7 +81,7 @@ impl Values {
 
     /// The literal is true from here on.
     #[inline(always)]
-    pub(crate) fn set(&mut self, lit: Lit) -> Result<(), AllocError>
+    pub fn set(&mut self, lit: Lit) -> Result<(), AllocError>
         ensures { OnOk result (self.new ≡ with_lit lit self.old) }
     {
         if !self.marks.insert(!lit)? {
@@ -92,7 +97,7 @@ impl Values {
     }
 
     /// The negations of the literals of a clause, or of those besides one, are true from here on.
-    pub(crate) fn negate(&mut self, clause: &[Lit], besides: Option<Lit>) -> Result<(), AllocError>
+    pub fn negate(&mut self, clause: &[Lit], besides: Option<Lit>) -> Result<(), AllocError>
         ensures set { OnOk result
             (among self.new ≡ add_negated (lits_besides besides clause.now) (among self.old)) }
         ensures grown { OnOk result (IsGrown self.old self.new) }
@@ -105,8 +110,16 @@ impl Values {
         Ok(())
     }
 
+    /// The negations of the literals of a clause are true from here on, and no others.
+    pub fn negate_alone(&mut self, clause: &[Lit]) -> Result<(), AllocError>
+        ensures { OnOk result (among self.new ≡ negated_set clause.now) }
+    {
+        self.clear();
+        self.negate(clause, None)
+    }
+
     /// No literal is true from here on.
-    pub(crate) fn clear(&mut self)
+    fn clear(&mut self)
         ensures { self.new ≡ [] }
     {
         let mut rest = self.trail.as_slice();
@@ -118,7 +131,7 @@ impl Values {
     }
 
     /// Only the literals that became true first are true from here on.
-    pub(crate) fn undo(&mut self, len: usize)
+    pub fn undo(&mut self, len: usize)
         ensures { self.new ≡ take len self.old }
     {
         while self.len() > len {
@@ -136,7 +149,7 @@ impl Values {
     }
 
     /// Whether a literal of a clause, besides one, is true.
-    pub(crate) fn some_true(&self, clause: &[Lit], besides: Lit) -> bool
+    pub fn some_true(&self, clause: &[Lit], besides: Lit) -> bool
         ensures { result ≡ list_any (among self.now) (lits_besides (Some besides) clause.now) }
     {
         clause
@@ -149,7 +162,7 @@ impl Values {
     ///
     /// Nearly all that a check looks at are false. They are passed over by one comparison each, in
     /// loops that do nothing else.
-    pub(crate) fn left(&self, clause: &[Lit]) -> Left
+    pub fn left(&self, clause: &[Lit]) -> Left
         ensures { (none : Ending) (one : ℕ → Ending)
             → by_left (unfalsified (among self.now) clause.now) none one
             ≡ on_left result none one }
@@ -184,7 +197,7 @@ impl Values {
 
     /// Whether all of these literals are false.
     #[inline(always)]
-    fn are_false(&self, others: &[Lit]) -> bool
+    pub fn are_false(&self, others: &[Lit]) -> bool
         ensures { result ≡ is_falsified (among self.now) others.now }
     {
         let near = self.marks.near();

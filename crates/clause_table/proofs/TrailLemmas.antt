@@ -1,11 +1,14 @@
 -- Trails of literals, and marks of what they hold.
 use Rattle.std.proofs.Common.{◌≡◌, ℕ, Bool, true, false, not, ◌&&◌, ◌||◌, eqb, List, [], ◌∷◌, ◌++◌, length, refl, sym, ap, ◌∙◌, arith}
 use mathlib.Core.Path.{fun_ext}
+use Rattle.std.proofs.Math.Bool.{or-false}
 use Rattle.std.proofs.lemmas.Bool.{false_from_ne_true, false≢true, and_parts, and_from}
 use Rattle.sat_rules.specs.Clauses.{add_lit, has, negate}
 use Rattle.sat_rules.proofs.Chains.{negate-negate}
+use Rattle.sat_rules.specs.Named.{negated_set}
 use Rattle.lrat_rules.specs.Counts.{all_once}
-use Rattle.lrat_checker.specs.Values.{IsMarked, among, with_lit}
+use Rattle.lrat_rules.specs.Groups.{add_negated}
+use Rattle.clause_table.specs.Values.{IsMarked, among, with_lit}
 
 -- ---- trails
 
@@ -22,6 +25,10 @@ all_once-push (m ∷ t) l = grind (arith, has-push t l m, all_once-push t l)
 -- one more literal is among them
 pub among-with_lit : (l : ℕ) (t : List ℕ) → among (with_lit l t) ≡ add_lit l (among t)
 among-with_lit l t = fun_ext (λ k. grind (arith, has-push t l k))
+
+-- the negations of a clause, with no other literal
+pub negated_alone : (c : List ℕ) → add_negated c (among []) ≡ negated_set c
+negated_alone c = fun_ext (λ m. or-false (negated_set c m))
 
 -- ---- marks
 

@@ -1,5 +1,5 @@
 use Rattle.std.proofs.Common.{◌≡◌, length, take}
-use Rattle.lrat_checker.proofs.values.Values.undo.Given as goal
+use Rattle.clause_table.proofs.values.Values.undo.Given as goal
 
 -- what is left is taken to the length as all was
 abbrev pub invariant-loop-self : goal.invariant-loop-self

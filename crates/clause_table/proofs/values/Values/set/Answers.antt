@@ -1,9 +1,9 @@
 use Rattle.std.proofs.Common.{subst, sym, ap, ◌∙◌}
 use Rattle.std.proofs.lemmas.Bool.{not-true}
 use Rattle.clause_table.specs.Marks.{has_mark}
-use Rattle.lrat_checker.specs.Values.{IsMarked, true_by}
-use Rattle.lrat_checker.proofs.TrailLemmas.{marked-push, set_of}
-use Rattle.lrat_checker.proofs.values.Values.set.Goals as goal
+use Rattle.clause_table.specs.Values.{IsMarked, true_by}
+use Rattle.clause_table.proofs.TrailLemmas.{marked-push, set_of}
+use Rattle.clause_table.proofs.values.Values.set.Goals as goal
 
 pub invariant_of-self-in-Ok : goal.invariant_of-self-in-Ok
 invariant_of-self-in-Ok c =

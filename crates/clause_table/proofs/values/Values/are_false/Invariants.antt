@@ -1,7 +1,7 @@
 use Rattle.std.proofs.Common.{◌≡◌, drop}
 use Rattle.sat_rules.specs.Clauses.{is_falsified}
-use Rattle.lrat_checker.specs.Values.{among}
-use Rattle.lrat_checker.proofs.values.Values.are_false.Given as goal
+use Rattle.clause_table.specs.Values.{among}
+use Rattle.clause_table.proofs.values.Values.are_false.Given as goal
 
 -- what is behind is all false
 abbrev pub invariant-loop-other : goal.invariant-loop-other

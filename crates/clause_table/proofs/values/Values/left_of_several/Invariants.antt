@@ -1,8 +1,8 @@
 use Rattle.std.proofs.Common.{◌≡◌, drop, nat_eq}
 use Rattle.std.specs.List.{list_all}
 use Rattle.sat_rules.specs.Clauses.{unfalsified}
-use Rattle.lrat_checker.specs.Values.{among}
-use Rattle.lrat_checker.proofs.values.Values.left_of_several.Given as goal
+use Rattle.clause_table.specs.Values.{among}
+use Rattle.clause_table.proofs.values.Values.left_of_several.Given as goal
 
 -- what is behind is false or this literal
 abbrev pub invariant-loop-other : goal.invariant-loop-other

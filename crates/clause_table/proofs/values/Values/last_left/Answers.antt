@@ -2,9 +2,9 @@ use Rattle.std.proofs.Common.{sym, ap, ◌∙◌}
 use Rattle.sat_rules.specs.Clauses.{has, negate, unfalsified}
 use Rattle.sat_rules.proofs.Chains.{negate-negate}
 use Rattle.clause_table.specs.Marks.{has_mark}
-use Rattle.lrat_checker.specs.Values.{among}
-use Rattle.lrat_checker.proofs.SearchLemmas.{unfalsified-false}
-use Rattle.lrat_checker.proofs.values.Values.last_left.Goals as goal
+use Rattle.clause_table.specs.Values.{among}
+use Rattle.clause_table.proofs.SearchLemmas.{unfalsified-false}
+use Rattle.clause_table.proofs.values.Values.last_left.Goals as goal
 
 pub loop-lit-preserved : goal.loop-lit-preserved
 loop-lit-preserved c =

@@ -1,7 +1,7 @@
 use Rattle.std.proofs.Common.{◌≡◌, ℕ, true, length}
 use Rattle.sat_rules.specs.Clauses.{has}
-use Rattle.lrat_checker.specs.Values.{true_by}
-use Rattle.lrat_checker.proofs.values.Values.clear.Given as goal
+use Rattle.clause_table.specs.Values.{true_by}
+use Rattle.clause_table.proofs.values.Values.clear.Given as goal
 
 -- what is still true comes before
 abbrev pub invariant-loop-lit : goal.invariant-loop-lit

@@ -1,8 +1,8 @@
 use Rattle.std.proofs.Common.{subst}
 use Rattle.clause_table.specs.Marks.{has_mark}
-use Rattle.lrat_checker.specs.Values.{IsMarked, true_by}
-use Rattle.lrat_checker.proofs.TrailLemmas.{cleared_of, marked-pop}
-use Rattle.lrat_checker.proofs.values.Values.forget_last.Goals as goal
+use Rattle.clause_table.specs.Values.{IsMarked, true_by}
+use Rattle.clause_table.proofs.TrailLemmas.{cleared_of, marked-pop}
+use Rattle.clause_table.proofs.values.Values.forget_last.Goals as goal
 
 pub invariant_of-self : goal.invariant_of-self
 invariant_of-self c =

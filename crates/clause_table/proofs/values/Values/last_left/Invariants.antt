@@ -1,7 +1,7 @@
 use Rattle.std.proofs.Common.{◌≡◌, length}
 use Rattle.sat_rules.specs.Clauses.{unfalsified}
-use Rattle.lrat_checker.specs.Values.{among}
-use Rattle.lrat_checker.proofs.values.Values.last_left.Given as goal
+use Rattle.clause_table.specs.Values.{among}
+use Rattle.clause_table.proofs.values.Values.last_left.Given as goal
 
 -- what comes after is all false
 abbrev pub invariant-loop-lit : goal.invariant-loop-lit

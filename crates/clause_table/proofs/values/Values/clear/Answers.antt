@@ -1,9 +1,9 @@
 use Rattle.std.proofs.Common.{sym, ap, ◌∙◌}
 use Rattle.sat_rules.specs.Clauses.{has}
 use Rattle.clause_table.specs.Marks.{has_mark}
-use Rattle.lrat_checker.specs.Values.{true_by}
-use Rattle.lrat_checker.proofs.TrailLemmas.{cleared_of, earlier_in_trail, marked-none}
-use Rattle.lrat_checker.proofs.values.Values.clear.Goals as goal
+use Rattle.clause_table.specs.Values.{true_by}
+use Rattle.clause_table.proofs.TrailLemmas.{cleared_of, earlier_in_trail, marked-none}
+use Rattle.clause_table.proofs.values.Values.clear.Goals as goal
 
 pub loop-lit-init : goal.loop-lit-init
 loop-lit-init c = λ k t. ap (has k) c.as_slice-rest.ensures.value ∙ sym (c.self.invariant.marked k) ∙ t
