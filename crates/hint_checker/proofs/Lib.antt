@@ -4,4 +4,4 @@ pub mod OneAnswer
 pub mod OutcomeLemmas
 pub mod Parts
 pub mod StreamLemmas
-pub mod ValueLemmas
+pub mod UnitLemmas

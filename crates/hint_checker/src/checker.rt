@@ -16,7 +16,7 @@ ghost use Rattle.hint_checker.specs.declared.fault.LineFault.TheVariants as line
 
 use crate::fault::{HintFault, HintTextFault, LineFault};
 use crate::listing::Listing;
-use crate::values::Values;
+use clause_table::Values;
 use lrat_text::{Hint, LineReader, LratLine};
 use sat_formula::CnfFormula;
 use std::alloc::Global;
@@ -217,7 +217,7 @@ fn collect_ids(hints: &[Hint], ids: &mut Vec<u64>) -> Result<(), LineFault>
     ids.clear();
     for hint in hints {
         match *hint {
-            Hint::Along(id) => ids.push(id)?,
+            Hint::Along(id) => ids.push(id).map_err(|_| LineFault::OutOfMemory)?,
             Hint::Against(_) => return Err(LineFault::Malformed),
         }
     }

@@ -1,8 +1,11 @@
 //! Why lines of hints are refused.
 ghost use Rattle.std.specs.Prelude.{◌≡◌};
+ghost use Rattle.hint_checker.specs.Checked.{in_line};
+ghost use Rattle.hint_checker.specs.Given.{of_bytes, of_text};
+ghost use Rattle.hint_checker.specs.declared.fault.LineFault.TheVariants as lines;
 
 use lrat_text::LratTextFault;
-use std::alloc::{AllocError, AllocFailed};
+use std::alloc::AllocError;
 use std::io;
 use thiserror::Error;
 
@@ -41,9 +44,6 @@ pub enum HintTextFault {
 }
 
 impl From<LratTextFault> for HintTextFault {
-    ghost use Rattle.std.specs.Prelude.{◌≡◌};
-    ghost use Rattle.hint_checker.specs.Given.{of_text};
-
     ghost from_gives = { λ fault r. r ≡ of_text fault };
 
     fn from(fault: LratTextFault) -> HintTextFault {
@@ -58,8 +58,6 @@ impl From<LratTextFault> for HintTextFault {
 }
 
 impl HintTextFault {
-    ghost use Rattle.hint_checker.specs.Given.{of_bytes};
-
     /// The fault of a text in memory. No read of it fails, so an error of one is that there was no
     /// memory.
     pub(crate) fn of_bytes(self) -> HintFault
@@ -90,8 +88,6 @@ pub enum LineFault {
 }
 
 impl LineFault {
-    ghost use Rattle.hint_checker.specs.Checked.{in_line};
-
     /// The fault of the line of that number.
     pub fn in_line(self, line: u64) -> HintFault
         ensures { result ≡ in_line self line }
@@ -108,23 +104,9 @@ impl LineFault {
 }
 
 impl From<AllocError> for LineFault {
-    ghost use Rattle.std.specs.Prelude.{◌≡◌};
-    ghost use Rattle.hint_checker.specs.declared.fault.LineFault.TheVariants.{OutOfMemory};
-
-    ghost from_gives = { λ _ fault. fault ≡ OutOfMemory };
+    ghost from_gives = { λ _ fault. fault ≡ lines.OutOfMemory };
 
     fn from(_e: AllocError) -> LineFault {
-        LineFault::OutOfMemory
-    }
-}
-
-impl<T: Drop> From<AllocFailed<T>> for LineFault {
-    ghost use Rattle.std.specs.Prelude.{◌≡◌};
-    ghost use Rattle.hint_checker.specs.declared.fault.LineFault.TheVariants.{OutOfMemory};
-
-    ghost from_gives = { λ _ fault. fault ≡ OutOfMemory };
-
-    fn from(_e: AllocFailed<T>) -> LineFault {
         LineFault::OutOfMemory
     }
 }

@@ -2,11 +2,9 @@
 #![tactic(auto)]
 
 mod checker;
-mod clauses;
 mod fault;
 pub mod laws;
 mod listing;
-mod values;
 
 pub use checker::HintChecker;
 pub use fault::{HintFault, HintTextFault, LineFault};

@@ -1,22 +1,21 @@
 //! The clauses that a checker of hints holds.
 ghost use Rattle.std.specs.Prelude.{◌≡◌, ◌+◌, ◌-◌, ◌^◌, ℕ, Bool, Option, None, length, min, IfErr, IfOk, OnOk};
-ghost use Rattle.sat_rules.specs.HintLines.{HintCause, adds_clause, after_line, drop_ids, hints_cause, line_cause, listing, next_cause};
+ghost use Rattle.sat_rules.specs.HintLines.{HintCause, adds_clause, after_line, drop_ids, hints_cause, line_cause, listing, next_cause, unit_among};
 ghost use Rattle.sat_rules.specs.Named.{drop_id, put_id};
 ghost use Rattle.hint_checker.specs.Checked.{IsCause, cause_of};
-ghost use Rattle.hint_checker.specs.Held.{IsSmall, held_by, trues};
+ghost use Rattle.hint_checker.specs.Held.{IsSmall, held_by};
+ghost use Rattle.clause_table.specs.Values.{among};
 ghost use Rattle.std.specs.Option.{option_map};
 
-use crate::clauses::Clauses;
 use crate::fault::LineFault;
-use crate::values::Values;
-use sat_formula::CnfFormula;
-use sat_formula::lit::Lit;
+use clause_table::{Left, NamedClauses, Values};
+use sat_formula::{CnfFormula, Lit};
 use std::alloc::{AllocError, Global};
 
 /// The clauses under their ids, and what was added.
 #[derive(Drop)]
 pub(crate) struct Listing {
-    clauses: Clauses,
+    clauses: NamedClauses,
     /// The greatest id so far, or 0.
     greatest: u64,
     added_empty: bool,
@@ -31,7 +30,7 @@ impl Listing {
         ensures small { IfOk result (λ made. IsSmall made) }
     {
         let mut held = Listing {
-            clauses: Clauses::new(alloc, formula.len())?,
+            clauses: NamedClauses::new(alloc, formula.len())?,
             greatest: 0,
             added_empty: false,
             stored: 0,
@@ -90,7 +89,7 @@ impl Listing {
             return Err(LineFault::IdNotGreater);
         }
         values.allow(self.stored.saturating_add(clause.len() as u64));
-        values.negate(clause)?;
+        values.negate_alone(clause)?;
         self.try_hints(values, hints)?;
         self.put(id, clause)?;
         self.added_empty |= clause.is_empty();
@@ -100,17 +99,17 @@ impl Listing {
     /// Tries the hints in turn: all but the last are unit, and the last is falsified.
     fn try_hints(&self, values: &mut Values, hints: &[u64]) -> Result<(), LineFault>
         ensures ok { OnOk result (hints_cause (held_by self.now).machine.named
-            (trues values.old) hints.now ≡ None) }
+            (among values.old) hints.now ≡ None) }
         ensures err { IfErr result (λ fault. IsCause fault
             (option_map cause_of (hints_cause (held_by self.now).machine.named
-            (trues values.old) hints.now))) }
+            (among values.old) hints.now))) }
     {
         let (last, others) = hints.split_last().ok_or(LineFault::NoConflict)?;
         for id in others {
             self.follow(values, *id)?;
         }
         let clause = self.clauses.get(*last).ok_or(LineFault::UnknownId)?;
-        if !values.is_falsified(clause) {
+        if !values.are_false(clause) {
             return Err(LineFault::NoConflict);
         }
         Ok(())
@@ -119,14 +118,14 @@ impl Listing {
     /// Makes the literal true on which the clause of a hint is unit.
     fn follow(&self, values: &mut Values, id: u64) -> Result<(), LineFault>
         ensures ok { OnOk result ((rest : (ℕ → Bool) → Option HintCause)
-            → next_cause (trues values.old) ((held_by self.now).machine.named id) rest
-            ≡ rest (trues values.new)) }
+            → next_cause (among values.old) ((held_by self.now).machine.named id) rest
+            ≡ rest (among values.new)) }
         ensures err { IfErr result (λ fault. (rest : (ℕ → Bool) → Option HintCause)
             → IsCause fault (option_map cause_of
-            (next_cause (trues values.old) ((held_by self.now).machine.named id) rest))) }
+            (next_cause (among values.old) ((held_by self.now).machine.named id) rest))) }
     {
         let clause = self.clauses.get(id).ok_or(LineFault::UnknownId)?;
-        let unit = values.unit(clause).ok_or(LineFault::NotUnit)?;
+        let unit = unit(values, clause).ok_or(LineFault::NotUnit)?;
         values.set(unit)?;
         Ok(())
     }
@@ -157,4 +156,17 @@ impl Listing {
     {
         self.clauses.collect_garbage();
     }
+}
+
+/// The literal on which a clause is unit: it has no value, and all others are false.
+fn unit(values: &Values, clause: &[Lit]) -> Option<Lit>
+    ensures { result ≡ unit_among (among values.now) clause.now clause.now }
+{
+    let Left::One(lit) = values.left(clause) else {
+        return None;
+    };
+    if values.is_true(lit) {
+        return None;
+    }
+    Some(lit)
 }
