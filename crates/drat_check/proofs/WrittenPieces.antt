@@ -1,5 +1,5 @@
 -- Lines of a piece of a proof that are accepted and written, without their steps, and what a verdict on the piece stands on.
-use Rattle.std.proofs.Common.{◌≡◌, ℕ, List, [], ◌∷◌, ◌++◌, length, Option, None, Result, Ok, Err, false, refl, sym, ap, ◌∙◌, subst}
+use Rattle.std.proofs.Common.{◌≡◌, ℕ, List, [], ◌∷◌, ◌++◌, length, Option, None, Result, Ok, Err, false, refl, sym, ap, ◌∙◌, subst, inl}
 use Rattle.std.specs.Prelude.{IfOk}
 use Rattle.std.specs.Option.{option_map}
 use Rattle.std.specs.Io.KnownBytes.{Appends, Keeps}
@@ -27,6 +27,7 @@ use Rattle.drat_check.specs.declared.fault.RunFault.TheVariants.{Formula, Write}
 use Rattle.drat_check.specs.declared.piece_fault.PieceFault.{PieceFault}
 use Rattle.drat_check.specs.declared.piece_fault.PieceFault.TheVariants.{Run, Wanted, Lost}
 use Rattle.drat_check.specs.Outputs.{BeganLines, HasWritten}
+use Rattle.drat_check.specs.PieceCores.{WritesCore, WritesPieceCore}
 use Rattle.drat_check.specs.Pieces.{IsEarlyPiece, IsPieceRun, IsReadPieceRun, TellsPieceLies, WritesEarly, WritesPiece, WritesRead, WritesShown, WrotePiece}
 use Rattle.drat_check.proofs.WrittenLines.{last_of, lines_in-more}
 
@@ -133,6 +134,10 @@ module _ (cnf holds : Known) (formula wanted : List (List ℕ)) (whole : IsOutco
   read_lines form lrat lrat' old new (Err (Run (Formula fault))) p = absurd p
   read_lines form lrat lrat' old new (Err (Wanted fault)) p = absurd p
   read_lines form lrat lrat' old new r p = both (λ formula wanted. WritesRead form formula wanted lrat lrat' old new r) p
+
+  pub read_core : (core core' old new : Known) (r : Result PieceVerdict PieceFault) → WritesCore formula wanted core core' old new r →
+      WritesPieceCore cnf holds core core' old new r
+  read_core core core' old new r p = inl (both (λ formula wanted. WritesCore formula wanted core core' old new r) p)
 
 -- what is told of both headers, once both formulas were read
 pub read_lies : (cnf holds : Known) (formula wanted : List (List ℕ)) (before lie other : Option LyingHeader) (r : Result PieceVerdict PieceFault) →

@@ -1,4 +1,7 @@
 //! Why a run comes to no verdict.
+ghost use Rattle.std.specs.Prelude.{◌≡◌};
+ghost use Rattle.drat_check.specs.declared.fault.ProofFault.TheVariants.{OutOfMemory, Refused, Unread, UnreadLine};
+
 use drat_elaborate::ElaborateFault;
 use drat_text::DratFault;
 use lrat_checker::LineFault;
@@ -57,24 +60,32 @@ pub enum RunFault {
 }
 
 impl From<DratFault> for ProofFault {
+    ghost from_gives = { λ fault result. result ≡ Unread fault };
+
     fn from(fault: DratFault) -> ProofFault {
         ProofFault::Unread(fault)
     }
 }
 
 impl From<LratTextFault> for ProofFault {
+    ghost from_gives = { λ fault result. result ≡ UnreadLine fault };
+
     fn from(fault: LratTextFault) -> ProofFault {
         ProofFault::UnreadLine(fault)
     }
 }
 
 impl From<ElaborateFault> for ProofFault {
+    ghost from_gives = { λ fault result. result ≡ Refused fault };
+
     fn from(fault: ElaborateFault) -> ProofFault {
         ProofFault::Refused(fault)
     }
 }
 
 impl From<AllocError> for ProofFault {
+    ghost from_gives = { λ _ result. result ≡ OutOfMemory };
+
     fn from(_e: AllocError) -> ProofFault {
         ProofFault::OutOfMemory
     }

@@ -40,24 +40,30 @@ pub struct Outputs<L, C> {
 
 /// Hands the elaborated lines to a checker that holds the formula, up to the empty clause, which
 /// has to come, and writes each that it accepts, and the steps of DRAT that it is.
-pub(crate) fn write_proof<L: Write>(
+pub(crate) fn write_proof<L: Write, C>(
     alloc: Global,
     formula: &CnfFormula,
     elaborator: &mut Elaborator,
-    lrat: &mut Option<L>,
-    form: LineForm,
-    trim: &mut Option<L>,
-    counts: &Cell<RunCounts>,
+    outputs: &mut Outputs<L, C>,
 ) -> Result<(), RunFault>
     ensures shown { OnOk result (IsUnsatisfiable formula.now) }
-    ensures whole { OnOk result (WroteProof form formula.now
-        (bytes_in L.contents lrat.old) (bytes_in L.contents lrat.new)
-        (bytes_in L.contents trim.old) (bytes_in L.contents trim.new)) }
-    ensures beginning { OnErr result (BeganLines form formula.now
-        (bytes_in L.contents lrat.old) (bytes_in L.contents lrat.new)
-        (bytes_in L.contents trim.old) (bytes_in L.contents trim.new)) }
+    ensures whole { OnOk result (WroteProof outputs.old.form formula.now
+        (bytes_in L.contents outputs.old.lrat) (bytes_in L.contents outputs.new.lrat)
+        (bytes_in L.contents outputs.old.trim) (bytes_in L.contents outputs.new.trim)) }
+    ensures beginning { OnErr result (BeganLines outputs.old.form formula.now
+        (bytes_in L.contents outputs.old.lrat) (bytes_in L.contents outputs.new.lrat)
+        (bytes_in L.contents outputs.old.trim) (bytes_in L.contents outputs.new.trim)) }
     ensures fault { IsLineFault result }
+    ensures form { outputs.new.form ≡ outputs.old.form }
+    ensures core { outputs.new.core ≡ outputs.old.core }
 {
+    let form = outputs.form;
+    let Outputs {
+        lrat,
+        trim,
+        counts,
+        ..
+    } = outputs;
     let checker = match write_lines(alloc, formula, elaborator, lrat, form, trim, counts) {
         Ok(checker) => checker,
         Err(fault) => return Err(fault),

@@ -6,14 +6,14 @@ ghost use Rattle.sat_formula.specs.Refuted.{IsRefuted};
 ghost use Rattle.drat_check.specs.Outputs.{bytes_in};
 ghost use Rattle.piece_runs.specs.Texts.{CarriesText, IsPieceShown};
 ghost use Rattle.drat_check.specs.PieceCores.{WritesCore, WritesPieceCore};
-ghost use Rattle.drat_check.specs.Pieces.{IsEarlyPiece, IsPieceRun, IsReadPieceRun, IsSilentPiece, TellsPieceLies, WritesEarly, WritesPiece, WritesRead};
+ghost use Rattle.drat_check.specs.Pieces.{IsEarlyPiece, IsPieceRun, IsSilentPiece, TellsPieceLies, WritesEarly, WritesPiece};
 ghost use Rattle.verdicts.specs.Pieces.{piece_line};
 ghost use Rattle.verdicts.specs.declared.piece.PieceVerdict.TheVariants.{Refuted, Carried, NotCarried};
 
-use crate::counts::RunCounts;
+use crate::counts::{RunCounts, count_core};
 use crate::fault::{ProofFault, RunFault};
 use crate::outputs::{flush, write_lines};
-use crate::piece_core::show_wanted;
+use crate::piece_core::show_core;
 use crate::piece_fault::PieceFault;
 use crate::proof::{elaborate, read_proof};
 use crate::reader::ProofFormat;
@@ -107,49 +107,7 @@ pub fn run_piece<
         Ok(wanted) => wanted,
         Err(fault) => return Err(PieceFault::Wanted(fault)),
     };
-    let form = outputs.form;
-    let PieceOutputs {
-        lrat,
-        core,
-        counts,
-        missing,
-        ..
-    } = outputs;
-    run_read_piece(
-        rt, alloc, &formula, &wanted, piece, format, lrat, form, core, counts, missing, out,
-    )
-}
-
-/// The same after both formulas.
-fn run_read_piece<R: Log, P: Read + Drop, W: Write, L: Write + Drop, C: Write + Drop>(
-    rt: &R,
-    alloc: Global,
-    formula: &CnfFormula,
-    wanted: &CnfFormula,
-    piece: P,
-    format: ProofFormat,
-    lrat: &mut Option<L>,
-    form: LineForm,
-    core: &mut Option<C>,
-    counts: &Cell<RunCounts>,
-    missing: &mut Option<MissingClause>,
-    out: &mut W,
-) -> Result<PieceVerdict, PieceFault>
-    ensures run { IsReadPieceRun formula.now wanted.now result }
-    ensures line { IfOk result (λ verdict.
-        Appends (W.contents out.old) (W.contents out.new) (piece_line verdict)) }
-    ensures silent { IsSilentPiece result → out.new ≡ out.old }
-    ensures lines { IsNone core.old → WritesRead form formula.now wanted.now
-        (bytes_in L.contents lrat.old) (bytes_in L.contents lrat.new)
-        (W.contents out.old) (W.contents out.new) result }
-    ensures apart { IsSome core.old → lrat.new ≡ lrat.old }
-    ensures core { WritesCore formula.now wanted.now
-        (bytes_in C.contents core.old) (bytes_in C.contents core.new)
-        (W.contents out.old) (W.contents out.new) result }
-{
-    let verdict = match judge_piece(
-        rt, alloc, formula, wanted, piece, format, lrat, form, core, counts, missing,
-    ) {
+    let verdict = match judge_piece(rt, alloc, &formula, &wanted, piece, format, outputs) {
         Ok(verdict) => verdict,
         Err(fault) => return Err(fault),
     };
@@ -160,7 +118,9 @@ fn run_read_piece<R: Log, P: Read + Drop, W: Write, L: Write + Drop, C: Write + 
     }
 }
 
-/// What a piece shows, once what it stands on is written.
+/// What a piece shows, once what it stands on is written. The lines are checked over the clauses of
+/// the formula that they use where there is a writer for these, and else over the formula, where
+/// lines are written.
 fn judge_piece<R: Log, P: Read + Drop, L: Write + Drop, C: Write + Drop>(
     rt: &R,
     alloc: Global,
@@ -168,43 +128,45 @@ fn judge_piece<R: Log, P: Read + Drop, L: Write + Drop, C: Write + Drop>(
     wanted: &CnfFormula,
     piece: P,
     format: ProofFormat,
-    lrat: &mut Option<L>,
-    form: LineForm,
-    core: &mut Option<C>,
-    counts: &Cell<RunCounts>,
-    missing: &mut Option<MissingClause>,
+    outputs: &mut PieceOutputs<L, C>,
 ) -> Result<PieceVerdict, PieceFault>
     ensures shown { IfOk result (IsPieceShown formula.now wanted.now) }
     ensures early { IsEarlyPiece result }
-    ensures lines { IsNone core.old → WritesEarly form formula.now wanted.now
-        (bytes_in L.contents lrat.old) (bytes_in L.contents lrat.new) result }
-    ensures apart { IsSome core.old → lrat.new ≡ lrat.old }
+    ensures lines { IsNone outputs.old.core → WritesEarly outputs.old.form formula.now wanted.now
+        (bytes_in L.contents outputs.old.lrat) (bytes_in L.contents outputs.new.lrat) result }
+    ensures apart { IsSome outputs.old.core → outputs.new.lrat ≡ outputs.old.lrat }
     ensures core { (old new : Option (List ℕ)) → WritesCore formula.now wanted.now
-        (bytes_in C.contents core.old) (bytes_in C.contents core.new) old new result }
+        (bytes_in C.contents outputs.old.core) (bytes_in C.contents outputs.new.core)
+        old new result }
+    ensures form { outputs.new.form ≡ outputs.old.form }
+    ensures lie { outputs.new.lie ≡ outputs.old.lie }
+    ensures wanted_lie { outputs.new.wanted_lie ≡ outputs.old.wanted_lie }
 {
-    let mut elaborator = match read_proof(alloc, formula, piece, format, counts) {
+    let mut elaborator = match read_proof(alloc, formula, piece, format, &outputs.counts) {
         Ok(elaborator) => elaborator,
         Err(fault) => return Err(PieceFault::Run(RunFault::Proof(fault))),
     };
-    *missing = match first_missing(alloc, &mut elaborator, wanted) {
+    outputs.missing = match first_missing(alloc, &mut elaborator, wanted) {
         Ok(missing) => missing,
         Err(fault) => return Err(PieceFault::Run(RunFault::Proof(fault))),
     };
-    if missing.is_some() {
+    if outputs.missing.is_some() {
         return Ok(PieceVerdict::NotCarried);
     }
-    match elaborate(rt, &mut elaborator) {
-        Ok(()) => show_wanted(
-            alloc,
-            formula,
-            wanted,
-            &mut elaborator,
-            lrat,
-            form,
-            core,
-            counts,
-        ),
-        Err(fault) => Err(PieceFault::Run(RunFault::Proof(fault))),
+    if let Err(fault) = elaborate(rt, &mut elaborator) {
+        return Err(PieceFault::Run(RunFault::Proof(fault)));
+    }
+    count_core(&outputs.counts, formula, &elaborator);
+    let form = outputs.form;
+    let PieceOutputs {
+        lrat,
+        core,
+        counts,
+        ..
+    } = outputs;
+    match core {
+        Some(core) => show_core(alloc, formula, wanted, &mut elaborator, core, counts),
+        None => show_piece(alloc, formula, wanted, &mut elaborator, lrat, form, counts),
     }
 }
 

@@ -1,12 +1,10 @@
 //! The core of a piece of a proof: the clauses of the formula that its lines use. The lines are
 //! checked over them alone.
-ghost use Rattle.std.specs.Prelude.{◌≡◌, ℕ, List, Option, IfOk, IsNone, IsSome};
-ghost use Rattle.drat_check.specs.Outputs.{bytes_in};
+ghost use Rattle.std.specs.Prelude.{ℕ, List, Option};
 ghost use Rattle.drat_check.specs.PieceCores.{WritesCore};
-ghost use Rattle.drat_check.specs.Pieces.{IsEarlyPiece, WritesEarly};
-ghost use Rattle.piece_runs.specs.Texts.{IsPieceShown};
+ghost use Rattle.drat_check.specs.Pieces.{IsEarlyPiece};
 
-use crate::counts::{RunCounts, count_core};
+use crate::counts::RunCounts;
 use crate::fault::{ProofFault, RunFault};
 use crate::outputs::{used_clauses, write_clauses};
 use crate::piece::show_piece;
@@ -19,36 +17,9 @@ use std::cell::Cell;
 use std::io::Write;
 use verdicts::PieceVerdict;
 
-/// Has the elaborated lines checked: over the clauses of the formula that they use where there is a
-/// writer for these, and else over the formula, where lines are written.
-pub(crate) fn show_wanted<L: Write + Drop, C: Write + Drop>(
-    alloc: Global,
-    formula: &CnfFormula,
-    wanted: &CnfFormula,
-    elaborator: &mut Elaborator,
-    lrat: &mut Option<L>,
-    form: LineForm,
-    core: &mut Option<C>,
-    counts: &Cell<RunCounts>,
-) -> Result<PieceVerdict, PieceFault>
-    ensures shown { IfOk result (IsPieceShown formula.now wanted.now) }
-    ensures early { IsEarlyPiece result }
-    ensures lines { IsNone core.old → WritesEarly form formula.now wanted.now
-        (bytes_in L.contents lrat.old) (bytes_in L.contents lrat.new) result }
-    ensures apart { IsSome core.old → lrat.new ≡ lrat.old }
-    ensures core { (old new : Option (List ℕ)) → WritesCore formula.now wanted.now
-        (bytes_in C.contents core.old) (bytes_in C.contents core.new) old new result }
-{
-    count_core(counts, formula, elaborator);
-    match core {
-        Some(core) => show_core(alloc, formula, wanted, elaborator, core, counts),
-        None => show_piece(alloc, formula, wanted, elaborator, lrat, form, counts),
-    }
-}
-
 /// Hands the elaborated lines to a checker that holds the clauses of the formula that they use, and
 /// no other, and writes these as a formula once it decides what the lines show.
-fn show_core<C: Write + Drop>(
+pub(crate) fn show_core<C: Write + Drop>(
     alloc: Global,
     formula: &CnfFormula,
     wanted: &CnfFormula,

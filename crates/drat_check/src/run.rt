@@ -14,6 +14,7 @@ use crate::fault::RunFault;
 use crate::outputs::{Outputs, write_core, write_proof};
 use crate::proof::{elaborate, read_proof};
 use crate::reader::ProofFormat;
+use drat_elaborate::Elaborator;
 use log::Log;
 use sat_formula::{CnfFormula, LyingHeader};
 use std::alloc::Global;
@@ -87,7 +88,11 @@ pub fn run_proof<R: Log, P: Read + Drop, W: Write, L: Write, C: Write>(
     ensures form { outputs.new.form ≡ outputs.old.form }
     ensures refutes { result ≡ Ok Verified → (a : ℕ → Bool) → all_true a formula.now ≡ false }
 {
-    let verdict = match verdict_of(rt, alloc, formula, proof, format, outputs) {
+    let elaborator = match read_proof(alloc, formula, proof, format, &outputs.counts) {
+        Ok(elaborator) => elaborator,
+        Err(fault) => return Err(RunFault::Proof(fault)),
+    };
+    let verdict = match verdict_of(rt, alloc, formula, elaborator, outputs) {
         Ok(verdict) => verdict,
         Err(fault) => return Err(fault),
     };
@@ -98,14 +103,13 @@ pub fn run_proof<R: Log, P: Read + Drop, W: Write, L: Write, C: Write>(
     }
 }
 
-/// What a proof shows of a formula, once what it stands on is written. `Verified` is answered where
-/// the checker of LRAT proofs has taken the empty clause.
-fn verdict_of<R: Log, P: Read + Drop, L: Write, C: Write>(
+/// What a proof that was read shows of a formula, once what it stands on is written. `Verified` is
+/// answered where the checker of LRAT proofs has taken the empty clause.
+fn verdict_of<R: Log, L: Write, C: Write>(
     rt: &R,
     alloc: Global,
     formula: &CnfFormula,
-    proof: P,
-    format: ProofFormat,
+    mut elaborator: Elaborator,
     outputs: &mut Outputs<L, C>,
 ) -> Result<Verdict, RunFault>
     ensures run { IsProofRun formula.now result }
@@ -114,27 +118,16 @@ fn verdict_of<R: Log, P: Read + Drop, L: Write, C: Write>(
         outputs.old outputs.new result }
     ensures form { outputs.new.form ≡ outputs.old.form }
 {
-    let mut elaborator = match read_proof(alloc, formula, proof, format, &outputs.counts) {
-        Ok(elaborator) => elaborator,
-        Err(fault) => return Err(RunFault::Proof(fault)),
-    };
     if !elaborator.is_refuted() {
         return Ok(Verdict::NotVerified);
     }
     if let Err(fault) = elaborate(rt, &mut elaborator) {
         return Err(RunFault::Proof(fault));
     }
-    let form = outputs.form;
-    let Outputs {
-        lrat,
-        trim,
-        counts,
-        ..
-    } = outputs;
-    if let Err(fault) = write_proof(alloc, formula, &mut elaborator, lrat, form, trim, counts) {
+    if let Err(fault) = write_proof(alloc, formula, &mut elaborator, outputs) {
         return Err(fault);
     }
-    count_core(counts, formula, &elaborator);
+    count_core(&outputs.counts, formula, &elaborator);
     match write_core(alloc, formula, &elaborator, &mut outputs.core) {
         Ok(()) => Ok(Verdict::Verified),
         Err(fault) => Err(RunFault::Core(fault)),
