@@ -50,7 +50,7 @@ pub(crate) fn check_files(
 }
 
 /// Makes the files that are wanted. None of them is one of the inputs, nor is one file made twice.
-fn create_outputs<'a>(
+pub(crate) fn create_outputs<'a>(
     files: &mut WrittenFiles<'a>,
     call: &'a Call<'_>,
     inputs: &[&Input<'_>],

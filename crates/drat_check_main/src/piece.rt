@@ -1,15 +1,12 @@
 //! A piece of a proof, behind which the clauses of a file are wanted.
 use crate::about::ABOUT;
 use crate::fault::{is_unread, place_in_piece, say_stats, unread_formula, unread_wanted};
-use crate::form_of;
+use crate::files::create_outputs;
 use command::{
-    Call, Cost, FaultPlace, Input, InputNames, NOT_RUN, OutputAfterFiles, WrittenFiles, hold_file,
+    Call, Cost, FaultPlace, InputNames, NOT_RUN, OutputAfterFiles, WrittenFiles, hold_file,
     open_file, open_inputs, progress_of, say_fault, say_missing, warn_of_header,
 };
 use drat_check::{PieceOutputs, ProofFormat, piece_status, run_piece};
-use std::cell::Cell;
-use std::fs::File;
-use std::io::BufWriter;
 
 /// Checks a piece of a proof. All files are open before anything is read, and both formulas are
 /// read whole.
@@ -25,9 +22,18 @@ pub(crate) fn check_piece<'a>(
     let holds = open_file(rt, holds_name).ok_or(NOT_RUN)?;
     let mut files = WrittenFiles::new(rt);
     // A device, as /dev/null, may be both read and written.
-    let outputs = &mut match holds.length(rt) {
+    let made = match holds.length(rt) {
         Some(_) => create_outputs(&mut files, call, &[&cnf, &piece, &holds])?,
         None => create_outputs(&mut files, call, &[&cnf, &piece])?,
+    };
+    let outputs = &mut PieceOutputs {
+        lrat: made.lrat,
+        form: made.form,
+        core: made.core,
+        counts: made.counts,
+        missing: None,
+        lie: None,
+        wanted_lie: None,
     };
     let cnf = hold_file(rt, names, cnf, FaultPlace::Formula, unread_formula)?;
     let wanted = FaultPlace::Wanted(holds_name);
@@ -56,21 +62,4 @@ pub(crate) fn check_piece<'a>(
         say_stats(rt, outputs.counts.get(), cost);
     }
     Ok(piece_status(&outcome))
-}
-
-/// Makes the files that are wanted. None of them is one of the inputs, nor is one file made twice.
-fn create_outputs<'a>(
-    files: &mut WrittenFiles<'a>,
-    call: &'a Call<'_>,
-    inputs: &[&Input<'_>],
-) -> Result<PieceOutputs<BufWriter<File>, BufWriter<File>>, u8> {
-    Ok(PieceOutputs {
-        lrat: files.create_wanted(call.value("--lrat"), inputs)?,
-        form: form_of(call),
-        core: files.create_wanted(call.value("--core"), inputs)?,
-        counts: Cell::default(),
-        missing: None,
-        lie: None,
-        wanted_lie: None,
-    })
 }
