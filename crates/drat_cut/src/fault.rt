@@ -1,25 +1,13 @@
 //! Why a proof is not cut.
-use std::alloc::{AllocError, AllocFailed};
+use std::alloc::AllocError;
 use thiserror::Error;
 
 /// Why a proof is not cut.
 #[derive(Clone, Copy, Debug, PartialEq, Eq, Error)]
 pub enum CutFault {
     #[error("out of memory")]
-    OutOfMemory,
+    OutOfMemory(#[from(alloc)] AllocError),
     /// More clauses live than can be told apart.
     #[error("too many clauses live")]
     TooMany,
-}
-
-impl From<AllocError> for CutFault {
-    fn from(_fault: AllocError) -> CutFault {
-        CutFault::OutOfMemory
-    }
-}
-
-impl<T: Drop> From<AllocFailed<T>> for CutFault {
-    fn from(_fault: AllocFailed<T>) -> CutFault {
-        CutFault::OutOfMemory
-    }
 }

@@ -41,11 +41,8 @@ impl LiveClauses {
 
     /// Twice as many buckets, with all that live.
     fn grow(&mut self) -> Result<(), AllocError> {
-        let size = self
-            .buckets
-            .len()
-            .saturating_mul(2)
-            .max(LiveClauses::FIRST_SIZE);
+        let twice = self.buckets.len().saturating_mul(2);
+        let size = twice.max(LiveClauses::FIRST_SIZE);
         self.buckets.clear();
         self.buckets.resize(size, SlotLink::NONE)?;
         for number in 0..self.slots.len() {
