@@ -1,11 +1,7 @@
 //! Runs: a proof is checked, and its verdict is written.
 ghost use Rattle.std.specs.Prelude.{◌≡◌, ◌≤◌, ℕ, Bool, true, false, List, OnErr, OnOk, IfOk, Ok, Err, Some};
 ghost use Rattle.std.specs.Io.KnownBytes.{Appends};
-ghost use Rattle.checker_rules.specs.Calls.{shown_inputs, shown_unsat};
-ghost use Rattle.checker_rules.specs.Headline.{holds};
-ghost use Rattle.checker_rules.specs.Step.{Step};
-ghost use Rattle.checker_parts.specs.Answers.{IsCovered};
-ghost use Rattle.checker_steps.specs.Failing.{RecordsFailure};
+ghost use Rattle.varisat_checker.specs.Common.{IsCovered, RecordsFailure, Step, holds, shown_inputs, shown_unsat};
 ghost use Rattle.varisat_checker.specs.ProofRun.{ProofRun};
 ghost use Rattle.varisat_checker.specs.Shown.{listeners, state};
 ghost use Rattle.sat_formula.specs.Refuted.{IsRefuted};

@@ -1,4 +1,5 @@
 pub mod Certified
+pub mod Common
 pub mod ProofRun
 pub mod ReadFault
 pub mod Shown

@@ -1,8 +1,7 @@
 //! The checker.
 ghost use Rattle.std.specs.Prelude.{◌≡◌, false};
-ghost use Rattle.checker_rules.specs.Headline.{EntailsRedundant};
 ghost use Rattle.checker_steps.specs.Context.{ContextInvariant, context_state};
-ghost use Rattle.checker_steps.specs.Failing.{has_failed};
+ghost use Rattle.varisat_checker.specs.Common.{EntailsRedundant, has_failed};
 
 use crate::internal::SelfChecker;
 use crate::proof;
@@ -33,16 +32,12 @@ pub type Checker = CheckerOf<Box<dyn ProofProcessor>, Box<dyn ProofTranscriptPro
 impl<P: ProofProcessor, T: ProofTranscriptProcessor> CheckerOf<P, T> {
     ghost use Rattle.std.specs.Prelude.{◌≡◌, ◌++◌, ◌∷◌, [], true, false, List, map, Ok, Err, IfErr, OnErr, OnOk, ◌*◌, ◌≤◌};
     ghost use Rattle.checker_rules.specs.AddFormula.{add_clauses, added};
-    ghost use Rattle.checker_rules.specs.CallEmissions.{EmitsCall, EmitsCalls};
-    ghost use Rattle.checker_rules.specs.Calls.{adds, shown_inputs, shown_unsat, step_limit};
     ghost use Rattle.checker_rules.specs.Step as rules;
     ghost use Rattle.checker_rules.specs.Steps.{new_state, step};
     ghost use Rattle.checker_parts.specs.declared.error.CheckerError.TheVariants.{Failed, OutOfMemory};
-    ghost use Rattle.checker_parts.specs.Answers.{AnswersStep, CoversFold, IsCovered, IsFold, SetsFold, UnlessFailed};
-    ghost use Rattle.checker_parts.specs.Memory.{NeedsNoMemory};
-    ghost use Rattle.checker_steps.specs.Failing.{IsFailed, IsTextFailed, RecordsFailure};
+    ghost use Rattle.checker_steps.specs.Failing.{IsTextFailed};
     ghost use Rattle.checker_steps.specs.Delivered.{Delivered};
-    ghost use Rattle.varisat_checker.specs.Certified.{Certifies};
+    ghost use Rattle.varisat_checker.specs.Common.{AnswersStep, Certifies, CoversFold, EmitsCall, EmitsCalls, IsCovered, IsFailed, IsFold, NeedsNoMemory, RecordsFailure, SetsFold, UnlessFailed, adds, shown_inputs, shown_unsat, step_limit};
     ghost use Rattle.varisat_checker.specs.ProofRun.{ProofRun};
     ghost use Rattle.varisat_checker.specs.Shown.{listeners, state, buffer_length, shown_literals};
     ghost use Rattle.varisat_checker.specs.TextFault.{IsTextFault};

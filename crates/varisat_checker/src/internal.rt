@@ -1,16 +1,10 @@
 //! Steps checked one by one, as a solver's own tests do.
 ghost use Rattle.std.specs.Prelude.{◌≡◌, ◌≤◌, true, false, List, OnOk};
-ghost use Rattle.checker_rules.specs.CallEmissions.{EmitsCall};
-ghost use Rattle.checker_rules.specs.Calls.{attempt, checks, closes, closing_conflict, step_limit};
-ghost use Rattle.checker_rules.specs.State.{State};
 ghost use Rattle.checker_rules.specs.Step as rules;
-ghost use Rattle.checker_parts.specs.Answers.{AnswersStep, CoversFold, IsCovered, IsFold, SetsFold, UnlessFailed};
-ghost use Rattle.checker_parts.specs.Memory.{NeedsNoMemory};
 ghost use Rattle.checker_parts.specs.Models.{Proves, Refutes};
 ghost use Rattle.proof_bytes.specs.NextStep.{view};
-ghost use Rattle.checker_steps.specs.Failing.{IsFailed, has_failed};
 ghost use Rattle.checker_steps.specs.Idle.{wants_no_memory};
-ghost use Rattle.varisat_checker.specs.Certified.{Certifies};
+ghost use Rattle.varisat_checker.specs.Common.{AnswersStep, Certifies, CoversFold, EmitsCall, IsCovered, IsFailed, IsFold, NeedsNoMemory, SetsFold, State, UnlessFailed, attempt, checks, closes, closing_conflict, has_failed, step_limit};
 
 use checker_parts::error::CheckerError;
 use proof_bytes::ProofStep;
