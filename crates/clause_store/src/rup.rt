@@ -10,23 +10,19 @@ mod walk;
 
 ghost use Rattle.std.specs.Prelude.{◌≡◌, [], false, length, true, IfOk};
 ghost use Rattle.sat_rules.specs.Clauses.{is_tautology};
-ghost use Rattle.checker_rules.specs.Passes as rules;
-ghost use Rattle.checker_rules.specs.State.{some_true_unit, start_set};
-ghost use Rattle.checker_rules.specs.Traced.{ids_of};
 ghost use Rattle.clause_store.specs.Buckets.{AreWithin};
 ghost use Rattle.clause_store.specs.Rup.{AreAllKnown, check_answer, clause_answer, named_buckets};
 ghost use Rattle.clause_store.specs.StateOf.{stored_units};
-ghost use Rattle.clause_store.specs.Trace.{AreStored, clause_trace, named_clauses, open_trace, last_trace};
-ghost use Rattle.clause_store.specs.Trail.{IsTrailFor, IsUndoable};
+ghost use Rattle.clause_store.specs.Trace.{AreStored, clause_trace, last_trace, named_clauses};
 ghost use Rattle.clause_store.specs.Units.{AreKnown};
 
 use crate::clauses::buckets::Buckets;
 use crate::clauses::units::Units;
 pub use crate::rup::check::check_clause_with_hashes;
 use crate::rup::propagation::Propagation;
-use crate::rup::trail::{assume_false, undo};
+use crate::rup::trail::undo;
 use crate::rup::untraced::{FreePropagation, check_untraced};
-use crate::rup::walk::walk_buckets;
+use crate::rup::walk::walk_negated;
 use proof_bytes::hash::ClauseHash;
 use sat_formula::lit::Lit;
 use std::alloc::{AllocError, Global};
@@ -93,35 +89,9 @@ pub fn check_clause(
         IfOk result (λ a.
         rup.new.trace_ids.items ≡ last_trace traced a ids rup.old.trace_ids.items) }
 {
-    if traced {
-        check_traced(rup, units, buckets, buffer, lits, hashes)
-    } else {
-        check_untraced(units, &mut rup.free, buckets, buffer, lits, hashes)
+    if !traced {
+        return check_untraced(units, &mut rup.free, buckets, buffer, lits, hashes);
     }
-}
-
-/// Checks a clause, and lists the clauses that its check rests on.
-fn check_traced(
-    rup: &mut RupCheck,
-    units: &mut Units,
-    buckets: &Buckets,
-    buffer: &[Lit],
-    lits: &[Lit],
-    hashes: &[ClauseHash],
-) -> Result<Answer, AllocError>
-    requires within { AreWithin buffer.now buckets.now }
-    requires known { AreKnown units.old lits.now }
-    requires all_known { AreAllKnown units.old buffer.now buckets.now }
-    requires stored { AreStored units.old }
-    requires no_tautology { is_tautology lits.now ≡ false }
-    ensures answer { let named = named_buckets buffer.now buckets.now hashes.now in
-        IfOk result (λ a. check_answer a ≡ clause_answer (stored_units units.old) lits.now named) }
-    ensures units { units.new ≡ units.old }
-    ensures trace_ids { let named = named_clauses buffer.now buckets.now hashes.now in
-        let ids = clause_trace (stored_units units.old) lits.now named in
-        IfOk result (λ a.
-        rup.new.trace_ids.items ≡ last_trace true a ids rup.old.trace_ids.items) }
-{
     if let Some(id) = units.true_unit_id(lits) {
         rup.trace_ids.clear();
         rup.trace_ids.push(id)?;
@@ -134,33 +104,4 @@ fn check_traced(
         swap(&mut rup.propagation.trace, &mut rup.trace_ids);
     }
     answer
-}
-
-/// The walk with the literals taken as false, whose values stay.
-fn walk_negated(
-    units: &mut Units,
-    run: &mut Propagation,
-    buckets: &Buckets,
-    buffer: &[Lit],
-    lits: &[Lit],
-    hashes: &[ClauseHash],
-) -> Result<Answer, AllocError>
-    requires within { AreWithin buffer.now buckets.now }
-    requires known { AreKnown units.old lits.now }
-    requires all_known { AreAllKnown units.old buffer.now buckets.now }
-    requires stored { AreStored units.old }
-    requires free { some_true_unit (stored_units units.old) lits.now ≡ false }
-    requires no_tautology { is_tautology lits.now ≡ false }
-    requires trail { IsTrailFor units.old run.old.trail.items }
-    requires trace { run.old.trace.items ≡ [] }
-    ensures answer { let named = named_buckets buffer.now buckets.now hashes.now in
-        IfOk result (λ a. check_answer a
-        ≡ rules.walk_buckets (start_set (stored_units units.old) lits.now) named) }
-    ensures listed { let named = named_clauses buffer.now buckets.now hashes.now in
-        IfOk result (λ a. a ≡ Answer.Passed
-        → run.new.trace.items ≡ ids_of (open_trace (stored_units units.old) lits.now named)) }
-    ensures undoable { IsUndoable units.old run.old.trail.items units.new run.new.trail.items }
-{
-    assume_false(units, &mut run.trail, lits)?;
-    walk_buckets(units, run, buckets, buffer, hashes)
 }

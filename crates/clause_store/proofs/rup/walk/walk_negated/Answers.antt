@@ -5,7 +5,7 @@ use Rattle.clause_store.specs.declared.rup.Answer.TheVariants.{Passed}
 use Rattle.clause_store.specs.StateOf.{stored_units}
 use Rattle.clause_store.specs.Trace.{ids_after, named_clauses, open_trace}
 use Rattle.clause_store.proofs.TraceLemmas.{open_trace-is}
-use Rattle.clause_store.proofs.rup.walk_negated.Goals as goal
+use Rattle.clause_store.proofs.rup.walk.walk_negated.Goals as goal
 
 pub returns-clause-listed : goal.returns-clause-listed
 returns-clause-listed c =
