@@ -1,6 +1,6 @@
 -- Clauses at their places, and walks over them.
 use Rattle.std.proofs.Common.{◌≡◌, ℕ, zero, suc, ◌+◌, ◌<◌, List, [], ◌∷◌, ◌++◌, length, get_or, take, drop, set, Option, Some, None, All, is_some, ltb, lt-ltb, refl}
-use Rattle.std.proofs.Common.{sym, true, ap, ◌∙◌, subst, arith, Bool, false, cond, map}
+use Rattle.std.proofs.Common.{length-append, sym, true, ap, ◌∙◌, subst, arith, Bool, false, cond, map}
 use Rattle.std.specs.List.{filter, list_any}
 use Rattle.std.proofs.lemmas.List.{drop_more, get_or_default, take_more, length-set}
 use Rattle.std.proofs.lemmas.List.Elements.{filter_map-append}
@@ -29,6 +29,10 @@ standing-more ps i p less is = ap standing (take_more ps i p less ∙ ap (λ q. 
 
 pub standing-drop : (ps : List (Option Clause)) (i : ℕ) (p : Option Clause) → i < length ps → p ≡ get_or ps i p → standing (drop i ps) ≡ standing (p ∷ []) ++ standing (drop (i + 1) ps)
 standing-drop ps i p less is = ap standing (drop_more ps i p less ∙ ap (λ q. q ∷ drop (i + 1) ps) (sym is)) ∙ standing-append (p ∷ []) (drop (i + 1) ps)
+
+-- how many places and clauses there are with one more
+pub pushed-counts : (ps qs : List (Option Clause)) (d : Clause) → qs ≡ ps ++ Some d ∷ [] → (length qs ≡ length ps + 1) × (length (standing qs) ≡ length (standing ps) + 1)
+pushed-counts ps qs d is = rw is (length-append ps (Some d ∷ []), ap length (standing-append ps (Some d ∷ [])) ∙ length-append (standing ps) (d ∷ []))
 
 -- what was read from a place is there
 pub place-is : (ps : List (Option Clause)) (i : ℕ) (q p : Option Clause) → i < length ps → get_or ps i q ≡ p → get_or ps i None ≡ p

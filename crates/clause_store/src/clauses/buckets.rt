@@ -1,5 +1,5 @@
 //! The stored clauses by their hashes.
-ghost use Rattle.std.specs.Prelude.{◌≡◌, ◌<◌, ◌≤◌, ◌++◌, ◌∷◌, [], ℕ, Some, true, All, IfOk, OnOk, OnErr, map};
+ghost use Rattle.std.specs.Prelude.{◌≡◌, ◌<◌, ◌≤◌, ◌++◌, ◌∷◌, [], ℕ, Some, true, All, IfOk, OnOk, OnErr, if◌then◌else◌, map};
 ghost use Rattle.std.specs.Option.{SomeIff};
 ghost use Rattle.checker_rules.specs.Store.{count_limit, count_of as count_in, raise as raise_in_list};
 ghost use Rattle.checker_rules.specs.WellFormed.{are_apart};
@@ -124,23 +124,32 @@ pub fn push_clause(
     }
 }
 
+/// The clause with this many copies of the kind.
+pub fn with_copies(clause: &Clause, redundant: bool, copies: u32) -> Clause
+    ensures { result ≡ (if redundant then record clause.now { redundant = copies }
+        else record clause.now { irredundant = copies }) }
+{
+    if redundant {
+        Clause {
+            redundant: copies,
+            ..*clause
+        }
+    } else {
+        Clause {
+            irredundant: copies,
+            ..*clause
+        }
+    }
+}
+
 /// The clause with one copy more.
 #[tactic(auto, unfolding(checker_rules::specs::Store::count_limit))]
 pub fn raise(clause: &Clause, redundant: bool) -> Option<Clause>
     ensures { SomeIff result (copies_of redundant clause.now < count_limit)
         (raised redundant clause.now) }
 {
-    if redundant {
-        Some(Clause {
-            redundant: clause.redundant.checked_add(1)?,
-            ..*clause
-        })
-    } else {
-        Some(Clause {
-            irredundant: clause.irredundant.checked_add(1)?,
-            ..*clause
-        })
-    }
+    let copies = copies_of(clause, redundant).checked_add(1)?;
+    Some(with_copies(clause, redundant, copies))
 }
 
 /// Counts one copy more of the clause that is alone in its bucket, if it has these literals.

@@ -55,21 +55,6 @@ fn note(
     Ok(())
 }
 
-/// Notes the place of a clause that is put last, where clauses are noted.
-fn note_next(
-    alloc: Global,
-    noted: &mut BTreeMap<Vec<Lit>, usize>,
-    lits: &[Lit],
-    at: usize,
-) -> Result<(), AllocError>
-    ensures { btree_map_len noted.new ≤ btree_map_len noted.old + 1 }
-{
-    if noted.is_empty() {
-        return Ok(());
-    }
-    note(alloc, noted, lits, at)
-}
-
 /// Notes where each clause stands.
 fn note_all(
     alloc: Global,
@@ -129,7 +114,10 @@ impl Crowd {
     {
         let at = self.places.len();
         self.places.push(Some(clause))?;
-        note_next(self.alloc, &mut self.noted, lits, at)?;
+        if self.noted.is_empty() {
+            return Ok(());
+        }
+        note(self.alloc, &mut self.noted, lits, at)?;
         Ok(())
     }
 

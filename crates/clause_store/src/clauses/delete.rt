@@ -11,7 +11,6 @@ ghost use Rattle.clause_store.specs.Lowered.{IsLeft, IsMissing};
 ghost use Rattle.clause_store.specs.StateOf.{state_of};
 ghost use Rattle.clause_store.specs.Store.{IsIndexed, IsStore};
 ghost use Rattle.clause_store.specs.View.{stored_list};
-ghost use Rattle.clause_store.specs.declared.clauses.delete.DeleteFault.TheVariants.{OutOfMemory};
 
 use crate::clauses::collect::collect_garbage;
 use crate::clauses::lits::ClauseLits;
@@ -20,7 +19,7 @@ use crate::clauses::{Clauses, DeleteClauseResult};
 use crate::hash::ClauseHasher;
 use crate::state::CheckerState;
 use sat_formula::lit::Lit;
-use std::alloc::{AllocError, Global};
+use std::alloc::Global;
 
 /// Why no copy was deleted.
 #[derive(Clone, Copy, Debug, PartialEq, Eq)]
@@ -32,14 +31,6 @@ pub enum DeleteFault {
     Unknown,
     /// It is, without a copy of the kind.
     NoCopy,
-}
-
-impl From<AllocError> for DeleteFault {
-    ghost from_gives = { λ _ e. e ≡ OutOfMemory };
-
-    fn from(_e: AllocError) -> DeleteFault {
-        DeleteFault::OutOfMemory
-    }
 }
 
 /// Deletes one copy of the kind of a canonical clause, and answers the clause's id. After
@@ -62,10 +53,10 @@ pub fn delete_clause(
         return Err(DeleteFault::UnitOrEmpty);
     }
     match take_copy(hasher, clauses, lits, redundant) {
-        Ok(left) => {
-            collect_garbage(alloc, hasher, clauses)?;
-            Ok((left.id, deleted_as(&left, redundant)))
-        }
+        Ok(left) => match collect_garbage(alloc, hasher, clauses) {
+            Ok(()) => Ok((left.id, deleted_as(&left, redundant))),
+            Err(_) => Err(DeleteFault::OutOfMemory),
+        },
         Err(Missing::Clause) => Err(DeleteFault::Unknown),
         Err(Missing::Copy) => Err(DeleteFault::NoCopy),
     }

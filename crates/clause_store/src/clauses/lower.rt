@@ -11,7 +11,7 @@ ghost use Rattle.clause_store.specs.Store.{is_whole};
 ghost use Rattle.clause_store.specs.View.{stored_in, stored_of};
 
 use crate::clauses::Clause;
-use crate::clauses::buckets::{Bucket, Buckets, has_lits};
+use crate::clauses::buckets::{Bucket, Buckets, copies_of, has_lits, with_copies};
 use proof_bytes::hash::ClauseHash;
 use sat_formula::lit::Lit;
 use std::collections::hash_map::Entry;
@@ -48,17 +48,8 @@ impl Left {
 pub fn lower(clause: &Clause, redundant: bool) -> Option<Clause>
     ensures { SomeIff result (0 < copies_of redundant clause.now) (lowered redundant clause.now) }
 {
-    if redundant {
-        Some(Clause {
-            redundant: clause.redundant.checked_sub(1)?,
-            ..*clause
-        })
-    } else {
-        Some(Clause {
-            irredundant: clause.irredundant.checked_sub(1)?,
-            ..*clause
-        })
-    }
+    let copies = copies_of(clause, redundant).checked_sub(1)?;
+    Some(with_copies(clause, redundant, copies))
 }
 
 /// The id and the counts of a clause.

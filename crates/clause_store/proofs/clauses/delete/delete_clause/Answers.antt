@@ -23,16 +23,16 @@ collect_garbage-requires c =
     let h = c.args.hasher.now in let taken = c.take_copy.new.clauses in let es = remaining (map (lower c.args.redundant c.args.lits.now) (stored_list c.args.clauses.now)) in
     rw (stored_list-is h taken es c.in-Ok.ensures.filed) c.in-Ok.ensures.filed
 
-pub returns-in_ok-collect_garbage-in-Ok-clause-answer : goal.returns-in_ok-collect_garbage-in-Ok-clause-answer
-returns-in_ok-collect_garbage-in-Ok-clause-answer c st known =
+pub returns-in-Ok-collect_garbage-clause-answer : goal.returns-in-Ok-collect_garbage-clause-answer
+returns-in-Ok-collect_garbage-clause-answer c st known =
     let h = c.args.hasher.now in let cs = c.args.clauses.now in let ls = c.args.lits.now in let r = c.args.redundant in let after = c.collect_garbage.new.clauses in
-    let p = c.in-Ok.ensures in let q = c.in_ok-collect_garbage-in-Ok.ensures in
+    let p = c.in-Ok.ensures in let q = c.in-Ok-collect_garbage.ensures in
     rw c.deleted_as.ensures (deletes h cs r ls (long_is ls (omega arith)) st known c.take_copy.new.clauses after c.in-Ok.left p.left p.filed p.rest q.filed q.rest)
 
-pub returns-in_ok-collect_garbage-in-Ok-clause-store : goal.returns-in_ok-collect_garbage-in-Ok-clause-store
-returns-in_ok-collect_garbage-in-Ok-clause-store c =
+pub returns-in-Ok-collect_garbage-clause-store : goal.returns-in-Ok-collect_garbage-clause-store
+returns-in-Ok-collect_garbage-clause-store c =
     let h = c.args.hasher.now in let cs = c.args.clauses.now in let taken = c.take_copy.new.clauses in let after = c.collect_garbage.new.clauses in
-    let p = c.in-Ok.ensures in let q = c.in_ok-collect_garbage-in-Ok.ensures in
+    let p = c.in-Ok.ensures in let q = c.in-Ok-collect_garbage.ensures in
     store-rest h cs _ _ q.filed q.garbage (both_rest cs taken _ p.rest q.rest)
     (counts_after cs taken after _ (remaining (map (lower c.args.redundant c.args.lits.now) (stored_list cs)))
     (both_rest cs taken after p.rest q.rest).units q.counts
