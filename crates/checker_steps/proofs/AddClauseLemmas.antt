@@ -8,8 +8,6 @@ use Rattle.checker_rules.specs.Store.{id_limit}
 use Rattle.checker_parts.specs.declared.error.CheckCause.{CheckCause}
 use Rattle.checker_steps.specs.declared.steps.add_clause.Added.{Added}
 use Rattle.checker_steps.proofs.EmissionLemmas.{emits-accepted}
-use Rattle.checker_parts.specs.declared.error.CheckCause.TheVariants as causes
-use Rattle.clause_store.specs.declared.clauses.store.StoreFault.TheVariants as storing
 
 -- refused with the cause, where there is one
 abbrev pub by_cause : Option Cause → State → Outcome → Outcome

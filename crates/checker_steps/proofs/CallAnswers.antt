@@ -5,7 +5,6 @@ use Rattle.checker_steps.proofs.Common.{NamedStep, Outcome, State, AnswersOutcom
 use Rattle.checker_steps.proofs.Common.{Delivered, DeliveredList, Listeners, Listens, ListensImage}
 use Rattle.checker_parts.specs.Answers.{AnswersParts, UnlessFailed}
 use Rattle.checker_parts.specs.declared.error.CheckerError.{CheckerError}
-use Rattle.checker_parts.specs.declared.error.StepFault.TheVariants as faults
 
 pub error-answers : (n : ℕ) (f : StepFault) (e : CheckerError) (o : Outcome) (s : State) → IsErrorOf n f e → n ≡ s.steps →
     AnswersOutcome {A = Unit {0}} (Err f) o s → AnswersParts {A = Unit {0}} (Err e) o s

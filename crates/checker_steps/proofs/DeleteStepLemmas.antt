@@ -7,7 +7,6 @@ use Rattle.checker_steps.proofs.Common.{by_simplified, delete_clause, step, are_
 use Rattle.checker_steps.proofs.Common.{AnswersOutcome, UnlessStopped, delete_fault, is_whole, answers-refuse, Listeners, Listens, ListensImage}
 use Rattle.checker_steps.proofs.Common.{DeliveredList}
 use Rattle.checker_rules.specs.DeleteClause.{delete_justified, forget, justified}
-use Rattle.checker_parts.specs.declared.error.CheckCause.TheVariants as causes
 use Rattle.clause_store.specs.declared.clauses.DeleteClauseResult.{DeleteClauseResult}
 use Rattle.clause_store.specs.declared.clauses.delete.DeleteFault.{DeleteFault}
 use Rattle.clause_store.specs.declared.clauses.delete.DeleteFault.TheVariants.{OutOfMemory, UnitOrEmpty, Unknown, NoCopy}

@@ -11,7 +11,6 @@ use Rattle.checker_rules.specs.DeleteClause.{is_short}
 use Rattle.checker_rules.proofs.Sets.{same_list-eq}
 use Rattle.clause_store.specs.declared.clauses.StoreClauseResult.{StoreClauseResult}
 use Rattle.clause_store.specs.declared.clauses.StoreClauseResult.TheVariants as results
-use Rattle.clause_store.specs.declared.clauses.store.StoreFault.TheVariants as storing
 use Rattle.clause_store.proofs.BucketLemmas.{count_limit-some}
 use Rattle.clause_store.proofs.FoundLemmas.{count_of-absent}
 use Rattle.checker_steps.specs.Added.{emitted_of}
