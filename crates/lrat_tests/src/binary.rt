@@ -1,98 +1,76 @@
 //! What no clause says of binary lines: rows over readers of any cut, the form that first bytes
 //! tell, and reads that fail.
-use crate::texts::show_line;
+use crate::texts::show;
 use Ids::{Doubled, Plain};
-use lrat_binary::{Ids, LratForm, LratReader, open_proof};
+use lrat_binary::{Ids, LratForm, open_proof};
 use std::alloc::Global;
-use std::io::{ErrorKind, Read};
+use std::io::ErrorKind;
 use std::process::Abort;
 use test_streams::{Pieces, Shown};
 
-/// Bytes, how ids stand in them, and what is shown.
-type Row = (&'static [u8], Ids, &'static str);
+type Row = (&'static [u8], &'static str);
 
-const LINES: [Row; 8] = [
-    (
-        b"a\x04\x02\x05\x00\x02\x06\x00",
-        Plain,
-        "4 1 -2 0 1 3 0 @1\nend",
-    ),
-    (
-        b"a\x08\x02\x05\x00\x02\x06\x00",
-        Doubled,
-        "4 1 -2 0 1 3 0 @1\nend",
-    ),
+/// Binary lines with plain ids, and what is shown of them.
+const PLAIN: [Row; 18] = [
+    (b"a\x04\x02\x05\x00\x02\x06\x00", "4 1 -2 0 1 3 0 @1\nend"),
     (
         b"a\x08\x02\x00\x0E\x07\x08\x0D\x00",
-        Plain,
         "8 1 0 7 -3 4 -6 0 @1\nend",
     ),
     (
         b"a\x04\x00\x00d\x07\x82\x01\x00",
-        Plain,
         "4 0 0 @1\nd 7 130 0 @2\nend",
     ),
-    (
-        b"a\x04\x00\x00d\x0E\x84\x02\x00",
-        Doubled,
-        "2 0 0 @1\nd 7 130 0 @2\nend",
-    ),
-    (b"a\x81\x00\x00\x00", Plain, "1 0 0 @1\nend"),
+    (b"a\x81\x00\x00\x00", "1 0 0 @1\nend"),
     (
         b"a\xFF\xFF\xFF\xFF\xFF\xFF\xFF\xFF\x7F\x80\x80\x80\x80\x02\x00\x00",
-        Plain,
         "9223372036854775807 268435456 0 0 @1\nend",
     ),
-    (
-        b"a\x04\x00\xFF\xFF\xFF\xFF\xFF\xFF\xFF\xFF\x7F\x00",
-        Doubled,
-        "2 0 -4611686018427387903 0 @1\nend",
-    ),
-];
-
-const FAULTS: [Row; 15] = [
-    (b"a\x00\x00\x00", Plain, "line 1: malformed line\nend"),
-    (b"a\x05\x00\x00", Doubled, "line 1: malformed line\nend"),
-    (b"a\x04\x01\x00\x00", Plain, "line 1: malformed line\nend"),
-    (b"a\x04\x00\x01\x00", Plain, "line 1: malformed line\nend"),
-    (
-        b"a\x04\x00\x00x",
-        Plain,
-        "4 0 0 @1\nline 2: malformed line\nend",
-    ),
+    (b"a\x00\x00\x00", "line 1: malformed line\nend"),
+    (b"a\x04\x01\x00\x00", "line 1: malformed line\nend"),
+    (b"a\x04\x00\x01\x00", "line 1: malformed line\nend"),
+    (b"a\x04\x00\x00x", "4 0 0 @1\nline 2: malformed line\nend"),
     (
         b"a\x04\x00\x00\x00",
-        Plain,
         "4 0 0 @1\nline 2: malformed line\nend",
-    ),
-    (
-        b"a\x04\x00\x00d\x07\x00",
-        Doubled,
-        "2 0 0 @1\nline 2: malformed line\nend",
     ),
     (
         b"a\x04\x82\x80\x80\x80\x02\x00\x00",
-        Plain,
         "line 1: number too large\nend",
     ),
     (
         b"a\xFF\xFF\xFF\xFF\xFF\xFF\xFF\xFF\xFF\x00\x00\x00",
-        Plain,
         "line 1: number too large\nend",
     ),
     (
         b"a\x04\x00\x80\x80\x80\x80\x80\x80\x80\x80\x80\x00",
-        Plain,
         "line 1: number too large\nend",
     ),
-    (b"a", Plain, "line 1: unfinished line\nend"),
-    (b"a\x04", Plain, "line 1: unfinished line\nend"),
-    (b"a\x04\x00", Plain, "line 1: unfinished line\nend"),
-    (b"a\x04\x00\x82", Plain, "line 1: unfinished line\nend"),
+    (b"a", "line 1: unfinished line\nend"),
+    (b"a\x04", "line 1: unfinished line\nend"),
+    (b"a\x04\x00", "line 1: unfinished line\nend"),
+    (b"a\x04\x00\x82", "line 1: unfinished line\nend"),
     (
         b"a\x04\x00\x00d\x07",
-        Plain,
         "4 0 0 @1\nline 2: unfinished line\nend",
+    ),
+];
+
+/// The same with doubled ids.
+const DOUBLED: [Row; 5] = [
+    (b"a\x08\x02\x05\x00\x02\x06\x00", "4 1 -2 0 1 3 0 @1\nend"),
+    (
+        b"a\x04\x00\x00d\x0E\x84\x02\x00",
+        "2 0 0 @1\nd 7 130 0 @2\nend",
+    ),
+    (
+        b"a\x04\x00\xFF\xFF\xFF\xFF\xFF\xFF\xFF\xFF\x7F\x00",
+        "2 0 -4611686018427387903 0 @1\nend",
+    ),
+    (b"a\x05\x00\x00", "line 1: malformed line\nend"),
+    (
+        b"a\x04\x00\x00d\x07\x00",
+        "2 0 0 @1\nline 2: malformed line\nend",
     ),
 ];
 
@@ -118,44 +96,29 @@ const FORMS: [(&[u8], u64, LratForm); 14] = [
     (b"a", 3, LratForm::Binary(Doubled)),
 ];
 
-/// Shows each line and its number, and the text of a fault, to the end.
-fn show<R: Read>(shown: &mut Shown, reader: &mut LratReader<R>) {
-    for _ in 0..100 {
-        match reader.next_line() {
-            Ok(Some(line)) => show_line(shown, line),
-            Ok(None) => {
-                shown.words("end");
-                break;
-            }
-            Err(fault) => {
-                shown.value(&fault);
-                shown.words("\n");
-                continue;
-            }
-        }
-        shown.number(" 0 @", reader.line());
-        shown.words("\n");
+/// What is shown of these bytes, after a formula of three clauses.
+fn is_shown(rt: &impl Abort, alloc: Global, proof: Pieces<'_>, ids: Option<Ids>, expected: &str) {
+    let mut shown = Shown::new(alloc);
+    match open_proof(alloc, proof, ids, 3) {
+        Ok(mut reader) => show(&mut shown, &mut reader, 100),
+        Err(fault) => shown.value(&fault),
     }
+    assert_eq!(rt; shown.text(), expected, "{proof:?}");
 }
 
-fn are_shown(rt: &impl Abort, alloc: Global, rows: &[Row]) {
-    for (bytes, ids, expected) in rows {
+fn are_shown(rt: &impl Abort, alloc: Global, ids: Ids, rows: &[Row]) {
+    for (bytes, expected) in rows {
         for size in [1, 2, 3, 100] {
-            let mut shown = Shown::new(alloc);
-            let pieces = Pieces::of_size(bytes, size);
-            match open_proof(alloc, pieces, Some(*ids), 3) {
-                Ok(mut reader) => show(&mut shown, &mut reader),
-                Err(fault) => shown.value(&fault),
-            }
-            assert_eq!(rt; shown.text(), *expected);
+            let proof = Pieces::of_size(bytes, size);
+            is_shown(rt, alloc, proof, Some(ids), expected);
         }
     }
 }
 
 #[test]
 fn lines(rt: HostRuntime) {
-    are_shown(&rt, rt.alloc(), &LINES);
-    are_shown(&rt, rt.alloc(), &FAULTS);
+    are_shown(&rt, rt.alloc(), Plain, &PLAIN);
+    are_shown(&rt, rt.alloc(), Doubled, &DOUBLED);
 }
 
 #[test]
@@ -175,12 +138,6 @@ fn forms(rt: HostRuntime) {
 
 #[test]
 fn reads_that_fail(rt: HostRuntime) {
-    let alloc = rt.alloc();
     let broken = Pieces::broken(b"a\x04\x00\x00a", ErrorKind::ConnectionReset);
-    let mut shown = Shown::new(alloc);
-    match open_proof(alloc, broken, None, 3) {
-        Ok(mut reader) => show(&mut shown, &mut reader),
-        Err(fault) => shown.value(&fault),
-    }
-    assert_eq!(rt; shown.text(), "error reading proof: broken");
+    is_shown(&rt, rt.alloc(), broken, None, "error reading proof: broken");
 }

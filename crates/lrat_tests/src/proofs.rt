@@ -15,14 +15,11 @@ use std::io::ErrorKind;
 use std::process::Abort;
 use test_streams::{Pieces, Shown};
 
-/// A formula, and a proof with its answer.
-type Row = (&'static str, &'static str, &'static str);
+/// A formula, and proofs with their answers.
+type Row = (&'static str, &'static [(&'static str, &'static str)]);
 
 /// 1: -1 2    2: 2 3    3: 2 -3
 const THREE: &str = "-1 2 0 2 3 0 2 -3 0";
-
-/// 1: 1 2    2: 1 -2    3: -1 2    4: -1 -2
-const FOUR: &str = "1 2 0 1 -2 0 -1 2 0 -1 -2 0";
 
 /// 1: -1 2    2: -1 3
 const BOTH: &str = "-1 2 0 -1 3 0";
@@ -30,6 +27,20 @@ const BOTH: &str = "-1 2 0 -1 3 0";
 const UNITS: &str = "1 0 -1 0";
 
 const BROKEN: &str = "error reading proof: broken";
+
+const UNKNOWN: &str = "line 1: no clause has the id of a hint";
+
+const SECOND_UNKNOWN: &str = "line 2: no clause has the id of a hint";
+
+const NOT_UNIT: &str = "line 1: clause of a hint is not unit";
+
+const SECOND_NOT_UNIT: &str = "line 2: clause of a hint is not unit";
+
+const NO_CONFLICT: &str = "line 1: hints end without a conflict";
+
+const GROUP_FAILS: &str = "line 1: hints of a group end without a conflict";
+
+const GROUP_MISSING: &str = "line 1: no group for a clause with the negation of the first literal";
 
 /// How answers of refused lines begin.
 const LINES: [(usize, &str); 3] = [(1, "line 1:"), (2, "line 2:"), (3, "line 3:")];
@@ -49,25 +60,25 @@ fn show(shown: &mut Shown, answer: Result<bool, LratFault>) {
     }
 }
 
-/// The proof of this text is answered so.
+/// The proof is answered so.
 fn is_answered(
     rt: &impl Abort,
     alloc: Global,
     checker: &mut LratChecker,
-    (text, proof): (&str, Pieces<'_>),
+    proof: Pieces<'_>,
     answer: &str,
 ) {
     let mut shown = Shown::new(alloc);
     show(&mut shown, checker.check(proof));
-    assert_eq!(rt; shown.text(), answer, "{text}");
+    assert_eq!(rt; shown.text(), answer, "{proof:?}");
 }
 
-/// The proof of this text is answered so by a new checker.
+/// The proof is answered so by a new checker.
 fn is_newly_answered(
     rt: &impl Abort,
     alloc: Global,
     formula: &CnfFormula,
-    proof: (&str, Pieces<'_>),
+    proof: Pieces<'_>,
     answer: &str,
 ) {
     let mut checker = LratChecker::new(alloc, formula).expect(rt, "a checker");
@@ -84,35 +95,41 @@ fn broken_after<'a>(answer: &'a str, lines: usize) -> &'a str {
     BROKEN
 }
 
-/// Where a read fails, whichever it is, what is answered is that of the lines before it.
-fn is_answered_broken(
+/// The proof is answered so, read at once and byte by byte.
+fn is_answered_in_pieces(
     rt: &impl Abort,
     alloc: Global,
     formula: &CnfFormula,
     proof: &str,
     answer: &str,
 ) {
+    for size in [usize::MAX, 1] {
+        let pieces = Pieces::of_size(proof.as_bytes(), size);
+        is_newly_answered(rt, alloc, formula, pieces, answer);
+    }
+}
+
+/// And where a read fails, whichever it is, what is answered is that of the lines before it.
+fn holds(rt: &impl Abort, alloc: Global, formula: &CnfFormula, proof: &str, answer: &str) {
+    is_answered_in_pieces(rt, alloc, formula, proof, answer);
     for read in 0..=proof.len() {
         let text = &proof.as_bytes()[..read];
         let answer = broken_after(answer, line_ends(text));
         let broken = Pieces::broken(text, ErrorKind::Interrupted);
-        is_newly_answered(rt, alloc, formula, (proof, broken), answer);
+        is_newly_answered(rt, alloc, formula, broken, answer);
     }
 }
 
-/// The proof is answered so, read at once and byte by byte, and also where one of its reads fails.
-fn holds(rt: &impl Abort, alloc: Global, (formula, proof, answer): Row) {
+fn all_hold(rt: &impl Abort, alloc: Global, formula: &str, proofs: &[(&str, &str)]) {
     let formula = read_formula(alloc, formula.as_bytes()).expect(rt, "a formula");
-    for size in [usize::MAX, 1] {
-        let pieces = Pieces::of_size(proof.as_bytes(), size);
-        is_newly_answered(rt, alloc, &formula, (proof, pieces), answer);
+    for (proof, answer) in proofs {
+        holds(rt, alloc, &formula, proof, answer);
     }
-    is_answered_broken(rt, alloc, &formula, proof, answer);
 }
 
 fn hold(rt: &impl Abort, alloc: Global, rows: &[Row]) {
-    for row in rows {
-        holds(rt, alloc, *row);
+    for (formula, proofs) in rows {
+        all_hold(rt, alloc, formula, proofs);
     }
 }
 
@@ -120,12 +137,7 @@ fn hold(rt: &impl Abort, alloc: Global, rows: &[Row]) {
 fn lines_by_propagation(rt: HostRuntime) {
     hold(&rt, rt.alloc(), &PROPAGATION);
     hold(&rt, rt.alloc(), &LINES_OF_HINTS);
-}
-
-#[test]
-fn literals_and_ids(rt: HostRuntime) {
-    hold(&rt, rt.alloc(), &FAR_LITERALS);
-    hold(&rt, rt.alloc(), &IDS);
+    hold(&rt, rt.alloc(), &EMPTY_CLAUSES);
 }
 
 #[test]
@@ -135,14 +147,8 @@ fn redundant_lines(rt: HostRuntime) {
     hold(&rt, rt.alloc(), &REFUTED);
 }
 
-/// The empty clause of a formula refutes it, whatever the proof.
 #[test]
-fn empty_clauses_of_formulas(rt: HostRuntime) {
-    for (formula, proof, answer) in &EMPTY_CLAUSES {
-        for size in [usize::MAX, 1] {
-            let mut checker = new_checker(&rt, rt.alloc(), formula);
-            let pieces = Pieces::of_size(proof.as_bytes(), size);
-            is_answered(&rt, rt.alloc(), &mut checker, (proof, pieces), answer);
-        }
-    }
+fn literals_and_ids(rt: HostRuntime) {
+    hold(&rt, rt.alloc(), &FAR_LITERALS);
+    hold(&rt, rt.alloc(), &IDS);
 }

@@ -2,14 +2,15 @@
 mod long_texts;
 mod rows;
 
-use lrat_text::{Hint, LineReader, LratLine};
-use test_streams::{Pieces, Shown};
+use lrat_binary::LratReader;
+use std::io::Read;
+use test_streams::Shown;
 
 /// Shows each of this many lines and its number, and the text of a fault, to the end.
-fn show(shown: &mut Shown, reader: &mut LineReader<Pieces<'_>>, lines: u32) {
+pub fn show<R: Read>(shown: &mut Shown, reader: &mut LratReader<R>, lines: u32) {
     for _ in 0..lines {
         match reader.next_line() {
-            Ok(Some(line)) => show_line(shown, line),
+            Ok(Some(line)) => shown.lrat_line(line),
             Ok(None) => {
                 shown.words("end");
                 break;
@@ -22,35 +23,6 @@ fn show(shown: &mut Shown, reader: &mut LineReader<Pieces<'_>>, lines: u32) {
         }
         shown.number(" 0 @", reader.line());
         shown.words("\n");
-    }
-}
-
-/// The words up to the last one, with single blanks, and without the number before a deletion.
-pub fn show_line(shown: &mut Shown, line: LratLine<'_>) {
-    match line {
-        LratLine::Add { id, clause, hints } => {
-            shown.number("", id);
-            for lit in clause {
-                shown.signed(" ", lit.to_dimacs());
-            }
-            shown.words(" 0");
-            show_hints(shown, hints);
-        }
-        LratLine::Delete { ids } => {
-            shown.words("d");
-            for id in ids {
-                shown.number(" ", *id);
-            }
-        }
-    }
-}
-
-fn show_hints(shown: &mut Shown, hints: &[Hint]) {
-    for hint in hints {
-        match *hint {
-            Hint::Along(id) => shown.number(" ", id),
-            Hint::Against(id) => shown.number(" -", id),
-        }
     }
 }
 

@@ -3,12 +3,10 @@
 #![tactic(auto)]
 
 mod ended;
-mod full;
 mod pieces;
 mod shown;
 
 pub use ended::{Ended, Outcome, Page, outcome_of};
-pub use full::Full;
 pub use pieces::Pieces;
 pub use shown::Shown;
 

@@ -1,5 +1,5 @@
 //! A run whose writer of hints is a box, which is handed back.
-use crate::four_clauses::{FOUR, WIDTH_1};
+use crate::four_clauses::WIDTH_1;
 use crate::lrat::LINES;
 use checker_parts::processor::ProofProcessor;
 use log::sink::Discard;
@@ -8,6 +8,7 @@ use sat_hints::LratWriter;
 use std::alloc::Global;
 use std::process::Abort;
 use std::test::Fail;
+use test_streams::FOUR;
 use varisat_check::{Verdict, run_lrat};
 
 #[test]

@@ -7,15 +7,9 @@ use std::process::Abort;
 use test_streams::{Pieces, Shown};
 use varisat_check::{RunFault, read_formula};
 
-/// Shows each clause by its numbers.
 fn list(shown: &mut Shown, formula: &CnfFormula) {
     for clause in formula {
-        shown.words("[");
-        for lit in clause.iter() {
-            shown.signed("", lit.to_dimacs());
-            shown.words(" ");
-        }
-        shown.words("]");
+        shown.clause(clause);
     }
 }
 

@@ -4,9 +4,6 @@ use sat_formula::Lit;
 use std::alloc::Global;
 use std::test::Fail;
 
-/// Four clauses, one against each pair of values of two variables.
-pub const FOUR: &str = "1 2 0 1 -2 0 -1 2 0 -1 -2 0";
-
 /// The hashes of the four clauses, in their order.
 pub const HASHES: [u64; 4] = [
     0xC4AF_7593_0295_082A,
@@ -30,22 +27,21 @@ pub fn first_missing(len: usize) -> u64 {
     }
 }
 
+/// Derives a clause from the clauses of these hashes.
+pub fn derived<'a>(clause: &'a [Lit], hashes: &'a [u64]) -> ProofStep<'a> {
+    ProofStep::AtClause {
+        redundant: false,
+        clause,
+        propagation_hashes: hashes,
+    }
+}
+
 /// A proof from the four clauses with whole hashes: first the unit 1, and then the empty clause.
 pub fn proof_of_four(alloc: Global) -> Result<Vec<u8>, Fail> {
     let one = Lit::from_dimacs(1).ok_or("no literal")?;
     let mut proof = Vec::new(alloc);
-    let unit = ProofStep::AtClause {
-        redundant: false,
-        clause: &[one],
-        propagation_hashes: &HASHES[..2],
-    };
-    let empty = ProofStep::AtClause {
-        redundant: false,
-        clause: &[],
-        propagation_hashes: &HASHES[2..],
-    };
-    write_step(&mut proof, &unit)?;
-    write_step(&mut proof, &empty)?;
+    write_step(&mut proof, &derived(&[one], &HASHES[..2]))?;
+    write_step(&mut proof, &derived(&[], &HASHES[2..]))?;
     write_step(&mut proof, &ProofStep::End)?;
     Ok(proof)
 }

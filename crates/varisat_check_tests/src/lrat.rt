@@ -1,6 +1,6 @@
 //! Runs that a writer of hints writes, and what a checker of hints says of them.
-use crate::four_clauses::{FOUR, HASHES, WIDTH_1, proof_of_four};
-use crate::outcomes::{NOT_SHOWN, Outcome, SHOWN, has_outcome, incomplete};
+use crate::four_clauses::{HASHES, WIDTH_1, derived, proof_of_four};
+use crate::outcomes::{NOT_SHOWN, SHOWN, has_outcome, incomplete};
 use hint_checker::HintChecker;
 use log::sink::Discard;
 use proof_bytes::{ProofStep, write_step};
@@ -9,7 +9,7 @@ use sat_hints::LratWriter;
 use std::alloc::Global;
 use std::process::Abort;
 use std::test::Fail;
-use test_streams::{Full, Pieces};
+use test_streams::{FOUR, Outcome, Page, Pieces};
 use varisat_check::{RunFault, Verdict, run_lrat};
 
 /// The text of a formula, a proof, what is written, the outcome, and what a checker of hints
@@ -65,11 +65,11 @@ fn is_written(
     proof: Pieces<'_>,
     (lines, outcome): (&str, Outcome<'_>),
 ) {
-    let (mut out, mut lrat) = (Vec::new(alloc), Vec::new(alloc));
+    let (mut out, mut lrat) = (Page::endless(alloc), Page::endless(alloc));
     let writer = LratWriter::new(alloc, announced);
     let answer = run_lrat(&Discard, alloc, formula, writer, proof, &mut out, &mut lrat);
-    assert_eq!(rt; lrat.as_slice(), lines.as_bytes());
-    has_outcome(rt, alloc, verdict_of(answer), &out, outcome);
+    assert_eq!(rt; lrat.bytes(), lines.as_bytes());
+    has_outcome(rt, alloc, verdict_of(answer), out, outcome);
 }
 
 fn verdict_of(answer: Result<(Verdict, LratWriter), RunFault>) -> Result<Verdict, RunFault> {
@@ -129,12 +129,7 @@ fn late_input(alloc: Global) -> Result<Vec<u8>, Fail> {
     let one = Lit::from_dimacs(1).ok_or("no literal")?;
     let three = Lit::from_dimacs(3).ok_or("no literal")?;
     let mut proof = Vec::new(alloc);
-    let derived = ProofStep::AtClause {
-        redundant: false,
-        clause: &[one],
-        propagation_hashes: &HASHES[..2],
-    };
-    write_step(&mut proof, &derived)?;
+    write_step(&mut proof, &derived(&[one], &HASHES[..2]))?;
     write_step(&mut proof, &ProofStep::AddClause { clause: &[three] })?;
     Ok(proof)
 }
@@ -152,33 +147,23 @@ fn is_refused(
     is_cut(rt, alloc, (&formula, announced), proof, ("", ("", text, 1)));
 }
 
-/// A formula, for how many clauses the writer is, a proof, and the text of the fault.
-type Refusal = (&'static str, u64, &'static [u8], &'static str);
-
-const REFUSED: [Refusal; 2] = [
+/// For how many clauses the writer is, and the text of the fault.
+const REFUSED: [(u64, &str); 2] = [
     (
-        UNITS,
         1,
-        &[0x0D],
         "Error in proof processor: more input clauses than announced",
     ),
     (
-        UNITS,
         u64::MAX,
-        &[0x0D],
         "Error in proof processor: clause number out of range",
     ),
 ];
 
-fn are_refused(rt: &impl Abort, alloc: Global, rows: &[Refusal]) {
-    for (cnf, announced, proof, text) in rows {
-        is_refused(rt, alloc, (*cnf, *announced), proof, text);
-    }
-}
-
 #[test]
 fn faults_of_the_writer(rt: HostRuntime) {
-    are_refused(&rt, rt.alloc(), &REFUSED);
+    for (announced, text) in &REFUSED {
+        is_refused(&rt, rt.alloc(), (UNITS, *announced), b"\x0D", text);
+    }
 }
 
 #[test]
@@ -197,45 +182,31 @@ fn no_beginning_of_a_proof_is_written(rt: HostRuntime) {
     }
 }
 
-/// Where there is no room for hints, no line is written.
-fn has_no_room(rt: &impl Abort, alloc: Global, formula: &CnfFormula) {
-    let mut out = Vec::new(alloc);
+/// Where there is no room for what is written, this is what stands there as hints and as a line.
+fn has_no_room(
+    rt: &impl Abort,
+    alloc: Global,
+    formula: &CnfFormula,
+    (mut lrat, mut out): (Page, Page),
+    lines: &str,
+) {
     let writer = LratWriter::new(alloc, 2);
     let end = b"\x0D".as_slice();
-    let answer = run_lrat(
-        &Discard,
-        alloc,
-        formula,
-        writer,
-        end,
-        &mut out,
-        &mut Full::after(0),
-    );
+    let answer = run_lrat(&Discard, alloc, formula, writer, end, &mut out, &mut lrat);
     assert!(rt; matches!(&answer, Err(RunFault::Write(_))));
-    assert!(rt; out.is_empty());
+    assert_eq!(rt;
+        (lrat.bytes(), out.bytes()),
+        (lines.as_bytes(), b"".as_slice())
+    );
 }
 
-/// Where there is no room for the line, the hints are written.
-fn has_no_room_for_its_line(rt: &impl Abort, alloc: Global, formula: &CnfFormula) {
-    let mut lrat = Vec::new(alloc);
-    let writer = LratWriter::new(alloc, 2);
-    let end = b"\x0D".as_slice();
-    let answer = run_lrat(
-        &Discard,
-        alloc,
-        formula,
-        writer,
-        end,
-        &mut Full::after(0),
-        &mut lrat,
-    );
-    assert!(rt; matches!(&answer, Err(RunFault::Write(_))));
-    assert_eq!(rt; lrat.as_slice(), b"5 0 1 2 0\n".as_slice());
-}
-
+/// Without room for hints no line is written; without room for the line the hints are.
 #[test]
 fn outputs_that_cannot_be_written(rt: HostRuntime) {
-    let formula = read_formula(rt.alloc(), UNITS.as_bytes()).expect(&rt, "a formula");
-    has_no_room(&rt, rt.alloc(), &formula);
-    has_no_room_for_its_line(&rt, rt.alloc(), &formula);
+    let alloc = rt.alloc();
+    let formula = read_formula(alloc, UNITS.as_bytes()).expect(&rt, "a formula");
+    let pages = (Page::of_room(alloc, 0), Page::endless(alloc));
+    has_no_room(&rt, alloc, &formula, pages, "");
+    let pages = (Page::endless(alloc), Page::of_room(alloc, 0));
+    has_no_room(&rt, alloc, &formula, pages, "5 0 1 2 0\n");
 }

@@ -2,11 +2,8 @@
 use crate::four_clauses::first_missing;
 use std::alloc::Global;
 use std::process::Abort;
-use test_streams::Shown;
+use test_streams::{Ended, Outcome, Page, Shown};
 use varisat_check::{RunFault, Verdict, exit_status};
-
-/// What a run writes, the text of its fault, and its exit status.
-pub type Outcome<'a> = (&'a str, &'a str, u8);
 
 /// The formula is unsatisfiable.
 pub const SHOWN: Outcome<'static> = ("s UNSATISFIABLE\n", "", 0);
@@ -22,16 +19,11 @@ pub fn has_outcome(
     rt: &impl Abort,
     alloc: Global,
     answer: Result<Verdict, RunFault>,
-    written: &[u8],
-    (line, fault, status): Outcome<'_>,
+    written: Page,
+    outcome: Outcome<'_>,
 ) {
-    assert_eq!(rt; written, line.as_bytes());
-    assert_eq!(rt; exit_status(&answer), status);
-    let mut said = Shown::new(alloc);
-    if let Err(it) = answer {
-        said.value(&it);
-    }
-    assert_eq!(rt; said.text(), fault);
+    let ended = Ended::of(alloc, written, &answer, exit_status(&answer));
+    assert_eq!(rt; ended.outcome(), outcome);
 }
 
 /// The text of the fault where this many bytes of the proof at width 1 stand.

@@ -1,7 +1,7 @@
 //! Runs with their verdicts, lines and statuses, texts of faults, and readers and writers that
 //! fail.
-use crate::four_clauses::{FOUR, WIDTH_1, proof_of_four};
-use crate::outcomes::{NOT_SHOWN, Outcome, SHOWN, WITH_ONE_ADDED, has_outcome, incomplete};
+use crate::four_clauses::{WIDTH_1, proof_of_four};
+use crate::outcomes::{NOT_SHOWN, SHOWN, WITH_ONE_ADDED, has_outcome, incomplete};
 use crate::streams::Counting;
 use checker_parts::error::CheckerError;
 use log::sink::Discard;
@@ -10,7 +10,7 @@ use std::alloc::Global;
 use std::io::ErrorKind;
 use std::process::Abort;
 use std::test::Fail;
-use test_streams::{Full, Pieces};
+use test_streams::{FOUR, Outcome, Page, Pieces};
 use varisat_check::{RunFault, run_check, run_proof};
 use varisat_checker::Checker;
 
@@ -55,9 +55,9 @@ fn is_answered(
     proof: Pieces<'_>,
     outcome: Outcome<'_>,
 ) {
-    let mut out = Vec::new(alloc);
+    let mut out = Page::endless(alloc);
     let answer = run_check(&Discard, alloc, cnf, proof, &mut out, &mut None);
-    has_outcome(rt, alloc, answer, &out, outcome);
+    has_outcome(rt, alloc, answer, out, outcome);
 }
 
 fn are_answered(rt: &impl Abort, alloc: Global, rows: &[Row]) {
@@ -102,9 +102,9 @@ fn prove_with(
 ) {
     assert!(rt; checker.add_formula(formula).is_ok());
     for (proof, outcome) in proofs {
-        let mut out = Vec::new(alloc);
+        let mut out = Page::endless(alloc);
         let answer = run_proof(&Discard, checker, *proof, &mut out);
-        has_outcome(rt, alloc, answer, &out, *outcome);
+        has_outcome(rt, alloc, answer, out, *outcome);
     }
 }
 
@@ -156,50 +156,35 @@ fn reads_that_fail(rt: HostRuntime) {
 
 #[test]
 fn lines_that_cannot_be_written(rt: HostRuntime) {
-    let answer = run_check(
-        &Discard,
-        rt.alloc(),
-        UNITS,
-        END,
-        &mut Full::after(0),
-        &mut None,
-    );
-    has_outcome(&rt, rt.alloc(), answer, &[], ("", "error writing: full", 1));
+    let mut out = Page::of_room(rt.alloc(), 0);
+    let answer = run_check(&Discard, rt.alloc(), UNITS, END, &mut out, &mut None);
+    has_outcome(&rt, rt.alloc(), answer, out, ("", "error writing: full", 1));
 }
 
 /// So that no part of a line stands where the next write fails.
 #[test]
 fn a_line_is_one_write(rt: HostRuntime) {
-    is_one_write(
-        &rt,
-        &mut Counting::new(rt.alloc()),
-        rt.alloc(),
-        UNITS,
-        "s UNSATISFIABLE\n",
-    );
-    is_one_write(
-        &rt,
-        &mut Counting::new(rt.alloc()),
-        rt.alloc(),
-        b"1 0\n",
-        "s NOT SHOWN\n",
-    );
+    is_one_write(&rt, rt.alloc(), UNITS, "s UNSATISFIABLE\n");
+    is_one_write(&rt, rt.alloc(), b"1 0\n", "s NOT SHOWN\n");
 }
 
-fn is_one_write(rt: &impl Abort, out: &mut Counting, alloc: Global, cnf: &[u8], line: &str) {
-    assert!(rt; run_check(&Discard, alloc, cnf, END, out, &mut None).is_ok());
+fn is_one_write(rt: &impl Abort, alloc: Global, cnf: &[u8], line: &str) {
+    let mut out = Counting::new(alloc);
+    assert!(rt; run_check(&Discard, alloc, cnf, END, &mut out, &mut None).is_ok());
     assert_eq!(rt; out.text.as_slice(), line.as_bytes());
     assert_eq!(rt; out.writes, 1);
 }
 
 #[test]
 fn refused_proof_is_not_a_failed_write(rt: HostRuntime) {
+    let mut out = Page::of_room(rt.alloc(), 0);
+    let cnf = b"1 0".as_slice();
     let answer = run_check(
         &Discard,
         rt.alloc(),
-        b"1 0".as_slice(),
+        cnf,
         b"".as_slice(),
-        &mut Full::after(0),
+        &mut out,
         &mut None,
     );
     assert!(rt;

@@ -1,10 +1,11 @@
 //! Calls on one checker, one after the other.
-use super::{BROKEN, FOUR, THREE, UNITS, is_answered, new_checker, show};
+use super::{BROKEN, THREE, UNITS, UNKNOWN, is_answered, new_checker, show};
+use Call::{Check, CheckBroken, Refute, RefuteBroken};
 use lrat_checker::LratChecker;
 use std::alloc::Global;
 use std::io::ErrorKind;
 use std::process::Abort;
-use test_streams::{Pieces, Shown};
+use test_streams::{FOUR, Pieces, Shown};
 
 /// Which call is made with a proof, and whether a read fails at its end.
 #[derive(Clone, Copy)]
@@ -16,7 +17,7 @@ enum Call {
 }
 
 /// A call with a proof, what it answers, and whether the formula is refuted then.
-type Calls = &'static [(Call, &'static str, &'static str, bool)];
+type Row = (Call, &'static str, &'static str, bool);
 
 /// Shows the answer in words.
 fn show_call(shown: &mut Shown, checker: &mut LratChecker, call: Call, proof: &[u8]) {
@@ -30,10 +31,54 @@ fn show_call(shown: &mut Shown, checker: &mut LratChecker, call: Call, proof: &[
     show(shown, answer);
 }
 
-fn answers(rt: &impl Abort, alloc: Global, checker: &mut LratChecker, calls: Calls) {
+/// The answer to all that comes after a fault.
+const FAILED: &str = "an earlier line was not accepted";
+
+/// Lines of several texts are checked one after the other; each text counts its lines from 1.
+const IN_TURN: [Row; 5] = [
+    (Check, "5 1 0 1 2 0\n\n", "accepted", false),
+    (Check, "6 0 5 3 4 0", "refuted", true),
+    (Check, "", "refuted", true),
+    (Check, "\n6 0 5 3 4 0", "line 2: id is taken", true),
+    (Check, "", FAILED, true),
+];
+
+/// What is answered after a fault, by each call.
+const AFTER_A_FAULT: [Row; 3] = [
+    (Check, "3 0 1 2 0\n4 0 1 2", "line 2: unfinished line", true),
+    (Check, "", FAILED, true),
+    (Refute, "", FAILED, true),
+];
+
+/// Each by a checker of its own.
+const FIRST: [Row; 16] = [
+    // refuting stops at the empty clause
+    (Check, "3 0 1 2 0\n3 0 0\n", "line 2: id is taken", true),
+    (Refute, "3 0 1 2 0\n3 0 0\n", "refuted", true),
+    (Check, "3 0 1 2 0\nx\n", "line 2: malformed line", true),
+    (Refute, "3 0 1 2 0\nx\n", "refuted", true),
+    (Check, "3 0 1 2\n", "line 1: malformed line", false),
+    (Refute, "3 0 1 2\n", "line 1: malformed line", false),
+    (Check, "3 1 0 1 0\n", "accepted", false),
+    (Refute, "3 1 0 1 0\n", "accepted", false),
+    // readers that fail
+    (CheckBroken, "", BROKEN, false),
+    (RefuteBroken, "", BROKEN, false),
+    // a line that was not read to its end is not judged
+    (CheckBroken, "3 1 0 9 0", BROKEN, false),
+    (RefuteBroken, "3 1 0 9 0", BROKEN, false),
+    (CheckBroken, "3 1 0 9 0\n", UNKNOWN, false),
+    (RefuteBroken, "3 1 0 9 0\n", UNKNOWN, false),
+    (CheckBroken, "3 0 1 2 0\n4 ", BROKEN, true),
+    (RefuteBroken, "3 0 1 2 0\n4 ", "refuted", true),
+];
+
+/// What a new checker of the formula answers to the calls, one after the other.
+fn answers(rt: &impl Abort, alloc: Global, formula: &str, calls: &[Row]) {
+    let mut checker = new_checker(rt, alloc, formula);
     for (call, proof, answer, refuted) in calls {
         let mut shown = Shown::new(alloc);
-        show_call(&mut shown, checker, *call, proof.as_bytes());
+        show_call(&mut shown, &mut checker, *call, proof.as_bytes());
         assert_eq!(rt;
             (shown.text(), checker.refuted()),
             (*answer, *refuted),
@@ -42,113 +87,18 @@ fn answers(rt: &impl Abort, alloc: Global, checker: &mut LratChecker, calls: Cal
     }
 }
 
-/// A formula, and what is called of a new checker with it.
-const CALLS: [(&str, Calls); 18] = [
-    // lines of several texts are checked one after the other; each text counts its lines from 1
-    (
-        FOUR,
-        &[
-            (Call::Check, "5 1 0 1 2 0\n\n", "accepted", false),
-            (Call::Check, "6 0 5 3 4 0", "refuted", true),
-            (Call::Check, "", "refuted", true),
-            (Call::Check, "\n6 0 5 3 4 0", "line 2: id is taken", true),
-            (Call::Check, "", "an earlier line was not accepted", true),
-        ],
-    ),
-    // what is answered after a fault, by each call
-    (
-        UNITS,
-        &[
-            (
-                Call::Check,
-                "3 0 1 2 0\n4 0 1 2",
-                "line 2: unfinished line",
-                true,
-            ),
-            (Call::Check, "", "an earlier line was not accepted", true),
-            (Call::Refute, "", "an earlier line was not accepted", true),
-        ],
-    ),
-    // refuting stops at the empty clause
-    (
-        UNITS,
-        &[(
-            Call::Check,
-            "3 0 1 2 0\n3 0 0\n",
-            "line 2: id is taken",
-            true,
-        )],
-    ),
-    (
-        UNITS,
-        &[(Call::Refute, "3 0 1 2 0\n3 0 0\n", "refuted", true)],
-    ),
-    (
-        UNITS,
-        &[(
-            Call::Check,
-            "3 0 1 2 0\nx\n",
-            "line 2: malformed line",
-            true,
-        )],
-    ),
-    (UNITS, &[(Call::Refute, "3 0 1 2 0\nx\n", "refuted", true)]),
-    (
-        UNITS,
-        &[(Call::Check, "3 0 1 2\n", "line 1: malformed line", false)],
-    ),
-    (
-        UNITS,
-        &[(Call::Refute, "3 0 1 2\n", "line 1: malformed line", false)],
-    ),
-    (UNITS, &[(Call::Check, "3 1 0 1 0\n", "accepted", false)]),
-    (UNITS, &[(Call::Refute, "3 1 0 1 0\n", "accepted", false)]),
-    // readers that fail
-    (UNITS, &[(Call::CheckBroken, "", BROKEN, false)]),
-    (UNITS, &[(Call::RefuteBroken, "", BROKEN, false)]),
-    // a line that was not read to its end is not judged
-    (UNITS, &[(Call::CheckBroken, "3 1 0 9 0", BROKEN, false)]),
-    (UNITS, &[(Call::RefuteBroken, "3 1 0 9 0", BROKEN, false)]),
-    (
-        UNITS,
-        &[(
-            Call::CheckBroken,
-            "3 1 0 9 0\n",
-            "line 1: no clause has the id of a hint",
-            false,
-        )],
-    ),
-    (
-        UNITS,
-        &[(
-            Call::RefuteBroken,
-            "3 1 0 9 0\n",
-            "line 1: no clause has the id of a hint",
-            false,
-        )],
-    ),
-    (UNITS, &[(Call::CheckBroken, "3 0 1 2 0\n4 ", BROKEN, true)]),
-    (
-        UNITS,
-        &[(Call::RefuteBroken, "3 0 1 2 0\n4 ", "refuted", true)],
-    ),
-];
-
-fn are_answered(rt: &impl Abort, alloc: Global, rows: &[(&str, Calls)]) {
-    for (formula, calls) in rows {
-        let mut checker = new_checker(rt, alloc, formula);
-        answers(rt, alloc, &mut checker, calls);
-    }
-}
-
 #[test]
 fn calls(rt: HostRuntime) {
-    are_answered(&rt, rt.alloc(), &CALLS);
+    answers(&rt, rt.alloc(), FOUR, &IN_TURN);
+    answers(&rt, rt.alloc(), UNITS, &AFTER_A_FAULT);
+    for call in &FIRST {
+        answers(&rt, rt.alloc(), UNITS, &[*call]);
+    }
 }
 
 /// Checks a text, which is answered so.
 fn checks(rt: &impl Abort, alloc: Global, checker: &mut LratChecker, text: &str, answer: &str) {
-    let proof = (text, Pieces::whole(text.as_bytes()));
+    let proof = Pieces::whole(text.as_bytes());
     is_answered(rt, alloc, checker, proof, answer);
 }
 

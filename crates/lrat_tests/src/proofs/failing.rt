@@ -1,12 +1,10 @@
 //! Texts of faults, and lines that are no text.
-use super::{FOUR, UNITS, new_checker, show};
+use super::{UNITS, new_checker, show};
+use LratCause::{GroupFails, GroupMissing, IdTaken, NoConflict, NotUnit, UnknownId};
 use lrat_checker::{LineFault, LratCause, LratChecker};
 use lrat_text::{Hint, LratLine};
 use sat_formula::Lit;
-use std::alloc::Global;
-use std::fmt::Display;
-use std::process::Abort;
-use test_streams::Shown;
+use test_streams::{FOUR, Shown};
 
 /// Shows what is answered to each line, and whether the formula is refuted then.
 fn show_lines(shown: &mut Shown, checker: &mut LratChecker, lines: &[LratLine<'_>]) {
@@ -59,18 +57,15 @@ fn single_lines(rt: HostRuntime) {
 }
 
 const CAUSES: [(LratCause, &str); 6] = [
-    (LratCause::IdTaken, "id is taken"),
-    (LratCause::UnknownId, "no clause has the id of a hint"),
-    (LratCause::NotUnit, "clause of a hint is not unit"),
-    (LratCause::NoConflict, "hints end without a conflict"),
+    (IdTaken, "id is taken"),
+    (UnknownId, "no clause has the id of a hint"),
+    (NotUnit, "clause of a hint is not unit"),
+    (NoConflict, "hints end without a conflict"),
     (
-        LratCause::GroupMissing,
+        GroupMissing,
         "no group for a clause with the negation of the first literal",
     ),
-    (
-        LratCause::GroupFails,
-        "hints of a group end without a conflict",
-    ),
+    (GroupFails, "hints of a group end without a conflict"),
 ];
 
 const FAULTS: [(LineFault, &str); 2] = [
@@ -78,19 +73,14 @@ const FAULTS: [(LineFault, &str); 2] = [
     (LineFault::Failed, "an earlier line was not accepted"),
 ];
 
-fn has_text<D: Display>(rt: &impl Abort, alloc: Global, value: &D, text: &str) {
-    let mut shown = Shown::new(alloc);
-    shown.value(value);
-    assert_eq!(rt; shown.text(), text);
-}
-
 #[test]
 fn texts_of_faults(rt: HostRuntime) {
     for (cause, text) in &CAUSES {
-        has_text(&rt, rt.alloc(), cause, text);
-        has_text(&rt, rt.alloc(), &LineFault::Refused(*cause), text);
+        assert_eq!(rt; Shown::of(rt.alloc(), cause).text(), *text);
+        let refused = LineFault::Refused(*cause);
+        assert_eq!(rt; Shown::of(rt.alloc(), &refused).text(), *text);
     }
     for (fault, text) in &FAULTS {
-        has_text(&rt, rt.alloc(), fault, text);
+        assert_eq!(rt; Shown::of(rt.alloc(), fault).text(), *text);
     }
 }

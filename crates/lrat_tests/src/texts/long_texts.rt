@@ -1,6 +1,6 @@
 //! Lines over more than one buffer.
 use super::show;
-use lrat_text::LineReader;
+use lrat_binary::{LratForm, LratReader};
 use std::alloc::Global;
 use std::process::Abort;
 use test_streams::{Pieces, Shown};
@@ -43,7 +43,8 @@ fn many_shown(alloc: Global) -> Shown {
 fn is_shown(rt: &impl Abort, alloc: Global, name: &str, text: &Shown, expected: &Shown) {
     let mut shown = Shown::new(alloc);
     let pieces = Pieces::whole(text.text().as_bytes());
-    show(&mut shown, &mut LineReader::new(alloc, pieces), 10000);
+    let mut reader = LratReader::new(alloc, pieces, LratForm::Text);
+    show(&mut shown, &mut reader, 10000);
     assert!(rt; shown.text() == expected.text(), "{name}");
 }
 
