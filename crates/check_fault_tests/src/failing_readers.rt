@@ -1,5 +1,5 @@
 //! Reads that fail, and reads that are not made.
-use crate::script::agrees;
+use crate::script::agree;
 use std::alloc::Global;
 use std::io;
 use std::io::ErrorKind;
@@ -21,15 +21,11 @@ fn of_proof(alloc: Global, failing: u32, kind: ErrorKind) -> Result<String, Fail
     };
     Ok(format!(in alloc;
         "\
-failing {failing} {kind:?} proof 05 01 00 05 01 01 0D
-> IoError {failed} {kind:?}
-inputs
-> {steps}
-proof
-> ProofIncomplete {next}
+failing {failing} {kind:?} proof 05 01 00 05 01 01 0D > IoError {failed} {kind:?}
+inputs > {steps}
+proof > ProofIncomplete {next}
 failing 0 Other proof 05 01 00 05 01 01 0D
-unsat
-> true
+unsat > true
 "
     )?)
 }
@@ -44,13 +40,10 @@ fn of_text(alloc: Global, failing: u32, kind: ErrorKind) -> Result<String, Fail>
     };
     Ok(format!(in alloc;
         "\
-failing {failing} {kind:?} dimacs 1 0|-1 0|
-> Read {kind:?}
-inputs
-> {clauses}
+failing {failing} {kind:?} dimacs 1 0|-1 0| > Read {kind:?}
+inputs > {clauses}
 failing 0 Other dimacs 1 0|-1 0|
-unsat
-> true
+unsat > true
 "
     )?)
 }
@@ -59,10 +52,10 @@ unsat
 fn failing_reads(rt: HostRuntime) -> Result<(), Fail> {
     for kind in KINDS {
         for failing in 1..8u32 {
-            agrees(&rt, rt.alloc(), &of_proof(rt.alloc(), failing, kind)?)?;
+            agree(&rt, rt.alloc(), &[&of_proof(rt.alloc(), failing, kind)?])?;
         }
         for failing in 1..11u32 {
-            agrees(&rt, rt.alloc(), &of_text(rt.alloc(), failing, kind)?)?;
+            agree(&rt, rt.alloc(), &[&of_text(rt.alloc(), failing, kind)?])?;
         }
     }
     Ok(())
@@ -74,19 +67,12 @@ fn texts_of_failed_reads(rt: HostRuntime) -> Result<(), Fail> {
     for kind in [ErrorKind::UnexpectedEof, ErrorKind::PermissionDenied] {
         let cause = io::Error::from(kind).to_string(rt.alloc())?;
         let proof = format!(in rt.alloc();
-            "\
-says failing 3 {kind:?} proof 05 00 0D
-> step 2: Error reading proof file: {cause}
-"
+            "says failing 3 {kind:?} proof 05 00 0D > step 2: Error reading proof file: {cause}\n"
         )?;
-        agrees(&rt, rt.alloc(), &proof)?;
         let text = format!(in rt.alloc();
-            "\
-says failing 3 {kind:?} dimacs 1 0|
-> error reading formula: {cause}
-"
+            "says failing 3 {kind:?} dimacs 1 0| > error reading formula: {cause}\n"
         )?;
-        agrees(&rt, rt.alloc(), &text)?;
+        agree(&rt, rt.alloc(), &[&proof, &text])?;
     }
     Ok(())
 }

@@ -12,64 +12,21 @@ use varisat_checker::internal::SelfChecker;
 
 /// The texts for proofs, and then for formulas' texts.
 pub const TEXTS: [&str; 15] = [
-    "\
-says proof
-> step 1: Unexpected end of proof file
-",
-    "\
-says proof 05 00 05
-> step 2: Unexpected end of proof file
-",
-    "\
-says proof 0E
-> step 1: Could not parse proof step: unknown step tag
-",
-    "\
-says proof 05 81 00
-> step 1: Could not parse proof step: malformed number
-",
-    "\
-says proof 05 00 05 01 80 80 80 80 02
-> step 2: Could not parse proof step: value out of range
-",
-    "\
-says proof 06 00 02 00 01 00
-> step 1: Checking proof failed: clause is a tautology
-",
-    "\
-says proof 06 00 00 01 07
-> step 1: Checking proof failed: no clause found for hash
-",
-    "\
-says proof 05 01 00 05 01 02 06 00 00 00
-> step 3: Checking proof failed: AT check failed
-",
-    "\
-says proof 0D
-",
-    "\
-says dimacs 1 0|2 x 0
-> line 2: bad number
-",
-    "\
-says dimacs 268435457 0
-> line 1: variable too large
-",
-    "\
-says dimacs p cnf 1|
-> line 1: bad header
-",
-    "\
-says dimacs 1 0|p cnf 1 1|
-> line 2: late header
-",
-    "\
-says dimacs ||1 2
-> line 3: unterminated clause
-",
-    "\
-says dimacs 1 2 0
-",
+    "says proof > step 1: Unexpected end of proof file\n",
+    "says proof 05 00 05 > step 2: Unexpected end of proof file\n",
+    "says proof 0E > step 1: Could not parse proof step: unknown step tag\n",
+    "says proof 05 81 00 > step 1: Could not parse proof step: malformed number\n",
+    "says proof 05 00 05 01 80 80 80 80 02 > step 2: Could not parse proof step: value out of range\n",
+    "says proof 06 00 02 00 01 00 > step 1: Checking proof failed: clause is a tautology\n",
+    "says proof 06 00 00 01 07 > step 1: Checking proof failed: no clause found for hash\n",
+    "says proof 05 01 00 05 01 02 06 00 00 00 > step 3: Checking proof failed: AT check failed\n",
+    "says proof 0D\n",
+    "says dimacs 1 0|2 x 0 > line 2: bad number\n",
+    "says dimacs 268435457 0 > line 1: variable too large\n",
+    "says dimacs p cnf 1| > line 1: bad header\n",
+    "says dimacs 1 0|p cnf 1 1| > line 2: late header\n",
+    "says dimacs ||1 2 > line 3: unterminated clause\n",
+    "says dimacs 1 2 0\n",
 ];
 
 /// How long the text of the refused step is; None where it is no refused step.

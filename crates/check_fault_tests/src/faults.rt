@@ -2,32 +2,19 @@
 
 /// What each call of a checker that has failed answers; it reads nothing.
 pub const FAILED: &str = "\
-add 4
-> Failed
-at irr 1 : A B
-> Failed
-del redundant 1 2
-> Failed
-delvar 9
-> Failed
-bits 8
-> Failed
-model
-> Failed
-end
-> Failed
-delayed
-> Failed
-failing 1 Other proof 0D
-> Failed
-failing 1 Other dimacs 4 0
-> Failed
-unsat
-> false
-inputs
-> 0
-counts
-> 0 0
+add 4 > Failed
+at irr 1 : A B > Failed
+del redundant 1 2 > Failed
+delvar 9 > Failed
+bits 8 > Failed
+model > Failed
+end > Failed
+delayed > Failed
+failing 1 Other proof 0D > Failed
+failing 1 Other dimacs 4 0 > Failed
+unsat > false
+inputs > 0
+counts > 0 0
 ";
 
 /// Scripts of which the last call makes the checker fail, and what the boxes show in the end.
@@ -36,217 +23,124 @@ pub const FAULTS: [(&str, &str); 10] = [
     // transcripts.
     (
         "\
-processor tally
-processor faulty 0
-processor tally
-transcript tally
-transcript faulty 18446744073709551615
-transcript tally
-add 1 2
-> ProofProcessorError
+processor tally|faulty 0|tally
+transcript tally|faulty never|tally
+add 1 2 > ProofProcessorError
 ",
         "\
-= |
-=
-=
-~
-~
-~
+= | / - / -
+~ - / - / -
 ",
     ),
     (
         "\
-processor tally
-processor faulty 1
-processor tally
-transcript tally
-transcript faulty 18446744073709551615
-transcript tally
-add 1 2
-add 1 -2
-> ProofProcessorError
+processor tally|faulty 1|tally
+transcript tally|faulty never|tally
+given 1 2
+add 1 -2 > ProofProcessorError
 ",
         "\
-= ||
-=
-= |
-~ |
-~
-~ |
+= || / - / |
+~ | / - / |
 ",
     ),
     (
         "\
-processor tally
-processor faulty 2
-processor tally
-transcript tally
-transcript faulty 18446744073709551615
-transcript tally
-add 1 2
-add 1 -2
-add -1 2
-> ProofProcessorError
+processor tally|faulty 2|tally
+transcript tally|faulty never|tally
+given 1 2|1 -2
+add -1 2 > ProofProcessorError
 ",
         "\
-= |||
-=
-= ||
-~ ||
-~
-~ ||
+= ||| / - / ||
+~ || / - / ||
 ",
     ),
     (
         "\
-processor tally
-processor faulty 3
-processor tally
-transcript tally
-transcript faulty 18446744073709551615
-transcript tally
-add 1 2
-add 1 -2
-add -1 2
-add -1 -2
-> ProofProcessorError
+processor tally|faulty 3|tally
+transcript tally|faulty never|tally
+given 1 2|1 -2|-1 2
+add -1 -2 > ProofProcessorError
 ",
         "\
-= ||||
-=
-= |||
-~ |||
-~
-~ |||
+= |||| / - / |||
+~ ||| / - / |||
 ",
     ),
     (
         "\
-processor tally
-processor faulty 4
-processor tally
-transcript tally
-transcript faulty 18446744073709551615
-transcript tally
-add 1 2
-add 1 -2
-add -1 2
-add -1 -2
+processor tally|faulty 4|tally
+transcript tally|faulty never|tally
+given 1 2|1 -2|-1 2|-1 -2
+at irr 1 : A B > ProofProcessorError
+",
+        "\
+= ||||| / - / ||||
+~ |||| / - / ||||
+",
+    ),
+    (
+        "\
+processor tally|faulty 5|tally
+transcript tally|faulty never|tally
+given 1 2|1 -2|-1 2|-1 -2
 at irr 1 : A B
-> ProofProcessorError
+at irr : C D > ProofProcessorError
 ",
         "\
-= |||||
-=
-= ||||
-~ ||||
-~
-~ ||||
-",
-    ),
-    (
-        "\
-processor tally
-processor faulty 5
-processor tally
-transcript tally
-transcript faulty 18446744073709551615
-transcript tally
-add 1 2
-add 1 -2
-add -1 2
-add -1 -2
-at irr 1 : A B
-at irr : C D
-> ProofProcessorError
-",
-        "\
-= ||||||
-=
-= |||||
-~ ||||
-~
-~ ||||
+= |||||| / - / |||||
+~ |||| / - / ||||
 ",
     ),
     // The processors come first, and then the transcripts; those after the fault are told nothing
     // of the step.
     (
         "\
-processor tally
-processor faulty 1
-processor tally
-transcript tally
-transcript faulty 18446744073709551615
-transcript tally
-add 1 2
-add 3
-> ProofProcessorError
+processor tally|faulty 1|tally
+transcript tally|faulty never|tally
+given 1 2
+add 3 > ProofProcessorError
 ",
         "\
-= ||
-=
-= |
-~ |
-~
-~ |
+= || / - / |
+~ | / - / |
 ",
     ),
     (
         "\
-processor tally
-processor faulty 18446744073709551615
-processor tally
-transcript tally
-transcript faulty 1
-transcript tally
-add 1 2
-add 3
-> ProofProcessorError
+processor tally|faulty never|tally
+transcript tally|faulty 1|tally
+given 1 2
+add 3 > ProofProcessorError
 ",
         "\
-= ||
-=
-= ||
-~ ||
-~
-~ |
+= || / - / ||
+~ || / - / |
 ",
     ),
     (
         "\
-processor tally
-processor faulty 1
-processor tally
-transcript tally
-transcript faulty 1
-transcript tally
-add 1 2
-add 3
-> ProofProcessorError
+processor tally|faulty 1|tally
+transcript tally|faulty 1|tally
+given 1 2
+add 3 > ProofProcessorError
 ",
         "\
-= ||
-=
-= |
-~ |
-~
-~ |
+= || / - / |
+~ | / - / |
 ",
     ),
     // A checker that has failed hands back what it is given to register.
     (
         "\
 processor faulty 0
-add 1 2 3 4
-> ProofProcessorError
+add 1 2 3 4 > ProofProcessorError
 ",
         "\
-processor told
-> Failed, and back comes |
-transcript told
-> Failed, and back comes |
-=
+processor told > Failed, and back comes |
+transcript told > Failed, and back comes |
+= -
 ",
     ),
 ];
@@ -257,32 +151,25 @@ pub const BOXES: [&str; 3] = [
     "\
 transcript list
 transcript tally
-add 1 2
-add 1 -2
-add -1 2
-add -1 -2
+given 1 2|1 -2|-1 2|-1 -2
 at irr 1 : A B
 at irr : C D
-~ AddClause [1 2]|AddClause [1 -2]|AddClause [-1 2]|AddClause [-1 -2]|Unsat|
-~ |||||
+~ AddClause [1 2]|AddClause [1 -2]|AddClause [-1 2]|AddClause [-1 -2]|Unsat| / |||||
 ",
     // A box is told the steps after its registration, and a fault says what the box answered.
     "\
-add 1 2
+given 1 2
 processor list
-add 3
+given 3
 processor faulty 0
-says add
-> Error in proof processor: the planned fault
-= AddClause 1 [3]|AddClause 2 []|
-=
+says add > Error in proof processor: the planned fault
+= AddClause 1 [3]|AddClause 2 []| / -
 ",
     // A step shows the names after it, but those before it where a name is removed or a variable
     // deleted.
     "\
 processor names
-add 1
-add 2
+given 1|2
 user 1 2
 user 1 -
 mode 1 witness

@@ -5,10 +5,7 @@
 pub const WRITTEN: [&str; 7] = [
     "\
 processor writer 4
-add 1 2
-add 1 -2
-add -1 2
-add -1 -2
+given 1 2|1 -2|-1 2|-1 -2
 at irr 1 : A B
 at irr : C D
 = 9 1 0 1 2 0|10 0 9 3 4 0|
@@ -21,9 +18,7 @@ proof 0D
 ",
     "\
 processor writer 3
-add 1 2
-add 1 2
-add 1
+given 1 2|1 2|1
 del satisfied 1 2
 del satisfied 1 2
 = 3 d 1 0|
@@ -31,36 +26,30 @@ del satisfied 1 2
     // a step that is refused shows nothing
     "\
 processor writer 3
-add 1 2
-add 1 2
-add 1
+given 1 2|1 2|1
 del satisfied 1 2
 del satisfied 1 2
-del satisfied 1 2
-> CheckFailed 3 DeleteUnknown
+del satisfied 1 2 > CheckFailed 3 DeleteUnknown
 = 3 d 1 0|
 ",
     // the conflict is closed before the variable goes
     "\
 processor writer 2
-add 1
-add -1
+given 1|-1
 delvar 1
 = 5 0 1 2 0|5 d 1 0|
 ",
     "\
 processor writer 2
-add 1
+given 1
 at red 1 2
-add 3
-> ProofProcessorError
+add 3 > ProofProcessorError
 = 4 1 2 0 1 0|
 ",
     "\
 processor writer 1
-add 1
-add -1
-> ProofProcessorError
-=
+given 1
+add -1 > ProofProcessorError
+= -
 ",
 ];

@@ -1,24 +1,26 @@
-//! Scripts of calls of one new checker: below each call stands what it answers, and at the end what
-//! the boxes show.
+//! Scripts of calls of one new checker with their answers, and at the end what the boxes show.
 //!
 //! A line is
 //!
 //! - a call, as in [`check_calls::calls`];
+//! - `given CLAUSES`: input clauses, which bars divide, and which are accepted;
 //! - `failing READ KIND CALL`: the call takes a proof or a formula's text by one byte a read, and
 //!   the read of this number, counted from 1, fails;
 //! - `says CALL`: the call adds a clause, or takes a proof or a text, and is answered by the text
 //!   of its fault;
-//! - `processor KIND`, `transcript KIND`: registers a box of this kind, see [`add_processor`] and
-//!   [`add_transcript`];
-//! - `> ANSWER`: what the call above answers where it isn't `Ok`;
-//! - `= TEXT`, `~ TEXT`: what each processor shows, and each transcript. A bar stands for the end
-//!   of a line.
+//! - `processor KINDS`, `transcript KINDS`: registers boxes of these kinds, which bars divide, up
+//!   to one that is refused: see [`add_box`];
+//! - `= TEXTS`, `~ TEXTS`: what the processors show, and the transcripts, each with a bar for the
+//!   end of a line. A slash stands between two of them, and a dash for nothing.
+use check_calls::accepted::given;
 use check_calls::answers::answer;
-use check_calls::calls::{bytes, first_word, lines_at_bars, lits, make, prove, read};
+use check_calls::calls::{
+    bytes, call_of, first_word, lines_at_bars, lits, make, prove, read, write_line,
+};
 use check_calls::cuts::Cuts;
 use checker_parts::processor::{ProofProcessor, ProofTranscriptProcessor};
 use checker_parts::step::ProofTranscriptStep;
-use example_processors::boxes::{Faulty, NameList, StepList, Tally, TranscriptList};
+use example_processors::boxes::{Faulty, StepList, Tally};
 use log::sink::Discard;
 use sat_hints::LratWriter;
 use std::alloc::Global;
@@ -27,10 +29,12 @@ use std::process::Abort;
 use std::test::Fail;
 use varisat_checker::Checker;
 
-/// Plays a script: all that is seen stands in it, and nothing else.
-pub fn agrees(rt: &impl Abort, alloc: Global, script: &str) -> Result<(), Fail> {
-    let seen = played(alloc, script)?;
-    assert_eq!(rt; seen.as_str(), script);
+/// Plays scripts: all that is seen stands in them, and nothing else.
+pub fn agree(rt: &impl Abort, alloc: Global, scripts: &[&str]) -> Result<(), Fail> {
+    for script in scripts {
+        let seen = played(alloc, script)?;
+        assert_eq!(rt; seen.as_str(), *script);
+    }
     Ok(())
 }
 
@@ -47,20 +51,13 @@ fn played(alloc: Global, script: &str) -> Result<String, Fail> {
 fn called(alloc: Global, checker: &mut Checker, script: &str) -> Result<String, Fail> {
     let mut seen = String::new(alloc);
     for line in script.lines() {
-        if !line.starts_with('>') && !line.starts_with('=') && !line.starts_with('~') {
-            let answer = answer_to(alloc, checker, line)?;
-            write_answer(&mut seen, line, &answer)?;
+        if !line.starts_with('=') && !line.starts_with('~') {
+            let call = call_of(line);
+            let answer = answer_to(alloc, checker, call)?;
+            write_line(&mut seen, call, &answer)?;
         }
     }
     Ok(seen)
-}
-
-fn write_answer(seen: &mut String, line: &str, answer: &str) -> Result<(), Fail> {
-    writeln!(seen, "{line}")?;
-    if answer != "Ok" {
-        writeln!(seen, "> {answer}")?;
-    }
-    Ok(())
 }
 
 fn write_shown(
@@ -69,19 +66,29 @@ fn write_shown(
     processors: &[Box<dyn ProofProcessor>],
     transcripts: &[Box<dyn ProofTranscriptProcessor>],
 ) -> Result<(), Fail> {
+    let (mut shown, mut told) = (String::new(alloc), String::new(alloc));
     for processor in processors {
-        write_output(alloc, seen, "=", processor.output())?;
+        append_output(alloc, &mut shown, processor.output())?;
     }
     for transcript in transcripts {
-        write_output(alloc, seen, "~", transcript.output())?;
+        append_output(alloc, &mut told, transcript.output())?;
+    }
+    write_outputs(seen, '=', &shown)?;
+    write_outputs(seen, '~', &told)
+}
+
+fn append_output(alloc: Global, outputs: &mut String, output: &[u8]) -> Result<(), Fail> {
+    match barred(alloc, output)?.as_str() {
+        "" => write!(outputs, " / -")?,
+        text => write!(outputs, " / {text}")?,
     }
     Ok(())
 }
 
-fn write_output(alloc: Global, seen: &mut String, mark: &str, output: &[u8]) -> Result<(), Fail> {
-    let text = barred(alloc, output)?;
-    let line = format!(in alloc; "{mark} {text}")?;
-    writeln!(seen, "{}", line.trim_end())?;
+fn write_outputs(seen: &mut String, mark: char, outputs: &str) -> Result<(), Fail> {
+    if let Some(texts) = outputs.strip_prefix(" / ") {
+        writeln!(seen, "{mark} {texts}")?;
+    }
     Ok(())
 }
 
@@ -96,8 +103,12 @@ fn barred(alloc: Global, output: &[u8]) -> Result<String, Fail> {
 /// Does what a line says.
 fn answer_to(alloc: Global, checker: &mut Checker, line: &str) -> Result<String, Fail> {
     match first_word(line) {
-        ("processor", kind) => add_processor(alloc, checker, kind),
-        ("transcript", kind) => add_transcript(alloc, checker, kind),
+        ("given", clauses) => {
+            given(alloc, checker, clauses)?;
+            Ok("Ok".to_string(alloc)?)
+        }
+        ("processor", kinds) => add_boxes(alloc, checker, "processor", kinds),
+        ("transcript", kinds) => add_boxes(alloc, checker, "transcript", kinds),
         ("failing", _) => {
             let text = Text::of(alloc, line)?;
             answer_to_text(alloc, checker, &text)
@@ -192,44 +203,58 @@ fn said_of_text(alloc: Global, checker: &mut Checker, text: &Text) -> Result<Str
     }
 }
 
-/// Registers a processor: `tally`, `told` (a tally that was told a step), `faulty STEPS`, `list`,
-/// `names` or `writer CLAUSES`.
-fn add_processor(alloc: Global, checker: &mut Checker, kind: &str) -> Result<String, Fail> {
-    match first_word(kind) {
-        ("tally", _) => hand_in(alloc, checker, Box::new(alloc, Tally::new(alloc))?),
-        ("told", _) => hand_in(alloc, checker, Box::new(alloc, told_tally(alloc)?)?),
-        ("list", _) => hand_in(alloc, checker, Box::new(alloc, StepList::new(alloc))?),
-        ("names", _) => hand_in(alloc, checker, Box::new(alloc, NameList::new(alloc))?),
-        ("faulty", steps) => {
-            let steps = steps.parse::<u64>()?;
-            hand_in(alloc, checker, Box::new(alloc, Faulty::after(steps))?)
+/// Registers boxes at a place, up to one that is refused.
+fn add_boxes(
+    alloc: Global,
+    checker: &mut Checker,
+    place: &str,
+    kinds: &str,
+) -> Result<String, Fail> {
+    for kind in kinds.split('|') {
+        let answer = add_box(alloc, checker, place, kind)?;
+        if answer.as_str() != "Ok" {
+            return Ok(answer);
         }
-        ("writer", clauses) => {
-            let clauses = clauses.parse::<u64>()?;
-            hand_in(
-                alloc,
-                checker,
-                Box::new(alloc, LratWriter::new(alloc, clauses))?,
-            )
-        }
-        _ => Err("no such processor".into()),
     }
+    Ok("Ok".to_string(alloc)?)
 }
 
-/// Registers a transcript: `tally`, `told`, `faulty STEPS` or `list`.
-fn add_transcript(alloc: Global, checker: &mut Checker, kind: &str) -> Result<String, Fail> {
-    match first_word(kind) {
-        ("tally", _) => hand_in_transcript(alloc, checker, Box::new(alloc, Tally::new(alloc))?),
-        ("told", _) => hand_in_transcript(alloc, checker, Box::new(alloc, told_tally(alloc)?)?),
-        ("list", _) => {
-            hand_in_transcript(alloc, checker, Box::new(alloc, TranscriptList::new(alloc))?)
+/// A box for one of the two places.
+#[derive(Drop)]
+enum Listener {
+    Processor(Box<dyn ProofProcessor>),
+    Transcript(Box<dyn ProofTranscriptProcessor>),
+}
+
+/// Registers a box: `tally`, `told` (a tally that was told a step), `faulty STEPS`, `faulty never`
+/// or `list`; as a processor also `names` or `writer CLAUSES`.
+fn add_box(alloc: Global, checker: &mut Checker, place: &str, kind: &str) -> Result<String, Fail> {
+    let (name, number) = first_word(kind);
+    let listener = match (place, name) {
+        ("processor", "tally") => Listener::Processor(Box::new(alloc, Tally::new(alloc))?),
+        ("processor", "told") => Listener::Processor(Box::new(alloc, told_tally(alloc)?)?),
+        ("processor", "faulty") => Listener::Processor(Box::new(alloc, faulty(number)?)?),
+        ("processor", "list") => Listener::Processor(Box::new(alloc, StepList::new(alloc))?),
+        ("processor", "names") => Listener::Processor(Box::new(alloc, StepList::of_names(alloc))?),
+        ("processor", "writer") => {
+            let writer = LratWriter::new(alloc, number.parse::<u64>()?);
+            Listener::Processor(Box::new(alloc, writer)?)
         }
-        ("faulty", steps) => {
-            let steps = steps.parse::<u64>()?;
-            hand_in_transcript(alloc, checker, Box::new(alloc, Faulty::after(steps))?)
-        }
-        _ => Err("no such transcript".into()),
-    }
+        ("transcript", "tally") => Listener::Transcript(Box::new(alloc, Tally::new(alloc))?),
+        ("transcript", "told") => Listener::Transcript(Box::new(alloc, told_tally(alloc)?)?),
+        ("transcript", "faulty") => Listener::Transcript(Box::new(alloc, faulty(number)?)?),
+        ("transcript", "list") => Listener::Transcript(Box::new(alloc, StepList::new(alloc))?),
+        _ => return Err("no such box".into()),
+    };
+    hand_in(alloc, checker, listener)
+}
+
+/// A box that answers a fault after this many steps, or never.
+fn faulty(steps: &str) -> Result<Faulty, Fail> {
+    Ok(Faulty::after(match steps {
+        "never" => u64::MAX,
+        _ => steps.parse::<u64>()?,
+    }))
 }
 
 /// A tally that was told one step.
@@ -239,32 +264,17 @@ fn told_tally(alloc: Global) -> Result<Tally, Fail> {
     Ok(tally)
 }
 
-/// Hands a processor to the checker. One that is not taken comes back as it was.
-fn hand_in(
-    alloc: Global,
-    checker: &mut Checker,
-    processor: Box<dyn ProofProcessor>,
-) -> Result<String, Fail> {
-    match checker.add_processor(processor) {
-        Ok(()) => Ok("Ok".to_string(alloc)?),
-        Err((back, fault)) => {
-            let shown = barred(alloc, back.output())?;
-            Ok(format!(in alloc; "{}, and back comes {shown}", answer(alloc, Err(fault))?)?)
-        }
-    }
-}
-
-/// Hands a transcript to the checker. One that is not taken comes back as it was.
-fn hand_in_transcript(
-    alloc: Global,
-    checker: &mut Checker,
-    transcript: Box<dyn ProofTranscriptProcessor>,
-) -> Result<String, Fail> {
-    match checker.add_transcript(transcript) {
-        Ok(()) => Ok("Ok".to_string(alloc)?),
-        Err((back, fault)) => {
-            let shown = barred(alloc, back.output())?;
-            Ok(format!(in alloc; "{}, and back comes {shown}", answer(alloc, Err(fault))?)?)
-        }
-    }
+/// Hands a box to the checker. One that is not taken comes back as it was.
+fn hand_in(alloc: Global, checker: &mut Checker, listener: Listener) -> Result<String, Fail> {
+    let (shown, fault) = match listener {
+        Listener::Processor(processor) => match checker.add_processor(processor) {
+            Ok(()) => return Ok("Ok".to_string(alloc)?),
+            Err((back, fault)) => (barred(alloc, back.output())?, fault),
+        },
+        Listener::Transcript(transcript) => match checker.add_transcript(transcript) {
+            Ok(()) => return Ok("Ok".to_string(alloc)?),
+            Err((back, fault)) => (barred(alloc, back.output())?, fault),
+        },
+    };
+    Ok(format!(in alloc; "{}, and back comes {shown}", answer(alloc, Err(fault))?)?)
 }

@@ -32,11 +32,8 @@ const ANSWERS: [Answer; 2] = [
 
 /// Checks the answers.
 pub fn check_answers(alloc: Global) -> Played {
-    let mut memory = Memory::Ample;
-    for answer in &ANSWERS {
-        memory = memory.and(check(alloc, *answer)?);
-    }
-    Ok(memory)
+    let [right, wrong] = ANSWERS;
+    Ok(check(alloc, right)?.and(check(alloc, wrong)?))
 }
 
 /// Nothing is written where memory is wanted.

@@ -16,49 +16,78 @@ use std::rc::Rc;
 use varisat_check::{RunFault, run_lrat};
 use varisat_checker::Checker;
 
-/// Registers a processor, and once more where it is handed back since memory ran out. None: it is
-/// handed back again.
+/// A box for one of the two places.
+#[derive(Drop)]
+enum Listener {
+    Processor(Box<dyn ProofProcessor>),
+    Transcript(Box<dyn ProofTranscriptProcessor>),
+}
+
+impl Listener {
+    /// How many bytes it shows.
+    fn shown(&self) -> usize {
+        match self {
+            Listener::Processor(processor) => processor.output().len(),
+            Listener::Transcript(transcript) => transcript.output().len(),
+        }
+    }
+
+    /// Hands it to a checker. One that is refused comes back.
+    fn hand_in(self, checker: &mut Checker) -> Result<(), (Listener, CheckerError)> {
+        match self {
+            Listener::Processor(processor) => match checker.add_processor(processor) {
+                Ok(()) => Ok(()),
+                Err((back, fault)) => Err((Listener::Processor(back), fault)),
+            },
+            Listener::Transcript(transcript) => match checker.add_transcript(transcript) {
+                Ok(()) => Ok(()),
+                Err((back, fault)) => Err((Listener::Transcript(back), fault)),
+            },
+        }
+    }
+}
+
+/// Registers a box, and once more where it is handed back since memory ran out. None: it is handed
+/// back again.
 ///
 /// What it shows and what the checker records are as before each time.
-pub fn register(
-    checker: &mut Checker,
-    processor: Box<dyn ProofProcessor>,
-) -> Result<Option<Memory>, Stop> {
-    let (shown, inputs) = (processor.output().len(), checker.input_clauses());
-    let handed_back = match checker.add_processor(processor) {
+fn register(checker: &mut Checker, listener: Listener) -> Result<Option<Memory>, Stop> {
+    let (shown, inputs) = (listener.shown(), checker.input_clauses());
+    let handed_back = match listener.hand_in(checker) {
         Ok(()) => return Ok(Some(Memory::Ample)),
-        Err((processor, CheckerError::OutOfMemory)) => processor,
+        Err((listener, CheckerError::OutOfMemory)) => listener,
         Err(_) => return Err(Stop::Wrong(Wrong::Answer)),
     };
-    if handed_back.output().len() != shown || checker.input_clauses() != inputs {
+    if handed_back.shown() != shown || checker.input_clauses() != inputs {
         return Err(Stop::Wrong(Wrong::ChangedByRefusal));
     }
-    match checker.add_processor(handed_back) {
+    match handed_back.hand_in(checker) {
         Ok(()) => Ok(Some(Memory::Wanting)),
         Err((_, CheckerError::OutOfMemory)) => Ok(None),
         Err(_) => Err(Stop::Wrong(Wrong::Answer)),
     }
 }
 
-/// A box for a transcript.
-pub fn register_transcript(
-    checker: &mut Checker,
-    transcript: Box<dyn ProofTranscriptProcessor>,
-) -> Result<Option<Memory>, Stop> {
-    let (shown, inputs) = (transcript.output().len(), checker.input_clauses());
-    let handed_back = match checker.add_transcript(transcript) {
-        Ok(()) => return Ok(Some(Memory::Ample)),
-        Err((transcript, CheckerError::OutOfMemory)) => transcript,
-        Err(_) => return Err(Stop::Wrong(Wrong::Answer)),
+/// A box for each place.
+#[derive(Drop)]
+pub struct Boxes {
+    pub processor: Box<dyn ProofProcessor>,
+    pub transcript: Box<dyn ProofTranscriptProcessor>,
+}
+
+/// Registers both boxes. None: one is handed back twice.
+pub fn register_both(checker: &mut Checker, boxes: Boxes) -> Result<Option<Memory>, Stop> {
+    let Boxes {
+        processor,
+        transcript,
+    } = boxes;
+    let Some(with_processor) = register(checker, Listener::Processor(processor))? else {
+        return Ok(None);
     };
-    if handed_back.output().len() != shown || checker.input_clauses() != inputs {
-        return Err(Stop::Wrong(Wrong::ChangedByRefusal));
-    }
-    match checker.add_transcript(handed_back) {
-        Ok(()) => Ok(Some(Memory::Wanting)),
-        Err((_, CheckerError::OutOfMemory)) => Ok(None),
-        Err(_) => Err(Stop::Wrong(Wrong::Answer)),
-    }
+    let Some(with_transcript) = register(checker, Listener::Transcript(transcript))? else {
+        return Ok(None);
+    };
+    Ok(Some(with_processor.and(with_transcript)))
 }
 
 /// Registers boxes that have taken a step with another checker, which has a clause. They go on
@@ -66,16 +95,16 @@ pub fn register_transcript(
 pub fn hand_on(alloc: Global) -> Played {
     let processor = Box::new(alloc, Tally::new(alloc))?;
     let transcript = Box::new(alloc, Tally::new(alloc))?;
-    handed_on(alloc, processor, transcript)
+    let boxes = Boxes {
+        processor,
+        transcript,
+    };
+    handed_on(alloc, boxes)
 }
 
-fn handed_on(
-    alloc: Global,
-    processor: Box<dyn ProofProcessor>,
-    transcript: Box<dyn ProofTranscriptProcessor>,
-) -> Played {
+fn handed_on(alloc: Global, boxes: Boxes) -> Played {
     let mut first = Checker::new(alloc);
-    let filled = fill(&mut first, processor, transcript, "1 2");
+    let filled = fill(&mut first, boxes, "1 2");
     let (mut processors, mut transcripts) = first.into_processors();
     let Some(memory) = filled? else {
         return Ok(Memory::Wanting);
@@ -84,7 +113,11 @@ fn handed_on(
         return Err(Stop::Wrong(Wrong::Boxes));
     };
     let mut second = Checker::new(alloc);
-    let taken_over = take_over(&mut second, processor, transcript);
+    let boxes = Boxes {
+        processor,
+        transcript,
+    };
+    let taken_over = take_over(&mut second, boxes);
     let (processors, transcripts) = second.into_processors();
     match (taken_over?, processors.as_slice(), transcripts.as_slice()) {
         (Some(met), [processor], [transcript]) => {
@@ -98,34 +131,24 @@ fn handed_on(
 
 /// Registers both boxes and adds a clause. None: memory is wanted, and the checker has failed or a
 /// box is refused.
-fn fill(
-    checker: &mut Checker,
-    processor: Box<dyn ProofProcessor>,
-    transcript: Box<dyn ProofTranscriptProcessor>,
-    numbers: &str,
-) -> Result<Option<Memory>, Stop> {
-    let Some(with_processor) = register(checker, processor)? else {
-        return Ok(None);
-    };
-    let Some(with_transcript) = register_transcript(checker, transcript)? else {
-        return Ok(None);
-    };
-    if !is_added(checker, numbers)? {
+fn fill(checker: &mut Checker, boxes: Boxes, numbers: &str) -> Result<Option<Memory>, Stop> {
+    let registered = register_both(checker, boxes)?;
+    if registered.is_some() && !is_added(checker, numbers)? {
         return Ok(None);
     }
-    Ok(Some(with_processor.and(with_transcript)))
+    Ok(registered)
 }
 
 /// Adds a clause, registers both boxes, and adds another one. None: as above. A checker that has
 /// failed takes no box.
-fn take_over(
-    checker: &mut Checker,
-    processor: Box<dyn ProofProcessor>,
-    transcript: Box<dyn ProofTranscriptProcessor>,
-) -> Result<Option<Memory>, Stop> {
+fn take_over(checker: &mut Checker, boxes: Boxes) -> Result<Option<Memory>, Stop> {
     if is_added(checker, "3 4")? {
-        return fill(checker, processor, transcript, "5 6");
+        return fill(checker, boxes, "5 6");
     }
+    let Boxes {
+        processor,
+        transcript,
+    } = boxes;
     let Err((processor, CheckerError::Failed)) = checker.add_processor(processor) else {
         return Err(Stop::Wrong(Wrong::AnswerAfterFailure));
     };
@@ -164,7 +187,7 @@ pub struct Counted {
 impl Counted {
     fn new(drops: &Rc<Cell<u64>>) -> Result<Counted, Stop> {
         Ok(Counted {
-            drops: drops.clone()?,
+            drops: drops.clone().map_err(|_| Stop::Own)?,
         })
     }
 }
@@ -244,9 +267,9 @@ fn register_three(
     second: Box<dyn ProofProcessor>,
     transcript: Box<dyn ProofTranscriptProcessor>,
 ) -> Played {
-    let with_first = register(checker, first)?;
-    let with_second = register(checker, second)?;
-    let with_transcript = register_transcript(checker, transcript)?;
+    let with_first = register(checker, Listener::Processor(first))?;
+    let with_second = register(checker, Listener::Processor(second))?;
+    let with_transcript = register(checker, Listener::Transcript(transcript))?;
     match (with_first, with_second, with_transcript) {
         (Some(first), Some(second), Some(third)) => Ok(first.and(second).and(third)),
         _ => Ok(Memory::Wanting),

@@ -1,5 +1,5 @@
 //! What the play of a row comes to.
-use std::alloc::{AllocError, AllocFailed};
+use std::alloc::AllocFailed;
 
 /// Whether "out of memory" was answered in place of something.
 #[derive(Clone, Copy, Debug, PartialEq, Eq)]
@@ -50,12 +50,6 @@ pub enum Stop {
 
 /// What a row comes to.
 pub type Played = Result<Memory, Stop>;
-
-impl From<AllocError> for Stop {
-    fn from(_e: AllocError) -> Stop {
-        Stop::Own
-    }
-}
 
 impl<T: Drop> From<AllocFailed<T>> for Stop {
     fn from(_e: AllocFailed<T>) -> Stop {

@@ -2,6 +2,6 @@ use denote.Text.{Utf8}
 use denote.Shadow.{shadow}
 use Rattle.refused_growths.proofs.script.is_beginning.Given as goal
 
-abbrev pub invariant-loop-line : goal.invariant-loop-line
-invariant-loop-line l =
-    (goal.iterator-loop-line).can_next l.line-iterator × (goal.iterator-loop-line).is_finite l.line-iterator × shadow (Utf8 l.rest)
+abbrev pub invariant-loop-part : goal.invariant-loop-part
+invariant-loop-part l =
+    (goal.iterator-loop-part).can_next l.part-iterator × (goal.iterator-loop-part).is_finite l.part-iterator × shadow (Utf8 l.rest)
