@@ -24,19 +24,9 @@ pub fn write_formula<W: Write>(alloc: Global, out: &mut W, formula: &CnfFormula)
     ensures beginning { OnErr result (AppendsBeginning (W.contents out.old) (W.contents out.new)
         (formula_text formula.now)) }
 {
-    write_header(alloc, out, formula)?;
-    write_clauses(alloc, out, formula)
-}
-
-/// Writes the header's line.
-fn write_header<W: Write>(alloc: Global, out: &mut W, formula: &CnfFormula) -> io::Result<()>
-    ensures whole { OnOk result (Appends (W.contents out.old) (W.contents out.new)
-        (header_text formula.now ++ 10 ∷ [])) }
-    ensures beginning { OnErr result (AppendsBeginning (W.contents out.old) (W.contents out.new)
-        (header_text formula.now ++ 10 ∷ [])) }
-{
     let text = header(alloc, formula)?;
-    append_whole(out, &text)
+    append_whole(out, &text)?;
+    write_clauses(alloc, out, formula)
 }
 
 /// Writes the clauses' lines.
