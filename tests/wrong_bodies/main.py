@@ -60,7 +60,7 @@ def words_in(text):
             continue
         place = re.fullmatch(r"(?:ghost )?use Rattle\.[^{}]*?(?:\.\{([^}]*)\}| as (\w+));?", line)
         if place:
-            imported.update((place[1] or place[2] or "").split(", "))
+            imported.update(it.rpartition(".")[2] for it in (place[1] or place[2] or "").split(", "))
         elif not line.startswith(("//", "--")):
             kept += line.split()
     return sorted(imported) + kept

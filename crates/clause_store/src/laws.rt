@@ -1,6 +1,5 @@
 //! Laws over the definitions alone. Each function does nothing: its clause is the law.
-ghost use Rattle.clause_store.specs.CheckLaw.{CheckIsByRules};
-ghost use Rattle.clause_store.specs.View.{ListIs};
+ghost use Rattle.clause_store.specs.{CheckLaw.CheckIsByRules, View.ListIs};
 
 /// The buckets determine the list of the stored clauses.
 pub fn list_is()

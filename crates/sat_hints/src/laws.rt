@@ -1,7 +1,5 @@
 //! Laws of the text of hint lines. Each function does nothing: its clause is the law.
-ghost use Rattle.sat_hints.specs.WrittenRuns.{WriterIsAccepted, WriterShowsRun};
-ghost use Rattle.sat_hints.specs.WrittenText.{WrittenIsRead};
-ghost use Rattle.sat_hints.specs.WrittenTexts.{TextIsAccepted, TextIsRead};
+ghost use Rattle.sat_hints.specs.{WrittenRuns.WriterIsAccepted, WrittenRuns.WriterShowsRun, WrittenText.WrittenIsRead, WrittenTexts.TextIsAccepted, WrittenTexts.TextIsRead};
 
 /// The text that is written of a line is read as that line.
 pub fn written_is_read()

@@ -1,7 +1,5 @@
 //! Laws of the texts. Each function does nothing: its clause is the law.
-ghost use Rattle.sat_output.specs.LratBytes.{BytesAreRead};
-ghost use Rattle.sat_output.specs.LratTexts.{LinesAreRead};
-ghost use Rattle.sat_output.specs.FormulaTexts.{FormulaIsRead};
+ghost use Rattle.sat_output.specs.{LratBytes.BytesAreRead, LratTexts.LinesAreRead, FormulaTexts.FormulaIsRead};
 
 /// What is written of LRAT lines is read as those lines.
 pub fn lines_are_read()

@@ -1,6 +1,5 @@
 //! Laws over the definitions alone. Each function does nothing: its clause is the law.
-ghost use Rattle.sat_rules.specs.Clauses.{ChainsAreSound};
-ghost use Rattle.sat_rules.specs.HintLines.{HintsDecide, HintsRefute};
+ghost use Rattle.sat_rules.specs.{Clauses.ChainsAreSound, HintLines.HintsDecide, HintLines.HintsRefute};
 
 /// No assignment that agrees with the set makes every clause of a chain from it true.
 pub fn chains_are_sound()

@@ -2,13 +2,8 @@
 ghost use Rattle.std.specs.Prelude.{◌≡◌, ◌≤◌, List, None, Ok, OnOk, length, true, false, ◌+◌, ◌<◌, IfErr, IfOk};
 ghost use Rattle.std.specs.Option.{option_map};
 ghost use Rattle.sat_rules.specs.Clauses.{is_canonical, is_tautology};
-ghost use Rattle.checker_rules.specs.AddClause.{store_input};
-ghost use Rattle.checker_rules.specs.Canonical.{var_bound};
-ghost use Rattle.checker_rules.specs.Emits.{emits_input};
-ghost use Rattle.checker_rules.specs.KnownVars.{know_clause};
-ghost use Rattle.checker_rules.specs.State.{Known};
+ghost use Rattle.checker_rules.specs.{AddClause.store_input, Canonical.var_bound, Emits.emits_input, KnownVars.know_clause, State.Known, Store.count_limit, Store.count_of, Store.id_limit};
 ghost use Rattle.checker_rules.specs.Step as rules;
-ghost use Rattle.checker_rules.specs.Store.{count_limit, count_of, id_limit};
 ghost use Rattle.clause_store.specs.PartsInvariant.{PartsInvariant};
 ghost use Rattle.clause_store.specs.Store.{UnlessOutOfMemory};
 ghost use Rattle.clause_store.specs.View.{stored_list};

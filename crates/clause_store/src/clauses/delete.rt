@@ -1,9 +1,7 @@
 //! Deleting copies of clauses.
 ghost use Rattle.std.specs.Prelude.{◌≡◌, ◌<◌, List, IfErr, IfOk, OnErr, OnOk, length, map, true};
 ghost use Rattle.sat_rules.specs.Clauses.{is_canonical};
-ghost use Rattle.checker_rules.specs.Buckets.{remaining};
-ghost use Rattle.checker_rules.specs.State.{Known};
-ghost use Rattle.checker_rules.specs.Store.{lower};
+ghost use Rattle.checker_rules.specs.{Buckets.remaining, State.Known, Store.lower};
 ghost use Rattle.clause_store.specs.Counts.{AreCounts};
 ghost use Rattle.clause_store.specs.Delete.{AnswersDelete, UnlessOutOfMemory, deleted_as};
 ghost use Rattle.clause_store.specs.Edits.{KeepsRest};
