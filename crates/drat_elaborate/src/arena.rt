@@ -27,6 +27,16 @@ impl Block {
         Block(Block::END)
     }
 
+    /// The block, where it is one.
+    #[inline(always)]
+    pub(crate) fn known(self) -> Option<Block> {
+        if self.0 == Block::END {
+            None
+        } else {
+            Some(self)
+        }
+    }
+
     pub(crate) fn code(self) -> u32 {
         self.0
     }

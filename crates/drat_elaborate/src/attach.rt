@@ -5,7 +5,7 @@ use crate::fault::ElaborateFault;
 use crate::local::LocalLit;
 use crate::propagator::Propagator;
 use crate::standing::WatchStanding;
-use crate::trail::{Reason, Trail, Value};
+use crate::trail::{Trail, Value};
 use crate::watches::{Watch, Watches};
 
 impl Propagator {
@@ -168,7 +168,7 @@ impl Propagator {
             WatchStanding::False => Ok(Some(block)),
             WatchStanding::Unit(lit) => {
                 let end = self.trail.len();
-                self.trail.assign(lit, Reason::clause(block))?;
+                self.trail.assign(lit, block)?;
                 self.propagate(end)
             }
             WatchStanding::True | WatchStanding::Open => Ok(None),

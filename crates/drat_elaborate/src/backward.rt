@@ -4,6 +4,7 @@ use crate::check::Check;
 use crate::clauses::{ClauseIndex, ClauseLink, Clauses, Use};
 use crate::fault::ElaborateFault;
 use crate::hinted::GivenHints;
+use crate::local::LocalLit;
 use crate::occurrences::Occurrences;
 use crate::propagator::Propagator;
 use crate::records::Records;
@@ -27,6 +28,8 @@ pub(crate) struct Backward {
     pub(crate) witnesses: Witnesses,
     /// Where literals stand, once a clause is checked that does not follow.
     occurrences: Option<Occurrences>,
+    /// The literals of that clause.
+    lits: Vec<LocalLit>,
     pub(crate) records: Records,
     /// The number of the first lemma.
     formula_len: usize,
@@ -44,6 +47,7 @@ impl Backward {
             given: GivenHints::new(alloc),
             witnesses: Witnesses::new(alloc),
             occurrences: None,
+            lits: Vec::new(alloc),
             records: Records::new(alloc),
             formula_len: 0,
             in_round: 0,
@@ -187,16 +191,13 @@ impl Backward {
         propagator: &mut Propagator,
         clause: ClauseIndex,
     ) -> Result<bool, ElaborateFault> {
-        let Some(pivot) = propagator.clauses.pivot(clause)? else {
-            return Ok(false);
-        };
         let lit_count = propagator.trail.lit_count();
         self.collect(&propagator.clauses, clause, lit_count)?;
-        let pivot = [pivot];
-        let witness = match self.witnesses.of(clause) {
-            Some(witness) => witness,
-            None => &pivot,
+        propagator.clauses.read(clause, &mut self.lits)?;
+        let Some(pivot) = self.lits.get(..1) else {
+            return Ok(false);
         };
+        let witness = self.witnesses.of(clause).unwrap_or(pivot);
         match &self.occurrences {
             Some(occurrences) => is_redundant(
                 self.alloc,

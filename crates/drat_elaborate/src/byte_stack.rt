@@ -1,16 +1,17 @@
 //! Numbers on a stack of bytes: small ones take one.
 use std::alloc::{AllocError, Global};
 
-/// A number is in pieces of seven bits, the highest on top. All but the lowest say that another one
-/// is below.
-const PIECE: u32 = 7;
+/// A number is in pieces of seven bits.
+pub(crate) const PIECE: u32 = 7;
 
-const MORE: u8 = 1 << 7;
+/// A piece that says that another one comes.
+pub(crate) const MORE: u8 = 1 << 7;
 
 /// A number of 32 bits has at most this many pieces.
-const MOST_PIECES: usize = 5;
+pub(crate) const MOST_PIECES: u32 = 5;
 
-/// Numbers, the last of which is taken first.
+/// Numbers, the last of which is taken first. Of each the highest piece is on top, and all but the
+/// lowest say that another one is below.
 #[derive(Drop)]
 pub(crate) struct ByteStack {
     bytes: Vec<u8>,
@@ -58,6 +59,6 @@ impl ByteStack {
 
 /// The lowest seven bits.
 #[inline(always)]
-fn piece(number: u32) -> u8 {
+pub(crate) fn piece(number: u32) -> u8 {
     (number & 0x7f) as u8
 }

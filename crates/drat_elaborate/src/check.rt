@@ -7,7 +7,7 @@ use crate::local::LocalLit;
 use crate::place_set::PlaceSet;
 use crate::propagator::Propagator;
 use crate::records::PackedHint;
-use crate::trail::{Reason, Trail, Value};
+use crate::trail::{Trail, Value};
 use std::alloc::Global;
 
 /// Which literals are true by assumption, besides the negated literals of the clause.
@@ -102,7 +102,7 @@ impl Check {
         }
         for lit in propagator.clauses.lits(clause)? {
             if propagator.trail.value(*lit) == Value::Free {
-                propagator.trail.assign(!*lit, Reason::assumed())?;
+                propagator.trail.assign(!*lit, Block::none())?;
             }
         }
         Ok(None)

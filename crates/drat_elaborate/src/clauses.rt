@@ -197,7 +197,8 @@ impl Clauses {
         self.arena.lits(self.get(clause)?.block)
     }
 
-    /// Reads the literals of a clause into a list, in the order in which they were written.
+    /// Reads the literals of a clause into a list, in the order in which they were written: the
+    /// first one is the pivot, by which the clause may be redundant.
     pub(crate) fn read(
         &self,
         clause: ClauseIndex,
@@ -205,11 +206,6 @@ impl Clauses {
     ) -> Result<(), ElaborateFault> {
         self.written.read(self.get(clause)?.written, lits)?;
         Ok(())
-    }
-
-    /// The first literal of a clause as it was written; none in the empty clause.
-    pub(crate) fn pivot(&self, clause: ClauseIndex) -> Result<Option<LocalLit>, ElaborateFault> {
-        Ok(self.written.first(self.get(clause)?.written))
     }
 
     /// The block of a clause that is not there any more may be used again.

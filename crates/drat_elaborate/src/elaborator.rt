@@ -198,8 +198,7 @@ impl Elaborator {
         if self.phase != Phase::Elaborated {
             return Ok(None);
         }
-        let clauses = &self.forward.propagator.clauses;
-        self.lines.begin(clauses, self.forward.formula_len)?;
+        self.lines.begin(&self.forward)?;
         if self.lines.by_witness.queue.advance() {
             return Ok(Some(self.lines.by_witness.queue.line()?));
         }
@@ -208,9 +207,8 @@ impl Elaborator {
                 ids: &self.lines.dying,
             }));
         }
-        let (variables, records) = (&self.forward.variables, &mut self.backward.records);
-        let witnesses = &self.backward.witnesses;
-        if !self.lines.read(clauses, variables, witnesses, records)? {
+        let (witnesses, records) = (&self.backward.witnesses, &mut self.backward.records);
+        if !self.lines.read(&self.forward, witnesses, records)? {
             return Ok(None);
         }
         if self.lines.by_witness.queue.advance() {

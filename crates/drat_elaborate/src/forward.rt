@@ -9,7 +9,7 @@ use crate::lookup::{ClauseTable, Lookup, Reasons};
 use crate::names::Names;
 use crate::propagator::Propagator;
 use crate::steps::{Step, Steps};
-use crate::trail::{Reason, Value};
+use crate::trail::Value;
 use crate::variables::Variables;
 use sat_formula::Lit;
 use std::alloc::Global;
@@ -114,7 +114,7 @@ impl Forward {
         match self.propagator.trail.value(lit) {
             Value::True => {}
             Value::False => self.conflict = Some(block),
-            Value::Free => self.propagator.trail.assign(lit, Reason::clause(block))?,
+            Value::Free => self.propagator.trail.assign(lit, block)?,
         }
         Ok(())
     }

@@ -5,7 +5,6 @@ use crate::clauses::{Clause, ClauseIndex, narrow};
 use crate::fault::ElaborateFault;
 use crate::propagator::Propagator;
 use crate::standing::Standing;
-use crate::trail::Reason;
 use std::alloc::Global;
 
 /// Where the hints of a clause begin.
@@ -83,7 +82,7 @@ impl Check {
             match standing_of(propagator, &found)? {
                 Standing::False => return Ok(Some(found.block)),
                 Standing::Unit(lit) => {
-                    propagator.trail.assign(lit, Reason::clause(found.block))?;
+                    propagator.trail.assign(lit, found.block)?;
                 }
                 Standing::Other => {}
             }

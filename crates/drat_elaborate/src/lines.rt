@@ -1,9 +1,9 @@
 //! The lines of the checked clauses, in order.
-use crate::clauses::{ClauseIndex, Clauses, narrow};
+use crate::clauses::{ClauseIndex, narrow};
 use crate::fault::ElaborateFault;
+use crate::forward::Forward;
 use crate::local::LocalLit;
 use crate::records::{Record, Records};
-use crate::variables::Variables;
 use crate::witness_lines::WitnessLines;
 use crate::witnesses::Witnesses;
 use lrat_text::Hint;
@@ -51,17 +51,14 @@ impl Lines {
 
     /// The clauses of the formula get their ids; those that are not used are the first to go, or
     /// get none.
-    pub(crate) fn begin(
-        &mut self,
-        clauses: &Clauses,
-        formula_len: usize,
-    ) -> Result<(), ElaborateFault> {
+    pub(crate) fn begin(&mut self, forward: &Forward) -> Result<(), ElaborateFault> {
         if self.is_begun {
             return Ok(());
         }
         self.is_begun = true;
+        let clauses = &forward.propagator.clauses;
         self.ids.resize(clauses.len(), 0)?;
-        for index in 0..formula_len {
+        for index in 0..forward.formula_len {
             let clause = ClauseIndex::new(index)?;
             if clauses.get(clause)?.is_core() {
                 self.name(clause)?;
@@ -85,8 +82,7 @@ impl Lines {
     /// Where its clause is redundant by a witness, its lines wait instead.
     pub(crate) fn read(
         &mut self,
-        clauses: &Clauses,
-        variables: &Variables,
+        forward: &Forward,
         witnesses: &Witnesses,
         records: &mut Records,
     ) -> Result<bool, ElaborateFault> {
@@ -94,14 +90,14 @@ impl Lines {
             return Ok(false);
         }
         if let Some(witness) = witnesses.of_record(&self.record) {
-            self.read_witnessed(clauses, variables, witness)?;
+            self.read_witnessed(forward, witness)?;
             return Ok(true);
         }
         self.read_hints()?;
         self.clause.clear();
         match self.record.clause.get() {
             Some(clause) => {
-                self.read_clause(clauses, variables, clause)?;
+                self.read_clause(forward, clause)?;
                 self.name(clause)?;
             }
             None => self.last_id = self.last_id.saturating_add(1),
@@ -111,16 +107,15 @@ impl Lines {
         Ok(true)
     }
 
-    /// The literals of a clause as they were written, the pivot first.
+    /// The clause of the next line.
     pub(crate) fn read_clause(
         &mut self,
-        clauses: &Clauses,
-        variables: &Variables,
+        forward: &Forward,
         clause: ClauseIndex,
     ) -> Result<(), ElaborateFault> {
-        clauses.read(clause, &mut self.lits)?;
+        forward.propagator.clauses.read(clause, &mut self.lits)?;
         for lit in &self.lits {
-            self.clause.push(variables.named(*lit)?)?;
+            self.clause.push(forward.variables.named(*lit)?)?;
         }
         Ok(())
     }

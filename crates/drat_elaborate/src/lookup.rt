@@ -54,11 +54,8 @@ impl ClauseTable {
 
     /// Twice as many buckets, all empty.
     fn grow(&mut self) -> Result<(), AllocError> {
-        let size = self
-            .buckets
-            .len()
-            .saturating_mul(2)
-            .max(ClauseTable::FIRST_SIZE);
+        let twice = self.buckets.len().saturating_mul(2);
+        let size = twice.max(ClauseTable::FIRST_SIZE);
         self.buckets.clear();
         self.buckets.resize(size, ClauseLink::none())
     }

@@ -6,8 +6,8 @@ use crate::local::LocalLit;
 use crate::recent::Recent;
 use crate::stale::StaleLists;
 use crate::standing::Standing;
-use crate::sweep::{Sweep, len_of, sweep_list, sweep_whole};
-use crate::trail::{Reason, Trail};
+use crate::sweep::{Sweep, sweep_list, sweep_whole};
+use crate::trail::Trail;
 use crate::watches::Watches;
 use std::alloc::{AllocError, Global};
 
@@ -206,7 +206,7 @@ impl Propagator {
             }
             Standing::Unit(lit) => {
                 self.recent.reward();
-                self.trail.assign(lit, Reason::clause(block))?;
+                self.trail.assign(lit, block)?;
                 Ok(Some(Progress::Going))
             }
         }
@@ -227,8 +227,7 @@ fn advance_to_unit(
         let Some(lit) = trail.get(head.place) else {
             break;
         };
-        let end = head.end.min(len_of(watches.all(), !lit));
-        match sweep_list(arena.words_mut(), trail.values(), watches.all(), !lit, end)? {
+        match sweep_list(arena, trail, watches, !lit, head.end)? {
             Sweep::End => {
                 let next = head.place.saturating_add(1);
                 head.go_to(next);
@@ -236,7 +235,7 @@ fn advance_to_unit(
             Sweep::Conflict(block) => return Ok(Progress::Conflict(block)),
             Sweep::Unit { lit, block, end } => {
                 head.end = end;
-                trail.assign(lit, Reason::clause(block))?;
+                trail.assign(lit, block)?;
                 return Ok(Progress::Going);
             }
         }
@@ -252,12 +251,11 @@ fn sweep_on(
     watches: &mut Watches,
     from: usize,
 ) -> Result<Option<Block>, ElaborateFault> {
-    let (words, lists) = (arena.words_mut(), watches.all());
     for place in from..trail.lit_count() {
         let Some(lit) = trail.get(place) else {
             break;
         };
-        if let Some(block) = sweep_whole(words, trail, lists, !lit)? {
+        if let Some(block) = sweep_whole(arena, trail, watches, !lit)? {
             return Ok(Some(block));
         }
     }

@@ -1,4 +1,5 @@
 //! The check that a clause is redundant by a witness, as by its first literal.
+use crate::arena::Block;
 use crate::check::{After, Assumed, Check};
 use crate::clauses::ClauseIndex;
 use crate::fault::ElaborateFault;
@@ -6,7 +7,7 @@ use crate::local::LocalLit;
 use crate::occurrences::Occurrences;
 use crate::propagator::Propagator;
 use crate::records::PackedHint;
-use crate::trail::{Reason, Value};
+use crate::trail::Value;
 use std::alloc::Global;
 
 /// Whether a clause is redundant by a witness, which has a literal of it: a model of the clauses
@@ -163,7 +164,7 @@ fn assume_negated(
         }
         check.by_group.insert(!*lit)?;
         if propagator.trail.value(*lit) == Value::Free {
-            propagator.trail.assign(!*lit, Reason::assumed())?;
+            propagator.trail.assign(!*lit, Block::none())?;
         }
     }
     Ok(())

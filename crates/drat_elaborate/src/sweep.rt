@@ -1,9 +1,9 @@
 //! One list of watches, gone through when its literal became false.
-use crate::arena::Block;
+use crate::arena::{Arena, Block};
 use crate::fault::ElaborateFault;
 use crate::local::LocalLit;
-use crate::trail::{Reason, Trail, Value};
-use crate::watches::{Watch, push_watch};
+use crate::trail::{Trail, Value};
+use crate::watches::{Watch, Watches, push_watch};
 
 /// What a list came to, up to the first clause that is unit or false.
 #[derive(Clone, Copy)]
@@ -42,14 +42,15 @@ enum Visited {
 /// that is unit or false.
 #[inline(always)]
 pub(crate) fn sweep_list(
-    words: &mut [LocalLit],
-    values: &[Value],
-    lists: &mut [Vec<Watch>],
+    arena: &mut Arena,
+    trail: &Trail,
+    watches: &mut Watches,
     falsified: LocalLit,
     end: usize,
 ) -> Result<Sweep, ElaborateFault> {
-    for at in (0..end).rev() {
-        match visit(words, values, lists, falsified, at)? {
+    let (words, lists) = (arena.words_mut(), watches.all());
+    for at in (0..end.min(len_of(lists, falsified))).rev() {
+        match visit(words, trail.values(), lists, falsified, at)? {
             Visited::Open => {}
             Visited::Unit(lit, block) => {
                 return Ok(Sweep::Unit {
@@ -68,15 +69,16 @@ pub(crate) fn sweep_list(
 /// conflict.
 #[inline(always)]
 pub(crate) fn sweep_whole(
-    words: &mut [LocalLit],
+    arena: &mut Arena,
     trail: &mut Trail,
-    lists: &mut [Vec<Watch>],
+    watches: &mut Watches,
     falsified: LocalLit,
 ) -> Result<Option<Block>, ElaborateFault> {
+    let (words, lists) = (arena.words_mut(), watches.all());
     for at in (0..len_of(lists, falsified)).rev() {
         match visit(words, trail.values(), lists, falsified, at)? {
             Visited::Open => {}
-            Visited::Unit(lit, block) => trail.assign(lit, Reason::clause(block))?,
+            Visited::Unit(lit, block) => trail.assign(lit, block)?,
             Visited::Conflict(block) => return Ok(Some(block)),
         }
     }
@@ -85,7 +87,7 @@ pub(crate) fn sweep_whole(
 
 /// How many clauses a literal watches.
 #[inline(always)]
-pub(crate) fn len_of(lists: &[Vec<Watch>], lit: LocalLit) -> usize {
+fn len_of(lists: &[Vec<Watch>], lit: LocalLit) -> usize {
     match lists.get(lit.place()) {
         Some(list) => list.len(),
         None => 0,

@@ -13,40 +13,11 @@ pub(crate) enum Value {
     False,
 }
 
-/// Why a literal is true, in four bytes.
-#[derive(Clone, Copy)]
-pub(crate) struct Reason(u32);
-
-impl Reason {
-    /// No block has this code.
-    const ASSUMED: u32 = u32::MAX;
-
-    /// It is assumed.
-    pub(crate) fn assumed() -> Reason {
-        Reason(Reason::ASSUMED)
-    }
-
-    /// A clause forces it.
-    #[inline(always)]
-    pub(crate) fn clause(block: Block) -> Reason {
-        Reason(block.code())
-    }
-
-    /// The clause that forces it.
-    #[inline(always)]
-    fn block(self) -> Option<Block> {
-        if self.0 == Reason::ASSUMED {
-            None
-        } else {
-            Some(Block::from_code(self.0))
-        }
-    }
-}
-
 /// Why and where a variable got its value.
 #[derive(Clone, Copy)]
 struct Cause {
-    reason: Reason,
+    /// The clause that forces it, or none where it is assumed.
+    reason: Block,
     place: u32,
 }
 
@@ -72,7 +43,7 @@ impl Trail {
     /// Makes room for this many variables, of which there were fewer.
     pub(crate) fn make_room(&mut self, count: usize) -> Result<(), AllocError> {
         let cause = Cause {
-            reason: Reason::assumed(),
+            reason: Block::none(),
             place: 0,
         };
         self.causes.resize(count, cause)?;
@@ -110,7 +81,7 @@ impl Trail {
 
     /// The clause that forced the variable of a literal.
     pub(crate) fn reason(&self, lit: LocalLit) -> Option<Block> {
-        self.causes.get(lit.variable())?.reason.block()
+        self.causes.get(lit.variable())?.reason.known()
     }
 
     /// The place of the variable of a literal that has a value.
@@ -121,9 +92,9 @@ impl Trail {
         }
     }
 
-    /// Makes a free literal true.
+    /// Makes a free literal true, which a clause forces, or none where it is assumed.
     #[inline(always)]
-    pub(crate) fn assign(&mut self, lit: LocalLit, reason: Reason) -> Result<(), ElaborateFault> {
+    pub(crate) fn assign(&mut self, lit: LocalLit, reason: Block) -> Result<(), ElaborateFault> {
         let place = narrow(self.lits.len())?;
         self.lits.push(lit)?;
         set_value(self.values.as_mut_slice(), lit, Value::True);

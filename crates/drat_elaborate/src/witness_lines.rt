@@ -12,12 +12,13 @@
 //!
 //! Then all that has x is deleted.
 
-use crate::clauses::{ClauseIndex, Clauses, narrow};
+use crate::clauses::{ClauseIndex, narrow};
 use crate::fault::ElaborateFault;
+use crate::forward::Forward;
 use crate::lines::{Lines, id_in};
 use crate::local::LocalLit;
 use crate::queue::LineQueue;
-use crate::variables::Variables;
+use crate::records::PackedHint;
 use lrat_text::Hint;
 use sat_formula::Lit;
 use std::alloc::Global;
@@ -34,7 +35,8 @@ struct Touched {
 pub(crate) struct WitnessLines {
     alloc: Global,
     pub(crate) queue: LineQueue,
-    /// The literal x, once it is known.
+    /// The literal x, once it is known: its variable is the one above the largest of the formula
+    /// and the proof.
     fresh: Option<Lit>,
     /// By code of the literal, its place in the witness and 1 more; 0 where it is not in it.
     places: Vec<u32>,
@@ -62,12 +64,8 @@ impl WitnessLines {
         }
     }
 
-    /// Begins a step. The answer is x.
-    fn begin(
-        &mut self,
-        variables: &Variables,
-        witness: &[LocalLit],
-    ) -> Result<Lit, ElaborateFault> {
+    /// Begins a step.
+    fn begin(&mut self, forward: &Forward, witness: &[LocalLit]) -> Result<(), ElaborateFault> {
         self.queue.clear();
         self.reduced.clear();
         self.satisfied.clear();
@@ -78,7 +76,10 @@ impl WitnessLines {
         for (place, lit) in witness.iter().enumerate() {
             self.enter(*lit, place)?;
         }
-        self.fresh_lit(variables)
+        if self.fresh.is_none() {
+            self.fresh = forward.variables.fresh_lit();
+        }
+        Ok(())
     }
 
     /// A literal has this place in the witness.
@@ -95,12 +96,10 @@ impl WitnessLines {
         Ok(())
     }
 
-    /// The literal x: its variable is the one above the largest of the formula and the proof.
-    fn fresh_lit(&mut self, variables: &Variables) -> Result<Lit, ElaborateFault> {
-        if self.fresh.is_none() {
-            self.fresh = variables.fresh_lit();
-        }
-        self.fresh.ok_or(ElaborateFault::NoFreshVariable)
+    /// The literal x, or its negation, is the next one of a line.
+    fn push_fresh(&mut self, is_negated: bool) -> Result<(), ElaborateFault> {
+        let fresh = self.fresh.ok_or(ElaborateFault::NoFreshVariable)?;
+        self.queue.push_lit(if is_negated { !fresh } else { fresh })
     }
 
     /// The place of a literal in the witness.
@@ -131,27 +130,11 @@ impl WitnessLines {
         Ok(())
     }
 
-    /// The literals of a clause are the next ones of a line.
-    fn push_lits(
-        &mut self,
-        variables: &Variables,
-        lits: &[LocalLit],
-    ) -> Result<(), ElaborateFault> {
-        for lit in lits {
-            self.queue.push_lit(variables.named(*lit)?)?;
-        }
-        Ok(())
-    }
-
     /// The literals of a clause that the witness does not falsify are the next ones of a line.
-    fn push_rest(
-        &mut self,
-        variables: &Variables,
-        lits: &[LocalLit],
-    ) -> Result<(), ElaborateFault> {
+    fn push_rest(&mut self, forward: &Forward, lits: &[LocalLit]) -> Result<(), ElaborateFault> {
         for lit in lits {
             if self.place_of(!*lit).is_none() {
-                self.queue.push_lit(variables.named(*lit)?)?;
+                self.queue.push_lit(forward.variables.named(*lit)?)?;
             }
         }
         Ok(())
@@ -188,21 +171,20 @@ impl Lines {
     /// The lines of a clause that is redundant by a witness wait in the queue.
     pub(crate) fn read_witnessed(
         &mut self,
-        clauses: &Clauses,
-        variables: &Variables,
+        forward: &Forward,
         witness: &[LocalLit],
     ) -> Result<(), ElaborateFault> {
         let clause = self.record.clause.get().ok_or(ElaborateFault::Internal)?;
-        let fresh = self.by_witness.begin(variables, witness)?;
+        self.by_witness.begin(forward, witness)?;
         self.clause.clear();
-        self.read_clause(clauses, variables, clause)?;
-        self.tell_reduced(clauses, variables, fresh)?;
-        let freed = self.tell_freed(clauses, clause, fresh)?;
-        self.tell_satisfied(clauses, variables, fresh)?;
+        self.read_clause(forward, clause)?;
+        self.tell_reduced(forward)?;
+        let freed = self.tell_freed(forward, clause)?;
+        self.tell_satisfied(forward)?;
         self.delete_satisfied()?;
-        self.tell_literals(variables, witness, fresh)?;
+        self.tell_literals(forward, witness)?;
         self.tell_clause(clause, freed)?;
-        self.tell_satisfied_again(clauses, variables)?;
+        self.tell_satisfied_again(forward)?;
         self.read_dying()?;
         self.dying.push(freed)?;
         self.end_witness(witness)
@@ -216,27 +198,20 @@ impl Lines {
     }
 
     /// For each clause that is touched and not satisfied, x or what the witness leaves of it.
-    fn tell_reduced(
-        &mut self,
-        clauses: &Clauses,
-        variables: &Variables,
-        fresh: Lit,
-    ) -> Result<(), ElaborateFault> {
+    fn tell_reduced(&mut self, forward: &Forward) -> Result<(), ElaborateFault> {
         for place in 0..self.record.hints.len() {
-            let Some(hint) = self.record.hints.get(place).copied() else {
-                break;
-            };
+            let hint = self.hint(place)?;
             if !hint.is_against() {
                 continue;
             }
             let clause = hint.clause();
-            clauses.read(clause, &mut self.lits)?;
+            forward.propagator.clauses.read(clause, &mut self.lits)?;
             if self.by_witness.satisfied_at(&self.lits).is_some() {
                 self.by_witness.satisfied.push(Touched { clause, id: 0 })?;
                 continue;
             }
-            self.by_witness.queue.push_lit(fresh)?;
-            self.by_witness.push_rest(variables, &self.lits)?;
+            self.by_witness.push_fresh(false)?;
+            self.by_witness.push_rest(forward, &self.lits)?;
             let id = self.end_line()?;
             self.by_witness.reduced.push(Touched { clause, id })?;
             let own = id_in(&self.ids, clause)?;
@@ -246,20 +221,23 @@ impl Lines {
         Ok(())
     }
 
+    /// The hint of the record at a place.
+    fn hint(&self, place: usize) -> Result<PackedHint, ElaborateFault> {
+        let hint = self.record.hints.get(place).copied();
+        hint.ok_or(ElaborateFault::Internal)
+    }
+
     /// The clause or -x. The answer is its id.
     fn tell_freed(
         &mut self,
-        clauses: &Clauses,
+        forward: &Forward,
         clause: ClauseIndex,
-        fresh: Lit,
     ) -> Result<u64, ElaborateFault> {
-        self.by_witness.queue.push_lit(!fresh)?;
+        self.by_witness.push_fresh(true)?;
         self.push_clause()?;
         let mut reduced = 0;
         for place in 0..self.record.hints.len() {
-            let Some(hint) = self.record.hints.get(place).copied() else {
-                break;
-            };
+            let hint = self.hint(place)?;
             if !hint.is_against() {
                 let id = id_in(&self.ids, hint.clause())?;
                 self.by_witness.queue.push_hint(Hint::Along(id))?;
@@ -274,7 +252,7 @@ impl Lines {
             }
         }
         let id = self.end_line()?;
-        clauses.read(clause, &mut self.lits)?;
+        forward.propagator.clauses.read(clause, &mut self.lits)?;
         self.by_witness
             .hint_literals(&self.lits, &[Hint::Against(id)])?;
         Ok(id)
@@ -289,19 +267,10 @@ impl Lines {
     }
 
     /// Each clause that is satisfied, or -x.
-    fn tell_satisfied(
-        &mut self,
-        clauses: &Clauses,
-        variables: &Variables,
-        fresh: Lit,
-    ) -> Result<(), ElaborateFault> {
+    fn tell_satisfied(&mut self, forward: &Forward) -> Result<(), ElaborateFault> {
         for place in 0..self.by_witness.satisfied.len() {
-            let Some(touched) = self.by_witness.satisfied.get(place).copied() else {
-                break;
-            };
-            clauses.read(touched.clause, &mut self.lits)?;
-            self.by_witness.push_lits(variables, &self.lits)?;
-            self.by_witness.queue.push_lit(!fresh)?;
+            let touched = self.push_satisfied(forward, place)?;
+            self.by_witness.push_fresh(true)?;
             let own = id_in(&self.ids, touched.clause)?;
             self.by_witness.queue.push_hint(Hint::Along(own))?;
             let id = self.end_line()?;
@@ -312,6 +281,25 @@ impl Lines {
                 .hint_literals(&self.lits, &[Hint::Against(id)])?;
         }
         Ok(())
+    }
+
+    /// The literals of the satisfied clause at a place are the next ones of a line.
+    fn push_satisfied(
+        &mut self,
+        forward: &Forward,
+        place: usize,
+    ) -> Result<Touched, ElaborateFault> {
+        let touched = self.by_witness.satisfied.get(place).copied();
+        let touched = touched.ok_or(ElaborateFault::Internal)?;
+        forward
+            .propagator
+            .clauses
+            .read(touched.clause, &mut self.lits)?;
+        for lit in &self.lits {
+            let lit = forward.variables.named(*lit)?;
+            self.by_witness.queue.push_lit(lit)?;
+        }
+        Ok(touched)
     }
 
     /// The clauses that are satisfied go.
@@ -326,13 +314,14 @@ impl Lines {
     /// Each literal of the witness, or x.
     fn tell_literals(
         &mut self,
-        variables: &Variables,
+        forward: &Forward,
         witness: &[LocalLit],
-        fresh: Lit,
     ) -> Result<(), ElaborateFault> {
         for (place, lit) in witness.iter().enumerate() {
-            self.by_witness.queue.push_lit(variables.named(*lit)?)?;
-            self.by_witness.queue.push_lit(fresh)?;
+            self.by_witness
+                .queue
+                .push_lit(forward.variables.named(*lit)?)?;
+            self.by_witness.push_fresh(false)?;
             self.by_witness.push_literal_hints(place)?;
             let id = self.end_line()?;
             self.by_witness.literal_ids.push(id)?;
@@ -352,17 +341,9 @@ impl Lines {
     }
 
     /// The clauses that are satisfied follow again, under new ids.
-    fn tell_satisfied_again(
-        &mut self,
-        clauses: &Clauses,
-        variables: &Variables,
-    ) -> Result<(), ElaborateFault> {
+    fn tell_satisfied_again(&mut self, forward: &Forward) -> Result<(), ElaborateFault> {
         for place in 0..self.by_witness.satisfied.len() {
-            let Some(touched) = self.by_witness.satisfied.get(place).copied() else {
-                break;
-            };
-            clauses.read(touched.clause, &mut self.lits)?;
-            self.by_witness.push_lits(variables, &self.lits)?;
+            let touched = self.push_satisfied(forward, place)?;
             let place = self.by_witness.satisfied_at(&self.lits);
             let id = self.by_witness.literal_id(place)?;
             self.by_witness.queue.push_hint(Hint::Along(id))?;

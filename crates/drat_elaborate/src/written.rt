@@ -1,19 +1,12 @@
 //! The clauses as they were written, in bytes.
+use crate::byte_stack::{MORE, MOST_PIECES, PIECE, piece};
 use crate::clauses::narrow;
 use crate::fault::ElaborateFault;
 use crate::local::LocalLit;
 use std::alloc::{AllocError, Global};
 
-/// A number is in pieces of seven bits, the lowest first. All but the highest say that another one
-/// comes.
-const PIECE: u32 = 7;
-
-const MORE: u8 = 1 << 7;
-
-/// A number of 32 bits has at most this many pieces.
-const MOST_PIECES: u32 = 5;
-
-/// Of each clause the number of its literals, and their codes.
+/// Of each clause the number of its literals, and their codes. Of each number the lowest piece
+/// comes first, and all but the highest say that another one comes.
 #[derive(Drop)]
 pub(crate) struct Written {
     bytes: Vec<u8>,
@@ -43,36 +36,23 @@ impl Written {
             if rest < MORE as u32 {
                 break;
             }
-            self.bytes.push((rest & 0x7f) as u8 | MORE)?;
+            self.bytes.push(piece(rest) | MORE)?;
             rest >>= PIECE;
         }
-        self.bytes.push((rest & 0x7f) as u8)?;
+        self.bytes.push(piece(rest))?;
         Ok(())
     }
 
     /// Reads the literals at a place into a list.
     pub(crate) fn read(&self, place: u32, lits: &mut Vec<LocalLit>) -> Result<(), AllocError> {
         lits.clear();
-        let (count, mut rest) = take_number(self.bytes_from(place));
+        let (count, mut rest) = take_number(self.bytes.get(place as usize..).unwrap_or(&[]));
         for _ in 0..count {
             let (code, after) = take_number(rest);
             lits.push(LocalLit::from_code(code))?;
             rest = after;
         }
         Ok(())
-    }
-
-    /// The first literal at a place, if there is one.
-    pub(crate) fn first(&self, place: u32) -> Option<LocalLit> {
-        let (count, rest) = take_number(self.bytes_from(place));
-        if count == 0 {
-            return None;
-        }
-        Some(LocalLit::from_code(take_number(rest).0))
-    }
-
-    fn bytes_from(&self, place: u32) -> &[u8] {
-        self.bytes.get(place as usize..).unwrap_or(&[])
     }
 }
 
