@@ -1,7 +1,7 @@
 //! The backward pass: what the conflict needs is checked, the last step first.
 use crate::arena::Block;
 use crate::check::Check;
-use crate::clauses::{ClauseIndex, ClauseLink, Clauses, Use};
+use crate::clauses::{ClauseIndex, ClauseLink, Use};
 use crate::fault::ElaborateFault;
 use crate::hinted::GivenHints;
 use crate::local::LocalLit;
@@ -84,6 +84,7 @@ impl Backward {
         self.check = Check::new(self.alloc);
         self.given = GivenHints::new(self.alloc);
         self.occurrences = None;
+        self.lits = Vec::new(self.alloc);
     }
 
     /// Goes back over the last of the steps, which is taken off. Nothing where there is none.
@@ -191,13 +192,16 @@ impl Backward {
         propagator: &mut Propagator,
         clause: ClauseIndex,
     ) -> Result<bool, ElaborateFault> {
-        let lit_count = propagator.trail.lit_count();
-        self.collect(&propagator.clauses, clause, lit_count)?;
         propagator.clauses.read(clause, &mut self.lits)?;
         let Some(pivot) = self.lits.get(..1) else {
             return Ok(false);
         };
         let witness = self.witnesses.of(clause).unwrap_or(pivot);
+        // The first such clause comes behind the others: what is collected for it serves them too.
+        if self.occurrences.is_none() {
+            let (clauses, lit_count) = (&propagator.clauses, propagator.trail.lit_count());
+            self.occurrences = Some(Occurrences::collect(self.alloc, clauses, clause, lit_count)?);
+        }
         match &self.occurrences {
             Some(occurrences) => is_redundant(
                 self.alloc,
@@ -209,19 +213,6 @@ impl Backward {
             ),
             None => Err(ElaborateFault::Internal),
         }
-    }
-
-    /// The occurrences in the clauses before one, where none were collected before.
-    fn collect(
-        &mut self,
-        clauses: &Clauses,
-        clause: ClauseIndex,
-        lit_count: usize,
-    ) -> Result<(), ElaborateFault> {
-        if self.occurrences.is_none() {
-            self.occurrences = Some(Occurrences::collect(self.alloc, clauses, clause, lit_count)?);
-        }
-        Ok(())
     }
 
     /// Keeps what the check found.

@@ -48,9 +48,9 @@ pub(crate) fn sweep_list(
     falsified: LocalLit,
     end: usize,
 ) -> Result<Sweep, ElaborateFault> {
-    let (words, lists) = (arena.words_mut(), watches.all());
+    let (words, values, lists) = (arena.words_mut(), trail.values(), watches.all());
     for at in (0..end.min(len_of(lists, falsified))).rev() {
-        match visit(words, trail.values(), lists, falsified, at)? {
+        match visit(words, values, lists, falsified, at)? {
             Visited::Open => {}
             Visited::Unit(lit, block) => {
                 return Ok(Sweep::Unit {
