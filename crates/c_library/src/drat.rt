@@ -5,13 +5,13 @@ ghost use Rattle.piece_runs.specs.Texts.{OfFormula};
 ghost use Rattle.drat_check.specs.Runs.{IsCheckRun};
 ghost use Rattle.c_library.specs.DratCalls.{PlacesCore, PlacesLrat, format_of};
 ghost use Rattle.c_library.specs.Rooms.{IsNothing, IsPlaced};
-ghost use Rattle.c_library.specs.Statuses.{drat_status, elaborated_status, proof_status, steps_status, text_status};
+ghost use Rattle.c_library.specs.Statuses.{drat_status};
 ghost use Rattle.drat_check.specs.declared.fault.RunFault.{RunFault};
 ghost use Rattle.verdicts.specs.declared.verdict.Verdict.{Verdict};
 ghost use Rattle.verdicts.specs.declared.verdict.Verdict.TheVariants.{Verified};
 
 use crate::room::{Placed, place_fault, place_nothing, place_wanted};
-use crate::status::{FAULT, NOT_RUN, OUT_OF_MEMORY, of_formula};
+use crate::status::{FAULT, NOT_RUN, OUT_OF_MEMORY};
 use drat_check::{
     LineForm, Outputs, ProofFault, ProofFormat, RunFault, Verdict, exit_status, run_check,
 };
@@ -19,6 +19,7 @@ use drat_elaborate::ElaborateFault;
 use drat_text::DratFault;
 use log::sink::Discard;
 use lrat_text::LratTextFault;
+use sat_formula::DimacsFault;
 use std::alloc::Global;
 use std::cell::Cell;
 use std::io::sink;
@@ -83,24 +84,16 @@ pub extern "C" fn cefindrato_drat_check(
     let Some(format) = format_of(options.format) else {
         return unproved(NOT_RUN, lrat, core, place_nothing(text));
     };
-    let mut outputs = Outputs {
+    let outputs = &mut Outputs {
         lrat: output(alloc, options.lrat),
         form: LineForm::Text,
         trim: None,
         core: output(alloc, options.core),
         counts: Cell::default(),
     };
-    let outcome = run_check(
-        &Discard,
-        alloc,
-        cnf,
-        proof,
-        format,
-        &mut outputs,
-        &mut sink(),
-        &mut None,
-    );
-    answer_to(alloc, &outcome, options, &outputs, lrat, core, text)
+    let (out, lie) = (&mut sink(), &mut None);
+    let outcome = run_check(&Discard, alloc, cnf, proof, format, outputs, out, lie);
+    answer_to(alloc, &outcome, options, outputs, lrat, core, text)
 }
 
 /// What is answered to a run, and put into the rooms.
@@ -178,52 +171,18 @@ fn status(outcome: &Result<Verdict, RunFault>) -> u8
 {
     match outcome {
         Ok(_) => exit_status(outcome),
-        Err(RunFault::Formula(fault)) => of_formula(fault),
-        Err(RunFault::Proof(fault)) => of_proof(fault),
-        Err(RunFault::Lrat(_) | RunFault::Trim(_) | RunFault::Core(_)) => OUT_OF_MEMORY,
-        Err(RunFault::Write(_)) => FAULT,
-    }
-}
-
-/// The status of a proof's fault.
-fn of_proof(fault: &ProofFault) -> u8
-    ensures { result ≡ proof_status fault.now }
-{
-    match fault {
-        ProofFault::Unread(fault) => of_steps(fault),
-        ProofFault::UnreadLine(fault) => of_text(fault),
-        ProofFault::Refused(fault) => of_elaborated(fault),
-        ProofFault::Internal { .. } | ProofFault::Unfinished => FAULT,
-        ProofFault::OutOfMemory => OUT_OF_MEMORY,
-    }
-}
-
-/// The status of a proof that is not read.
-fn of_steps(fault: &DratFault) -> u8
-    ensures { result ≡ steps_status fault.now }
-{
-    match fault {
-        DratFault::OutOfMemory => OUT_OF_MEMORY,
-        _ => FAULT,
-    }
-}
-
-/// The status of lines that are not read.
-fn of_text(fault: &LratTextFault) -> u8
-    ensures { result ≡ text_status fault.now }
-{
-    match fault {
-        LratTextFault::OutOfMemory => OUT_OF_MEMORY,
-        _ => FAULT,
-    }
-}
-
-/// The status of a proof that is not elaborated.
-fn of_elaborated(fault: &ElaborateFault) -> u8
-    ensures { result ≡ elaborated_status fault.now }
-{
-    match fault {
-        ElaborateFault::OutOfMemory => OUT_OF_MEMORY,
-        _ => FAULT,
+        Err(
+            RunFault::Formula(DimacsFault::OutOfMemory)
+            | RunFault::Proof(
+                ProofFault::Unread(DratFault::OutOfMemory)
+                | ProofFault::UnreadLine(LratTextFault::OutOfMemory)
+                | ProofFault::Refused(ElaborateFault::OutOfMemory)
+                | ProofFault::OutOfMemory,
+            )
+            | RunFault::Lrat(_)
+            | RunFault::Trim(_)
+            | RunFault::Core(_),
+        ) => OUT_OF_MEMORY,
+        Err(_) => FAULT,
     }
 }

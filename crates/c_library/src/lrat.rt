@@ -3,14 +3,15 @@ ghost use Rattle.std.specs.Prelude.{◌≡◌, ℕ, IfOk, List, None, Result, So
 ghost use Rattle.sat_formula.specs.Refuted.{IsRefuted};
 ghost use Rattle.lrat_check.specs.Runs.{IsCheckRun};
 ghost use Rattle.c_library.specs.Rooms.{IsNothing, IsPlaced};
-ghost use Rattle.c_library.specs.Statuses.{lines_status, lrat_status};
+ghost use Rattle.c_library.specs.Statuses.{lrat_status};
 ghost use Rattle.lrat_check.specs.declared.fault.RunFault.{RunFault};
 ghost use Rattle.verdicts.specs.declared.verdict.Verdict.{Verdict};
 
-use crate::room::{Placed, place_fault, place_nothing};
-use crate::status::{FAULT, OUT_OF_MEMORY, of_formula};
+use crate::room::{Placed, place_text};
+use crate::status::{FAULT, OUT_OF_MEMORY};
 use lrat_check::{RunFault, Verdict, exit_status, run_check};
 use lrat_checker::LratFault;
+use sat_formula::DimacsFault;
 use std::alloc::Global;
 use std::io::sink;
 
@@ -42,21 +43,9 @@ pub extern "C" fn cefindrato_lrat_check(
     ensures text { (said : List ℕ) × IsPlaced said text.old text.new result.text }
 {
     let outcome = run_check(alloc, cnf, proof, None, &mut sink(), &mut None);
-    answer_to(alloc, &outcome, text)
-}
-
-/// What is answered to a run, and put into the room.
-fn answer_to(alloc: Global, outcome: &Result<Verdict, RunFault>, text: &mut [u8]) -> LratAnswer
-    ensures status { result.status ≡ lrat_status outcome.now }
-    ensures silent { IfOk outcome.now (λ verdict. IsNothing text.old text.new result.text) }
-    ensures text { (said : List ℕ) × IsPlaced said text.old text.new result.text }
-{
     LratAnswer {
-        status: status(outcome),
-        text: match outcome {
-            Ok(_) => place_nothing(text),
-            Err(fault) => place_fault(alloc, fault, text),
-        },
+        status: status(&outcome),
+        text: place_text(alloc, &outcome, text),
     }
 }
 
@@ -66,18 +55,9 @@ fn status(outcome: &Result<Verdict, RunFault>) -> u8
 {
     match outcome {
         Ok(_) => exit_status(outcome),
-        Err(RunFault::Formula(fault)) => of_formula(fault),
-        Err(RunFault::Proof(fault)) => of_lines(fault),
-        Err(RunFault::Write(_)) => FAULT,
-    }
-}
-
-/// The status of a fault of lines.
-fn of_lines(fault: &LratFault) -> u8
-    ensures { result ≡ lines_status fault.now }
-{
-    match fault {
-        LratFault::OutOfMemory => OUT_OF_MEMORY,
-        _ => FAULT,
+        Err(
+            RunFault::Formula(DimacsFault::OutOfMemory) | RunFault::Proof(LratFault::OutOfMemory),
+        ) => OUT_OF_MEMORY,
+        Err(_) => FAULT,
     }
 }

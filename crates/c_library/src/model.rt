@@ -4,14 +4,15 @@ ghost use Rattle.model_check.specs.Models.{IsSatisfiedBy};
 ghost use Rattle.model_check.specs.Runs.{IsCheckRun};
 ghost use Rattle.c_library.specs.ModelCalls.{clause_of, line_of};
 ghost use Rattle.c_library.specs.Rooms.{IsNothing, IsPlaced};
-ghost use Rattle.c_library.specs.Statuses.{answer_status, model_status};
+ghost use Rattle.c_library.specs.Statuses.{model_status};
 ghost use Rattle.model_check.specs.declared.fault.RunFault.{RunFault};
 ghost use Rattle.model_check.specs.declared.verdict.Verdict.{Verdict};
 
-use crate::room::{Placed, place_fault, place_nothing};
-use crate::status::{FAULT, OUT_OF_MEMORY, of_formula};
+use crate::room::{Placed, place_text};
+use crate::status::{FAULT, OUT_OF_MEMORY};
 use answer_text::AnswerFault;
 use model_check::{RunFault, Verdict, exit_status, run_check};
+use sat_formula::DimacsFault;
 use std::alloc::Global;
 use std::io::sink;
 
@@ -49,24 +50,10 @@ pub extern "C" fn cefindrato_model_check(
     ensures text { (said : List ℕ) × IsPlaced said text.old text.new result.text }
 {
     let outcome = run_check(alloc, cnf, answer, &mut sink(), &mut None);
-    answer_to(alloc, &outcome, text)
-}
-
-/// What is answered to a run, and put into the room.
-fn answer_to(alloc: Global, outcome: &Result<Verdict, RunFault>, text: &mut [u8]) -> ModelAnswer
-    ensures status { result.status ≡ model_status outcome.now }
-    ensures clause { result.clause ≡ clause_of outcome.now }
-    ensures line { result.line ≡ line_of outcome.now }
-    ensures silent { IfOk outcome.now (λ verdict. IsNothing text.old text.new result.text) }
-    ensures text { (said : List ℕ) × IsPlaced said text.old text.new result.text }
-{
-    let (clause, line) = unmet(outcome);
+    let (clause, line) = unmet(&outcome);
     ModelAnswer {
-        status: status(outcome),
-        text: match outcome {
-            Ok(_) => place_nothing(text),
-            Err(fault) => place_fault(alloc, fault, text),
-        },
+        status: status(&outcome),
+        text: place_text(alloc, &outcome, text),
         clause,
         line,
     }
@@ -89,18 +76,10 @@ fn status(outcome: &Result<Verdict, RunFault>) -> u8
 {
     match outcome {
         Ok(_) => exit_status(outcome),
-        Err(RunFault::Answer(fault)) => of_answer(fault),
-        Err(RunFault::Formula(fault)) => of_formula(fault),
-        Err(RunFault::Cut(_) | RunFault::Write(_)) => FAULT,
-    }
-}
-
-/// The status of an answer's fault.
-fn of_answer(fault: &AnswerFault) -> u8
-    ensures { result ≡ answer_status fault.now }
-{
-    match fault {
-        AnswerFault::OutOfMemory => OUT_OF_MEMORY,
-        _ => FAULT,
+        Err(
+            RunFault::Answer(AnswerFault::OutOfMemory)
+            | RunFault::Formula(DimacsFault::OutOfMemory),
+        ) => OUT_OF_MEMORY,
+        Err(_) => FAULT,
     }
 }

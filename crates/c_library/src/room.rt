@@ -1,5 +1,5 @@
 //! Texts that are put into the rooms of a caller.
-ghost use Rattle.std.specs.Prelude.{◌≡◌, ℕ, true, false, IfSome, List, []};
+ghost use Rattle.std.specs.Prelude.{◌≡◌, ℕ, true, false, IfOk, IfSome, List, []};
 ghost use Rattle.c_library.specs.Rooms.{IsNothing, IsPlaced};
 
 use std::alloc::Global;
@@ -33,6 +33,21 @@ pub(crate) fn place_nothing(room: &mut [u8]) -> Placed
     ensures empty { IsPlaced [] room.old room.new result }
 {
     place(b"", room)
+}
+
+/// Puts the text of a run's fault, and nothing beside a verdict.
+pub(crate) fn place_text<V, F: Display>(
+    alloc: Global,
+    outcome: &Result<V, F>,
+    room: &mut [u8],
+) -> Placed
+    ensures silent { IfOk outcome.now (λ verdict. IsNothing room.old room.new result) }
+    ensures text { (said : List ℕ) × IsPlaced said room.old room.new result }
+{
+    match outcome {
+        Ok(_) => place_nothing(room),
+        Err(fault) => place_fault(alloc, fault, room),
+    }
 }
 
 /// Puts the text of a fault, or that there was no memory for it.
