@@ -13,7 +13,8 @@ use Rattle.drat_elaborate.specs.declared.fault.ElaborateFault.{ElaborateFault}
 use Rattle.drat_elaborate.specs.declared.fault.ElaborateFault.TheVariants as elaborated
 use Rattle.answer_text.specs.declared.fault.AnswerFault.{AnswerFault}
 use Rattle.answer_text.specs.declared.fault.AnswerFault.TheVariants as answers
-use Rattle.verdicts.specs.Verdicts.{status_of}
+use Rattle.verdicts.specs.Statuses.{status_of}
+use Rattle.verdicts.specs.Verdicts.{shows_unsat}
 use Rattle.verdicts.specs.declared.verdict.Verdict.{Verdict}
 use Rattle.lrat_check.specs.declared.fault.RunFault as lrat
 use Rattle.lrat_check.specs.declared.fault.RunFault.TheVariants as lrat_fault
@@ -21,7 +22,7 @@ use Rattle.drat_check.specs.declared.fault.ProofFault.{ProofFault}
 use Rattle.drat_check.specs.declared.fault.ProofFault.TheVariants as proofs
 use Rattle.drat_check.specs.declared.fault.RunFault as drat
 use Rattle.drat_check.specs.declared.fault.RunFault.TheVariants as drat_fault
-use Rattle.model_check.specs.Verdicts as models
+use Rattle.model_check.specs.Verdicts.{shows_sat}
 use Rattle.model_check.specs.declared.fault.RunFault as model
 use Rattle.model_check.specs.declared.fault.RunFault.TheVariants as model_fault
 use Rattle.model_check.specs.declared.verdict.Verdict as model_verdict
@@ -42,7 +43,7 @@ lines_status lines.Failed = 1
 
 -- the line of the verdict is written into nothing, which needs no memory
 abbrev pub lrat_status : Result Verdict lrat.RunFault → ℕ
-lrat_status (Ok verdict) = status_of {E = lrat.RunFault} (Ok verdict)
+lrat_status (Ok verdict) = status_of {E = lrat.RunFault} shows_unsat (Ok verdict)
 lrat_status (Err (lrat_fault.Formula fault)) = formula_status fault
 lrat_status (Err (lrat_fault.Proof fault)) = lines_status fault
 lrat_status (Err (lrat_fault.Write cause)) = 1
@@ -80,7 +81,7 @@ proof_status proofs.OutOfMemory = 4
 
 -- the lines and the core are written into memory, where nothing but memory can be wanting
 abbrev pub drat_status : Result Verdict drat.RunFault → ℕ
-drat_status (Ok verdict) = status_of {E = drat.RunFault} (Ok verdict)
+drat_status (Ok verdict) = status_of {E = drat.RunFault} shows_unsat (Ok verdict)
 drat_status (Err (drat_fault.Formula fault)) = formula_status fault
 drat_status (Err (drat_fault.Proof fault)) = proof_status fault
 drat_status (Err (drat_fault.Lrat cause)) = 4
@@ -96,7 +97,7 @@ answer_status (answers.Wrong line kind) = 1
 answer_status answers.OutOfMemory = 4
 
 abbrev pub model_status : Result model_verdict.Verdict model.RunFault → ℕ
-model_status (Ok verdict) = models.status_of (Ok verdict)
+model_status (Ok verdict) = status_of {E = model.RunFault} shows_sat (Ok verdict)
 model_status (Err (model_fault.Answer fault)) = answer_status fault
 model_status (Err (model_fault.Formula fault)) = formula_status fault
 model_status (Err (model_fault.Cut cut)) = 1

@@ -27,4 +27,4 @@ pub use piece_runs::MissingClause;
 pub use reader::ProofFormat;
 pub use run::{run_check, run_proof};
 pub use sat_output::LineForm;
-pub use verdicts::{PieceVerdict, Verdict, exit_status, piece_status};
+pub use verdicts::{PieceVerdict, Verdict, exit_status};

@@ -6,7 +6,7 @@ use command::{
     Call, Cost, FaultPlace, InputNames, NOT_RUN, OutputAfterFiles, WrittenFiles, hold_file,
     open_file, open_inputs, progress_of, say_fault, say_missing, warn_of_header,
 };
-use drat_check::{PieceOutputs, ProofFormat, piece_status, run_piece};
+use drat_check::{PieceOutputs, ProofFormat, exit_status, run_piece};
 
 /// Checks a piece of a proof. All files are open before anything is read, and both formulas are
 /// read whole.
@@ -61,5 +61,5 @@ pub(crate) fn check_piece<'a>(
     if call.has("--stats") && !outcome.as_ref().is_err_and(is_unread) {
         say_stats(rt, outputs.counts.get(), cost);
     }
-    Ok(piece_status(&outcome))
+    Ok(exit_status(&outcome))
 }

@@ -1,6 +1,6 @@
 //! Runs over a piece of a proof: their lines, faults and statuses, which wanted clause is missing,
 //! the lines of the LRAT proof, and the core.
-use drat_check::{LineForm, PieceOutputs, ProofFormat, piece_status, run_piece};
+use drat_check::{LineForm, PieceOutputs, ProofFormat, exit_status, run_piece};
 use log::sink::Discard;
 use std::alloc::Global;
 use std::cell::Cell;
@@ -106,7 +106,7 @@ fn ran(
         outputs,
         &mut page,
     );
-    Ended::of(alloc, page, &answer, piece_status(&answer))
+    Ended::of(alloc, page, &answer, exit_status(&answer))
 }
 
 fn outputs_to(lrat: Option<Page>, core: Option<Page>) -> PieceOutputs<Page, Page> {

@@ -16,4 +16,4 @@ pub use piece::{PieceTold, run_piece};
 pub use piece_fault::PieceFault;
 pub use piece_runs::MissingClause;
 pub use run::{run_check, run_proof};
-pub use verdicts::{PieceVerdict, Verdict, exit_status, piece_status};
+pub use verdicts::{PieceVerdict, Verdict, exit_status};

@@ -5,7 +5,7 @@ use command::{
     Call, Cost, FaultPlace, InputNames, NOT_RUN, hold_file, open_file, open_inputs, progress_of,
     say_fault, say_missing, warn_of_header,
 };
-use lrat_check::{Ids, PieceFault, PieceTold, RunFault, piece_status, run_piece};
+use lrat_check::{Ids, PieceFault, PieceTold, RunFault, exit_status, run_piece};
 use sat_formula::DimacsFault;
 use std::io;
 
@@ -42,7 +42,7 @@ pub(crate) fn check_piece(
     if call.has("--stats") && !outcome.as_ref().is_err_and(is_unread) {
         cost.say(rt);
     }
-    Ok(piece_status(&outcome))
+    Ok(exit_status(&outcome))
 }
 
 fn unread_wanted(fault: io::Error) -> PieceFault {

@@ -2,6 +2,6 @@ pub mod Widths
 pub mod Holding
 pub mod Converting
 pub mod Faults
-pub mod Statuses
+pub mod Conversions
 pub mod Standing
 pub mod Runs

@@ -24,12 +24,12 @@ use Rattle.proof_bytes.specs.Texts.{AreSteps}
 use Rattle.proof_bytes.specs.Version2.{text_2}
 use Rattle.lrat_to_proof.specs.Converting.{Converted, begun, next, run, whole}
 use Rattle.lrat_to_proof.specs.Standing.{HasBegun, HasConverted}
-use Rattle.lrat_to_proof.specs.Statuses.{conversion_of}
+use Rattle.lrat_to_proof.specs.Conversions.{conversion_of}
 use Rattle.lrat_to_proof.specs.declared.converter.Converter.{Converter}
 use Rattle.lrat_to_proof.specs.declared.fault.ConvertFault.{ConvertFault}
 use Rattle.lrat_to_proof.specs.declared.fault.ConvertFault.TheVariants.{Formula, OutOfMemory, Read, Refused, Unread, Write}
 use Rattle.lrat_to_proof.specs.declared.fault.LineCause.{LineCause}
-use Rattle.lrat_to_proof.specs.declared.status.Conversion.{Conversion}
+use Rattle.lrat_to_proof.specs.declared.conversion.Conversion.{Conversion}
 
 -- the lines of a proof after a formula of n clauses
 abbrev pub proof_says : Option Ids → ℕ → List ℕ → Outcome

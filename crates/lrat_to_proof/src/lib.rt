@@ -3,17 +3,18 @@
 #![tactic(auto)]
 
 mod clause;
+mod conversion;
 mod converter;
 mod fault;
 mod hints;
 mod holding;
 mod run;
-mod status;
 mod steps;
 mod width;
 
+pub use conversion::Conversion;
 pub use fault::{ConvertFault, LineCause};
 pub use lrat_binary::Ids;
 pub use run::{convert, convert_proof};
-pub use status::{Conversion, exit_status};
+pub use verdicts::exit_status;
 pub use width::HashWidth;

@@ -7,9 +7,9 @@ ghost use Rattle.lrat_to_proof.specs.Runs.{ConvertsLines, IsProofRun, IsRun, Run
 ghost use Rattle.lrat_to_proof.specs.Standing.{HasConverted};
 ghost use Rattle.lrat_to_proof.specs.Widths.{bits_of};
 
+use crate::conversion::Conversion;
 use crate::converter::Converter;
 use crate::fault::ConvertFault;
-use crate::status::Conversion;
 use crate::width::HashWidth;
 use lrat_binary::{Ids, LratReader, open_proof};
 use sat_formula::{CnfFormula, LyingHeader};

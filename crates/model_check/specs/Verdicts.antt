@@ -1,8 +1,8 @@
--- Verdicts on a set of literals and a formula, their lines and their exit statuses.
+-- Verdicts on a set of literals and a formula, and their lines.
 --     IsVerdict listed formula lines v      this is so of the set and the formula, whose clauses end on these lines
 --     IsJudged text listed v cut      the text is a formula, this is so of it, and this is missing of it
 --     FailsText text fault      the text is none
-use Rattle.std.specs.Prelude.{◌≡◌, ℕ, ◌+◌, Bool, true, false, List, ◌∷◌, ◌++◌, length, Option, Result, Ok, Err, codes}
+use Rattle.std.specs.Prelude.{◌≡◌, ℕ, ◌+◌, Bool, true, false, List, ◌∷◌, ◌++◌, length, Option, codes}
 use Rattle.std.specs.Option.{option_map}
 use Rattle.sat_formula.specs.declared.fault.DimacsFault.{DimacsFault}
 use Rattle.sat_formula.specs.Outcome as dimacs
@@ -11,7 +11,6 @@ use Rattle.sat_formula.specs.Notes.{Notes, notes_of}
 use Rattle.sat_formula.specs.Noting.{IsNotes}
 use Rattle.sat_formula.specs.Whole as dimacs_text
 use Rattle.answer_text.specs.Literals.{is_met, all_met}
-use Rattle.model_check.specs.declared.fault.RunFault.{RunFault}
 use Rattle.model_check.specs.Wholeness.{cut_of}
 use Rattle.model_check.specs.declared.whole.CutFormula.{CutFormula}
 use Rattle.model_check.specs.declared.verdict.Verdict.{Verdict}
@@ -22,11 +21,10 @@ abbrev pub shown_line : Verdict → List ℕ
 shown_line Verified = codes "s VERIFIED SAT\n"
 shown_line (NotVerified clause line) = codes "s NOT VERIFIED\n"
 
--- 0 where the literals satisfy the formula, 3 where they do not, 1 where there is no verdict
-abbrev pub status_of : Result Verdict RunFault → ℕ
-status_of (Ok Verified) = 0
-status_of (Ok (NotVerified clause line)) = 3
-status_of (Err fault) = 1
+-- the literals satisfy the formula
+abbrev pub shows_sat : Verdict → Bool
+shows_sat Verified = true
+shows_sat (NotVerified clause line) = false
 
 -- the clause of this number, counted from 1, is the first one that has no literal of the set
 pub record IsFirstUnmet (listed : ℕ → Bool) (formula : List (List ℕ)) (number : ℕ) : Type 0 where

@@ -11,5 +11,6 @@ mod whole;
 pub use fault::RunFault;
 pub use laws::met_clauses_are_satisfied;
 pub use run::run_check;
-pub use verdict::{Verdict, exit_status};
+pub use verdict::Verdict;
+pub use verdicts::exit_status;
 pub use whole::CutFormula;

@@ -1,8 +1,8 @@
 //! Verdicts and their lines.
 ghost use Rattle.std.specs.Prelude.{◌≡◌};
-ghost use Rattle.model_check.specs.Verdicts.{shown_line, status_of};
+ghost use Rattle.model_check.specs.Verdicts.{shown_line, shows_sat};
 
-use crate::fault::RunFault;
+use verdicts::Claims;
 
 /// What the literals of an answer are to a formula.
 #[derive(Clone, Copy, Debug, PartialEq, Eq)]
@@ -26,14 +26,11 @@ impl Verdict {
     }
 }
 
-/// The exit status of a program that made this run: 0 says that the literals of the answer satisfy
-/// the formula.
-pub fn exit_status(outcome: &Result<Verdict, RunFault>) -> u8
-    ensures { result ≡ status_of outcome.now }
-{
-    match outcome {
-        Ok(Verdict::Verified) => 0,
-        Ok(Verdict::NotVerified { .. }) => 3,
-        Err(_) => 1,
+/// An answer is asked for literals that satisfy the formula.
+impl Claims for Verdict {
+    ghost claimed = { shows_sat };
+
+    fn claims(&self) -> bool {
+        matches!(self, Verdict::Verified)
     }
 }

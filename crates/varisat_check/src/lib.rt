@@ -6,12 +6,11 @@ pub mod formula;
 mod line;
 pub mod lrat;
 pub mod run;
-pub mod status;
 pub mod verdict;
 
 pub use fault::RunFault;
 pub use formula::read_formula;
 pub use lrat::run_lrat;
 pub use run::{run_check, run_proof};
-pub use status::exit_status;
 pub use verdict::Verdict;
+pub use verdicts::exit_status;

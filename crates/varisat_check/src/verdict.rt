@@ -1,8 +1,9 @@
 //! Verdicts and their lines.
 ghost use Rattle.std.specs.Prelude.{Some};
-ghost use Rattle.varisat_check.specs.Verdicts.{line_of};
+ghost use Rattle.varisat_check.specs.Verdicts.{line_of, shows_unsat};
 
 use std::fmt;
+use verdicts::Claims;
 
 /// What a proof that was accepted up to its end has shown.
 #[derive(Clone, Copy, Debug, PartialEq, Eq)]
@@ -14,6 +15,15 @@ pub enum Verdict {
     UnsatisfiableWithAdded(u64),
     /// Unsatisfiability is not recorded. The formula may be satisfiable or not.
     NotShown,
+}
+
+/// A proof is asked for the formula's unsatisfiability.
+impl Claims for Verdict {
+    ghost claimed = { shows_unsat };
+
+    fn claims(&self) -> bool {
+        matches!(self, Verdict::Unsatisfiable)
+    }
 }
 
 /// Writes the verdict's line, without a line feed.

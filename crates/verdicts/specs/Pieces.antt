@@ -1,5 +1,5 @@
--- Verdicts on a piece of a proof, their lines and their exit statuses.
-use Rattle.std.specs.Prelude.{ℕ, List, [], ◌∷◌, ◌++◌, Result, Ok, Err, codes}
+-- Verdicts on a piece of a proof, their lines.
+use Rattle.std.specs.Prelude.{ℕ, Bool, true, false, List, [], ◌∷◌, ◌++◌, codes}
 use Rattle.verdicts.specs.Verdicts.{shown_line}
 use Rattle.verdicts.specs.declared.verdict.Verdict.TheVariants.{Verified, NotVerified}
 use Rattle.verdicts.specs.declared.piece.PieceVerdict.{PieceVerdict}
@@ -11,9 +11,8 @@ piece_line Refuted = shown_line Verified
 piece_line Carried = codes "s VERIFIED PIECE" ++ 10 ∷ []
 piece_line NotCarried = shown_line NotVerified
 
--- 0 where the line claims something, 3 where a clause is missing, 1 where there is no verdict
-abbrev pub piece_status_of : {E : Type 0} → Result PieceVerdict E → ℕ
-piece_status_of (Ok Refuted) = 0
-piece_status_of (Ok Carried) = 0
-piece_status_of (Ok NotCarried) = 3
-piece_status_of (Err fault) = 1
+-- no clause that is wanted is missing
+abbrev pub shows_wanted : PieceVerdict → Bool
+shows_wanted Refuted = true
+shows_wanted Carried = true
+shows_wanted NotCarried = false

@@ -1,5 +1,5 @@
--- Verdicts, their lines and their exit statuses.
-use Rattle.std.specs.Prelude.{ℕ, Bool, true, false, List, [], ◌∷◌, ◌++◌, Result, Ok, Err, codes}
+-- Verdicts and their lines.
+use Rattle.std.specs.Prelude.{ℕ, Bool, true, false, List, [], ◌∷◌, ◌++◌, codes}
 use Rattle.verdicts.specs.declared.verdict.Verdict.{Verdict}
 use Rattle.verdicts.specs.declared.verdict.Verdict.TheVariants.{Verified, NotVerified}
 
@@ -17,8 +17,7 @@ abbrev pub verdict_of : Bool → Verdict
 verdict_of true = Verified
 verdict_of false = NotVerified
 
--- 0 where no assignment satisfies the formula, 3 where that is not shown, 1 where there is no verdict
-abbrev pub status_of : {E : Type 0} → Result Verdict E → ℕ
-status_of (Ok Verified) = 0
-status_of (Ok NotVerified) = 3
-status_of (Err fault) = 1
+-- no assignment satisfies the formula
+abbrev pub shows_unsat : Verdict → Bool
+shows_unsat Verified = true
+shows_unsat NotVerified = false

@@ -8,6 +8,6 @@ mod status;
 mod verdict;
 
 pub use line::{write_line, write_piece_line};
-pub use piece::{PieceVerdict, piece_status};
-pub use status::exit_status;
+pub use piece::PieceVerdict;
+pub use status::{Claims, exit_status};
 pub use verdict::Verdict;

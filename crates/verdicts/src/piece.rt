@@ -1,7 +1,8 @@
-//! Verdicts on a piece of a proof, their lines and their exit statuses.
+//! Verdicts on a piece of a proof, and their lines.
 ghost use Rattle.std.specs.Prelude.{◌≡◌};
-ghost use Rattle.verdicts.specs.Pieces.{piece_line, piece_status_of};
+ghost use Rattle.verdicts.specs.Pieces.{piece_line, shows_wanted};
 
+use crate::status::Claims;
 use crate::verdict::Verdict;
 
 /// What a piece of a proof, whose lines were all accepted, has shown of its formula.
@@ -29,13 +30,11 @@ impl PieceVerdict {
     }
 }
 
-/// The exit status of a program that made this run: 0 says that the line claims something.
-pub fn piece_status<E>(outcome: &Result<PieceVerdict, E>) -> u8
-    ensures { result ≡ piece_status_of outcome.now }
-{
-    match outcome {
-        Ok(PieceVerdict::Refuted | PieceVerdict::Carried) => 0,
-        Ok(PieceVerdict::NotCarried) => 3,
-        Err(_) => 1,
+/// A piece is asked for the clauses that are wanted behind it.
+impl Claims for PieceVerdict {
+    ghost claimed = { shows_wanted };
+
+    fn claims(&self) -> bool {
+        matches!(self, PieceVerdict::Refuted | PieceVerdict::Carried)
     }
 }

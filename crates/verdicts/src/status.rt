@@ -1,17 +1,27 @@
 //! Exit statuses.
 ghost use Rattle.std.specs.Prelude.{◌≡◌};
-ghost use Rattle.verdicts.specs.Verdicts.{status_of};
+ghost use Rattle.verdicts.specs.Statuses.{status_of};
 
-use crate::verdict::Verdict;
+/// What a run that was not refused has come to.
+pub trait Claims: Drop {
+    ghost use Rattle.std.specs.Prelude.{◌≡◌, Bool};
 
-/// The exit status of a program that made this run: 0 says that no assignment satisfies the
-/// formula.
-pub fn exit_status<E>(outcome: &Result<Verdict, E>) -> u8
-    ensures { result ≡ status_of outcome.now }
+    /// Whether that is what the program is asked to show.
+    ghost claimed: { Self → Bool };
+
+    /// Whether that is what the program is asked to show.
+    fn claims(&self) -> bool
+        ensures { result ≡ claimed self.now };
+}
+
+/// The exit status of a program that made this run: 0 says that it has come to what the program is
+/// asked to show, 3 that it has not, 1 that it was refused.
+pub fn exit_status<V: Claims, E>(outcome: &Result<V, E>) -> u8
+    ensures { result ≡ status_of V.claimed outcome.now }
 {
     match outcome {
-        Ok(Verdict::Verified) => 0,
-        Ok(Verdict::NotVerified) => 3,
+        Ok(verdict) if verdict.claims() => 0,
+        Ok(_) => 3,
         Err(_) => 1,
     }
 }

@@ -1,7 +1,8 @@
 //! Verdicts and their lines.
 ghost use Rattle.std.specs.Prelude.{◌≡◌, Some};
-ghost use Rattle.verdicts.specs.Verdicts.{line_of, shown_line, verdict_of};
+ghost use Rattle.verdicts.specs.Verdicts.{line_of, shown_line, shows_unsat, verdict_of};
 
+use crate::status::Claims;
 use std::fmt;
 
 /// What a proof whose lines were all accepted has shown of its formula.
@@ -33,6 +34,15 @@ impl Verdict {
             Verdict::Verified => b"s VERIFIED UNSAT\n",
             Verdict::NotVerified => b"s NOT VERIFIED\n",
         }
+    }
+}
+
+/// A proof is asked for the empty clause.
+impl Claims for Verdict {
+    ghost claimed = { shows_unsat };
+
+    fn claims(&self) -> bool {
+        matches!(self, Verdict::Verified)
     }
 }
 

@@ -4,7 +4,7 @@ use Rattle.lrat_to_proof.specs.Converting.{begun}
 use Rattle.lrat_to_proof.specs.Holding.{Holding}
 use Rattle.lrat_to_proof.specs.Runs.{Leads, proof_says}
 use Rattle.lrat_to_proof.specs.Standing.{holding_of}
-use Rattle.lrat_to_proof.specs.Statuses.{conversion_of}
+use Rattle.lrat_to_proof.specs.Conversions.{conversion_of}
 use Rattle.lrat_to_proof.proofs.LineLemmas.{begun_end, given_up, given_up_first}
 use Rattle.lrat_to_proof.specs.Widths.{bits_of}
 use Rattle.lrat_to_proof.proofs.run.convert_proof.Goals as goal

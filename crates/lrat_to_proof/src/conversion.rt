@@ -1,8 +1,8 @@
-//! How conversions end, and exit statuses.
+//! How conversions end.
 ghost use Rattle.std.specs.Prelude.{◌≡◌};
-ghost use Rattle.lrat_to_proof.specs.Statuses.{conversion_of, status_of};
+ghost use Rattle.lrat_to_proof.specs.Conversions.{conversion_of, shows_unsat};
 
-use crate::fault::ConvertFault;
+use verdicts::Claims;
 
 /// How a conversion ends.
 #[derive(Clone, Copy, Debug, PartialEq, Eq)]
@@ -27,14 +27,11 @@ impl Conversion {
     }
 }
 
-/// The exit status of a program that made this conversion: 0 where the proof comes to the empty
-/// clause, 3 where it ends before that, and 1 where there is no whole proof.
-pub fn exit_status(outcome: &Result<Conversion, ConvertFault>) -> u8
-    ensures { result ≡ status_of outcome.now }
-{
-    match outcome {
-        Ok(Conversion::Refuted) => 0,
-        Ok(Conversion::Open) => 3,
-        Err(_) => 1,
+/// A conversion is asked for a proof that comes to the empty clause.
+impl Claims for Conversion {
+    ghost claimed = { shows_unsat };
+
+    fn claims(&self) -> bool {
+        matches!(self, Conversion::Refuted)
     }
 }
