@@ -6,7 +6,7 @@ use crate::local::LocalLit;
 use crate::recent::Recent;
 use crate::stale::StaleLists;
 use crate::standing::Standing;
-use crate::sweep::{Sweep, sweep_list, sweep_whole};
+use crate::sweep::{Sweep, len_of, sweep_list, sweep_whole};
 use crate::trail::Trail;
 use crate::watches::Watches;
 use std::alloc::{AllocError, Global};
@@ -227,7 +227,8 @@ fn advance_to_unit(
         let Some(lit) = trail.get(head.place) else {
             break;
         };
-        match sweep_list(arena, trail, watches, !lit, head.end)? {
+        let end = head.end.min(len_of(watches.all(), !lit));
+        match sweep_list(arena.words_mut(), trail, watches.all(), !lit, end)? {
             Sweep::End => {
                 let next = head.place.saturating_add(1);
                 head.go_to(next);
@@ -251,11 +252,12 @@ fn sweep_on(
     watches: &mut Watches,
     from: usize,
 ) -> Result<Option<Block>, ElaborateFault> {
+    let (words, lists) = (arena.words_mut(), watches.all());
     for place in from..trail.lit_count() {
         let Some(lit) = trail.get(place) else {
             break;
         };
-        if let Some(block) = sweep_whole(arena, trail, watches, !lit)? {
+        if let Some(block) = sweep_whole(words, trail, lists, !lit)? {
             return Ok(Some(block));
         }
     }

@@ -1,9 +1,9 @@
 //! One list of watches, gone through when its literal became false.
-use crate::arena::{Arena, Block};
+use crate::arena::Block;
 use crate::fault::ElaborateFault;
 use crate::local::LocalLit;
 use crate::trail::{Trail, Value};
-use crate::watches::{Watch, Watches, push_watch};
+use crate::watches::{Watch, push_watch};
 
 /// What a list came to, up to the first clause that is unit or false.
 #[derive(Clone, Copy)]
@@ -42,14 +42,14 @@ enum Visited {
 /// that is unit or false.
 #[inline(always)]
 pub(crate) fn sweep_list(
-    arena: &mut Arena,
+    words: &mut [LocalLit],
     trail: &Trail,
-    watches: &mut Watches,
+    lists: &mut [Vec<Watch>],
     falsified: LocalLit,
     end: usize,
 ) -> Result<Sweep, ElaborateFault> {
-    let (words, values, lists) = (arena.words_mut(), trail.values(), watches.all());
-    for at in (0..end.min(len_of(lists, falsified))).rev() {
+    let values = trail.values();
+    for at in (0..end).rev() {
         match visit(words, values, lists, falsified, at)? {
             Visited::Open => {}
             Visited::Unit(lit, block) => {
@@ -69,12 +69,11 @@ pub(crate) fn sweep_list(
 /// conflict.
 #[inline(always)]
 pub(crate) fn sweep_whole(
-    arena: &mut Arena,
+    words: &mut [LocalLit],
     trail: &mut Trail,
-    watches: &mut Watches,
+    lists: &mut [Vec<Watch>],
     falsified: LocalLit,
 ) -> Result<Option<Block>, ElaborateFault> {
-    let (words, lists) = (arena.words_mut(), watches.all());
     for at in (0..len_of(lists, falsified)).rev() {
         match visit(words, trail.values(), lists, falsified, at)? {
             Visited::Open => {}
@@ -87,7 +86,7 @@ pub(crate) fn sweep_whole(
 
 /// How many clauses a literal watches.
 #[inline(always)]
-fn len_of(lists: &[Vec<Watch>], lit: LocalLit) -> usize {
+pub(crate) fn len_of(lists: &[Vec<Watch>], lit: LocalLit) -> usize {
     match lists.get(lit.place()) {
         Some(list) => list.len(),
         None => 0,
