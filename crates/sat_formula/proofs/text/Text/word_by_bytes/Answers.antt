@@ -1,7 +1,7 @@
-use Rattle.std.proofs.Common.{rules, sym, ◌∙◌}
+use Rattle.std.proofs.Common.{Err, refl, rules, sym, ◌∙◌}
 use Rattle.sat_formula.specs.Reading.{ReadsWord}
-use Rattle.sat_formula.proofs.Steps.{exits, no_byte, byte_stops, leads_nil, leads_on, faults_on, word_on}
-use Rattle.sat_formula.proofs.Steps.{word_end, word_first, word_goes, word_lf, word_blank, word_number}
+use Rattle.sat_formula.proofs.Steps.{exits, no_byte, byte_goes, byte_stops, leads_nil, leads_on, word_on}
+use Rattle.sat_formula.proofs.Steps.{word_end, word_goes, word_lf, word_blank, word_number}
 use Rattle.sat_formula.proofs.text.Text.word_by_bytes.Goals as goal
 use Rattle.sat_formula.proofs.text.Text.word_by_bytes.Goals.{then-not-self+else-byte-eq99+else-byte-eq37+else-byte-eq112, else-not-self}
 
@@ -21,31 +21,26 @@ returns-then-is_blank-clause-read g c = λ begun. let s = c.args.self.now in
     word_goes c.in_ok-byte.byte s begun c.in_ok-byte.ensures.byte (word_blank _ s.line s.past begun s.in_line c.if-byte-eq10.false (sym c.is_blank.ensures ∙ c.if-is_blank.true))
 
 pub returns-in_err-comment-clause-read : goal.returns-in_err-comment-clause-read
-returns-in_err-comment-clause-read g c = λ begun. let s = c.args.self.now in
-    exits (ReadsWord _ _ _ c.comment.new.self begun) _ _ c.from_residual-in_err-comment.ensures.1
-    (faults_on _ c.comment.new.self.source _ _ begun _ (word_goes c.in_ok-byte.byte s begun c.in_ok-byte.ensures.byte
-    (word_first _ s.line s.past begun 99 s.in_line c.if-not-self.true c.if-byte-eq99.true)) (c.in_err-comment.ensures.read begun))
+returns-in_err-comment-clause-read g c = λ begun. rw c.if-not-self.true
+    (exits (ReadsWord _ _ _ c.comment.new.self begun) _ _ c.from_residual-in_err-comment.ensures.1
+    (word_on _ c.comment.new.self begun (Err _) (byte_goes _ _ (leads_nil _ _) (rw c.if-byte-eq99.true at c.in_ok-byte.ensures.byte) refl) (c.in_err-comment.ensures.read begun)))
 
 pub returns-then-byte-eq99-clause-read : goal.returns-then-byte-eq99-clause-read
-returns-then-byte-eq99-clause-read g c = λ begun. let s = c.args.self.now in
-    leads_on (word_goes c.in_ok-byte.byte s begun c.in_ok-byte.ensures.byte (word_first _ s.line s.past begun 99 s.in_line c.if-not-self.true c.if-byte-eq99.true))
-    (c.in_ok-comment.ensures.read begun)
+returns-then-byte-eq99-clause-read g c = λ begun. rw c.if-not-self.true
+    (leads_on (byte_goes _ _ (leads_nil _ _) (rw c.if-byte-eq99.true at c.in_ok-byte.ensures.byte) refl) (c.in_ok-comment.ensures.read begun))
 
 pub returns-then-byte-eq37-clause-read : goal.returns-then-byte-eq37-clause-read
-returns-then-byte-eq37-clause-read g c = λ begun. let s = c.args.self.now in
-    byte_stops c.in_ok-byte.byte _ (leads_nil _ _) c.in_ok-byte.ensures.byte
-    (word_first _ s.line s.past begun 37 s.in_line c.if-not-self.true c.if-byte-eq37.true)
+returns-then-byte-eq37-clause-read g c = λ begun. rw c.if-not-self.true
+    (byte_stops 37 _ (leads_nil _ _) (rw c.if-byte-eq37.true at c.in_ok-byte.ensures.byte) refl)
 
 pub returns-in_err-header-clause-read : goal.returns-in_err-header-clause-read
-returns-in_err-header-clause-read g c = λ begun. let s = c.args.self.now in
-    exits (ReadsWord _ _ _ c.header.new.self begun) _ _ c.from_residual-in_err-header.ensures.1
-    (faults_on _ c.header.new.self.source _ _ begun _ (word_goes c.in_ok-byte.byte s begun c.in_ok-byte.ensures.byte
-    (word_first _ s.line s.past begun 112 s.in_line c.if-not-self.true c.if-byte-eq112.true)) (c.in_err-header.ensures.read begun))
+returns-in_err-header-clause-read g c = λ begun. rw c.if-not-self.true
+    (exits (ReadsWord _ _ _ c.header.new.self begun) _ _ c.from_residual-in_err-header.ensures.1
+    (word_on _ c.header.new.self begun (Err _) (byte_goes _ _ (leads_nil _ _) (rw c.if-byte-eq112.true at c.in_ok-byte.ensures.byte) refl) (c.in_err-header.ensures.read begun)))
 
 pub returns-then-byte-eq112-clause-read : goal.returns-then-byte-eq112-clause-read
-returns-then-byte-eq112-clause-read g c = λ begun. let s = c.args.self.now in
-    leads_on (word_goes c.in_ok-byte.byte s begun c.in_ok-byte.ensures.byte (word_first _ s.line s.past begun 112 s.in_line c.if-not-self.true c.if-byte-eq112.true))
-    (c.in_ok-header.ensures.read begun)
+returns-then-byte-eq112-clause-read g c = λ begun. rw c.if-not-self.true
+    (leads_on (byte_goes _ _ (leads_nil _ _) (rw c.if-byte-eq112.true at c.in_ok-byte.ensures.byte) refl) (c.in_ok-header.ensures.read begun))
 
 pub returns-clause-read : goal.returns-clause-read
 returns-clause-read g c = λ begun. let s = c.args.self.now in
