@@ -3,13 +3,13 @@ use Rattle.std.proofs.Common.{◌≡◌, ℕ, zero, suc, ◌+◌, ◌-◌, ◌<�
 use Rattle.std.proofs.Math.Seq.{take-add}
 use Rattle.std.proofs.lemmas.List.{length-drop, take_rest}
 use Rattle.std.specs.Io.KnownBytes.{Consumes}
-use Rattle.proof_bytes.specs.Reading.{Found, ◌>>=◌}
-use Rattle.proof_bytes.specs.Fields.{many_at}
+use Rattle.proof_bytes.specs.Reading.{Found, ◌>>=◌, number_at}
+use Rattle.proof_bytes.specs.Fields.{list_at, many_at}
 use Rattle.proof_bytes.specs.Taking.{Leads, IsBytes}
 use Rattle.proof_bytes.specs.Ahead.{ReadAs}
 use Rattle.proof_bytes.proofs.Leading.{Known, leads_on}
 use Rattle.proof_bytes.proofs.Fronts.{leads_ahead}
-use Rattle.proof_bytes.proofs.FieldLemmas.{with_front, nothing_before}
+use Rattle.proof_bytes.proofs.FieldLemmas.{list_begins, with_front, nothing_before}
 
 -- after one of two bytes, or after both
 pub two_more : (xs : List ℕ) (i n : ℕ) → i + 1 < length xs → n ≤ 2 →
@@ -82,9 +82,9 @@ module _ {A : Type 0} (item : List ℕ → Found A) where
         ∙ ap (λ r. with_front items r) (one_item x (next ++ more) more (h more))
 
   -- bytes ahead that are read as items are taken, and this many items of the list are left
-  pub front_taken : {a b c : Known} {f : List ℕ → Found (List A)} (items : List A) (k m : ℕ) → k ≡ length items + m →
-      Leads a b f (λ more. with_front [] (many_at item k more)) → (ahead front : List ℕ) (n : ℕ) → ReadAs item (take n ahead) items →
-      ahead ≡ front → IsBytes ahead → Consumes b c (take n front) → Leads a c f (λ more. with_front items (many_at item m more))
-  front_taken items k m e begun ahead front n so_far same bytes consumed =
-      leads_on begun (leads_ahead (λ more. with_front [] (many_at item k more)) (λ more. with_front items (many_at item m more)) ahead front n same bytes consumed
+  pub front_taken : {a b c : Known} (items : List A) (k m : ℕ) → k ≡ length items + m →
+      Leads a b number_at (λ more. Ok (k, more)) → (ahead front : List ℕ) (n : ℕ) → ReadAs item (take n ahead) items →
+      ahead ≡ front → IsBytes ahead → Consumes b c (take n front) → Leads a c (list_at item) (λ more. with_front items (many_at item m more))
+  front_taken items k m e counted ahead front n so_far same bytes consumed =
+      leads_on (list_begins item k k refl counted) (leads_ahead (λ more. with_front [] (many_at item k more)) (λ more. with_front items (many_at item m more)) ahead front n same bytes consumed
       (λ more. sym (nothing_before (many_at item k (take n ahead ++ more))) ∙ then_read (take n ahead) items so_far k m e more))

@@ -1,6 +1,6 @@
-use Rattle.std.proofs.Common.{arith, refl}
+use Rattle.std.proofs.Common.{arith}
 use Rattle.proof_bytes.proofs.Leading.{exits, exits_by, no_memory}
-use Rattle.proof_bytes.proofs.FieldLemmas.{list_fails, list_begins, item_fails, item_read, list_ends}
+use Rattle.proof_bytes.proofs.FieldLemmas.{list_fails, item_fails, item_read, list_ends}
 use Rattle.proof_bytes.proofs.ListFronts.{front_taken}
 use Rattle.proof_bytes.proofs.fields.Fields.lits.Goals as goal
 
@@ -9,7 +9,7 @@ returns-in_err-count g c = exits_by _ _ c.from_residual.ensures.1 (list_fails _)
 
 pub items-init : goal.items-init
 items-init g c = front_taken _ c.lits_ahead-taken.new.into.items c.in_ok-count.count _
-    (omega (arith, c.lits_ahead-taken.ensures.count, c.lits_ahead-taken.new.into.ok.0)) (list_begins _ c.in_ok-count.count _ refl c.in_ok-count.ensures)
+    (omega (arith, c.lits_ahead-taken.ensures.count, c.lits_ahead-taken.new.into.ok.0)) c.in_ok-count.ensures
     c.ahead.result.now _ c.lits_ahead-taken.result c.lits_ahead-taken.ensures.read c.ahead.ensures c.lits_ahead-taken.ensures.bytes c.take_ahead.ensures.bytes
 
 pub returns-in_err-lit : goal.returns-in_err-lit
