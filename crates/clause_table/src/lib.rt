@@ -1,5 +1,5 @@
-//! What the checkers of LRAT lines and of lines of hints keep: the clauses under their ids, those
-//! of small ids in one buffer, and which literals are true.
+//! What checkers keep: the clauses under their ids, those of small ids in one buffer, and which
+//! literals are true.
 #![tactic(auto)]
 
 mod growth;

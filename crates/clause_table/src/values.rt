@@ -64,6 +64,13 @@ impl Values {
         self.trail.len()
     }
 
+    /// The literals that are true, in the order in which they became so.
+    pub fn lits(&self) -> &[Lit]
+        ensures { result.now ≡ self.now }
+    {
+        self.trail.as_slice()
+    }
+
     /// There may be places for the literals of this many that are stored.
     pub fn allow(&mut self, stored: u64)
         ensures { self.new ≡ self.old }

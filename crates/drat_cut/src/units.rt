@@ -3,9 +3,9 @@
 use crate::fault::CutFault;
 use crate::slots::{Slot, Slots};
 use crate::watches::Watches;
+use clause_table::Values;
 use sat_formula::Lit;
 use std::alloc::Global;
-use std::collections::HashSet;
 
 /// What a clause comes to under the true literals.
 enum Standing {
@@ -19,8 +19,9 @@ enum Standing {
 /// The literals that are true.
 #[derive(Drop)]
 pub(crate) struct Units {
-    trail: Vec<Lit>,
-    trues: HashSet<Lit>,
+    values: Values,
+    /// How many literals came in clauses.
+    stored: u64,
     watches: Watches,
     /// A clause is false.
     pub(crate) conflict: bool,
@@ -29,8 +30,8 @@ pub(crate) struct Units {
 impl Units {
     pub(crate) fn new(alloc: Global) -> Units {
         Units {
-            trail: Vec::new(alloc),
-            trues: HashSet::new(alloc),
+            values: Values::new(alloc),
+            stored: 0,
             watches: Watches::new(alloc),
             conflict: false,
         }
@@ -41,10 +42,10 @@ impl Units {
         let mut first = None;
         let mut second = None;
         for lit in clause {
-            if self.trues.contains(lit) {
+            if self.values.is_true(*lit) {
                 return Standing::True;
             }
-            if self.trues.contains(&!*lit) || first == Some(*lit) {
+            if self.values.is_true(!*lit) || first == Some(*lit) {
                 continue;
             }
             if first.is_none() {
@@ -65,7 +66,11 @@ impl Units {
         if self.conflict {
             return Ok(());
         }
-        let from = self.trail.len();
+        if let Some(entry) = slots.get(slot) {
+            self.stored = self.stored.saturating_add(entry.lits.len() as u64);
+            self.values.allow(self.stored);
+        }
+        let from = self.values.len();
         self.settle(slots, slot)?;
         self.propagate(slots, from)
     }
@@ -92,8 +97,7 @@ impl Units {
             Standing::False => self.conflict = true,
             Standing::Unit(lit) => {
                 entry.is_reason = true;
-                self.trail.push(lit)?;
-                self.trues.insert(lit)?;
+                self.values.set(lit)?;
             }
             Standing::Open(first, second) => {
                 entry.watched = Some((first, second));
@@ -104,14 +108,14 @@ impl Units {
         Ok(())
     }
 
-    /// Propagates the trail from a place on.
+    /// Propagates the true literals from a place on.
     fn propagate(&mut self, slots: &mut Slots, from: usize) -> Result<(), CutFault> {
-        // A literal comes onto the trail once, since a clause forces none that has a value.
+        // A literal becomes true once, since a clause forces none that has a value.
         for place in from..usize::MAX {
             if self.conflict {
                 return Ok(());
             }
-            let Some(lit) = self.trail.get(place).copied() else {
+            let Some(lit) = self.values.lits().get(place).copied() else {
                 return Ok(());
             };
             self.falsify(slots, !lit)?;

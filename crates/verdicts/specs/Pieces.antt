@@ -1,4 +1,4 @@
--- Verdicts on a piece of a proof, their lines.
+-- Verdicts on a piece of a proof, and their lines.
 use Rattle.std.specs.Prelude.{ℕ, Bool, true, false, List, [], ◌∷◌, ◌++◌, codes}
 use Rattle.verdicts.specs.Verdicts.{shown_line}
 use Rattle.verdicts.specs.declared.verdict.Verdict.TheVariants.{Verified, NotVerified}

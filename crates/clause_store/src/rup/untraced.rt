@@ -170,8 +170,50 @@ pub fn end_of(falsified: bool) -> Option<Answer>
     }
 }
 
-/// Visits the bucket of a hash, unless it is long and known to be idle. Answers what ends the walk
+/// Visits the crowd of a hash, unless it is long and known to be idle. Answers what ends the walk
 /// there.
+// The clauses of the contract alone read `buckets`.
+fn propagate_crowd(
+    units: &mut Units,
+    run: &mut FreePropagation,
+    places: &[Option<Clause>],
+    buckets: &Buckets,
+    buffer: &[Lit],
+    hash: ClauseHash,
+) -> Result<Option<Answer>, AllocError>
+    requires is { clauses_at buckets.now hash ≡ standing places.now }
+    requires within { AreWithin buffer.now buckets.now }
+    requires known { AreAllKnown units.old buffer.now buckets.now }
+    requires trail { IsTrailFor units.old (freed run.old.trail.items) }
+    requires idle { AreIdle (idle_at run.old.idle) (length run.old.trail.items)
+        (λ h. IsIdle units.old (lits_at buffer.now buckets.now h)) }
+    ensures ok { let bucket = lits_at buffer.now buckets.now hash in
+        IfOk result (WalksFirst units.old bucket units.new) }
+    ensures idle { IfOk result (λ end. end ≡ None
+        → AreIdle (idle_at run.new.idle) (length run.new.trail.items)
+        (λ h. IsIdle units.new (lits_at buffer.now buckets.now h))) }
+    ensures undoable { IsUndoable units.old (freed run.old.trail.items)
+        units.new (freed run.new.trail.items) }
+{
+    if !some_stands(places) {
+        return Ok(Some(Answer::NoClauseForHash));
+    }
+    let is_long = places.len() > LONG_BUCKET;
+    let given = run.trail.len();
+    if is_long && run.idle.has(hash, given) {
+        return Ok(None);
+    }
+    if propagate_places(units, &mut run.trail, places, buffer)? {
+        return Ok(Some(Answer::Passed));
+    }
+    if is_long && run.trail.len() == given {
+        // Where memory is refused it is walked again.
+        let _refused = run.idle.add(hash, given);
+    }
+    Ok(None)
+}
+
+/// Visits the bucket of a hash. Answers what ends the walk there.
 #[inline]
 fn propagate_named(
     units: &mut Units,
@@ -199,23 +241,7 @@ fn propagate_named(
             Ok(end_of(falsified))
         }
         Some(Bucket::Many(crowd)) => {
-            let places = crowd.places.as_slice();
-            if !some_stands(places) {
-                return Ok(Some(Answer::NoClauseForHash));
-            }
-            let is_long = places.len() > LONG_BUCKET;
-            let given = run.trail.len();
-            if is_long && run.idle.has(hash, given) {
-                return Ok(None);
-            }
-            if propagate_places(units, &mut run.trail, places, buffer)? {
-                return Ok(Some(Answer::Passed));
-            }
-            if is_long && run.trail.len() == given {
-                // Where memory is refused it is walked again.
-                let _refused = run.idle.add(hash, given);
-            }
-            Ok(None)
+            propagate_crowd(units, run, &crowd.places, buckets, buffer, hash)
         }
         None => Ok(Some(Answer::NoClauseForHash)),
     }

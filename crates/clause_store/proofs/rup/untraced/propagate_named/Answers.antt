@@ -8,11 +8,3 @@ propagate_clause-requires-clause-within c =
 pub propagate_clause-requires-clause-known : goal.propagate_clause-requires-clause-known
 propagate_clause-requires-clause-known c =
     (rw (← c.in-Some-One.ensures.value, c.in-Some-One.field-0-is) at (c.requires.known c.args.hash)) 0 c.in-Some-One.clause (omega arith)
-
-pub propagate_places-requires-clause-within : goal.propagate_places-requires-clause-within
-propagate_places-requires-clause-within c =
-    rw (c.as_slice-places.ensures.value, c.deref.ensures) (rw (← c.in-Some-Many.ensures.value, c.in-Some-Many.field-0-is) at (c.requires.within c.args.hash))
-
-pub propagate_places-requires-clause-known : goal.propagate_places-requires-clause-known
-propagate_places-requires-clause-known c =
-    rw (c.as_slice-places.ensures.value, c.deref.ensures) (rw (← c.in-Some-Many.ensures.value, c.in-Some-Many.field-0-is) at (c.requires.known c.args.hash))
