@@ -1,23 +1,24 @@
 -- What the parts of a converter stand for.
---     entry_of c, holding_of x      a clause that is held;  all of them
+--     held_list c      what a stored list stands for
+--     entry_of derived c, holding_of x      a clause that is held;  all of them
 --     HasWritten start now steps w      the writer wrote these steps, after what the output held at the start
 --     HasBegun start now steps      a beginning of their bytes was written
 --     HasConverted width start now c x      the converter has converted so far
 --     Reaches width start now r x      as far as the rules say
 --     StopsIn start now c r      a line was not written whole
-use Rattle.std.specs.Prelude.{◌≡◌, ◌⊎◌, ℕ, Bool, List, Option, Result, Ok, nat_eq}
-use Rattle.std.specs.HashMap as hash_map
+use Rattle.std.specs.Prelude.{◌≡◌, ◌⊎◌, ℕ, Bool, if◌then◌else◌, List, [], ◌∷◌, Option, Result, Ok, nat_eq}
 use Rattle.std.specs.HashSet.{contains}
 use Rattle.std.specs.Io.KnownBytes.{Appends}
 use Rattle.std.specs.Option.{option_map}
+use Rattle.sat_rules.specs.Clauses.{is_canonical}
 use Rattle.checker_rules.specs.Step.{Step}
 use Rattle.clause_store.specs.StateOf.{applied_of}
+use Rattle.clause_table.specs.Named.{clause_of}
 use Rattle.proof_bytes.specs.declared.format.Format.TheVariants as formats
 use Rattle.proof_bytes.specs.ProofWriter.{format_in}
 use Rattle.proof_bytes.specs.Texts.{AreSteps}
 use Rattle.proof_bytes.specs.Version2.{text_2, written_after}
 use Rattle.whole_writes.specs.Beginnings.{AppendsBeginning}
-use Rattle.lrat_to_proof.specs.declared.clause.HeldClause.{HeldClause}
 use Rattle.lrat_to_proof.specs.declared.converter.Converter.{Converter}
 use Rattle.lrat_to_proof.specs.declared.fault.LineCause.{LineCause}
 use Rattle.lrat_to_proof.specs.declared.holding.Holding as parts
@@ -25,9 +26,17 @@ use Rattle.lrat_to_proof.specs.declared.steps.StepWriter.{StepWriter}
 use Rattle.lrat_to_proof.specs.Converting.{Converted, no_name}
 use Rattle.lrat_to_proof.specs.Holding.{Entry, Holding}
 
--- a clause that is held
-abbrev pub entry_of : HeldClause → Entry
-entry_of c = record { derived = c.derived; lits = c.lits.items }
+-- what a stored list stands for: itself, where it is canonical, as all are; any other counts as a tautology, since its variables don't rise
+unfoldable pub held_list : List ℕ → List ℕ
+held_list c = if is_canonical c then c else 0 ∷ 1 ∷ []
+
+-- a clause that is held, and whether a line added it
+abbrev pub entry_of : Bool → List ℕ → Entry
+entry_of derived c = record { derived = derived; lits = held_list c }
+
+-- whether a line added the clause of an id, where it is there
+abbrev pub is_derived : parts.Holding → ℕ → Bool
+is_derived x i = contains nat_eq x.derived i
 
 -- the literals that are units
 abbrev pub units_of : parts.Holding → ℕ → Bool
@@ -36,7 +45,7 @@ units_of x m = contains nat_eq x.units m
 -- all clauses that are held
 abbrev pub holding_of : parts.Holding → Holding
 holding_of x = record {
-  entries = λ i. option_map entry_of (hash_map.get nat_eq x.clauses i);
+  entries = λ i. option_map (entry_of (is_derived x i)) (clause_of x.clauses i);
   units = units_of x;
   refuted = x.refuted;
 }

@@ -1,12 +1,12 @@
 //! Lines, one after the other, as steps.
 ghost use Rattle.std.specs.Prelude.{◌<◌, ◌≤◌};
 
-use crate::clause::HeldClause;
 use crate::fault::{GivenUp, LineCause, Stop};
 use crate::hints::gather;
 use crate::holding::Holding;
 use crate::steps::StepWriter;
 use crate::width::HashWidth;
+use checker_parts::sorted_lits::copy_canonical;
 use clause_store::hash::ClauseHasher;
 use lrat_text::{Hint, LratLine};
 use proof_bytes::{ClauseHash, ProofStep};
@@ -17,12 +17,13 @@ use std::io::Write;
 /// What stands between the lines: the clauses so far, and the writer of steps.
 #[derive(Drop)]
 pub(crate) struct Converter {
-    alloc: Global,
     hasher: ClauseHasher,
     held: Holding,
     steps: StepWriter,
     /// Those of one step.
     hashes: Vec<ClauseHash>,
+    /// The canonical list of one added clause.
+    lits: Vec<Lit>,
     ghost some_bits: { 0 < hasher.hash_bits },
     ghost bits: { hasher.hash_bits ≤ 64 },
 }
@@ -55,11 +56,11 @@ impl Converter {
         let mut steps = StepWriter::new(alloc);
         steps.begin(width, out)?;
         Ok(Converter {
-            alloc,
             hasher,
             held,
             steps,
             hashes: Vec::new(alloc),
+            lits: Vec::new(alloc),
         })
     }
 
@@ -138,9 +139,9 @@ impl Converter {
             return Err(Stop::Refused(LineCause::IdTaken));
         }
         gather(&self.hasher, &self.held, hints, &mut self.hashes)?;
-        let clause = HeldClause::of_line(self.alloc, clause)?;
-        self.steps.derive(&clause, &self.hashes, out)?;
-        self.held.put(id, clause)?;
+        copy_canonical(&mut self.lits, clause)?;
+        self.steps.derive(&self.lits, &self.hashes, out)?;
+        self.held.put(id, true, &self.lits)?;
         Ok(())
     }
 
@@ -168,9 +169,10 @@ impl Converter {
             → HasConverted width start (W.contents out.old) c self.old
             → OnErr result (HasBegun start (W.contents out.new) (delete_one c id).steps) }
     {
-        match self.held.take(id) {
-            Some(clause) => self.steps.delete(&clause, out),
-            None => Ok(()),
+        if let Some(clause) = self.held.derived(id) {
+            self.steps.delete(clause, out)?;
         }
+        self.held.remove(id);
+        Ok(())
     }
 }

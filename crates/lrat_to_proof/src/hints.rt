@@ -7,6 +7,7 @@ ghost use Rattle.lrat_to_proof.specs.Converting.{gather};
 ghost use Rattle.lrat_to_proof.specs.Faults.{IsCause};
 ghost use Rattle.lrat_to_proof.specs.Standing.{holding_of};
 
+use crate::clause::is_named;
 use crate::fault::{LineCause, Stop};
 use crate::holding::Holding;
 use clause_store::hash::ClauseHasher;
@@ -57,8 +58,8 @@ fn push_hash(
     let Some(clause) = held.get(id) else {
         return Err(Stop::Refused(LineCause::UnknownId));
     };
-    if clause.is_named() {
-        hashes.push(hasher.clause_hash(clause.lits()))?;
+    if is_named(clause) {
+        hashes.push(hasher.clause_hash(clause))?;
     }
     Ok(())
 }

@@ -1,19 +1,25 @@
 //! The clauses so far.
-ghost use Rattle.std.specs.Prelude.{◌≡◌, ◌||◌, IfOk, OnOk, is_some};
+ghost use Rattle.std.specs.Prelude.{◌≡◌, ◌==◌, ◌||◌, ℕ, true, IfOk, OnOk, if◌then◌else◌, is_some, nat_eq};
+ghost use Rattle.std.specs.HashSet.{contains};
 ghost use Rattle.std.specs.Option.{option_copied, option_map};
+ghost use Rattle.lrat_to_proof.specs.Converting.{deletion};
 ghost use Rattle.lrat_to_proof.specs.Holding.{drop_entry, formula_holding, hold, is_refuting, with_unit};
-ghost use Rattle.lrat_to_proof.specs.Standing.{entry_of, holding_of, units_of};
+ghost use Rattle.lrat_to_proof.specs.Standing.{entry_of, holding_of, is_derived, units_of};
 
-use crate::clause::HeldClause;
+use checker_parts::sorted_lits::copy_canonical;
+use clause_table::NamedClauses;
 use sat_formula::{CnfFormula, Lit};
 use std::alloc::{AllocError, Global};
-use std::collections::{HashMap, HashSet};
+use std::collections::HashSet;
 
 /// The clauses by their ids, the literals that are units, and whether the empty clause or two
 /// opposite units came.
 #[derive(Drop)]
 pub(crate) struct Holding {
-    clauses: HashMap<u64, HeldClause>,
+    /// Canonical lists.
+    clauses: NamedClauses,
+    /// The ids of those that lines added.
+    derived: HashSet<u64>,
     /// By their codes.
     units: HashSet<usize>,
     refuted: bool,
@@ -25,14 +31,17 @@ impl Holding {
         ensures { IfOk result (λ made. holding_of made ≡ formula_holding formula.now) }
     {
         let mut made = Holding {
-            clauses: HashMap::with_capacity(alloc, formula.len())?,
+            clauses: NamedClauses::new(alloc, formula.len())?,
+            derived: HashSet::new(alloc),
             units: HashSet::new(alloc),
             refuted: false,
         };
+        let mut lits = Vec::new(alloc);
         let mut id = 0u64;
         for clause in formula {
             id += 1;
-            made.put(id, HeldClause::of_formula(alloc, clause)?)?;
+            copy_canonical(&mut lits, clause)?;
+            made.put(id, false, &lits)?;
         }
         Ok(made)
     }
@@ -45,10 +54,22 @@ impl Holding {
     }
 
     /// The clause of an id, where it is there.
-    pub(crate) fn get(&self, id: u64) -> Option<&HeldClause>
-        ensures { option_map entry_of (option_copied result) ≡ (holding_of self.now).entries id }
+    pub(crate) fn get(&self, id: u64) -> Option<&[Lit]>
+        ensures { option_map (entry_of (is_derived self.now id)) (option_copied result)
+            ≡ (holding_of self.now).entries id }
     {
-        self.clauses.get(&id)
+        self.clauses.get(id)
+    }
+
+    /// The clause of an id, where a line added it.
+    pub(crate) fn derived(&self, id: u64) -> Option<&[Lit]>
+        ensures { deletion (option_map (entry_of true) (option_copied result))
+            ≡ deletion ((holding_of self.now).entries id) }
+    {
+        if !self.derived.contains(&id) {
+            return None;
+        }
+        self.clauses.get(id)
     }
 
     /// Whether the id names a clause.
@@ -58,13 +79,15 @@ impl Holding {
         self.get(id).is_some()
     }
 
-    /// Stores a clause under an id. After an error what is held is of no use.
-    pub(crate) fn put(&mut self, id: u64, clause: HeldClause) -> Result<(), AllocError>
+    /// Stores a canonical list under an id, and whether a line added it. After an error what is
+    /// held is of no use.
+    pub(crate) fn put(&mut self, id: u64, derived: bool, lits: &[Lit]) -> Result<(), AllocError>
         ensures { OnOk result (holding_of self.new
-            ≡ hold id (entry_of clause) (holding_of self.old)) }
+            ≡ hold id (entry_of derived lits.now) (holding_of self.old)) }
     {
-        self.note_unit(clause.lits())?;
-        self.clauses.insert(id, clause)?;
+        self.note_unit(lits)?;
+        self.clauses.put(id, lits)?;
+        mark(&mut self.derived, id, derived)?;
         Ok(())
     }
 
@@ -74,6 +97,7 @@ impl Holding {
         ensures refuted { OnOk result (self.new.refuted
             ≡ (self.old.refuted || is_refuting lits.now (units_of self.old))) }
         ensures clauses { self.new.clauses ≡ self.old.clauses }
+        ensures derived { self.new.derived ≡ self.old.derived }
     {
         let Some((lit, others)) = lits.split_first() else {
             self.refuted = true;
@@ -87,11 +111,25 @@ impl Holding {
         Ok(())
     }
 
-    /// Takes the clause of an id away, where it is there.
-    pub(crate) fn take(&mut self, id: u64) -> Option<HeldClause>
-        ensures clause { option_map entry_of result ≡ (holding_of self.old).entries id }
-        ensures rest { holding_of self.new ≡ drop_entry id (holding_of self.old) }
+    /// Removes the clause of an id, where it is there.
+    pub(crate) fn remove(&mut self, id: u64)
+        ensures { holding_of self.new ≡ drop_entry id (holding_of self.old) }
     {
-        self.clauses.remove(&id)
+        self.derived.remove(&id);
+        self.clauses.remove(id);
+        self.clauses.collect_garbage();
     }
+}
+
+/// Puts an id into a set, or takes it out.
+fn mark(ids: &mut HashSet<u64>, id: u64, is_in: bool) -> Result<(), AllocError>
+    ensures { OnOk result ((k : ℕ) → contains nat_eq ids.new k
+        ≡ (if k == id then is_in else contains nat_eq ids.old k)) }
+{
+    if !is_in {
+        ids.remove(&id);
+        return Ok(());
+    }
+    ids.insert(id)?;
+    Ok(())
 }

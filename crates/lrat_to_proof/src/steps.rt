@@ -1,15 +1,16 @@
 //! Steps, written one after the other.
-ghost use Rattle.std.specs.Prelude.{◌≡◌, [], ◌∷◌, ◌++◌, ℕ, List, Option, Some, OnErr, OnOk};
+ghost use Rattle.std.specs.Prelude.{◌≡◌, [], ◌∷◌, ◌++◌, ℕ, true, List, Option, Some, OnErr, OnOk};
 ghost use Rattle.checker_rules.specs.Step.{Step};
 ghost use Rattle.proof_bytes.specs.NextStep.{view};
 ghost use Rattle.lrat_to_proof.specs.Converting.{deletion, derivation, header};
-ghost use Rattle.lrat_to_proof.specs.Standing.{HasBegun, HasWritten, entry_of};
+ghost use Rattle.lrat_to_proof.specs.Standing.{HasBegun, HasWritten, entry_of, held_list};
 ghost use Rattle.lrat_to_proof.specs.Widths.{bits_of};
 
-use crate::clause::HeldClause;
+use crate::clause::{is_named, is_tautology};
 use crate::fault::GivenUp;
 use crate::width::HashWidth;
 use proof_bytes::{ClauseHash, DeleteClauseProof, ProofStep, ProofWriter};
+use sat_formula::Lit;
 use std::alloc::Global;
 use std::io::Write;
 use whole_writes::append_whole;
@@ -48,53 +49,49 @@ impl StepWriter {
         self.write(&ProofStep::ChangeHashBits { bits }, out)
     }
 
-    /// Adds a clause by these hashes, unless it is a tautology.
+    /// Adds a clause, a canonical list, by these hashes, unless it is a tautology.
     pub(crate) fn derive<W: Write>(
         &mut self,
-        clause: &HeldClause,
+        clause: &[Lit],
         hashes: &[ClauseHash],
         out: &mut W,
     ) -> Result<(), GivenUp>
         ensures ok { (start : Option (List ℕ)) (steps : List Step)
             → HasWritten start (W.contents out.old) steps self.old
             → OnOk result (HasWritten start (W.contents out.new)
-            (steps ++ derivation (entry_of clause.now).lits hashes.now) self.new) }
+            (steps ++ derivation (held_list clause.now) hashes.now) self.new) }
         ensures err { (start : Option (List ℕ)) (steps : List Step)
             → HasWritten start (W.contents out.old) steps self.old
             → OnErr result (HasBegun start (W.contents out.new)
-            (steps ++ derivation (entry_of clause.now).lits hashes.now)) }
+            (steps ++ derivation (held_list clause.now) hashes.now)) }
     {
-        if clause.is_tautology() {
+        if is_tautology(clause) {
             return Ok(());
         }
         let step = ProofStep::AtClause {
             redundant: true,
-            clause: clause.lits(),
+            clause,
             propagation_hashes: hashes,
         };
         self.write(&step, out)
     }
 
-    /// Deletes one copy of a clause, where a step has to.
-    pub(crate) fn delete<W: Write>(
-        &mut self,
-        clause: &HeldClause,
-        out: &mut W,
-    ) -> Result<(), GivenUp>
+    /// Deletes one copy of a clause that a line added, where a step can name it.
+    pub(crate) fn delete<W: Write>(&mut self, clause: &[Lit], out: &mut W) -> Result<(), GivenUp>
         ensures ok { (start : Option (List ℕ)) (steps : List Step)
             → HasWritten start (W.contents out.old) steps self.old
             → OnOk result (HasWritten start (W.contents out.new)
-            (steps ++ deletion (Some (entry_of clause.now))) self.new) }
+            (steps ++ deletion (Some (entry_of true clause.now))) self.new) }
         ensures err { (start : Option (List ℕ)) (steps : List Step)
             → HasWritten start (W.contents out.old) steps self.old
             → OnErr result (HasBegun start (W.contents out.new)
-            (steps ++ deletion (Some (entry_of clause.now)))) }
+            (steps ++ deletion (Some (entry_of true clause.now)))) }
     {
-        if !clause.is_deleted_by_a_step() {
+        if !is_named(clause) {
             return Ok(());
         }
         let step = ProofStep::DeleteClause {
-            clause: clause.lits(),
+            clause,
             proof: DeleteClauseProof::Redundant,
         };
         self.write(&step, out)

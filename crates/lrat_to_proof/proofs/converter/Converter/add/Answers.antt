@@ -1,11 +1,10 @@
-use Rattle.std.proofs.Common.{refl, map, sym, ap, ◌∙◌}
+use Rattle.std.proofs.Common.{refl, map, sym, ◌∙◌}
 use Rattle.std.proofs.lemmas.Result.{err_from_is_err_and}
 use Rattle.lrat_text.specs.Grammar.{hint_of}
 use Rattle.lrat_to_proof.specs.Converting.{add_line}
-use Rattle.lrat_to_proof.specs.Holding.{Entry, hold}
-use Rattle.lrat_to_proof.specs.Standing.{holding_of}
 use Rattle.lrat_to_proof.proofs.BegunLemmas.{begun_whole}
 use Rattle.lrat_to_proof.proofs.ConvertedLemmas.{cause_of_hints, converted_add, stopped_add, stopped_before}
+use Rattle.lrat_to_proof.proofs.HoldingLemmas.{held_canonical}
 use Rattle.lrat_to_proof.proofs.converter.Converter.add.Goals as goal
 
 pub returns-in_err-gather-clause-err : goal.returns-in_err-gather-clause-err
@@ -19,23 +18,25 @@ returns-in_err-gather-clause-given_up g c = λ width start d h.
     let p = err_from_is_err_and c.from_residual.result c.from_residual.ensures.1 in
     rw p.1 (λ _. stopped_before width start (g.W.Write.contents c.args.out.now) d c.args.self.now h (add_line width d c.args.id c.args.clause.now (map hint_of c.args.hints.now)))
 
-pub returns-in_err-clause-clause-given_up : goal.returns-in_err-clause-clause-given_up
-returns-in_err-clause-clause-given_up g c = λ width start d h.
-    let p = err_from_is_err_and c.from_residual-in_err-clause.result c.from_residual-in_err-clause.ensures.1 in
+pub returns-in_err-copy_canonical-clause-given_up : goal.returns-in_err-copy_canonical-clause-given_up
+returns-in_err-copy_canonical-clause-given_up g c = λ width start d h.
+    let p = err_from_is_err_and c.from_residual-in_err-copy_canonical.result c.from_residual-in_err-copy_canonical.ensures.1 in
     rw p.1 (λ _. stopped_before width start (g.W.Write.contents c.args.out.now) d c.args.self.now h (add_line width d c.args.id c.args.clause.now (map hint_of c.args.hints.now)))
 
 pub returns-in_err-derive-clause-given_up : goal.returns-in_err-derive-clause-given_up
 returns-in_err-derive-clause-given_up g c = λ width start d h.
     let p = err_from_is_err_and c.from_residual-in_err-derive.result c.from_residual-in_err-derive.ensures.1 in
+    let canonical = c.in_ok-copy_canonical.ensures in
     rw p.1 (λ _. stopped_add width start (g.W.Write.contents c.args.out.now) d c.args.self.now h c.args.id c.args.clause.now (map hint_of c.args.hints.now)
     (sym c.contains.ensures ∙ c.if-contains.false) (g.W.Write.contents c.derive.new.out) c.gather.new.hashes.items c.in_ok-gather.ensures.ok
-    (rw (c.deref.ensures.value, ap (λ (e : Entry). e.lits) c.in_ok-clause.ensures) at (c.in_err-derive.ensures.err start d.steps h.written)))
+    (rw (c.deref.ensures.value, c.deref-2.ensures.value, held_canonical _ canonical.canonical ∙ canonical.items) at (c.in_err-derive.ensures.err start d.steps h.written)))
 
 pub returns-in_err-put-clause-given_up : goal.returns-in_err-put-clause-given_up
 returns-in_err-put-clause-given_up g c = λ width start d h.
     let p = err_from_is_err_and c.from_residual-in_err-put.result c.from_residual-in_err-put.ensures.1 in
     let new = g.W.Write.contents c.derive.new.out in
-    let wrote = rw (c.deref.ensures.value, ap (λ (e : Entry). e.lits) c.in_ok-clause.ensures) at (c.in_ok-derive.ensures.ok start d.steps h.written) in
+    let canonical = c.in_ok-copy_canonical.ensures in
+    let wrote = rw (c.deref.ensures.value, c.deref-2.ensures.value, held_canonical _ canonical.canonical ∙ canonical.items) at (c.in_ok-derive.ensures.ok start d.steps h.written) in
     rw p.1 (λ _. stopped_add width start (g.W.Write.contents c.args.out.now) d c.args.self.now h c.args.id c.args.clause.now (map hint_of c.args.hints.now)
     (sym c.contains.ensures ∙ c.if-contains.false) new c.gather.new.hashes.items c.in_ok-gather.ensures.ok
     (begun_whole start new _ wrote.bytes))
@@ -44,9 +45,10 @@ pub returns-clause-ok : goal.returns-clause-ok
 returns-clause-ok g c = λ width start d h.
     let x = c.args.self.now in
     let now = g.W.Write.contents c.derive.new.out in
-    let made = c.in_ok-clause.ensures in
+    let canonical = c.in_ok-copy_canonical.ensures in
+    let made = held_canonical _ canonical.canonical ∙ canonical.items in
     converted_add width start (g.W.Write.contents c.args.out.now) d x h c.args.id c.args.clause.now (map hint_of c.args.hints.now) (sym c.contains.ensures ∙ c.if-contains.false)
     now _ c.gather.new.hashes.items c.in_ok-gather.ensures.ok
-    (rw (c.deref.ensures.value, ap (λ (e : Entry). e.lits) made) at (c.in_ok-derive.ensures.ok start d.steps h.written))
-    (c.in_ok-put.ensures ∙ ap (λ e. hold c.args.id e (holding_of x.held)) made)
+    (rw (c.deref.ensures.value, c.deref-2.ensures.value, made) at (c.in_ok-derive.ensures.ok start d.steps h.written))
+    (rw (c.deref-3.ensures.value, made) at c.in_ok-put.ensures)
     refl
