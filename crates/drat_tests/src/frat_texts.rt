@@ -51,7 +51,7 @@ pub fn show(shown: &mut Shown, answer: Result<Option<FratStep<'_>>, DratFault>) 
     true
 }
 
-const TEXT: [Row; 21] = [
+static TEXT: [Row; 21] = [
     (b"", "end"),
     (b"\n c 1 0\n\t\r\n", "end"),
     (
@@ -90,7 +90,7 @@ const TEXT: [Row; 21] = [
     (b"a 1 2 0\nl ", "add 1: 2; step 2: unfinished; end"),
 ];
 
-const BINARY: [Row; 10] = [
+static BINARY: [Row; 10] = [
     (
         b"o\x01\x02\x05\x00f\x01\x02\x05\x00",
         "original 1: 1 -2; final 1: 1 -2; end",
@@ -118,7 +118,7 @@ const BINARY: [Row; 10] = [
     (b"o\x01\x00a\x82", "original 1:; step 2: unfinished; end"),
 ];
 
-const BROKEN: [BrokenRow; 3] = [
+static BROKEN: [BrokenRow; 3] = [
     (b"o 1 1 0\na 2 2 0\n", 1, "error reading proof: broken; end"),
     (
         b"c 1\no 1 1 0\na 2 2 0\n",
@@ -132,7 +132,7 @@ const BROKEN: [BrokenRow; 3] = [
     ),
 ];
 
-const TELLING: [(&[u8], bool); 10] = [
+static TELLING: [(&[u8], bool); 10] = [
     (b"o 1 1 0\n", true),
     (b"o\x01\x02\x00", true),
     (b"\r\n\tc o\nf 1 0", true),
@@ -152,11 +152,14 @@ fn frat_steps(rt: HostRuntime) {
     hold_broken(&rt, rt.alloc(), Format::Frat, &BROKEN);
 }
 
+fn is_told(alloc: Global, proof: Pieces<'_>, expected: bool) -> bool {
+    is_frat(&mut Bytes::new(alloc, proof)).unwrap_or(!expected)
+}
+
 fn are_told_apart(rt: &impl Abort, alloc: Global, rows: &[(&[u8], bool)]) {
     for (bytes, expected) in rows {
         for size in [1, 100] {
-            let mut proof = Bytes::new(alloc, Pieces::of_size(bytes, size));
-            let told = is_frat(&mut proof).unwrap_or(!*expected);
+            let told = is_told(alloc, Pieces::of_size(bytes, size), *expected);
             assert_eq!(rt; told, *expected, "{bytes:?}");
         }
     }

@@ -128,11 +128,11 @@ fn show_proof(shown: &mut Shown, elaborator: &mut Elaborator) {
 
 /// Shows what is answered to a clause that comes once the proof has begun.
 fn show_late(shown: &mut Shown, elaborator: &mut Elaborator) {
-    match elaborator.add_clause(&[]) {
+    match &elaborator.add_clause(&[]) {
         Ok(()) => shown.words("a late clause is taken"),
         Err(fault) => {
             shown.words("late clause: ");
-            shown.value(&fault);
+            shown.value(fault);
         }
     }
 }
@@ -188,7 +188,7 @@ fn are_told(rt: &impl Abort, alloc: Global, rows: &[Row]) {
     }
 }
 
-const ROWS: [Row; 7] = [
+static ROWS: [Row; 7] = [
     // Four clauses on two variables, and one that is not needed. The deletion meets none.
     (
         "1 2 0 1 -2 0 -1 2 0 -1 -2 0 3 4 0",

@@ -17,7 +17,7 @@ const THREE: &str = "1 2 0 1 -2 0 -1 3 0";
 /// text of the fault; where the piece is not verified, what is said of the first missing clause.
 type Row = (&'static str, &'static str, &'static str, &'static str);
 
-const RUNS: [Row; 25] = [
+static RUNS: [Row; 25] = [
     (THREE, THREE, "", PIECE),
     (THREE, "", "", PIECE),
     ("", "", "", PIECE),
@@ -179,25 +179,35 @@ fn pieces_that_fail(rt: HostRuntime) {
 
 /// The lines of a piece over one clause, which is wanted in another order of its literals, in how
 /// much room, and what is told.
-const LINES: [(usize, &str, &str); 2] = [
+static LINES: [(usize, &str, &str); 2] = [
     (usize::MAX, "2 2 1 0 1 0\n", PIECE),
     (4, "2 2 ", "error writing: full"),
 ];
+
+/// The piece ends so, whatever is missing.
+fn is_told(
+    rt: &impl Abort,
+    alloc: Global,
+    texts: (&str, &str),
+    piece: &str,
+    outputs: &mut PieceOutputs<Page, Page>,
+    told: &str,
+) {
+    let piece = Pieces::whole(piece.as_bytes());
+    let ended = ran(alloc, texts, piece, outputs, usize::MAX);
+    assert_eq!(rt; ended.outcome(), outcome_of(told), "{texts:?}");
+}
+
+fn has_written(rt: &impl Abort, page: &Option<Page>, text: &str, wanted: &str) {
+    assert_eq!(rt; bytes_of(page), text.as_bytes(), "{wanted}");
+}
 
 #[test]
 fn lines_of_a_piece(rt: HostRuntime) {
     for (room, lines, told) in &LINES {
         let mut outputs = outputs_to(Some(Page::of_room(rt.alloc(), *room)), None);
-        let piece = Pieces::whole(b"");
-        let ended = ran(
-            rt.alloc(),
-            ("1 2 0", "2 1 0"),
-            piece,
-            &mut outputs,
-            usize::MAX,
-        );
-        assert_eq!(rt; ended.outcome(), outcome_of(told));
-        assert_eq!(rt; bytes_of(&outputs.lrat), lines.as_bytes());
+        is_told(&rt, rt.alloc(), ("1 2 0", "2 1 0"), "", &mut outputs, told);
+        has_written(&rt, &outputs.lrat, lines, "2 1 0");
     }
 }
 
@@ -210,7 +220,7 @@ type CoreRow = (
     &'static str,
 );
 
-const CORES: [CoreRow; 12] = [
+static CORES: [CoreRow; 12] = [
     // what is wanted is a clause of the formula, none, or one that two others give
     (THREE, "2 1 0", "", "p cnf 2 1\n1 2 0\n", PIECE),
     (THREE, "", "1 0\n", "p cnf 0 0\n", PIECE),
@@ -287,20 +297,18 @@ fn writes_core(
     (cnf, wanted, piece, core, told): CoreRow,
     room: usize,
 ) {
-    let lines = Page::endless(alloc);
-    let mut outputs = outputs_to(Some(lines), Some(Page::of_room(alloc, room)));
-    let piece = Pieces::whole(piece.as_bytes());
-    let ended = ran(alloc, (cnf, wanted), piece, &mut outputs, usize::MAX);
-    assert_eq!(rt; ended.outcome(), outcome_of(told), "{wanted}");
-    assert_eq!(rt; bytes_of(&outputs.core), core.as_bytes(), "{wanted}");
-    assert_eq!(rt; bytes_of(&outputs.lrat), b"".as_slice());
+    let core_page = Page::of_room(alloc, room);
+    let mut outputs = outputs_to(Some(Page::endless(alloc)), Some(core_page));
+    is_told(rt, alloc, (cnf, wanted), piece, &mut outputs, told);
+    has_written(rt, &outputs.core, core, wanted);
+    has_written(rt, &outputs.lrat, "", wanted);
 }
 
 /// A core that can't be written ends the run.
 #[test]
 fn cores_of_pieces(rt: HostRuntime) {
-    for row in CORES {
-        writes_core(&rt, rt.alloc(), row, usize::MAX);
+    for row in &CORES {
+        writes_core(&rt, rt.alloc(), *row, usize::MAX);
     }
     let unwritten = (THREE, "1 2 0", "", "p cnf", "error writing: full");
     writes_core(&rt, rt.alloc(), unwritten, 5);

@@ -22,7 +22,7 @@ type Run = (&'static [u8], &'static str);
 /// A formula, and proofs over it.
 type Row = (&'static str, &'static [Run]);
 
-const RUNS: [Row; 6] = [
+static RUNS: [Row; 6] = [
     (
         FOUR,
         &[
@@ -55,7 +55,7 @@ const RUNS: [Row; 6] = [
 ];
 
 /// The four clauses have the ids 1 to 4.
-const WITH_IDS: [Run; 11] = [
+static WITH_IDS: [Run; 11] = [
     (b"o 1 1 2 0 o 2 -2 1 0 a 5 1 0", VERIFIED),
     (
         b"o 3 1 2 0\no 9 1 -2 0\na 5 1 0 l 3 9 0\na 6 0 l 5 0\n",
@@ -91,7 +91,7 @@ const ALIKE_AT_MOST: &str = "1 2 0 -1 -2 0 1 3 0 2 3 0 -1 4 0 -2 4 0 -3 -4 5 268
     -3 -4 5 -268435456 0 -3 -4 -5 268435456 0 -3 -4 -5 -268435456 0";
 
 /// Where its first literal comes again, the witness of a clause begins.
-const WITH_WITNESSES: [Row; 2] = [
+static WITH_WITNESSES: [Row; 2] = [
     (
         ALIKE,
         &[
@@ -116,13 +116,13 @@ const WITH_WITNESSES: [Row; 2] = [
 ];
 
 /// A literal that comes again says nothing more.
-const WITHOUT: [Row; 2] = [
+static WITHOUT: [Row; 2] = [
     (ALIKE, &[(b"1 -2 1 -2 0\n1 0\n5 0\n", FIRST_UNFOUNDED)]),
     (FOUR, &[(b"1 1 2 -2 0\n1 1 0\n", VERIFIED)]),
 ];
 
 /// Ids, and hints that may be there or not. The clauses of the formula have the ids from 1 on.
-const AS_LPR: [Row; 2] = [
+static AS_LPR: [Row; 2] = [
     (
         ALIKE,
         &[
@@ -150,14 +150,41 @@ const AS_LPR: [Row; 2] = [
     ),
 ];
 
-const AS_FRAT: [Run; 2] = [
+static AS_FRAT: [Run; 2] = [
     (b"a 5 1 0\n", VERIFIED),
     (b"1 0\n", "proof: step 1: malformed"),
 ];
 
-const AS_DRAT: [Run; 1] = [(b"o 1 1 2 0\n", "proof: step 1: malformed")];
+static AS_DRAT: [Run; 1] = [(b"o 1 1 2 0\n", "proof: step 1: malformed")];
 
-/// What is told of the proof as it is read. As much of the line is written as there is room for.
+/// The lines of no proof.
+fn no_outputs() -> Outputs<Page, Page> {
+    Outputs {
+        lrat: None,
+        form: LineForm::Text,
+        trim: None,
+        core: None,
+        counts: Cell::default(),
+    }
+}
+
+/// The end of a run over the proof as it is read, with as much room for its line.
+fn ran(alloc: Global, (cnf, proof): (&str, Pieces<'_>), format: ProofFormat, room: usize) -> Ended {
+    let mut page = Page::of_room(alloc, room);
+    let answer = run_check(
+        &Discard,
+        alloc,
+        Pieces::whole(cnf.as_bytes()),
+        proof,
+        format,
+        &mut no_outputs(),
+        &mut page,
+        &mut None,
+    );
+    Ended::of(alloc, page, &answer, exit_status(&answer))
+}
+
+/// What is told of the proof. As much of the line is written as there is room for.
 fn is_answered(
     rt: &impl Abort,
     alloc: Global,
@@ -166,25 +193,7 @@ fn is_answered(
     room: usize,
     told: &str,
 ) {
-    let mut page = Page::of_room(alloc, room);
-    let mut outputs: Outputs<Page, Page> = Outputs {
-        lrat: None,
-        form: LineForm::Text,
-        trim: None,
-        core: None,
-        counts: Cell::default(),
-    };
-    let answer = run_check(
-        &Discard,
-        alloc,
-        Pieces::whole(cnf.as_bytes()),
-        proof,
-        format,
-        &mut outputs,
-        &mut page,
-        &mut None,
-    );
-    let ended = Ended::of(alloc, page, &answer, exit_status(&answer));
+    let ended = ran(alloc, (cnf, proof), format, room);
     assert_eq!(rt; ended.outcome(), outcome_of(told), "{proof:?}");
 }
 
@@ -213,7 +222,7 @@ fn runs(rt: HostRuntime) {
 }
 
 /// A proof after which a read fails, the room for the line, and what is told.
-const BROKEN: [(&[u8], usize, &str); 3] = [
+static BROKEN: [(&[u8], usize, &str); 3] = [
     (b"1 0\n", usize::MAX, VERIFIED),
     (
         b"1 2 0\n1",

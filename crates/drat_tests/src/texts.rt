@@ -21,7 +21,7 @@ fn show_step(shown: &mut Shown, kind: &str, lits: &[Lit]) {
     shown.lits(lits);
 }
 
-const TEXT: [Row; 14] = [
+static TEXT: [Row; 14] = [
     (b"", "end"),
     (b"\n c 1 0\n%\n\t\r\n", "end"),
     (b"1 -2 0\nd 1 -2 0\n0\n", "add 1 -2; delete 1 -2; add; end"),
@@ -38,7 +38,7 @@ const TEXT: [Row; 14] = [
     (b"1 0\nd ", "add 1; step 2: unfinished; end"),
 ];
 
-const BINARY: [Row; 9] = [
+static BINARY: [Row; 9] = [
     (b"a\x02\x05\x00", "add 1 -2; end"),
     (b"d\x02\x05\x00a\x00", "delete 1 -2; add; end"),
     (b"a\x7f\x82\x01\xff\x7f\x00", "add -63 65 -8191; end"),
@@ -59,7 +59,7 @@ const BINARY: [Row; 9] = [
     (b"a\x02\x00d\x82", "add 1; step 2: unfinished; end"),
 ];
 
-const BROKEN: [BrokenRow; 4] = [
+static BROKEN: [BrokenRow; 4] = [
     (b"1 0\n2 0\n", 1, "error reading proof: broken; end"),
     (b"1 0\n2 0\n", 8, "add 1; error reading proof: broken; end"),
     (b"d 1 0\n2 0\n", 4, "error reading proof: broken; end"),
