@@ -2,7 +2,7 @@
 use crate::bytes::ToldBytes;
 use crate::manner::Manner;
 use crate::told::Progress;
-use log::filter::Builder;
+use log::filter::{Builder, Filter};
 use log::{Log, debug, info};
 use std::alloc::Global;
 use std::cell::{Cell, RefCell};
@@ -28,9 +28,11 @@ impl Desk {
         }
     }
 
-    fn has_said(self, text: &str) -> bool {
-        let Desk { millis: _, said } = self;
-        said.into_inner().as_str() == text
+    fn has_said(&self, text: &str) -> bool {
+        match self.said.try_borrow() {
+            Ok(said) => said.as_str() == text,
+            Err(_) => false,
+        }
     }
 }
 
@@ -65,7 +67,7 @@ impl Eprint for Desk {
 /// is written of those, which are numbered from 0.
 type Row = (Manner, &'static str, &'static [u64], &'static str);
 
-const TOLD: [Row; 8] = [
+static TOLD: [Row; 8] = [
     (Manner::Silent, "", &[0, 500, 5000], ""),
     (Manner::Lines, "", &[0, 499], ""),
     (Manner::Lines, "", &[0, 499, 500, 999, 1000], "2\n4\n"),
@@ -81,24 +83,32 @@ const TOLD: [Row; 8] = [
     (Manner::Silent, "another=info", &[0, 500], ""),
 ];
 
-fn tells(alloc: Global, (manner, asked, times, said): Row) -> Result<bool, Fail> {
-    let desk = Desk::new(alloc);
-    let filter = Builder::new(alloc).parse(asked)?.build();
-    let progress = Progress::new(&desk, "run", filter, manner);
+/// What is logged where the environment asks for this.
+fn filter(alloc: Global, asked: &str) -> Result<Filter, Fail> {
+    Ok(Builder::new(alloc).parse(asked)?.build())
+}
+
+/// Logs a record at each of these milliseconds, and lets none stand in the line.
+fn tell(desk: &Desk, progress: &Progress<&Desk>, times: &[u64]) {
     for (number, millis) in times.iter().enumerate() {
         desk.millis.set(*millis);
-        info!(progress; "{number}");
+        info!(*progress; "{number}");
     }
     progress.flush();
     progress.flush();
-    drop(progress);
+}
+
+fn tells(alloc: Global, desk: &Desk, (manner, asked, times, said): Row) -> Result<bool, Fail> {
+    let progress = Progress::new(desk, "run", filter(alloc, asked)?, manner);
+    tell(desk, &progress, times);
     Ok(desk.has_said(said))
 }
 
 #[test]
 fn it_is_told_twice_a_second(rt: HostRuntime) -> Result<(), Fail> {
     for row in &TOLD {
-        assert!(rt; tells(rt.alloc(), *row)?, "{}", row.3);
+        let desk = Desk::new(rt.alloc());
+        assert!(rt; tells(rt.alloc(), &desk, *row)?, "{}", row.3);
     }
     Ok(())
 }
@@ -106,47 +116,58 @@ fn it_is_told_twice_a_second(rt: HostRuntime) -> Result<(), Fail> {
 /// What is asked for is logged whenever it comes, and a line that stands is taken back before.
 #[test]
 fn all_that_is_asked_for_is_logged(rt: HostRuntime) -> Result<(), Fail> {
-    let alloc = rt.alloc();
-    let desk = Desk::new(alloc);
-    let filter = Builder::new(alloc).parse("progress=info")?.build();
+    let desk = Desk::new(rt.alloc());
+    let filter = filter(rt.alloc(), "progress=info")?;
     let progress = Progress::new(&desk, "run", filter, Manner::OneLine);
-    let log = progress.asked_log();
-    info!(log; "begun");
-    desk.millis.set(500);
-    info!(progress; "told");
-    info!(log; "logged");
-    debug!(log; "unasked");
-    drop(progress);
+    log_both(&desk, &progress);
     let said =
         "[INFO  progress::tests] begun\n\r\x1b[Ktold\r\x1b[K[INFO  progress::tests] logged\n";
     assert!(rt; desk.has_said(said));
     Ok(())
 }
 
+fn log_both(desk: &Desk, progress: &Progress<&Desk>) {
+    let log = progress.asked_log();
+    info!(log; "begun");
+    desk.millis.set(500);
+    info!(*progress; "told");
+    info!(log; "logged");
+    debug!(log; "unasked");
+}
+
+/// How a run tells, and what is written as a proof of 10,000 bytes is read.
+static READ: [(Manner, &str); 2] = [
+    (Manner::Silent, ""),
+    (
+        Manner::OneLine,
+        "\r\x1b[Kproof: 0.0 of 0.0 MB read, 40 %\r\x1b[K",
+    ),
+];
+
+/// Whether the reader gives these bytes, some to a first read and then the rest.
+fn gives(alloc: Global, reader: &mut impl Read, proof: &[u8]) -> Result<bool, Fail> {
+    let mut front = [0; 8192];
+    let count = reader.read(&mut front)?;
+    let mut text = Vec::from_slice(alloc, &front[..count])?;
+    reader.read_to_end(&mut text)?;
+    Ok(text.as_slice() == proof)
+}
+
+fn gives_on(alloc: Global, desk: &Desk, proof: &[u8], manner: Manner) -> Result<bool, Fail> {
+    let progress = Progress::new(desk, "run", Builder::new(alloc).build(), manner);
+    desk.millis.set(500);
+    let mut reader = ToldBytes::new(&progress, proof, Some(10_000));
+    gives(alloc, &mut reader, proof)
+}
+
 /// With a listener and without one the bytes are those of the reader within, and the line is taken
 /// back with the reader.
 #[test]
 fn bytes_are_given_on(rt: HostRuntime) -> Result<(), Fail> {
-    let alloc = rt.alloc();
-    let proof = Vec::from_elem(alloc, b'x', 10_000)?;
-    for (manner, said) in [
-        (Manner::Silent, ""),
-        (
-            Manner::OneLine,
-            "\r\x1b[Kproof: 0.0 of 0.0 MB read, 40 %\r\x1b[K",
-        ),
-    ] {
-        let desk = Desk::new(alloc);
-        let progress = Progress::new(&desk, "run", Builder::new(alloc).build(), manner);
-        desk.millis.set(500);
-        let mut front = [0; 8192];
-        let mut reader = ToldBytes::new(&progress, proof.as_slice(), Some(10_000));
-        let count = reader.read(&mut front)?;
-        let mut text = Vec::from_slice(alloc, &front[..count])?;
-        reader.read_to_end(&mut text)?;
-        drop(reader);
-        drop(progress);
-        assert!(rt; text.as_slice() == proof.as_slice());
+    let proof = Vec::from_elem(rt.alloc(), b'x', 10_000)?;
+    for (manner, said) in &READ {
+        let desk = Desk::new(rt.alloc());
+        assert!(rt; gives_on(rt.alloc(), &desk, &proof, *manner)?);
         assert!(rt; desk.has_said(said), "{said}");
     }
     Ok(())
