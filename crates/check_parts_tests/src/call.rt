@@ -229,14 +229,15 @@ fn with_empty_previous(alloc: Global, ctx: &mut Context)
 }
 
 fn recorded(ctx: &Context, what: &Look) -> Seen {
+    let (clauses, state) = (&ctx.clauses, &ctx.checker_state);
     match what {
-        Look::NextId => Seen::Number(ctx.clauses.next_clause_id),
-        Look::PreviousId => Seen::Id(ctx.checker_state.previous_id),
-        Look::Inputs => Seen::Number(ctx.checker_state.input_clauses),
-        Look::Units => Seen::Number(ctx.clauses.unit_clauses.len() as u64),
-        Look::UnitConflict => Seen::Pair(ctx.clauses.unit_conflict),
-        Look::Unsat => Seen::Is(ctx.checker_state.unsat),
-        Look::Ended => Seen::Is(ctx.checker_state.ended),
+        Look::NextId => Seen::Number(clauses.next_clause_id),
+        Look::PreviousId => Seen::Id(state.previous_id),
+        Look::Inputs => Seen::Number(state.input_clauses),
+        Look::Units => Seen::Number(clauses.unit_clauses.len() as u64),
+        Look::UnitConflict => Seen::Pair(clauses.unit_conflict),
+        Look::Unsat => Seen::Is(state.unsat),
+        Look::Ended => Seen::Is(state.ended),
     }
 }
 

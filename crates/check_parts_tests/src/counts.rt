@@ -11,7 +11,10 @@ const MOST: usize = u32::MAX as usize;
 fn lit(code: usize) -> Result<Lit, Fail>
     ensures { IfOk result (λ lit. lit ≡ code) }
 {
-    Ok(Lit::from_code(code).ok_or("no literal")?)
+    match Lit::from_code(code) {
+        Some(lit) => Ok(lit),
+        None => Err("no literal".into()),
+    }
 }
 
 /// A count passes four bytes, and comes back. Those beside it stay, and new ones begin at 0.

@@ -103,12 +103,12 @@ fn delivers(
         return Err("no room for a box".into());
     }
     let clause = lits(alloc, "1 2")?;
-    let step = CheckedProofStep::AddClause {
-        id: 0,
-        clause: &clause,
-    };
-    let told = process_step(&mut ctx.processing, &ctx.variables, &step);
-    assert!(rt; told.is_ok());
+    is_told(rt, ctx, &clause)
+}
+
+fn is_told(rt: &impl Abort, ctx: &mut Context, clause: &[Lit]) -> Result<(), Fail> {
+    let step = CheckedProofStep::AddClause { id: 0, clause };
+    assert!(rt; process_step(&mut ctx.processing, &ctx.variables, &step).is_ok());
     match ctx.processing.processors.as_slice() {
         [tally] => assert_eq!(rt; tally.output(), b"|".as_slice()),
         _ => return Err("not one processor".into()),
