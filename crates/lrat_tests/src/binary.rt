@@ -11,7 +11,7 @@ use test_streams::{Pieces, Shown};
 type Row = (&'static [u8], &'static str);
 
 /// Binary lines with plain ids, and what is shown of them.
-const PLAIN: [Row; 18] = [
+static PLAIN: [Row; 18] = [
     (b"a\x04\x02\x05\x00\x02\x06\x00", "4 1 -2 0 1 3 0 @1\nend"),
     (
         b"a\x08\x02\x00\x0E\x07\x08\x0D\x00",
@@ -57,7 +57,7 @@ const PLAIN: [Row; 18] = [
 ];
 
 /// The same with doubled ids.
-const DOUBLED: [Row; 5] = [
+static DOUBLED: [Row; 5] = [
     (b"a\x08\x02\x05\x00\x02\x06\x00", "4 1 -2 0 1 3 0 @1\nend"),
     (
         b"a\x04\x00\x00d\x0E\x84\x02\x00",
@@ -75,7 +75,7 @@ const DOUBLED: [Row; 5] = [
 ];
 
 /// First bytes, how many clauses the formula has, and the form that they tell.
-const FORMS: [(&[u8], u64, LratForm); 14] = [
+static FORMS: [(&[u8], u64, LratForm); 14] = [
     (b"", 3, LratForm::Text),
     (b"4 0 1 0\n", 3, LratForm::Text),
     (b"c a\n", 3, LratForm::Text),
@@ -121,17 +121,21 @@ fn lines(rt: HostRuntime) {
     are_shown(&rt, rt.alloc(), Doubled, &DOUBLED);
 }
 
+/// Whether these bytes tell this form, after a formula of this many clauses.
+fn is_told(alloc: Global, proof: Pieces<'_>, clauses: u64, form: LratForm) -> bool {
+    match open_proof(alloc, proof, None, clauses) {
+        Ok(reader) => reader.form() == form,
+        Err(_) => false,
+    }
+}
+
 #[test]
 fn forms(rt: HostRuntime) {
     let alloc = rt.alloc();
     for (bytes, clauses, form) in &FORMS {
         for size in [1, 100] {
             let pieces = Pieces::of_size(bytes, size);
-            let told = match open_proof(alloc, pieces, None, *clauses) {
-                Ok(reader) => reader.form() == *form,
-                Err(_) => false,
-            };
-            assert!(rt; told, "{clauses}");
+            assert!(rt; is_told(alloc, pieces, *clauses, *form), "{clauses}");
         }
     }
 }

@@ -58,7 +58,7 @@ const DERIVED_AGAIN: &[u8] = b"\x00\x02\
 type Row = (&'static [u8], &'static [u8]);
 
 /// Proofs that refute the four clauses. Nothing is read after that.
-const REFUTATIONS: [Row; 5] = [
+static REFUTATIONS: [Row; 5] = [
     (REFUTATION, REFUTED),
     // the lines after a clause that is not needed: clauses of the formula stay, and so does a unit
     (
@@ -92,7 +92,7 @@ const REFUTATIONS: [Row; 5] = [
 ];
 
 /// Proofs over two clauses, which they don't refute.
-const OPEN: [Row; 9] = [
+static OPEN: [Row; 9] = [
     (b"", NO_STEP),
     (b"3 2 1 0 1 2 0\n", DERIVED),
     // repeated literals count once
@@ -118,10 +118,10 @@ const OPEN: [Row; 9] = [
 ];
 
 /// Formulas that are refuted already.
-const REFUTED_FORMULAS: [&str; 3] = ["0", "1 2 0 0", "1 0 2 3 0 -1 -1 0"];
+static REFUTED_FORMULAS: [&str; 3] = ["0", "1 2 0 0", "1 0 2 3 0 -1 -1 0"];
 
 /// Proofs over the four clauses, and the texts of their faults.
-const REFUSED: [(&[u8], &str); 13] = [
+static REFUSED: [(&[u8], &str); 13] = [
     (
         b"5 1 0 1 2 0\n6 -1 0 3 -4 2 0\n",
         "proof: line 2: RAT steps can't be converted",
@@ -223,11 +223,11 @@ fn refuses(
     text: &str,
 ) {
     let ended = ran(alloc, cnf, proof, HashWidth::full(), room);
-    assert_eq!(rt;
-        (ended.status(), ended.fault()),
-        (1, text),
-        "{proof:?}, {room}"
-    );
+    is_refused(rt, (ended.status(), ended.fault()), text, (proof, room));
+}
+
+fn is_refused(rt: &impl Abort, seen: (u8, &str), text: &str, (proof, room): (Pieces<'_>, usize)) {
+    assert_eq!(rt; seen, (1, text), "{proof:?}, {room}");
 }
 
 #[test]

@@ -43,20 +43,23 @@ const GROUP_FAILS: &str = "line 1: hints of a group end without a conflict";
 const GROUP_MISSING: &str = "line 1: no group for a clause with the negation of the first literal";
 
 /// How answers of refused lines begin.
-const LINES: [(usize, &str); 3] = [(1, "line 1:"), (2, "line 2:"), (3, "line 3:")];
+static LINES: [(usize, &str); 3] = [(1, "line 1:"), (2, "line 2:"), (3, "line 3:")];
+
+fn read(rt: &impl Abort, alloc: Global, formula: &str) -> CnfFormula {
+    read_formula(alloc, formula.as_bytes()).expect(rt, "a formula")
+}
 
 /// A new checker of a formula.
 fn new_checker(rt: &impl Abort, alloc: Global, formula: &str) -> LratChecker {
-    let formula = read_formula(alloc, formula.as_bytes()).expect(rt, "a formula");
-    LratChecker::new(alloc, &formula).expect(rt, "a checker")
+    LratChecker::new(alloc, &read(rt, alloc, formula)).expect(rt, "a checker")
 }
 
 /// Shows an answer in words.
-fn show(shown: &mut Shown, answer: Result<bool, LratFault>) {
+fn show(shown: &mut Shown, answer: &Result<bool, LratFault>) {
     match answer {
         Ok(true) => shown.words("refuted"),
         Ok(false) => shown.words("accepted"),
-        Err(fault) => shown.value(&fault),
+        Err(fault) => shown.value(fault),
     }
 }
 
@@ -69,7 +72,7 @@ fn is_answered(
     answer: &str,
 ) {
     let mut shown = Shown::new(alloc);
-    show(&mut shown, checker.check(proof));
+    show(&mut shown, &checker.check(proof));
     assert_eq!(rt; shown.text(), answer, "{proof:?}");
 }
 
@@ -121,7 +124,7 @@ fn holds(rt: &impl Abort, alloc: Global, formula: &CnfFormula, proof: &str, answ
 }
 
 fn all_hold(rt: &impl Abort, alloc: Global, formula: &str, proofs: &[(&str, &str)]) {
-    let formula = read_formula(alloc, formula.as_bytes()).expect(rt, "a formula");
+    let formula = read(rt, alloc, formula);
     for (proof, answer) in proofs {
         holds(rt, alloc, &formula, proof, answer);
     }

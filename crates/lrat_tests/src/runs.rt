@@ -6,7 +6,7 @@ use std::process::Abort;
 use test_streams::{Ended, FOUR, NOT_VERIFIED, Page, Pieces, VERIFIED, outcome_of};
 
 /// Proofs over the four clauses, and the line that is written of each, or the text of its fault.
-const RUNS: [(&str, &str); 16] = [
+static RUNS: [(&str, &str); 16] = [
     ("5 1 0 1 2 0\n6 0 5 3 4 0\n", VERIFIED),
     ("5 1 0 1 2 0\n5 d 1 2 0\n6 0 5 3 4 0", VERIFIED),
     (
@@ -42,7 +42,7 @@ const RUNS: [(&str, &str); 16] = [
 ];
 
 /// Formulas that can't be read.
-const FORMULAS: [(&str, &str); 3] = [
+static FORMULAS: [(&str, &str); 3] = [
     ("1 0\n2 x 0", "formula: line 2: bad number"),
     ("1 2", "formula: line 1: unterminated clause"),
     ("268435457 0", "formula: line 1: variable too large"),
@@ -51,11 +51,14 @@ const FORMULAS: [(&str, &str); 3] = [
 type Texts<'a> = (Pieces<'a>, Pieces<'a>);
 
 /// As much of the line is written as there is room for.
-fn is_answered(rt: &impl Abort, alloc: Global, texts: Texts<'_>, room: usize, told: &str) {
-    let (cnf, proof) = texts;
+fn ran(alloc: Global, (cnf, proof): Texts<'_>, room: usize) -> Ended {
     let mut page = Page::of_room(alloc, room);
     let answer = run_check(alloc, cnf, proof, None, &mut page, &mut None);
-    let ended = Ended::of(alloc, page, &answer, exit_status(&answer));
+    Ended::of(alloc, page, &answer, exit_status(&answer))
+}
+
+fn is_answered(rt: &impl Abort, alloc: Global, (cnf, proof): Texts<'_>, room: usize, told: &str) {
+    let ended = ran(alloc, (cnf, proof), room);
     assert_eq!(rt; ended.outcome(), outcome_of(told), "{proof:?}");
 }
 

@@ -28,14 +28,14 @@ fn show_call(shown: &mut Shown, checker: &mut LratChecker, call: Call, proof: &[
         Call::CheckBroken => checker.check(broken),
         Call::RefuteBroken => checker.refute(broken),
     };
-    show(shown, answer);
+    show(shown, &answer);
 }
 
 /// The answer to all that comes after a fault.
 const FAILED: &str = "an earlier line was not accepted";
 
 /// Lines of several texts are checked one after the other; each text counts its lines from 1.
-const IN_TURN: [Row; 5] = [
+static IN_TURN: [Row; 5] = [
     (Check, "5 1 0 1 2 0\n\n", "accepted", false),
     (Check, "6 0 5 3 4 0", "refuted", true),
     (Check, "", "refuted", true),
@@ -44,14 +44,14 @@ const IN_TURN: [Row; 5] = [
 ];
 
 /// What is answered after a fault, by each call.
-const AFTER_A_FAULT: [Row; 3] = [
+static AFTER_A_FAULT: [Row; 3] = [
     (Check, "3 0 1 2 0\n4 0 1 2", "line 2: unfinished line", true),
     (Check, "", FAILED, true),
     (Refute, "", FAILED, true),
 ];
 
 /// Each by a checker of its own.
-const FIRST: [Row; 16] = [
+static FIRST: [Row; 16] = [
     // refuting stops at the empty clause
     (Check, "3 0 1 2 0\n3 0 0\n", "line 2: id is taken", true),
     (Refute, "3 0 1 2 0\n3 0 0\n", "refuted", true),
@@ -133,8 +133,6 @@ fn comes_again(rt: &impl Abort, alloc: Global, checker: &mut LratChecker) {
 
 #[test]
 fn long_proofs(rt: HostRuntime) {
-    let mut four = new_checker(&rt, rt.alloc(), FOUR);
-    deletes_many(&rt, rt.alloc(), &mut four);
-    let mut three = new_checker(&rt, rt.alloc(), THREE);
-    comes_again(&rt, rt.alloc(), &mut three);
+    deletes_many(&rt, rt.alloc(), &mut new_checker(&rt, rt.alloc(), FOUR));
+    comes_again(&rt, rt.alloc(), &mut new_checker(&rt, rt.alloc(), THREE));
 }

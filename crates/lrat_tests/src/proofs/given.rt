@@ -1,6 +1,6 @@
 //! Formulas that are given clause by clause, and read.
 use super::show;
-use lrat_checker::LratFormula;
+use lrat_checker::{LratChecker, LratFormula};
 use sat_formula::{DimacsFault, Lit};
 use std::alloc::Global;
 use std::process::Abort;
@@ -9,29 +9,34 @@ use test_streams::Shown;
 /// The empty clause, by two units.
 const PROOF: &[u8] = b"3 0 1 2 0\n";
 
-/// A formula of these clauses.
-fn given(rt: &impl Abort, alloc: Global, clauses: &[&[Lit]]) -> LratFormula {
-    let mut formula = LratFormula::new(alloc).expect(rt, "a formula");
+fn add(rt: &impl Abort, formula: &mut LratFormula, clauses: &[&[Lit]]) {
     for clause in clauses {
         formula.add_clause(clause).expect(rt, "a clause");
     }
+}
+
+/// A formula of these clauses.
+fn given(rt: &impl Abort, alloc: Global, clauses: &[&[Lit]]) -> LratFormula {
+    let mut formula = LratFormula::new(alloc).expect(rt, "a formula");
+    add(rt, &mut formula, clauses);
     formula
 }
 
-/// Shows whether the formula is refuted by itself, and what is answered to the proof then; or the
-/// fault of its text.
+/// Shows whether the formula is refuted by itself, and what is answered to the proof then.
+fn show_checker(shown: &mut Shown, checker: &mut LratChecker) {
+    let refuted = if checker.refuted() {
+        "refuted, "
+    } else {
+        "open, "
+    };
+    shown.words(refuted);
+    show(shown, &checker.check(PROOF));
+}
+
+/// Shows that of a formula, or the fault of its text.
 fn show_formula(shown: &mut Shown, formula: Result<LratFormula, DimacsFault>) {
     match formula {
-        Ok(formula) => {
-            let mut checker = formula.checker();
-            let refuted = if checker.refuted() {
-                "refuted, "
-            } else {
-                "open, "
-            };
-            shown.words(refuted);
-            show(shown, checker.check(PROOF));
-        }
+        Ok(formula) => show_checker(shown, &mut formula.checker()),
         Err(fault) => shown.value(&fault),
     }
 }
@@ -42,7 +47,7 @@ fn is_shown(rt: &impl Abort, alloc: Global, formula: Result<LratFormula, DimacsF
     assert_eq!(rt; shown.text(), text);
 }
 
-const TEXTS: [(&str, &str); 2] = [
+static TEXTS: [(&str, &str); 2] = [
     ("c\np cnf 1 2\n1 0 -1 0\n", "open, refuted"),
     ("1 0\n\n2 x 0", "line 3: bad number"),
 ];

@@ -2,7 +2,7 @@
 use super::{BOTH, GROUP_FAILS, GROUP_MISSING, NO_CONFLICT, NOT_UNIT, Row, THREE};
 use test_streams::FOUR;
 
-pub const GROUPS: [Row; 2] = [
+pub static GROUPS: [Row; 2] = [
     (
         THREE,
         &[
@@ -46,7 +46,7 @@ pub const GROUPS: [Row; 2] = [
     ),
 ];
 
-pub const LITERALS: [Row; 6] = [
+pub static LITERALS: [Row; 6] = [
     (THREE, &[("4 1 1 0 -1 2 3 0", "accepted")]),
     (
         "-1 -1 2 0",
@@ -76,7 +76,7 @@ pub const LITERALS: [Row; 6] = [
     ("1 -1 0 -1 2 0", &[("3 1 -2 0 -2 0", GROUP_MISSING)]),
 ];
 
-pub const REFUTED: [Row; 3] = [
+pub static REFUTED: [Row; 3] = [
     (
         FOUR,
         &[(

@@ -4,7 +4,7 @@ use super::{
 };
 use test_streams::FOUR;
 
-pub const PROPAGATION: [Row; 7] = [
+pub static PROPAGATION: [Row; 7] = [
     (
         UNITS,
         &[
@@ -48,7 +48,7 @@ pub const PROPAGATION: [Row; 7] = [
 
 /// What a checker of lines of hints would refuse too, or would not: ids need not rise, and hints
 /// may go on after the conflict.
-pub const LINES_OF_HINTS: [Row; 2] = [
+pub static LINES_OF_HINTS: [Row; 2] = [
     (FOUR, &[("9 1 0 1 2 0\n10 0 9 3 4 0\n", "refuted")]),
     (
         UNITS,
@@ -68,7 +68,7 @@ pub const LINES_OF_HINTS: [Row; 2] = [
 /// 2^28 is the greatest number of a variable, and its literals have no places.
 const PAIRS: &str = "1 268435456 0 1 -268435456 0 -1 268435456 0 -1 -268435456 0";
 
-pub const FAR_LITERALS: [Row; 6] = [
+pub static FAR_LITERALS: [Row; 6] = [
     (
         UNITS,
         &[
@@ -103,7 +103,7 @@ pub const FAR_LITERALS: [Row; 6] = [
     ),
 ];
 
-pub const IDS: [Row; 2] = [
+pub static IDS: [Row; 2] = [
     (
         THREE,
         &[
@@ -151,7 +151,7 @@ pub const IDS: [Row; 2] = [
 ];
 
 /// The empty clause of a formula refutes it, whatever the proof.
-pub const EMPTY_CLAUSES: [Row; 2] = [
+pub static EMPTY_CLAUSES: [Row; 2] = [
     ("0", &[("", "refuted"), ("2 0 1 0", "refuted")]),
     (BOTH, &[("", "accepted")]),
 ];

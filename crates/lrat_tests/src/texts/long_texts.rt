@@ -1,12 +1,11 @@
 //! Lines over more than one buffer.
-use super::show;
-use lrat_binary::{LratForm, LratReader};
+use super::shown;
 use std::alloc::Global;
 use std::process::Abort;
 use test_streams::{Pieces, Shown};
 
 /// A long comment, a long run of blanks, and a line with many literals and hints.
-const LONG: [(&str, u32); 9] = [
+static LONG: [(&str, u32); 9] = [
     ("c", 1),
     ("7", 40000),
     ("\n", 1),
@@ -18,7 +17,7 @@ const LONG: [(&str, u32); 9] = [
     ("0\n10 x", 1),
 ];
 
-const LONG_SHOWN: [(&str, u32); 5] = [
+static LONG_SHOWN: [(&str, u32); 5] = [
     ("9 ", 1),
     ("-12 ", 20000),
     ("0 ", 1),
@@ -27,7 +26,7 @@ const LONG_SHOWN: [(&str, u32); 5] = [
 ];
 
 /// As many short lines as fill the buffer some times: their ends stand at its border too.
-const MANY: [(&str, u32); 1] = [("12 1 -2 0 3 0\n", 9000)];
+static MANY: [(&str, u32); 1] = [("12 1 -2 0 3 0\n", 9000)];
 
 /// What is shown of them.
 fn many_shown(alloc: Global) -> Shown {
@@ -41,10 +40,8 @@ fn many_shown(alloc: Global) -> Shown {
 }
 
 fn is_shown(rt: &impl Abort, alloc: Global, name: &str, text: &Shown, expected: &Shown) {
-    let mut shown = Shown::new(alloc);
     let pieces = Pieces::whole(text.text().as_bytes());
-    let mut reader = LratReader::new(alloc, pieces, LratForm::Text);
-    show(&mut shown, &mut reader, 10000);
+    let shown = shown(alloc, pieces, 10000);
     assert!(rt; shown.text() == expected.text(), "{name}");
 }
 

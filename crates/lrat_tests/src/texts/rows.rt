@@ -1,12 +1,11 @@
 //! Texts with their answers.
-use super::{line_ends, show};
-use lrat_binary::{LratForm, LratReader};
+use super::{line_ends, shown};
 use std::alloc::Global;
 use std::process::Abort;
 use test_streams::{Pieces, Shown};
 
 /// Texts that say nothing.
-const PASSED_OVER: [&[u8]; 6] = [
+static PASSED_OVER: [&[u8]; 6] = [
     b"",
     b"\n",
     b"  \t \r\n",
@@ -16,7 +15,7 @@ const PASSED_OVER: [&[u8]; 6] = [
 ];
 
 /// Texts whose first line is malformed.
-const MALFORMED: [&[u8]; 38] = [
+static MALFORMED: [&[u8]; 38] = [
     // blanks
     b"4 1 0 2 0\r5 1 0 0\n",
     b"4\x0B1 0 0\n",
@@ -64,7 +63,7 @@ const MALFORMED: [&[u8]; 38] = [
 ];
 
 /// Texts whose first line has a number that is too large.
-const TOO_LARGE: [&[u8]; 8] = [
+static TOO_LARGE: [&[u8]; 8] = [
     b"18446744073709551616 1 0 0\n",
     b"4 1 0 18446744073709551616 0\n",
     b"4 1 0 -18446744073709551616 0\n",
@@ -76,10 +75,10 @@ const TOO_LARGE: [&[u8]; 8] = [
 ];
 
 /// Texts that end within their first line.
-const UNFINISHED: [&[u8]; 7] = [b"4", b"0", b"4 1", b"4 1 0", b"4 1 0 2", b"5 d ", b"5 d 1"];
+static UNFINISHED: [&[u8]; 7] = [b"4", b"0", b"4 1", b"4 1 0", b"4 1 0 2", b"5 d ", b"5 d 1"];
 
 /// Texts of one line, and what it says.
-const LINES: [(&[u8], &str); 13] = [
+static LINES: [(&[u8], &str); 13] = [
     (b"1 0 0\n", "1 0 0"),
     (b"4 1 -2 0 1 3 0\n", "4 1 -2 0 1 3 0"),
     (b"4 1 -2 0 1 3 0", "4 1 -2 0 1 3 0"),
@@ -105,7 +104,7 @@ const LINES: [(&[u8], &str); 13] = [
 ];
 
 /// Texts of several lines, and what is answered, each beside the number of its line.
-const TEXTS: [(&[u8], &[(usize, &str)]); 5] = [
+static TEXTS: [(&[u8], &[(usize, &str)]); 5] = [
     (
         b"c x\n\n4 1 0 2 0\n \nc y\n5 d 1 0\n",
         &[(3, "4 1 0 2 0"), (6, "d 1 0")],
@@ -128,6 +127,22 @@ const TEXTS: [(&[u8], &[(usize, &str)]); 5] = [
     ),
 ];
 
+fn is_fault(answer: &str) -> bool {
+    !matches!(answer.as_bytes(), [.., b'0'])
+}
+
+fn show_line(shown: &mut Shown, line: usize, answer: &str) {
+    if is_fault(answer) {
+        shown.number("line ", line as u64);
+        shown.words(": ");
+        shown.words(answer);
+    } else {
+        shown.words(answer);
+        shown.number(" @", line as u64);
+    }
+    shown.words("\n");
+}
+
 /// Shows what is answered where this many lines were read to their LF and the next read fails.
 fn show_expected(shown: &mut Shown, answers: &[(usize, &str)], lines: usize) {
     let mut is_broken = lines < usize::MAX;
@@ -135,17 +150,11 @@ fn show_expected(shown: &mut Shown, answers: &[(usize, &str)], lines: usize) {
         if *line > lines {
             break;
         }
-        if !answer.ends_with("0") {
-            shown.number("line ", *line as u64);
-            shown.words(": ");
-            shown.words(answer);
-            shown.words("\n");
+        show_line(shown, *line, answer);
+        if is_fault(answer) {
             is_broken = false;
             break;
         }
-        shown.words(answer);
-        shown.number(" @", *line as u64);
-        shown.words("\n");
     }
     if is_broken {
         shown.words("error reading proof: broken\n");
@@ -161,15 +170,9 @@ fn is_answered(
     answers: &[(usize, &str)],
     lines: usize,
 ) {
-    let mut shown = Shown::new(alloc);
-    show(
-        &mut shown,
-        &mut LratReader::new(alloc, text, LratForm::Text),
-        10,
-    );
     let mut expected = Shown::new(alloc);
     show_expected(&mut expected, answers, lines);
-    assert_eq!(rt; shown.text(), expected.text(), "{text:?}");
+    assert_eq!(rt; shown(alloc, text, 10).text(), expected.text(), "{text:?}");
 }
 
 /// The text is answered so read at once and in pieces.
