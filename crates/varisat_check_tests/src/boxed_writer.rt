@@ -26,15 +26,27 @@ fn shows_its_lines(
     formula: &CnfFormula,
     writer: Box<dyn ProofProcessor>,
 ) -> Result<(), Fail> {
-    let (mut out, mut lrat) = (Vec::new(alloc), Vec::new(alloc));
+    let mut lrat = Vec::new(alloc);
+    is_handed_back(rt, alloc, formula, writer, &mut lrat)?;
+    assert_eq!(rt; lrat.as_slice(), LINES.as_bytes());
+    Ok(())
+}
+
+fn is_handed_back(
+    rt: &impl Abort,
+    alloc: Global,
+    formula: &CnfFormula,
+    writer: Box<dyn ProofProcessor>,
+    lrat: &mut Vec<u8>,
+) -> Result<(), Fail> {
+    let mut out = Vec::new(alloc);
     let proof = WIDTH_1.as_slice();
-    match run_lrat(&Discard, alloc, formula, writer, proof, &mut out, &mut lrat) {
+    match run_lrat(&Discard, alloc, formula, writer, proof, &mut out, lrat) {
         Ok((verdict, writer)) => {
             assert_eq!(rt; verdict, Verdict::Unsatisfiable);
             assert_eq!(rt; writer.output(), LINES.as_bytes());
+            Ok(())
         }
-        Err(_) => return Err("the proof is refused".into()),
+        Err(_) => Err("the proof is refused".into()),
     }
-    assert_eq!(rt; lrat.as_slice(), LINES.as_bytes());
-    Ok(())
 }

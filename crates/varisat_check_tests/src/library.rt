@@ -8,11 +8,15 @@ use varisat_checker::internal::SelfChecker;
 use varisat_checker::{Checker, CheckerError};
 
 fn refutes(alloc: Global, p: Lit, q: Lit) -> Result<bool, CheckerError> {
+    let hash = ClauseHasher::new(alloc).clause_hash(&[!p, q]);
     let mut checker = Checker::new(alloc);
+    finds_conflict(&mut checker, p, q, hash)
+}
+
+fn finds_conflict(checker: &mut Checker, p: Lit, q: Lit, hash: u64) -> Result<bool, CheckerError> {
     checker.add_clause(&[p])?;
     checker.add_clause(&[!p, q])?;
     checker.add_clause(&[!q])?;
-    let hash = ClauseHasher::new(alloc).clause_hash(&[!p, q]);
     checker.self_check_step(ProofStep::AtClause {
         redundant: false,
         clause: &[],

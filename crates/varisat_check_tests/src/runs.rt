@@ -102,10 +102,20 @@ fn prove_with(
 ) {
     assert!(rt; checker.add_formula(formula).is_ok());
     for (proof, outcome) in proofs {
-        let mut out = Page::endless(alloc);
-        let answer = run_proof(&Discard, checker, *proof, &mut out);
-        has_outcome(rt, alloc, answer, out, *outcome);
+        prove_one(rt, alloc, checker, proof, *outcome);
     }
+}
+
+fn prove_one(
+    rt: &impl Abort,
+    alloc: Global,
+    checker: &mut Checker,
+    proof: &[u8],
+    outcome: Outcome<'_>,
+) {
+    let mut out = Page::endless(alloc);
+    let answer = run_proof(&Discard, checker, proof, &mut out);
+    has_outcome(rt, alloc, answer, out, outcome);
 }
 
 fn prove_all(rt: &impl Abort, alloc: Global, rows: &[Proofs]) {
