@@ -107,7 +107,17 @@ pub fn run_piece<
         Ok(wanted) => wanted,
         Err(fault) => return Err(PieceFault::Wanted(fault)),
     };
-    let verdict = match judge_piece(rt, alloc, &formula, &wanted, piece, format, outputs) {
+    let judged = judge_piece(
+        rt,
+        alloc,
+        &formula,
+        &wanted,
+        piece,
+        format,
+        &mut Elaborator::new(alloc),
+        outputs,
+    );
+    let verdict = match judged {
         Ok(verdict) => verdict,
         Err(fault) => return Err(fault),
     };
@@ -128,6 +138,7 @@ fn judge_piece<R: Log, P: Read + Drop, L: Write + Drop, C: Write + Drop>(
     wanted: &CnfFormula,
     piece: P,
     format: ProofFormat,
+    elaborator: &mut Elaborator,
     outputs: &mut PieceOutputs<L, C>,
 ) -> Result<PieceVerdict, PieceFault>
     ensures shown { IfOk result (IsPieceShown formula.now wanted.now) }
@@ -142,21 +153,20 @@ fn judge_piece<R: Log, P: Read + Drop, L: Write + Drop, C: Write + Drop>(
     ensures lie { outputs.new.lie ≡ outputs.old.lie }
     ensures wanted_lie { outputs.new.wanted_lie ≡ outputs.old.wanted_lie }
 {
-    let mut elaborator = match read_proof(alloc, formula, piece, format, &outputs.counts) {
-        Ok(elaborator) => elaborator,
-        Err(fault) => return Err(PieceFault::Run(RunFault::Proof(fault))),
-    };
-    outputs.missing = match first_missing(alloc, &mut elaborator, wanted) {
+    if let Err(fault) = read_proof(alloc, formula, piece, format, &outputs.counts, elaborator) {
+        return Err(PieceFault::Run(RunFault::Proof(fault)));
+    }
+    outputs.missing = match first_missing(alloc, elaborator, wanted) {
         Ok(missing) => missing,
         Err(fault) => return Err(PieceFault::Run(RunFault::Proof(fault))),
     };
     if outputs.missing.is_some() {
         return Ok(PieceVerdict::NotCarried);
     }
-    if let Err(fault) = elaborate(rt, &mut elaborator) {
+    if let Err(fault) = elaborate(rt, elaborator) {
         return Err(PieceFault::Run(RunFault::Proof(fault)));
     }
-    count_core(&outputs.counts, formula, &elaborator);
+    count_core(&outputs.counts, formula, elaborator);
     let form = outputs.form;
     let PieceOutputs {
         lrat,
@@ -165,8 +175,8 @@ fn judge_piece<R: Log, P: Read + Drop, L: Write + Drop, C: Write + Drop>(
         ..
     } = outputs;
     match core {
-        Some(core) => show_core(alloc, formula, wanted, &mut elaborator, core, counts),
-        None => show_piece(alloc, formula, wanted, &mut elaborator, lrat, form, counts),
+        Some(core) => show_core(alloc, formula, wanted, elaborator, core, counts),
+        None => show_piece(alloc, formula, wanted, elaborator, lrat, form, counts),
     }
 }
 

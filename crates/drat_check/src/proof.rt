@@ -13,21 +13,21 @@ use std::alloc::Global;
 use std::cell::Cell;
 use std::io::Read;
 
-/// Reads a formula and a proof into an elaborator, up to the first conflict.
+/// Reads a formula and a proof into a new elaborator, up to the first conflict.
 pub(crate) fn read_proof<P: Read + Drop>(
     alloc: Global,
     formula: &CnfFormula,
     proof: P,
     format: ProofFormat,
     counts: &Cell<RunCounts>,
-) -> Result<Elaborator, ProofFault> {
-    let mut elaborator = begun(alloc, formula)?;
+    elaborator: &mut Elaborator,
+) -> Result<(), ProofFault> {
+    begin(formula, elaborator)?;
     let mut reader = ProofReader::new(alloc, proof, format)?;
     let mut steps = 0;
-    let read = hand_steps(&mut reader, &mut elaborator, &mut steps);
+    let read = hand_steps(&mut reader, elaborator, &mut steps);
     count_steps(counts, steps);
-    read?;
-    Ok(elaborator)
+    read
 }
 
 /// Hands an elaborator the steps up to the first conflict, and counts them.
@@ -46,14 +46,13 @@ fn hand_steps<P: Read + Drop>(
     Ok(())
 }
 
-/// An elaborator that has the formula.
-fn begun(alloc: Global, formula: &CnfFormula) -> Result<Elaborator, ProofFault> {
-    let mut elaborator = Elaborator::new(alloc);
+/// Hands an elaborator the formula.
+fn begin(formula: &CnfFormula, elaborator: &mut Elaborator) -> Result<(), ProofFault> {
     for clause in formula {
         elaborator.add_clause(clause)?;
     }
     elaborator.begin_proof()?;
-    Ok(elaborator)
+    Ok(())
 }
 
 /// Checks backward what the conflict needs.

@@ -88,11 +88,16 @@ pub fn run_proof<R: Log, P: Read + Drop, W: Write, L: Write, C: Write>(
     ensures form { outputs.new.form ≡ outputs.old.form }
     ensures refutes { result ≡ Ok Verified → (a : ℕ → Bool) → all_true a formula.now ≡ false }
 {
-    let elaborator = match read_proof(alloc, formula, proof, format, &outputs.counts) {
-        Ok(elaborator) => elaborator,
-        Err(fault) => return Err(RunFault::Proof(fault)),
-    };
-    let verdict = match verdict_of(rt, alloc, formula, elaborator, outputs) {
+    let judged = verdict_of(
+        rt,
+        alloc,
+        formula,
+        proof,
+        format,
+        &mut Elaborator::new(alloc),
+        outputs,
+    );
+    let verdict = match judged {
         Ok(verdict) => verdict,
         Err(fault) => return Err(fault),
     };
@@ -103,13 +108,15 @@ pub fn run_proof<R: Log, P: Read + Drop, W: Write, L: Write, C: Write>(
     }
 }
 
-/// What a proof that was read shows of a formula, once what it stands on is written. `Verified` is
-/// answered where the checker of LRAT proofs has taken the empty clause.
-fn verdict_of<R: Log, L: Write, C: Write>(
+/// What a proof shows of a formula, once what it stands on is written. `Verified` is answered where
+/// the checker of LRAT proofs has taken the empty clause.
+fn verdict_of<R: Log, P: Read + Drop, L: Write, C: Write>(
     rt: &R,
     alloc: Global,
     formula: &CnfFormula,
-    mut elaborator: Elaborator,
+    proof: P,
+    format: ProofFormat,
+    elaborator: &mut Elaborator,
     outputs: &mut Outputs<L, C>,
 ) -> Result<Verdict, RunFault>
     ensures run { IsProofRun formula.now result }
@@ -118,17 +125,20 @@ fn verdict_of<R: Log, L: Write, C: Write>(
         outputs.old outputs.new result }
     ensures form { outputs.new.form ≡ outputs.old.form }
 {
+    if let Err(fault) = read_proof(alloc, formula, proof, format, &outputs.counts, elaborator) {
+        return Err(RunFault::Proof(fault));
+    }
     if !elaborator.is_refuted() {
         return Ok(Verdict::NotVerified);
     }
-    if let Err(fault) = elaborate(rt, &mut elaborator) {
+    if let Err(fault) = elaborate(rt, elaborator) {
         return Err(RunFault::Proof(fault));
     }
-    if let Err(fault) = write_proof(alloc, formula, &mut elaborator, outputs) {
+    if let Err(fault) = write_proof(alloc, formula, elaborator, outputs) {
         return Err(fault);
     }
-    count_core(&outputs.counts, formula, &elaborator);
-    match write_core(alloc, formula, &elaborator, &mut outputs.core) {
+    count_core(&outputs.counts, formula, elaborator);
+    match write_core(alloc, formula, elaborator, &mut outputs.core) {
         Ok(()) => Ok(Verdict::Verified),
         Err(fault) => Err(RunFault::Core(fault)),
     }
