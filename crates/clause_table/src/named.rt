@@ -1,5 +1,5 @@
 //! The clauses under their ids.
-ghost use Rattle.std.specs.Prelude.{◌≡◌, ◌==◌, ◌+◌, ◌*◌, ◌≤◌, ◌^◌, ◌-◌, ◌&&◌, ℕ, None, Some, if◌then◌else◌, length, min, IfOk, OnOk};
+ghost use Rattle.std.specs.Prelude.{◌≡◌, ◌==◌, ◌+◌, ◌*◌, ◌≤◌, ◌^◌, ◌-◌, ◌&&◌, ℕ, None, Some, if◌then◌else◌, length, min, IfOk, OnErr, OnOk};
 ghost use Rattle.std.specs.Option.{option_copied};
 ghost use Rattle.clause_table.specs.Near.{IsTight, has_room, place_count};
 ghost use Rattle.clause_table.specs.Room.{gets_place, spare_places};
@@ -66,14 +66,15 @@ impl NamedClauses {
         self.stored
     }
 
-    /// Puts a clause under an id, in place of the one that is there. After an error the clauses are
-    /// of no use.
+    /// Puts a clause under an id, in place of the one that is there.
     pub fn put(&mut self, id: u64, clause: &[Lit]) -> Result<(), AllocError>
         ensures put { OnOk result ((k : ℕ) → clause_of self.new k
             ≡ (if k == id then Some clause.now else clause_of self.old k)) }
         ensures stored { OnOk result
             (stored_clauses self.new ≡ min (stored_clauses self.old + 1) (2 ^ 64 - 1)) }
         ensures tight { TakesLittle self.old → OnOk result (TakesLittle self.new) }
+        ensures err { OnErr result ((k : ℕ) → clause_of self.new k ≡ clause_of self.old k) }
+        ensures not_stored { OnErr result (stored_clauses self.new ≡ stored_clauses self.old) }
     {
         if !self.put_near(id, clause)? {
             self.put_far(id, clause)?;
@@ -88,6 +89,7 @@ impl NamedClauses {
             && has_room self.old.near id (length clause.now))) }
         ensures ok { IfOk result (λ put. (k : ℕ) → clause_of self.new k
             ≡ (if put && (k == id) then Some clause.now else clause_of self.old k)) }
+        ensures err { OnErr result ((k : ℕ) → clause_of self.new k ≡ clause_of self.old k) }
         ensures stored { self.new.stored ≡ self.old.stored }
         ensures tight { IsTight self.old.near → IsTight self.new.near }
     {
@@ -97,16 +99,17 @@ impl NamedClauses {
         self.near.put(id, clause)
     }
 
-    /// Puts a clause in the map.
+    /// Puts a clause in the map. One in a place goes once this can't fail any more.
     fn put_far(&mut self, id: u64, clause: &[Lit]) -> Result<(), AllocError>
         ensures put { OnOk result ((k : ℕ) → clause_of self.new k
             ≡ (if k == id then Some clause.now else clause_of self.old k)) }
+        ensures err { OnErr result ((k : ℕ) → clause_of self.new k ≡ clause_of self.old k) }
         ensures stored { self.new.stored ≡ self.old.stored }
-        ensures tight { IsTight self.new.near }
+        ensures tight { OnOk result (IsTight self.new.near) }
     {
+        self.far.insert(id, Vec::from_slice(self.alloc, clause)?)?;
         self.near.remove(id);
         self.near.collect_garbage();
-        self.far.insert(id, Vec::from_slice(self.alloc, clause)?)?;
         Ok(())
     }
 

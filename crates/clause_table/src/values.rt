@@ -1,5 +1,5 @@
 //! Which literals are true.
-ghost use Rattle.std.specs.Prelude.{◌≡◌, ◌<◌, ◌-◌, ◌∷◌, ◌++◌, [], ℕ, if◌then◌else◌, length, nat_eq, take, MatchOption, OnOk, Some};
+ghost use Rattle.std.specs.Prelude.{◌≡◌, ◌<◌, ◌-◌, ◌∷◌, ◌++◌, [], ℕ, if◌then◌else◌, length, nat_eq, take, MatchOption, MatchResult, OnErr, OnOk, Some};
 ghost use Rattle.std.specs.List.{list_all, list_any};
 ghost use Rattle.sat_rules.specs.Clauses.{has, is_falsified, unfalsified};
 ghost use Rattle.sat_rules.specs.Named.{negated_set};
@@ -89,7 +89,8 @@ impl Values {
     /// The literal is true from here on.
     #[inline(always)]
     pub fn set(&mut self, lit: Lit) -> Result<(), AllocError>
-        ensures { OnOk result (self.new ≡ with_lit lit self.old) }
+        ensures { MatchResult result (λ _. self.new ≡ with_lit lit self.old)
+            (λ _. self.new ≡ self.old) }
     {
         if !self.marks.insert(!lit)? {
             return Ok(());
@@ -108,6 +109,7 @@ impl Values {
         ensures set { OnOk result
             (among self.new ≡ add_negated (lits_besides besides clause.now) (among self.old)) }
         ensures grown { OnOk result (IsGrown self.old self.new) }
+        ensures err { OnErr result (IsGrown self.old self.new) }
     {
         for lit in clause {
             if Some(*lit) != besides {
