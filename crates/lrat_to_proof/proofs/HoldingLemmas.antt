@@ -1,23 +1,17 @@
 -- What is held, a change more.
---     held_rising, held_canonical      lists that stand for themselves
---     tautology_held, named_held      what is told of a list by whether its variables rise
---     unit_held, refuting_held      what a list says as a unit
+--     not_rising      what is told of a list by whether its variables rise
 --     holding_ext, holds_nothing, holds_more, entries_put, entries_drop      what is held, by its parts
-use Rattle.std.proofs.Common.{arith, add-one, ◌≡◌, ◌≤◌, ◌+◌, ◌/◌, ◌&&◌, ◌||◌, if◌then◌else◌, ℕ, suc, Bool, true, false, not, nat_eq, eqb, ltb, ltb-true, List, [], ◌∷◌, length, Option, Some, None, refl, sym, ap, ◌∙◌, cond}
+use Rattle.std.proofs.Common.{arith, add-one, ◌≡◌, ◌≤◌, ◌+◌, ◌/◌, ◌&&◌, ◌||◌, if◌then◌else◌, ℕ, suc, Bool, true, false, not, eqb, ltb, ltb-true, List, [], ◌∷◌, Option, Some, None, refl, ap, ◌∙◌}
 use mathlib.Core.Path.{fun_ext}
-use Rattle.std.proofs.lemmas.Bool.{and_parts, false≢true, false_from_ne_true}
+use Rattle.std.proofs.lemmas.Bool.{and_parts}
 use Rattle.std.proofs.lemmas.Bool.Decides.{nat_tests}
-use Rattle.std.specs.HashSet.{keys}
-use Rattle.std.specs.List.{list_all, list_any}
+use Rattle.std.specs.List.{list_all}
 use Rattle.std.specs.Option.{option_map}
 use Rattle.sat_rules.specs.Clauses.{is_canonical, is_tautology}
 use Rattle.checker_parts.specs.RisingVars.{has_rising_vars}
 use Rattle.checker_parts.proofs.CanonicalLists.{shares_var, shares_var-canonical}
-use Rattle.checker_parts.proofs.Rising.{rising_canonical}
-use Rattle.clause_table.specs.Named.{clause_of}
-use Rattle.lrat_to_proof.specs.Holding.{Entry, Holding, from_formula, hold, hold_from, is_named, is_refuting, nothing, with_unit}
-use Rattle.lrat_to_proof.specs.Standing.{entry_of, held_list, holding_of}
-use Rattle.lrat_to_proof.specs.declared.holding.Holding as parts
+use Rattle.lrat_to_proof.specs.Holding.{Entry, Holding, from_formula, hold, hold_from, nothing}
+use Rattle.lrat_to_proof.specs.Standing.{entry_of}
 
 -- ---- lists
 
@@ -33,37 +27,9 @@ rising_or_shared (l ∷ m ∷ ms) h =
     let less = ltb-true l m (and_parts (ltb l m) (list_all (ltb l) ms) p.0).0 in
     neighbours (l / 2) (m / 2) _ _ (omega arith) (rising_or_shared (m ∷ ms) p.1)
 
--- a canonical list stands for itself
-pub held_canonical : (c : List ℕ) → is_canonical c ≡ true → held_list c ≡ c
-unfolding held_list
-held_canonical c h = ap (λ b. cond b c (0 ∷ 1 ∷ [])) h
-
-pub held_rising : (c : List ℕ) → has_rising_vars c ≡ true → held_list c ≡ c
-held_rising c h = held_canonical c (rising_canonical c h)
-
-pub tautology_held : (c : List ℕ) → not (has_rising_vars c) ≡ is_tautology (held_list c)
-unfolding held_list
-tautology_held c = go (is_canonical c) refl
-  where
-    go : (b : Bool) → is_canonical c ≡ b → not (has_rising_vars c) ≡ is_tautology (cond b c (0 ∷ 1 ∷ []))
-    go true e = rising_or_shared c e ∙ shares_var-canonical c e
-    go false e = ap not (false_from_ne_true (has_rising_vars c) (λ r. false≢true (sym e ∙ rising_canonical c r)))
-
-pub named_held : (c : List ℕ) → (ltb 1 (length c) && has_rising_vars c) ≡ is_named (held_list c)
-named_held c = grind (arith, tautology_held c, held_rising c)
-
--- only lists of less than two literals are units, and they are canonical
-pub unit_held : (c : List ℕ) (units : ℕ → Bool) → with_unit (held_list c) units ≡ with_unit c units
-unfolding held_list
-unit_held [] units = refl
-unit_held (l ∷ []) units = refl
-unit_held (l ∷ m ∷ ms) units = elim (is_canonical (l ∷ m ∷ ms)) as (λ b. with_unit (cond b (l ∷ m ∷ ms) (0 ∷ 1 ∷ [])) units ≡ units) [ true ↦ refl | false ↦ refl ]
-
-pub refuting_held : (c : List ℕ) (units : ℕ → Bool) → is_refuting (held_list c) units ≡ is_refuting c units
-unfolding held_list
-refuting_held [] units = refl
-refuting_held (l ∷ []) units = refl
-refuting_held (l ∷ m ∷ ms) units = elim (is_canonical (l ∷ m ∷ ms)) as (λ b. is_refuting (cond b (l ∷ m ∷ ms) (0 ∷ 1 ∷ [])) units ≡ false) [ true ↦ refl | false ↦ refl ]
+-- so a canonical list whose variables don't rise is a tautology
+pub not_rising : (c : List ℕ) → is_canonical c ≡ true → not (has_rising_vars c) ≡ is_tautology c
+not_rising c h = rising_or_shared c h ∙ shares_var-canonical c h
 
 -- ---- what is held
 
@@ -77,8 +43,9 @@ pub holding_ext : (f g : ℕ → Option Entry) (u v : ℕ → Bool) (a b : Bool)
 holding_ext f g u v a b p q r = ap (λ h. holding h u a) (fun_ext p) ∙ ap (λ w. holding g w a) q ∙ ap (holding g v) r
 
 -- before any clause
-pub holds_nothing : (x : parts.Holding) → ((k : ℕ) → clause_of x.clauses k ≡ None) → keys x.units ≡ [] → x.refuted ≡ false → holding_of x ≡ nothing
-holds_nothing x none empty unrefuted = holding_ext _ _ _ _ _ _ (λ k. rw (none k)) (ap (λ ks. λ m. list_any (nat_eq m) ks) empty) unrefuted
+pub holds_nothing : (clauses : ℕ → Option (List ℕ)) (derived units : ℕ → Bool) → ((k : ℕ) → clauses k ≡ None) → ((m : ℕ) → units m ≡ false) →
+    holding (λ i. option_map (entry_of (derived i)) (clauses i)) units false ≡ nothing
+holds_nothing clauses derived units none empty = holding_ext _ _ _ _ _ _ (λ k. rw (none k)) (fun_ext empty) refl
 
 -- after one clause more of the formula
 pub holds_more : (n : ℕ) (h new whole : Holding) (c : List ℕ) (rest all : List (List ℕ)) → all ≡ c ∷ rest → hold_from (suc n) all h ≡ whole →

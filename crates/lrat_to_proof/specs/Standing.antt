@@ -1,16 +1,14 @@
 -- What the parts of a converter stand for.
---     held_list c      what a stored list stands for
 --     entry_of derived c, holding_of x      a clause that is held;  all of them
 --     HasWritten start now steps w      the writer wrote these steps, after what the output held at the start
 --     HasBegun start now steps      a beginning of their bytes was written
 --     HasConverted width start now c x      the converter has converted so far
 --     Reaches width start now r x      as far as the rules say
 --     StopsIn start now c r      a line was not written whole
-use Rattle.std.specs.Prelude.{◌≡◌, ◌⊎◌, ℕ, Bool, if◌then◌else◌, List, [], ◌∷◌, Option, Result, Ok, nat_eq}
+use Rattle.std.specs.Prelude.{◌≡◌, ◌⊎◌, ℕ, Bool, List, Option, Result, Ok, nat_eq}
 use Rattle.std.specs.HashSet.{contains}
 use Rattle.std.specs.Io.KnownBytes.{Appends}
 use Rattle.std.specs.Option.{option_map}
-use Rattle.sat_rules.specs.Clauses.{is_canonical}
 use Rattle.checker_rules.specs.Step.{Step}
 use Rattle.clause_store.specs.StateOf.{applied_of}
 use Rattle.clause_table.specs.Named.{clause_of}
@@ -26,13 +24,9 @@ use Rattle.lrat_to_proof.specs.declared.steps.StepWriter.{StepWriter}
 use Rattle.lrat_to_proof.specs.Converting.{Converted, no_name}
 use Rattle.lrat_to_proof.specs.Holding.{Entry, Holding}
 
--- what a stored list stands for: itself, where it is canonical, as all are; any other counts as a tautology, since its variables don't rise
-unfoldable pub held_list : List ℕ → List ℕ
-held_list c = if is_canonical c then c else 0 ∷ 1 ∷ []
-
 -- a clause that is held, and whether a line added it
 abbrev pub entry_of : Bool → List ℕ → Entry
-entry_of derived c = record { derived = derived; lits = held_list c }
+entry_of derived c = record { derived = derived; lits = c }
 
 -- whether a line added the clause of an id, where it is there
 abbrev pub is_derived : parts.Holding → ℕ → Bool

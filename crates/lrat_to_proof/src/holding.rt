@@ -1,10 +1,11 @@
 //! The clauses so far.
-ghost use Rattle.std.specs.Prelude.{◌≡◌, ◌==◌, ◌||◌, ℕ, true, IfOk, OnOk, if◌then◌else◌, is_some, nat_eq};
+ghost use Rattle.std.specs.Prelude.{◌≡◌, ◌==◌, ◌||◌, ℕ, true, IfOk, IfSome, IsTrue, OnOk, if◌then◌else◌, is_some, nat_eq};
 ghost use Rattle.std.specs.HashSet.{contains};
-ghost use Rattle.std.specs.Option.{option_copied, option_map};
+ghost use Rattle.std.specs.Option.{ForSome, option_copied, option_map};
+ghost use Rattle.sat_rules.specs.Clauses.{is_canonical};
+ghost use Rattle.clause_table.specs.Named.{clause_of};
 ghost use Rattle.lrat_to_proof.specs.Converting.{deletion};
 ghost use Rattle.lrat_to_proof.specs.Holding.{drop_entry, formula_holding, hold, is_refuting, with_unit};
-ghost use Rattle.lrat_to_proof.specs.Standing.{entry_of, holding_of, is_derived, units_of};
 
 use checker_parts::sorted_lits::copy_canonical;
 use clause_table::NamedClauses;
@@ -16,16 +17,18 @@ use std::collections::HashSet;
 /// opposite units came.
 #[derive(Drop)]
 pub(crate) struct Holding {
-    /// Canonical lists.
     clauses: NamedClauses,
     /// The ids of those that lines added.
     derived: HashSet<u64>,
     /// By their codes.
     units: HashSet<usize>,
     refuted: bool,
+    ghost canonical: { (id : ℕ) → ForSome (clause_of clauses id) (λ c. IsTrue (is_canonical c)) },
 }
 
 impl Holding {
+    ghost use Rattle.lrat_to_proof.specs.Standing.{entry_of, holding_of, is_derived, units_of};
+
     /// The clauses of a formula under 1, 2 and so on.
     pub(crate) fn new(alloc: Global, formula: &CnfFormula) -> Result<Holding, AllocError>
         ensures { IfOk result (λ made. holding_of made ≡ formula_holding formula.now) }
@@ -55,16 +58,18 @@ impl Holding {
 
     /// The clause of an id, where it is there.
     pub(crate) fn get(&self, id: u64) -> Option<&[Lit]>
-        ensures { option_map (entry_of (is_derived self.now id)) (option_copied result)
+        ensures entry { option_map (entry_of (is_derived self.now id)) (option_copied result)
             ≡ (holding_of self.now).entries id }
+        ensures canonical { IfSome result (λ clause. IsTrue (is_canonical clause.now)) }
     {
         self.clauses.get(id)
     }
 
     /// The clause of an id, where a line added it.
     pub(crate) fn derived(&self, id: u64) -> Option<&[Lit]>
-        ensures { deletion (option_map (entry_of true) (option_copied result))
+        ensures deletion { deletion (option_map (entry_of true) (option_copied result))
             ≡ deletion ((holding_of self.now).entries id) }
+        ensures canonical { IfSome result (λ clause. IsTrue (is_canonical clause.now)) }
     {
         if !self.derived.contains(&id) {
             return None;
@@ -82,6 +87,7 @@ impl Holding {
     /// Stores a canonical list under an id, and whether a line added it. After an error what is
     /// held is of no use.
     pub(crate) fn put(&mut self, id: u64, derived: bool, lits: &[Lit]) -> Result<(), AllocError>
+        requires { IsTrue (is_canonical lits.now) }
         ensures { OnOk result (holding_of self.new
             ≡ hold id (entry_of derived lits.now) (holding_of self.old)) }
     {

@@ -1,9 +1,10 @@
 //! Steps, written one after the other.
-ghost use Rattle.std.specs.Prelude.{◌≡◌, [], ◌∷◌, ◌++◌, ℕ, true, List, Option, Some, OnErr, OnOk};
+ghost use Rattle.std.specs.Prelude.{◌≡◌, [], ◌∷◌, ◌++◌, ℕ, true, List, Option, Some, IsTrue, OnErr, OnOk};
+ghost use Rattle.sat_rules.specs.Clauses.{is_canonical};
 ghost use Rattle.checker_rules.specs.Step.{Step};
 ghost use Rattle.proof_bytes.specs.NextStep.{view};
 ghost use Rattle.lrat_to_proof.specs.Converting.{deletion, derivation, header};
-ghost use Rattle.lrat_to_proof.specs.Standing.{HasBegun, HasWritten, entry_of, held_list};
+ghost use Rattle.lrat_to_proof.specs.Standing.{HasBegun, HasWritten, entry_of};
 ghost use Rattle.lrat_to_proof.specs.Widths.{bits_of};
 
 use crate::clause::{is_named, is_tautology};
@@ -49,21 +50,22 @@ impl StepWriter {
         self.write(&ProofStep::ChangeHashBits { bits }, out)
     }
 
-    /// Adds a clause, a canonical list, by these hashes, unless it is a tautology.
+    /// Adds a clause by these hashes, unless it is a tautology.
     pub(crate) fn derive<W: Write>(
         &mut self,
         clause: &[Lit],
         hashes: &[ClauseHash],
         out: &mut W,
     ) -> Result<(), GivenUp>
+        requires { IsTrue (is_canonical clause.now) }
         ensures ok { (start : Option (List ℕ)) (steps : List Step)
             → HasWritten start (W.contents out.old) steps self.old
             → OnOk result (HasWritten start (W.contents out.new)
-            (steps ++ derivation (held_list clause.now) hashes.now) self.new) }
+            (steps ++ derivation clause.now hashes.now) self.new) }
         ensures err { (start : Option (List ℕ)) (steps : List Step)
             → HasWritten start (W.contents out.old) steps self.old
             → OnErr result (HasBegun start (W.contents out.new)
-            (steps ++ derivation (held_list clause.now) hashes.now)) }
+            (steps ++ derivation clause.now hashes.now)) }
     {
         if is_tautology(clause) {
             return Ok(());
@@ -78,6 +80,7 @@ impl StepWriter {
 
     /// Deletes one copy of a clause that a line added, where a step can name it.
     pub(crate) fn delete<W: Write>(&mut self, clause: &[Lit], out: &mut W) -> Result<(), GivenUp>
+        requires { IsTrue (is_canonical clause.now) }
         ensures ok { (start : Option (List ℕ)) (steps : List Step)
             → HasWritten start (W.contents out.old) steps self.old
             → OnOk result (HasWritten start (W.contents out.new)

@@ -1,7 +1,7 @@
-use Rattle.std.proofs.Common.{◌==◌, ◌||◌, sym, ap, ◌∙◌}
-use Rattle.lrat_to_proof.specs.Standing.{is_derived, units_of}
+use Rattle.std.proofs.Common.{◌==◌}
+use Rattle.lrat_to_proof.specs.Standing.{is_derived}
 use Rattle.clause_table.specs.Named.{clause_of}
-use Rattle.lrat_to_proof.proofs.HoldingLemmas.{entries_put, holding_ext, refuting_held, unit_held}
+use Rattle.lrat_to_proof.proofs.HoldingLemmas.{entries_put, holding_ext}
 use Rattle.lrat_to_proof.proofs.holding.Holding.put.Goals as goal
 
 pub returns : goal.returns
@@ -11,5 +11,4 @@ returns c =
     let noted = c.in_ok-note_unit.ensures in
     holding_ext _ _ _ _ _ _
     (λ k. rw (c.in_ok-mark.ensures k, c.in_ok-put.ensures.put k, noted.clauses, noted.derived) (entries_put (k == c.args.id) c.args.derived (is_derived old k) lits (clause_of old.clauses k)))
-    (noted.units ∙ sym (unit_held lits (units_of old)))
-    (noted.refuted ∙ ap (λ b. old.refuted || b) (sym (refuting_held lits (units_of old))))
+    noted.units noted.refuted
