@@ -7,6 +7,7 @@ use checker_parts::sorted_lits::has_rising_vars;
 use sat_formula::Lit;
 
 /// Whether a literal and its negation stand in the list, as neighbours.
+#[tactic(auto, using(crate::proofs::HoldingLemmas::not_rising))]
 pub(crate) fn is_tautology(lits: &[Lit]) -> bool
     requires { IsTrue (is_canonical lits.now) }
     ensures { result ≡ is_tautology lits.now }
@@ -15,6 +16,7 @@ pub(crate) fn is_tautology(lits: &[Lit]) -> bool
 }
 
 /// Whether a step can name the clause by its hash.
+#[tactic(auto, using(crate::proofs::HoldingLemmas::not_rising))]
 pub(crate) fn is_named(lits: &[Lit]) -> bool
     requires { IsTrue (is_canonical lits.now) }
     ensures { result ≡ is_named lits.now }
