@@ -100,8 +100,51 @@ fn visit_places(
     Ok(false)
 }
 
-/// Visits the bucket of a hash, unless it is long and known to be idle. Answers what ends the walk
+/// Visits the crowd of a hash, unless it is long and known to be idle. Answers what ends the walk
 /// there.
+// The clauses of the contract alone read `buckets`.
+fn visit_crowd(
+    units: &mut Units,
+    run: &mut Propagation,
+    places: &[Option<Clause>],
+    buckets: &Buckets,
+    buffer: &[Lit],
+    hash: ClauseHash,
+) -> Result<Option<Answer>, AllocError>
+    requires is { clauses_at buckets.now hash ≡ standing places.now }
+    requires within { AreWithin buffer.now buckets.now }
+    requires known { AreAllKnown units.old buffer.now buckets.now }
+    requires trail { IsTrailFor units.old run.old.trail.items }
+    requires idle { AreIdle (idle_at run.old.idle) (length run.old.trail.items)
+        (λ h. IsIdleRun run.old.trace.items units.old (stored_in buffer.now buckets.now h)) }
+    ensures ok { let bucket = lits_at buffer.now buckets.now hash in
+        IfOk result (WalksFirst units.old bucket units.new) }
+    ensures listed { IfOk result (ListsFirst run.old.trace.items units.old
+        (stored_in buffer.now buckets.now hash) run.new.trace.items units.new) }
+    ensures idle { IfOk result (λ end. end ≡ None
+        → AreIdle (idle_at run.new.idle) (length run.new.trail.items)
+        (λ h. IsIdleRun run.new.trace.items units.new (stored_in buffer.now buckets.now h))) }
+    ensures undoable { IsUndoable units.old run.old.trail.items units.new run.new.trail.items }
+{
+    if !some_stands(places) {
+        return Ok(Some(Answer::NoClauseForHash));
+    }
+    let is_long = places.len() > LONG_BUCKET;
+    let given = run.trail.len();
+    if is_long && run.idle.has(hash, given) {
+        return Ok(None);
+    }
+    if visit_places(units, run, places, buffer)? {
+        return Ok(Some(Answer::Passed));
+    }
+    if is_long && run.trail.len() == given {
+        // Where memory is refused it is walked again.
+        let _refused = run.idle.add(hash, given);
+    }
+    Ok(None)
+}
+
+/// Visits the bucket of a hash. Answers what ends the walk there.
 fn visit_named(
     units: &mut Units,
     run: &mut Propagation,
@@ -126,23 +169,7 @@ fn visit_named(
     match buckets.get(&hash) {
         Some(Bucket::One(clause)) => Ok(end_of(visit_clause(units, run, clause, buffer)?)),
         Some(Bucket::Many(crowd)) => {
-            let places = crowd.places.as_slice();
-            if !some_stands(places) {
-                return Ok(Some(Answer::NoClauseForHash));
-            }
-            let is_long = places.len() > LONG_BUCKET;
-            let given = run.trail.len();
-            if is_long && run.idle.has(hash, given) {
-                return Ok(None);
-            }
-            if visit_places(units, run, places, buffer)? {
-                return Ok(Some(Answer::Passed));
-            }
-            if is_long && run.trail.len() == given {
-                // Where memory is refused it is walked again.
-                let _refused = run.idle.add(hash, given);
-            }
-            Ok(None)
+            visit_crowd(units, run, &crowd.places, buckets, buffer, hash)
         }
         None => Ok(Some(Answer::NoClauseForHash)),
     }

@@ -8,11 +8,3 @@ visit_clause-requires-clause-within c =
 pub visit_clause-requires-clause-known : goal.visit_clause-requires-clause-known
 visit_clause-requires-clause-known c =
     (rw (← c.in-Some-One.ensures.value, c.in-Some-One.field-0-is) at (c.requires.known c.args.hash)) 0 c.in-Some-One.clause (omega arith)
-
-pub visit_places-requires-clause-within : goal.visit_places-requires-clause-within
-visit_places-requires-clause-within c =
-    rw (c.as_slice-places.ensures.value, c.deref.ensures) (rw (← c.in-Some-Many.ensures.value, c.in-Some-Many.field-0-is) at (c.requires.within c.args.hash))
-
-pub visit_places-requires-clause-known : goal.visit_places-requires-clause-known
-visit_places-requires-clause-known c =
-    rw (c.as_slice-places.ensures.value, c.deref.ensures) (rw (← c.in-Some-Many.ensures.value, c.in-Some-Many.field-0-is) at (c.requires.known c.args.hash))
