@@ -19,6 +19,7 @@ pub struct Transcript {
 }
 
 impl Transcript {
+    /// An empty list, to be filled by each step that has one.
     pub fn new(alloc: Global) -> Transcript {
         Transcript {
             lits: Vec::new(alloc),

@@ -95,6 +95,7 @@ impl Variables {
         self.names.len()
     }
 
+    /// Whether there is no variable.
     pub fn is_empty(&self) -> bool
         ensures { result ≡ (length self.now == 0) }
     {
@@ -181,6 +182,7 @@ impl Variables {
         }
     }
 
+    /// Gives a variable this sampling mode; its name stays.
     pub fn set_mode(&mut self, var: Var, sampling_mode: SamplingMode)
         requires { index_of var < length self.old }
         ensures { self.new ≡ set self.old (index_of var)

@@ -29,6 +29,7 @@ pub struct ProcessingOf<P, T> {
 pub type Processing = ProcessingOf<Box<dyn ProofProcessor>, Box<dyn ProofTranscriptProcessor>>;
 
 impl<P: ProofProcessor, T: ProofTranscriptProcessor> ProcessingOf<P, T> {
+    /// No processor and no transcript.
     pub fn new(alloc: Global) -> ProcessingOf<P, T>
         ensures processors { result.processors.items ≡ [] }
         ensures transcripts { result.transcript_processors.items ≡ [] }

@@ -51,6 +51,7 @@ pub struct RupCheck {
 }
 
 impl RupCheck {
+    /// Nothing is held yet.
     pub fn new(alloc: Global) -> RupCheck
         ensures { result.trace_ids.items ≡ [] }
     {

@@ -74,6 +74,7 @@ pub struct Faulty {
 }
 
 impl Faulty {
+    /// It takes `left` steps before the first fault.
     pub fn after(left: u64) -> Faulty
         ensures { result.left ≡ left }
     {

@@ -58,6 +58,7 @@ impl CnfFormula {
         self.lengths.len()
     }
 
+    /// Whether there is no clause.
     pub fn is_empty(&self) -> bool
         ensures { IsTrue result ↔ (self.now ≡ []) }
     {

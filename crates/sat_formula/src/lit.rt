@@ -71,6 +71,7 @@ impl Var {
         }
     }
 
+    /// Below `MAX_COUNT`.
     pub fn index(self) -> usize
         ensures value { result ≡ index_of self }
         ensures bound { result < 2 ^ 28 }
@@ -134,6 +135,7 @@ impl Lit {
         }
     }
 
+    /// Twice the index of its variable, and 1 more where it is negative.
     pub fn code(self) -> usize
         ensures value { result ≡ self }
         ensures bound { result < 2 ^ 29 }
@@ -149,6 +151,7 @@ impl Lit {
         (self.code >> 1) as usize
     }
 
+    /// Its variable, without the sign.
     pub fn var(self) -> Var
         ensures { index_of result ≡ var_of self }
     {
@@ -157,12 +160,14 @@ impl Lit {
         }
     }
 
+    /// Whether it is its variable.
     pub fn is_positive(self) -> bool
         ensures { result ≡ not (is_negative self) }
     {
         self.code & 1 == 0
     }
 
+    /// Whether it is the negation of its variable.
     pub fn is_negative(self) -> bool
         ensures { result ≡ is_negative self }
     {

@@ -150,6 +150,7 @@ impl Units {
     ghost use Rattle.clause_store.specs.Trace as traces;
     ghost use Rattle.clause_store.specs.Trace.{AreStored};
 
+    /// No variable has a unit.
     pub fn new(alloc: Global) -> Units
         ensures { result ≡ [] }
     {
@@ -264,6 +265,7 @@ impl Units {
         None
     }
 
+    /// Gives a variable a unit, or none, in place of what it has.
     #[inline]
     pub fn set(&mut self, index: usize, unit: Option<UnitClause>)
         requires { index < length self.old }

@@ -15,6 +15,7 @@ pub struct Propagation {
 }
 
 impl Propagation {
+    /// Nothing is overwritten or listed.
     pub fn new(alloc: Global) -> Propagation
         ensures trail { result.trail.items ≡ [] }
         ensures trace { result.trace.items ≡ [] }

@@ -34,6 +34,7 @@ pub struct FreePropagation {
 }
 
 impl FreePropagation {
+    /// No variable was given a value.
     pub fn new(alloc: Global) -> FreePropagation
         ensures { result.trail.items ≡ [] }
     {
