@@ -5,6 +5,7 @@ ghost use Rattle.checker_rules.specs.Store.{is_stored};
 ghost use Rattle.clause_store.specs.Crowds.{IsPlaced, standing};
 ghost use Rattle.clause_store.specs.Lits.{IsWithin};
 ghost use Rattle.clause_store.specs.View.{stored_of};
+ghost use Rattle.clause_store.specs.declared.clauses.Clause.{Clause};
 
 use crate::clauses::Clause;
 use crate::clauses::buckets::has_lits;
@@ -51,7 +52,10 @@ pub fn clause_at(
     lits: &[Lit],
 ) -> Option<(usize, Clause)>
     requires { All (λ c. IsWithin c.lits buffer.now) (standing places.now) }
-    ensures { IfSome result (λ p. IsPlaced buffer.now lits.now places.now p.0 p.1) }
+    ensures placed { IfSome result (λ p. IsPlaced buffer.now lits.now places.now p.0 p.1) }
+    ensures at { IfSome result (λ p. p.0 ≡ at) }
+    ensures missing { IfNone result ((d : Clause)
+        → IsPlaced buffer.now lits.now places.now at d → ⊥) }
 {
     if at >= places.len() {
         return None;
