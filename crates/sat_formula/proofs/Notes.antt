@@ -8,11 +8,11 @@ use Rattle.sat_formula.specs.DimacsReader.{has_ended, unread_of, standing}
 use Rattle.sat_formula.specs.Reading.{GivesClause, more, last}
 use Rattle.sat_formula.specs.Taking.{Finishes, by_byte, by_input}
 use Rattle.sat_formula.specs.Outcome.{Ending, Ended, Outcome}
-use Rattle.sat_formula.specs.Text.{State, past_of, Next, Clause, Stopped, Waits, Goes, Gives, Stops, step, next_at, at_end, past_at_end, start}
+use Rattle.sat_formula.specs.Text.{State, past_of, Next, Clause, Stopped, Waits, next_at, at_end, past_at_end, start}
 use Rattle.sat_formula.specs.Notes.{Notes, with_line, last_notes, notes_at, notes_of}
 use Rattle.sat_formula.specs.Noting.{notes_left, IsNotes, HasNoted}
 use Rattle.sat_formula.proofs.Steps.{Known}
-use Rattle.sat_formula.proofs.Whole.{AfterEnd, Reads}
+use Rattle.sat_formula.proofs.Whole.{AfterEnd, Reads, says_next}
 
 -- ---- one call
 
@@ -23,15 +23,8 @@ noted (Stopped past e) = ([], past)
 noted (Waits t) = last_notes t
 
 notes_next : (s : State) (text : List ℕ) → notes_at s text ≡ noted (next_at s text)
-unfolding next_at notes_at
-notes_next s [] = refl
-notes_next s (b ∷ bs) =
-    elim (step s b) as (λ a. (elim a [ Goes t ↦ notes_at t bs | Gives clause t ↦ with_line (past_of t).clause_line (notes_at t bs) | Stops past e ↦ ([], past) ])
-    ≡ noted (elim a [ Goes t ↦ next_at t bs | Gives clause t ↦ Clause clause t bs | Stops past e ↦ Stopped past e ])) [
-      | Goes t ↦ notes_next t bs
-      | Gives clause t ↦ refl
-      | Stops past e ↦ refl
-    ]
+unfolding notes_at
+notes_next = says_next notes_at noted (λ s. refl) (λ s b bs. refl)
 
 -- the notes of an ending, after what came before
 abbrev end_notes : Outcome → Past → Notes

@@ -29,9 +29,8 @@ pub returns-in_err-next_clause-clause-fault : goal.returns-in_err-next_clause-cl
 returns-in_err-next_clause-clause-fault g c =
     let r = c.new-reader in
     let p = err_from_is_err_and c.from_residual.result c.from_residual.ensures.1 in
-    let told = c.in_err-next_clause.ensures in
     rw (p.1, p.2, ← outcome_left-new g.F.Read.remaining r.result _ r.ensures.unread r.ensures.standing r.ensures.ended)
-    (c.clauses.formula, FailsAfter-given g.F.Read.remaining _ c.clauses.reader c.next_clause.new.self _ _ c.clauses.invariant.given _ told.after_end told.next)
+    (c.clauses.formula, FailsAfter-given g.F.Read.remaining _ c.clauses.reader c.next_clause.new.self _ _ c.clauses.invariant.given _ c.in_err-next_clause.ensures.after_end c.in_err-next_clause.ensures.next)
 
 pub returns-then-is_err-clause-fault : goal.returns-then-is_err-clause-fault
 returns-then-is_err-clause-fault g c =
