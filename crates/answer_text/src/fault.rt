@@ -1,4 +1,7 @@
 //! Why an answer is not taken.
+ghost use Rattle.std.specs.Prelude.{◌≡◌, ◌≢◌};
+ghost use Rattle.std.specs.IoError.{error_kind};
+ghost use Rattle.answer_text.specs.Reading.{fault_of};
 ghost use Rattle.answer_text.specs.declared.fault.Stop.TheVariants as stops;
 
 use std::alloc::AllocError;
@@ -61,8 +64,6 @@ pub(crate) enum Stop {
 }
 
 impl From<AllocError> for Stop {
-    ghost use Rattle.std.specs.Prelude.{◌≡◌};
-
     ghost from_gives = { λ _ stop. stop ≡ stops.OutOfMemory };
 
     fn from(_e: AllocError) -> Stop {
@@ -71,9 +72,6 @@ impl From<AllocError> for Stop {
 }
 
 impl From<Stop> for AnswerFault {
-    ghost use Rattle.std.specs.Prelude.{◌≡◌};
-    ghost use Rattle.answer_text.specs.Reading.{fault_of};
-
     ghost from_gives = { λ stop fault. fault ≡ fault_of stop };
 
     fn from(stop: Stop) -> AnswerFault {
@@ -85,9 +83,6 @@ impl From<Stop> for AnswerFault {
 }
 
 impl AnswerFault {
-    ghost use Rattle.std.specs.Prelude.{◌≡◌, ◌≢◌};
-    ghost use Rattle.std.specs.IoError.{error_kind};
-
     /// The fault of an answer whose bytes could not be read before it: no memory for them, by the
     /// error's kind, or a failed read.
     pub fn of_error(error: io::Error) -> AnswerFault
