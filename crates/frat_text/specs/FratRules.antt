@@ -15,6 +15,17 @@ use Rattle.frat_text.specs.Steps.{Step, clause, hints, renames}
 abbrev pub with_id : ℕ → Slot → After Slot Step
 with_id v slot = if nat_lt v (2 ^ 60) then Goes (Within slot) else Stops NumberTooLarge
 
+-- a number that is to say an id
+abbrev pub id_due : Bool → ℕ → Result ℕ DratKind
+id_due negative v =
+    if negative || (v == 0) then Err Malformed
+    else (if nat_lt v (2 ^ 60) then Ok v else Err NumberTooLarge)
+
+-- it leads on to this
+abbrev pub after_id : (ℕ → Slot) → Result ℕ DratKind → After Slot Step
+after_id next (Ok id) = Goes (Within (next id))
+after_id next (Err kind) = Stops kind
+
 -- a literal, after these of a clause, or its end
 abbrev pub lit_in : FratAction → ℕ → List ℕ → Result (Option ℕ) DratKind → After Slot Step
 lit_in action id lits (Ok None) = Gives (clause action id lits)
@@ -23,8 +34,7 @@ lit_in action id lits (Err kind) = Stops kind
 
 -- a number of this value, after a `-` or not
 abbrev pub said : Slot → Bool → ℕ → After Slot Step
-said (IdDue action) negative v =
-    if negative || (v == 0) then Stops Malformed else with_id v (LitDue action v [])
+said (IdDue action) negative v = after_id (λ id. LitDue action id []) (id_due negative v)
 said (LitDue action id lits) negative v = lit_in action id lits (lit_said negative v)
 said (HintDue hs) negative v =
     if v == 0 then (if negative then Stops Malformed else Gives (hints hs))
@@ -33,8 +43,7 @@ said (FromDue rs) negative v =
     if negative then Stops Malformed
     else (if v == 0 then Gives (renames rs) else with_id v (ToDue rs v))
 said (ToDue rs from) negative v =
-    if negative || (v == 0) then Stops Malformed
-    else with_id v (FromDue (rs ++ record { from = from; to = v } ∷ []))
+    after_id (λ to. FromDue (rs ++ record { from = from; to = to } ∷ [])) (id_due negative v)
 
 -- binary where it begins with a step's letter, and a byte that no text can have is among the first 4,096; binary numbers
 -- have at most nine bytes

@@ -5,7 +5,7 @@ ghost use Rattle.drat_text.specs.Reading.{TakesNumber};
 ghost use Rattle.frat_text.specs.Bytes.{slot_begun};
 ghost use Rattle.frat_text.specs.declared.draft.Due.TheVariants as dues;
 ghost use Rattle.frat_text.specs.Drafts.{found_step, slot_at, slot_of, view};
-ghost use Rattle.frat_text.specs.FratRules.{frat, said};
+ghost use Rattle.frat_text.specs.FratRules.{frat, id_due, said};
 ghost use Rattle.frat_text.specs.Slots.{Slot};
 ghost use Rattle.frat_text.specs.Steps.{Step};
 
@@ -123,15 +123,14 @@ impl Draft {
         ensures { TakesNumber (found_step self.new) (slot_of self.new)
             (said (slot_of self.old) negative value) result }
     {
-        if negative || value == 0 {
-            return Err(Stop::Wrong(DratKind::Malformed));
+        match id_due(negative, value) {
+            Ok(id) => {
+                self.due = Due::Lit(action, id);
+                self.lits.clear();
+                Ok(None)
+            }
+            Err(kind) => Err(Stop::Wrong(kind)),
         }
-        if value > MAX_ID {
-            return Err(Stop::Wrong(DratKind::NumberTooLarge));
-        }
-        self.due = Due::Lit(action, value);
-        self.lits.clear();
-        Ok(None)
     }
 
     /// Takes an id that a clause has, or the 0 after the last pair.
@@ -159,15 +158,14 @@ impl Draft {
         ensures { TakesNumber (found_step self.new) (slot_of self.new)
             (said (slot_of self.old) negative value) result }
     {
-        if negative || value == 0 {
-            return Err(Stop::Wrong(DratKind::Malformed));
+        match id_due(negative, value) {
+            Ok(to) => {
+                self.renamings.push(Renaming { from, to })?;
+                self.due = Due::From;
+                Ok(None)
+            }
+            Err(kind) => Err(Stop::Wrong(kind)),
         }
-        if value > MAX_ID {
-            return Err(Stop::Wrong(DratKind::NumberTooLarge));
-        }
-        self.renamings.push(Renaming { from, to: value })?;
-        self.due = Due::From;
-        Ok(None)
     }
 
     /// The step that has ended.
@@ -245,6 +243,19 @@ impl Grammar for Draft {
             None => Some(Format::Text),
         }
     }
+}
+
+/// The id that a number says, where one is due.
+fn id_due(negative: bool, value: u64) -> Result<u64, DratKind>
+    ensures { result ≡ id_due negative value }
+{
+    if negative || value == 0 {
+        return Err(DratKind::Malformed);
+    }
+    if value > MAX_ID {
+        return Err(DratKind::NumberTooLarge);
+    }
+    Ok(value)
 }
 
 /// What is due after a step's letter, where the byte is one.
