@@ -1,11 +1,12 @@
 -- What the bytes ahead tell of the format.
-use Rattle.std.proofs.Common.{◌≡◌, ℕ, List, [], ◌∷◌, Option, None, Some, IfSome, false, Result, Ok, Err, refl, sym, ap, ◌∙◌, subst, take}
-use Rattle.std.specs.Prelude.{slice_get, unwrap_or}
+use Rattle.std.proofs.Common.{◌≡◌, ℕ, ◌+◌, ◌≤◌, ◌<◌, List, [], ◌∷◌, Option, None, Some, IfSome, false, Result, Ok, Err, refl, sym, ap, ◌∙◌, subst, length, take, arith}
+use Rattle.std.specs.Prelude.{IsSome, slice_get, unwrap_or}
 use Rattle.std.specs.List.{list_all}
 use Rattle.std.proofs.lemmas.Option.{none-some, same_Some}
 use Rattle.std.specs.Io.KnownBytes.{Keeps}
-use Rattle.std.proofs.KnownBytes.{Keeps-trans}
+use Rattle.std.proofs.KnownBytes.{Keeps-refl, Keeps-trans}
 use Rattle.sat_formula.specs.declared.source.Source.{Source}
+use Rattle.drat_text.specs.declared.bytes.Bytes.{Bytes}
 use Rattle.drat_text.specs.declared.bytes.Format.{Format}
 use Rattle.drat_text.specs.declared.bytes.Format.TheVariants.{Text, Binary}
 use Rattle.drat_text.specs.declared.fault.Stop.{Stop}
@@ -13,7 +14,7 @@ use Rattle.drat_text.specs.declared.fault.Stop.TheVariants as stops
 use Rattle.drat_text.specs.Bytes.{is_text_byte, by_text_bytes}
 use Rattle.drat_text.specs.Places.{Rules}
 use Rattle.drat_text.specs.Proofs.{format_of}
-use Rattle.drat_text.specs.Taking.{Looks, Peeks}
+use Rattle.drat_text.specs.Taking.{Looks, Peeks, front_of, room_in, source_of, unread_bytes}
 use Rattle.drat_text.proofs.FrontLemmas.{Known, Passes}
 
 -- what is known of the bytes that were kept
@@ -22,9 +23,33 @@ known_on None b P k h = tt
 known_on (Some xs) None P k h = absurd k
 known_on (Some xs) (Some ys) P k h = subst P k h
 
--- a byte that is looked at stands at its place in all the bytes
-pub peeked_on : {R : Type 0} (a b c : Known) (place : ℕ) (source : Source R) (byte : Option ℕ) → Keeps a b → Peeks b c place source (Ok byte) → Peeks a c place source (Ok byte)
-peeked_on a b c place source byte k p = (Keeps-trans a b c k p.0, known_on a b (λ (bytes : List ℕ). slice_get bytes place ≡ byte) k p.1)
+-- ---- bytes that are looked at one after the other
+
+module _ {R : Type 0} (remaining : R → Option (List ℕ)) where
+  -- from old to new the bytes before this place were looked at, and none was taken
+  pub record LooksOn (old new : Bytes R) (place : ℕ) : Type 0 where
+    pub room : room_in new ≤ room_in old
+    pub front : place ≤ length (front_of new)
+    pub most : place ≤ 4096
+    pub kept : Keeps (unread_bytes remaining old) (unread_bytes remaining new)
+
+  pub looks_none : (b : Bytes R) → LooksOn b b 0
+  looks_none b = record { room = omega arith; front = omega arith; most = omega arith; kept = Keeps-refl (unread_bytes remaining b) }
+
+  module _ (old mid new : Bytes R) (place : ℕ) (byte here : Option ℕ) (on : LooksOn old mid place) (is : byte ≡ here)
+      (peeks : Peeks (unread_bytes remaining mid) (unread_bytes remaining new) place (source_of new) (Ok byte)) where
+    -- the byte that is looked at next stands at its place in all the bytes
+    pub looks_at : Peeks (unread_bytes remaining old) (unread_bytes remaining new) place (source_of new) (Ok here)
+    looks_at =
+        let p = rw is at peeks in (
+          Keeps-trans (unread_bytes remaining old) (unread_bytes remaining mid) (unread_bytes remaining new) on.kept p.0,
+          known_on (unread_bytes remaining old) (unread_bytes remaining mid) (λ (bytes : List ℕ). slice_get bytes place ≡ here) on.kept p.1,
+        )
+
+    pub looks_more : IsSome here → place < 4096 → (IsSome byte → place < length (front_of new)) → room_in new ≤ room_in mid → LooksOn old new (place + 1)
+    looks_more some below front room =
+        let stands : place < length (front_of new) = front (rw is some) in
+        record { room = omega (arith, on.room, room); front = omega (arith, stands); most = omega (arith, below); kept = looks_at.0 }
 
 -- ---- by the first 4,096 bytes
 
