@@ -1,5 +1,6 @@
 -- A step of a reader, from the format and the step that were read.
-use Rattle.std.proofs.Common.{◌≡◌, ℕ, ◌<◌, ◌≤◌, List, Option, Some, IfOk, Result, Ok, Err, ◌∙◌, arith}
+use Rattle.std.proofs.Common.{◌≡◌, ℕ, ◌<◌, ◌≤◌, List, Option, Some, IfOk, Result, Ok, Err, arith}
+use Rattle.drat_text.specs.declared.bytes.Bytes.{Bytes}
 use Rattle.drat_text.specs.declared.bytes.Format.{Format}
 use Rattle.drat_text.specs.declared.fault.Stop.{Stop}
 use Rattle.drat_text.specs.declared.fault.Stop.TheVariants as stops
@@ -8,8 +9,8 @@ use Rattle.drat_text.specs.declared.step.StepEnd.{StepEnd}
 use Rattle.drat_text.specs.Places.{Rules}
 use Rattle.drat_text.specs.Proofs.{outcome_in}
 use Rattle.drat_text.specs.Reading.{ReadsStep}
-use Rattle.drat_text.specs.Taking.{room_in, source_of}
-use Rattle.drat_text.specs.NextStep.{bytes_left, has_ended, steps_given, known_format, TellsFormat, ToldBy, ReadsOn, SeesFormat}
+use Rattle.drat_text.specs.Taking.{room_in, source_of, unread_bytes}
+use Rattle.drat_text.specs.NextStep.{bytes_left, known_format, TellsFormat, ToldBy, ReadsOn, SeesFormat}
 use Rattle.drat_text.proofs.NumberLemmas.{step_on}
 use Rattle.drat_text.proofs.Takings.{kept_on, leads_nil}
 
@@ -24,18 +25,17 @@ module _ {G R S T : Type 0} (rules : Rules S T) (remaining : R → Option (List 
   told old new r t = t
 
   -- the format is known, and a step was read in it
-  pub read_on : {F : Type 0} (seen : F → T) (old mid new : StepReader G R) (format : Format) (r : Result (StepEnd F) Stop) → SeesFormat rules remaining old mid (Ok format) →
-      new.format ≡ mid.format → steps_given new ≡ steps_given mid → has_ended new ≡ has_ended mid →
-      ReadsStep rules format seen (bytes_left remaining mid) (bytes_left remaining new) (outcome_in rules format) (source_of new.bytes) r →
-      IfOk r (λ _. room_in new.bytes < room_in mid.bytes) → ReadsOn rules remaining seen old new r
-  read_on seen old mid new format r sees e steps ended step nearer =
-      let known : known_format new ≡ Some format = e ∙ sees.now in
+  pub read_on : {F : Type 0} (seen : F → T) (old mid : StepReader G R) (bytes : Bytes R) (draft : G) (format now : Format) (r : Result (StepEnd F) Stop) → format ≡ now →
+      SeesFormat rules remaining old mid (Ok format) → ReadsStep rules now seen (bytes_left remaining mid) (unread_bytes remaining bytes) (outcome_in rules now) (source_of bytes) r →
+      IfOk r (λ _. room_in bytes < room_in mid.bytes) → ReadsOn rules remaining seen old (record mid { bytes = bytes; draft = draft }) r
+  read_on seen old mid bytes draft format now r is sees step nearer =
+      let known : known_format mid ≡ Some now = rw is at sees.now in
       record {
-        step = rw known (step_on rules (bytes_left remaining new) format seen (source_of new.bytes) r
-            (kept_on (leads_nil (bytes_left remaining old) (outcome_in rules format)) sees.looks) step);
-        nearer = falls_from r (room_in new.bytes) (room_in mid.bytes) (room_in old.bytes) nearer sees.room;
-        stays = λ k h. e ∙ sees.stays k h;
-        told = told old new r (rw e sees.format);
-        steps = steps ∙ sees.steps;
-        ended = ended ∙ sees.ended;
+        step = rw known (step_on rules (unread_bytes remaining bytes) now seen (source_of bytes) r
+            (kept_on (leads_nil (bytes_left remaining old) (outcome_in rules now)) sees.looks) step);
+        nearer = falls_from r (room_in bytes) (room_in mid.bytes) (room_in old.bytes) nearer sees.room;
+        stays = sees.stays;
+        told = told old (record mid { bytes = bytes; draft = draft }) r sees.format;
+        steps = sees.steps;
+        ended = sees.ended;
       }
