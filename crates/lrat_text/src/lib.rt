@@ -8,7 +8,8 @@ mod line;
 mod lines;
 mod number;
 mod reader;
-mod row;
+#[doc(hidden)]
+pub mod row;
 mod words;
 
 pub use fault::{LineKind, LratTextFault};

@@ -14,17 +14,17 @@ use std::alloc::Global;
 
 /// A line without its lists.
 #[derive(Clone, Copy)]
-pub(crate) enum Head {
+pub enum Head {
     Add { id: u64 },
     Delete,
 }
 
 /// Reads lines, the lists of the last one into its own.
 #[derive(Drop)]
-pub(crate) struct Row {
-    lits: Vec<Lit>,
-    hints: Vec<Hint>,
-    ids: Vec<u64>,
+pub struct Row {
+    pub lits: Vec<Lit>,
+    pub hints: Vec<Hint>,
+    pub ids: Vec<u64>,
 }
 
 impl Row {
@@ -32,7 +32,8 @@ impl Row {
     ghost use Rattle.lrat_text.specs.Reading.{ReadsAs, line_of, line_if};
     ghost use Rattle.lrat_text.specs.NextLine.{view};
 
-    pub(crate) fn new(alloc: Global) -> Row {
+    /// Empty lists.
+    pub fn new(alloc: Global) -> Row {
         Row {
             lits: Vec::new(alloc),
             hints: Vec::new(alloc),
@@ -41,7 +42,7 @@ impl Row {
     }
 
     /// The line of a head and the lists that were read with it.
-    pub(crate) fn shown(&self, head: Head) -> LratLine<'_>
+    pub fn shown(&self, head: Head) -> LratLine<'_>
         ensures { view result ≡ line_of self.now head }
     {
         match head {
