@@ -1,5 +1,5 @@
 pub mod Takings
-pub mod GroupLemmas
+pub mod CodeLemmas
 pub mod NumberLemmas
 pub mod FrontLemmas
 pub mod LookLemmas

@@ -54,7 +54,7 @@ module _ {O : Type 0} where
   pub ends_as : {a b : Known} {f : List ℕ → O} {o u : O} → EndsAll a b f o → o ≡ u → EndsAll a b f u
   ends_as p e = record { taken = p.taken; consumed = p.consumed; at_end = p.at_end; same = p.same ∙ e }
 
-  end_here : {a b c : Known} {f g : List ℕ → O} → Leads a b f g → Keeps b c → IsAtEnd c → EndsAll a c f (g [])
+  pub end_here : {a b c : Known} {f g : List ℕ → O} → Leads a b f g → Keeps b c → IsAtEnd c → EndsAll a c f (g [])
   end_here {a} {b} {c} {f} p k e = record {
     taken = p.taken;
     consumed = Consumes-kept a b c p.taken p.consumed k;

@@ -2,6 +2,7 @@ pub mod Stops
 pub mod Bytes
 pub mod Numbers
 pub mod Steps
+pub mod Codes
 pub mod Places
 pub mod Proofs
 pub mod Taking

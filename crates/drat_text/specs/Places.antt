@@ -3,13 +3,14 @@
 --     Rules      what steps begin with, and what numbers do in them
 --     Place, After, after      where a byte stands, and what it does there
 --     at_end      what the end of the input gives
-use Rattle.std.specs.Prelude.{ℕ, ◌+◌, ◌-◌, ◌*◌, ◌/◌, ◌%◌, ◌^◌, min, Bool, true, false, [], ◌∷◌, Option, Some, None, nat_lt, ◌==◌, if◌then◌else◌}
+use Rattle.std.specs.Prelude.{ℕ, ◌+◌, ◌-◌, ◌*◌, ◌/◌, ◌%◌, ◌^◌, min, Bool, true, false, [], ◌∷◌, Option, Some, None, ◌==◌, if◌then◌else◌}
 use Rattle.sat_formula.specs.Bytes.{minus_sign, digit_zero, is_digit, is_lf}
 use Rattle.drat_text.specs.declared.bytes.Format.{Format}
 use Rattle.drat_text.specs.declared.bytes.Format.TheVariants.{Text, Binary}
 use Rattle.drat_text.specs.declared.fault.DratKind.{DratKind}
 use Rattle.drat_text.specs.declared.fault.DratKind.TheVariants.{Malformed, NumberTooLarge, Unfinished}
 use Rattle.drat_text.specs.Bytes.{is_space}
+use Rattle.drat_text.specs.Codes.{Code, Partial, TooLong, Whole, code_after}
 use Rattle.drat_text.specs.Steps.{Outcome, Ended, Faulty}
 
 -- what was read of a number: a `-`; digits of this value, after a `-` or not; groups of this value, and the next one's weight
@@ -95,13 +96,15 @@ module _ {S T : Type 0} (r : Rules S T) where
   coded slot n =
       if r.is_signed slot then r.said slot (n % 2 == 1) (n / 2) else r.said slot false n
 
-  -- the seven bits of a byte, of this weight, after groups of this value
+  -- the bytes of a binary number, by what they say
+  abbrev pub code_does : S → Code → After S T
+  code_does slot (Partial v weight) = Goes (InNumber slot (Groups v weight))
+  code_does slot (Whole n) = coded slot n
+  code_does slot TooLong = Stops NumberTooLarge
+
+  -- one byte of them, of this weight, after groups of this value
   abbrev pub group : S → ℕ → ℕ → ℕ → After S T
-  group slot v weight b =
-      let value = v + (b % 128) * weight in
-      if nat_lt b 128 then coded slot value
-      else (if weight == r.last_weight then Stops NumberTooLarge
-      else Goes (InNumber slot (Groups value (weight * 128))))
+  group slot v weight b = code_does slot (code_after r.last_weight v weight b)
 
   -- a byte of a number
   abbrev pub in_number : S → Number → ℕ → After S T

@@ -1,13 +1,17 @@
 -- What the parts of reading a step answer. f is what all the bytes give from where the part began.
 use Rattle.std.specs.Prelude.{◌≡◌, ℕ, Bool, true, false, List, [], ◌∷◌, Option, Some, None, Result, Ok, Err}
 use Rattle.sat_formula.specs.declared.source.Source.{Source}
+use Rattle.sat_formula.specs.Source.{IsStopped}
 use Rattle.drat_text.specs.declared.bytes.Format.{Format}
 use Rattle.drat_text.specs.declared.bytes.Format.TheVariants.{Text, Binary}
+use Rattle.drat_text.specs.declared.fault.DratKind.{DratKind}
+use Rattle.drat_text.specs.declared.fault.DratKind.TheVariants.{NumberTooLarge, Unfinished}
 use Rattle.drat_text.specs.declared.fault.Stop.{Stop}
 use Rattle.drat_text.specs.declared.fault.Stop.TheVariants as stops
 use Rattle.drat_text.specs.declared.step.StepEnd.{StepEnd}
 use Rattle.drat_text.specs.declared.text.TextNumber.{TextNumber}
 use Rattle.drat_text.specs.Bytes.{is_space}
+use Rattle.drat_text.specs.Codes.{Partial, TooLong, Whole, code_at}
 use Rattle.drat_text.specs.Places.{Rules, Place, Outside, Within, After, Goes, Gives, Stops, coded, last_said}
 use Rattle.drat_text.specs.Proofs.{outcome_at}
 use Rattle.drat_text.specs.Steps.{Outcome, Ended, Faulty, with_step}
@@ -31,6 +35,28 @@ TakesNumber step slot a (Err (stops.Wrong kind)) = a ≡ Stops kind
 TakesNumber step slot a (Err stops.OutOfMemory) = Unit {0}
 
 -- ---- what was read
+
+-- a binary number was begun and not read to its end
+pub record BreaksCode (last : ℕ) (old new : Option (List ℕ)) : Type 0 where
+  pub value : ℕ
+  pub weight : ℕ
+  pub leads : Leads old new (code_at last 0 1) (code_at last value weight)
+
+-- it has too many bytes, or the input ended within it
+pub data FailsCode (last : ℕ) (old new : Option (List ℕ)) : DratKind → Type 0 where
+  too_long : Leads old new (code_at last 0 1) (λ more. (TooLong, more)) →
+      FailsCode last old new NumberTooLarge
+  cut_off : (v weight : ℕ) → EndsAll old new (code_at last 0 1) (Partial v weight, []) →
+      FailsCode last old new Unfinished
+
+-- it was read, of bytes up to one of this weight
+abbrev pub TakesCode : {R : Type 0} → ℕ → Option (List ℕ) → Option (List ℕ) → Source R →
+    Result ℕ Stop → Type 0
+TakesCode last old new source (Ok n) = Leads old new (code_at last 0 1) (λ more. (Whole n, more))
+TakesCode last old new source (Err stops.End) = ⊥
+TakesCode last old new source (Err stops.Read) = BreaksCode last old new × IsStopped source
+TakesCode last old new source (Err (stops.Wrong kind)) = FailsCode last old new kind
+TakesCode last old new source (Err stops.OutOfMemory) = Unit {0}
 
 -- a byte that begins a step of text: no blank, and no comment's first one
 pub record IsFirst {S T : Type 0} (r : Rules S T) (byte : ℕ) : Type 0 where

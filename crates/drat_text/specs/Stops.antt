@@ -1,10 +1,10 @@
--- Why reading stops.
+-- Why the reading of a proof stops, where its source gives no byte.
 use Rattle.sat_formula.specs.declared.source.NoByte.{NoByte}
 use Rattle.sat_formula.specs.declared.source.NoByte.TheVariants as reasons
 use Rattle.drat_text.specs.declared.fault.Stop.{Stop}
 use Rattle.drat_text.specs.declared.fault.Stop.TheVariants as stops
 
--- the stop of a source that gives no byte
+-- what stops the source stops the reading
 abbrev pub stop_of : NoByte → Stop
 stop_of reasons.End = stops.End
 stop_of reasons.Read = stops.Read

@@ -3,10 +3,11 @@ ghost use Rattle.std.specs.Prelude.{◌<◌, ◌≤◌, IfOk};
 ghost use Rattle.drat_text.specs.declared.bytes.Format.TheVariants as formats;
 ghost use Rattle.drat_text.specs.Places.{Within, coded};
 ghost use Rattle.drat_text.specs.Proofs.{outcome_at, outcome_in};
-ghost use Rattle.drat_text.specs.Reading.{ReadsCode, ReadsStep, TakesNumber};
+ghost use Rattle.drat_text.specs.Reading.{ReadsStep, TakesNumber};
 ghost use Rattle.drat_text.specs.Taking.{unread_bytes, room_in, source_of};
 
 use crate::bytes::{Bytes, Format};
+use crate::code::read_code;
 use crate::fault::{DratKind, Stop};
 use crate::grammar::Grammar;
 use crate::step::StepEnd;
@@ -42,7 +43,7 @@ fn codes<G: Grammar, R: Read>(
     ensures room { room_in bytes.new ≤ room_in bytes.old }
 {
     'codes: loop {
-        let code = number::<G, R>(bytes)?;
+        let code = read_code(bytes, G::last_weight())?;
         if let Some(found) = take_code(draft, code)? {
             let last = false;
             return Ok(StepEnd { found, last });
@@ -60,30 +61,5 @@ fn take_code<G: Grammar>(draft: &mut G, code: u64) -> Result<Option<G::Found>, S
         draft.take(code % 2 == 1, code / 2)
     } else {
         draft.take(false, code)
-    }
-}
-
-/// Reads a number: seven bits a byte, the low ones first.
-#[inline(always)]
-fn number<G: Grammar, R: Read>(bytes: &mut Bytes<R>) -> Result<u64, Stop>
-    ensures read { (slot : G.Slot) → ReadsCode G.rules slot
-        (unread_bytes R.remaining bytes.old) (unread_bytes R.remaining bytes.new)
-        (outcome_at G.rules formats.Binary (Within slot)) (source_of bytes.new) result }
-    ensures nearer { IfOk result (λ _. room_in bytes.new < room_in bytes.old) }
-    ensures room { room_in bytes.new ≤ room_in bytes.old }
-{
-    let last_weight = G::last_weight();
-    let mut value = 0;
-    let mut weight = 1;
-    'groups: loop {
-        let byte = bytes.next_within()?;
-        value += (byte % 128) as u64 * weight;
-        if byte < 128 {
-            return Ok(value);
-        }
-        if weight == last_weight {
-            return Err(Stop::Wrong(DratKind::NumberTooLarge));
-        }
-        weight *= 128;
     }
 }

@@ -40,8 +40,17 @@ impl<R: Read> Bytes<R> {
         ensures front { result.front.items ≡ [] }
         ensures room { room_in result ≡ 2 ^ 64 - 1 }
     {
+        Bytes::limited(alloc, inner, u64::MAX)
+    }
+
+    /// All the bytes of a reader, up to this many of them.
+    pub fn limited(alloc: Global, inner: R, limit: u64) -> Bytes<R>
+        ensures bytes { unread_bytes R.remaining result ≡ R.remaining inner }
+        ensures front { result.front.items ≡ [] }
+        ensures room { room_in result ≡ limit }
+    {
         Bytes {
-            source: Source::limited(alloc, inner, u64::MAX),
+            source: Source::limited(alloc, inner, limit),
             front: Vec::new(alloc),
             taken: 0,
         }

@@ -5,6 +5,8 @@
 mod binary;
 #[doc(hidden)]
 pub mod bytes;
+#[doc(hidden)]
+pub mod code;
 mod drat;
 mod drat_reader;
 #[doc(hidden)]

@@ -3,7 +3,7 @@ use Rattle.std.specs.Prelude.{◌%◌}
 use Rattle.lrat_binary.specs.Places.{InNumber, said}
 use Rattle.std.proofs.lemmas.Bool.{eq-eqb, le-ltb}
 use Rattle.lrat_binary.specs.Taking.{source_of}
-use Rattle.drat_text.proofs.GroupLemmas.{value_small}
+use Rattle.drat_text.proofs.CodeLemmas.{value_small}
 use Rattle.lrat_binary.proofs.GroupLemmas.{first, group_ends, group_more, groups_begin, next_weight}
 use Rattle.drat_text.proofs.Takings.{error_is}
 use Rattle.lrat_binary.proofs.Takings.{leads_nil, leads_as, cut_short, byte_on, byte_stops, byte_goes}
