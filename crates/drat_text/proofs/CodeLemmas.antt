@@ -1,5 +1,5 @@
 -- The bytes of a binary number.
-use Rattle.std.proofs.Common.{◌≡◌, ℕ, ◌+◌, ◌*◌, ◌≤◌, ◌<◌, List, [], ◌∷◌, ◌++◌, Result, Ok, Err, refl, sym, ap, ◌∙◌, arith}
+use Rattle.std.proofs.Common.{◌≡◌, ℕ, ◌+◌, ◌-◌, ◌*◌, ◌^◌, ◌≤◌, ◌<◌, List, [], ◌∷◌, ◌++◌, Result, Ok, Err, refl, sym, ap, ◌∙◌, arith}
 use Rattle.std.specs.Prelude.{◌%◌}
 use Rattle.std.proofs.lemmas.Bool.{eq-eqb, le-ltb, lt-ltb, ne_eqb}
 use Rattle.std.specs.Io.KnownBytes.{Consumes}
@@ -14,7 +14,7 @@ use Rattle.drat_text.specs.Proofs.{outcome_at}
 use Rattle.drat_text.specs.Reading.{FailsCode, ReadsCode, TakesCode, cut_off, goes_on, too_long}
 use Rattle.drat_text.specs.Steps.{Outcome}
 use Rattle.drat_text.specs.Taking.{Fails, Leads, TakesWithin, by_byte, by_end}
-use Rattle.drat_text.proofs.Takings.{Known, end_here, kept_on, leads_on}
+use Rattle.drat_text.proofs.Takings.{Known, end_here, kept_on, leads_as, leads_on}
 
 -- the weights of a number's bytes: the last one's, and before each the one that is 128 times smaller
 pub data IsWeight (last : ℕ) : ℕ → Type 0 where
@@ -30,6 +30,10 @@ pub weight_below : (last w : ℕ) → IsWeight last w → w ≤ last
 weight_below last _ is_last = omega arith
 weight_below last w (before _ p) = omega (arith, weight_below last (w * 128) p)
 
+pub weight_small : (last w : ℕ) → IsLastWeight last → IsWeight last w → w ≤ 2 ^ 56
+weight_small last w fifth_last p = omega (arith, weight_below last w p)
+weight_small last w ninth_last p = omega (arith, weight_below last w p)
+
 pub next_weight : (last w : ℕ) → IsWeight last w → (w ≡ last → ⊥) → IsWeight last (w * 128)
 next_weight last _ is_last n = absurd (n refl)
 next_weight last w (before _ p) n = p
@@ -37,6 +41,19 @@ next_weight last w (before _ p) n = p
 -- a group of the weight w
 pub value_small : (v w x : ℕ) → v < w → v + (x % 128) * w < w * 128
 value_small v w x lt = let m : x % 128 ≤ 127 = omega arith in grind arith
+
+-- the group of a byte that isn't the last one
+pub group_before : (v w x : ℕ) → 128 ≤ x → x < 256 → v + w * (x - 128) ≡ v + (x % 128) * w
+group_before v w x le lt = let e : x % 128 ≡ x - 128 = omega arith in rw e (grind arith)
+
+-- the first byte, and the second, may have others after them
+pub not_first : (last : ℕ) → IsLastWeight last → 1 ≡ last → ⊥
+not_first _ fifth_last e = omega (arith, e)
+not_first _ ninth_last e = omega (arith, e)
+
+pub not_second : (last : ℕ) → IsLastWeight last → 128 ≡ last → ⊥
+not_second _ fifth_last e = omega (arith, e)
+not_second _ ninth_last e = omega (arith, e)
 
 -- ---- one byte
 
@@ -69,6 +86,10 @@ module _ {a b c : Known} (last v w x : ℕ) (on : Leads a b (code_at last 0 1) (
   pub code_ends : x < 128 → Leads a c (code_at last 0 1) (λ m. (Whole (v + (x % 128) * w), m))
   unfolding code_then
   code_ends lt = by_code (Whole (v + (x % 128) * w)) (code_whole last v w x lt)
+
+  -- as a number of this value
+  pub code_is : (n : ℕ) → x < 128 → n ≡ v + (x % 128) * w → Leads a c (code_at last 0 1) (λ m. (Whole n, m))
+  code_is n lt e = leads_as (code_ends lt) (λ m. ap (λ k. (Whole k, m)) (sym e))
 
   pub code_too_long : 128 ≤ x → w ≡ last → Leads a c (code_at last 0 1) (λ m. (TooLong, m))
   unfolding code_then

@@ -1,6 +1,8 @@
 -- Bytes, one after the other.
-use Rattle.std.proofs.Common.{◌≡◌, ℕ, List, [], ◌∷◌, ◌++◌, Option, None, Some, Result, Err, Bool, true, false, refl, sym, ap, ◌∙◌, append_assoc, append-nil}
-use Rattle.std.specs.Prelude.{IsErrAnd}
+use Rattle.std.proofs.Common.{◌≡◌, ℕ, ◌+◌, ◌≤◌, ◌<◌, List, [], ◌∷◌, ◌++◌, Option, None, Some, Result, Err, Bool, true, false, refl, sym, ap, ◌∙◌, append_assoc, append-nil, length, take, drop, get_or, drop-cons, add-one, arith, ◌⊎◌, inl, inr}
+use Rattle.std.specs.Prelude.{IsErrAnd, nat_lt, if◌then◌else◌}
+use Rattle.std.proofs.lemmas.Bool.{cases_Bool, ltb-false}
+use Rattle.std.proofs.lemmas.List.{append_cancel_right, drop_all, take-append-drop}
 use Rattle.std.proofs.lemmas.Result.{err_from_is_err_and}
 use Rattle.std.specs.Io.KnownBytes.{Consumes, Keeps, IsAtEnd, prepend_known}
 use Rattle.std.proofs.KnownBytes.{Consumes-trans, Consumes-nil, Consumes-kept}
@@ -82,6 +84,34 @@ pub source_none : {R : Type 0} (a b : Known) (source : Source R) (front : List �
 source_none a b source front reasons.End e t stopped = rw e (keeps_front a b t.kept, end_front b (t.at_end refl))
 source_none a b source front reasons.Read e t stopped = rw e (keeps_front a b t.kept, stopped refl)
 source_none a b source front reasons.OutOfMemory e t stopped = tt
+
+-- ---- bytes read ahead
+
+front_stays : (a b : Known) (front taken : List ℕ) → (front ≡ []) ⊎ (taken ≡ []) → Consumes a b taken → Consumes (prepend_known front a) (prepend_known front b) taken
+front_stays None b front taken e h = tt
+front_stays (Some x) None front taken e h = absurd h
+front_stays (Some x) (Some y) front taken (inl e) h = rw e h
+front_stays (Some x) (Some y) front taken (inr e) h = rw e (ap (λ (l : List ℕ). front ++ l) (rw e at h))
+
+-- none are taken where others stand in front of them
+pub ahead_taken : (passed : ℕ) (front ahead : List ℕ) (a b : Known) (count : ℕ) → count ≤ length (if nat_lt passed (length front) then [] else ahead) → Consumes a b (take count ahead) →
+    Consumes (prepend_known (drop passed front) a) (prepend_known (drop passed front) b) (take count (if nat_lt passed (length front) then [] else ahead))
+ahead_taken passed front ahead a b count le h = elim (cases_Bool (nat_lt passed (length front))) [
+  | inl some ↦
+      let none : count ≡ 0 = omega (arith, rw some at le) in
+      rw (some, none) (front_stays a b (drop passed front) [] (inr refl) (rw none at h))
+  | inr all ↦ rw all (front_stays a b (drop passed front) (take count ahead) (inl (drop_all passed front (ltb-false passed (length front) all))) h)
+]
+
+pub byte_ahead : (bytes : List ℕ) (place : ℕ) → place < length bytes → Consumes (Some (drop place bytes)) (Some (drop (place + 1) bytes)) (get_or bytes place 0 ∷ [])
+byte_ahead bytes place lt = rw (drop-cons bytes place 0 lt, add-one) refl
+
+-- the first this many of the bytes ahead are taken, of which something is said
+pub ahead_leads : {O : Type 0} {a b : Known} {f g : List ℕ → O} (ahead front : List ℕ) (count : ℕ) → ahead ≡ front → Leads (Some ahead) (Some (drop count ahead)) f g →
+    Consumes a b (take count front) → Leads a b f g
+ahead_leads ahead front count e p taken =
+    let same : p.taken ≡ take count ahead = append_cancel_right p.taken (take count ahead) (drop count ahead) (sym p.consumed ∙ sym (take-append-drop count ahead)) in
+    record { taken = p.taken; consumed = rw (same, e) taken; same = p.same }
 
 -- ---- the exit of a `?`
 

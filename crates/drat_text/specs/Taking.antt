@@ -1,8 +1,8 @@
 -- What was taken from a reader's bytes, and what it says of them.
-use Rattle.std.specs.Prelude.{◌≡◌, ℕ, ◌+◌, ◌-◌, List, [], ◌∷◌, ◌++◌, Option, unwrap_or, length, drop, slice_get, Result, Ok, Err, IfSome}
+use Rattle.std.specs.Prelude.{◌≡◌, ℕ, ◌+◌, ◌-◌, List, [], ◌∷◌, ◌++◌, Option, unwrap_or, length, drop, nat_lt, if◌then◌else◌, slice_get, Result, Ok, Err, IfSome}
 use Rattle.std.specs.Io.KnownBytes.{Consumes, Keeps, IsAtEnd, prepend_known}
 use Rattle.sat_formula.specs.declared.source.Source.{Source}
-use Rattle.sat_formula.specs.Source.{unread, room_of, IsStopped}
+use Rattle.sat_formula.specs.Source.{ahead_of, unread, room_of, IsStopped}
 use Rattle.drat_text.specs.declared.bytes.Bytes.{Bytes}
 use Rattle.drat_text.specs.declared.bytes.Format.{Format}
 use Rattle.drat_text.specs.declared.fault.DratKind.{DratKind}
@@ -24,6 +24,10 @@ front_of s = drop s.taken s.front.items
 -- the bytes that were not taken, where they are known
 abbrev pub unread_bytes : {R : Type 0} → (R → Option (List ℕ)) → Bytes R → Option (List ℕ)
 unread_bytes remaining s = prepend_known (front_of s) (unread remaining s.source)
+
+-- what is read ahead, unless bytes stand in front of it
+abbrev pub ahead_in : {R : Type 0} → Bytes R → List ℕ
+ahead_in s = if nat_lt s.taken (length s.front.items) then [] else ahead_of s.source
 
 -- how many bytes it can still give
 abbrev pub room_in : {R : Type 0} → Bytes R → ℕ

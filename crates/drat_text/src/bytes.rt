@@ -1,5 +1,6 @@
 //! The bytes of a proof, the first of which tell whether it is text.
-ghost use Rattle.std.specs.Prelude.{◌≡◌, ◌<◌, ◌≤◌, ◌-◌, ◌^◌, [], IfOk, IsSome, IsTrue, length, take, vec_len};
+ghost use Rattle.std.specs.Prelude.{◌≡◌, ◌<◌, ◌≤◌, ◌+◌, ◌-◌, ◌^◌, [], IfOk, IsSome, IsTrue, length, take, vec_len};
+ghost use Rattle.std.specs.Io.KnownBytes.{Consumes};
 ghost use Rattle.sat_formula.specs.Source.{is_limited};
 
 use crate::fault::{DratKind, Stop};
@@ -32,7 +33,7 @@ pub struct Bytes<R> {
 impl<R: Read> Bytes<R> {
     ghost use Rattle.sat_formula.specs.Source.{IsStopped, IsErrorOf};
     ghost use Rattle.drat_text.specs.Bytes.{by_text_bytes};
-    ghost use Rattle.drat_text.specs.Taking.{front_of, unread_bytes, room_in, Takes, TakesWithin, Looks, Peeks};
+    ghost use Rattle.drat_text.specs.Taking.{ahead_in, front_of, unread_bytes, room_in, Takes, TakesWithin, Looks, Peeks};
 
     /// All the bytes of a reader, up to `u64::MAX` of them.
     pub fn new(alloc: Global, inner: R) -> Bytes<R>
@@ -95,6 +96,28 @@ impl<R: Read> Bytes<R> {
             Err(Stop::End) => Err(Stop::Wrong(DratKind::Unfinished)),
             answer => answer,
         }
+    }
+
+    /// The bytes that are read ahead, unless others stand in front of them.
+    #[inline(always)]
+    pub fn ahead(&self) -> &[u8]
+        ensures { result.now ≡ ahead_in self.now }
+    {
+        if self.taken < self.front.len() {
+            return &[];
+        }
+        self.source.ahead()
+    }
+
+    /// Takes this many of the bytes that are read ahead.
+    #[inline(always)]
+    pub fn take_ahead(&mut self, count: usize)
+        requires { count ≤ length (ahead_in self.old) }
+        ensures bytes { let taken = take count (ahead_in self.old) in
+            Consumes (unread_bytes R.remaining self.old) (unread_bytes R.remaining self.new) taken }
+        ensures room { room_in self.old ≡ count + room_in self.new }
+    {
+        self.source.take_ahead(count);
     }
 
     /// Tells text from binary steps by whether each of the next bytes is one that a text can have,

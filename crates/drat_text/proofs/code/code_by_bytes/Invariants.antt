@@ -2,7 +2,7 @@ use Rattle.std.proofs.Common.{◌≤◌, ◌<◌}
 use Rattle.drat_text.specs.Codes.{code_at}
 use Rattle.drat_text.specs.Taking.{Leads, room_in, unread_bytes}
 use Rattle.drat_text.proofs.CodeLemmas.{IsWeight}
-use Rattle.drat_text.proofs.code.read_code.Given as goal
+use Rattle.drat_text.proofs.code.code_by_bytes.Given as goal
 
 abbrev pub invariant-groups : goal.invariant-groups
 invariant-groups g l = record {
