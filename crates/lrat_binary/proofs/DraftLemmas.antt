@@ -2,12 +2,12 @@
 use Rattle.std.proofs.Common.{ℕ, [], ◌∷◌, Result, Ok, Err}
 use Rattle.std.specs.Io.KnownBytes.{Consumes}
 use Rattle.sat_formula.specs.declared.source.Source.{Source}
+use Rattle.drat_text.specs.declared.fault.Stop.{Stop}
+use Rattle.drat_text.specs.declared.fault.Stop.TheVariants as stops
 use Rattle.lrat_text.specs.Taking.{Leads}
+use Rattle.lrat_text.specs.declared.row.Head.{Head}
 use Rattle.lrat_text.proofs.LineLemmas.{leads_on}
 use Rattle.lrat_binary.specs.declared.draft.Draft.{Draft}
-use Rattle.lrat_binary.specs.declared.draft.Head.{Head}
-use Rattle.lrat_binary.specs.declared.fault.Stop.{Stop}
-use Rattle.lrat_binary.specs.declared.fault.Stop.TheVariants as stops
 use Rattle.lrat_binary.specs.declared.ids.Ids.{Ids}
 use Rattle.lrat_binary.specs.Drafts.{BeginsLine, TakesNumber, slot_of}
 use Rattle.lrat_binary.specs.Lines.{outcome_at}

@@ -1,5 +1,5 @@
 pub mod Takings
-pub mod GroupLemmas
+pub mod CodeLemmas
 pub mod DraftLemmas
 pub mod ReaderLemmas
 pub mod TellLemmas

@@ -4,17 +4,18 @@ use Rattle.sat_formula.specs.Outcome.{next_line}
 use Rattle.sat_formula.specs.Source.{IsStopped}
 use Rattle.sat_formula.specs.declared.source.Source.{Source}
 use Rattle.lrat_rules.specs.Lines.{Line}
+use Rattle.drat_text.specs.Taking.{source_of}
+use Rattle.drat_text.specs.declared.fault.Stop.{Stop}
+use Rattle.drat_text.specs.declared.fault.Stop.TheVariants as stops
 use Rattle.lrat_text.specs.Taking.{Leads}
 use Rattle.lrat_text.specs.Texts.{Outcome}
 use Rattle.lrat_text.specs.declared.fault.LratTextFault.{LratTextFault}
 use Rattle.lrat_text.specs.declared.fault.LratTextFault.TheVariants as faults
-use Rattle.lrat_binary.specs.declared.fault.Stop.{Stop}
-use Rattle.lrat_binary.specs.declared.fault.Stop.TheVariants as stops
 use Rattle.lrat_binary.specs.declared.ids.Ids.{Ids}
 use Rattle.lrat_binary.specs.declared.reader.BinaryReader.{BinaryReader}
 use Rattle.lrat_binary.specs.NextLine.{Answers, Explains, Numbers, bytes_left, has_ended, ids_of, line_number, rest_of, room_left}
 use Rattle.lrat_binary.specs.Reading.{line_then}
-use Rattle.lrat_binary.specs.Taking.{Stopped, source_of}
+use Rattle.lrat_binary.specs.Taking.{Stopped}
 
 -- a read that failed has stopped the source
 pub stopped_source : {R : Type 0} (ids : Ids) (before : ℕ) (a b : Option (List ℕ)) (f : List ℕ → Outcome) (source : Source R) (stop : Stop) → Stopped ids before a b f source stop →

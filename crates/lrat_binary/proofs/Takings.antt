@@ -2,24 +2,19 @@
 use Rattle.std.proofs.Common.{◌≡◌, ℕ, List, [], ◌∷◌, Option, Err, refl, sym, ap, ◌∙◌, append-nil}
 use Rattle.std.specs.Io.KnownBytes.{Consumes, Keeps, IsAtEnd}
 use Rattle.std.proofs.KnownBytes.{Consumes-nil, Consumes-kept}
-use Rattle.sat_formula.specs.declared.source.NoByte.{NoByte}
-use Rattle.sat_formula.specs.declared.source.NoByte.TheVariants as reasons
 use Rattle.sat_formula.specs.declared.source.Source.{Source}
-use Rattle.sat_formula.specs.Outcome.{next_line}
-use Rattle.sat_formula.specs.Source.{TakesNone, IsStopped}
 use Rattle.lrat_text.specs.Taking.{Leads, EndsAll}
-use Rattle.lrat_text.specs.Texts.{Outcome, Ended, Faulty}
+use Rattle.lrat_text.specs.Texts.{Outcome, Ended}
 use Rattle.lrat_text.specs.declared.fault.LineKind.{LineKind}
-use Rattle.lrat_text.specs.declared.fault.LineKind.TheVariants.{Unfinished}
+use Rattle.drat_text.specs.declared.fault.Stop.{Stop}
+use Rattle.drat_text.specs.declared.fault.Stop.TheVariants as stops
+use Rattle.drat_text.specs.Taking.{Takes}
 use Rattle.lrat_text.proofs.LineLemmas.{ends_on, leads_on}
-use Rattle.lrat_binary.specs.declared.fault.Stop.{Stop}
-use Rattle.lrat_binary.specs.declared.fault.Stop.TheVariants as stops
 use Rattle.lrat_binary.specs.declared.ids.Ids.{Ids}
 use Rattle.lrat_binary.specs.Lines.{at_end, outcome_at}
-use Rattle.lrat_binary.specs.Places.{Place, After, Goes, Stops, after}
+use Rattle.lrat_binary.specs.Places.{Place, After, after}
 use Rattle.lrat_binary.specs.Reading.{goes_on}
-use Rattle.lrat_binary.specs.Stops.{stop_of}
-use Rattle.lrat_binary.specs.Taking.{Fails, Stopped, Takes, TakesWithin, by_byte, by_end}
+use Rattle.lrat_binary.specs.Taking.{Fails, Stopped, by_byte, by_end}
 
 abbrev pub Known : Type 0
 Known = Option (List ℕ)
@@ -53,14 +48,6 @@ module _ (ids : Ids) (before : ℕ) where
   unfolding outcome_at
   byte_on p x l h e = leads_on l (record { taken = x ∷ []; consumed = h; same = λ m. ap (λ (d : After). goes_on ids before d m) e })
 
-  pub byte_goes : {a b c : Known} {f : Tells} (p : Place) {q : Place} (x : ℕ) → Leads a b f (outcome_at ids before p) → Consumes b c (x ∷ []) → after ids p x ≡ Goes q →
-      Leads a c f (outcome_at ids before q)
-  byte_goes p {q} x l h e = byte_on p x {d = Goes q} l h e
-
-  pub byte_stops : {a b c : Known} {f : Tells} (p : Place) {kind : LineKind} (x : ℕ) → Leads a b f (outcome_at ids before p) → Consumes b c (x ∷ []) → after ids p x ≡ Stops kind →
-      Fails a c f (next_line before) kind
-  byte_stops p {kind} x l h e = by_byte (byte_on p x {d = Stops kind} l h e)
-
   -- what comes next is known
   pub on_as : {a b : Known} {f : Tells} {d e : After} → Leads a b f (goes_on ids before d) → d ≡ e → Leads a b f (goes_on ids before e)
   on_as l e = leads_as l (λ m. ap (λ (d : After). goes_on ids before d m) e)
@@ -90,17 +77,3 @@ module _ (ids : Ids) (before : ℕ) (p : Place) where
   no_byte c source stops.Read e l t = (record { place = p; leads = kept_on l t.0 }, t.1)
   no_byte c source (stops.Wrong kind) e l t = absurd t
   no_byte c source stops.OutOfMemory e l t = tt
-
-  -- the input ends within a line
-  pub cut_short : {R : Type 0} {a b : Known} (c : Known) {f : Tells} (source : Source R) (stop : Stop) → at_end before p ≡ ([], Faulty (next_line before) Unfinished) →
-      Leads a b f (outcome_at ids before p) → TakesWithin b c source (Err stop) → Stopped ids before a c f source stop
-  cut_short c source stops.End e l t = absurd t
-  cut_short c source stops.Read e l t = (record { place = p; leads = kept_on l t.0 }, t.1)
-  cut_short c source (stops.Wrong kind) e l t = by_end (end_at l (t.0, t.1) (rw t.2 e))
-  cut_short c source stops.OutOfMemory e l t = tt
-
--- the source gave no byte
-pub source_none : {R : Type 0} (a b : Known) (source : Source R) (reason : NoByte) → TakesNone a b reason → (reason ≡ reasons.Read → IsStopped source) → Takes a b source (Err (stop_of reason))
-source_none a b source reasons.End t stopped = (t.kept, t.at_end refl)
-source_none a b source reasons.Read t stopped = (t.kept, stopped refl)
-source_none a b source reasons.OutOfMemory t stopped = tt

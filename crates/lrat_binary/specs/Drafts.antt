@@ -1,17 +1,16 @@
 -- The draft of a line, and what it takes.
 --     slot_of draft, line_of draft head      what is due;  the line that has ended
 --     BeginsLine, TakesNumber      what a letter and a number did
-use Rattle.std.specs.Prelude.{◌≡◌, ℕ, List, map, Option, Some, None, Result, Ok, Err}
-use Rattle.lrat_rules.specs.Lines.{Line, adds, deletes}
-use Rattle.lrat_text.specs.Grammar.{hint_of}
+use Rattle.std.specs.Prelude.{◌≡◌, ℕ, List, Option, Some, None, Result, Ok, Err}
+use Rattle.lrat_rules.specs.Lines.{Line}
+use Rattle.drat_text.specs.declared.fault.Stop.{Stop}
+use Rattle.drat_text.specs.declared.fault.Stop.TheVariants as stops
+use Rattle.lrat_text.specs.Reading as rows
 use Rattle.lrat_text.specs.declared.line.Hint.{Hint}
+use Rattle.lrat_text.specs.declared.row.Head.{Head}
 use Rattle.lrat_binary.specs.declared.draft.Draft.{Draft}
 use Rattle.lrat_binary.specs.declared.draft.Due.{Due}
 use Rattle.lrat_binary.specs.declared.draft.Due.TheVariants as dues
-use Rattle.lrat_binary.specs.declared.draft.Head.{Head}
-use Rattle.lrat_binary.specs.declared.draft.Head.TheVariants as heads
-use Rattle.lrat_binary.specs.declared.fault.Stop.{Stop}
-use Rattle.lrat_binary.specs.declared.fault.Stop.TheVariants as stops
 use Rattle.lrat_binary.specs.Places.{Slot, IdDue, LitDue, HintDue, DeletedDue, After, Goes, Gives, Stops, Within}
 
 -- what is due, after these lists
@@ -23,16 +22,11 @@ slot_at dues.Deleted lits hints deleted = DeletedDue deleted
 
 -- what is due in a draft
 abbrev pub slot_of : Draft → Slot
-slot_of d = slot_at d.due d.lits.items d.hints.items d.deleted.items
-
--- the line of these lists that has ended
-abbrev pub line_in : Head → List ℕ → List Hint → List ℕ → Line
-line_in (heads.Add id) lits hints deleted = adds id lits (map hint_of hints)
-line_in heads.Delete lits hints deleted = deletes deleted
+slot_of d = slot_at d.due d.row.lits.items d.row.hints.items d.row.ids.items
 
 -- the line of a draft that has ended
 abbrev pub line_of : Draft → Head → Line
-line_of d head = line_in head d.lits.items d.hints.items d.deleted.items
+line_of d head = rows.line_of d.row head
 
 -- a byte began the draft, or stops the reading
 abbrev pub BeginsLine : {X : Type 0} → Draft → After → Result X Stop → Type 0

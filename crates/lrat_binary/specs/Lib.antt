@@ -1,4 +1,4 @@
-pub mod Stops
+pub mod Kinds
 pub mod Numbers
 pub mod Places
 pub mod Lines

@@ -4,6 +4,7 @@ use Rattle.sat_formula.specs.Outcome.{next_line}
 use Rattle.lrat_text.specs.declared.fault.LineKind.TheVariants.{Unfinished}
 use Rattle.lrat_text.specs.Texts.{Outcome, Ended, Faulty, with_line}
 use Rattle.lrat_binary.specs.declared.ids.Ids.{Ids}
+use Rattle.lrat_binary.specs.Kinds.{line_kind}
 use Rattle.lrat_binary.specs.Places.{Place, Outside, Within, InNumber, Goes, Gives, Stops, after}
 
 -- the end of the input, after this many lines
@@ -19,7 +20,7 @@ outcome_at ids before p (b ∷ bs) = elim (after ids p b) [
   | Goes q ↦ outcome_at ids before q bs
   | Gives line ↦
       with_line (next_line before) line (outcome_at ids (next_line before) Outside bs)
-  | Stops kind ↦ ([], Faulty (next_line before) kind)
+  | Stops kind ↦ ([], Faulty (next_line before) (line_kind kind))
 ]
 
 -- the rest of a proof, after this many lines

@@ -7,18 +7,20 @@ use Rattle.sat_formula.specs.Outcome.{next_line}
 use Rattle.sat_formula.specs.declared.source.Source.{Source}
 use Rattle.sat_formula.specs.Source.{IsErrorOf}
 use Rattle.lrat_rules.specs.Lines.{Line}
+use Rattle.drat_text.specs.Taking.{unread_bytes, room_in, source_of}
+use Rattle.drat_text.specs.declared.fault.Stop.{Stop}
+use Rattle.drat_text.specs.declared.fault.Stop.TheVariants as stops
 use Rattle.lrat_text.specs.NextLine.{view}
 use Rattle.lrat_text.specs.Taking.{Leads, EndsAll}
 use Rattle.lrat_text.specs.Texts.{Ended, Outcome, with_line}
 use Rattle.lrat_text.specs.declared.fault.LratTextFault.{LratTextFault}
 use Rattle.lrat_text.specs.declared.fault.LratTextFault.TheVariants as faults
 use Rattle.lrat_text.specs.declared.line.LratLine.{LratLine}
-use Rattle.lrat_binary.specs.declared.fault.Stop.{Stop}
-use Rattle.lrat_binary.specs.declared.fault.Stop.TheVariants as stops
 use Rattle.lrat_binary.specs.declared.ids.Ids.{Ids}
 use Rattle.lrat_binary.specs.declared.reader.BinaryReader.{BinaryReader}
+use Rattle.lrat_binary.specs.Kinds.{line_kind}
 use Rattle.lrat_binary.specs.Lines.{binary_after}
-use Rattle.lrat_binary.specs.Taking.{unread_bytes, room_in, source_of, Breaks, Fails}
+use Rattle.lrat_binary.specs.Taking.{Breaks, Fails}
 
 -- the bytes that are still to come, where the reader beneath tells them
 abbrev pub bytes_left : {R : Type 0} → (R → Option (List ℕ)) → BinaryReader R → Option (List ℕ)
@@ -97,5 +99,5 @@ Explains source before stops.Read (Ok x) = ⊥
 Explains source before stops.Read (Err (faults.Read e)) = IsErrorOf source e
 Explains source before stops.Read (Err (faults.Line number kind)) = ⊥
 Explains source before stops.Read (Err faults.OutOfMemory) = ⊥
-Explains source before (stops.Wrong kind) r = r ≡ Err (faults.Line (next_line before) kind)
+Explains source before (stops.Wrong kind) r = r ≡ Err (faults.Line (next_line before) (line_kind kind))
 Explains source before stops.OutOfMemory r = r ≡ Err faults.OutOfMemory

@@ -1,8 +1,9 @@
 -- The grammar of binary lines, a byte after the other: `a` id literals 0 hints 0, and `d` ids 0. A number has seven bits a byte, the low ones first, and ends with a byte below 128.
-use Rattle.std.specs.Prelude.{ℕ, ◌+◌, ◌*◌, ◌%◌, ◌^◌, List, [], ◌∷◌, ◌++◌, map, Option, Some, None, Result, Ok, Err, nat_lt, ◌==◌, if◌then◌else◌}
+use Rattle.std.specs.Prelude.{ℕ, ◌^◌, List, [], ◌∷◌, ◌++◌, map, Option, Some, None, Result, Ok, Err, ◌==◌, if◌then◌else◌}
 use Rattle.lrat_rules.specs.Lines.{Line, adds, deletes}
-use Rattle.lrat_text.specs.declared.fault.LineKind.{LineKind}
-use Rattle.lrat_text.specs.declared.fault.LineKind.TheVariants.{Malformed, NumberTooLarge}
+use Rattle.drat_text.specs.Codes.{Code, Partial, TooLong, Whole, code_after}
+use Rattle.drat_text.specs.declared.fault.DratKind.{DratKind}
+use Rattle.drat_text.specs.declared.fault.DratKind.TheVariants.{Malformed, NumberTooLarge}
 use Rattle.lrat_text.specs.declared.line.Hint.{Hint}
 use Rattle.lrat_text.specs.Grammar.{hint_of}
 use Rattle.lrat_binary.specs.declared.ids.Ids.{Ids}
@@ -33,30 +34,30 @@ pub data Place : Type 0 where
 pub data After : Type 0 where
   Goes : Place → After
   Gives : Line → After
-  Stops : LineKind → After
+  Stops : DratKind → After
 
 -- ---- numbers
 
 -- the id of a clause
-abbrev pub clause_id : Result (Option ℕ) LineKind → After
+abbrev pub clause_id : Result (Option ℕ) DratKind → After
 clause_id (Ok None) = Stops Malformed
 clause_id (Ok (Some id)) = Goes (Within (LitDue id []))
 clause_id (Err kind) = Stops kind
 
 -- a literal, or the end of the clause
-abbrev pub lit_in : ℕ → List ℕ → Result (Option ℕ) LineKind → After
+abbrev pub lit_in : ℕ → List ℕ → Result (Option ℕ) DratKind → After
 lit_in id lits (Ok None) = Goes (Within (HintDue id lits []))
 lit_in id lits (Ok (Some lit)) = Goes (Within (LitDue id (lits ++ lit ∷ [])))
 lit_in id lits (Err kind) = Stops kind
 
 -- a hint, or the end of the line
-abbrev pub hint_in : ℕ → List ℕ → List Hint → Result (Option Hint) LineKind → After
+abbrev pub hint_in : ℕ → List ℕ → List Hint → Result (Option Hint) DratKind → After
 hint_in id lits hints (Ok None) = Gives (adds id lits (map hint_of hints))
 hint_in id lits hints (Ok (Some hint)) = Goes (Within (HintDue id lits (hints ++ hint ∷ [])))
 hint_in id lits hints (Err kind) = Stops kind
 
 -- an id that is deleted, or the end of the line
-abbrev pub deleted_in : List ℕ → Result (Option ℕ) LineKind → After
+abbrev pub deleted_in : List ℕ → Result (Option ℕ) DratKind → After
 deleted_in deleted (Ok None) = Gives (deletes deleted)
 deleted_in deleted (Ok (Some id)) = Goes (Within (DeletedDue (deleted ++ id ∷ [])))
 deleted_in deleted (Err kind) = Stops kind
@@ -70,13 +71,15 @@ said ids (DeletedDue deleted) v = deleted_in deleted (id_said ids v)
 
 -- ---- bytes
 
--- the seven bits of a byte, of this weight, after groups of this value; no number has more than nine bytes
+-- the bytes of a number, by what they say
+abbrev pub code_does : Ids → Slot → Code → After
+code_does ids slot (Partial v weight) = Goes (InNumber slot v weight)
+code_does ids slot (Whole n) = said ids slot n
+code_does ids slot TooLong = Stops NumberTooLarge
+
+-- one byte of them, of this weight, after groups of this value; no number has more than nine bytes
 abbrev pub group : Ids → Slot → ℕ → ℕ → ℕ → After
-group ids slot v weight b =
-    let value = v + (b % 128) * weight in
-    if nat_lt b 128 then said ids slot value
-    else (if weight == 2 ^ 56 then Stops NumberTooLarge
-    else Goes (InNumber slot value (weight * 128)))
+group ids slot v weight b = code_does ids slot (code_after (2 ^ 56) v weight b)
 
 -- a line's first byte
 abbrev pub begun : ℕ → After

@@ -3,13 +3,14 @@ use Rattle.std.specs.Prelude.{ℕ, List, [], Option, Result, Ok, Err}
 use Rattle.sat_formula.specs.Outcome.{next_line}
 use Rattle.sat_formula.specs.declared.source.Source.{Source}
 use Rattle.lrat_rules.specs.Lines.{Line}
+use Rattle.drat_text.specs.declared.fault.Stop.{Stop}
 use Rattle.lrat_text.specs.Taking.{Leads}
 use Rattle.lrat_text.specs.Texts.{Outcome, Faulty, with_line}
+use Rattle.lrat_text.specs.declared.row.Head.{Head}
 use Rattle.lrat_binary.specs.declared.draft.Draft.{Draft}
-use Rattle.lrat_binary.specs.declared.draft.Head.{Head}
-use Rattle.lrat_binary.specs.declared.fault.Stop.{Stop}
 use Rattle.lrat_binary.specs.declared.ids.Ids.{Ids}
 use Rattle.lrat_binary.specs.Drafts.{slot_of, line_of}
+use Rattle.lrat_binary.specs.Kinds.{line_kind}
 use Rattle.lrat_binary.specs.Lines.{binary_after, outcome_at}
 use Rattle.lrat_binary.specs.Places.{After, Goes, Gives, Stops, Slot, Within, said}
 use Rattle.lrat_binary.specs.Taking.{Stopped}
@@ -24,7 +25,7 @@ abbrev pub goes_on : Ids → ℕ → After → List ℕ → Outcome
 goes_on ids before d more = elim d [
   | Goes p ↦ outcome_at ids before p more
   | Gives line ↦ line_then ids before line more
-  | Stops kind ↦ ([], Faulty (next_line before) kind)
+  | Stops kind ↦ ([], Faulty (next_line before) (line_kind kind))
 ]
 
 -- a line was begun by its letter

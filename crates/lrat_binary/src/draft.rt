@@ -6,11 +6,12 @@ ghost use Rattle.lrat_binary.specs.declared.draft.Due.TheVariants as dues;
 ghost use Rattle.lrat_binary.specs.declared.ids.Ids.{Ids};
 ghost use Rattle.lrat_text.specs.NextLine.{view};
 
-use crate::fault::Stop;
 use crate::ids::Ids;
 use crate::number::{hint_said, id_said, lit_said};
-use lrat_text::{Hint, LineKind, LratLine};
-use sat_formula::Lit;
+use drat_text::DratKind;
+use drat_text::fault::Stop;
+use lrat_text::LratLine;
+use lrat_text::row::{Head, Row};
 use std::alloc::Global;
 
 /// What is due next in a line.
@@ -26,20 +27,11 @@ pub(crate) enum Due {
     Deleted,
 }
 
-/// A line that has ended, without its lists.
-#[derive(Clone, Copy)]
-pub(crate) enum Head {
-    Add { id: u64 },
-    Delete,
-}
-
 /// What was read of a line.
 #[derive(Drop)]
 pub(crate) struct Draft {
     due: Due,
-    lits: Vec<Lit>,
-    hints: Vec<Hint>,
-    deleted: Vec<u64>,
+    row: Row,
 }
 
 impl Draft {
@@ -47,9 +39,7 @@ impl Draft {
     pub(crate) fn new(alloc: Global) -> Draft {
         Draft {
             due: Due::Id,
-            lits: Vec::new(alloc),
-            hints: Vec::new(alloc),
-            deleted: Vec::new(alloc),
+            row: Row::new(alloc),
         }
     }
 
@@ -61,9 +51,9 @@ impl Draft {
             b'a' => self.due = Due::Id,
             b'd' => {
                 self.due = Due::Deleted;
-                self.deleted.clear();
+                self.row.ids.clear();
             }
-            _ => return Err(Stop::Wrong(LineKind::Malformed)),
+            _ => return Err(Stop::Wrong(DratKind::Malformed)),
         }
         Ok(())
     }
@@ -89,10 +79,10 @@ impl Draft {
         match id_said(ids, number) {
             Ok(Some(id)) => {
                 self.due = Due::Lit(id);
-                self.lits.clear();
+                self.row.lits.clear();
                 Ok(None)
             }
-            Ok(None) => Err(Stop::Wrong(LineKind::Malformed)),
+            Ok(None) => Err(Stop::Wrong(DratKind::Malformed)),
             Err(kind) => Err(Stop::Wrong(kind)),
         }
     }
@@ -105,12 +95,12 @@ impl Draft {
     {
         match lit_said(number) {
             Ok(Some(lit)) => {
-                self.lits.push(lit)?;
+                self.row.lits.push(lit)?;
                 Ok(None)
             }
             Ok(None) => {
                 self.due = Due::Hint(id);
-                self.hints.clear();
+                self.row.hints.clear();
                 Ok(None)
             }
             Err(kind) => Err(Stop::Wrong(kind)),
@@ -125,7 +115,7 @@ impl Draft {
     {
         match hint_said(number) {
             Ok(Some(hint)) => {
-                self.hints.push(hint)?;
+                self.row.hints.push(hint)?;
                 Ok(None)
             }
             Ok(None) => Ok(Some(Head::Add { id })),
@@ -140,7 +130,7 @@ impl Draft {
     {
         match id_said(ids, number) {
             Ok(Some(id)) => {
-                self.deleted.push(id)?;
+                self.row.ids.push(id)?;
                 Ok(None)
             }
             Ok(None) => Ok(Some(Head::Delete)),
@@ -152,13 +142,6 @@ impl Draft {
     pub(crate) fn line(&self, head: Head) -> LratLine<'_>
         ensures { view result ≡ line_of self.now head }
     {
-        match head {
-            Head::Add { id } => LratLine::Add {
-                id,
-                clause: &self.lits,
-                hints: &self.hints,
-            },
-            Head::Delete => LratLine::Delete { ids: &self.deleted },
-        }
+        self.row.shown(head)
     }
 }

@@ -1,49 +1,17 @@
-//! Why reading stops.
+//! What is wrong with a line.
 ghost use Rattle.std.specs.Prelude.{◌≡◌};
-ghost use Rattle.lrat_binary.specs.Stops.{stop_of};
-ghost use Rattle.lrat_binary.specs.declared.fault.Stop.TheVariants as stops;
+ghost use Rattle.lrat_binary.specs.Kinds.{line_kind};
 
+use drat_text::DratKind;
 use lrat_text::LineKind;
-use sat_formula::source::NoByte;
-use std::alloc::AllocFailed;
 
-/// Why reading stops. It is small, since it passes through the loops over bytes.
-#[derive(Clone, Copy)]
-pub(crate) enum Stop {
-    /// The input ended, and no line was begun.
-    End,
-    /// A read failed; the source has the error.
-    Read,
-    /// The first fault of the proof.
-    Wrong(LineKind),
-    /// There was no memory.
-    OutOfMemory,
-}
-
-impl From<NoByte> for Stop {
-    ghost from_gives = { λ reason stop. stop ≡ stop_of reason };
-
-    fn from(reason: NoByte) -> Stop {
-        match reason {
-            NoByte::End => Stop::End,
-            NoByte::Read => Stop::Read,
-            NoByte::OutOfMemory => Stop::OutOfMemory,
-        }
-    }
-}
-
-impl From<LineKind> for Stop {
-    ghost from_gives = { λ kind stop. stop ≡ stops.Wrong kind };
-
-    fn from(kind: LineKind) -> Stop {
-        Stop::Wrong(kind)
-    }
-}
-
-impl<T: Drop> From<AllocFailed<T>> for Stop {
-    ghost from_gives = { λ _ stop. stop ≡ stops.OutOfMemory };
-
-    fn from(_e: AllocFailed<T>) -> Stop {
-        Stop::OutOfMemory
+/// What is wrong with a line, by what is wrong with its bytes.
+pub(crate) fn line_kind(kind: DratKind) -> LineKind
+    ensures { result ≡ line_kind kind }
+{
+    match kind {
+        DratKind::Malformed => LineKind::Malformed,
+        DratKind::NumberTooLarge => LineKind::NumberTooLarge,
+        DratKind::Unfinished => LineKind::Unfinished,
     }
 }

@@ -3,7 +3,6 @@
 #![tactic(auto)]
 
 mod binary;
-mod bytes;
 mod draft;
 mod fault;
 mod first;

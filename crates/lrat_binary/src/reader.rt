@@ -4,13 +4,18 @@ ghost use Rattle.std.specs.Io.BufRead.{Rests};
 ghost use types.Logic.{sem};
 
 use crate::binary::read_line;
-use crate::bytes::Bytes;
-use crate::draft::{Draft, Head};
-use crate::fault::Stop;
+use crate::draft::Draft;
+use crate::fault::line_kind;
 use crate::ids::Ids;
+use drat_text::bytes::Bytes;
+use drat_text::fault::Stop;
+use lrat_text::row::Head;
 use lrat_text::{LratLine, LratTextFault};
 use std::alloc::Global;
 use std::io::Read;
+
+/// How many bytes of a proof are taken at most, so that its lines can be counted.
+const MOST_BYTES: u64 = u64::MAX - 1;
 
 /// A reader of the lines of a binary LRAT proof, one after the other.
 ///
@@ -32,9 +37,9 @@ pub struct BinaryReader<R> {
 
 impl<R: Read> BinaryReader<R> {
     ghost use Rattle.sat_formula.specs.Source.{IsStopped};
+    ghost use Rattle.drat_text.specs.Taking.{source_of};
     ghost use Rattle.lrat_binary.specs.Drafts.{line_of};
     ghost use Rattle.lrat_binary.specs.NextLine.{bytes_left, room_left, has_ended, ids_of, line_number, Gives, Answers, Numbers, Explains};
-    ghost use Rattle.lrat_binary.specs.Taking.{source_of};
     ghost use Rattle.lrat_binary.specs.contracts.reader.BinaryReader.{the_row};
 
     /// A reader at the start of a proof. It takes no memory and reads nothing yet.
@@ -46,7 +51,7 @@ impl<R: Read> BinaryReader<R> {
         ensures ended { has_ended result ≡ false }
     {
         BinaryReader {
-            bytes: Bytes::new(alloc, input),
+            bytes: Bytes::limited(alloc, input, MOST_BYTES),
             draft: Draft::new(alloc),
             ids,
             number: 0,
@@ -123,7 +128,7 @@ impl<R: Read> BinaryReader<R> {
                 self.number = self.number.saturating_add(1);
                 Err(LratTextFault::Line {
                     line: self.number,
-                    kind,
+                    kind: line_kind(kind),
                 })
             }
             Stop::OutOfMemory => Err(LratTextFault::OutOfMemory),

@@ -12,9 +12,12 @@ use Rattle.lrat_text.specs.declared.line.Hint.{Hint}
 use Rattle.lrat_binary.specs.declared.ids.Ids.TheVariants.{Plain}
 use Rattle.lrat_binary.specs.Lines.{outcome_at}
 use Rattle.lrat_binary.specs.Numbers.{hint_said, id_said, lit_said}
-use Rattle.lrat_binary.specs.Places.{DeletedDue, HintDue, IdDue, InNumber, LitDue, Outside, Place, Slot, Within, after, said}
+use Rattle.drat_text.specs.Codes.{Whole, code_at}
+use Rattle.drat_text.specs.Places.{ninth_last}
+use Rattle.drat_text.proofs.CodeLemmas.{IsWeight, code_byte, code_partial, code_then, code_whole, first_weight, next_weight}
+use Rattle.lrat_binary.specs.Places.{DeletedDue, HintDue, IdDue, LitDue, Outside, Slot, Within, said}
 use Rattle.lrat_binary.specs.Reading.{goes_on, line_then}
-use Rattle.lrat_binary.proofs.GroupLemmas.{IsWeight, first, group_ends, group_more, groups_begin, next_weight}
+use Rattle.lrat_binary.proofs.CodeLemmas.{begun_read}
 use Rattle.sat_output.specs.LratBytes.{BytesAreRead, HasBinaryNumbers, IsBinaryHint, IsBinaryId, groups, hint_number, line_bytes, lines_bytes, lit_number, number_bytes, numbers_bytes}
 use Rattle.sat_output.specs.LratTexts.{numbered}
 use Rattle.sat_output.specs.Words.{IsCode}
@@ -34,48 +37,48 @@ rest_small n w lt = let part = rest_value 0 n w in omega arith
 not_ninth : (n w : ℕ) → 128 ≤ n → n * w < 2 ^ 63 → w ≡ 72057594037927936 → ⊥
 not_ninth n w le lt e = let small = rw e at lt in omega arith
 
-module _ (before : ℕ) where
-  byte_read : (p : Place) (b : ℕ) (more : List ℕ) → outcome_at Plain before p (b ∷ more) ≡ goes_on Plain before (after Plain p b) more
-  unfolding outcome_at
-  byte_read p b more = refl
+last_group : (left n v w : ℕ) (more : List ℕ) → n < 128 → code_at (2 ^ 56) v w (groups left n ++ more) ≡ (Whole (v + n * w), more)
+unfolding code_then
+last_group left n v w more lt =
+    let same : n % 128 ≡ n = omega arith in
+    rw (group_small groups are_groups left n lt, code_byte (2 ^ 56) v w n more, code_whole (2 ^ 56) v w n lt, same) refl
 
-  last_group : (slot : Slot) (left n v w : ℕ) (more : List ℕ) → n < 128 →
-      outcome_at Plain before (InNumber slot v w) (groups left n ++ more) ≡ goes_on Plain before (said Plain slot (v + n * w)) more
-  last_group slot left n v w more lt =
-      let same : n % 128 ≡ n = omega arith in
-      rw (group_small groups are_groups left n lt, byte_read (InNumber slot v w) n more, group_ends Plain slot v w n lt, same) refl
+groups_read : (i left n v w : ℕ) (more : List ℕ) → left + i ≡ 9 → n < 2 ^ (64 - 7 * i) → IsWeight (2 ^ 56) w → n * w < 2 ^ 63 →
+    code_at (2 ^ 56) v w (groups left n ++ more) ≡ (Whole (v + n * w), more)
+unfolding code_then
+groups_read i zero n v w more e few is lt =
+    let nine : i ≡ 9 = omega arith in
+    let low = rw nine at few in
+    last_group zero n v w more (omega arith)
+groups_read i (suc left) n v w more e few is lt = elim (cases_Bool (nat_lt n 128)) [
+  | inl small ↦ last_group (suc left) n v w more (ltb-true n 128 small)
+  | inr large ↦
+      let le = ltb-false n 128 large in
+      let x = 128 + n % 128 in
+      let other = not_ninth n w le lt in
+      let same : x % 128 ≡ n % 128 = omega arith in
+      let rest = groups_read (i + 1) left (n / 128) (v + (x % 128) * w) (w * 128) more (omega arith)
+      (next_small i n (omega arith) few) (next_weight (2 ^ 56) w is other) (rest_small n w lt) in
+      rw (
+        group_large groups are_groups (suc left) left n refl le,
+        code_byte (2 ^ 56) v w x (groups left (n / 128) ++ more),
+        code_partial (2 ^ 56) v w x (omega arith) other,
+        rest,
+        same,
+        rest_value v n w,
+      ) refl
+]
 
-  groups_read : (slot : Slot) (i left n v w : ℕ) (more : List ℕ) → left + i ≡ 9 → n < 2 ^ (64 - 7 * i) → IsWeight w → n * w < 2 ^ 63 →
-      outcome_at Plain before (InNumber slot v w) (groups left n ++ more) ≡ goes_on Plain before (said Plain slot (v + n * w)) more
-  groups_read slot i zero n v w more e few is lt =
-      let nine : i ≡ 9 = omega arith in
-      let low = rw nine at few in
-      last_group slot zero n v w more (omega arith)
-  groups_read slot i (suc left) n v w more e few is lt = elim (cases_Bool (nat_lt n 128)) [
-    | inl small ↦ last_group slot (suc left) n v w more (ltb-true n 128 small)
-    | inr large ↦
-        let le = ltb-false n 128 large in
-        let x = 128 + n % 128 in
-        let other = not_ninth n w le lt in
-        let same : x % 128 ≡ n % 128 = omega arith in
-        let rest = groups_read slot (i + 1) left (n / 128) (v + (x % 128) * w) (w * 128) more (omega arith)
-        (next_small i n (omega arith) few) (next_weight w is other) (rest_small n w lt) in
-        rw (
-          group_large groups are_groups (suc left) left n refl le,
-          byte_read (InNumber slot v w) x (groups left (n / 128) ++ more),
-          group_more Plain slot v w x (λ l. omega (arith, l)) other,
-          rest,
-          same,
-          rest_value v n w,
-        ) refl
-  ]
-
-  number_read : (slot : Slot) (n : ℕ) (more : List ℕ) → n < 2 ^ 63 →
-      outcome_at Plain before (Within slot) (number_bytes n ++ more) ≡ goes_on Plain before (said Plain slot n) more
-  unfolding number_bytes
-  number_read slot n more lt =
-      let value : 0 + n * 1 ≡ n = omega arith in
-      rw (groups_begin Plain before slot (number_bytes n ++ more), groups_read slot 0 9 n 0 1 more refl (omega arith) first (omega arith), value) refl
+number_read : (before : ℕ) (slot : Slot) (n : ℕ) (more : List ℕ) → n < 2 ^ 63 →
+    outcome_at Plain before (Within slot) (number_bytes n ++ more) ≡ goes_on Plain before (said Plain slot n) more
+unfolding number_bytes
+number_read before slot n more lt =
+    let value : 0 + n * 1 ≡ n = omega arith in
+    rw (
+      begun_read Plain before slot (number_bytes n ++ more),
+      groups_read 0 9 n 0 1 more refl (omega arith) (first_weight (2 ^ 56) ninth_last) (omega arith),
+      value,
+    ) refl
 
 -- ---- literals, hints and ids
 

@@ -1,6 +1,6 @@
 use Rattle.std.proofs.Common.{ℕ, Ok, Err, refl}
 use Rattle.lrat_binary.specs.Places.{Outside}
-use Rattle.lrat_binary.specs.Taking.{source_of}
+use Rattle.drat_text.specs.Taking.{source_of}
 use Rattle.lrat_binary.proofs.DraftLemmas.{letter_on, line_on}
 use Rattle.drat_text.proofs.Takings.{error_is}
 use Rattle.lrat_binary.proofs.Takings.{leads_nil, no_byte}

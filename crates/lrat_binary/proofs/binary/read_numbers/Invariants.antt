@@ -3,7 +3,7 @@ use Rattle.lrat_text.specs.Taking.{Leads}
 use Rattle.lrat_binary.specs.Drafts.{slot_of}
 use Rattle.lrat_binary.specs.Lines.{outcome_at}
 use Rattle.lrat_binary.specs.Places.{Within}
-use Rattle.lrat_binary.specs.Taking.{room_in, unread_bytes}
+use Rattle.drat_text.specs.Taking.{room_in, unread_bytes}
 use Rattle.lrat_binary.proofs.binary.read_numbers.Given as goal
 
 abbrev pub invariant-numbers : goal.invariant-numbers

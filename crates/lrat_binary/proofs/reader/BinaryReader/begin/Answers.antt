@@ -2,7 +2,7 @@ use Rattle.std.proofs.Common.{◌≡◌, refl, rules}
 use Rattle.sat_formula.specs.Outcome.{next_line}
 use Rattle.lrat_binary.specs.Drafts.{line_of}
 use Rattle.lrat_binary.specs.Lines.{binary_after}
-use Rattle.lrat_binary.specs.Taking.{source_of, unread_bytes}
+use Rattle.drat_text.specs.Taking.{source_of, unread_bytes}
 use Rattle.lrat_binary.proofs.ReaderLemmas.{line_answers, stop_answers, stopped_source}
 use Rattle.lrat_binary.proofs.reader.BinaryReader.begin.Goals as goal
 
