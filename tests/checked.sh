@@ -216,13 +216,22 @@ gone() {
   return 1
 }
 
+# heeding CALL..: the call in place of this process, with signals heeded also where the test was started deaf to them, as by nohup
+heeding() {
+  exec python3 -c '
+import os, signal, sys
+for it in signal.SIGHUP, signal.SIGINT, signal.SIGTERM:
+    signal.signal(it, signal.SIG_DFL)
+os.execvp(sys.argv[1], sys.argv[1:])' "$@"
+}
+
 # stopped SIGNAL STATUS CALL..: a call that is interrupted while a solver or a checker runs; what it started ends too
 stopped() {
   local status=0 pid
   rm -f pids begun
   # a group of its own, since a shell without one starts what stands in the background deaf to interrupts
   set -m
-  "${@:3}" > said 2> err &
+  heeding "${@:3}" > said 2> err &
   pid=$!
   set +m
   await begun
