@@ -1,13 +1,14 @@
 #!/usr/bin/env bash
-# Counts the instructions that each program takes for five proofs, and compares them with the table of README.md:
+# Counts the instructions that each program takes for five proofs, `lrat_check` for two forms of each, and compares them with the
+# table of README.md:
 #
 #   benches/programs.sh [NAME..]
 #
-# The formulas are made by seeds, their DRAT proofs by cadical, the LRAT text by `drat_check --lrat`, and the proof bytes of it
-# by `lrat_to_proof`. A line says what a program takes for a hint of that text, with the checker in C++ of benches/lrat beside
-# it. More than three parts in a hundred above the table makes the status 1. Another cadical may make other proofs: the table
-# names its own. The programs are those that `rt run` left in out/, or those of PROGRAMS, a folder with the names that
-# `install.sh` gives them. Formulas and proofs are kept in FOLDER, where that is set. It needs valgrind, python3, g++ and cadical.
+# The formulas are made by seeds, their DRAT proofs by cadical, the LRAT by `drat_check --lrat`, as text and binary, and the proof
+# bytes by `lrat_to_proof` of the text. A line says what a program takes for a hint of that text, with the checker in C++ of
+# benches/lrat beside it. More than three parts in a hundred above the table makes the status 1. Another cadical may make other
+# proofs: the table names its own. The programs are those that `rt run` left in out/, or those of PROGRAMS, a folder with the names
+# that `install.sh` gives them. Formulas and proofs are kept in FOLDER, where that is set. It needs valgrind, python3, g++ and cadical.
 set -euo pipefail
 top=$(cd "$(dirname "$0")/.." && pwd)
 work=$(mktemp -d)
@@ -42,16 +43,17 @@ make_files() {
   python3 -B "$top/benches/drat_formulas.py" "${@:2}" > "$at.cnf"
   cadical -q --no-binary "$at.cnf" "$at.drat" > "$work/said" || true
   "$(program drat_check)" "$at.cnf" "$at.drat" --lrat "$at.lrat" > "$work/said"
+  "$(program drat_check)" "$at.cnf" "$at.drat" --lrat "$at.binary" --binary > "$work/said"
   "$(program lrat_to_proof)" "$at.cnf" "$at.lrat" "$at.proof"
 }
 
-# instructions NAME PROGRAM: what the whole program takes, which must say that the formula can't be satisfied
+# instructions NAME PROGRAM [binary]: what the whole program takes, which must say that the formula can't be satisfied
 instructions() {
   local suffix said
   case $2 in
     drat_check) suffix=drat ;;
     varisat_check) suffix=proof ;;
-    *) suffix=lrat ;;
+    *) suffix=${3:-lrat} ;;
   esac
   said=$(valgrind --tool=callgrind --callgrind-out-file=/dev/null "$(program "$2")" "$folder/$1.cnf" "$folder/$1.$suffix" \
     2> "$work/log") || true
@@ -79,7 +81,7 @@ told() {
 
 g++ -O2 -o "$work/reference" "$top/benches/lrat/reference.cc"
 status=0
-printf '%-8s %10s %-14s %8s %8s\n' proof hints program 'a hint' table
+printf '%-8s %10s %-17s %8s %8s\n' proof hints program 'a hint' table
 while IFS='|' read -r name formula; do
   name=${name// /}
   if [[ -z $name ]] || { (($#)) && [[ " $* " != *" $name "* ]]; }; then
@@ -88,10 +90,11 @@ while IFS='|' read -r name formula; do
   # shellcheck disable=SC2086
   make_files "$name" $formula
   count=$(hints "$name")
-  for one in varisat_check lrat_check hint_check drat_check reference; do
-    took=$(($(instructions "$name" "$one") / count))
+  for one in varisat_check lrat_check 'lrat_check binary' hint_check drat_check reference; do
+    # shellcheck disable=SC2086
+    took=$(($(instructions "$name" $one) / count))
     before=$(told "$name" "$one")
-    printf '%-8s %10d %-14s %8d %8s\n' "$name" "$count" "$one" "$took" "$before"
+    printf '%-8s %10d %-17s %8d %8s\n' "$name" "$count" "$one" "$took" "$before"
     if [[ $before && $one != reference ]] && ((100 * took > 103 * before)); then
       echo "$name by $one: more than 3 % worse than $before a hint" >&2
       status=1
