@@ -4,13 +4,16 @@
 #
 #   tests/release.sh [BOOKWORM]
 #
-# The programs and the library must be built. Static programs are tried of those that have their object beside them. BOOKWORM is a folder that debootstrap made; without it one is made, where debootstrap
-# and its mirror are there. What is not installed is said, and the rest is tried.
+# The programs and the library must be built. Static programs are tried of those that have their object beside them. BOOKWORM is a folder
+# that debootstrap made; without it one is made, where debootstrap and its mirror are there. What is not installed is said, and the rest
+# is tried.
 set -euo pipefail
 
 top=$(cd "$(dirname "$0")/.." && pwd)
 work=$(mktemp -d)
-trap 'rm -rf "$work"' EXIT
+bootstrap=''
+# (debootstrap has /proc mounted in its folder while it is at work)
+trap '[[ ! $bootstrap ]] || wait "$bootstrap" || true; rm -rf "$work"' EXIT
 fresh=${1:-}
 wrong=0
 
@@ -65,6 +68,12 @@ for name in "${all[@]}"; do
   fi
 done
 
+# A fresh Debian, beside all else
+if [[ ! $fresh ]] && has debootstrap && ((EUID == 0)); then
+  timeout 100 debootstrap --variant=minbase bookworm "$work/fresh" > "$work/bootstrap" 2>&1 &
+  bootstrap=$!
+fi
+
 # The same checkout with what is built in it, in another place
 other="$work/another/place of it"
 git clone -q --shared "$top" "$other"
@@ -76,8 +85,10 @@ git clone -q --shared "$top" "$other"
 # Twice: here, and there by other habits: a mask, a language, a zone
 last=$'rt: ok; handles allowed: none; every proof was done in this run\n12 passed, 0 failed'
 printf 'rt: lrat_check proved\nrt: note: one\n%s\n' "$last" > "$work/gate"
-"$top/tools/release.sh" "$work/one" "$work/gate"
+"$top/tools/release.sh" "$work/one" "$work/gate" &
+here=$!
 (umask 077 && LANG=C.UTF-8 TZ=Asia/Tokyo "$other/tools/release.sh" "$work/two" "$work/gate") > "$work/said"
+wait "$here"
 same 'packed twice' "$(cd "$work/one" && sha256sum -- *)" "$(cd "$work/two" && sha256sum -- *)"
 (cd "$work/one" && sha256sum --quiet -c SHA256SUMS) || wrong=1
 same 'the sums' "$(cd "$work/one" && find . -type f ! -name SHA256SUMS -printf '%P\n' | sort)" "$(cut -d ' ' -f 3 "$work/one/SHA256SUMS" | sort)"
@@ -175,14 +186,14 @@ if [[ -f $package ]] && has lintian; then
     wrong=1
   }
 fi
-if [[ -f $package && ! $fresh ]] && has debootstrap && ((EUID == 0)); then
+if [[ $bootstrap ]]; then
   fresh=$work/fresh
-  timeout 100 debootstrap --variant=minbase bookworm "$fresh" > "$work/bootstrap" 2>&1 || {
+  wait "$bootstrap" || {
     echo "no fresh Debian: $(tail -n 1 "$work/bootstrap")"
     fresh=
   }
 fi
-if [[ $fresh ]]; then
+if [[ -f $package && $fresh ]]; then
   cp "$package" "$fresh/package.deb"
   cp "$work"/four.* "$work"/one.{cnf,answer} "$fresh/"
   chroot "$fresh" dpkg -i /package.deb > "$work/said" 2>&1 || {
