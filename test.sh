@@ -13,11 +13,12 @@ rt ci 2>&1 | tee "$told/gate"
 tests/weak_edits.sh "$told/gate"
 
 # run SCRIPT: its lines, its name and its seconds, together; a name that is left in `failed` if it failed. What uses the archive of the
-# library, or the module of a program, waits until they are made.
+# library, or the module of a program, waits until they are made, but not for ever.
 run() {
   local status=0
   if [[ " bindings install portable release " == *" $1 "* ]]; then
-    until [[ -e $told/library.ended ]]; do
+    for ((waited = 0; waited < 1800; waited++)); do
+      [[ ! -e $told/library.ended ]] || break
       sleep 1
     done
   fi
@@ -30,7 +31,7 @@ run() {
 }
 export -f run
 export told
-# (two more than there are processors, since two wait for others: for the library, and for a cluster)
+# (two more than there are processors, since at first two wait for the library)
 printf '%s\n' library release portable slurm refused_growths sessions cubes pieces failing_files drat_fuzz lrat_fuzz drat_outputs install bindings \
   log_lines end_to_end drat_solvers frat large_formulas named_files examples checked definitions proof_picture solver_runs prove_and_run memory model_check |
   xargs -P "$(($(nproc) + 2))" -I SCRIPT bash -c 'run SCRIPT'

@@ -11,10 +11,10 @@ set -euo pipefail
 
 top=$(cd "$(dirname "$0")/.." && pwd)
 work=$(mktemp -d)
-bootstrap=''
-# (debootstrap has /proc mounted in its folder while it is at work)
-trap '[[ ! $bootstrap ]] || wait "$bootstrap" || true; rm -rf "$work"' EXIT
+# (what works in the folder goes on where this ends early, and debootstrap has /proc mounted there)
+trap 'wait; rm -rf "$work"' EXIT
 fresh=${1:-}
+bootstrap=''
 wrong=0
 
 has() {
