@@ -1,6 +1,6 @@
 #!/usr/bin/env bash
 # Formulas split into cubes, by `tools/cubes`: two cubes with proofs by hand, and where cadical is there, the commands of
-# docs/SCALE.md over a pigeonhole in 64 cubes, by xargs, parallel, make and Snakemake. A proof that is missing, damaged or of
+# docs/SCALE.md over a pigeonhole in 36 cubes, by xargs, parallel, make and Snakemake. A proof that is missing, damaged or of
 # another cube has to be found, a run that was interrupted goes on, and what did not change is not done again.
 #
 # The programs must be built: `rt ci` does it, or `rt run` in their folders.
@@ -126,14 +126,226 @@ says 2 'open.cnf: the last clause has no 0' cubes left open.cnf two.txt four
 printf '1 2 0\nc 0\n%% 0\n-2' > cut.cnf
 says 0 $'1\n2\nclosing' cubes left cut.cnf two.txt four
 printf '1 2 0\np cnf 2 1\n' > late.cnf
-says 2 'late.cnf: a word that is no number' cubes left late.cnf two.txt four
+says 2 'late.cnf: line 2: bad header: p cnf 2 1' cubes left late.cnf two.txt four
 printf '1 0\n-1\n' > open.txt
 says 2 'open.txt: line 2: not literals up to a 0' cubes names four.cnf open.txt
 says 2 'there is no part 3' cubes check four.cnf two.txt four 3
 says 2 'cannot open none.cnf: No such file or directory' cubes report none.cnf two.txt four
-says 2 'cannot write four/1.checked: Is a directory' bash -c 'mkdir four/1.checked.new; echo "6 0 5 3 4 0" > four/1.lrat
-  cubes check four.cnf two.txt four 1; status=$?; rmdir four/1.checked.new; exit "$status"'
+says 2 'cannot write four/1.checked: File too large' bash -c 'echo "6 0 5 3 4 0" > four/1.lrat
+  ulimit -f 0; cubes check four.cnf two.txt four 1; status=$?; ls four/1.checked* 2> /dev/null; exit "$status"'
 LRAT_CHECK=./none says 2 'cannot run ./none: No such file or directory' cubes check four.cnf two.txt four 2
+# programs beside the script, ahead of those on PATH
+mkdir alone false
+cp "$top/tools/cubes" alone
+for program in drat_check lrat_check model_check; do
+  cp -L "bin/$program" alone
+  printf '#!/bin/sh\nexit 1\n' > "false/$program"
+  chmod +x "false/$program"
+done
+cubes parts four.cnf two.txt beside
+echo '6 0 5 1 2 0' > beside/2.lrat
+PATH=$work/false:$PATH says 0 '' alone/cubes check four.cnf two.txt beside 2
+
+# faults WORDS COMMAND..: it must end with status 2, say why in one line on standard error, with these words, and write nothing else
+faults() {
+  local status=0
+  "${@:2}" > said 2> err || status=$?
+  if [[ $status != 2 || -s said || $(wc -l < err) != 1 || $(cat err) != *"$1"* ]]; then
+    printf '%s: status %d, without "%s" it wrote: %s %s\n' "${*:2}" "$status" "$1" "$(cat said)" "$(cat err)"
+    wrong=1
+  fi
+}
+
+echo '6 0 5 3 4 0' > four/1.lrat
+echo '6 0 5 1 2 0' > four/2.lrat
+
+# No input is written over, by whatever name, and of what is there only what the script wrote itself.
+python3 -B "$top/tests/pieces/overwrites.py" cubes || wrong=1
+mkdir own
+cp three.cnf own/1.cnf
+(
+  cd own
+  says 2 'cannot write ./1.cnf: it is a file that is read, 1.cnf' cubes parts 1.cnf ../two.txt .
+  exit "$wrong"
+) || wrong=1
+same own/1.cnf "$(cat three.cnf)"
+mkdir theirs
+for name in 2.cnf split; do
+  echo theirs > "theirs/$name"
+  faults "cannot write theirs/$name: there is a file that cubes did not write" cubes parts four.cnf two.txt theirs
+  says 0 "$name" ls theirs
+  same "theirs/$name" theirs
+  rm "theirs/$name"
+done
+says 0 '' cubes parts three.cnf two.txt theirs
+says 0 '' cubes parts four.cnf two.txt theirs
+same theirs/2.cnf "$(cat four/2.cnf)"
+cp four/2.lrat theirs
+echo theirs > theirs/2.checked
+faults 'cannot write theirs/2.checked: there is a file that cubes did not write' cubes check four.cnf two.txt theirs 1 2
+same theirs/2.checked theirs
+: > theirs/2.checked
+says 0 '' cubes check four.cnf two.txt theirs 2
+faults 'cannot use own/1.cnf: File exists' cubes parts four.cnf two.txt own/1.cnf
+
+# A file named - is a file, and what is on standard input is not read; nor is a folder an option.
+mkdir dash dash/-f
+cp four.cnf dash/-
+printf 's SATISFIABLE\nv 1 2 0\n' > dash/1.answer
+cp four/*.lrat dash/-f
+(
+  cd dash
+  says 1 $'1: ./1.answer is refused: s NOT VERIFIED\n1: no proof' cubes check - ../two.txt . 1 < ../open_at_2.cnf
+  says 0 '' cubes check -- - ../two.txt -f 1 2 closing
+  exit "$wrong"
+) || wrong=1
+
+# Behind the header of iCNF a line without an a is a clause. A formula is no list of cubes, nor iCNF a formula.
+printf 'p inccnf\n1 2 0\n-1 2 0\na 1 0\n1 -2\n0\na -1 0\n' > both.icnf
+says 0 $'1\n2\nclosing' cubes names four.cnf both.icnf
+says 0 "$(cat four/2.cnf)" cubes part four.cnf both.icnf 2
+faults 'four.cnf: line 2: bad header: p cnf 2 4' cubes names two.txt four.cnf
+faults 'both.icnf: line 1: bad header: p inccnf' cubes parts both.icnf two.txt made
+printf '1 2 0\nx1 2 0\n' > word.cnf
+faults 'word.cnf: a word that is no number: x1' cubes left word.cnf two.txt four
+
+# The words of a call: what is wrong is named, and options stand anywhere.
+faults 'no call is named' cubes
+faults 'there is no call chek' cubes chek four.cnf two.txt four 1
+faults 'check: no NAME is named' cubes check four.cnf two.txt four
+faults 'part: no CUBES is named' cubes part four.cnf
+faults 'left: a word too many: 1' cubes left four.cnf two.txt four 1
+faults 'there is no option --who' cubes check --who four.cnf two.txt four 1
+faults 'report has no option --whose' cubes report four.cnf two.txt four --whose
+for place in '--whose check four.cnf two.txt four 1' 'check four.cnf --whose two.txt four 1' 'check four.cnf two.txt four 1 --whose'; do
+  cp four/2.lrat four/1.lrat
+  read -r -a words <<< "$place"
+  says 1 '1: four/1.lrat is refused: proof: line 1: clause of a hint is not unit; it is a proof of 2' cubes "${words[@]}"
+done
+echo '6 0 5 3 4 0' > four/1.lrat
+says 0 "$(cubes --help)" cubes -h
+version=$(sed -n 's/^const VERSION: &str = "\([^ "]*\).*/\1/p' "$top/crates/command/src/status.rt")
+for option in -V --version; do
+  says 0 "cubes $version" cubes "$option"
+done
+
+# What can't be written is no success, and a name need not be UTF-8.
+says 0 '' cubes check four.cnf two.txt four 1 2 closing
+all='all parts are verified: 2 cubes, and the closing formula'
+says 0 "$all" cubes report four.cnf two.txt four
+faults 'cannot use standard output: No space left on device' bash -c 'cubes report four.cnf two.txt four > /dev/full'
+faults 'standard output is closed' bash -c 'cubes report four.cnf two.txt four >&-'
+cp -R four $'\xff'
+says 1 $'1: \xff/1.lrat is refused: word 2 of the call is not UTF-8: \\xff/1.lrat' cubes check four.cnf two.txt $'\xff' 1
+
+# Packed files, by each packer that is there: a record is of what was unpacked, one that is cut off at its end is refused by its name,
+# and a packer that is missing is named.
+mkdir lean
+ln -s "$(python3 -c 'import sys; print(sys.executable)')" lean/python3
+for packer in 'gzip gz' 'xz xz' 'lzma lzma' 'bzip2 bz2' 'zstd zst'; do
+  read -r tool end <<< "$packer"
+  has "$tool" || continue
+  mkdir "$end"
+  for file in four.cnf three.cnf open_at_2.cnf two.txt both.icnf; do
+    "$tool" -qc "$file" > "$file.$end"
+    head -c -5 "$file.$end" > "cut.$file.$end"
+  done
+  for name in 1 2 closing; do
+    "$tool" -qc "four/$name.lrat" > "$end/$name.lrat.$end"
+  done
+  says 0 '' cubes check "four.cnf.$end" "two.txt.$end" "$end" 1 2 closing
+  says 0 "$all" cubes report four.cnf two.txt "$end"
+  says 0 "$all" cubes report "four.cnf.$end" "both.icnf.$end" four
+  says 1 '3 of 3 parts are not verified' bash -c 'cubes report "$1" two.txt four | tail -n 1; exit "${PIPESTATUS[0]}"' _ "three.cnf.$end"
+  says 0 $'1\n2\nclosing' cubes names four.cnf "two.txt.$end"
+  says 0 "$(cat four/2.cnf)" cubes part "four.cnf.$end" "two.txt.$end" 2
+  says 0 '' cubes parts "four.cnf.$end" "two.txt.$end" "$end"
+  same "$end/closing.cnf" "$(cat four/closing.cnf)"
+  rm "$end/1.lrat.$end"
+  echo 0 | "$tool" -qc > "$end/1.drat.$end"
+  says 0 '' cubes check four.cnf two.txt "$end" 1
+  printf 's SATISFIABLE\nv 1 2 0\n' | "$tool" -qc > "$end/1.answer.$end"
+  says 10 "1: $end/1.answer.$end satisfies the formula: s VERIFIED SAT" cubes check "open_at_2.cnf.$end" two.txt "$end" 1
+  # a packed proof of another part, and one that is cut off
+  rm "$end"/1.*
+  cp "$end/2.lrat.$end" "$end/1.lrat.$end"
+  says 1 "1: $end/1.lrat.$end is refused: proof: line 1: clause of a hint is not unit; it is a proof of 2" \
+    cubes check --whose four.cnf two.txt "$end" 1
+  "$tool" -qc four/1.lrat | head -c -5 > "$end/1.lrat.$end"
+  status=0
+  cubes check four.cnf two.txt "$end" 1 2 > said 2>&1 || status=$?
+  if [[ $status != 1 || $(cat said) != "1: $end/1.lrat.$end is refused: cannot unpack $end/1.lrat.$end: "* || $(wc -l < said) != 1 || -e $end/1.checked ]]; then
+    printf '%s, a proof that is cut off: status %d, %s\n' "$end" "$status" "$(cat said)"
+    wrong=1
+  fi
+  says 0 1 cubes left four.cnf two.txt "$end"
+  for call in names left report 'check 1'; do
+    read -r -a words <<< "$call"
+    [[ $call == names ]] || faults "cannot unpack cut.four.cnf.$end: " cubes "${words[0]}" "cut.four.cnf.$end" two.txt "$end" "${words[@]:1}"
+    [[ $call == names ]] && folder=() || folder=("$end")
+    faults "cannot unpack cut.two.txt.$end: " cubes "${words[0]}" four.cnf "cut.two.txt.$end" "${folder[@]}" "${words[@]:1}"
+  done
+  without=(env PATH="$work/bin:$work/lean")
+  faults "cannot run $tool, which unpacks four.cnf.$end" "${without[@]}" cubes left "four.cnf.$end" two.txt four
+  faults "cannot run $tool, which unpacks $end/2.lrat.$end" "${without[@]}" cubes check four.cnf two.txt "$end" 2
+  faults "cannot open none.cnf.$end: No such file or directory" cubes left "none.cnf.$end" two.txt four
+done
+
+# Planted liars: in each folder one thing is not of this formula, and nothing may be told of all parts. lies WHAT: the folder `liar` is one
+lies() {
+  local status=0 said
+  said=$(cubes report four.cnf two.txt liar 2>&1) || status=$?
+  if [[ $status != 1 || $said == *"all parts"* || $said == *'s VERIFIED'* ]]; then
+    printf '%s: status %d, it wrote: %s\n' "$1" "$status" "$said"
+    wrong=1
+  fi
+  rm -r liar
+  cp -R four liar
+}
+cp -R four liar
+says 0 "$all" cubes report four.cnf two.txt liar
+rm liar/2.checked
+lies 'a record is missing'
+rm liar/closing.{checked,lrat}
+lies 'the closing part is missing'
+sed -i 's/^added 0/added 1/; t; s/^added ./added 0/' liar/2.checked
+lies 'a record was edited'
+cp liar/1.checked liar/2.checked
+lies 'the record of another part'
+sed -i "s/^formula .*/formula $(sha256sum < three.cnf | cut -d ' ' -f 1)/" liar/1.checked
+lies 'the record of another formula'
+printf 'satisfied\nformula %s\n' "$(sha256sum < three.cnf | cut -d ' ' -f 1)" > liar/1.checked
+lies 'an answer to another formula'
+# the parts of a formula that can be refuted, as those of one that can't
+for name in 1 2 closing; do
+  says 1 "$name: liar/$name.lrat is refused: $(cubes part three.cnf two.txt "$name" | lrat_check - "liar/$name.lrat" 2>&1 | head -n 1)" \
+    cubes check three.cnf two.txt liar "$name"
+done
+lies 'parts of another formula'
+cubes parts three.cnf two.txt liar
+says 1 '3 of 3 parts are not verified' bash -c 'cubes report three.cnf two.txt liar | tail -n 1; exit "${PIPESTATUS[0]}"'
+says 0 "$all" cubes report four.cnf two.txt liar
+
+# The calls that --help shows, word for word, by a shell that ends at a fault and by make.
+shown() {
+  cubes --help | sed -n 's/^      //p'
+}
+furnish() {
+  rm -rf shown
+  mkdir -p shown/parts
+  cp four.cnf shown/formula.cnf
+  cp two.txt shown/cubes.txt
+  cp four/*.lrat shown/parts
+}
+furnish
+says 0 '' bash -ec 'cd shown; . <(cubes --help | sed -n "s/^      //p")'
+says 0 "$all" cubes report shown/formula.cnf shown/cubes.txt shown/parts
+if has make; then
+  furnish
+  { echo all:; shown | sed 's/^/\t/'; } > shown/Makefile
+  says 0 '' make -s -C shown
+  says 0 "$all" cubes report shown/formula.cnf shown/cubes.txt shown/parts
+fi
 
 if ! has cadical; then
   exit "$wrong"
@@ -144,7 +356,7 @@ block() {
   awk -v head="\`\`\`$1" '$0 == head { on = 1; next } /^```/ { on = 0 } on' "$top/docs/SCALE.md"
 }
 
-whole='all parts are verified: 64 cubes, and the closing formula'
+whole='all parts are verified: 36 cubes, and the closing formula'
 # runs WORDS: the commands of this block must end well, and tell that all is verified
 runs() {
   block "$1" > commands
@@ -171,9 +383,9 @@ printf '#!/bin/sh\necho "$2" >> "%s/calls"\n[ ! -e "%s/slow" ] || { echo half > 
   "$work" "$work" "$solver" > bin/cadical
 chmod +x bin/cadical
 : > calls
-python3 -B "$top/tests/drat/formulas.py" pigeons 8 > formula.cnf
-for first in {1..8}; do
-  for second in {9..16}; do
+python3 -B "$top/tests/drat/formulas.py" pigeons 6 > formula.cnf
+for first in {1..6}; do
+  for second in {7..12}; do
     echo "$first $second 0"
   done
 done > cubes.txt
@@ -182,7 +394,7 @@ block 'python Snakefile' > Snakefile
 block make > Makefile
 chmod +x solve.sh
 runs 'sh xargs'
-solved 65
+solved 37
 runs 'sh xargs'
 solved 0
 check=(cubes check --whose formula.cnf cubes.txt parts)
@@ -190,12 +402,12 @@ check=(cubes check --whose formula.cnf cubes.txt parts)
 # one missing, one cut, two exchanged
 rm parts/20.drat
 cp parts/11.drat kept
-head -c 2000 kept > parts/11.drat
+head -c 100 kept > parts/11.drat
 mv parts/4.drat held
 mv parts/30.drat parts/4.drat
 mv held parts/30.drat
 status=0
-cubes names formula.cnf cubes.txt | xargs -P 4 -n 13 "${check[@]}" > said 2>&1 || status=$?
+cubes names formula.cnf cubes.txt | xargs -P 4 -n 8 "${check[@]}" > said 2>&1 || status=$?
 if ((status == 0)); then
   echo "what was damaged is verified"
   wrong=1
@@ -207,11 +419,11 @@ for line in '20: no proof' '11: parts/11.drat is refused: .*; it is a proof of n
     wrong=1
   fi
 done
-says 1 $'4: not verified\n11: not verified\n20: no proof\n30: not verified\n4 of 65 parts are not verified' \
+says 1 $'4: not verified\n11: not verified\n20: no proof\n30: not verified\n4 of 37 parts are not verified' \
   cubes report formula.cnf cubes.txt parts
 
 # a cube that is left out: the closing formula has a clause less, and its proof needs each of them
-grep -vx '1 10 0' cubes.txt > fewer.txt
+grep -vx '1 8 0' cubes.txt > fewer.txt
 mkdir fewer
 cp parts/closing.drat fewer
 if cubes check formula.cnf fewer.txt fewer closing > said || ! grep -q '^closing: fewer/closing.drat is refused: ' said; then
@@ -223,7 +435,7 @@ fi
 block 'sh xargs' > commands
 bash commands > said 2>&1 || true
 solved 1
-says 1 $'4: not verified\n11: not verified\n30: not verified\n3 of 65 parts are not verified' cubes report formula.cnf cubes.txt parts
+says 1 $'4: not verified\n11: not verified\n30: not verified\n3 of 37 parts are not verified' cubes report formula.cnf cubes.txt parts
 rm parts/4.drat parts/11.drat parts/30.drat
 runs 'sh xargs'
 solved 3
@@ -266,17 +478,17 @@ makes() {
 }
 if has make; then
   rm -r parts
-  makes 65
+  makes 37
   makes 0
   interrupted make -s -j 4
   makes 8
-  sed -i '7s/.*/1 15 1 0/' cubes.txt
+  sed -i '7s/.*/2 7 2 0/' cubes.txt
   makes 2
   rm parts/20.*
   cubes parts formula.cnf cubes.txt parts
   makes 1
-  echo '1 2 3 4 5 6 7 8 0' >> formula.cnf
-  makes 65
+  echo '1 2 3 4 5 6 0' >> formula.cnf
+  makes 37
   # a proof that was verified may go
   rm parts/20.drat
   makes 0

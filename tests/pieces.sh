@@ -118,13 +118,13 @@ says 0 's VERIFIED UNSAT' lrat_check lacking.cnf by_hand.lrat --holds behind.cnf
 printf '4 1 0 1 2 0\n5 2 0 4 0\n' > refused.lrat
 says 1 $'proof: line 2: hints end without a conflict\nin refused.lrat' lrat_check three.cnf refused.lrat --holds behind.cnf
 echo x > malformed.cnf
-says 1 $'wanted clauses: line 1: bad number\nin malformed.cnf' lrat_check three.cnf by_hand.lrat --holds malformed.cnf
-says 1 $'formula: line 1: bad number\nin malformed.cnf' lrat_check malformed.cnf by_hand.lrat --holds malformed.cnf
+says 1 $'wanted clauses: line 1: bad number\nin malformed.cnf\nbad number: x' lrat_check three.cnf by_hand.lrat --holds malformed.cnf
+says 1 $'formula: line 1: bad number\nin malformed.cnf\nbad number: x' lrat_check malformed.cnf by_hand.lrat --holds malformed.cnf
 says 1 $'wanted clauses: error reading formula: Is a directory (os error 21)\nin /' lrat_check three.cnf by_hand.lrat --holds /
 for name in none.cnf -; do
   says 2 "cannot open $name"$'\nNo such file or directory (os error 2)' lrat_check three.cnf by_hand.lrat --holds "$name"
 done
-fails 2 '--holds has no value' lrat_check three.cnf by_hand.lrat --holds
+fails 2 '--holds needs a value' lrat_check three.cnf by_hand.lrat --holds
 printf 'p cnf 4 2\n1 0\n' > lying.cnf
 fails 0 'warning: the header of lying.cnf is ' lrat_check three.cnf by_hand.lrat --holds lying.cnf
 
@@ -145,12 +145,29 @@ same dpr.1.drat $'1 2 1 -3 0\nd 2 1 0'
 says 3 'piece 1: 1 lemmas, 9 clauses live behind it' drat_cut eight.cnf witness drat. --drat
 same drat.1.drat '1 2 -3 0'
 
-# the same by `pieces`, into a folder in which others lie
+# the same by `pieces`, into a folder in which others lie: what has the name of a piece stays, unless an earlier cut has marked the folder
 mkdir two
-touch two/notes two/17.checked two/9.drat
+touch two/notes
 cut=(pieces cut eight.cnf eight.drat two --lemmas 1)
+for name in 12.cnf 9.drat count; do
+  echo theirs > "two/$name"
+  for call in "${cut[*]}" 'pieces run eight.cnf eight.drat two' 'pieces run eight.cnf eight.drat two --memory'; do
+    read -r -a words <<< "$call"
+    says 2 "cannot write two/$name: there is a file that pieces did not write" "${words[@]}"
+  done
+  says 0 "$name"$'\nnotes' ls two
+  same "two/$name" theirs
+  rm "two/$name"
+done
 says 0 'cut into 2 pieces' "${cut[@]}"
-says 0 $'1.cnf\n1.drat\n2.cnf\n2.drat\ncount\nnotes' ls two
+touch two/17.checked two/9.drat two/3.cnf.new
+says 0 'cut into 2 pieces' "${cut[@]}"
+says 0 $'1.cnf\n1.drat\n2.cnf\n2.drat\ncount\ncut\nnotes' ls two
+# a cut that did not come to its end has marked it too
+head -n 9 eight.drat > short
+printf '1 x' >> short
+fails 2 'the proof could not be cut' pieces cut eight.cnf short two --lemmas 1
+says 0 'cut into 2 pieces' "${cut[@]}"
 unverified=$'1: not verified\n2: not verified\n2 of 2 pieces are not verified'
 says 1 "$unverified" pieces report eight.cnf two
 says 0 $'1\n2' pieces left eight.cnf two
@@ -201,6 +218,9 @@ fails 1 '1: two/1.drat is refused' pieces check eight.cnf two 1
 mv whole two/1.drat
 says 0 '' pieces check eight.cnf two 1
 says 0 '' pieces check eight.cnf two 2
+# one that came to a conflict is enough, and nothing is told of what is behind it
+echo 3 > two/count
+says 0 'pieces 1 to 2 of 3 are verified, and piece 2 is refuted: s VERIFIED UNSAT' pieces report eight.cnf two
 echo 1 > two/count
 says 1 $'the last piece: it comes to no conflict\n1 of 1 pieces are not verified' pieces report eight.cnf two
 rm two/count
@@ -208,18 +228,42 @@ fails 2 'cannot read two/count: the proof is not cut, or was not to its end' pie
 says 0 'cut into 2 pieces' "${cut[@]}"
 says 2 'there is no piece 3' pieces check eight.cnf two 3
 says 2 'cannot open none.cnf: it is no file' pieces cut none.cnf eight.drat three
-fails 2 'the proof could not be cut' pieces cut eight.cnf none.drat three
-says 2 'cannot open none.drat: No such file or directory' pieces run eight.cnf none.drat three
-fails 2 'cannot read .: Is a directory' pieces run eight.cnf . three
+for call in cut run; do
+  says 2 'cannot open none.drat: No such file or directory' pieces "$call" eight.cnf none.drat three
+  says 2 'cannot read .: Is a directory' pieces "$call" eight.cnf . three
+done
 DRAT_CHECK=./none says 2 'cannot run ./none: No such file or directory' pieces check eight.cnf two 2
 DRAT_CUT=./none says 2 'cannot run ./none: No such file or directory' "${cut[@]}"
+# programs beside the script, ahead of those on PATH
+mkdir alone false
+cp "$top/tools/pieces" alone
+for program in drat_cut drat_check; do
+  cp -L "bin/$program" alone
+  printf '#!/bin/sh\nexit 1\n' > "false/$program"
+  chmod +x "false/$program"
+done
+PATH=$work/false:$PATH says 0 "$whole" alone/pieces run eight.cnf eight.drat beside --lemmas 1
 
 # cut and checked at once: a verified piece is deleted, one that is refused stays
 says 0 "$whole" pieces run eight.cnf - ran --lemmas 1 --jobs 2 < eight.drat
-says 0 $'1.checked\n2.checked\ncount' ls ran
+says 0 $'1.checked\n2.checked\ncount\ncut' ls ran
 head -n 12 eight.drat > weak.drat
 fails 1 '2: ran/2.drat is refused' pieces run eight.cnf weak.drat ran --lemmas 1
-says 0 $'1.checked\n2.cnf\n2.drat\ncount' ls ran
+says 0 $'1.checked\n2.cnf\n2.drat\ncount\ncut' ls ran
+
+# What is killed, ends early or says something else is not verified, and is named; without --jobs no more run than the processors of the process.
+for lie in 'kill -KILL $$' 'exit 0' 'echo s VERIFIED; exit 0' 'echo s VERIFIED PIECE; exit 1' 'echo s VERIFIED UNSAT; exit 3'; do
+  printf '#!/bin/sh\ncase $2 in */1.drat) %s ;; esac\nexec drat_check "$@"\n' "$lie" > bin/lies
+  chmod +x bin/lies
+  DRAT_CHECK=lies fails 1 '1: ran/1.drat is refused: ' pieces run eight.cnf eight.drat ran --lemmas 1
+done
+if has taskset; then
+  printf '#!/bin/sh\necho begin >> order\nsleep 0.3\ndrat_check "$@"\nstatus=$?\necho end >> order\nexit $status\n' > bin/in_order
+  chmod +x bin/in_order
+  processor=$(taskset -pc $$ | sed 's/.*: \([0-9]*\).*/\1/')
+  DRAT_CHECK=in_order says 0 "$whole" taskset -c "$processor" pieces run eight.cnf eight.drat ran --lemmas 1
+  same order $'begin\nend\nbegin\nend'
+fi
 
 # The last piece first: each shows what the one behind it has used, and no more. A lemma that is wrong and that no piece needs is refused
 # where all that lives is shown.
@@ -233,9 +277,198 @@ says 0 $'1.cnf\n1.drat\n2.cnf\n2.drat\ncount\ncut' ls last
 { echo '-4 0'; cat eight.drat; } > unneeded.drat
 fails 1 '1: ran/1.drat is refused' pieces run more.cnf unneeded.drat ran --lemmas 1 --live 100
 says 0 "$whole" pieces run more.cnf unneeded.drat last --lemmas 1 --live 100 --memory
-fails 2 'usage: pieces' pieces run eight.cnf eight.drat last --memory --jobs 2
-fails 2 'usage: pieces' pieces cut eight.cnf eight.drat last --memory
 says 2 'cannot open none.cnf: No such file or directory' pieces run none.cnf eight.drat last --memory
+
+# What is no whole list of clauses is not taken for what a piece has used, whatever the checker says of it.
+for damage in '$d' '1s/ [0-9]*$/ 1000/' '$s/ 0$//' 1d; do
+  printf '%s\n' '#!/bin/sh' 'drat_check "$@" || exit' 'for core; do :; done' "sed -i '$damage' \"\$core\"" > bin/cuts_off
+  chmod +x bin/cuts_off
+  DRAT_CHECK=cuts_off says 1 $'2: last/2.drat is refused: the clauses that it used are not whole\n1: not verified\n2: not verified\n2 of 2 pieces are not verified' \
+    pieces run eight.cnf eight.drat last --lemmas 1 --memory
+done
+printf '#!/bin/sh\necho s VERIFIED UNSAT\n' > bin/cuts_off
+DRAT_CHECK=cuts_off fails 1 'the clauses that it used are not whole' pieces run eight.cnf eight.drat last --lemmas 1 --memory
+
+# Of clauses that stand twice the core has one, and the steps delete one: so a piece is checked anew over all that lived before it.
+printf '1 2 0\n1 2 0\n1 -2 0\n-1 2 0\n-1 -2 0\n' > twice.cnf
+printf '5 1 2 0\n6 1 2 0\n7 1 2 0\nd 7 1 2 0\n8 1 2 0\n9 1 2 0\n10 1 2 0\nd 1 2 0\n1 0\n0\n' > twice.drat
+printf '#!/bin/sh\n[ "$1" != twice.cnf ] || exit 9\nexec drat_check "$@"\n' > bin/not_the_first
+chmod +x bin/not_the_first
+anew=(pieces run twice.cnf twice.drat twice --lemmas 1 --live 100 --memory)
+DRAT_CHECK=not_the_first fails 1 '1: twice/1.drat is refused: not_the_first ended with status 9' "${anew[@]}"
+rm twice/2.checked
+says 0 'all pieces are verified: 3, and the last one is refuted: s VERIFIED UNSAT' "${anew[@]}"
+says 0 $'1.checked\n2.checked\n3.checked\ncount\ncut' ls twice
+
+# faults WORDS COMMAND..: it must end with status 2, say why in one line on standard error, with these words, and write nothing else
+faults() {
+  local status=0
+  "${@:2}" > said 2> err || status=$?
+  if [[ $status != 2 || -s said || $(wc -l < err) != 1 || $(cat err) != *"$1"* ]]; then
+    printf '%s: status %d, without "%s" it wrote: %s %s\n' "${*:2}" "$status" "$1" "$(cat said)" "$(cat err)"
+    wrong=1
+  fi
+}
+
+# No input is written over, by whatever name; a record is no other file; and a file named - is a file where a formula is named.
+python3 -B "$top/tests/pieces/overwrites.py" pieces || wrong=1
+mkdir own
+cp eight.drat own/7.drat
+cp eight.cnf own/-
+(
+  cd own
+  says 2 'cannot write ./7.drat: it is a file that is read, 7.drat' pieces cut - 7.drat .
+  says 2 'cannot write ./7.drat: it is a file that is read, standard input' pieces run - - . < 7.drat
+  says 0 'cut into 2 pieces' pieces cut - 7.drat cut --lemmas 1
+  says 0 'cut into 2 pieces' pieces cut --lemmas 1 -- - ../eight.drat -f
+  says 0 '' pieces check -- - -f 1 2
+  says 0 'all pieces are verified: 2, and the last one is refuted: s VERIFIED UNSAT' pieces run - - ran --lemmas 1 < 7.drat
+  exit "$wrong"
+) < short || wrong=1
+same own/7.drat "$(cat eight.drat)"
+"${cut[@]}" > said
+echo theirs > two/1.checked
+faults 'cannot write two/1.checked: there is a file that pieces did not write' pieces check eight.cnf two 2 1
+same two/1.checked theirs
+rm two/1.checked
+
+# FRAT is named, before anything is deleted or written.
+printf 'o 1 1 2 3 0\na 9 1 2 0\n' > text.frat
+printf 'c of a solver\n\n o 1 1 2 3 0\n' > comment.frat
+printf 'o\2\2\4\6\0' > bytes.frat
+for proof in text comment bytes; do
+  for call in cut run; do
+    faults "$proof.frat begins as FRAT: DRAT and DPR are cut, FRAT is not" pieces "$call" eight.cnf "$proof.frat" two
+    faults 'standard input begins as FRAT' pieces "$call" eight.cnf - two < "$proof.frat"
+  done
+  faults "$proof.frat begins as FRAT" pieces run eight.cnf "$proof.frat" two --memory
+done
+says 0 2 cat two/count
+
+# The words of a call: what is wrong is named, and options stand anywhere.
+faults 'no call is named' pieces
+faults 'there is no call chek' pieces chek eight.cnf two 1
+faults 'check: no NAME is named' pieces check eight.cnf two
+faults 'cut: no FOLDER is named' pieces cut eight.cnf eight.drat
+faults 'report: a word too many: 1' pieces report eight.cnf two 1
+faults 'there is no option --lemma' pieces cut eight.cnf eight.drat two --lemma 5
+faults 'argument --lemmas: x is no number from 1 on' pieces cut eight.cnf eight.drat two --lemmas=x
+faults 'argument --live: 0 is no number from 1 on' pieces cut eight.cnf eight.drat two --live 0
+faults 'argument --jobs: expected one argument' pieces run eight.cnf eight.drat two --jobs
+faults 'cut has no option --memory' pieces cut eight.cnf eight.drat two --memory
+faults 'check has no option --jobs' pieces check --jobs 2 eight.cnf two 1
+faults '--memory excludes --jobs and --ahead' pieces run eight.cnf eight.drat two --memory --jobs 2
+says 0 2 cat two/count
+says 0 'cut into 2 pieces' pieces --lemmas=1 cut eight.cnf --live 100 eight.drat two
+says 0 "$(pieces --help)" pieces -h
+version=$(sed -n 's/^const VERSION: &str = "\([^ "]*\).*/\1/p' "$top/crates/command/src/status.rt")
+for option in -V --version; do
+  says 0 "pieces $version" pieces "$option"
+done
+
+# What can't be written is no success.
+says 0 '' pieces check eight.cnf two 1 2
+says 0 "$whole" pieces report eight.cnf two
+faults 'cannot use standard output: No space left on device' bash -c 'pieces report eight.cnf two > /dev/full'
+faults 'standard output is closed' bash -c 'pieces report eight.cnf two >&-'
+
+# Packed files, by each packer that is there: records are of what was unpacked, one that is cut off at its end is named, and there is no
+# verdict, also where what is cut off is behind the last step that is needed; and a packer that is missing is named.
+mkdir lean
+ln -s "$(python3 -c 'import sys; print(sys.executable)')" lean/python3
+{ cat eight.drat; yes '1 0' | head -n 200000; } > eight.long || true
+for packer in 'gzip gz' 'xz xz' 'lzma lzma' 'bzip2 bz2' 'zstd zst'; do
+  read -r tool end <<< "$packer"
+  has "$tool" || continue
+  for file in eight.cnf seven.cnf malformed.cnf eight.drat weak.drat eight.long text.frat; do
+    "$tool" -qc "$file" > "$file.$end"
+    head -c -5 "$file.$end" > "cut.$file.$end"
+  done
+  packed=("eight.cnf.$end" "eight.drat.$end" "$end" --lemmas 1)
+  says 0 'cut into 2 pieces' pieces cut "${packed[@]}"
+  for file in 1.cnf 1.drat 2.cnf 2.drat; do
+    same "$end/$file" "$(cat "two/$file")"
+  done
+  says 0 '' pieces check "eight.cnf.$end" "$end" 2 1
+  says 0 "$whole" pieces report eight.cnf "$end"
+  says 0 "$whole" pieces report "eight.cnf.$end" two
+  says 1 $'1: what is kept is of another formula\n1 of 2 pieces are not verified' pieces report "seven.cnf.$end" two
+  says 0 "$whole" pieces run "${packed[@]}"
+  says 0 "$whole" pieces run eight.cnf "eight.long.$end" "$end" --lemmas 1 --jobs 1 --ahead 0
+  says 0 "$whole" pieces run "${packed[@]}" --memory
+  DRAT_CUT=./none DRAT_CHECK=./none says 0 "$whole" pieces run "${packed[@]}" --memory
+  for way in '' --memory; do
+    # shellcheck disable=SC2086
+    fails 1 'is refused' pieces run "seven.cnf.$end" "eight.drat.$end" "$end" --lemmas 1 $way
+    # shellcheck disable=SC2086
+    fails 1 "2: $end/2.drat is refused" pieces run eight.cnf "weak.drat.$end" "$end" --lemmas 1 $way
+    for proof in eight.drat eight.long; do
+      # shellcheck disable=SC2086
+      fails 2 "cannot unpack cut.$proof.$end: " pieces run eight.cnf "cut.$proof.$end" "$end" --lemmas 1 $way
+      ! pieces report eight.cnf "$end" > said 2>&1 || unverified "$(cat said)"
+    done
+  done
+  faults "cannot unpack cut.eight.drat.$end: " pieces cut eight.cnf "cut.eight.drat.$end" "$end" --lemmas 1
+  # what is not packed at all, and FRAT, are found before anything is deleted
+  says 0 'cut into 2 pieces' pieces cut "${packed[@]}"
+  cp eight.drat "plain.drat.$end"
+  faults "cannot unpack plain.drat.$end: " pieces run eight.cnf "plain.drat.$end" "$end"
+  faults "text.frat.$end begins as FRAT" pieces run eight.cnf "text.frat.$end" "$end"
+  says 0 2 cat "$end/count"
+  for call in "cut F eight.drat $end" "run F eight.drat $end" "check F $end 1" "left F $end" "report F $end"; do
+    read -r -a words <<< "${call/F/cut.eight.cnf.$end}"
+    faults "cannot unpack cut.eight.cnf.$end: " pieces "${words[@]}"
+  done
+  fails 2 "is malformed.cnf.$end; standard input is eight.drat.$end" pieces cut "malformed.cnf.$end" "eight.drat.$end" "$end"
+  without=(env PATH="$work/bin:$work/lean")
+  faults "cannot run $tool, which unpacks eight.cnf.$end" "${without[@]}" pieces report "eight.cnf.$end" two
+  faults "cannot run $tool, which unpacks eight.drat.$end" "${without[@]}" pieces run eight.cnf "eight.drat.$end" two
+  faults "cannot open none.drat.$end: No such file or directory" pieces run eight.cnf "none.drat.$end" two
+done
+if [[ $(ls room) ]]; then
+  echo "of packed files it is left: $(ls room)"
+  wrong=1
+fi
+
+# Planted liars: in each folder one thing is not of this proof, and nothing may be told of all pieces. lies WHAT: the folder `liar` is one
+lies() {
+  local status=0 said
+  said=$(pieces report eight.cnf liar 2>&1) || status=$?
+  if [[ $status != 1 || $said == *'all pieces'* || $said == *'s VERIFIED'* ]]; then
+    printf '%s: status %d, it wrote: %s\n' "$1" "$status" "$said"
+    wrong=1
+  fi
+  rm -r liar
+  cp -R two liar
+}
+cp -R two liar
+says 0 "$whole" pieces report eight.cnf liar
+sed -i 's/^behind 0/behind 1/; t; s/^behind ./behind 0/' liar/1.checked
+lies 'the sum behind a piece was edited'
+sed -i 's/^before 0/before 1/; t; s/^before ./before 0/' liar/2.checked
+lies 'the sum before a piece was edited'
+sed -i 's/^verified$/Verified/' liar/1.checked
+lies 'a record was edited'
+printf '\377' > liar/2.checked
+lies 'a record that is no text'
+rm liar/1.checked
+lies 'a record is missing'
+rm liar/2.*
+lies 'a piece is missing'
+cp liar/2.checked liar/1.checked
+lies 'the record of another piece'
+# pieces of another formula, all of them and some
+{ sed 's/^p cnf 3 9/p cnf 3 10/' eight.cnf; echo '3 2 1 0'; } > nine.cnf
+pieces cut nine.cnf eight.drat nine --lemmas 1 > said
+says 0 '' pieces check nine.cnf nine 1 2
+cp nine/1.checked liar/1.checked
+lies 'the first piece of another formula'
+cp nine/2.checked liar/2.checked
+lies 'the last piece of another formula'
+cp nine/* liar
+lies 'all pieces of another formula'
+says 1 $'1: no file liar/1.drat\n2: no file liar/2.cnf' bash -c 'rm liar/1.drat liar/2.cnf; pieces check eight.cnf liar 1 2'
+lies 'pieces without files'
 
 # As `checked --while` has it: right and wrong answers of solvers that are written here, and nothing is left.
 # ends STATUS OUTPUT COMMAND..: it must end so, and write this to standard output
@@ -261,13 +494,46 @@ solver lost <<< 'printf "1 0\n" > "$2"; exit 1'
 solver garbled <<< 'yes x > "$2"; exit 20'
 printf 'p cnf 2 1\n1 2 0\n' > open.cnf
 ends 20 "$unsat" checked --while refuter eight.cnf
+ends 20 's UNSATISFIABLE' checked --while --answer refuter eight.cnf
+ends 0 "$unsat" checked --want unsat --while refuter eight.cnf
 ends 1 '' checked --while weak eight.cnf
+ends 20 "$unsat" checked --while --jobs 2 --verbose refuter eight.cnf
+if ! grep -q -- '--jobs 2$' err; then
+  cat err
+  wrong=1
+fi
 ends 1 '' checked --while silent eight.cnf
 ends 1 '' checked --while refuter open.cnf
 ends 10 's VERIFIED SAT' checked --while finder open.cnf
 ends 3 '' checked --while lost eight.cnf
 ends 1 '' checked --while garbled eight.cnf
-gzip -k eight.cnf
+solver fratter <<< "cat '$work/text.frat' > \"\$2\"; exit 20"
+ends 1 '' checked --while fratter eight.cnf
+if ! grep -q 'begins as FRAT' err; then
+  echo "FRAT of a solver is not named: $(cat err)"
+  wrong=1
+fi
+# a solver that is ended for its proof is none that gave no answer
+solver frat <<< 'yes "o 1 1 2 0" > "$2"; exit 1'
+for name in garbled frat; do
+  ends 1 '' checked --while "$name" eight.cnf
+  if grep 'no answer' err || ! grep -q 'the proof that the solver wrote is not verified' err || ! grep -q 'FRAT and LRAT are read' err; then
+    cat err
+    wrong=1
+  fi
+done
+ends 2 '' checked --while --no-proof finder open.cnf
+# without python3 nothing runs
+mkdir few
+for name in sh bash env mktemp realpath dirname setsid rm; do
+  ln -s "$(type -P "$name")" few
+done
+ends 2 '' env PATH="$work/few:$work/bin" checked --while refuter eight.cnf
+if ! grep -q 'cannot run python3' err; then
+  cat err
+  wrong=1
+fi
+gzip -kf eight.cnf
 ends 20 "$unsat" checked --while refuter eight.cnf.gz
 PIECES=./none ends 2 '' checked --while refuter eight.cnf
 solver slow <<< 'printf "1 2 0\n" > "$2"; echo > begun; exec sleep 60'
@@ -289,6 +555,7 @@ if [[ $status != 143 || $(ls room) ]]; then
 fi
 
 python3 -B "$top/tests/pieces/fuzz.py" drat_cut drat_check "${1:-300}" "${2:-1}" || wrong=1
+python3 -B "$top/tests/pieces/held.py" drat_check lrat_check "$((2 * ${1:-300}))" "${2:-1}" || wrong=1
 
 # A proof with witnesses, in pieces: pigeons exchange their holes, and what says so is deleted once a pigeon has left the last hole.
 python3 -B "$top/tests/drat/formulas.py" pigeons 6 > pigeons.cnf
@@ -337,16 +604,27 @@ refuted='and the last one is refuted: s VERIFIED UNSAT'
 stopped
 goes_on 0 "$refuted"
 same tried $'last/3.cnf\nlast/2.cnf\nformula.cnf'
+# as_core: what lived before the fourth piece is damaged as its core is
+as_core() {
+  cp last/4.cnf last/4.all
+}
 # turns FILE LINES: of the clauses in these lines the first literal is turned
 turns() {
   sed -i "$2s/^/-/; $2s/^--//" "$1"
 }
 stopped
 turns last/4.cnf 2
+as_core
 goes_on 1 '4: last/4.drat is refused'
 stopped
 sed -i 2d last/4.cnf
+as_core
 goes_on 1 '4: last/4.drat is refused'
+# where it is whole, the core is made anew
+stopped
+turns last/4.cnf 2
+goes_on 0 "$refuted"
+same tried $'last/4.all\nlast/3.cnf\nlast/2.cnf\nformula.cnf'
 stopped
 turns last/3.cnf '2,$'
 goes_on 1 'pieces are not verified'
@@ -354,7 +632,7 @@ goes_on 1 'pieces are not verified'
 stopped
 echo '1000 0' >> last/4.cnf
 goes_on 0 "$refuted"
-same tried $'last/4.cnf\nlast/3.cnf\nlast/2.cnf\nformula.cnf'
+same tried $'last/4.all\nlast/3.cnf\nlast/2.cnf\nformula.cnf'
 # the clauses have taken their place, and the record is not written, or is of others
 stopped
 rm last/4.checked
@@ -362,7 +640,7 @@ goes_on 0 "$refuted"
 stopped
 sed -i 's/^before .*/before 0000000000000000000000000000000000000000000000000000000000000000/' last/4.checked
 goes_on 0 "$refuted"
-same tried $'last/4.cnf\nlast/3.cnf\nlast/2.cnf\nformula.cnf'
+same tried $'last/4.all\nlast/3.cnf\nlast/2.cnf\nformula.cnf'
 stopped
 fails 0 "$refuted" pieces run formula.cnf cook.drat last --lemmas 100 --live 100000 --memory
 stopped
@@ -405,6 +683,34 @@ runs() {
   fi
 }
 cadical -q formula.cnf proof.drat > said || true
+# the calls that are shown for one machine, word for word, and the examples of --help by a shell that ends at a fault and by make
+block 'sh while' > commands
+block 'sh memory' >> commands
+if (($(wc -l < commands) != 3)); then
+  echo "docs/SCALE.md: not three calls: $(cat commands)"
+  wrong=1
+fi
+while IFS= read -r line; do
+  rm -rf pieces
+  status=0
+  bash -c "$line" > said 2> err < where || status=$?
+  if [[ $line == checked* && $status != 20 ]] || [[ $line != checked* && $status != 0 ]] || [[ $(tail -n 1 said) != *"$unsat" ]]; then
+    printf '%s: status %d, it wrote: %s %s\n' "$line" "$status" "$(cat said)" "$(cat err)"
+    wrong=1
+  fi
+done < commands
+pieces --help | sed -n 's/^      //p' > shown
+{ echo all:; sed 's/^/\t/' shown; } > Makefile
+for way in 'bash -e shown' 'make -s'; do
+  has "${way%% *}" || continue
+  rm -rf pieces
+  read -r -a words <<< "$way"
+  if ! "${words[@]}" > said 2> err || [[ $(tail -n 1 said) != 'all pieces are verified: '*"$unsat" ]]; then
+    printf '%s: %s %s\n' "$way" "$(cat said)" "$(cat err)"
+    wrong=1
+  fi
+done
+rm -rf pieces
 runs 'sh pieces'
 count=$(cat pieces/count)
 if ((count < 5)); then
@@ -456,4 +762,11 @@ fails 1 'is refused' pieces run formula.cnf multiplier.drat foreign --lemmas 500
 fails 0 "$unsat" pieces run multiplier.cnf multiplier.drat right --lemmas 500 --memory
 ends 20 "$unsat" checked --while cadical multiplier.cnf
 ends 20 "$unsat" checked --while cadical formula.cnf
+if has cryptominisat5; then
+  ends 1 '' checked --while cryptominisat5 formula.cnf
+  if ! grep -q 'without it, FRAT and LRAT are read too' err; then
+    cat err
+    wrong=1
+  fi
+fi
 exit "$wrong"

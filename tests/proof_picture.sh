@@ -68,10 +68,29 @@ says 1 '/dev/null: no steps' six.cnf /dev/null six.svg
 printf '7 1 0 1 2\n' > cut.lrat
 says 1 'cut.lrat: line 1: no line of LRAT text' six.cnf cut.lrat six.svg
 says 2 'cannot open none.cnf: No such file or directory' none.cnf six.lrat six.svg
-says 2 'cannot open six.cnf/svg: Not a directory' six.cnf six.lrat six.cnf/svg
-says 2 'usage: proof_picture CNF LRAT SVG' six.cnf six.lrat
-says 2 'usage: proof_picture CNF LRAT SVG'
-if ! cmp -s six.svg before || [[ $(ls ./*.new 2> null) ]]; then
+says 2 'cannot write six.cnf/svg: Not a directory' six.cnf six.lrat six.cnf/svg
+more='(proof_picture --help says how it is called)'
+says 2 "it takes CNF, LRAT and SVG, and not 2 words $more" six.cnf six.lrat
+says 2 "it takes CNF, LRAT and SVG, and not 0 words $more"
+says 2 "there is no option --halp $more" --halp
+says 2 "there is no option --halp $more" six.cnf six.lrat six.svg --halp
+says 2 "it takes CNF, LRAT and SVG, and not 4 words $more" six.cnf six.lrat six.svg more.svg
+says 2 'cannot write -: the picture is a file, and standard output has lines that say how large the proof is' six.cnf six.lrat -
+says 2 'cannot write six.cnf: it is six.cnf, which is read' six.cnf six.lrat six.cnf
+version=$(sed -n 's/^const VERSION: &str = "\([^ "]*\).*/\1/p' "$top/crates/command/src/status.rt")
+for flag in -V --version; do
+  says 0 "proof_picture $version" "$flag"
+  says 0 "proof_picture $version" six.cnf "$flag" six.lrat
+done
+if [[ $("$picture" -h) != "$("$picture" --help)" || $("$picture" -h) != 'usage: proof_picture CNF LRAT SVG'* ]]; then
+  echo "-h: $("$picture" -h)"
+  wrong=1
+fi
+# a name that begins with a dash, behind --
+cp six.lrat ./-six.lrat
+says 0 "$("$picture" six.cnf six.lrat dash.svg)" -- six.cnf -six.lrat -six.svg
+cmp -s six.svg ./-six.svg || wrong=1
+if ! cmp -s six.svg before || [[ $(find . -name '*.new' -o -name '.new-*' -o -name -) ]]; then
   echo "what was there is lost: $(ls)"
   wrong=1
 fi

@@ -1,7 +1,8 @@
 #!/usr/bin/env bash
 # Sessions of queries, by `tools/sessions`: one by hand with its formula and all that can be wrong with it, those that were
-# judged by others, and random ones against brute force. Where the solvers are there (Debian: libcadical-dev, picosat,
-# python3-pycosat), the recorders of `bindings/sessions`: bounded model checking of a circuit, and resolvers of versions.
+# judged by others, and random ones against brute force, each proof in binary too; folders of recorded ones; and what may be
+# written. Where the solvers are there (Debian: libcadical-dev, picosat, python3-pycosat), the recorders of `bindings/sessions`:
+# bounded model checking of a circuit, and resolvers of versions.
 #
 # The programs must be built: `rt ci` does it, or `rt run` in their folders.
 set -euo pipefail
@@ -23,13 +24,23 @@ PATH=$work/bin:$PATH
 cd "$work"
 wrong=0
 
-# says STATUS OUTPUT COMMAND..: the call must end so, and write this to both streams together
-says() {
+# ends STATUS OUTPUT COMMAND..: the call must end so, and write this to both streams together
+ends() {
   local status=0 said
   said=$("${@:3}" 2>&1) || status=$?
   if [[ $status != "$1" || $said != "$2" ]]; then
     printf '%s: status %d, it wrote:\n%s\n' "${*:3}" "$status" "$said"
     wrong=1
+  fi
+}
+
+# says STATUS OUTPUT COMMAND..: the same, and with the proof in binary too, if it is `sessions check` of a proof that has such a form
+twins=0
+says() {
+  ends "$@"
+  if [[ $# == 6 && $3 == sessions && $4 == check && -f $6 ]] && python3 -B "$top/tests/sessions/binary.py" "$6" binary.proof; then
+    ends "$1" "${2//"$6"/binary.proof}" sessions check "$5" binary.proof
+    twins=$((twins + 1))
   fi
 }
 
@@ -97,7 +108,10 @@ i 6 -2 0
 END
 all='all answers are shown: 1 satisfiable, 2 unsatisfiable, 1 unknown'
 says 0 "$all" sessions check two.icnf two.idrup
-says 0 "$all" sessions check --no-deletions two.icnf two.idrup
+for words in '--no-deletions check two.icnf two.idrup' 'check --no-deletions two.icnf two.idrup' 'check two.icnf two.idrup --no-deletions'; do
+  # shellcheck disable=SC2086
+  says 0 "$all" sessions $words
+done
 says 0 "$all" sessions check two.icnf two.lidrup
 
 # The formula is the one of the worked rows in crates/session_rules/specs/Rows.antt.
@@ -168,6 +182,95 @@ says 1 'interaction: line 6: not expected here' sessions check changed.icnf two.
 says 1 'interaction: line 1: no header' sessions check empty two.idrup
 says 1 'proof: line 1: the header is neither p idrup nor p lidrup' sessions check two.icnf two.icnf
 
+# An answer that gets no conclusion is not shown, and the reading goes on.
+edit two.idrup '/^m /d'
+says 1 $'query 1 of line 4: the proof has no conclusion of it (proof: line 5)\n1 of 4 answers are not shown' \
+  sessions check two.icnf changed.idrup
+edit two.idrup '0,/^u /{/^u /d}'
+says 1 $'query 2 of line 7: the proof has no conclusion of it (proof: line 8)\n1 of 4 answers are not shown' \
+  sessions check two.icnf changed.idrup
+edit two.lidrup '/^m /d; /^u /d'
+says 1 $'query 1 of line 4: the proof has no conclusion of it (proof: line 5)
+query 2 of line 7: the proof has no conclusion of it (proof: line 7)
+query 4 of line 13: the proof has no conclusion of it (proof: line 13)\n3 of 4 answers are not shown' \
+  sessions check two.icnf changed.lidrup
+edit two.idrup '0,/^s /{/^s /d}'
+unexpected='no answer to it: proof: line 4: not expected here'
+says 1 "query 1 of line 4: $unexpected
+query 2 of line 7: $unexpected
+query 3 of line 11: $unexpected
+query 4 of line 13: $unexpected
+4 of 4 answers are not shown" sessions check two.icnf changed.idrup
+
+# A trail after an unknown answer says nothing, even a wrong one; it comes nowhere else.
+edit two.idrup 's/^s UNKNOWN/&\ne 1 -2 0/'
+says 0 "$all" sessions check two.icnf changed.idrup
+edit two.lidrup 's/^s UNKNOWN/&\ne -1 2 -2 0/'
+says 0 "$all" sessions check two.icnf changed.lidrup
+edit two.idrup 's/^i 1 0/&\ne 1 0/'
+unexpected='no answer to it: proof: line 10: not expected here'
+says 1 "query 3 of line 11: $unexpected
+query 4 of line 13: $unexpected
+2 of 4 answers are not shown" sessions check two.icnf changed.idrup
+
+# Of several conclusions one has to be a core, in whichever place: the others have the literals of a clause that held for this
+# query alone. With none there is no answer, and neither where fewer come than were announced.
+edit two.idrup 's/^u 2 1 0/U 3\nu 1 2 3 0\nu 2 1 0\nu 1 -3 0/'
+says 0 "$all" sessions check two.icnf changed.idrup
+edit two.lidrup 's/^u 2 1 0.*/U 2\nu 1 2 3 0 1 0\nu 2 1 0 1 0/'
+says 0 "$all" sessions check two.icnf changed.lidrup
+edit two.idrup 's/^u 2 1 0/U 2\nu 1 3 0\nu 2 -3 0/'
+says 1 $'query 2 of line 7: its core is more than what was told in line 9 (proof: line 10)\n1 of 4 answers are not shown' \
+  sessions check two.icnf changed.idrup
+edit two.idrup 's/^u 2 1 0/U 2\nu 1 3 0/'
+says 1 $'query 2 of line 7: its core is more than what was told in line 9 (proof: line 10)\n1 of 4 answers are not shown' \
+  sessions check two.icnf changed.idrup
+edit two.idrup 's/^u 2 1 0/U 2\nu 2 1 0/'
+says 0 "$all" sessions check two.icnf changed.idrup
+edit two.idrup 's/^u 2 1 0/U 2/'
+says 1 $'query 2 of line 7: the proof has no conclusion of it (proof: line 9)\n1 of 4 answers are not shown' \
+  sessions check two.icnf changed.idrup
+# The first core counts, so a wrong one is not made good by a right one after it.
+printf 'p icnf\ni -1 -2 0\nq 1 2 3 0\ns UNSATISFIABLE\n' > core.icnf
+printf 'p idrup\ni -1 -2 0\nq 1 2 3 0\ns UNSATISFIABLE\nU 2\nu 1 3 0\nu 1 2 0\n' > core.idrup
+says 0 'all answers are shown: 0 satisfiable, 1 unsatisfiable, 0 unknown' sessions check core.icnf core.idrup
+for line in 'U 2' 'u 1 2 0' 'e 0'; do
+  edit two.idrup "s/^m 1 -2 0/$line/"
+  unexpected='no answer to it: proof: line 5: not expected here'
+  says 1 "query 1 of line 4: $unexpected
+query 2 of line 7: $unexpected
+query 3 of line 11: $unexpected
+query 4 of line 13: $unexpected
+4 of 4 answers are not shown" sessions check two.icnf changed.idrup
+done
+
+# An application that was told two cores of one query: which one is meant is not known, and the other queries are shown.
+edit two.icnf 's/^f 1 2 0/f 1 0\nf 2 0/'
+says 1 $'query 2 of line 7: another core was told in line 10 (proof: line 8)\n1 of 4 answers are not shown' \
+  sessions check changed.icnf two.idrup
+
+# Binary proofs, by hand: long numbers, statuses with a blank or a line end, and all that can be malformed.
+printf 'p icnf\ni 64 -300 0\ni 300 0\nq -64 0\ns UNSATISFIABLE\ni -64 0\n' > long.icnf
+many='all answers are shown: 0 satisfiable, 1 unsatisfiable, 0 unknown'
+printf 'p idrup\ni\x80\x01\xd9\x04\0i\xd8\x04\0q\x81\x01\0sUNSATISFIABLEu\x81\x01\0i\x81\x01\0' > long.idrup
+says 0 "$many" sessions check long.icnf long.idrup
+printf 'p idrup\ni\x80\x01\xd9\x04\0i\xd8\x04\0q\x81\x01\0s UNSATISFIABLE\nu\x81\x01\0i\x81\x01\0' > long.idrup
+says 0 "$many" sessions check long.icnf long.idrup
+printf 'p lidrup\ni\x80\x01\x80\x01\xd9\x04\0i\x05\xd8\x04\0q\x81\x01\0sUNSATISFIABLEu\x81\x01\0\x05\x80\x01\0i\x06\x81\x01\0' > long.lidrup
+says 0 "$many" sessions check long.icnf long.lidrup
+# malformed LINE BYTES: the proof ends with these in place of its conclusion, and they are malformed
+malformed() {
+  printf 'p idrup\ni\x80\x01\xd9\x04\0i\xd8\x04\0q\x81\x01\0sUNSATISFIABLE%b' "$1" > long.idrup
+  says 1 $'query 1 of line 4: no answer to it: proof: line 6: malformed\n1 of 1 answers are not shown' sessions check long.icnf long.idrup
+}
+malformed 'u\x81\x01'
+malformed 'u\x81\x01\x81\0'
+malformed 'u\x01\0'
+malformed '\x01\x02\0'
+malformed 'U\x80\0'
+malformed 'U\0'
+malformed 'u'
+
 # Deletions are advice: the only lemma goes before the core that needs it. With it kept the answer is shown.
 printf 'p icnf\ni 1 2 3 0\ni 1 2 -3 0\ni 1 -2 3 0\ni 1 -2 -3 0\nq -1 0\ns UNSATISFIABLE\ni 4 0\nq -4 0\ns UNSATISFIABLE\n' > gone.icnf
 sed 's/icnf/idrup/; s/^q -1 0/&\nl 1 2 0\nd 2 1 0/' gone.icnf > gone.idrup
@@ -184,28 +287,175 @@ DRAT_CHECK=true says 1 $'query 2 of line 7: its core is not shown: drat_check: e
 query 4 of line 13: its core is not shown: drat_check: ended with status 0\n2 of 4 answers are not shown' \
   sessions check two.icnf two.idrup
 DRAT_CHECK=./none says 2 'cannot run ./none: No such file or directory' sessions check two.icnf two.idrup
+# programs beside the script, ahead of those on PATH
+mkdir alone false
+cp "$top/tools/sessions" alone
+for program in drat_check lrat_check model_check; do
+  cp -L "bin/$program" alone
+  printf '#!/bin/sh\nexit 1\n' > "false/$program"
+  chmod +x "false/$program"
+done
+PATH=$work/false:$PATH says 0 "$all" alone/sessions check two.icnf two.idrup
 says 2 'cannot open none.icnf: No such file or directory' sessions check none.icnf two.idrup
-says 2 'usage: sessions CALL [--no-deletions] INTERACTION PROOF [FOLDER]' sessions check two.icnf
+
+# A wrong word of a call is named, in one line; and what each call of this kind says.
+wrong_call() {
+  says 2 "$1 (sessions --help says how it is called)" sessions "${@:2}"
+}
+wrong_call 'check takes INTERACTION and PROOF, or folders' check two.icnf
+wrong_call 'check takes INTERACTION and PROOF, or folders' check two.icnf two.idrup made
+wrong_call 'write takes INTERACTION, PROOF and FOLDER' write two.icnf two.idrup
+wrong_call 'there is no option --deletions' check two.icnf --deletions two.idrup
+wrong_call 'there is no option -x' check -x two.icnf two.idrup
+wrong_call 'there is no option --halp' --halp
+wrong_call 'there is no call chek' chek two.icnf two.idrup
+wrong_call 'no call: check or write'
+version=$(sed -n 's/^const VERSION: &str = "\([^ "]*\).*/\1/p' "$top/crates/command/src/status.rt")
+for flag in -V --version; do
+  says 0 "sessions $version" sessions "$flag"
+done
+for flag in -h --help; do
+  says 0 "$(sed -n '2,/^"""$/p' "$top/tools/sessions" | sed 's/^"""//')" sessions "$flag"
+done
+
+cp two.idrup ./--no-deletions
+says 0 "$all" sessions check -- two.icnf --no-deletions
+
+# A folder of recorded sessions: its index names each, and all of each is there, or it is refused.
+mkdir folder
+for name in one two; do
+  cp two.icnf "folder/$name.icnf"
+  echo "$name" >> folder/sessions.index
+done
+cp two.idrup folder/one.idrup
+cp two.lidrup folder/two.lidrup
+says 0 'all answers are shown: 2 satisfiable, 4 unsatisfiable, 2 unknown, in 2 sessions' sessions check folder
+says 0 'all answers are shown: 4 satisfiable, 8 unsatisfiable, 4 unknown, in 4 sessions' sessions check folder --no-deletions folder/
+says 2 'cannot open made/sessions.index: No such file or directory' sessions check folder made
+sed -i 's/^v -2 0/v 2 0/' folder/one.icnf
+sed -i 's/^p/q/' folder/two.lidrup
+says 1 'folder/one.icnf: query 1 of line 4: its model does not have all that was told in line 6 (proof: line 5)
+folder/one.icnf: 1 of 4 answers are not shown
+folder/two.icnf: proof: line 1: no header
+2 of 2 sessions have answers that are not shown' sessions check folder
+
+# refused FAULT EDIT: a copy of the folder after an edit in it is refused, and nothing is said on standard output
+refused() {
+  rm -rf copy
+  cp -R folder copy
+  (cd copy && eval "$2")
+  says 1 "copy: $1" sessions check copy
+  if [[ $(sessions check copy 2> err) ]]; then
+    echo "$2: something is said on standard output"
+    wrong=1
+  fi
+}
+cp two.icnf folder/one.icnf
+cp two.lidrup folder/two.lidrup
+refused $'two.icnf is not there\ncopy: two.idrup is not there' 'rm two.*'
+refused 'one.idrup is not there' 'rm one.idrup'
+refused 'two.icnf is not there' 'rm two.icnf'
+refused $'one.icnf is of no session that sessions.index names\ncopy: one.idrup is of no session that sessions.index names' 'sed -i 1d sessions.index'
+refused 'two.lidrup is of no session that sessions.index names' 'cp two.lidrup two.idrup'
+refused 'sessions.index names one twice' 'echo one >> sessions.index'
+refused 'sessions.index is cut off: thr' 'printf thr >> sessions.index'
+refused 'sessions.index names no session' 'rm one.* two.*; : > sessions.index'
+unfinished='the session has not ended, or was not recorded to its end'
+refused $'one.icnf is not there\ncopy: one.icnf.part: '"$unfinished" 'mv one.icnf one.icnf.part'
+refused "three.icnf.part: $unfinished" ': > three.icnf.part'
+# of four sessions one has its files
+for name in three four; do
+  cp two.icnf "folder/$name.icnf"
+  cp two.idrup "folder/$name.idrup"
+  echo "$name" >> folder/sessions.index
+done
+says 0 'all answers are shown: 4 satisfiable, 8 unsatisfiable, 4 unknown, in 4 sessions' sessions check folder
+refused $'four.icnf is not there\ncopy: four.idrup is not there\ncopy: three.icnf is not there\ncopy: three.idrup is not there
+copy: two.icnf is not there\ncopy: two.idrup is not there' 'rm two.* three.* four.*'
+
+# Packed files, by each packer that is there, also those of recorded sessions: one that is cut off at its end is a fault and is named, and so is
+# a packer that is missing.
+mkdir lean
+ln -s "$(python3 -c 'import sys; print(sys.executable)')" lean/python3
+python3 -B "$top/tests/sessions/binary.py" two.lidrup two.binary
+for packer in 'gzip gz' 'xz xz' 'lzma lzma' 'bzip2 bz2' 'zstd zst'; do
+  read -r tool end <<< "$packer"
+  if ! type -P "$tool" > said; then
+    echo "$tool is not installed: not tried"
+    continue
+  fi
+  edit two.idrup 's/^m 1 -2 0/m 1 2 0/'
+  for file in two.icnf two.idrup two.lidrup two.binary changed.idrup; do
+    "$tool" -qc "$file" > "$file.$end"
+    head -c -5 "$file.$end" > "cut.$file.$end"
+  done
+  for kind in idrup lidrup binary; do
+    ends 0 "$all" sessions check "two.icnf.$end" "two.$kind.$end"
+    ends 0 "$all" sessions check two.icnf "two.$kind.$end"
+    if sessions check two.icnf "cut.two.$kind.$end" > said 2> err || [[ $? != 1 || -s said || $(wc -l < err) != 1 || $(cat err) != "cannot unpack cut.two.$kind.$end: "* ]]; then
+      echo "$end, a proof that is cut off: $(cat said err)"
+      wrong=1
+    fi
+  done
+  ends 1 $'query 1 of line 4: its model does not have all that was told in line 6 (proof: line 5)\n1 of 4 answers are not shown' \
+    sessions check "two.icnf.$end" "changed.idrup.$end"
+  rm -rf made
+  ends 0 '' sessions write "two.icnf.$end" "two.idrup.$end" made
+  same made/session.drat $'-4 0\n-5 -2 0\n-6 0\n0'
+  for words in "sessions check cut.two.icnf.$end two.idrup" "sessions write cut.two.icnf.$end two.idrup none"; do
+    # shellcheck disable=SC2086
+    if $words > said 2> err || [[ $? != 1 || -s said || -e none || $(cat err) != "cannot unpack cut.two.icnf.$end: "* ]]; then
+      echo "$words: $(cat said err)"
+      wrong=1
+    fi
+  done
+  ends 2 "cannot run $tool, which unpacks two.icnf.$end" env PATH="$work/bin:$work/lean" sessions check "two.icnf.$end" two.idrup
+  ends 2 "cannot open none.$end: No such file or directory" sessions check "none.$end" two.idrup
+  rm -rf packed
+  cp -R folder packed
+  mv "two.icnf.$end" packed/one.icnf."$end"
+  mv "two.lidrup.$end" packed/two.lidrup."$end"
+  rm packed/one.icnf packed/two.lidrup
+  ends 0 'all answers are shown: 4 satisfiable, 8 unsatisfiable, 4 unknown, in 4 sessions' sessions check packed
+  cp two.icnf packed/one.icnf
+  ends 1 "packed: one.icnf.$end is of no session that sessions.index names" sessions check packed
+  rm packed/one.icnf
+  cp "cut.two.icnf.$end" "packed/one.icnf.$end"
+  if sessions check packed > said 2>&1 || [[ $(head -n 1 said) != "packed/one.icnf.$end: cannot unpack packed/one.icnf.$end: "* || $(tail -n 1 said) != '1 of 4 sessions have'* ]]; then
+    echo "$end, a recorded session that is cut off: $(cat said)"
+    wrong=1
+  fi
+done
+
+# No file that is read is written over, by whatever name, here and by `proof_picture`.
+python3 -B "$top/tests/sessions/outputs.py" "$top/tools" || wrong=1
+
+if ((twins < 30)); then
+  echo "only $twins proofs were tried in binary too"
+  wrong=1
+fi
 
 mkdir judged
 tar -xJf "$top/tests/sessions/judged.tar.xz" -C judged
 python3 -B "$top/tests/sessions/judged.py" "$top/tools/sessions" judged || wrong=1
 python3 -B "$top/tests/sessions/fuzz.py" "$top/tools/sessions" 1 "${SESSIONS:-100}" || wrong=1
 
-# shown COUNTS NAME: a recorded session is whole, and the program's own counts are in what is shown
-shown() {
-  if [[ $(find . -maxdepth 1 -name "$2.*.part") ]]; then
-    echo "$2: a record is not whole"
+# records FOLDER COUNTS SESSIONS COMMAND..: a command finds with a record what it finds without one, and all of it is shown
+records() {
+  mkdir "$1"
+  if [[ $(SESSION_RECORD=$1/it "${@:4}") != "$2" ]]; then
+    echo "${*:4}: with a record it finds something else"
     wrong=1
   fi
-  says 0 "all answers are shown: $1, 0 unknown" sessions check "$2.1.icnf" "$2.1.idrup"
+  says 0 "all answers are shown: $2, 0 unknown, in $3" sessions check "$1"
 }
 
-# lies NAME LINE: an answer of the record is turned around, and that is found
+# lies FOLDER FROM TO: an answer of the record is turned around, and that is found
 lies() {
-  sed "0,/^s $2\$/s//s X/; s/^s X\$/s $3/" "$1.1.icnf" > lies.icnf
-  sed "0,/^s $2\$/s//s X/; s/^s X\$/s $3/" "$1.1.idrup" > lies.idrup
-  if sessions check lies.icnf lies.idrup > said 2>&1; then
+  rm -rf lies
+  cp -R "$1" lies
+  sed -i "0,/^s $2\$/s//s X/; s/^s X\$/s $3/" lies/it.*
+  if sessions check lies > said 2>&1 || ! grep -q '^lies/it' said; then
     echo "$1: an answer that was turned around is shown"
     wrong=1
   fi
@@ -215,17 +465,13 @@ layers=$top/bindings/sessions
 if c++ -x c++ -std=c++17 -O2 -Wall -Wextra -Werror -c -o ipasir_cadical.o "$layers/ipasir_cadical.cpp" 2> err; then
   cc -O2 -Wall -Wextra -Werror -I "$layers" -c -o circuit.o "$top/tests/sessions/circuit.c"
   c++ -o circuit circuit.o ipasir_cadical.o -lcadical
-  counts=$(./circuit 5 50)
-  if [[ $(SESSION_RECORD=circuit ./circuit 5 50) != "$counts" ]]; then
-    echo "circuit: with a record it finds something else"
-    wrong=1
-  fi
-  shown "$counts" circuit
-  lies circuit UNSATISFIABLE SATISFIABLE
+  records circuits "$(./circuit 5 50)" "1 session" ./circuit 5 50
+  lies circuits UNSATISFIABLE SATISFIABLE
 
-  # A run that breaks leaves no session.
-  SESSION_RECORD=broken bash -c 'timeout -s KILL 0.2 ./circuit 12 200; true' > said 2>&1
-  if compgen -G 'broken.*.icnf' > said || ! compgen -G 'broken.*.icnf.part' > said; then
+  # A run that breaks leaves no session, and what it leaves is refused.
+  mkdir broken
+  SESSION_RECORD=broken/it bash -c 'timeout -s KILL 0.2 ./circuit 12 200; true' > said 2>&1
+  if compgen -G 'broken/*.icnf' > said || ! compgen -G 'broken/*.icnf.part' > said || sessions check broken > said 2>&1; then
     echo "circuit: a run that was killed has left a session"
     wrong=1
   fi
@@ -239,17 +485,44 @@ fi
 if [[ -e /usr/include/picosat/picosat.h ]]; then
   c++ -std=c++17 -O2 -Wall -Wextra -Werror -shared -fPIC -o picosat_preload.so "$layers/picosat_preload.cpp" -ldl
   cc -O2 -Wall -Wextra -Werror -o resolver "$top/tests/sessions/resolver.c" -lpicosat
-  counts=$(./resolver 80 300)
-  if [[ $(SESSION_RECORD=resolver LD_PRELOAD=./picosat_preload.so ./resolver 80 300) != "$counts" ]]; then
-    echo "resolver: with a record it finds something else"
+  records resolvers "$(./resolver 80 300)" "1 session" env LD_PRELOAD=./picosat_preload.so ./resolver 80 300
+  lies resolvers UNSATISFIABLE SATISFIABLE
+  lies resolvers SATISFIABLE UNSATISFIABLE
+
+  # A solver that is there before the process forks; and one whose session can't be recorded, which is not passed over.
+  cc -O2 -Wall -Wextra -Werror -o forked "$top/tests/sessions/forked.c" -lpicosat
+  records forks "$(./forked)" "2 sessions" env LD_PRELOAD=./picosat_preload.so ./forked
+  mkdir contexts
+  SESSION_RECORD=contexts/it LD_PRELOAD=./picosat_preload.so ./forked contexts 2> err
+  if sessions check contexts > said 2>&1 || ! grep -q "idrup.part: $unfinished" said; then
+    echo "a session with contexts is shown: $(cat said)"
     wrong=1
   fi
-  shown "$counts" resolver
-  lies resolver UNSATISFIABLE SATISFIABLE
-  lies resolver SATISFIABLE UNSATISFIABLE
+
+  # Two runs whose processes have one number: names that are taken stay as they are. In a name `%p` is the process.
+  own=(unshare --user --map-root-user --pid --fork)
+  if "${own[@]}" true 2> err; then
+    mkdir again
+    for _ in 1 2; do
+      "${own[@]}" env SESSION_RECORD=again/%p-it LD_PRELOAD=./picosat_preload.so ./resolver 20 20 > counts
+    done
+    if [[ $(cat again/sessions.index) != $'1-it.1\n1-it.2' || $(sessions check again) != *', in 2 sessions' ]]; then
+      echo "two runs as process 1: $(ls again)"
+      wrong=1
+    fi
+  else
+    echo "no namespaces here: not tried"
+  fi
   if /usr/bin/python3 -c 'import pycosat' 2> err; then
-    SESSION_RECORD=python LD_PRELOAD=./picosat_preload.so /usr/bin/python3 "$top/tests/sessions/versions.py" > counts
-    shown "$(cat counts)" python
+    recorded=(env LD_PRELOAD=./picosat_preload.so /usr/bin/python3 -B)
+    records python "$(/usr/bin/python3 -B "$top/tests/sessions/versions.py")" "1 session" "${recorded[@]}" "$top/tests/sessions/versions.py"
+    # Eight queries in four processes: none is lost, and a quarter that is deleted is missed.
+    records pool '3 satisfiable, 5 unsatisfiable' '8 sessions' "${recorded[@]}" "$top/tests/sessions/pool.py"
+    head -n 2 pool/sessions.index | sed 's|.*|pool/&.icnf\npool/&.idrup|' | xargs rm
+    if sessions check pool > said 2> err || [[ $? != 1 || -s said || $(grep -c ' is not there$' err) != 4 ]]; then
+      echo "a quarter of the sessions is missing: $(cat said err)"
+      wrong=1
+    fi
   else
     echo "python3-pycosat is not installed: not tried"
   fi

@@ -1,6 +1,7 @@
 #!/usr/bin/env bash
-# The arrays of docs/SCALE.md, by a Slurm of its own on this machine (Debian: slurm-wlm munge cadical): 64 cubes, in arrays of at
-# most 20 tasks; a task that is cancelled, a solver that is killed, a damaged proof, and going on; and one proof in pieces.
+# The arrays of docs/SCALE.md, by a Slurm of its own on this machine (Debian: slurm-wlm munge cadical): 64 cubes and one proof in pieces,
+# word for word, and with lists of few lines, so that there are several arrays; a task that is cancelled, a solver that is killed, a
+# damaged proof, and going on; and many formulas, each a job, by `checked_all --slurm`.
 #
 # The programs must be built: `rt ci` does it, or `rt run` in their folders. Its daemons (munged, slurmctld, slurmd) run in the
 # foreground as children of this script, with ports, keys and folders of their own, and each is ended by its id.
@@ -38,7 +39,7 @@ for program in drat_check drat_cut lrat_check model_check; do
   fi
   ln -s "$built" "$work/bin/$program"
 done
-ln -s "$top/tools/cubes" "$top/tools/pieces" "$work/bin"
+ln -s "$top"/tools/{checked,checked_all,cubes,pieces} "$work/bin"
 solver=$(command -v cadical)
 export PATH=$work/bin:$PATH SLURM_CONF=$work/slurm/slurm.conf
 cd "$work"
@@ -70,7 +71,7 @@ SelectTypeParameters=CR_CPU
 SlurmdParameters=config_overrides
 SwitchType=switch/none
 MpiDefault=none
-MaxArraySize=21
+MaxArraySize=1001
 ReturnToService=2
 KillWait=2
 NodeName=$host NodeAddr=127.0.0.1 CPUs=4 RealMemory=8000 State=UNKNOWN
@@ -196,9 +197,10 @@ rm parts/20.drat
 submits "$whole" ./submit.sh || wrong=1
 solved 1
 
-# Nothing is left; a cube that changed is, with the closing part: both by one task.
+# Nothing is left; a cube that changed is, with the closing part: both by one task. This and what follows is word for word.
 submits "$whole" ./submit.sh || wrong=1
 solved 0
+block 'sh submit.sh' > submit.sh
 sed -i '7s/.*/1 15 1 0/' cubes.txt
 submits "$whole" ./submit.sh 8 || wrong=1
 solved 2
@@ -206,14 +208,29 @@ if [[ $(cat left.*) != '7 closing' ]]; then
   echo "not one task of two parts: $(cat left.*)"
   wrong=1
 fi
+rm -r parts
+submits "$whole" ./submit.sh || wrong=1
+solved 65
+if [[ $(echo left.*) != left.aaaa ]]; then
+  echo "not one array of all parts: $(ls left.*)"
+  wrong=1
+fi
 
-# One proof in pieces, in arrays of at most five tasks; then one piece that was damaged, and what is left.
+# One proof in pieces, word for word; again in arrays of at most five tasks; then one piece that was damaged, and
+# what is left.
 block 'sh piece.sh' > piece.sh
-block 'sh submit_pieces.sh' | sed 's/-l 1000/-l 5/' > submit_pieces.sh
+block 'sh submit_pieces.sh' > submit_pieces.sh
 "$solver" -q formula.cnf proof.drat > said || true
 pieces cut formula.cnf proof.drat pieces --lemmas 2000 > said
 count=$(cat pieces/count)
 whole="all pieces are verified: $count, and the last one is refuted: s VERIFIED UNSAT"
+submits "$whole" bash submit_pieces.sh || wrong=1
+if [[ $(echo left.*) != left.aaaa || $(cat left.aaaa) != "$(seq "$count")" ]]; then
+  echo "not one array of $count pieces: $(ls left.*)"
+  wrong=1
+fi
+rm pieces/*.checked
+block 'sh submit_pieces.sh' | sed 's/-l 1000/-l 5/' > submit_pieces.sh
 submits "$whole" bash submit_pieces.sh || wrong=1
 if ((count < 6)) || [[ $(cat left.* | wc -l) != "$count" || $(ls left.* | wc -l) == 1 ]]; then
   echo "not $count pieces in several arrays: $(ls left.*)"
@@ -225,4 +242,78 @@ rm pieces/2.checked
 submits $'2: not verified\n'"1 of $count pieces are not verified" bash submit_pieces.sh || wrong=1
 cp kept pieces/2.drat
 submits "$whole" bash submit_pieces.sh || wrong=1
+
+# Random formulas, against brute force. One hangs: its job ends at an interrupt, and at a limit; the same call goes on with it alone.
+judged=(python3 -B "$top/tests/checked_all/judged.py")
+"${judged[@]}" make random 30 2
+refuted=$(grep -c UNSAT random.truth)
+satisfied=$(grep -vc UNSAT random.truth)
+cat > bin/noting << END
+#!/bin/sh
+cd '$work'
+echo "\${1##*/}" >> solved
+[ "\${1##*/}" != "\$(cat slow)" ] || { echo \$\$ > hangs; exec sleep 600; }
+exec '$solver' "\$@"
+END
+chmod +x bin/noting
+
+# many STATUS LINE SOLVED GLOB SOLVER OPTION..: a call must end so, with this line, and give these formulas to the solver
+many() {
+  local status=0 said
+  said=$(timeout 300 checked --all "$4" --solver "$5" --slurm --json random.json "${@:6}" 2> err) || status=$?
+  if [[ "$status $said" != "$1 $2" || $(sort solved 2> slurm/said | tr '\n' ' ') != "$3" ]]; then
+    printf 'checked --all --slurm %s: status %s, it wrote %s %s, and solved %s\n' "${*:4}" "$status" "$said" "$(cat err)" "$(cat solved)"
+    wrong=1
+  fi
+  rm -f solved
+}
+
+# hung: the solver hangs, and all else is there
+hung() {
+  [[ -s hangs && $(wc -l < random.json) == 29 ]]
+}
+
+# quiet: no job is left, and the solver that hung has ended
+quiet() {
+  [[ ! $(squeue -h) && ! -d /proc/$(cat hangs) ]]
+}
+echo 07.cnf > slow
+set -m
+checked --all 'random/*.cnf' --solver noting --slurm --json random.json > said 2> err &
+submission=$!
+set +m
+until_so 'one run that is left' hung
+kill -TERM "$submission"
+status=0
+wait "$submission" || status=$?
+submission=
+if [[ $status != 143 || -s said || $(wc -l < random.json) != 29 ]]; then
+  echo "interrupted: status $status, $(cat said err), $(wc -l < random.json) rows"
+  wrong=1
+fi
+until_so 'the end of the job' quiet
+rm solved
+many 3 '1 formula: 0 s VERIFIED UNSAT, 0 s VERIFIED SAT, 1 no answer, 0 rejected' '07.cnf ' random/07.cnf noting --limit 2
+until_so 'the end of the job' quiet
+echo none > slow
+many 0 "30 formulas: $refuted s VERIFIED UNSAT, $satisfied s VERIFIED SAT, 0 no answer, 0 rejected" '07.cnf ' 'random/*.cnf' noting --limit 100
+"${judged[@]}" rows random.json random.truth 's VERIFIED UNSAT' noting || wrong=1
+rows=30
+for name in picosat cryptominisat5; do
+  if command -v "$name" > slurm/said; then
+    many 0 "30 formulas: $refuted s VERIFIED UNSAT, $satisfied s VERIFIED SAT, 0 no answer, 0 rejected" '' 'random/*.cnf' "$name"
+    "${judged[@]}" rows random.json random.truth 's VERIFIED UNSAT' "$name" || wrong=1
+    rows=$((rows + 30))
+  fi
+done
+if command -v minisat > slurm/said; then
+  many 1 "30 formulas: 0 s VERIFIED UNSAT, $satisfied s VERIFIED SAT, 0 no answer, $refuted rejected" '' 'random/*.cnf' minisat
+  "${judged[@]}" rows random.json random.truth rejected minisat || wrong=1
+  rows=$((rows + 30))
+fi
+said=$(checked_all --audit random.json 2>&1) || wrong=1
+if [[ $said != "all rows fit: $rows" ]]; then
+  echo "the audit of $rows rows: $said"
+  wrong=1
+fi
 exit "$wrong"

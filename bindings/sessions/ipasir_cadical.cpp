@@ -58,7 +58,9 @@ class Solver {
 
     ~Solver() {
         if (record_) {
-            drain();
+            if (record_->is_own()) {
+                drain();
+            }
             solver.close_proof_trace();
             record_->end();
         }

@@ -43,6 +43,8 @@ struct Session {
 // Never destroyed, since solvers may be given up while the process exits.
 auto &recorded = *new std::map<PicoSAT *, std::unique_ptr<Session>>;
 auto &guard = *new std::mutex;
+[[maybe_unused]] const int is_held_over_forks =
+    pthread_atfork([] { guard.lock(); }, [] { guard.unlock(); }, [] { guard.unlock(); });
 
 // The session of a solver, where it has a record.
 Session *of(PicoSAT *solver) {
@@ -93,6 +95,7 @@ void answered(PicoSAT *solver, Session &session, int status) {
 void spoil(PicoSAT *solver) {
     if (Session *session = of(solver)) {
         std::fputs("a session with contexts is not recorded\n", stderr);
+        session->record->is_written();
         session->record = nullptr;
     }
 }
@@ -110,13 +113,15 @@ PicoSAT *picosat_minit(void *state, void *(*get)(void *, size_t), void *(*resize
 }
 
 void picosat_reset(PicoSAT *solver) {
-    if (Session *session = of(solver)) {
+    Session *session = of(solver);
+    if (session && session->record->is_own()) {
         session->drain();
         session->record->end();
     }
     REAL(picosat_reset, void, PicoSAT *)(solver);
-    std::lock_guard<std::mutex> held(guard);
-    recorded.erase(solver);
+    std::unique_lock<std::mutex> held(guard);
+    auto ended = recorded.extract(solver);
+    held.unlock();
 }
 
 int picosat_add(PicoSAT *solver, int literal) {

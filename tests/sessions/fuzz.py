@@ -3,8 +3,8 @@
 
 fuzz.py SESSIONS FROM TO
 
-A session of seed FROM to TO - 1 is right, and all its answers have to be shown; then it is damaged, in the interaction or in
-the proof, and whatever is shown has to be true of all assignments.
+A session of seed FROM to TO - 1 is right, and all its answers have to be shown, except for those whose conclusion is left out;
+then it is damaged, in the interaction or in the proof, and whatever is shown has to be true of all assignments.
 """
 
 import itertools
@@ -51,6 +51,7 @@ class Maker:
         self.random, self.top = random.Random(seed), 2 + seed % 5
         self.all, self.clauses, self.lemmas, self.next = assignments(self.top), {}, [], 1
         self.said, self.plain, self.hinted = ["p icnf"], ["p idrup"], ["p lidrup"]
+        self.asked, self.silent = 0, set()
         for _ in range(self.random.randint(3, 14)):
             for _ in range(self.random.randint(0, 7)):
                 self.give()
@@ -94,6 +95,7 @@ class Maker:
 
     def ask(self):
         assumed = self.literals(4)
+        self.asked += 1
         found = [it for it in self.all if it.issuperset(assumed)]
         status = "UNKNOWN" if self.random.random() < 0.1 else "SATISFIABLE" if found else "UNSATISFIABLE"
         self.put(*[text("q", assumed)] * 3)
@@ -105,15 +107,37 @@ class Maker:
             self.refute(core, [])
             self.put(*[f"s {status}"] * 3)
             told = self.random.choice((core, assumed, None))
-            hints = propagated(self.clauses, core)
-            self.put(None if told is None else text("f", told), text("u", core), text("u", core, hints))
+            self.put(None if told is None else text("f", told), None, None)
+            self.conclude(core, propagated(self.clauses, core))
         else:
             self.put(*[f"s {status}"] * 3)
         if status == "SATISFIABLE":
             model = sorted(self.random.choice(found), key=abs)
             told = self.random.sample(model, self.random.randint(0, self.top))
-            self.put(text("v", told) if told else None, *[text("m", model)] * 2)
+            self.put(text("v", told) if told else None, None, None)
+            if not self.is_silent():
+                self.put(None, *[text("m", model)] * 2)
+        elif status == "UNKNOWN" and self.random.random() < 0.5:
+            self.put(None, *[text("e", self.literals(4))] * 2)
         self.forget()
+
+    def is_silent(self):
+        """Whether this query gets no conclusion."""
+        if self.random.random() < 0.1:
+            self.silent.add(self.asked)
+        return self.asked in self.silent
+
+    def conclude(self, core, hints):
+        """The core; or several conclusions, the core among them, the others with a literal that was not assumed."""
+        if self.is_silent():
+            return
+        cores = [core]
+        if self.random.random() < 0.2:
+            cores += [[*core, self.top + 1]] * self.random.randint(1, 2)
+            self.random.shuffle(cores)
+            self.put(None, *[f"U {len(cores)}"] * 2)
+        for it in cores:
+            self.put(None, text("u", it), text("u", it, hints))
 
     def forget(self):
         """Some lemmas go; clauses that were given are weakened."""
@@ -149,7 +173,7 @@ def damaged(chance, lines):
         elif what == 5:
             words[place] = str(int(words[place]) + chance.choice((-1, 1)))
         else:
-            words[0] = chance.choice("ildwqmuvf")
+            words[0] = chance.choice("ildwqmuvfeU")
         lines[at] = " ".join(words)
     return lines
 
@@ -161,7 +185,7 @@ def turned(chance, said, proof):
     if not models:
         return said, proof
     at = chance.choice(models)
-    place = [it for it, line in enumerate(said) if line == "s SATISFIABLE"][sum(line[0] == "m" for line in proof[:at])] + 1
+    place = [it for it, line in enumerate(said) if line == "s SATISFIABLE"][proof[:at].count("s SATISFIABLE") - 1] + 1
     literal = chance.choice(proof[at].split()[1:-1])
     which = chance.randrange(3)
 
@@ -214,8 +238,8 @@ class Tried:
         made = Maker(seed)
         for proof in (made.plain, made.hinted):
             status, printed = self.check(made.said, proof)
-            if status:
-                self.report(seed, "a right session is not shown", made.said, proof, printed)
+            if {int(it) for it in re.findall(r"^query (\d+) ", printed, re.M)} != made.silent or status != bool(made.silent):
+                self.report(seed, "of a right session other answers are shown", made.said, proof, printed)
         chance = random.Random(-seed)
         shown = 0
         for proof in (made.plain, made.hinted):
