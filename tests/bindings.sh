@@ -119,10 +119,22 @@ if has cargo && has pkg-config; then
   fi
 fi
 
-# Python: the package as it stands, and as pip installs it in an environment of its own, without a network
+# Python: the package as it stands, also by the programs that were built, and as pip installs it in an environment of its own, without
+# a network
+mkdir "$work/bin"
+ln -s "$top/tools/checked" "$work/bin/"
+for program in drat_check lrat_check model_check; do
+  if [[ -x $top/crates/${program}_main/out/${program}_main ]]; then
+    ln -s "$top/crates/${program}_main/out/${program}_main" "$work/bin/$program"
+  else
+    echo "$program is not built: not tried"
+  fi
+done
 if has python3; then
-  CEFINDRATO_LIBRARY=$prefix/lib/libcefindrato.so PYTHONPATH=$top/bindings/python PYTHONDONTWRITEBYTECODE=1 \
-    python3 "$own/test.py" "$cnf" "$proof"
+  export PYTHONDONTWRITEBYTECODE=1
+  CEFINDRATO_LIBRARY=$prefix/lib/libcefindrato.so PYTHONPATH=$top/bindings/python python3 "$own/test.py" "$cnf" "$proof"
+  CEFINDRATO_LIBRARY=$prefix/lib/libcefindrato.so PYTHONPATH=$top/bindings/python PATH=$work/bin:$PATH \
+    python3 "$top/tests/release/wheel.py" "$top/tests/data"
   if has pkg-config && python3 -m venv "$work/venv" > "$work/said" 2>&1; then
     cp -R "$top/bindings/python" "$work/package"
     quiet "$work/venv/bin/pip" install -q --no-index --no-build-isolation --disable-pip-version-check "$work/package"

@@ -82,7 +82,7 @@ static inline const uint8_t *cefindrato_bytes(const void *given) {
     return given ? (const uint8_t *)given : nothing;
 }
 
-/* Checks an LRAT text against a DIMACS text. `text` gets a fault's text, as much of it as text_size bytes hold. */
+/* Checks an LRAT proof, text or binary, against a DIMACS text. `text` gets a fault's text, as much of it as text_size bytes hold. */
 static inline cefindrato_answer cefindrato_check(const void *cnf, size_t cnf_len, const void *proof, size_t proof_len,
                                                  char *text, size_t text_size) {
     uint8_t no_room[1];

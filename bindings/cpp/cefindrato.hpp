@@ -46,7 +46,7 @@ struct Room {
 
 } // namespace detail
 
-// Checks an LRAT text against a DIMACS text. Where `why` is given it gets the text of a fault, and nothing otherwise.
+// Checks an LRAT proof, text or binary, against a DIMACS text. Where `why` is given it gets the text of a fault, and nothing otherwise.
 inline Answer check(std::string_view cnf, std::string_view proof, std::string *why = nullptr) {
     char room[512] = {};
     const cefindrato_answer answer =

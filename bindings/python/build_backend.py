@@ -18,6 +18,7 @@ METADATA = """Metadata-Version: 2.1
 Name: cefindrato
 Version: {version}
 Summary: Proved checkers of SAT solvers' proofs and answers
+Maintainer: Cefindrato maintainers
 License: MIT OR Apache-2.0
 Requires-Python: >=3.8
 """

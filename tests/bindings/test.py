@@ -92,7 +92,34 @@ def of_command(cnf_name, proof_name):
         told = "formula: line 1: clause 4 has no literal of the answer\n"
         assert ran("model", four, model) == (3, "s NOT VERIFIED\n", told)
         assert ran("model", folder + "/none", model)[0] == 2 and ran("lrat", four)[0] == 2
-        assert ran("--version")[:2] == (0, f"cefindrato {cefindrato.__version__}\n")
+        for flag in "--version", "-V":
+            assert ran(flag)[:2] == (0, f"cefindrato {cefindrato.__version__}\n")
+        of_outputs(ran, folder, four, drat)
+
+
+def of_outputs(ran, folder, four, drat):
+    """No file that is read is written over, whatever name is given for it, nor one output by the other."""
+    inside, linked, hard = (os.path.join(folder, name) for name in ("inside", "linked", "hard"))
+    os.mkdir(inside)
+    before = {}
+    for name in four, drat:
+        with open(name, "rb") as file:
+            before[name] = file.read()
+    for name in before:
+        for link, make in (linked, os.symlink), (hard, os.link):
+            if os.path.lexists(link):
+                os.unlink(link)
+            make(name, link)
+        for other in name, f"{inside}/../{os.path.basename(name)}", linked, hard:
+            for flag in "--lrat", "--core":
+                status, out, err = ran("drat", four, drat, flag, other)
+                assert (status, out) == (2, "") and f"cannot write {other}: {name} is the same file" in err, err
+    status, out, err = ran("drat", four, drat, "--lrat", inside + "/one", "--core", inside + "/one")
+    assert (status, out, os.listdir(inside)) == (2, "", []) and "is the same file" in err, err
+    assert ran("drat", four, drat, "--lrat", "-")[:2] == (2, "")
+    for name, text in before.items():
+        with open(name, "rb") as file:
+            assert file.read() == text, name
 
 
 def main(cnf_name, proof_name):

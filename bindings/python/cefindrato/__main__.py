@@ -8,7 +8,9 @@ The verdict's line and the exit status are those of `lrat_check`, `drat_check` a
 """
 
 import argparse
+import os
 import sys
+import tempfile
 
 from . import Fault, OutOfMemory, __version__, check, check_drat, check_model
 
@@ -18,15 +20,38 @@ def read(name):
         return file.read()
 
 
+def is_one_file(name, other):
+    if os.path.exists(name) and os.path.exists(other):
+        return os.path.samefile(name, other)
+    return os.path.realpath(name) == os.path.realpath(other)
+
+
+def refusal_of(name, others):
+    """Why an output may not be written, or nothing: by any name it may be none of the files that are read, nor another output."""
+    if name == "-":
+        return "- is standard input, and no output"
+    return next((f"{other} is the same file" for other in others if is_one_file(name, other)), None)
+
+
 def write(name, text):
-    if name is not None and text is not None:
-        with open(name, "wb") as file:
+    """Writes a file that has its name only once it is whole; a device or a pipe is written in place."""
+    if name is None or text is None:
+        return
+    place = os.path.realpath(name)
+    if os.path.exists(place) and not os.path.isfile(place):
+        with open(place, "wb") as file:
             file.write(text)
+        return
+    with tempfile.TemporaryDirectory(prefix=".cefindrato-", dir=os.path.dirname(place)) as folder:
+        new = os.path.join(folder, "new")
+        with open(new, "wb") as file:
+            file.write(text)
+        os.replace(new, place)
 
 
 def arguments():
     parser = argparse.ArgumentParser(prog="python -m cefindrato", description="Checks files by the library, as the programs do.")
-    parser.add_argument("--version", action="version", version=f"cefindrato {__version__}")
+    parser.add_argument("-V", "--version", action="version", version=f"cefindrato {__version__}")
     kinds = parser.add_subparsers(dest="kind", required=True)
     for kind, second in ("lrat", "PROOF"), ("drat", "PROOF"), ("model", "ANSWER"):
         one = kinds.add_parser(kind)
@@ -39,7 +64,13 @@ def arguments():
             formats.add_argument("--lpr", dest="format", action="store_const", const="lpr")
             one.add_argument("--lrat", metavar="FILE", help="writes the proof as LRAT text")
             one.add_argument("--core", metavar="FILE", help="writes the clauses that the proof uses")
-    return parser.parse_args()
+    words = parser.parse_args()
+    others = [words.formula, words.second]
+    for name in filter(None, (getattr(words, "lrat", None), getattr(words, "core", None))):
+        if why := refusal_of(name, others):
+            parser.error(f"cannot write {name}: {why}")
+        others.append(name)
+    return words
 
 
 def verified(words, formula, second):

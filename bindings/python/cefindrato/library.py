@@ -132,6 +132,8 @@ def check_drat(cnf: Text, proof: Text, format: str = "told", lrat: bool = False,
     wanted of `lrat`, the proof as LRAT text, and `core`, the clauses that it uses as DIMACS text. LRAT text that is longer than
     eight times the proof and a megabyte has the proof checked twice.
     """
+    if format not in FORMATS:
+        raise ValueError(f"no format of a proof: {format!r}; there are {', '.join(FORMATS)}")
     options = _Options(FORMATS[format], lrat, core)
     room = ctypes.create_string_buffer(_ROOM)
     with _held(cnf) as formula, _held(proof) as steps:
