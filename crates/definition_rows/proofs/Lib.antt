@@ -1,0 +1,6 @@
+mod AnswerFacts
+mod ChainFacts
+mod CubeFacts
+mod FoldFacts
+mod FormulaFacts
+mod ModelFacts

@@ -1,0 +1,6 @@
+pub mod AnswerRows
+pub mod ChainRows
+pub mod CubeRows
+pub mod FoldRows
+pub mod FormulaRows
+pub mod ModelRows
