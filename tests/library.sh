@@ -1,7 +1,7 @@
 #!/usr/bin/env bash
 # Makes what the gate does not: the archive of the library for C, and the module of a program.
 #
-# Both are made in a copy, over the libraries that the gate or an earlier run has left, and what that leaves is taken over. Where that
+# Both are made in a copy, over the libraries that `./test.sh` or an earlier run has left, and what that leaves is taken over. Where that
 # can't be done, it says why, and the scripts that want them make them.
 set -euo pipefail
 cd "$(dirname "$0")/.."
@@ -11,7 +11,6 @@ trap 'rm -rf "$work"' EXIT
 mkdir "$work/copy"
 tar -c --exclude=./.git --exclude=out --exclude=target . | tar -x -C "$work/copy"
 find crates -mindepth 3 -maxdepth 3 -path '*/out/rlib' -exec cp -a --parents {} "$work/copy" \;
-python3 -B tests/wrong_bodies/toolchain.py "$work/copy"
 crate=$(realpath --relative-to . "$(dirname "$(dirname "$(bindings/build.sh --archive)")")")
 (cd "$work/copy/$crate" && rt lib && ../../tools/portable.sh --module lrat_check) > "$work/said" 2>&1 ||
   echo "not all was built over the gate's libraries: $(tail -n 3 "$work/said")"
@@ -24,9 +23,12 @@ for kept in "$work"/copy/crates/*/out/; do
   if [[ $crate != *_main ]]; then
     mkdir -p "crates/$crate/out"
     for made in "$kept"*; do
-      rm -rf "crates/$crate/out/${made##*/}"
+      # (a library that was copied hence stays: other scripts read it)
+      if ! cmp -s "$made/stamp" "crates/$crate/out/${made##*/}/stamp"; then
+        rm -rf "crates/$crate/out/${made##*/}"
+        cp -a "$made" "crates/$crate/out/"
+      fi
     done
-    cp -a "$kept." "crates/$crate/out/"
   elif [[ -f $kept$crate.bc ]]; then
     # (the program is the gate's; a gate that took it from an earlier run has left no object of it)
     cp "$kept$crate".bc* "crates/$crate/out/"

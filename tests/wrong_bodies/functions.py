@@ -4,7 +4,7 @@ import os
 import re
 
 FUNCTION = re.compile(r"^( *)(?:pub(?:\([^)]*\))? )?(?:const )?(?:unsafe )?fn (\w+)")
-BLOCK = re.compile(r"^(?:unsafe )?(impl|trait|mod)\b(.*)")
+BLOCK = re.compile(r"^(?:pub(?:\([^)]*\))? )?(?:unsafe )?(impl|trait|mod)\b(.*)")
 
 
 class Function:
@@ -16,16 +16,44 @@ class Function:
         self.end = next((n for n in range(at, len(lines)) if lines[n] == f"{indent}}}"), None)
         self.opens = None
         if self.end is not None:
-            self.opens = next((n for n in range(at, self.end + 1) if self.opens_at(lines, n, indent)), None)
+            self.opens = self.find_body(lines, indent)
         self.first = at
         while self.first and re.match(rf"{indent}(#\[|//)", lines[self.first - 1]):
             self.first -= 1
+
+    def find_body(self, lines, indent):
+        """The line with which its body begins; none of a trait's method without a body, which ends with a semicolon."""
+        depth = 0
+        for n in range(self.at, self.end + 1):
+            if self.opens_at(lines, n, indent):
+                return n
+            depth += len(re.findall(r"[(\[{]", lines[n])) - len(re.findall(r"[)\]}]", lines[n]))
+            if depth == 0 and lines[n].endswith(";"):
+                return None
+        return None
 
     def opens_at(self, lines, n, indent):
         """Whether the body begins with this line: the brace alone, or at the end of the signature."""
         line = lines[n]
         in_one = n == self.at and line.endswith("{")
         return line == f"{indent}{{" or in_one or bool(re.match(rf"{indent}\).*\{{$", line))
+
+    def is_of_a_trait(self):
+        kind, head = self.block or ("", "")
+        return kind == "trait" or kind == "impl" and bool(re.search(r"\bfor\b", head.split("{")[0]))
+
+    def is_plain(self):
+        """Whether it is a function of a file, or a method of a type alone."""
+        return not self.is_of_a_trait() and (not self.block or self.block[0] != "mod")
+
+    def place(self, file):
+        """Where in `proofs/` its proof is: by its module and its type."""
+        module, owner = re.sub(r"^src/|(/mod)?\.rt$", "", file), None
+        if self.block:
+            head = self.block[1].split("{")[0].split("where")[0]
+            head = re.sub(r"^\s*<(?:[^<>]|<[^<>]*>)*>", "", head).strip()
+            owner = re.match(r"[\w:]+", head)[0].split("::")[-1]
+        return "/".join(it for it in ("" if module in ("lib", "main") else module, owner, self.name) if it)
 
     def calls_itself(self, lines):
         body = "\n".join(lines[self.opens + 1 : self.end])
@@ -95,9 +123,8 @@ class WrongBody:
         if len(holders) != 1 or None in holders:
             raise NoCopy("it is not in the body of one function")
         function = holders.pop()
-        kind, head = function.block or ("", "")
-        if kind in ("trait", "mod") or kind == "impl" and re.search(r"\bfor\b", head.split("{")[0]):
-            raise NoCopy(f"its function is a trait's method or stands in a {kind}")
+        if not function.is_plain():
+            raise NoCopy(f"its function is a trait's method or stands in a {function.block[0]}")
         if function.calls_itself(lines):
             raise NoCopy("its function calls itself")
         whole = "\n".join(lines[function.first : function.end + 1])
@@ -133,12 +160,5 @@ class WrongBody:
 
     def proofs(self, crate):
         """The folder with what is written of the function's proof, if it has one."""
-        module = re.sub(r"^src/|(/mod)?\.rt$", "", self.file)
-        owner = None
-        if self.function.block:
-            head = self.function.block[1].split("{")[0].split("where")[0]
-            head = re.sub(r"^\s*<(?:[^<>]|<[^<>]*>)*>", "", head).strip()
-            owner = re.match(r"[\w:]+", head)[0].split("::")[-1]
-        parts = [crate, "proofs", "" if module in ("lib", "main") else module, owner, self.function.name]
-        path = "/".join(it for it in parts if it)
+        path = f"{crate}/proofs/{self.function.place(self.file)}"
         return path if os.path.isdir(path) else None

@@ -25,6 +25,18 @@ def is_refused(wrong):
     return bool(re.match("not proved|no proof", said)) and not re.search("it calls|it passes|a call of", said)
 
 
+def is_refused_past_holes(wrong):
+    """Where the functions that it calls are not proved, but taken by their contracts: a goal or an answer of its own has to be refused."""
+    return bool(re.match("not proved|no proof", wrong.said or "") and (open_goals(wrong) or wrong.faults))
+
+
+def said_past_holes(wrong):
+    """What the check says of a copy among holes, without that it calls one: `proved` where nothing of its own is open or refused."""
+    wrong.said = re.sub(r"(^|; )it calls .*?, which (is|are) not proved", "", wrong.said or "")
+    says_nothing = re.match("proved|no holes|depends on a hole|not proved|no proof", wrong.said)
+    return "proved" if says_nothing and not open_goals(wrong) and not wrong.faults else wrong.said
+
+
 def faults(told, wrong):
     """What the check says against the written proof of this function."""
     return [words for name, words in FAULT.findall(told) if name == wrong.name.split("::")[-1]]

@@ -7,7 +7,6 @@ by which `rt` knows a library that is built.
     toolchain.py TOP    has `rt` take the libraries that its gate has left in the repository TOP
 """
 
-import functools
 import importlib.machinery
 import importlib.util
 import os
@@ -26,8 +25,20 @@ def load():
     return found
 
 
+def stamp_once(stamp, made):
+    """A stamp of a crate is made of those of all below it, so each is kept."""
+
+    def kept(crate):
+        if crate.folder not in made:
+            made[crate.folder] = stamp(crate)
+        return made[crate.folder]
+
+    return kept
+
+
 rt = load()
 rtlib = rt.rtlib
+rtlib.Crate.stamp = stamp_once(rtlib.Crate.stamp, {})
 
 
 def check_crate(crate):
@@ -52,9 +63,18 @@ def copy_crate(crate, room):
 
 
 def check_copies(crate, names, room):
-    """Checks these functions alone, and answers what the check prints."""
+    """Checks these functions alone, over what was kept, and answers what the check prints."""
+    return check_alone(crate, names, room, "--incremental", f"{room}/over")
+
+
+def check_past_holes(crate, names, room):
+    """Checks these functions alone, over nothing; a function whose proof is a hole is taken by its contract."""
+    return check_alone(crate, names, room, "--allow-holes")
+
+
+def check_alone(crate, names, room, *flags):
     of = rtlib.Crate(crate, rtlib.root_above(crate), {})
-    words = [rtlib.RATTLE, "check", *of.words(["--jobs", "1"], keeps=False), "--incremental", f"{room}/over"]
+    words = [rtlib.RATTLE, "check", *of.words(["--jobs", "1"], keeps=False), *flags]
     for name in names:
         words += ["--only", name]
     ran = subprocess.run(
@@ -69,24 +89,33 @@ def check_copies(crate, names, room):
     return ran.stdout
 
 
+def is_built(crate):
+    """Whether the crate's library is there, and of what its sources are."""
+    stamp = f"{crate.folder}/out/rlib/stamp"
+    if not os.path.isfile(stamp):
+        return False
+    with open(stamp, encoding="utf-8") as file:
+        return file.read() == crate.stamp()
+
+
+def build_below(crate):
+    """Builds the libraries below the crate that are not built."""
+    for dep in rtlib.Crate(crate, rtlib.root_above(crate), {}).below():
+        if not is_built(dep):
+            subprocess.run(["rt", "lib", "--jobs", "1"], cwd=dep.folder, stdout=subprocess.DEVNULL)
+
+
 def stamp_libraries(top):
     """Gives libraries that the gate has left the stamp that `rt lib` would have given them. Where there are some of an earlier run
     too, none gets it: a library of the gate fits only those over which it was built."""
-    crates = {it.folder: it for it in rtlib.crates_below(top)}
-    if any(os.path.exists(f"{it}/out/rlib/stamp") for it in crates):
+    crates = rtlib.crates_below(top)
+    if any(os.path.exists(f"{it.folder}/out/rlib/stamp") for it in crates):
         return
-
-    @functools.cache
-    def stamp(folder):
-        return of_one(crates[folder])
-
-    of_one = rtlib.Crate.stamp
-    rtlib.Crate.stamp = lambda crate: stamp(crate.folder)
-    for folder in crates:
-        place = f"{folder}/out/rlib"
-        if os.path.isdir(place):
+    for crate in crates:
+        place = f"{crate.folder}/out/rlib"
+        if os.path.isdir(f"{place}/{crate.name}.rlib"):
             with open(f"{place}/stamp", "w", encoding="utf-8") as to:
-                to.write(stamp(folder))
+                to.write(crate.stamp())
 
 
 if __name__ == "__main__":
