@@ -1,26 +1,14 @@
-//! Calls over the parts of a checker as tests, by the paths of their modules: what is recorded
-//! after them, and that calls of the store reach their Ok.
+//! Calls of functions over the parts of a checker as tests, by the paths of their modules: what
+//! they answer and record. Those over all parts at once are scripts of `check_vectors`.
 //!
 //! They go over several crates, and stand apart so that nothing is proved a second time with them.
 #![tactic(auto)]
 
 #[cfg(test)]
-mod buckets;
-#[cfg(test)]
-mod call;
-#[cfg(test)]
 mod copies;
 #[cfg(test)]
 mod counts;
 #[cfg(test)]
-mod crowds;
-#[cfg(test)]
-mod exhausted;
-#[cfg(test)]
-mod ids;
-#[cfg(test)]
 mod parts;
-#[cfg(test)]
-mod rows;
 #[cfg(test)]
 mod variables;

@@ -1,7 +1,7 @@
 //! Functions over parts, by the paths of their modules.
 ghost use Rattle.checker_steps.specs.Context.{ContextInvariant};
 
-use check_calls::calls::lits;
+use crate::variables::variables;
 use checker_parts::processor::ProofProcessor;
 use checker_parts::step::CheckedProofStep;
 use example_processors::boxes::Tally;
@@ -35,7 +35,14 @@ const VALUES: [(i64, Option<(bool, u64)>); 4] = [
     (3, None),
 ];
 
-pub fn units(rt: &impl Abort, alloc: Global) -> Result<(), Fail> {
+#[test]
+fn parts(rt: HostRuntime) -> Result<(), Fail> {
+    units(&rt, rt.alloc())?;
+    delivery(&rt, rt.alloc())?;
+    variables(&rt, rt.alloc())
+}
+
+fn units(rt: &impl Abort, alloc: Global) -> Result<(), Fail> {
     let mut ctx = Context::new(alloc);
     holds_unit(rt, alloc, &mut ctx)
 }
@@ -51,8 +58,7 @@ fn holds_unit(rt: &impl Abort, alloc: Global, ctx: &mut Context) -> Result<(), F
 fn adds_unit(alloc: Global, ctx: &mut Context) -> Result<(), Fail>
     requires { ContextInvariant ctx.old }
 {
-    let clause = lits(alloc, "-2")?;
-    match add_clause(alloc, ctx, &clause) {
+    match add_clause(alloc, ctx, &[lit(-2)?]) {
         Ok(()) => Ok(()),
         Err(_) => Err("the clause is refused".into()),
     }
@@ -87,7 +93,7 @@ fn store(ctx: &mut Context, unit: Lit) -> Result<(u64, StoreClauseResult), Fail>
     }
 }
 
-pub fn delivery(rt: &impl Abort, alloc: Global) -> Result<(), Fail> {
+fn delivery(rt: &impl Abort, alloc: Global) -> Result<(), Fail> {
     let tally: Box<dyn ProofProcessor> = Box::new(alloc, Tally::new(alloc))?;
     let mut ctx = Context::new(alloc);
     delivers(rt, alloc, &mut ctx, tally)
@@ -102,8 +108,7 @@ fn delivers(
     if ctx.processing.processors.push(tally).is_err() {
         return Err("no room for a box".into());
     }
-    let clause = lits(alloc, "1 2")?;
-    is_told(rt, ctx, &clause)
+    is_told(rt, ctx, &[lit(1)?, lit(2)?])
 }
 
 fn is_told(rt: &impl Abort, ctx: &mut Context, clause: &[Lit]) -> Result<(), Fail> {

@@ -1,7 +1,6 @@
 //! The calls of the module `variables`, over the parts of a checker.
 ghost use Rattle.std.specs.Prelude.{◌≡◌, length, OnOk};
 
-use check_calls::calls::var;
 use checker_parts::error::{CheckCause, StepFault};
 use sat_formula::Var;
 use std::alloc::Global;
@@ -24,30 +23,35 @@ enum Call {
 
 /// A call, its variable, the answer, how many variables are known then, and whether the variable is
 /// named as the first one. It has no name otherwise.
-type Step = (Call, &'static str, Result<(), StepFault>, usize, bool);
+type Step = (Call, i64, Result<(), StepFault>, usize, bool);
 
 /// Calls over new parts in turn, up to one that is refused.
 const ROWS: [&[Step]; 3] = [
     // Variables become known.
     &[
-        (Call::Know, "3", Ok(()), 3, false),
-        (Call::Know, "1", Ok(()), 3, false),
+        (Call::Know, 3, Ok(()), 3, false),
+        (Call::Know, 1, Ok(()), 3, false),
     ],
     // Names come and go.
     &[
-        (Call::Name, "2", Ok(()), 2, true),
-        (Call::Hide, "2", Ok(()), 2, false),
+        (Call::Name, 2, Ok(()), 2, true),
+        (Call::Hide, 2, Ok(()), 2, false),
         (
             Call::Sample,
-            "2",
+            2,
             Err(StepFault::Refused(CheckCause::NotSampling)),
             2,
             false,
         ),
     ],
     // New variables are samples.
-    &[(Call::Sample, "4", Ok(()), 4, false)],
+    &[(Call::Sample, 4, Ok(()), 4, false)],
 ];
+
+/// The variable of a DIMACS number.
+fn var(number: i64) -> Result<Var, Fail> {
+    Ok(Var::from_dimacs(number).ok_or("no variable")?)
+}
 
 fn make(ctx: &mut Context, call: &Call, var: Var, first: Var) -> Result<(), StepFault>
     requires { length ctx.old.clauses.unit_clauses ≡ length ctx.old.variables }
@@ -75,9 +79,9 @@ fn make(ctx: &mut Context, call: &Call, var: Var, first: Var) -> Result<(), Step
 fn play(rt: &impl Abort, ctx: &mut Context, steps: &[Step]) -> Result<(), Fail>
     requires { length ctx.old.clauses.unit_clauses ≡ length ctx.old.variables }
 {
-    let first = var("1")?;
+    let first = var(1)?;
     for (call, number, expected, count, is_named) in steps {
-        let var = var(number)?;
+        let var = var(*number)?;
         let answer = make(ctx, call, var, first);
         assert_eq!(rt; answer, *expected, "{number}");
         assert_eq!(rt;

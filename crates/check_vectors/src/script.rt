@@ -1,41 +1,39 @@
-//! Scripts: calls with their answers, and below each call the steps that it tells.
+//! Scripts: calls with their results, and below each call the steps that it delivers.
 //!
 //! A line is
 //!
-//! - `new`: what follows is called of a new checker with boxes;
+//! - `new`: what follows is called of a new checker with processors and transcripts;
 //! - `bare`: what follows is called of a new checker without any;
+//! - `parts ID STEPS`: what follows are calls of [`crate::parts`], over new parts whose next id is
+//!   this and that have counted this many steps;
 //! - `here`, `again`: what follows `again` is called of a new checker that took the calls up to
 //!   `here`;
-//! - a call, as in [`check_calls::calls`];
-//! - `formula CLAUSES`: adds a formula, each of whose clauses ends with a bar; where it is
-//!   accepted, the answer is how many clauses and variables it has;
-//! - `given CLAUSES`: input clauses, which bars divide. They are accepted, and nothing more is said
-//!   of them;
-//! - `+ STEP`, `~ STEP`: processors, or transcripts, are told this step by the call above;
+//! - a call, as in [`crate::calls`], with its answer behind ` > ` where it isn't `Ok`;
+//! - `processor KINDS`, `transcript KINDS`: registers processors and transcripts of a bare checker:
+//!   see [`crate::registered`];
+//! - `processors`, `transcripts`: what these show, each with a bar for the end of a line. A
+//!   slash stands between two of them, and a dash for nothing;
+//! - `+ STEP`, `~ STEP`: the processors or the transcripts of `new` get this step from the call
+//!   above; of `given` nothing is said;
 //! - `# WORDS`: why the script goes on so.
-use check_calls::accepted::{given, register, register_transcript};
-use check_calls::answers::answer;
-use check_calls::calls::{call_of, first_word, lits, make, write_line};
-use checker_parts::processor::{ProofProcessor, ProofTranscriptProcessor};
-use example_processors::boxes::{Faulty, StepList, Tally};
-use sat_formula::CnfFormula;
+use crate::calls::make;
+use crate::listeners::{Processor, Transcript};
+use crate::parts;
+use crate::registered::{
+    Checker, add_listeners, processors_shown, register, steps_listed, transcript_listed,
+    transcripts_shown,
+};
+use crate::words::first_word;
 use std::alloc::Global;
-use std::process::Abort;
 use std::test::Fail;
-use varisat_checker::Checker;
 
-/// Plays a script with large reads and with reads of one byte: all that is seen stands in it, and
-/// nothing else.
-pub fn agrees(rt: &impl Abort, alloc: Global, script: &str) -> Result<(), Fail> {
-    for size in [usize::MAX, 1] {
-        let seen = played(alloc, script, size)?;
-        assert_eq!(rt; seen.as_str(), script);
-    }
-    Ok(())
-}
-
-/// The script, with what is seen of its calls in place of what it expects.
-fn played(alloc: Global, script: &str, size: usize) -> Result<String, Fail> {
+/// Returns the script, with the results of its calls in place of those that it expects; each read
+/// returns this many bytes.
+///
+/// # Errors
+///
+/// If a line is no call, or there is no memory.
+pub fn played(alloc: Global, script: &str, size: usize) -> Result<String, Fail> {
     let mut seen = String::new(alloc);
     let mut calls = String::new(alloc);
     let mut calls_here = String::new(alloc);
@@ -47,13 +45,13 @@ fn played(alloc: Global, script: &str, size: usize) -> Result<String, Fail> {
         if is_no_call(line) {
             writeln!(seen, "{line}")?;
         }
-        match line {
+        match first_word(line).0 {
             "here" => calls_here = calls.clone()?,
             "again" => {
                 calls = calls_here.clone()?;
                 before = Seen::of(alloc, &calls, size)?;
             }
-            "new" | "bare" => {
+            "new" | "bare" | "parts" => {
                 calls.clear();
                 before = Seen::nothing(alloc);
             }
@@ -70,15 +68,45 @@ fn played(alloc: Global, script: &str, size: usize) -> Result<String, Fail> {
     Ok(seen)
 }
 
-/// Whether nothing is called by this line.
+/// Returns whether the line makes no call.
 fn is_no_call(line: &str) -> bool {
     line.is_empty() || line.starts_with('#') || line == "here" || line == "again"
 }
 
-/// What is seen of a list of calls.
+/// Returns the call of a line, without the result after it.
+fn call_of(line: &str) -> &str {
+    match line.split_once(" > ") {
+        Some((call, _)) => call,
+        None => line,
+    }
+}
+
+/// Returns how many calls a script has, each with a result.
+pub fn call_count(script: &str) -> usize {
+    let is_call = |line: &&str| {
+        !is_no_call(line) && !line.starts_with('+') && !line.starts_with('~')
+    };
+    script.lines().filter(is_call).count()
+}
+
+/// Returns the number of the first line that differs, from 1 on, the line, and what was played in
+/// its place; `None` if there is none.
+pub fn first_difference<'a>(script: &'a str, seen: &'a str) -> Option<(usize, &'a str, &'a str)> {
+    let (mut expected, mut seen) = (script.lines(), seen.lines());
+    for number in 1..usize::MAX {
+        match (expected.next(), seen.next()) {
+            (None, None) => return None,
+            (line, other) if line == other => {}
+            (line, other) => return Some((number, line.unwrap_or(""), other.unwrap_or(""))),
+        }
+    }
+    None
+}
+
+/// The results of a list of calls.
 #[derive(Drop)]
 struct Seen {
-    /// The answer to the last one.
+    /// The result of the last one.
     answer: String,
     /// The lists of a processor and of a transcript.
     steps: String,
@@ -86,6 +114,7 @@ struct Seen {
 }
 
 impl Seen {
+    /// Returns empty results.
     fn nothing(alloc: Global) -> Seen {
         Seen {
             answer: String::new(alloc),
@@ -94,23 +123,75 @@ impl Seen {
         }
     }
 
-    /// Makes the calls of these lines of a new checker.
+    /// Makes the calls of these lines, of which the first one selects the checker, and returns
+    /// their results.
     fn of(alloc: Global, calls: &str, size: usize) -> Result<Seen, Fail> {
+        match first_word(calls.lines().next().unwrap_or("")).0 {
+            "parts" => Ok(Seen {
+                answer: parts::last_answer(alloc, calls)?,
+                ..Seen::nothing(alloc)
+            }),
+            "bare" => Seen::of_bare(alloc, calls, size),
+            _ => Seen::of_new(alloc, calls, size),
+        }
+    }
+
+    /// Makes calls of a new checker without processors and transcripts.
+    fn of_bare(alloc: Global, calls: &str, size: usize) -> Result<Seen, Fail> {
         let mut checker = Checker::new(alloc);
-        let answer = last_answer(alloc, &mut checker, calls, size)?;
+        let answer = last_answer(alloc, &mut checker, calls, size);
         let (processors, transcripts) = checker.into_processors();
-        let steps = steps_listed(alloc, &processors)?;
-        let transcript = transcript_listed(alloc, &transcripts)?;
+        Seen::with_shown(alloc, answer, calls, &processors, &transcripts)
+    }
+
+    /// Returns the result with the outputs of the listeners, if the last call asks for them.
+    fn with_shown(
+        alloc: Global,
+        answer: Result<String, Fail>,
+        calls: &str,
+        processors: &[Processor],
+        transcripts: &[Transcript],
+    ) -> Result<Seen, Fail> {
+        let answer = answer?;
+        let answer = match calls.lines().last() {
+            Some("processors") => processors_shown(alloc, processors)?,
+            Some("transcripts") => transcripts_shown(alloc, transcripts)?,
+            _ => answer,
+        };
         Ok(Seen {
             answer,
-            steps,
-            transcript,
+            ..Seen::nothing(alloc)
         })
     }
 
-    /// Writes the last call and what is seen of it, by what was seen before it.
+    /// Makes calls of a new checker with the processors and transcripts of the line `new`.
+    fn of_new(alloc: Global, calls: &str, size: usize) -> Result<Seen, Fail> {
+        let mut checker = Checker::new(alloc);
+        let answer = last_answer(alloc, &mut checker, calls, size);
+        let (processors, transcripts) = checker.into_processors();
+        Seen::with_lists(alloc, answer, &processors, &transcripts)
+    }
+
+    /// Returns the result with the lists of the processors and transcripts of the line `new`.
+    fn with_lists(
+        alloc: Global,
+        answer: Result<String, Fail>,
+        processors: &[Processor],
+        transcripts: &[Transcript],
+    ) -> Result<Seen, Fail> {
+        Ok(Seen {
+            answer: answer?,
+            steps: steps_listed(alloc, processors)?,
+            transcript: transcript_listed(alloc, transcripts)?,
+        })
+    }
+
+    /// Writes the last call and its results, by the results before it.
     fn write_since(&self, call: &str, before: &Seen, out: &mut String) -> Result<(), Fail> {
-        write_line(out, call, &self.answer)?;
+        match self.answer.as_str() {
+            "Ok" => writeln!(out, "{call}")?,
+            answer => writeln!(out, "{call} > {answer}")?,
+        }
         if first_word(call).0 != "given" {
             write_added(out, '+', &before.steps, &self.steps)?;
             write_added(out, '~', &before.transcript, &self.transcript)?;
@@ -119,7 +200,7 @@ impl Seen {
     }
 }
 
-/// Makes the calls of these lines, and gives the answer to the last one.
+/// Makes the calls of these lines, and returns the result of the last one.
 fn last_answer(
     alloc: Global,
     checker: &mut Checker,
@@ -133,34 +214,6 @@ fn last_answer(
     Ok(answer)
 }
 
-/// Registers three processors and two transcripts.
-fn register_boxes(alloc: Global, checker: &mut Checker) -> Result<(), Fail> {
-    register(checker, Box::new(alloc, StepList::new(alloc))?)?;
-    register(checker, Box::new(alloc, Faulty::after(u64::MAX))?)?;
-    register(checker, Box::new(alloc, Tally::new(alloc))?)?;
-    register_transcript(checker, Box::new(alloc, StepList::new(alloc))?)?;
-    register_transcript(checker, Box::new(alloc, Tally::new(alloc))?)
-}
-
-fn steps_listed(alloc: Global, processors: &[Box<dyn ProofProcessor>]) -> Result<String, Fail> {
-    match processors {
-        [] => Ok(String::new(alloc)),
-        [list, _, tally] => Ok(counted(list.output(), tally.output())?.to_string(alloc)?),
-        _ => Err("not these processors".into()),
-    }
-}
-
-fn transcript_listed(
-    alloc: Global,
-    transcripts: &[Box<dyn ProofTranscriptProcessor>],
-) -> Result<String, Fail> {
-    match transcripts {
-        [] => Ok(String::new(alloc)),
-        [list, tally] => Ok(counted(list.output(), tally.output())?.to_string(alloc)?),
-        _ => Err("not these transcripts".into()),
-    }
-}
-
 /// Writes the lines of a list that are new.
 fn write_added(out: &mut String, mark: char, before: &str, after: &str) -> Result<(), Fail> {
     let added = after
@@ -172,18 +225,7 @@ fn write_added(out: &mut String, mark: char, before: &str, after: &str) -> Resul
     Ok(())
 }
 
-/// The text of a list, which has this many lines as another box has strokes.
-fn counted<'a>(list: &'a [u8], strokes: &[u8]) -> Result<&'a str, Fail> {
-    let Ok(text) = str::from_utf8(list) else {
-        return Err("no text".into());
-    };
-    if text.lines().count() != strokes.len() {
-        return Err("not as many steps as another box took".into());
-    }
-    Ok(text)
-}
-
-/// Does what a line says.
+/// Makes the call of a line, and returns its result.
 fn answer_to(
     alloc: Global,
     checker: &mut Checker,
@@ -192,34 +234,12 @@ fn answer_to(
 ) -> Result<String, Fail> {
     match first_word(line) {
         ("new", _) => {
-            register_boxes(alloc, checker)?;
+            register(alloc, checker)?;
             Ok("Ok".to_string(alloc)?)
         }
-        ("bare", _) => Ok("Ok".to_string(alloc)?),
-        ("given", clauses) => {
-            given(alloc, checker, clauses)?;
-            Ok("Ok".to_string(alloc)?)
-        }
-        ("formula", clauses) => {
-            let formula = formula(alloc, clauses)?;
-            add_formula(alloc, checker, &formula)
-        }
+        ("bare" | "processors" | "transcripts", _) => Ok("Ok".to_string(alloc)?),
+        ("processor", kinds) => add_listeners(alloc, checker, "processor", kinds),
+        ("transcript", kinds) => add_listeners(alloc, checker, "transcript", kinds),
         _ => make(alloc, checker, line, size),
     }
-}
-
-fn add_formula(alloc: Global, checker: &mut Checker, formula: &CnfFormula) -> Result<String, Fail> {
-    match checker.add_formula(formula) {
-        Ok(()) => Ok(format!(in alloc; "{} {}", formula.len(), formula.var_count())?),
-        Err(fault) => Ok(answer(alloc, Err(fault))?),
-    }
-}
-
-/// The formula of these clauses, each of which ends with a bar.
-pub fn formula(alloc: Global, clauses: &str) -> Result<CnfFormula, Fail> {
-    let mut formula = CnfFormula::new(alloc);
-    for clause in clauses.replace(alloc, '|', "\n")?.lines() {
-        formula.add_clause(&lits(alloc, clause)?)?;
-    }
-    Ok(formula)
 }
