@@ -35,6 +35,11 @@ refused() {
   expect "$1" 1 '' "$3"$'\n'"in $2" "${@:4}"
 }
 
+# misspelled NAME FILE ERROR PART ARGUMENT..: the same of a formula, in which this word or header is wrong
+misspelled() {
+  expect "$1" 1 '' "$3"$'\n'"in $2"$'\n'"${3##*: }: $4" "${@:5}"
+}
+
 # misused NAME WHY CALL ARGUMENT..: a call that can't be read, with the words of how it is made
 misused() {
   expect "$1" 2 '' "$2"$'\nusage: '"$3"$'\n'"${3%% *} --help says more" "${@:4}"
@@ -134,14 +139,14 @@ printf '1 0\n' > "$work/files/unit.cnf"
 printf '\x05\x00\x0d' > "$work/files/empty_clause.proof"
 printf '\x0d' > "$work/files/end.proof"
 : > "$work/files/nothing.proof"
-refused malformed malformed.cnf 'line 2: bad number' malformed.cnf end.proof
+misspelled malformed malformed.cnf 'line 2: bad number' x malformed.cnf end.proof
 expect added 3 's UNSATISFIABLE WITH 1 ADDED CLAUSES' '' unit.cnf empty_clause.proof
 expect not_shown 3 's NOT SHOWN' '' unit.cnf end.proof
 refused no_proof nothing.proof 'step 1: Unexpected end of proof file' unit.cnf nothing.proof
 expect no_arguments 0 's UNSATISFIABLE' ''
 expect version 0 'varisat_check 0.3.0 (varisat-checker 0.2.2)' '' --version
 misused one_argument 'no file is named for PROOF' 'varisat_check CNF PROOF [LRAT] [--quiet] [--verbose]' unit.cnf
-misused four_arguments 'a file too many: more.lrat' 'varisat_check CNF PROOF [LRAT] [--quiet] [--verbose]' unit.cnf end.proof hints.lrat more.lrat
+misused four_arguments 'unexpected argument: more.lrat' 'varisat_check CNF PROOF [LRAT] [--quiet] [--verbose]' unit.cnf end.proof hints.lrat more.lrat
 expect hints 0 's UNSATISFIABLE' '' par10.cnf par10.whole.proof hints.lrat
 refused hints_of_a_refused_proof nothing.proof 'step 1: Unexpected end of proof file' unit.cnf nothing.proof hints.lrat
 expect missing_formula 2 '' $'cannot open absent.cnf\nNo such file or directory (os error 2)' absent.cnf absent.proof
@@ -155,14 +160,14 @@ printf '\xef\xbb\xbf1 0\n' > "$work/files/byte_order_mark.cnf"
 printf '1 0\n\x00\n-1 0\n' > "$work/files/nul.cnf"
 printf '1 0\n-1 0\n' | gzip -n > "$work/files/compressed.cnf"
 expect cr_lf 0 's UNSATISFIABLE' '' cr_lf.cnf four.proof
-refused byte_order_mark byte_order_mark.cnf 'line 1: bad number' byte_order_mark.cnf end.proof
-refused nul_byte nul.cnf 'line 2: bad number' nul.cnf end.proof
+begun_as byte_order_mark byte_order_mark.cnf 'text with a byte order mark' 'line 1: bad number' byte_order_mark.cnf end.proof
+misspelled nul_byte nul.cnf 'line 2: bad number' '\x00' nul.cnf end.proof
 begun_as compressed compressed.cnf 'a gzip file' 'line 1: bad number' compressed.cnf end.proof
 expect empty_formula 3 's NOT SHOWN' '' nothing.proof end.proof
 refused folder / 'error reading formula: Is a directory (os error 21)' / end.proof
 # odd proofs
 refused empty_proof nothing.proof 'step 1: Unexpected end of proof file' cr_lf.cnf nothing.proof
-refused byte_order_mark_in_proof byte_order_mark.cnf 'step 1: Could not parse proof step: unknown step tag' unit.cnf byte_order_mark.cnf
+begun_as byte_order_mark_in_proof byte_order_mark.cnf 'text with a byte order mark' 'step 1: Could not parse proof step: unknown step tag' unit.cnf byte_order_mark.cnf
 begun_as compressed_proof compressed.cnf 'a gzip file' 'step 1: Could not parse proof step: unknown step tag' unit.cnf compressed.cnf
 refused nul_bytes_in_proof /dev/zero 'step 1: Could not parse proof step: unknown step tag' unit.cnf /dev/zero
 begun_as text_as_proof unit.cnf 'DRAT text' 'step 1: Could not parse proof step: unknown step tag' unit.cnf unit.cnf
@@ -219,7 +224,7 @@ done
 refuted par10 par10.cnf
 refuted board6 board6.cnf
 printf '5 0 1\n' > "$work/files/malformed.lrat"
-refused malformed_formula malformed.cnf 'line 2: bad number' malformed.cnf par10.lrat
+misspelled malformed_formula malformed.cnf 'formula: line 2: bad number' x malformed.cnf par10.lrat
 refused malformed_hints malformed.lrat 'line 1: malformed line' unit.cnf malformed.lrat
 expect read_plain 0 's VERIFIED UNSAT' '' four.cnf plain.lrat
 expect read_doubled 0 's VERIFIED UNSAT' '' four.cnf doubled.lrat
@@ -231,37 +236,37 @@ misused no_arguments 'no file is named for CNF' 'hint_check CNF LRAT [--ids WAY]
 expect example 0 's VERIFIED UNSAT' '' --example
 expect help 0 'usage: hint_check CNF LRAT [--ids WAY] [--quiet] [--verbose]
 
-Checks lines of hints over a formula, and says in one line what they show.
+Check lines of hints over a formula, and print the verdict.
 
 operands:
-  CNF           the formula, DIMACS text; - stands for standard input
-  LRAT          the lines, LRAT, text or binary; - stands for standard input
+  CNF           the formula, DIMACS text; - is standard input
+  LRAT          the lines, LRAT, text or binary; - is standard input
 
 options:
-  --ids WAY     how ids stand in a binary proof: plain or doubled; else its first bytes tell it
-  --quiet       says nothing of how far a long run has come, on a terminal neither
-  --verbose     says twice a second on standard error how far a run has come, as it does on a terminal
-  --example     checks a small fixed example, in place of files
-  --help        says how the program is called
-  --version     says of which version it is
+  --ids WAY     encoding of ids in a binary proof, plain or doubled (default: detected)
+  --quiet       no progress output, not even on a terminal
+  --verbose     print progress to standard error twice a second
+  --example     check a small fixed example, in place of files
+  --help        show this help
+  --version     show the version
 
 exit status:
   0             s VERIFIED UNSAT: no assignment satisfies the formula
-  1             a file is malformed or refused, or a read, a write or an allocation failed: nothing is claimed, and standard error says why
+  1             no verdict: a file is malformed or rejected, or a read, a write or an allocation failed; the reason is on standard error
   2             wrong arguments, or a file that can'"'"'t be opened
-  3             s NOT VERIFIED: the lines end before they show that
+  3             s NOT VERIFIED: no line adds the empty clause
 
 environment:
-  RUST_LOG      what is logged to standard error, as info; without it nothing is
+  RUST_LOG      level of the log on standard error, as info (default: no log)
 
 examples:
-  checks lines of hints:
+  check lines of hints:
       hint_check formula.cnf proof.lrat
-  checks a proof in bytes, and once more by its hints:
+  check a proof in varisat'"'"'s format, and once more by its hints:
       varisat_check formula.cnf proof.bytes proof.lrat && hint_check formula.cnf proof.lrat' '' --help
 expect version 0 'hint_check 0.3.0 (varisat-checker 0.2.2)' '' --version
 misused one_argument 'no file is named for LRAT' 'hint_check CNF LRAT [--ids WAY] [--quiet] [--verbose]' unit.cnf
-misused three_arguments 'a file too many: more.lrat' 'hint_check CNF LRAT [--ids WAY] [--quiet] [--verbose]' unit.cnf par10.lrat more.lrat
+misused three_arguments 'unexpected argument: more.lrat' 'hint_check CNF LRAT [--ids WAY] [--quiet] [--verbose]' unit.cnf par10.lrat more.lrat
 misused other_ids '--ids takes plain or doubled' 'hint_check CNF LRAT [--ids WAY] [--quiet] [--verbose]' --ids odd unit.cnf par10.lrat
 expect missing_formula 2 '' $'cannot open absent.cnf\nNo such file or directory (os error 2)' absent.cnf absent.lrat
 expect missing_hints 2 '' $'cannot open absent.lrat\nNo such file or directory (os error 2)' malformed.cnf absent.lrat
@@ -328,12 +333,12 @@ groups() {
   fi
 }
 
-pivot=' for a clause with the negation of the first literal'
+pivot=' for a clause with the negation of the pivot'
 groups met 0 's VERIFIED UNSAT' '' '5 3 1 0 0' '6 -3 -1 0 -5 0' '7 1 0 1 2 0' '8 0 7 3 4 0'
 groups none 1 '' 'proof: line 2: hints end without a conflict' '5 3 1 0 0' '6 -3 -1 0 0'
-groups missing 1 '' "proof: line 2: no group$pivot" '5 3 1 0 0' '6 -3 -1 0 -1 0'
-groups of_the_last_literal 1 '' "proof: line 2: no group$pivot" '5 3 1 0 0' '6 -1 -3 0 -5 0'
-groups failing 1 '' 'proof: line 2: hints of a group end without a conflict' '5 3 0 0' '6 -3 -1 0 -5 0'
+groups missing 1 '' "proof: line 2: no hints$pivot" '5 3 1 0 0' '6 -3 -1 0 -1 0'
+groups of_the_last_literal 1 '' "proof: line 2: no hints$pivot" '5 3 1 0 0' '6 -1 -3 0 -5 0'
+groups failing 1 '' 'proof: line 2: hints of a candidate end without a conflict' '5 3 0 0' '6 -3 -1 0 -5 0'
 # what holds the negation is deleted, so no group is needed, and one that is there is not read
 groups of_no_clause 0 's VERIFIED UNSAT' '' '5 3 1 0 0' '5 d 5 0' '6 -3 -1 0 -5 9 0' '7 1 0 1 2 0' '8 0 7 3 4 0'
 
@@ -346,9 +351,8 @@ expect nothing 3 's NOT VERIFIED' '' four.cnf nothing.proof
 printf '1 2 0\n0\n' > "$work/files/refuted.cnf"
 expect refuted_formula 0 's VERIFIED UNSAT' '' refuted.cnf nothing.proof
 expect refuted_formula_unread 0 's VERIFIED UNSAT' '' refuted.cnf drat.lrat
-for file in mark.lrat malformed.lrat; do
-  refused "read_${file%.*}" "$file" 'proof: line 1: malformed line' four.cnf "$file"
-done
+refused read_malformed malformed.lrat 'proof: line 1: malformed line' four.cnf malformed.lrat
+begun_as read_mark mark.lrat 'text with a byte order mark' 'proof: line 1: malformed line' four.cnf mark.lrat
 expect read_four 1 '' $'proof: line 1: malformed line\nfour.cnf begins as a formula\narguments in the wrong order?' four.cnf four.cnf
 expect read_plain 0 's VERIFIED UNSAT' '' four.cnf plain.lrat
 expect read_doubled 0 's VERIFIED UNSAT' '' four.cnf doubled.lrat
@@ -358,19 +362,19 @@ begun_as read_binary_drat binary.drat "$binaries" 'proof: line 1: id is taken' f
 begun_as read_drat drat.lrat 'DRAT text' 'proof: line 1: malformed line' four.cnf drat.lrat
 begun_as read_compressed compressed.lrat 'a gzip file' 'proof: line 1: malformed line' four.cnf compressed.lrat
 # a formula may begin as DRAT text does
-refused read_no_drat malformed.cnf 'formula: line 2: bad number' malformed.cnf nothing.proof
-expect swapped 1 '' $'formula: line 24: bad number\nin par10.lrat\narguments in the wrong order?' par10.lrat par10.cnf
-refused malformed_formula malformed.cnf 'formula: line 2: bad number' malformed.cnf par10.lrat
+misspelled read_no_drat malformed.cnf 'formula: line 2: bad number' x malformed.cnf nothing.proof
+expect swapped 1 '' $'formula: line 24: bad number\nin par10.lrat\nbad number: d\narguments in the wrong order?' par10.lrat par10.cnf
+misspelled malformed_formula malformed.cnf 'formula: line 2: bad number' x malformed.cnf par10.lrat
 # reads that fail: a folder, and a file of the system's
 refused folder / 'formula: error reading formula: Is a directory (os error 21)' / par10.lrat
 refused folder_as_proof / 'proof: error reading proof: Is a directory (os error 21)' four.cnf /
 refused unreadable_proof /proc/self/mem 'proof: error reading proof: Input/output error (os error 5)' four.cnf /proc/self/mem
-misused no_arguments 'no file is named for CNF' 'lrat_check CNF LRAT [--ids WAY] [--holds FILE] [--stats] [--quiet] [--verbose]'
+misused no_arguments 'no file is named for CNF' 'lrat_check CNF LRAT [--ids WAY] [--holds FILE] [--stats] [--json] [--quiet] [--verbose]'
 expect example 0 's VERIFIED UNSAT' '' --example
 expect version 0 'lrat_check 0.3.0 (varisat-checker 0.2.2)' '' --version
-misused one_argument 'no file is named for LRAT' 'lrat_check CNF LRAT [--ids WAY] [--holds FILE] [--stats] [--quiet] [--verbose]' four.cnf
-misused three_arguments 'a file too many: more.lrat' 'lrat_check CNF LRAT [--ids WAY] [--holds FILE] [--stats] [--quiet] [--verbose]' four.cnf par10.lrat more.lrat
-misused other_ids '--ids takes plain or doubled' 'lrat_check CNF LRAT [--ids WAY] [--holds FILE] [--stats] [--quiet] [--verbose]' --ids odd four.cnf par10.lrat
+misused one_argument 'no file is named for LRAT' 'lrat_check CNF LRAT [--ids WAY] [--holds FILE] [--stats] [--json] [--quiet] [--verbose]' four.cnf
+misused three_arguments 'unexpected argument: more.lrat' 'lrat_check CNF LRAT [--ids WAY] [--holds FILE] [--stats] [--json] [--quiet] [--verbose]' four.cnf par10.lrat more.lrat
+misused other_ids '--ids takes plain or doubled' 'lrat_check CNF LRAT [--ids WAY] [--holds FILE] [--stats] [--json] [--quiet] [--verbose]' --ids odd four.cnf par10.lrat
 expect missing_formula 2 '' $'cannot open absent.cnf\nNo such file or directory (os error 2)' absent.cnf absent.lrat
 expect missing_proof 2 '' $'cannot open absent.lrat\nNo such file or directory (os error 2)' malformed.cnf absent.lrat
 run_cases lrat_check_main
@@ -401,7 +405,7 @@ printf '2 1 0 7 0\n' > "$work/files/unknown.lrat"
 expect open 3 '' '' unit.cnf nothing.lrat "$work/files/open.converted"
 refused redundant redundant.lrat "proof: line 2: RAT steps can't be converted" unit.cnf redundant.lrat "$work/files/refused"
 refused unknown unknown.lrat 'proof: line 1: no clause has the id of a hint' unit.cnf unknown.lrat "$work/files/refused"
-refused malformed_formula malformed.cnf 'formula: line 2: bad number' malformed.cnf par10.lrat "$work/files/refused"
+misspelled malformed_formula malformed.cnf 'formula: line 2: bad number' x malformed.cnf par10.lrat "$work/files/refused"
 refused malformed_proof malformed.lrat 'proof: line 1: malformed line' unit.cnf malformed.lrat "$work/files/refused"
 expect version 0 'lrat_to_proof 0.3.0 (varisat-checker 0.2.2)' '' --version
 convert_call='lrat_to_proof CNF LRAT PROOF [--ids WAY] [--width N]'
@@ -412,19 +416,19 @@ done << 'END'
 :no file is named for CNF
 unit.cnf:no file is named for LRAT
 unit.cnf nothing.lrat:no file is named for PROOF
-unit.cnf nothing.lrat refused --width:--width has no value
+unit.cnf nothing.lrat refused --width:--width needs a value
 unit.cnf nothing.lrat refused --width 0:--width takes a number from 1 to 64
 unit.cnf nothing.lrat refused --width=65:--width takes a number from 1 to 64
 unit.cnf nothing.lrat refused --width x:--width takes a number from 1 to 64
 unit.cnf nothing.lrat refused --ids odd:--ids takes plain or doubled
 unit.cnf nothing.lrat refused --bits 9:there is no option --bits
-unit.cnf nothing.lrat refused --width 9 --width=9:--width stands twice
-unit.cnf nothing.lrat refused --width 9 9:a file too many: 9
+unit.cnf nothing.lrat refused --width 9 --width=9:--width given twice
+unit.cnf nothing.lrat refused --width 9 9:unexpected argument: 9
 unit.cnf nothing.lrat refused --example:there is no option --example
 END
 expect missing_formula 2 '' $'cannot open absent.cnf\nNo such file or directory (os error 2)' absent.cnf absent.lrat refused
 expect missing_proof 2 '' $'cannot open absent.lrat\nNo such file or directory (os error 2)' unit.cnf absent.lrat refused
-expect missing_folder 2 '' $'cannot open absent/proof.new\nNo such file or directory (os error 2)' unit.cnf nothing.lrat absent/proof
+expect missing_folder 2 '' $'cannot open absent/proof\nNo such file or directory (os error 2)' unit.cnf nothing.lrat absent/proof
 run_cases lrat_to_proof_main
 compare
 

@@ -1,5 +1,6 @@
 #!/usr/bin/env bash
-# Runs the programs on files that can't be read or written to their end, on files that never end, and on long ones.
+# Runs the programs on files that can't be read or written to their end, on files that never end, on long ones, and without standard
+# input, output or error.
 #
 # The programs must be built: `rt ci` does it, or `rt run` in their folders. It needs `cc`.
 set -euo pipefail
@@ -10,10 +11,12 @@ hint_check=$top/crates/hint_check_main/out/hint_check_main
 lrat_check=$top/crates/lrat_check_main/out/lrat_check_main
 drat_check=$top/crates/drat_check_main/out/drat_check_main
 model_check=$top/crates/model_check_main/out/model_check_main
+drat_cut=$top/crates/drat_cut_main/out/drat_cut_main
+convert=$top/crates/lrat_to_proof_main/out/lrat_to_proof_main
 data=$top/tests/data
 work=$(mktemp -d)
 trap 'rm -rf "$work"' EXIT
-for program in "$check" "$hint_check" "$lrat_check" "$drat_check" "$model_check"; do
+for program in "$check" "$hint_check" "$lrat_check" "$drat_check" "$model_check" "$drat_cut" "$convert"; do
   if [[ ! -x $program ]]; then
     echo "not built: $program"
     exit 1
@@ -142,7 +145,7 @@ fail_writes() {
   for ((write = 1; write <= $(stat -c %s "$work/whole"); write += 97)); do
     failing "SHORT_WRITES=1 FAIL_WRITE=$write" "$check" "$cnf" "$proof" "$work/hints"
     wants "byte $write of the hints" 1 '' "$full"
-    if [[ -e $work/hints || -e $work/hints.new ]]; then
+    if [[ -e $work/hints || $(compgen -G "$work/hints.*.new") ]]; then
       echo "WRONG byte $write of the hints: a file is left"
       wrong=1
     fi
@@ -190,12 +193,132 @@ fail_outputs() {
   wants 'closed pipe' 1 '' 'error writing: Broken pipe (os error 32)'
 }
 
-# endless NAME ARGUMENT..: nothing is said of a file that never ends, while it is read
-endless() {
+# closed MASK COMMAND..: a run without standard input (1), output (2) and error (4), as the mask says. It sets `status`.
+closed() {
   status=0
   runs=$((runs + 1))
-  timeout 1 "$check" "${@:2}" > "$work/out" 2> "$work/err" || status=$?
+  (
+    if (($1 & 1)); then exec <&-; fi
+    if (($1 & 2)); then exec >&-; fi
+    if (($1 & 4)); then exec 2>&-; fi
+    exec "${@:2}"
+  ) > "$work/out" 2> "$work/err" < "$work/four.cnf" || status=$?
+}
+
+# judged MASK NAME LINE WARNING: what it must have done. A line that can't be written is a fault, and standard error has that and the
+# warning.
+judged() {
+  local wanted=0 line=$3 errors=$4
+  if (($1 & 2)) && [[ $line ]]; then
+    wanted=1 line='' errors='error writing: Bad file descriptor (os error 9)'${4:+$'\n'$4}
+  fi
+  if (($1 & 4)); then
+    errors=''
+  fi
+  wants "$2 without $1" "$wanted" "$line" "$errors"
+}
+
+# whole FILE: what was written is that of a run with all three
+whole() {
+  cmp "$1" "$1.whole" || wrong=1
+  rm -f "$1"
+}
+
+# Whatever is closed, a file that is written has its own bytes alone.
+close_streams() {
+  local mask warning='warning: the header of four.cnf is p cnf 1 4, but what was read is p cnf 2 4'
+  cd "$work"
+  printf 'p cnf 1 4\n1 2 0\n1 -2 0\n-1 2 0\n-1 -2 0\n' > four.cnf
+  printf '1 0\n0\n' > four.drat
+  printf 'p cnf 1 2\n1 2 0\n-1 2 0\n' > two.cnf
+  echo '2 0' > two.answer
+  "$drat_check" four.cnf four.drat --lrat lrat.whole > out 2> err
+  "$convert" four.cnf lrat.whole proof.whole 2> err
+  "$check" four.cnf proof.whole hints.whole > out 2> err
+  "$drat_cut" four.cnf four.drat piece > piece.line
+  mv piece1.cnf piece1.cnf.whole
+  mv piece1.drat piece1.drat.whole
+  if [[ $("$lrat_check" four.cnf lrat.whole 2> err) != 's VERIFIED UNSAT' || $("$hint_check" four.cnf hints.whole 2> err) != 's VERIFIED UNSAT' ]]; then
+    echo 'WRONG what is written with all streams'
+    wrong=1
+  fi
+  for mask in 0 1 2 3 4 5 6 7; do
+    closed "$mask" "$drat_check" four.cnf four.drat --lrat lrat
+    judged "$mask" drat_check 's VERIFIED UNSAT' "$warning"
+    whole lrat
+    closed "$mask" "$check" four.cnf proof.whole hints
+    judged "$mask" varisat_check 's UNSATISFIABLE' "$warning"
+    whole hints
+    closed "$mask" "$convert" four.cnf lrat.whole proof
+    judged "$mask" lrat_to_proof '' "$warning"
+    whole proof
+    closed "$mask" "$drat_cut" four.cnf four.drat piece
+    judged "$mask" drat_cut "$(cat piece.line)" ''
+    whole piece1.cnf
+    whole piece1.drat
+    closed "$mask" "$lrat_check" four.cnf lrat.whole
+    judged "$mask" lrat_check 's VERIFIED UNSAT' "$warning"
+    closed "$mask" "$model_check" two.cnf two.answer
+    judged "$mask" model_check 's VERIFIED SAT' 'warning: the header of two.cnf is p cnf 1 2, but what was read is p cnf 2 2'
+  done
+  # from standard input there is one descriptor less to be taken by a file that is read
+  closed 6 "$drat_check" - four.drat --lrat lrat
+  judged 6 drat_check 's VERIFIED UNSAT' ''
+  whole lrat
+  # standard output that is closed is no file
+  closed 2 "$convert" four.cnf lrat.whole /dev/stdout
+  wants 'bytes to no standard output' 2 '' $'cannot open /dev/stdout\nIs a directory (os error 21)'
+}
+
+# endless NAME ARGUMENT..: nothing is said of a file that never ends, while it is read and memory is free
+endless() {
+  failing "MEMORY=$work/much" timeout 1 "$check" "${@:2}"
   wants "$1" 124 '' ''
+}
+
+# too_large NAME FILE FAULT ARGUMENT..: where little memory is free, a file that never ends is refused that is read whole
+too_large() {
+  failing "MEMORY=$work/little" bash -c 'ulimit -v 1000000; exec "$0" "$@"' "${@:4}"
+  wants "$1" 1 '' "$3: file too large"$'\n'"in $2"$'\n''only a regular file may be larger than half of the free memory'
+}
+
+# sized BYTES: the clause 1, and comments, in this many bytes
+sized() {
+  echo '1 0'
+  yes c | head -c $(($1 - 4)) || true
+}
+
+# Of a pipe or a device half as many bytes are read as memory is free, of a regular file all.
+bound_reads() {
+  local fault='formula: error reading formula' program bytes
+  cd "$work"
+  printf 'MemTotal:       64 kB\nMemFree:        3 kB\nMemAvailable:   10 kB\n' > little
+  echo '1 0' > one
+  : > nothing
+  too_large 'an endless formula, by varisat_check' /dev/zero 'error reading formula' "$check" /dev/zero "$proof"
+  too_large 'the same with hints' /dev/zero 'error reading formula' "$check" /dev/zero "$proof" "$work/hints"
+  too_large 'an endless formula, by hint_check' /dev/zero 'error reading formula' "$hint_check" /dev/zero nothing
+  for program in "$lrat_check" "$drat_check" "$model_check"; do
+    too_large "an endless formula, by $program" /dev/zero "$fault" "$program" /dev/zero one
+  done
+  too_large 'an endless answer' /dev/zero 'answer: error reading answer' "$model_check" one /dev/zero
+  for program in "$lrat_check" "$drat_check"; do
+    too_large "endless target clauses, by $program" /dev/zero "wanted clauses: error reading formula" "$program" one nothing --holds /dev/zero
+  done
+  mkfifo bounded
+  for bytes in 5120 5121; do
+    sized "$bytes" > "sized.$bytes"
+    failing "MEMORY=$work/little" "$model_check" "sized.$bytes" one
+    wants "a regular file of $bytes bytes" 0 's VERIFIED SAT' ''
+    failing "MEMORY=$work/little" bash -c '"$0" - one < "$1"' "$model_check" "sized.$bytes"
+    wants "standard input of $bytes bytes" 0 's VERIFIED SAT' ''
+  done
+  cat sized.5120 > bounded &
+  failing "MEMORY=$work/little" "$model_check" bounded one
+  wants 'a pipe of 5120 bytes' 0 's VERIFIED SAT' ''
+  cat sized.5121 > bounded &
+  too_large 'a pipe of 5121 bytes' bounded "$fault" "$model_check" bounded one
+  wait
 }
 
 for name in par10.whole board6.whole grid5.whole grid5.v2; do
@@ -253,6 +376,7 @@ fail_writes
 fail_outputs
 counted 'writes'
 
+printf 'MemAvailable:   1000000000 kB\n' > "$work/much"
 endless 'comments' <(yes 'c no clause') "$proof"
 endless 'clauses' <(yes '1 0') "$proof"
 endless 'a token' <(yes 1 | tr -d '\n') "$proof"
@@ -268,6 +392,7 @@ wants 'a clause that never ends, in little memory' 1 '' $'out of memory\nin stan
 printf '\x03\xff\xff\xff\x7f\x0d' > "$work/last_var"
 failing '' bash -c 'ulimit -v 300000; "$0" "$1" "$2"' "$check" "$cnf" "$work/last_var"
 refused 'the last variable there may be, in little memory' "$work/last_var" 'out of memory'
+bound_reads
 counted 'files that never end, or ask for too much'
 
 # 22 MB of clauses, and 101 MB of hints in one line: that a file is long is no fault
@@ -294,4 +419,7 @@ for program in "$hint_check" "$lrat_check"; do
   wants "a long line of hints, by $program" 0 's VERIFIED UNSAT' ''
 done
 counted 'long files'
+
+close_streams
+counted 'streams that are closed'
 exit "$wrong"

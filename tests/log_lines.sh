@@ -177,4 +177,33 @@ printf 'd 1 2 3 0\n1 x 0\n' > "$work/malformed"
 counts stats_malformed drat_check "$work"/{cnf,malformed} '' 'proof: step 2: malformed' "in $work/malformed" 'c steps 1' 'c lemmas 0' \
   'c rat_lemmas 0' 'c hints 0' 'c core_clauses 0' "${cost[@]}"
 counts stats_lrat lrat_check "$work"/{cnf,lrat} 's VERIFIED UNSAT' "${cost[@]}"
+
+# json NAME PROGRAM CNF PROOF COUNTS OPTION..: with --json the last line on standard error is an object with these counts, a python dict, and
+# what the run cost
+json() {
+  if ! "$top/crates/$2_main/out/$2_main" "${@:6}" --json "$3" "$4" 2> "$work/err" > /dev/null; then
+    :
+  fi
+  if python3 - "$work/err" "$5" << 'END'; then
+import ast
+import json
+import sys
+
+with open(sys.argv[1], encoding="utf-8") as lines:
+    *before, last = lines.read().splitlines()
+said = json.loads(last)
+counts = ast.literal_eval(sys.argv[2])
+cost = {it: said.pop(it, -1) for it in ("seconds", "memory_kb")}
+sys.exit(not (said == counts and list(said) == list(counts) and cost["seconds"] >= 0 and cost["memory_kb"] > 0))
+END
+    echo "ok    $1"
+  else
+    echo "WRONG $1: errors '$(cat "$work/err")'"
+    wrong=1
+  fi
+}
+json json drat_check "$work"/{cnf,drat} "{'steps': 2, 'lemmas': 2, 'rat_lemmas': 0, 'hints': 5, 'core_clauses': 4}"
+json json_and_stats drat_check "$work"/{cnf,drat} "{'steps': 2, 'lemmas': 2, 'rat_lemmas': 0, 'hints': 5, 'core_clauses': 4}" --stats
+json json_malformed drat_check "$work"/{cnf,malformed} "{'steps': 1, 'lemmas': 0, 'rat_lemmas': 0, 'hints': 0, 'core_clauses': 0}"
+json json_lrat lrat_check "$work"/{cnf,lrat} '{}'
 exit "$wrong"

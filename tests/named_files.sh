@@ -139,7 +139,7 @@ closed() {
   "$@" <&-
 }
 no_input=$'cannot open -\nBad file descriptor (os error 9)'
-twice='- stands twice: only one file can be standard input'
+twice='- given twice: only one file can be standard input'
 for program in "$lrat_check" "$hint_check" "$drat_check" "$model_check" "$check"; do
   wants 2 '' "$no_input" closed "$program" - l
   wants 2 '' "$no_input" closed "$program" f -
@@ -177,7 +177,7 @@ for output in out ./out "$PWD/out" soft_out hard_out /dev/stdout; do
   refuses "$output" 'the output is the file of standard output'
 done
 refuses err 'the output is the file of standard error'
-refuses - '- stands for standard input, and nothing is written to that'
+refuses - '- is standard input, and no output'
 for output in f ./f d; do
   wants 2 '' "cannot open $output"$'\n'"the output is a file that is read" "$drat_check" f d --lrat never --core "$output"
 done
@@ -228,7 +228,7 @@ if [[ -e never || -e never.too ]]; then
 fi
 
 # an output has its name once it is whole: a run that fails, that is killed before it writes, or whose file may not be longer, leaves
-# what stood there; the next one takes away what a killed one left
+# what stood there. What a killed one wrote stays beside it, and no other run leaves anything
 kept() {
   if [[ $(cat new) != kept || -s out ]]; then
     echo "WRONG $*: the output is not as it was, or there is a verdict"
@@ -246,13 +246,15 @@ done
 kept varisat_check cut off
 (ulimit -c 0 -f 1 && exec "$convert" f l new) > out 2> err || true
 kept lrat_to_proof cut off
+unfinished=(new.*.new)
 wants 1 '' $'proof: line 1: id is taken\nin ends' "$convert" f ends new
 kept lrat_to_proof refused
 wants 0 's UNSATISFIABLE' '' "$check" f p new
 wants 0 's VERIFIED UNSAT' '' "$hint_check" f new
 wants 0 '' '' "$convert" f l new
 wants 0 's UNSATISFIABLE' '' "$check" f new
-if [[ -e new.new ]]; then
+rm "${unfinished[@]}"
+if [[ $(compgen -G 'new.*.new') ]]; then
   echo 'WRONG a file is left that is not whole'
   wrong=1
 fi
@@ -267,14 +269,73 @@ wants 1 '' $'line 1: malformed line\n'"$begins" "$hint_check" ends units
 wants 1 '' $'proof: line 1: malformed line\n'"$begins" "$convert" ends units new
 wants 1 '' $'proof: step 1: malformed\n'"$begins" "$drat_check" ends units
 wants 1 '' $'answer: line 1: malformed\n'"$begins" "$model_check" ends units
-wants 1 '' $'formula: line 2: bad number\nin deletes\n'"$order" "$drat_check" deletes units
+wants 1 '' $'formula: line 2: bad number\nin deletes\nbad number: d\n'"$order" "$drat_check" deletes units
 wants 1 '' $'formula: line 1: bad number\nbinary begins as binary LRAT or binary DRAT\n'"$order" "$drat_check" binary ends
-wants 1 '' $'formula: line 2: bad number\nin deletes' "$drat_check" deletes ends
+wants 1 '' $'formula: line 2: bad number\nin deletes\nbad number: d' "$drat_check" deletes ends
+
+# a file of another kind is named, as a formula and as a proof; a proof that begins with a is read as a binary one
+while IFS='|' read -r text fault step kind; do
+  printf '%b' "$text" > other
+  wants 1 '' "formula: $fault"$'\n'"other begins as $kind" "$drat_check" other ends
+  wants 1 '' "proof: step 1: $step"$'\n'"other begins as $kind" "$drat_check" f other
+done << 'END'
+aag 1 1 0 1 0\n2\n2\n|line 1: bad number|unfinished|an AIGER circuit
+<!DOCTYPE html>\n|line 1: bad number|malformed|an HTML page
+(set-logic QF_BV)\n|line 1: bad number|malformed|SMT-LIB text
+# formula\np cnf 1 1\n1 0\n|line 1: bad number|malformed|text with # comments
+\xef\xbb\xbfp cnf 1 1\n1 0\n|line 1: bad number|malformed|text with a byte order mark
+c cubes\np inccnf\n1 0\na 1 0\n|line 2: bad header|malformed|a formula with cubes (p inccnf)
+p wcnf 1 1 2\n2 1 0\n|line 1: bad header|malformed|a weighted formula (p wcnf)
+p knf 2 1\nk 1 1 2 0\n|line 1: bad header|malformed|a formula with cardinality constraints (p knf)
+p cnf 2 1\nx1 2 0\n|line 2: bad number|malformed|a formula with XOR clauses
+c solver\nc\ns UNSATISFIABLE\n|line 3: bad number|malformed|what a solver prints
+s SATISFIABLE\nv 1 0\n|line 1: bad number|malformed|what a solver prints
+END
+printf 's UNSATISFIABLE\n' > other
+wants 1 '' $'proof: line 1: malformed line\nother begins as what a solver prints' "$lrat_check" f other
+wants 1 '' $'answer: line 1: the answer is UNSATISFIABLE\nin other' "$model_check" units other
+printf '5 1 0 1 2 0\n5 d 1 0\n' > other
+wants 1 '' $'proof: step 3: malformed\nother begins as LRAT text' "$drat_check" f other
+wants 1 '' $'step 1: Could not parse proof step: unknown step tag\nother begins as LRAT text' "$check" f other
+wants 1 '' $'proof: line 1: id is taken\nin other' "$lrat_check" f other
+wants 1 '' $'formula: line 2: bad number\nin other\nbad number: d' "$drat_check" other ends
+
+# the word or the header that is wrong in a formula, as far as it can be read again
+while IFS='|' read -r text fault part; do
+  printf '%b' "$text" > wrong
+  wants 1 '' "formula: $fault"$'\nin wrong\n'"${fault#*: }: $part" "$drat_check" wrong ends
+  wants 1 '' "formula: $fault"$'\nin standard input' from wrong "$drat_check" - ends
+done << 'END'
+p cnf 2 1\n1 2 x3 0\n|line 2: bad number|x3
+1 2 0\n1 -0 y 0\n|line 2: bad number|-0
+1\t+2 0|line 1: bad number|+2
+1 2 0 c at most\n|line 1: bad number|c
+1 2-3 0\n|line 1: bad number|2-3
+1 \x01\xff\x22 0\n|line 1: bad number|\x01\xff\"
+1 0\n-00268435456 268435457 0\n|line 2: variable too large|268435457
+-99999999999999999999999 x 0\n|line 1: variable too large|-99999999999999999999999
+1 aaaaaaaaabbbbbbbbbbccccccccccddddddddddeeeeeeeeeefffffffff 0|line 1: bad number|aaaaaaaaabbbbbbbbbbccccccccccddddddddddeeeeeeeeeefffffffff
+1 aaaaaaaaaabbbbbbbbbbccccccccccddddddddddeeeeeeeeeeffffffffff 0|line 1: bad number|aaaaaaaaaabbbbbbbbbbccccccccccddddddddddeeeeeeeeeeffffffffff
+1 aaaaaaaaaabbbbbbbbbbccccccccccddddddddddeeeeeeeeeeffffffffffg 0|line 1: bad number|aaaaaaaaaabbbbbbbbbbccccccccccddddddddddeeeeeeeeeeffffffffff..
+c\n p cnf 2 \r\n|line 2: bad header|p cnf 2
+p cnf 1 1\np show 1 0\n|line 2: late header|p show 1 0
+END
+printf '1 x 0\n' > wrong
+wants 1 '' $'line 1: bad number\nin wrong\nbad number: x' "$check" wrong ends
+for program in "$hint_check" "$lrat_check"; do
+  wants 1 '' $'formula: line 1: bad number\nin wrong\nbad number: x' "$program" wrong ends
+done
+echo '1 0' > answer
+wants 1 '' $'formula: line 1: bad number\nin wrong\nbad number: x' "$model_check" wrong answer
+wants 1 '' $'formula: line 1: bad number\nin wrong\nbad number: x' "$convert" wrong ends new
+wants 1 '' $'formula: line 1: bad number\nin wrong\nbad number: x' "$(built drat_cut)" wrong ends new
+printf '1 2' > wrong
+wants 1 '' $'formula: line 1: unterminated clause\nin wrong' "$lrat_check" wrong ends
 
 # a word that is no text
 for word in $'f\xff' $'\xc3'; do
   shown=$(printf '%s' "$word" | sed 's/\xff/\\xff/;s/\xc3/\\xc3/')
-  wants 2 '' "word 2 of the call is not UTF-8: $shown"$'\ninvalid data\nusage: lrat_check CNF LRAT [--ids WAY] [--holds FILE] [--stats] [--quiet] [--verbose]\nlrat_check --help says more' \
+  wants 2 '' "word 2 of the call is not UTF-8: $shown"$'\ninvalid data\nusage: lrat_check CNF LRAT [--ids WAY] [--holds FILE] [--stats] [--json] [--quiet] [--verbose]\nlrat_check --help says more' \
     "$lrat_check" l "$word"
 done
 
@@ -321,7 +382,7 @@ wants 3 's NOT VERIFIED' "$warning" "$drat_check" f.told nothing
 echo x > x
 wants 1 '' $'proof: line 1: malformed line\nin x\n'"$warning" "$lrat_check" f.told x
 echo x >> f.told
-wants 1 '' $'formula: line 77: bad number\nin f.told' "$lrat_check" f.told l
+wants 1 '' $'formula: line 77: bad number\nin f.told\nbad number: x' "$lrat_check" f.told l
 
 # the same of a formula with an answer; a clause that is not met is named with its line, wherever the formula comes from
 printf 's SATISFIABLE\nv 1 2 0\n' > a
@@ -369,7 +430,7 @@ for way in from piped; do
 done
 cp f.told f.right
 echo x >> f.told
-wants 1 '' $'formula: line 3: bad number\nin f.told' "$model_check" f.told a
+wants 1 '' $'formula: line 3: bad number\nin f.told\nbad number: x' "$model_check" f.told a
 
 # a full disk: nothing is claimed, and no run ends well
 no_space='error writing: No space left on device (os error 28)'

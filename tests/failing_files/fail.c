@@ -1,12 +1,16 @@
 // Fails reads and writes of a program, loaded by LD_PRELOAD. Reads and writes are counted from 1 on all descriptors alike.
 //
+// - MEMORY=FILE: what the system says of its memory is what this file has.
 // - FAIL_READ=N, FAIL_WRITE=N: the read, or write, of this number fails.
 // - SHORT_READS=N, SHORT_WRITES=N: a read, or write, moves at most this many bytes.
 #define _GNU_SOURCE
 #include <dlfcn.h>
 #include <errno.h>
+#include <stdarg.h>
 #include <stddef.h>
 #include <stdlib.h>
+#include <string.h>
+#include <sys/types.h>
 #include <unistd.h>
 
 struct limits {
@@ -57,4 +61,18 @@ ssize_t write(int file, const void *from, size_t size)
         return -1;
     }
     return real(file, from, at_most(&limits, size));
+}
+
+int open(const char *name, int flags, ...)
+{
+    static int (*real)(const char *, int, ...);
+    const char *memory = getenv("MEMORY");
+    va_list rest;
+    mode_t mode;
+    if (!real)
+        real = dlsym(RTLD_NEXT, "open");
+    va_start(rest, flags);
+    mode = va_arg(rest, mode_t);
+    va_end(rest);
+    return real(memory && strcmp(name, "/proc/meminfo") == 0 ? memory : name, flags, mode);
 }

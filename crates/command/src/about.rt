@@ -65,18 +65,18 @@ pub struct About<'a> {
 
 pub(crate) const HELP: Entry<'static> = Entry {
     name: "--help",
-    text: "says how the program is called",
+    text: "show this help",
 };
 
 pub(crate) const VERSION: Entry<'static> = Entry {
     name: "--version",
-    text: "says of which version it is",
+    text: "show the version",
 };
 
 /// The operand of a program that reads a formula.
 pub const CNF: Entry<'static> = Entry {
     name: "CNF",
-    text: "the formula, DIMACS text; - stands for standard input",
+    text: "the formula, DIMACS text; - is standard input",
 };
 
 /// The options of all programs.
@@ -84,8 +84,8 @@ const COMMON_OPTIONS: [Entry<'static>; 2] = [HELP, VERSION];
 
 const FAILED_STATUS: Entry<'static> = Entry {
     name: "1",
-    text: "a file is malformed or refused, or a read, a write or an allocation failed: \
-        nothing is claimed, and standard error says why",
+    text: "no verdict: a file is malformed or rejected, or a read, a write or an allocation \
+        failed; the reason is on standard error",
 };
 
 const NOT_RUN_STATUS: Entry<'static> = Entry {

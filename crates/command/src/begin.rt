@@ -10,6 +10,7 @@ use crate::about::{About, Entry};
 use crate::call::{Call, read_words};
 use crate::places::InputNames;
 use crate::status::{NOT_RUN, help, version};
+use crate::streams::take_closed;
 use std::env::{Env, FillError};
 use std::fmt::Display;
 use std::process::ExitCode;
@@ -46,16 +47,17 @@ fn start<'a>(rt: &HostRuntime, about: &'a About<'a>) -> Result<Call<'a>, u8>
         return Err(version(rt, about.program()));
     }
     if call.has("--quiet") && call.has("--verbose") {
-        return Err(misused(rt, about, "--quiet and --verbose can't both stand"));
+        return Err(misused(rt, about, "--quiet and --verbose exclude each other"));
     }
     if call.has("--example") && !call.is_one_word() {
-        return Err(misused(rt, about, "--example stands alone"));
+        return Err(misused(rt, about, "--example takes no other argument"));
     }
     Ok(call)
 }
 
 /// Runs a program: reads its call, and does what that asks for. Either answer is the exit status;
-/// an Err is that of a call that ends early.
+/// an Err is that of a call that ends early. No file that it opens is standard output or standard
+/// error.
 pub fn run_program<F: FnOnce(&Call<'_>) -> Result<u8, u8>>(
     rt: &HostRuntime,
     about: &About<'_>,
@@ -66,6 +68,7 @@ pub fn run_program<F: FnOnce(&Call<'_>) -> Result<u8, u8>>(
         ⊎ ((call : Call) × (answer : Result ℕ ℕ) × IsExampleAlone call
         × FnOnceReturnsAt F.FnOnce run call answer × (exit_status result ≡ either answer)) }
 {
+    let _streams = take_closed(rt);
     match start(rt, about) {
         Ok(call) => exit_code_of(run(&call)),
         Err(status) => ExitCode::from(status),
@@ -102,7 +105,7 @@ pub fn unnamed(rt: &HostRuntime, about: &About<'_>, count: usize) -> u8
             let name = operand.name;
             misused(rt, about, format_args!("no file is named for {name}"))
         }
-        None => misused(rt, about, "a file too many"),
+        None => misused(rt, about, "unexpected argument"),
     }
 }
 
@@ -130,7 +133,7 @@ pub fn input_names<'c>(
 /// Of a program that reads lines of LRAT: how the ids of binary ones are written.
 pub const IDS: Entry<'static> = Entry {
     name: "--ids WAY",
-    text: "how ids stand in a binary proof: plain or doubled; else its first bytes tell it",
+    text: "encoding of ids in a binary proof, plain or doubled (default: detected)",
 };
 
 /// How ids stand in binary lines, as `--ids` says it, where it does: one of two ways. An Err is the

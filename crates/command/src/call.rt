@@ -27,13 +27,13 @@ pub struct Setting<'a> {
 pub enum Misuse<'a> {
     #[error("there is no option {0}")]
     UnknownOption(String),
-    #[error("{0} stands twice")]
+    #[error("{0} given twice")]
     GivenTwice(&'a str),
-    #[error("{0} has no value")]
+    #[error("{0} needs a value")]
     NoValue(&'a str),
     #[error("{0} takes no value")]
     NeedlessValue(&'a str),
-    #[error("a file too many: {0}")]
+    #[error("unexpected argument: {0}")]
     NeedlessOperand(String),
     #[error("out of memory")]
     OutOfMemory,

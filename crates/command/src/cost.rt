@@ -1,13 +1,60 @@
 //! What a run cost.
 use crate::about::Entry;
+use crate::call::Call;
+use std::alloc::AllocError;
+use std::fmt::Display;
 use std::fs;
 use std::time::Instant;
 
 /// Of a program that counts: it says what.
 pub const STATS: Entry<'static> = Entry {
     name: "--stats",
-    text: "says at the end on standard error what was counted, in lines c NAME NUMBER",
+    text: "print statistics to standard error at the end, as lines c NAME NUMBER",
 };
+
+/// The same for other programs to read.
+pub const JSON: Entry<'static> = Entry {
+    name: "--json",
+    text: "print statistics to standard error at the end, as one line of JSON",
+};
+
+/// How statistics are printed.
+#[derive(Clone, Copy)]
+pub enum StatsForm {
+    /// A line `c NAME NUMBER` for each.
+    Lines,
+    /// One line, an object of JSON.
+    Json,
+}
+
+impl StatsForm {
+    /// Returns how the call wants statistics, or None if it does not want any.
+    pub fn of(call: &Call<'_>) -> Option<StatsForm> {
+        if call.has(JSON.name) {
+            Some(StatsForm::Json)
+        } else if call.has(STATS.name) {
+            Some(StatsForm::Lines)
+        } else {
+            None
+        }
+    }
+
+    /// Adds a figure to those of a text.
+    fn add<D: Display>(
+        self,
+        figures: &mut String,
+        name: &str,
+        figure: &D,
+    ) -> Result<(), AllocError> {
+        let is_first = figures.is_empty();
+        match self {
+            StatsForm::Lines if is_first => write!(figures, "c {name} {figure}"),
+            StatsForm::Lines => write!(figures, "\nc {name} {figure}"),
+            StatsForm::Json if is_first => write!(figures, "\"{name}\": {figure}"),
+            StatsForm::Json => write!(figures, ", \"{name}\": {figure}"),
+        }
+    }
+}
 
 /// When a run began, if the clock tells that.
 #[derive(Clone, Copy)]
@@ -23,32 +70,46 @@ impl Cost {
         }
     }
 
-    /// Says on standard error how many seconds the run took so far, and how many kilobytes of
-    /// memory it had at most, each where the system tells it.
-    pub fn say(self, rt: &HostRuntime) {
+    /// Prints these counts to standard error, and then how many seconds the run took so far and how
+    /// many kilobytes of memory it had at most, each if the system reports it. Nothing is printed
+    /// if there is no memory for the text.
+    pub fn say(self, rt: &HostRuntime, form: StatsForm, counts: &[(&str, u64)]) {
+        let Ok(figures) = self.figures(rt, form, counts) else {
+            return;
+        };
+        let _ = match form {
+            StatsForm::Lines => eprintln!(rt; "{figures}"),
+            StatsForm::Json => eprintln!(rt; "{{{figures}}}"),
+        };
+    }
+
+    fn figures(
+        self,
+        rt: &HostRuntime,
+        form: StatsForm,
+        counts: &[(&str, u64)],
+    ) -> Result<String, AllocError> {
+        let mut figures = String::new(rt.alloc());
+        for (name, number) in counts {
+            form.add(&mut figures, name, number)?;
+        }
         if let Some(began) = self.began
             && let Ok(time) = began.elapsed(rt)
         {
             let (seconds, millis) = (time.as_secs(), time.subsec_millis());
-            let _ = eprintln!(rt; "c seconds {seconds}.{millis:03}");
+            let seconds = format!(in rt.alloc(); "{seconds}.{millis:03}")?;
+            form.add(&mut figures, "seconds", &seconds)?;
         }
-        if let Some(most) = most_memory(rt) {
-            say_figure(rt, "memory_kb", most);
+        if let Some(most) = kilobytes(rt, "/proc/self/status", "VmHWM:") {
+            form.add(&mut figures, "memory_kb", &most)?;
         }
+        Ok(figures)
     }
 }
 
-/// Says a number on standard error, behind its name.
-pub fn say_figure(rt: &HostRuntime, name: &str, number: u64) {
-    let _ = eprintln!(rt; "c {name} {number}");
-}
-
-/// The greatest number of kilobytes that the process had in memory.
-fn most_memory(rt: &HostRuntime) -> Option<u64> {
-    let status = fs::read_to_string(rt, "/proc/self/status").ok()?;
-    let line = status
-        .as_str()
-        .lines()
-        .find(|line| line.starts_with("VmHWM:"))?;
+/// The number behind a name, in a file in which the system tells kilobytes.
+pub(crate) fn kilobytes(rt: &HostRuntime, file: &str, name: &str) -> Option<u64> {
+    let told = fs::read_to_string(rt, file).ok()?;
+    let line = told.as_str().lines().find(|line| line.starts_with(name))?;
     line.split_ascii_whitespace().nth(1)?.parse().ok()
 }

@@ -4,7 +4,7 @@ use crate::about::Entry;
 /// Of a program that can be tried without a file: it is.
 pub const EXAMPLE: Entry<'static> = Entry {
     name: "--example",
-    text: "checks a small fixed example, in place of files",
+    text: "check a small fixed example, in place of files",
 };
 
 /// Four clauses, one against each pair of values of two variables.

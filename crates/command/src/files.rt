@@ -85,7 +85,7 @@ pub fn open_inputs<'a>(
         return Some((first, open_input(rt, second)?));
     }
     if first == STANDARD_INPUT {
-        let _ = eprintln!(rt; "- stands twice: only one file can be standard input");
+        let _ = eprintln!(rt; "- given twice: only one file can be standard input");
         return None;
     }
     // Descriptor 0 is looked at first: were it closed, the next file that is opened would be it.

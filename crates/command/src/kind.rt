@@ -1,6 +1,6 @@
 //! What the first bytes of a file say that it is.
-ghost use Rattle.std.specs.Prelude.{◌≡◌, ◌&&◌, ◌||◌};
-ghost use Rattle.command.specs.Kinds.{is_binary_proof, is_drat_text, is_formula, kind_by, ends_at_zero};
+ghost use Rattle.std.specs.Prelude.{◌≡◌, ◌&&◌, ◌||◌, false};
+ghost use Rattle.command.specs.Kinds.{behind_comments, ends_at_zero, is_aiger, is_binary_proof, is_drat_text, is_lrat_text, is_lrat_line, is_solver_output, is_xor_clause, kind_by, kind_of_lines, is_xor_formula};
 
 /// A kind of file that a program is given by mistake.
 #[derive(Clone, Copy, Debug, PartialEq, Eq)]
@@ -9,12 +9,28 @@ pub enum Kind {
     Xz,
     Zstd,
     Bzip2,
+    /// UTF-8 with the mark that some editors write ahead.
+    ByteOrderMark,
+    Aiger,
     /// A step of binary LRAT or of binary DRAT, and a byte 0 as no text has one.
     BinaryProof,
+    Html,
+    SmtLib,
+    /// Lines that begin with `#`.
+    HashComments,
     /// The header of a formula, behind comments.
     Formula,
+    /// The same, or none, and then a line as cryptominisat has it.
+    XorFormula,
+    CubeFormula,
+    WeightedFormula,
+    CardinalityFormula,
+    /// A status, or values.
+    SolverOutput,
     /// A line of DRAT text: a deletion, or numbers whose only 0 ends the line.
     DratText,
+    /// A line of LRAT text: a deletion, or numbers with a second 0, which ends the line.
+    LratText,
 }
 
 impl Kind {
@@ -25,16 +41,27 @@ impl Kind {
             Kind::Xz => "an xz file",
             Kind::Zstd => "a zstd file",
             Kind::Bzip2 => "a bzip2 file",
+            Kind::ByteOrderMark => "text with a byte order mark",
+            Kind::Aiger => "an AIGER circuit",
             Kind::BinaryProof => "binary LRAT or binary DRAT",
+            Kind::Html => "an HTML page",
+            Kind::SmtLib => "SMT-LIB text",
+            Kind::HashComments => "text with # comments",
             Kind::Formula => "a formula",
+            Kind::XorFormula => "a formula with XOR clauses",
+            Kind::CubeFormula => "a formula with cubes (p inccnf)",
+            Kind::WeightedFormula => "a weighted formula (p wcnf)",
+            Kind::CardinalityFormula => "a formula with cardinality constraints (p knf)",
+            Kind::SolverOutput => "what a solver prints",
             Kind::DratText => "DRAT text",
+            Kind::LratText => "LRAT text",
         }
     }
 }
 
 /// Which of these kinds a file is that begins with the bytes, if it is one.
 ///
-/// A formula may begin as DRAT text, and is none.
+/// A formula may begin as DRAT text or LRAT text, and is none.
 pub fn kind_of(bytes: &[u8]) -> Option<Kind>
     ensures { result ≡ kind_by bytes.now }
 {
@@ -46,15 +73,53 @@ pub fn kind_of(bytes: &[u8]) -> Option<Kind>
         Some(Kind::Zstd)
     } else if bytes.starts_with(b"BZh") {
         Some(Kind::Bzip2)
+    } else if bytes.starts_with(b"\xEF\xBB\xBF") {
+        Some(Kind::ByteOrderMark)
+    } else if is_aiger(bytes) {
+        Some(Kind::Aiger)
     } else if is_binary_proof(bytes) {
         Some(Kind::BinaryProof)
-    } else if is_formula(bytes, false) {
+    } else if bytes.starts_with(b"<") {
+        Some(Kind::Html)
+    } else if bytes.starts_with(b"(") {
+        Some(Kind::SmtLib)
+    } else if bytes.starts_with(b"#") {
+        Some(Kind::HashComments)
+    } else {
+        kind_of_lines(behind_comments(bytes, false))
+    }
+}
+
+/// The same of a text, by the lines behind its first comments.
+#[tactic(auto, unfolding(crate::specs::Kinds::kind_of_lines))]
+fn kind_of_lines(text: &[u8]) -> Option<Kind>
+    ensures { result ≡ kind_of_lines text.now }
+{
+    if is_xor_formula(text) {
+        Some(Kind::XorFormula)
+    } else if text.starts_with(b"p cnf") {
         Some(Kind::Formula)
-    } else if is_drat_text(bytes) {
+    } else if text.starts_with(b"p inccnf") {
+        Some(Kind::CubeFormula)
+    } else if text.starts_with(b"p wcnf") {
+        Some(Kind::WeightedFormula)
+    } else if text.starts_with(b"p knf") {
+        Some(Kind::CardinalityFormula)
+    } else if is_solver_output(text) {
+        Some(Kind::SolverOutput)
+    } else if is_drat_text(text) {
         Some(Kind::DratText)
+    } else if is_lrat_text(text) {
+        Some(Kind::LratText)
     } else {
         None
     }
+}
+
+fn is_aiger(bytes: &[u8]) -> bool
+    ensures { result ≡ is_aiger bytes.now }
+{
+    bytes.starts_with(b"aag ") || bytes.starts_with(b"aig ")
 }
 
 fn is_binary_proof(bytes: &[u8]) -> bool
@@ -63,21 +128,49 @@ fn is_binary_proof(bytes: &[u8]) -> bool
     (bytes.starts_with(b"a") || bytes.starts_with(b"d")) && bytes.contains(&0)
 }
 
-/// Whether a header comes behind comments.
-fn is_formula(bytes: &[u8], in_comment: bool) -> bool
-    ensures { result ≡ is_formula in_comment bytes.now }
+/// What stands behind the lines that begin with `c`, and behind the first one in any case, where
+/// one is begun.
+fn behind_comments(bytes: &[u8], in_line: bool) -> &[u8]
+    ensures { result.now ≡ behind_comments in_line bytes.now }
 {
-    let mut in_comment = in_comment;
+    let mut in_line = in_line;
     for (place, byte) in bytes.iter().enumerate() {
-        if in_comment {
-            in_comment = *byte != b'\n';
+        if in_line {
+            in_line = *byte != b'\n';
         } else if *byte == b'c' {
-            in_comment = true;
+            in_line = true;
         } else {
-            return bytes[place..].starts_with(b"p cnf");
+            return &bytes[place..];
         }
     }
-    false
+    &[]
+}
+
+/// Whether the first line is such a clause, or a header and the next line is.
+fn is_xor_formula(text: &[u8]) -> bool
+    ensures { result ≡ is_xor_formula text.now }
+{
+    let first = if text.starts_with(b"p cnf") {
+        behind_comments(text, true)
+    } else {
+        text
+    };
+    is_xor_clause(first)
+}
+
+fn is_xor_clause(text: &[u8]) -> bool
+    ensures { result ≡ is_xor_clause text.now }
+{
+    match text {
+        [b'x', byte, ..] => *byte == b' ' || *byte == b'-' || byte.is_ascii_digit(),
+        _ => false,
+    }
+}
+
+fn is_solver_output(text: &[u8]) -> bool
+    ensures { result ≡ is_solver_output text.now }
+{
+    text.starts_with(b"s ") || text.starts_with(b"v ")
 }
 
 fn is_drat_text(bytes: &[u8]) -> bool
@@ -105,6 +198,45 @@ fn ends_at_zero(bytes: &[u8]) -> bool
             (Word::Nothing, b'0') => Word::Zero,
             (Word::Nothing, b'-') | (Word::Nothing | Word::Number, b'0'..=b'9') => Word::Number,
             (Word::Number, b' ') => Word::Nothing,
+            _ => return false,
+        };
+    }
+    false
+}
+
+/// Which part of a line of LRAT is read.
+#[derive(Clone, Copy)]
+enum Part {
+    Id,
+    /// Behind the id.
+    First,
+    Nothing,
+    Zero,
+    Number,
+}
+
+fn is_lrat_text(text: &[u8]) -> bool
+    ensures { result ≡ is_lrat_text text.now }
+{
+    !text.starts_with(b"0") && is_lrat_line(text)
+}
+
+/// Whether the first line is a number and a deletion, or a number, literals up to 0 and others up
+/// to a 0 at its end.
+fn is_lrat_line(bytes: &[u8]) -> bool
+    ensures { result ≡ is_lrat_line Part.Id bytes.now }
+{
+    let mut part = Part::Id;
+    for (place, byte) in bytes.iter().enumerate() {
+        part = match (part, *byte) {
+            (Part::Id, b'0'..=b'9') => Part::Id,
+            (Part::Id, b' ') => Part::First,
+            (Part::First, b'd') => return bytes[place..].starts_with(b"d "),
+            (Part::Zero, b' ') => return ends_at_zero(&bytes[place + 1..]),
+            (Part::First | Part::Nothing, b'0') => Part::Zero,
+            (Part::First | Part::Nothing, b'-')
+            | (Part::First | Part::Nothing | Part::Number, b'0'..=b'9') => Part::Number,
+            (Part::Number, b' ') => Part::Nothing,
             _ => return false,
         };
     }

@@ -7,19 +7,22 @@ mod call;
 mod cost;
 mod example;
 mod files;
+mod guilty;
 mod held;
 mod kind;
 mod places;
 mod status;
+mod streams;
 mod told;
 mod written;
 
 pub use about::{About, CNF, Entry};
 pub use begin::{IDS, ids_of, input_names, misused, run_program, unnamed};
 pub use call::{Call, Misuse, Setting, read_words};
-pub use cost::{Cost, STATS, say_figure};
+pub use cost::{Cost, JSON, STATS, StatsForm};
 pub use example::{EXAMPLE, EXAMPLE_FORMULA, EXAMPLE_LRAT};
 pub use files::{Input, Source, open_again, open_file, open_inputs, warn_of_header};
+pub use guilty::FaultLine;
 pub use held::HeldBytes;
 pub use kind::{Kind, kind_of};
 pub use places::{

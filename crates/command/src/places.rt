@@ -3,15 +3,19 @@ ghost use Rattle.std.specs.Prelude.{◌≡◌, ◌⊎◌, IfErr, IfOk};
 ghost use Rattle.command.specs.Inputs.{IsOpenedBy};
 
 use crate::files::{Input, open_again, open_inputs, warn_of_header};
+use crate::guilty::FaultLine;
 use crate::held::{HeldBytes, hold_input};
 use crate::kind::{Kind, kind_of};
 use crate::status::{FAILED, NOT_RUN};
+use sat_formula::DimacsFault;
 use std::fmt::Display;
 use std::io;
-use std::io::Read;
+use std::io::{ErrorKind, Read};
 
 /// How many bytes of such a file are looked at.
-const HEAD: usize = 256;
+const HEAD: usize = 16_384;
+
+const TOO_LARGE: &str = "only a regular file may be larger than half of the free memory";
 
 /// The names of the two files that a run reads: the formula, and what is checked with it.
 #[derive(Clone, Copy)]
@@ -23,17 +27,34 @@ pub struct InputNames<'a> {
 /// In which file the fault of a run is.
 #[derive(Clone, Copy)]
 pub enum FaultPlace<'a> {
-    Formula,
+    /// On this line, if its text is at fault.
+    Formula(Option<FaultLine>),
+    /// A proof that is neither DRAT nor LRAT.
     Proof,
     /// A proof that may begin with the bytes of DRAT.
     DratProof,
+    /// A proof that may begin with those of LRAT.
+    LratProof,
     Answer,
-    /// The clauses that are wanted behind a piece, by the name of their file.
-    Wanted(&'a str),
+    /// The clauses that are wanted behind a piece, by the name of their file; on this line, if
+    /// their text is at fault.
+    Wanted(&'a str, Option<FaultLine>),
     /// A file that is written, by its name.
     Output(Option<&'a str>),
     /// In none of them, as where the verdict's line could not be written.
     Elsewhere,
+}
+
+impl<'a> FaultPlace<'a> {
+    /// Where a formula is at fault.
+    pub fn in_formula(fault: &DimacsFault) -> FaultPlace<'a> {
+        FaultPlace::Formula(FaultLine::of(fault))
+    }
+
+    /// Where the wanted clauses are at fault.
+    pub fn in_wanted(name: &'a str, fault: &DimacsFault) -> FaultPlace<'a> {
+        FaultPlace::Wanted(name, FaultLine::of(fault))
+    }
 }
 
 /// Says on standard error why a run has no verdict, where it has none.
@@ -52,11 +73,12 @@ pub fn say_fault<D: Display>(
 ) {
     let _ = eprintln!(rt; "{fault}");
     match place {
-        FaultPlace::Formula => say_formula(rt, names.cnf, names.other),
+        FaultPlace::Formula(line) => say_formula(rt, names.cnf, line, names.other),
         FaultPlace::Proof => say_proof(rt, names.other),
         FaultPlace::DratProof => say_drat_proof(rt, names.other),
+        FaultPlace::LratProof => say_lrat_proof(rt, names.other),
         FaultPlace::Answer => say_answer(rt, names.other),
-        FaultPlace::Wanted(holds) => say_formula(rt, holds, names.other),
+        FaultPlace::Wanted(holds, line) => say_formula(rt, holds, line, names.other),
         FaultPlace::Output(Some(name)) => {
             let _ = eprintln!(rt; "in {name}");
         }
@@ -88,7 +110,8 @@ pub fn say_missing<M: Display>(rt: &HostRuntime, holds: &str, missing: &Option<M
 }
 
 /// Reads a file of a run whole. An Err is the exit status where it can't be read; standard error
-/// says which fault that is, and that it is at this place.
+/// says which fault that is, and that it is at this place, and of a file that is too large what may
+/// be larger.
 pub fn hold_file<D: Display + Drop, F: FnOnce(io::Error) -> D>(
     rt: &HostRuntime,
     names: InputNames<'_>,
@@ -102,7 +125,11 @@ pub fn hold_file<D: Display + Drop, F: FnOnce(io::Error) -> D>(
     match hold_input(rt, file) {
         Ok(held) => Ok(held),
         Err(fault) => {
+            let is_too_large = fault.kind() == ErrorKind::FileTooLarge;
             say_fault(rt, names, &fault_of(fault), place);
+            if is_too_large {
+                let _ = eprintln!(rt; "{TOO_LARGE}");
+            }
             Err(FAILED)
         }
     }
@@ -120,20 +147,24 @@ pub fn open_and_hold<'a, D: Display + Drop, F: FnOnce(io::Error) -> D>(
     ensures other { IfOk result (λ opened. IsOpenedBy names.entry.other.now opened.1) }
 {
     let (cnf, other) = open_inputs(rt, names.cnf, names.other).ok_or(NOT_RUN)?;
-    let cnf = hold_file(rt, names, cnf, FaultPlace::Formula, fault_of)?;
+    let cnf = hold_file(rt, names, cnf, FaultPlace::Formula(None), fault_of)?;
     Ok((cnf, other))
 }
 
-/// Says on standard error, after a fault of a formula, which file it is, and asks whether the
-/// names of this file and of the other one that is read were exchanged, where either begins so.
+/// Says on standard error, after a fault of a formula, which file it is and what is wrong there,
+/// and asks whether the names of this file and of the other one that is read were exchanged, where
+/// either begins so.
 ///
 /// Where it is a regular file that begins as one of a kind that is not read, that is said of it.
-fn say_formula(rt: &HostRuntime, name: &str, other: &str) {
+fn say_formula(rt: &HostRuntime, name: &str, line: Option<FaultLine>, other: &str) {
     let kind = match kind_of_file(rt, name) {
-        Some(Kind::DratText | Kind::Formula) => None,
+        Some(Kind::DratText | Kind::LratText | Kind::Formula) => None,
         kind => kind,
     };
     say_place(rt, name, kind);
+    if let (None, Some(line)) = (kind, line) {
+        line.say(rt, name);
+    }
     if kind == Some(Kind::BinaryProof) || kind_of_file(rt, other) == Some(Kind::Formula) {
         ask_order(rt);
     }
@@ -144,7 +175,7 @@ fn say_formula(rt: &HostRuntime, name: &str, other: &str) {
 /// Where it is a regular file that begins as one of a kind that is not read, that is said of it.
 fn say_answer(rt: &HostRuntime, name: &str) {
     match kind_of_file(rt, name) {
-        Some(Kind::DratText) => say_place(rt, name, None),
+        Some(Kind::DratText | Kind::LratText | Kind::SolverOutput) => say_place(rt, name, None),
         kind => say_kind(rt, name, kind),
     }
 }
@@ -156,9 +187,15 @@ fn say_proof(rt: &HostRuntime, name: &str) {
     say_kind(rt, name, kind_of_file(rt, name));
 }
 
-/// Says on standard error, after a fault of a DRAT proof, which file it is.
-///
-/// Where it is a regular file that begins as a compressed one, that is said of it.
+/// The same of an LRAT proof.
+fn say_lrat_proof(rt: &HostRuntime, name: &str) {
+    match kind_of_file(rt, name) {
+        Some(Kind::LratText) => say_place(rt, name, None),
+        kind => say_kind(rt, name, kind),
+    }
+}
+
+/// The same of a DRAT proof, be it binary.
 fn say_drat_proof(rt: &HostRuntime, name: &str) {
     match kind_of_file(rt, name) {
         Some(Kind::DratText | Kind::BinaryProof) => say_place(rt, name, None),

@@ -7,19 +7,19 @@ use progress::{Progress, ToldBytes};
 /// Of a program that tells how far a run has come: it does not.
 pub const QUIET: Entry<'static> = Entry {
     name: "--quiet",
-    text: "says nothing of how far a long run has come, on a terminal neither",
+    text: "no progress output, not even on a terminal",
 };
 
 /// Of such a program: it does so in lines, wherever standard error goes.
 pub const VERBOSE: Entry<'static> = Entry {
     name: "--verbose",
-    text: "says twice a second on standard error how far a run has come, as it does on a terminal",
+    text: "print progress to standard error twice a second",
 };
 
 /// The variable of a program that logs.
 pub const RUST_LOG: Entry<'static> = Entry {
     name: "RUST_LOG",
-    text: "what is logged to standard error, as info; without it nothing is",
+    text: "level of the log on standard error, as info (default: no log)",
 };
 
 /// The progress of a run that begins now, as `--quiet` and `--verbose` ask.

@@ -8,19 +8,22 @@ use crate::status::NOT_RUN;
 use std::fs::{File, Metadata};
 use std::io::{BufWriter, Write};
 use std::os::unix::fs::MetadataExt;
-use std::{fs, io};
+use std::{fs, io, process};
 
-/// What stands behind the name of a file that is not whole.
+/// What stands behind the name of a file that is not whole, and a number.
 const UNFINISHED: &str = ".new";
+
+/// How many numbers are tried for a name that no file has.
+const TRIES: u32 = 1000;
 
 const ONE_FILE: &str = "both outputs are one file";
 
 /// The files that a call writes.
 ///
-/// A regular file, and one that is not there yet, is written as a new file, with `.new` behind its
-/// name, and gets its own name once all are whole. What stood there before stays until then. Where
-/// that does not come, the new file is taken away. What else a name leads to, as a pipe or a
-/// device, is written in place.
+/// A regular file, and one that is not there yet, is written as a new file, under a name that no
+/// other file has, and gets its own name once all are whole. What stood there before stays until
+/// then. Where that does not come, the new file is taken away. What else a name leads to, as a pipe
+/// or a device, is written in place.
 pub struct WrittenFiles<'a> {
     rt: &'a HostRuntime,
     /// The names of all, as the call has them.
@@ -59,6 +62,7 @@ impl<'a> WrittenFiles<'a> {
     pub fn create(&mut self, name: &'a str, inputs: &[&Input<'_>]) -> Option<File>
         ensures same { is_among name.now self.old ≡ true → IsNone result }
         ensures dash { name.now ≡ codes "-" → IsNone result }
+        ensures empty { name.now ≡ [] → IsNone result }
         ensures named { is_read name.now inputs.now ≡ true → IsNone result }
         ensures names { IfSome result (λ file. names_of self.new
             ≡ names_of self.old ++ name.now ∷ []) }
@@ -75,7 +79,7 @@ impl<'a> WrittenFiles<'a> {
             return refuse(self.rt, name, "out of memory");
         }
         match place_of(self.rt, name) {
-            Ok(Some(place)) => self.create_new(place, inputs),
+            Ok(Some(place)) => self.create_new(place),
             Ok(None) => opened(self.rt, name, File::create(self.rt, name)),
             Err(fault) => refuse(self.rt, name, fault),
         }
@@ -92,6 +96,7 @@ impl<'a> WrittenFiles<'a> {
         ensures same { IfSome name.entry (λ name. is_among name.now self.old ≡ true
             → IsErr result) }
         ensures dash { IfSome name.entry (λ name. name.now ≡ codes "-" → IsErr result) }
+        ensures empty { IfSome name.entry (λ name. name.now ≡ [] → IsErr result) }
         ensures named { IfSome name.entry (λ name. is_read name.now inputs.now ≡ true
             → IsErr result) }
         ensures wanted { IfOk result (λ file. is_some file ≡ is_some name.entry) }
@@ -115,44 +120,60 @@ impl<'a> WrittenFiles<'a> {
     }
 
     /// Makes a file for what is to have this name.
-    fn create_new(&mut self, own_name: String, inputs: &[&Input<'_>]) -> Option<File>
+    fn create_new(&mut self, own_name: String) -> Option<File>
+        ensures { names_of self.new ≡ names_of self.old }
+    {
+        let (file, name) = self.fresh_file(own_name.as_str())?;
+        self.add(file, name, own_name)
+    }
+
+    /// Makes a file, with the first number behind the name, from that of the process on, of which
+    /// there is none: no file is written over, also not one of another run.
+    fn fresh_file(&self, own_name: &str) -> Option<(File, String)> {
+        let rt = self.rt;
+        let first = process::id(rt.process());
+        for number in first..first.saturating_add(TRIES) {
+            let name = match format!(in rt.alloc(); "{own_name}.{number}{UNFINISHED}") {
+                Ok(name) => name,
+                Err(fault) => return refuse(rt, own_name, fault),
+            };
+            // One of these that has the name is made for the same own name, by another path.
+            if self.is_written(name.as_str()) {
+                return refuse(rt, own_name, ONE_FILE);
+            }
+            match File::create_new(rt, name.as_str()) {
+                Ok(file) => return Some((file, name)),
+                Err(fault) if fault.kind() == io::ErrorKind::AlreadyExists => {}
+                Err(fault) => return refuse(rt, own_name, fault),
+            }
+        }
+        refuse(rt, own_name, "no name is left for the new file")
+    }
+
+    /// Has one more file that does not have its own name: one that was made just now.
+    fn add(&mut self, file: File, name: String, own_name: String) -> Option<File>
         ensures { names_of self.new ≡ names_of self.old }
     {
         let rt = self.rt;
-        let name = match format!(in rt.alloc(); "{own_name}{UNFINISHED}") {
-            Ok(name) => name,
-            Err(fault) => return refuse(rt, own_name.as_str(), fault),
+        let made = match prepare(rt, &file, own_name.as_str()) {
+            Ok(made) => made,
+            Err(fault) => {
+                let _ = fs::remove_file(rt, name.as_str());
+                return refuse(rt, own_name.as_str(), fault);
+            }
         };
-        if self.is_written(name.as_str()) {
-            return refuse(rt, own_name.as_str(), ONE_FILE);
-        }
-        if let Some(why) = refusal_of(rt, name.as_str(), inputs) {
-            return refuse(rt, name.as_str(), why);
-        }
-        let file = opened(
-            rt,
-            name.as_str(),
-            new_file(rt, name.as_str(), own_name.as_str()),
-        )?;
-        match file.metadata() {
-            Ok(made) => self.add(Unfinished {
-                name,
-                own_name,
-                device: made.dev(),
-                number: made.ino(),
-            })?,
-            Err(fault) => return refuse(rt, name.as_str(), fault),
-        }
-        Some(file)
-    }
-
-    /// Has one more file that does not have its own name.
-    fn add(&mut self, file: Unfinished) -> Option<()>
-        ensures { names_of self.new ≡ names_of self.old }
-    {
-        match self.unfinished.push(file) {
-            Ok(()) => Some(()),
-            Err(_) => refuse(self.rt, "an output", "out of memory"),
+        let added = self.unfinished.push(Unfinished {
+            name,
+            own_name,
+            device: made.dev(),
+            number: made.ino(),
+        });
+        match added {
+            Ok(()) => Some(file),
+            Err(failed) => {
+                failed.value.take_away(rt);
+                refuse(rt, failed.value.own_name.as_str(), "out of memory")
+            }
         }
     }
 
@@ -205,9 +226,7 @@ impl Drop for WrittenFiles<'_> {
             unfinished,
         } = self;
         for file in &unfinished {
-            if file.is_there(rt) {
-                let _ = fs::remove_file(rt, file.name.as_str());
-            }
+            file.take_away(rt);
         }
     }
 }
@@ -218,6 +237,12 @@ impl Unfinished {
         match fs::symlink_metadata(rt, self.name.as_str()) {
             Ok(there) => there.dev() == self.device && there.ino() == self.number,
             Err(_) => false,
+        }
+    }
+
+    fn take_away(&self, rt: &HostRuntime) {
+        if self.is_there(rt) {
+            let _ = fs::remove_file(rt, self.name.as_str());
         }
     }
 
@@ -267,18 +292,12 @@ fn place_of(rt: &HostRuntime, name: &str) -> io::Result<Option<String>> {
     Ok(Some(String::from_str(rt.alloc(), name)?))
 }
 
-/// Makes a file that is not there, with the permissions of that which it will take the place of.
-/// One that an earlier run has left is taken away.
-fn new_file(rt: &HostRuntime, name: &str, own_name: &str) -> io::Result<File> {
-    match fs::remove_file(rt, name) {
-        Err(fault) if fault.kind() != io::ErrorKind::NotFound => return Err(fault),
-        Ok(()) | Err(_) => {}
-    }
-    let file = File::create_new(rt, name)?;
+/// Gives a file the permissions of that which it will take the place of, and says what it is.
+fn prepare(rt: &HostRuntime, file: &File, own_name: &str) -> io::Result<Metadata> {
     if let Ok(there) = fs::metadata(rt, own_name) {
         file.set_permissions(there.permissions())?;
     }
-    Ok(file)
+    file.metadata()
 }
 
 /// Says of a file that can't be opened why.
@@ -289,23 +308,36 @@ fn opened(rt: &HostRuntime, name: &str, file: io::Result<File>) -> Option<File> 
     }
 }
 
-/// Why a name may not be written: it is `-`, one of the inputs has it, or where the system tells
-/// it, it leads to the regular file of an input, of standard output or of standard error.
+/// Why a name may not be written: it is empty, it is `-`, one of the inputs has it, or where the
+/// system tells it, it is a link to nothing, or leads to the regular file of an input, of standard
+/// output or of standard error.
 fn refusal_of(rt: &HostRuntime, name: &str, inputs: &[&Input<'_>]) -> Option<&'static str>
     ensures dash { name.now ≡ codes "-" → IsSome result }
+    ensures empty { name.now ≡ [] → IsSome result }
     ensures named { is_read name.now inputs.now ≡ true → IsSome result }
 {
     let there = fs::metadata(rt, name);
     if name == STANDARD_INPUT {
-        Some("- stands for standard input, and nothing is written to that")
+        Some("- is standard input, and no output")
+    } else if name.is_empty() {
+        Some("the name of an output is empty")
     } else if is_read(rt, name, &there, inputs) {
         Some("the output is a file that is read")
     } else if is_one_file(&there, &fs::metadata(rt, "/proc/self/fd/1")) {
         Some("the output is the file of standard output")
     } else if is_one_file(&there, &fs::metadata(rt, "/proc/self/fd/2")) {
         Some("the output is the file of standard error")
+    } else if there.is_err() && is_link(rt, name) {
+        Some("the output is a link that leads to nothing")
     } else {
         None
+    }
+}
+
+fn is_link(rt: &HostRuntime, name: &str) -> bool {
+    match fs::symlink_metadata(rt, name) {
+        Ok(there) => there.is_symlink(),
+        Err(_) => false,
     }
 }
 

@@ -38,12 +38,12 @@ fn text_about_a_program(rt: HostRuntime) {
         \x20 ONE           the first\n\n\
          options:\n\
         \x20 --two N       twice\n\
-        \x20 --help        says how the program is called\n\
-        \x20 --version     says of which version it is\n\n\
+        \x20 --help        show this help\n\
+        \x20 --version     show the version\n\n\
          exit status:\n\
         \x20 0             well\n\
-        \x20 1             a file is malformed or refused, or a read, a write or an allocation \
-         failed: nothing is claimed, and standard error says why\n\
+        \x20 1             no verdict: a file is malformed or rejected, or a read, a write or an \
+         allocation failed; the reason is on standard error\n\
         \x20 2             wrong arguments, or a file that can't be opened\n\
         \x20 3             not yet\n\n\
          environment:\n\

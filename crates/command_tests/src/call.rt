@@ -63,18 +63,18 @@ const READ: [Row; 16] = [
 
 /// Words, and what is said of the one that is wrong.
 const MISREAD: [(&[&str], &str); 14] = [
-    (&["f", "p", "q"], "a file too many: q"),
-    (&["f", "--", "p", "-x"], "a file too many: -x"),
+    (&["f", "p", "q"], "unexpected argument: q"),
+    (&["f", "--", "p", "-x"], "unexpected argument: -x"),
     (&["--drt", "f"], "there is no option --drt"),
     (&["f", "--dratt"], "there is no option --dratt"),
     (&["f", "--dra"], "there is no option --dra"),
     (&["f", "-d"], "there is no option -d"),
     (&["--lratl"], "there is no option --lratl"),
     (&["---", "f"], "there is no option ---"),
-    (&["--drat", "f", "--drat"], "--drat stands twice"),
-    (&["--lrat", "a", "--lrat=b"], "--lrat stands twice"),
-    (&["-h", "--help"], "--help stands twice"),
-    (&["f", "p", "--lrat"], "--lrat has no value"),
+    (&["--drat", "f", "--drat"], "--drat given twice"),
+    (&["--lrat", "a", "--lrat=b"], "--lrat given twice"),
+    (&["-h", "--help"], "--help given twice"),
+    (&["f", "p", "--lrat"], "--lrat needs a value"),
     (&["--drat=1", "f"], "--drat takes no value"),
     (&["f", "--help="], "--help takes no value"),
 ];

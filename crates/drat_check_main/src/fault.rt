@@ -1,5 +1,5 @@
 //! What is said of a run that has no verdict, and what was counted.
-use command::{Call, Cost, FaultPlace, say_figure};
+use command::{Call, Cost, FaultPlace, StatsForm};
 use drat_check::{PieceFault, ProofFormat, RunCounts, RunFault};
 use sat_formula::DimacsFault;
 use std::io;
@@ -18,8 +18,8 @@ pub(crate) fn place_of<'a>(
     call: &'a Call<'_>,
 ) -> FaultPlace<'a> {
     match fault {
-        RunFault::Formula(_) => FaultPlace::Formula,
-        RunFault::Proof(_) if format == ProofFormat::Lpr => FaultPlace::Proof,
+        RunFault::Formula(fault) => FaultPlace::in_formula(fault),
+        RunFault::Proof(_) if format == ProofFormat::Lpr => FaultPlace::LratProof,
         RunFault::Proof(_) => FaultPlace::DratProof,
         RunFault::Lrat(_) => FaultPlace::Output(call.value("--lrat")),
         RunFault::Trim(_) => FaultPlace::Output(call.value("--trim")),
@@ -31,12 +31,12 @@ pub(crate) fn place_of<'a>(
 pub(crate) fn place_in_piece<'a>(
     fault: &PieceFault,
     format: ProofFormat,
-    wanted: FaultPlace<'a>,
+    holds: &'a str,
     call: &'a Call<'_>,
 ) -> FaultPlace<'a> {
     match fault {
         PieceFault::Run(fault) => place_of(fault, format, call),
-        PieceFault::Wanted(_) => wanted,
+        PieceFault::Wanted(fault) => FaultPlace::in_wanted(holds, fault),
         PieceFault::Lost => FaultPlace::Elsewhere,
     }
 }
@@ -49,12 +49,14 @@ pub(crate) fn is_unread(fault: &PieceFault) -> bool {
     )
 }
 
-/// Says what a run counted, up to where it ended, and what it cost.
-pub(crate) fn say_stats(rt: &HostRuntime, counts: RunCounts, cost: Cost) {
-    say_figure(rt, "steps", counts.steps);
-    say_figure(rt, "lemmas", counts.lemmas);
-    say_figure(rt, "rat_lemmas", counts.redundant);
-    say_figure(rt, "hints", counts.hints);
-    say_figure(rt, "core_clauses", counts.core);
-    cost.say(rt);
+/// Prints what a run counted, up to where it ended, and what it cost.
+pub(crate) fn say_stats(rt: &HostRuntime, form: StatsForm, counts: RunCounts, cost: Cost) {
+    let counts = [
+        ("steps", counts.steps),
+        ("lemmas", counts.lemmas),
+        ("rat_lemmas", counts.redundant),
+        ("hints", counts.hints),
+        ("core_clauses", counts.core),
+    ];
+    cost.say(rt, form, &counts);
 }

@@ -3,8 +3,8 @@ use crate::about::ABOUT;
 use crate::fault::{place_of, say_stats, unread_formula};
 use crate::form_of;
 use command::{
-    Call, Cost, FaultPlace, Input, InputNames, NOT_RUN, OutputAfterFiles, WrittenFiles, hold_file,
-    open_inputs, progress_of, say_fault, warn_of_header,
+    Call, Cost, FaultPlace, Input, InputNames, NOT_RUN, OutputAfterFiles, StatsForm, WrittenFiles,
+    hold_file, open_inputs, progress_of, say_fault, warn_of_header,
 };
 use drat_check::{Outputs, ProofFormat, RunFault, exit_status, run_check};
 use std::cell::Cell;
@@ -24,7 +24,7 @@ pub(crate) fn check_files(
     let (cnf, proof) = open_inputs(rt, names.cnf, names.other).ok_or(NOT_RUN)?;
     let mut files = WrittenFiles::new(rt);
     let outputs = &mut create_outputs(&mut files, call, &[&cnf, &proof])?;
-    let cnf = hold_file(rt, names, cnf, FaultPlace::Formula, unread_formula)?;
+    let cnf = hold_file(rt, names, cnf, FaultPlace::Formula(None), unread_formula)?;
     let progress = &progress_of(rt, &ABOUT, call);
     let proof = proof.told(rt, progress);
     let out = &mut OutputAfterFiles::new(&mut files);
@@ -43,8 +43,10 @@ pub(crate) fn check_files(
         say_fault(rt, names, fault, place_of(fault, format, call));
     }
     warn_of_header(rt, names.cnf, &lie);
-    if call.has("--stats") && !matches!(outcome, Err(RunFault::Formula(_))) {
-        say_stats(rt, outputs.counts.get(), cost);
+    if let Some(form) = StatsForm::of(call)
+        && !matches!(outcome, Err(RunFault::Formula(_)))
+    {
+        say_stats(rt, form, outputs.counts.get(), cost);
     }
     Ok(exit_status(&outcome))
 }

@@ -3,8 +3,8 @@ use crate::about::ABOUT;
 use crate::fault::{is_unread, place_in_piece, say_stats, unread_formula, unread_wanted};
 use crate::files::create_outputs;
 use command::{
-    Call, Cost, FaultPlace, InputNames, NOT_RUN, OutputAfterFiles, WrittenFiles, hold_file,
-    open_file, open_inputs, progress_of, say_fault, say_missing, warn_of_header,
+    Call, Cost, FaultPlace, InputNames, NOT_RUN, OutputAfterFiles, StatsForm, WrittenFiles,
+    hold_file, open_file, open_inputs, progress_of, say_fault, say_missing, warn_of_header,
 };
 use drat_check::{PieceOutputs, ProofFormat, exit_status, run_piece};
 
@@ -35,8 +35,8 @@ pub(crate) fn check_piece<'a>(
         lie: None,
         wanted_lie: None,
     };
-    let cnf = hold_file(rt, names, cnf, FaultPlace::Formula, unread_formula)?;
-    let wanted = FaultPlace::Wanted(holds_name);
+    let cnf = hold_file(rt, names, cnf, FaultPlace::Formula(None), unread_formula)?;
+    let wanted = FaultPlace::Wanted(holds_name, None);
     let holds = hold_file(rt, names, holds, wanted, unread_wanted)?;
     let progress = &progress_of(rt, &ABOUT, call);
     let piece = piece.told(rt, progress);
@@ -52,14 +52,16 @@ pub(crate) fn check_piece<'a>(
         out,
     );
     if let Err(fault) = &outcome {
-        let place = place_in_piece(fault, format, wanted, call);
+        let place = place_in_piece(fault, format, holds_name, call);
         say_fault(rt, names, fault, place);
     }
     say_missing(rt, holds_name, &outputs.missing);
     warn_of_header(rt, names.cnf, &outputs.lie);
     warn_of_header(rt, holds_name, &outputs.wanted_lie);
-    if call.has("--stats") && !outcome.as_ref().is_err_and(is_unread) {
-        say_stats(rt, outputs.counts.get(), cost);
+    if let Some(form) = StatsForm::of(call)
+        && !outcome.as_ref().is_err_and(is_unread)
+    {
+        say_stats(rt, form, outputs.counts.get(), cost);
     }
     Ok(exit_status(&outcome))
 }

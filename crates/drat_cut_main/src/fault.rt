@@ -27,7 +27,7 @@ impl CutFailure {
     /// In which file it is.
     pub fn place(&self) -> FaultPlace<'static> {
         match self {
-            CutFailure::Formula(_) => FaultPlace::Formula,
+            CutFailure::Formula(fault) => FaultPlace::in_formula(fault),
             CutFailure::Proof(_) => FaultPlace::DratProof,
             CutFailure::Cut(_) | CutFailure::Write(_) | CutFailure::Unopened => {
                 FaultPlace::Elsewhere

@@ -21,8 +21,8 @@ pub(crate) fn check_files(rt: &HostRuntime, call: &Call<'_>) -> Result<u8, u8> {
 
 fn place_of(outcome: &Result<Verdict, RunFault>) -> FaultPlace<'static> {
     match outcome {
-        Err(RunFault::Formula(_)) => FaultPlace::Formula,
-        Err(RunFault::Read(_) | RunFault::Hints(_)) => FaultPlace::Proof,
+        Err(RunFault::Formula(fault)) => FaultPlace::in_formula(fault),
+        Err(RunFault::Read(_) | RunFault::Hints(_)) => FaultPlace::LratProof,
         Ok(_) | Err(RunFault::Write(_)) => FaultPlace::Elsewhere,
     }
 }

@@ -1,8 +1,7 @@
-//! The command `hint_check CNF LRAT [--ids WAY]`: checks lines of hints over a formula, and says in
-//! one line what they show.
+//! The command `hint_check CNF LRAT [--ids WAY]`: checks lines of hints over a formula, and prints
+//! the verdict.
 //!
-//! `--example` checks a small fixed example, `--help` says how the program is called, and
-//! `--version` of which version it is. The name `-` stands for standard input.
+//! `--example` checks a small fixed example. The name `-` is standard input.
 #![tactic(auto)]
 
 mod about;

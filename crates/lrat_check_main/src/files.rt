@@ -1,7 +1,8 @@
 //! A whole proof, in a file.
 use crate::about::ABOUT;
 use command::{
-    Call, Cost, FaultPlace, InputNames, open_and_hold, progress_of, say_fault, warn_of_header,
+    Call, Cost, FaultPlace, InputNames, StatsForm, open_and_hold, progress_of, say_fault,
+    warn_of_header,
 };
 use lrat_check::{Ids, RunFault, exit_status, run_check};
 use sat_formula::DimacsFault;
@@ -25,8 +26,10 @@ pub(crate) fn check_files(
         say_fault(rt, names, fault, place_of(fault));
     }
     warn_of_header(rt, names.cnf, &lie);
-    if call.has("--stats") && !matches!(outcome, Err(RunFault::Formula(_))) {
-        cost.say(rt);
+    if let Some(form) = StatsForm::of(call)
+        && !matches!(outcome, Err(RunFault::Formula(_)))
+    {
+        cost.say(rt, form, &[]);
     }
     Ok(exit_status(&outcome))
 }
@@ -37,8 +40,8 @@ pub(crate) fn unread_formula(fault: io::Error) -> RunFault {
 
 pub(crate) fn place_of(fault: &RunFault) -> FaultPlace<'static> {
     match fault {
-        RunFault::Formula(_) => FaultPlace::Formula,
-        RunFault::Proof(_) => FaultPlace::Proof,
+        RunFault::Formula(fault) => FaultPlace::in_formula(fault),
+        RunFault::Proof(_) => FaultPlace::LratProof,
         RunFault::Write(_) => FaultPlace::Elsewhere,
     }
 }

@@ -1,9 +1,8 @@
 //! The command `lrat_check CNF LRAT [--ids WAY] [--holds FILE]`: checks an LRAT proof against a
-//! formula, and says in one line what it shows.
+//! formula, and prints the verdict.
 //!
-//! With `--holds` the proof is one piece of a proof, behind which the clauses of a file are wanted.
-//! `--example` checks a small fixed example, `--help` says how the program is called, and
-//! `--version` of which version it is. The name `-` stands for standard input.
+//! With `--holds` the proof is one piece of a proof, and a file has its target clauses.
+//! `--example` checks a small fixed example. The name `-` is standard input.
 //! What `RUST_LOG` asks for, as `RUST_LOG=info`, is logged to standard error; else nothing is.
 #![tactic(auto)]
 

@@ -2,8 +2,8 @@
 use crate::about::ABOUT;
 use crate::files::{place_of, unread_formula};
 use command::{
-    Call, Cost, FaultPlace, InputNames, NOT_RUN, hold_file, open_file, open_inputs, progress_of,
-    say_fault, say_missing, warn_of_header,
+    Call, Cost, FaultPlace, InputNames, NOT_RUN, StatsForm, hold_file, open_file, open_inputs,
+    progress_of, say_fault, say_missing, warn_of_header,
 };
 use lrat_check::{Ids, PieceFault, PieceTold, RunFault, exit_status, run_piece};
 use sat_formula::DimacsFault;
@@ -21,8 +21,8 @@ pub(crate) fn check_piece(
     let cost = Cost::from_now(rt);
     let (cnf, piece) = open_inputs(rt, names.cnf, names.other).ok_or(NOT_RUN)?;
     let holds = open_file(rt, holds_name).ok_or(NOT_RUN)?;
-    let cnf = hold_file(rt, names, cnf, FaultPlace::Formula, unread_formula)?;
-    let wanted = FaultPlace::Wanted(holds_name);
+    let cnf = hold_file(rt, names, cnf, FaultPlace::Formula(None), unread_formula)?;
+    let wanted = FaultPlace::Wanted(holds_name, None);
     let holds = hold_file(rt, names, holds, wanted, unread_wanted)?;
     let progress = progress_of(rt, &ABOUT, call);
     let piece = piece.told(rt, &progress);
@@ -34,13 +34,15 @@ pub(crate) fn check_piece(
     let out = &mut io::writer(rt);
     let outcome = run_piece(rt.alloc(), cnf, holds, piece, ids, &mut told, out);
     if let Err(fault) = &outcome {
-        say_fault(rt, names, fault, place_in_piece(fault, wanted));
+        say_fault(rt, names, fault, place_in_piece(fault, holds_name));
     }
     say_missing(rt, holds_name, &told.missing);
     warn_of_header(rt, names.cnf, &told.lie);
     warn_of_header(rt, holds_name, &told.wanted_lie);
-    if call.has("--stats") && !outcome.as_ref().is_err_and(is_unread) {
-        cost.say(rt);
+    if let Some(form) = StatsForm::of(call)
+        && !outcome.as_ref().is_err_and(is_unread)
+    {
+        cost.say(rt, form, &[]);
     }
     Ok(exit_status(&outcome))
 }
@@ -57,9 +59,9 @@ fn is_unread(fault: &PieceFault) -> bool {
     )
 }
 
-fn place_in_piece<'a>(fault: &PieceFault, wanted: FaultPlace<'a>) -> FaultPlace<'a> {
+fn place_in_piece<'a>(fault: &PieceFault, holds: &'a str) -> FaultPlace<'a> {
     match fault {
         PieceFault::Run(fault) => place_of(fault),
-        PieceFault::Wanted(_) => wanted,
+        PieceFault::Wanted(fault) => FaultPlace::in_wanted(holds, fault),
     }
 }

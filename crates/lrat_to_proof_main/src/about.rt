@@ -4,36 +4,36 @@ use command::{About, CNF, Entry, IDS};
 /// What `--help` says.
 pub const ABOUT: About<'static> = About {
     call: "lrat_to_proof CNF LRAT PROOF [--ids WAY] [--width N]",
-    does: "Writes an LRAT proof of a formula as proof bytes, which varisat_check takes. It judges nothing.",
+    does: "Write an LRAT proof of a formula in varisat's binary format, for varisat_check. Nothing is checked.",
     operands: &[
         CNF,
         Entry {
             name: "LRAT",
-            text: "the proof, LRAT, text or binary, without RAT steps; - stands for standard input",
+            text: "the proof, LRAT, text or binary, without RAT steps; - is standard input",
         },
         Entry {
             name: "PROOF",
-            text: "the file that is written",
+            text: "the output",
         },
     ],
     options: &[
         IDS,
         Entry {
             name: "--width N",
-            text: "gives each hash N bits, from 1 to 64; without it they have 64",
+            text: "bits of each hash, from 1 to 64 (default: 64)",
         },
     ],
-    verified: "the proof is written, and comes to the empty clause or to two opposite units",
-    open: "the proof is written, and ends before that",
+    verified: "the proof is written, and derives the empty clause or two opposite units",
+    open: "the proof is written, and does not",
     environment: &[],
     examples: &[
         Entry {
             name: "lrat_to_proof formula.cnf proof.lrat proof.bytes",
-            text: "writes the bytes of a proof",
+            text: "convert a proof",
         },
         Entry {
             name: "lrat_to_proof formula.cnf proof.lrat /dev/stdout | varisat_check formula.cnf -",
-            text: "has an LRAT proof checked by varisat_check",
+            text: "check an LRAT proof by varisat_check",
         },
     ],
 };

@@ -55,9 +55,9 @@ fn write_proof(
 
 fn place_of(fault: &ConvertFault) -> FaultPlace<'static> {
     match fault {
-        ConvertFault::Formula(_) => FaultPlace::Formula,
+        ConvertFault::Formula(fault) => FaultPlace::in_formula(fault),
         ConvertFault::Read(_) | ConvertFault::Unread { .. } | ConvertFault::Refused { .. } => {
-            FaultPlace::Proof
+            FaultPlace::LratProof
         }
         ConvertFault::Write(_) | ConvertFault::OutOfMemory => FaultPlace::Elsewhere,
     }

@@ -1,8 +1,7 @@
 //! The command `lrat_to_proof CNF LRAT PROOF [--ids WAY] [--width N]`: writes an LRAT proof of a
 //! formula as proof bytes, which `varisat_check` takes.
 //!
-//! `--help` says how the program is called, and `--version` of which version it is. The name `-` of
-//! a file that is read stands for standard input.
+//! The name `-` of an input is standard input.
 #![tactic(auto)]
 
 mod about;

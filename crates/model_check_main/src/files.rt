@@ -9,7 +9,7 @@ use std::io;
 pub(crate) fn check_files(rt: &HostRuntime, names: InputNames<'_>) -> Result<u8, u8> {
     let (cnf, answer) = open_inputs(rt, names.cnf, names.other).ok_or(NOT_RUN)?;
     let answer = hold_file(rt, names, answer, FaultPlace::Answer, unread_answer)?;
-    let cnf = hold_file(rt, names, cnf, FaultPlace::Formula, unread_formula)?;
+    let cnf = hold_file(rt, names, cnf, FaultPlace::Formula(None), unread_formula)?;
     let mut lie = None;
     let outcome = run_check(rt.alloc(), cnf, answer, &mut io::writer(rt), &mut lie);
     match &outcome {
@@ -34,7 +34,8 @@ fn unread_formula(fault: io::Error) -> RunFault {
 fn place_of(fault: &RunFault) -> FaultPlace<'static> {
     match fault {
         RunFault::Answer(_) => FaultPlace::Answer,
-        RunFault::Formula(_) | RunFault::Cut(_) => FaultPlace::Formula,
+        RunFault::Formula(fault) => FaultPlace::in_formula(fault),
+        RunFault::Cut(_) => FaultPlace::Formula(None),
         RunFault::Write(_) => FaultPlace::Elsewhere,
     }
 }

@@ -1,8 +1,7 @@
 //! The command `model_check CNF ANSWER`: checks that the literals of a solver's answer satisfy a
-//! formula, and says it in one line.
+//! formula, and prints the verdict.
 //!
-//! `--example` checks a small fixed example, `--help` says how the program is called, and
-//! `--version` of which version it is. The name `-` stands for standard input.
+//! `--example` checks a small fixed example. The name `-` is standard input.
 #![tactic(auto)]
 
 mod about;

@@ -1,9 +1,10 @@
 //! A proof, in a file.
 use crate::about::ABOUT;
-use command::{Call, FaultPlace, InputNames, open_and_hold, progress_of, say_end};
+use command::{Call, FaultLine, FaultPlace, InputNames, open_and_hold, progress_of, say_end};
 use sat_formula::{DimacsFault, LyingHeader};
 use std::io;
 use varisat_check::{RunFault, Verdict, exit_status, run_check};
+use varisat_checker::DimacsError;
 
 /// Checks a proof. Both files are opened before anything is read. The formula is read whole, and
 /// let go once its clauses are taken.
@@ -39,8 +40,18 @@ pub(crate) fn report(
 
 fn place_of(outcome: &Result<Verdict, RunFault>) -> FaultPlace<'static> {
     match outcome {
-        Err(RunFault::Formula(_)) => FaultPlace::Formula,
+        Err(RunFault::Formula(fault)) => FaultPlace::Formula(line_of(fault)),
         Err(RunFault::Proof(_)) => FaultPlace::Proof,
         Ok(_) | Err(RunFault::Write(_)) => FaultPlace::Elsewhere,
+    }
+}
+
+fn line_of(fault: &DimacsError) -> Option<FaultLine> {
+    match fault {
+        DimacsError::Malformed { line, kind } => Some(FaultLine {
+            line: *line,
+            kind: *kind,
+        }),
+        DimacsError::Read(_) | DimacsError::Checker(_) => None,
     }
 }

@@ -24,7 +24,7 @@ pub(crate) fn write_hints(
     let (cnf, proof) = open_inputs(rt, names.cnf, names.other).ok_or(NOT_RUN)?;
     let mut files = WrittenFiles::new(rt);
     let mut lrat = files.create(lrat_name, &[&cnf, &proof]).ok_or(NOT_RUN)?;
-    let cnf = hold_file(rt, names, cnf, FaultPlace::Formula, unread_formula)?;
+    let cnf = hold_file(rt, names, cnf, FaultPlace::Formula(None), unread_formula)?;
     let progress = progress_of(rt, &ABOUT, call);
     let proof = proof.told(rt, &progress);
     let out = &mut OutputAfterFiles::new(&mut files);

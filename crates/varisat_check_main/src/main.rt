@@ -1,10 +1,8 @@
-//! The command `varisat_check CNF PROOF [LRAT]`: checks a proof against a formula, and says in one
-//! line what it shows.
+//! The command `varisat_check CNF PROOF [LRAT]`: checks a proof against a formula, and prints the
+//! verdict.
 //!
-//! With a third file the checked steps are written to it as lines of hints.
-//! Without arguments it checks a small fixed example; `--help` says how the program is called, and
-//! `--version` of which version it is. The name `-` of a file that is read stands for standard
-//! input.
+//! With a third file the checked steps are written to it as lines of hints. Without arguments it
+//! checks a small fixed example. The name `-` of an input is standard input.
 //! What `RUST_LOG` asks for, as `RUST_LOG=info`, is logged to standard error; else nothing is.
 #![tactic(auto)]
 
